@@ -1,4 +1,5 @@
-use crate::{Code, Label, TextFault, is_code_text, is_label_text};
+use crate::{Code, Label, Lex, PLACES, TextFault, Worth, is_code_text, is_label_text};
+use std::cmp::Ordering;
 use std::rt::HostRuntime;
 use std::test::Fail;
 
@@ -57,4 +58,35 @@ fn labels_are_told_by_their_form(rt: HostRuntime) -> Result<(), Fail> {
         }
     }
     Ok(())
+}
+
+fn row(size: i64, first: i64, last: i64) -> [i64; PLACES] {
+    let mut places = [0; PLACES];
+    places[0] = size;
+    places[1] = first;
+    places[PLACES - 1] = last;
+    places
+}
+
+fn is_less<G: Worth>(a: G, b: G) -> bool {
+    a.cmp(b) == Ordering::Less
+}
+
+#[test]
+fn the_first_place_counts_first(rt: HostRuntime) {
+    assert!(rt; is_less(Lex(row(1, 0, 9)), Lex(row(1, 1, 0))));
+    assert!(rt; is_less(Lex(row(1, 5, 5)), Lex(row(2, 0, 0))));
+    assert!(rt; !is_less(Lex(row(2, 1, 0)), Lex(row(2, 1, 0))));
+    assert_eq!(rt; Lex(row(2, 0, 0)).cmp(Lex(row(1, 5, 5))), Ordering::Greater);
+}
+
+#[test]
+fn sums_are_by_place(rt: HostRuntime) {
+    let v = Lex(row(1, -7, 3));
+    let w = Lex(row(1, 1, 1));
+    assert!(rt; v.span() == 7);
+    assert!(rt; w.span() == 1);
+    assert_eq!(rt; v.plus(w), Lex(row(2, -6, 4)));
+    assert_eq!(rt; v.minus(w), Lex(row(0, -8, 2)));
+    assert_eq!(rt; Lex::zero().span(), 0);
 }
