@@ -21,13 +21,22 @@ pub enum Plain {
         quota: u32,
     },
     /// Makes the student's entry this one.
-    PutStudent { code: String, label: String },
+    PutStudent {
+        code: String,
+        label: String,
+    },
     /// Reads a supervisor's entry.
-    GetSupervisor { code: String },
+    GetSupervisor {
+        code: String,
+    },
     /// Reads a project's entry.
-    GetProject { code: String },
+    GetProject {
+        code: String,
+    },
     /// Reads a student's entry.
-    GetStudent { code: String },
+    GetStudent {
+        code: String,
+    },
 }
 
 /// A request.
@@ -56,7 +65,9 @@ pub enum Reply {
         supervisor: Code,
     },
     /// A student: name. There are no lists or placements yet.
-    Student { name: Label },
+    Student {
+        name: Label,
+    },
 }
 
 /// What a request made: its answer, and what it changes in the tables.
