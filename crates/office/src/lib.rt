@@ -14,6 +14,8 @@
 mod draft;
 mod making;
 mod office;
+#[cfg(test)]
+mod tests;
 
 pub use draft::RowsFault;
 pub use office::Office;

@@ -1,5 +1,8 @@
 //! Requests, and what comes of them.
 
+ghost use Rattle.std.specs.Prelude.{◌≡◌};
+ghost use Rattle.rolls.specs.Asked.{is_read, put_of};
+
 use crate::row::Change;
 use spa::{Code, Label};
 
@@ -37,6 +40,22 @@ pub enum Plain {
     GetStudent {
         code: String,
     },
+}
+
+impl Plain {
+    /// Whether the request only reads: it changes no office.
+    pub fn is_read(&self) -> bool
+        ensures read { result ≡ is_read (put_of self.now) }
+    {
+        match self {
+            Plain::PutSupervisor { .. } | Plain::PutProject { .. } | Plain::PutStudent { .. } => {
+                false
+            }
+            Plain::GetSupervisor { .. } | Plain::GetProject { .. } | Plain::GetStudent { .. } => {
+                true
+            }
+        }
+    }
 }
 
 /// A request.
