@@ -1,0 +1,84 @@
+-- Statements one after the other, and what they leave alone.
+use Rattle.std.proofs.Common.{◌≡◌, ◌≢◌, ◌⊎◌, inl, inr, arith, ℕ, List, [], ◌∷◌, refl, sym, subst, ◌∙◌, IsTrue, true, false, Bool, map}
+use Rattle.std.specs.List.{AllByRecursion}
+use Rattle.std.specs.List.Sorted.{IsPermutation}
+use Rattle.sqlite.specs.Order.{Row}
+use Rattle.sqlite.specs.Schema.{Schema}
+use Rattle.sqlite.specs.Table.{Table}
+use Rattle.sqlite.specs.Effect.{Database}
+use Rattle.sqlite.specs.State.{State, Survives}
+use Rattle.sqlite.specs.Tree.{Trees}
+use Rattle.sqlite_rules.proofs.ListLemmas.{all_has, all_from, has_got}
+use Rattle.tables.specs.Table.{Place, Lists, Holds, cells}
+use Rattle.tables.specs.Keyed.{IsKeyed, Stands}
+use Rattle.tables.specs.Writes.{WritesOnly}
+use Rattle.tables.specs.Steps.{HasStepped, Stays}
+use Rattle.tables.proofs.Places.{listed_along}
+
+-- what writes nothing writes only one table
+pub writes_none : (tree : ℕ) (db : Database) → WritesOnly tree db db
+writes_none tree db = record { schema = refl; others = all_from _ db.schema.tables (λ t h apart. refl) }
+
+-- so do two that write it one after the other
+pub writes_then : (tree : ℕ) (a b c : Database) → WritesOnly tree a b → WritesOnly tree b c → WritesOnly tree a c
+writes_then tree a b c p q =
+    let later : AllByRecursion (λ (t : Table). t.tree ≢ tree → c.trees t.tree ≡ b.trees t.tree) a.schema.tables =
+    subst (λ (s : Schema). AllByRecursion (λ (t : Table). t.tree ≢ tree → c.trees t.tree ≡ b.trees t.tree) s.tables) p.schema q.others in
+    record {
+      schema = q.schema ∙ p.schema;
+      others = all_from _ a.schema.tables (λ t h apart. all_has _ a.schema.tables t later h apart ∙ all_has _ a.schema.tables t p.others h apart);
+    }
+
+-- a table stands as before where another is written
+pub stands_apart : (table : Place → Table) (place : Place) (same : (table place).tree ≡ place.tree) (rows : List Row) (tree : ℕ) (old new : Database) → place.tree ≢ tree → WritesOnly tree old new
+    → Stands table place rows old → Stands table place rows new
+stands_apart table place same rows tree old new apart only stands =
+    let t = table place in
+    let other : t.tree ≢ tree = λ e. apart (sym same ∙ e) in
+    let kept : new.trees t.tree ≡ old.trees t.tree = all_has _ old.schema.tables t only.others (has_got old.schema.tables stands.listed.at t stands.listed.there) other in
+    record {
+      listed = listed_along old.schema new.schema t only.schema stands.listed;
+      keyed = subst IsKeyed (subst (λ n. old.trees n ≡ new.trees n) same (sym kept)) stands.keyed;
+      holds = subst (λ all. IsPermutation rows (map (cells t) all)) (sym kept) stands.holds;
+    }
+
+-- a connection that was open and is
+pub both_open : (a b : Bool) → IsTrue a → IsTrue b → b ≡ a
+both_open true true p q = refl
+both_open true false p q = absurd (cc)
+both_open false b p q = absurd (cc)
+
+-- nothing was done
+pub stays_none : (P : Database → Database → Type 0) (s : State) → P s.now s.now → Stays P s s
+stays_none P s p = record { shut = refl; committed = refl; mode = refl; step = p }
+
+-- one statement more
+pub stays_then : (P Q R : Database → Database → Type 0) (a b c : State) → (P a.now b.now → Q b.now c.now → R a.now c.now) → Stays P a b → HasStepped Q b c → Stays R a c
+stays_then P Q R a b c both p q = record {
+  shut = both_open b.is_open c.is_open q.shown.was_open q.shown.is_open ∙ p.shut;
+  committed = q.shown.committed_is ∙ p.committed;
+  mode = q.shown.mode ∙ sym q.inside ∙ p.mode;
+  step = both p.step q.step;
+}
+
+-- two statements
+pub stepped_then : (P Q R : Database → Database → Type 0) (a b c : State) → (P a.now b.now → Q b.now c.now → R a.now c.now) → HasStepped P a b → HasStepped Q b c → HasStepped R a c
+stepped_then P Q R a b c both p q = record {
+  inside = p.inside;
+  shown = record {
+    was_open = p.shown.was_open;
+    is_open = q.shown.is_open;
+    now_is = refl;
+    committed_is = q.shown.committed_is ∙ p.shown.committed_is;
+    mode = q.shown.mode;
+  };
+  step = both p.step q.step;
+}
+
+-- the same statement, in a weaker word
+pub stepped_as : (P Q : Database → Database → Type 0) (a b : State) → (P a.now b.now → Q a.now b.now) → HasStepped P a b → HasStepped Q a b
+stepped_as P Q a b weaker p = record { inside = p.inside; shown = p.shown; step = weaker p.step }
+
+-- what does nothing survives
+pub survives_none : (s : State) (P : Trees → Type 0) → Survives s s P
+survives_none s P = record { clean = omega arith; shield = λ h. h; counts = omega arith; limit = refl; closes = λ clean up. inl up; crash = λ clean db h. inl h }

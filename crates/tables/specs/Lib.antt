@@ -1,0 +1,6 @@
+pub mod Table
+pub mod Keyed
+pub mod Writes
+pub mod Inert
+pub mod Steps
+pub mod Faults

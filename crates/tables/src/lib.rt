@@ -1,0 +1,5 @@
+//! Tables.
+#![tactic(auto)]
+
+pub mod fault;
+pub mod student;
