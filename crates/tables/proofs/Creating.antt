@@ -1,5 +1,5 @@
 -- CREATE TABLE under any schema.
-use Rattle.std.proofs.Common.{◌≡◌, ◌⊎◌, inl, inr, ℕ, ◌+◌, List, [], ◌∷◌, ◌++◌, length, slice_get, slice_range, arith, ◌||◌, codes, Option, Some, None, is_some, Ok, Err, Result, Bool, true, false, refl, sym, ap, subst, ◌∙◌, if◌then◌else◌}
+use Rattle.std.proofs.Common.{◌≡◌, ◌⊎◌, inl, inr, ℕ, ◌+◌, List, [], ◌∷◌, ◌++◌, length, map, ◌≢◌, slice_get, slice_range, arith, ◌||◌, codes, Option, Some, None, is_some, Ok, Err, Result, Bool, true, false, refl, sym, ap, subst, ◌∙◌, if◌then◌else◌}
 use Rattle.std.proofs.lemmas.Bool.{cases_Bool}
 use Rattle.sqlite.specs.Schema.{Schema}
 use Rattle.sqlite.specs.Compile.{table_defined_by, compiled, first, timed, returning, command, small, creates, is_reserved, is_attached, create_table, with_command}
@@ -17,6 +17,12 @@ use Rattle.std.specs.Option.{option_or}
 use Rattle.sqlite_schema.specs.Names.{same_name, table_named, view_named, index_named}
 use Rattle.sqlite.specs.State.{State, Executes, text_of}
 use Rattle.sqlite.specs.Table.{Table}
+use Rattle.sqlite.specs.Term.{Term}
+use Rattle.sqlite.specs.Order.{Row}
+use Rattle.std.proofs.lemmas.List.Sorted.{IsPermutation-refl}
+use Rattle.std.specs.List.Sorted.{IsPermutation}
+use Rattle.tables.specs.Table.{cells}
+use Rattle.tables.specs.Keyed.{IsKeyed, Stands}
 use Rattle.sqlite.specs.Tree.{Trees}
 use Rattle.sqlite.specs.Change.{created, next_tree, is_used}
 use Rattle.sqlite.specs.Effect.{Database}
@@ -31,7 +37,7 @@ use Rattle.sqlite_ast.specs.declared.Expr.TheVariants as expr
 use Rattle.sqlite_ast.specs.declared.Binary.TheVariants as binary
 use Rattle.tables.specs.Table.{Place, Lists}
 use Rattle.tables.specs.Writes.{Makes}
-use Rattle.tables.proofs.Places.{untimed, placed}
+use Rattle.tables.proofs.Places.{placed}
 use Rattle.tables.proofs.Appending.{still_found, new_found, got_front, got_next}
 use Rattle.tables.proofs.Inserting.{went, same_value}
 use Rattle.tables.proofs.Understood.{planned_of, Means, runs_by}
@@ -73,7 +79,7 @@ or_false true b h = absurd (cc)
 or_false false b h = refl
 
 -- a text that makes a table, under any schema
-pub record IsCreate (sql : List ℕ) (made : Table) : Type 0 where
+pub record IsCreate (sql : List ℕ) (t0 : Table) : Type 0 where
   pub p : Parsed
   pub parsed : first sql ≡ Ok p
   pub unlisted : if_select (compiled listing_schema sql) ≡ Err NoSuchTable
@@ -81,8 +87,9 @@ pub record IsCreate (sql : List ℕ) (made : Table) : Type 0 where
   pub shows : (schema : Schema) → returning schema (small p.names + small []) p.statement ≡ Ok None
   pub commands : (schema : Schema) (k : Command) → command schema p.formats (small p.names + small []) p.statement ≡ Ok k → k ≡ CreateTable
   pub whole : slice_range sql p.start p.end ≡ sql
-  pub defined : table_defined_by sql ≡ Ok made
-  pub named : same_name made.name made.name ≡ true
+  pub checks : List Term
+  pub defined : table_defined_by sql ≡ Ok (placed t0 (record { tree = 0; checks = checks }))
+  pub named : same_name t0.name t0.name ≡ true
 
 -- what is left of a CREATE whose name is free
 pub made_command : (schema : Schema) (name : List ℕ) (k : Command) → ◌≡◌ {A = Checked Command} (if is_attached schema name then Err Unsupported else and_then (creates false name (option_or (table_named schema name) (view_named schema name)) (index_named schema name)) (λ is_new. if is_new then Ok CreateTable else Ok Nothing)) (Ok k) → k ≡ CreateTable
@@ -93,9 +100,12 @@ made_command schema name k h =
     cc
 
 
-module _ (sql : List ℕ) (t0 : Table) (it : IsCreate sql (untimed t0)) where
+module _ (sql : List ℕ) (t0 : Table) (it : IsCreate sql t0) where
+  abbrev first_made : Table
+  first_made = placed t0 (record { tree = 0; checks = it.checks })
+
   abbrev here : Schema → Place
-  here schema = record { tree = next_tree schema; checks = t0.checks }
+  here schema = record { tree = next_tree schema; checks = it.checks }
 
   create_means : (schema : Schema) → Means schema sql CreateTable sql
   create_means schema c h =
@@ -106,11 +116,18 @@ module _ (sql : List ℕ) (t0 : Table) (it : IsCreate sql (untimed t0)) where
       let is : c ≡ with_command it.p ([], (CreateTable, None)) = q.4 ∙ (λ i. with_command it.p ([], (k i, none i))) in
       (ap (λ (it : Compiled). it.command) is, ap (λ (it : Compiled). it.returning) is, ap (λ (it : Compiled). it.formats) is, ap (text_of sql) is ∙ it.whole)
 
-  made_first : (db mid : Database) → CreatesTable db.schema sql db.trees mid.schema mid.trees → Makes (placed t0) db mid
+  -- the same, of the schema and the trees alone
+  record IsMade (old new : Database) : Type 0 where
+    place : Place
+    listed : Lists new.schema (placed t0 place)
+    empty : new.trees place.tree ≡ []
+    others : (t : Table) → Lists old.schema t → Lists new.schema t × (new.trees t.tree ≡ old.trees t.tree) × (t.tree ≢ place.tree)
+
+  made_first : (db mid : Database) → CreatesTable db.schema sql db.trees mid.schema mid.trees → IsMade db mid
   made_first db mid made =
-      let same : made.table ≡ untimed t0 = let both : Ok made.table ≡ Ok (untimed t0) = sym made.defined ∙ it.defined in cc in
+      let same : made.table ≡ first_made = let both : Ok made.table ≡ Ok (first_made) = sym made.defined ∙ it.defined in cc in
       let tree = next_tree db.schema in
-      let is : mid.schema ≡ created db.schema (untimed t0) = made.is ∙ ap (created db.schema) same in
+      let is : mid.schema ≡ created db.schema (first_made) = made.is ∙ ap (created db.schema) same in
       let free : is_some (table_named db.schema t0.name) ≡ false =
       or_false _ _ (or_false _ _ (subst (λ (t : Table). is_used db.schema t.name ≡ false) same made.free)) in
       record {
@@ -127,7 +144,7 @@ module _ (sql : List ℕ) (t0 : Table) (it : IsCreate sql (untimed t0)) where
             (kept.0, kept.1, λ e. let low = table_below db.schema t (has_listed db.schema t listed) in omega (arith, e));
       }
 
-  went_on : (db mid after : Database) → Makes (placed t0) db mid → MakesSequence mid (Ok after) → Makes (placed t0) db after
+  went_on : (db mid after : Database) → IsMade db mid → MakesSequence mid (Ok after) → IsMade db after
   went_on db mid after made next = elim (cases_Bool (lacks_sequence mid.schema)) [
     | inl lacks ↦
         let more : CreatesTable mid.schema sequence_text mid.trees after.schema after.trees = rw lacks at next in
@@ -142,13 +159,23 @@ module _ (sql : List ℕ) (t0 : Table) (it : IsCreate sql (untimed t0)) where
         }
     | inr none ↦
         let same : after ≡ mid = let e : ◌≡◌ {A = Outcome Database} (Ok after) (Ok mid) = rw none at next in cc in
-        subst (Makes (placed t0) db) (sym same) made
+        subst (IsMade db) (sym same) made
   ]
 
-  pub create_makes : (old new : State) (count : ℕ) → Executes sql [] old new (Ok count) → Makes (placed t0) old.now new.now
+  -- a CREATE that went through made the table, which is empty
+  pub create_makes : (old new : State) (count : ℕ) → Executes sql [] old new (Ok count) → Makes (placed t0) [] old.now new.now
   create_makes old new count ran =
       let w = runs_by sql [] old new count CreateTable sql (create_means old.now.schema) ran in
       let all = went w.changed in
       let first = went all.1 in
       let now : new.now ≡ all.0 = ap (λ (p : Tally × Database). p.1) (same_value all.2) in
-      subst (Makes (placed t0) old.now) (sym now) (went_on old.now first.0 all.0 (made_first old.now first.0 first.1) first.2)
+      let made : IsMade old.now new.now = subst (IsMade old.now) (sym now) (went_on old.now first.0 all.0 (made_first old.now first.0 first.1) first.2) in
+      record {
+        place = made.place;
+        stands = record {
+          listed = made.listed;
+          keyed = subst IsKeyed (sym made.empty) (record { ids = tt; apart = tt });
+          holds = subst (λ all. IsPermutation [] (map (cells (placed t0 made.place)) all)) (sym made.empty) (IsPermutation-refl _);
+        };
+        others = made.others;
+      }

@@ -14,3 +14,6 @@ pub mod Runs
 mod Putting
 mod Inert
 mod StudentTexts
+mod EditionTexts
+mod SupervisorTexts
+mod ProjectTexts

@@ -11,7 +11,7 @@ use Rattle.sqlite.specs.Tree.{Trees}
 use Rattle.sqlite_rules.proofs.ListLemmas.{all_has, all_from, has_got}
 use Rattle.tables.specs.Table.{Place, Lists, Holds, cells}
 use Rattle.tables.specs.Keyed.{IsKeyed, Stands}
-use Rattle.tables.specs.Writes.{WritesOnly}
+use Rattle.tables.specs.Writes.{WritesOnly, Adds, Makes}
 use Rattle.tables.specs.Steps.{HasStepped, Stays}
 use Rattle.tables.proofs.Places.{listed_along}
 
@@ -41,6 +41,37 @@ stands_apart table place same rows tree old new apart only stands =
       keyed = subst IsKeyed (subst (λ n. old.trees n ≡ new.trees n) same (sym kept)) stands.keyed;
       holds = subst (λ all. IsPermutation rows (map (cells t) all)) (sym kept) stands.holds;
     }
+
+-- a table that is made, and then gets a row
+pub made_with : (table : Place → Table) (row : Row) (a b c : Database) → Makes table [] a b → Adds table row b c → Makes table (row ∷ []) a c
+made_with table row a b c made adds =
+    let grown = adds made.place [] made.stands in
+    record {
+      place = made.place;
+      stands = grown.0;
+      others = λ t listed.
+        let was = made.others t listed in
+        (
+          listed_along b.schema c.schema t grown.1.schema was.0,
+          all_has _ b.schema.tables t grown.1.others (has_got b.schema.tables was.0.at t was.0.there) was.2 ∙ was.1,
+          was.2,
+        );
+    }
+
+-- a table stands as before where another is made, and is another
+pub stands_beside : (table : Place → Table) (place : Place) (same : (table place).tree ≡ place.tree) (rows : List Row) (other : Place → Table) (given : List Row) (old new : Database)
+    → (made : Makes other given old new) → Stands table place rows old → Stands table place rows new × (place.tree ≢ made.place.tree)
+stands_beside table place same rows other given old new made stands =
+    let t = table place in
+    let kept = made.others t stands.listed in
+    (
+      record {
+        listed = kept.0;
+        keyed = subst IsKeyed (subst (λ n. old.trees n ≡ new.trees n) same (sym kept.1)) stands.keyed;
+        holds = subst (λ all. IsPermutation rows (map (cells t) all)) (sym kept.1) stands.holds;
+      },
+      λ e. kept.2 (same ∙ e),
+    )
 
 -- a connection that was open and is
 pub both_open : (a b : Bool) → IsTrue a → IsTrue b → b ≡ a

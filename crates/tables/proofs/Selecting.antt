@@ -121,9 +121,12 @@ spent budget = record started { budget = budget }
 abbrev pub column_out : List ℕ → ℕ → Output
 column_out name place = record { name = name; is_alias = true; is_column = true; term = col 1 place; carried = record { collation = Some Binary; is_written = false } }
 
--- the rowid
+-- the rowid, under the name of the column that it is, if it is one
+abbrev pub key_out : List ℕ → Bool → Output
+key_out name is_alias = record { name = name; is_alias = is_alias; is_column = true; term = col 1 0; carried = record { collation = None; is_written = false } }
+
 abbrev pub id_out : Output
-id_out = record { name = codes "rowid"; is_alias = false; is_column = true; term = col 1 0; carried = record { collation = None; is_written = false } }
+id_out = key_out (codes "rowid") false
 
 abbrev draft : ℕ → List Output → Draft
 draft tree outs = record {

@@ -39,6 +39,7 @@ student_create = record {
   shows = λ schema. refl;
   commands = λ schema. made_command schema (codes "student");
   whole = refl;
+  checks = [];
   defined = refl;
   named = refl;
 }
@@ -116,7 +117,6 @@ student_update = record {
   draft = λ schema at place has. rw has.there (rw has.there (rw has.there refl));
 }
 
--- the values of the UPDATE; a name for what `student_update` carries, which stays shut
 pub student_set : (code label : List ℕ) → IsSet student student_update.values (Text code ∷ Text label ∷ [])
 unfolding student_update
 student_set code label = record { shows = λ r. refl; set = λ place r. refl }

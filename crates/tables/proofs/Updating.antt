@@ -58,7 +58,7 @@ use Rattle.tables.proofs.Deleting.{IsCoded, test, hit, accepted, and_true}
 use Rattle.sqlite_sql.specs.Term.{eval_all}
 use Rattle.sqlite.specs.Compile.{small}
 
-abbrev draft : ℕ → List Term → Draft
+abbrev pub draft : ℕ → List Term → Draft
 draft tree values = record {
   from = inner tree end;
   filter = op2 (Compare Eq Binary) (col 1 1) (col 0 0) ∷ [];

@@ -64,6 +64,26 @@ edition_table place = record {
 abbrev pub student_table : Place → Table
 student_table = coded_table (codes "student") (required (codes "code") Text ∷ required (codes "label") Text ∷ []) []
 
+-- `supervisor`: code, label and quota
+abbrev pub supervisor_table : Place → Table
+supervisor_table = coded_table (codes "supervisor") (required (codes "code") Text ∷ required (codes "label") Text ∷ required (codes "quota") Integer ∷ []) []
+
+-- the third column of `project` is the code of a supervisor
+abbrev pub to_supervisor : Reference
+to_supervisor = record {
+  columns = 3 ∷ [];
+  parent = codes "supervisor";
+  parent_columns = codes "code" ∷ [];
+  on_delete = NoAction;
+  on_update = NoAction;
+  is_deferred = false;
+}
+
+-- `project`: code, label, the code of its supervisor, and quota
+abbrev pub project_table : Place → Table
+project_table = coded_table (codes "project")
+    (required (codes "code") Text ∷ required (codes "label") Text ∷ required (codes "supervisor") Text ∷ required (codes "quota") Integer ∷ []) (to_supervisor ∷ [])
+
 -- the schema's first table of this name is this one
 pub record Lists (schema : Schema) (table : Table) : Type 0 where
   pub at : ℕ

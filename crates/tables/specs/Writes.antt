@@ -22,11 +22,10 @@ pub record WritesOnly (tree : ℕ) (old new : Database) : Type 0 where
 abbrev pub IsInert : Schema → ℕ → Type 0
 IsInert schema tree = (olds news : List Row) → works schema Enforced 0 tree olds news ≡ []
 
--- a table more, which is empty, while the tables that the schema had are listed as before, with their rows
-pub record Makes (table : Place → Table) (old new : Database) : Type 0 where
+-- a table more, which holds these rows, while the tables that the schema had are listed as before, with their rows
+pub record Makes (table : Place → Table) (rows : List Row) (old new : Database) : Type 0 where
   pub place : Place
-  pub listed : Lists new.schema (table place)
-  pub empty : new.trees place.tree ≡ []
+  pub stands : Stands table place rows new
   pub others : (t : Table) → Lists old.schema t → Lists new.schema t × (new.trees t.tree ≡ old.trees t.tree) × (t.tree ≢ place.tree)
 
 -- a row more in this table, and nothing else

@@ -17,7 +17,7 @@ use sqlite::{Alter, Connection, Row, Transaction, params};
 pub fn create_student<S: Alter>(tx: &mut Transaction<'_, S>) -> Result<(), TableFault>
     ensures same_reference { tx.new.conn.ghost_name ≡ tx.old.conn.ghost_name }
     ensures survives { Survives (state S.Store tx.old.conn.now) (state S.Store tx.new.conn.now) (λ _. ⊥) }
-    ensures stepped { HasCleanDisk (state S.Store tx.new.conn.now) → OnOk result (HasStepped (Makes student_table) (state S.Store tx.old.conn.now) (state S.Store tx.new.conn.now)) }
+    ensures stepped { HasCleanDisk (state S.Store tx.new.conn.now) → OnOk result (HasStepped (Makes student_table []) (state S.Store tx.old.conn.now) (state S.Store tx.new.conn.now)) }
     ensures kept { HasCleanDisk (state S.Store tx.new.conn.now) → KeepsCommit (state S.Store tx.old.conn.now) (state S.Store tx.new.conn.now) }
 {
     tx.execute(
