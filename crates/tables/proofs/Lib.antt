@@ -12,8 +12,9 @@ mod Deleting
 mod Updating
 pub mod Runs
 mod Putting
-mod Inert
+mod Quiet
 mod StudentTexts
 mod EditionTexts
 mod SupervisorTexts
 mod ProjectTexts
+mod Layouts

@@ -3,6 +3,8 @@
 
 pub mod edition;
 pub mod fault;
+pub mod inert;
+pub mod layout;
 pub mod project;
 pub mod student;
 pub mod supervisor;
