@@ -18,3 +18,4 @@ mod EditionTexts
 mod SupervisorTexts
 mod ProjectTexts
 mod Layouts
+mod Rising

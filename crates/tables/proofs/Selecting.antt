@@ -1,5 +1,5 @@
 -- SELECT of the columns of a whole table, under any schema that lists it.
-use Rattle.std.proofs.Common.{◌≡◌, ℕ, ◌+◌, List, [], ◌∷◌, ◌++◌, codes, slice_get, slice_range, Option, Some, None, Ok, Err, Result, refl, sym, ap, subst, ◌∙◌, false, true, length, pos, negsuc, Bool, if◌then◌else◌, map, unwrap_or, nat_le, nat_lt, ◌-◌, ◌^◌, subst₂, append-nil}
+use Rattle.std.proofs.Common.{◌≡◌, ℕ, ◌+◌, List, [], ◌∷◌, ◌++◌, codes, slice_get, slice_range, Option, Some, None, Ok, Err, Result, refl, sym, ap, subst, ◌∙◌, false, true, length, drop, pos, negsuc, Bool, if◌then◌else◌, map, unwrap_or, nat_le, nat_lt, ◌-◌, ◌^◌, subst₂, append-nil}
 use Rattle.sqlite.specs.Schema.{Schema}
 use Rattle.sqlite.specs.Table.{Table}
 use Rattle.sqlite.specs.Compile.{compiled, first, timed, returning, command, small, with_command, read}
@@ -50,6 +50,14 @@ use Rattle.sqlite.specs.Program.{overlay}
 use Rattle.sqlite.specs.Rows.{shown}
 use Rattle.sqlite_sql.specs.Term.{eval_all}
 use Rattle.tables.specs.Table.{Place, Lists}
+use Rattle.tables.specs.Keyed.{IsKeyed, Stands}
+use Rattle.tables.specs.Steps.{Shows}
+use Rattle.tables.specs.declared.fault.TableFault.{TableFault}
+use Rattle.std.specs.declared.alloc.Global.{Global}
+use Rattle.std.proofs.Common.{Vec, IfOk}
+use Rattle.tables.proofs.Rowids.{keyed_by_ids}
+use Rattle.sqlite_keyed.proofs.ListLemmas.{map-map}
+use Rattle.sqlite.specs.State.{CommitsShowing}
 use Rattle.tables.proofs.Places.{placed}
 
 abbrev pub Page : Type 0
@@ -255,8 +263,33 @@ module _ (sql : List ℕ) (t0 : Table) (it : IsSelect sql t0) where
       subst₂ IsPermutation kept (sym a.shown) (IsPermutation-map (λ (o : Output'). o.1) _ _ a.same)
 
   -- what the text shows of a table that is listed
-  pub select_reads : (old new : State) (rows : List Row) (place : Place) → Lists old.now.schema (placed t0 place) → nat_lt place.tree (2 ^ 31) ≡ true → HasShown sql [] old new rows
-      → IsPermutation rows (map (shown t0) (old.now.trees place.tree)) × IsUnchanged old new
-  select_reads old new rows place listed low h =
+  pub select_reads : (old new : State) (rows : List Row) (place : Place) → Lists old.now.schema (placed t0 place) → nat_lt place.tree (2 ^ 31) ≡ true → IsKeyed rows → HasShown sql [] old new rows
+      → Stands (placed t0) place (map (drop 1) rows) old.now × IsUnchanged old new
+  select_reads old new rows place listed low keyed h =
       let both = reads_by sql [] old new rows _ sql it.unlisted (select_means sql t0 it old.now.schema place listed low) h in
-      (IsPermutation-sym _ _ (answers old.now place.tree rows both.0), both.1)
+      let here = old.now.trees place.tree in
+      let same : IsPermutation rows (map (shown t0) here) = IsPermutation-sym _ _ (answers old.now place.tree rows both.0) in
+      (
+        record {
+          listed = listed;
+          keyed = keyed_by_ids (shown t0) (λ r. refl) here rows same keyed;
+          holds = subst (IsPermutation (map (drop 1) rows)) (map-map (drop 1) (shown t0) here) (IsPermutation-map (drop 1) _ _ same);
+        },
+        both.1,
+      )
+
+  -- the same of a call that answers them
+  pub read_shows : (old new : State) (result : Result (Vec Row Global) TableFault) → IfOk result (λ rows. IsKeyed rows.items) → IfOk result (λ rows. HasShown sql [] old new rows.items)
+      → IfOk result (λ rows. Shows (placed t0) rows.items old new)
+  read_shows old new (Ok rows) keyed seen = λ place listed low. select_reads old new rows.items place listed low keyed seen
+  read_shows old new (Err fault) keyed seen = seen
+
+  -- the text commits nothing
+  pub select_commits : (old : State) (params : Row) (db : Trees) → CommitsShowing sql params old db → ⊥
+  unfolding CommitsShowing returning timed
+  select_commits old params db h =
+      let p = planned_of old.now.schema sql it.plain.p h.0 it.unlisted it.plain.parsed h.1.is in
+      let q = rw (it.plain.plain, it.plain.no_names, it.plain.statement) at p in
+      let none : q.0 ≡ None = let e = q.2 in cc in
+      let is : h.0.returning ≡ None = ap (λ (it : Compiled). it.returning) q.4 ∙ none in
+      absurd (let f = rw is at h.2 in cc)

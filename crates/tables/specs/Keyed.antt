@@ -1,7 +1,7 @@
 -- Rows that are told apart by their rowids, and a table that holds them.
-use Rattle.std.specs.Prelude.{◌≡◌, ℤ, true, false, List, [], ◌∷◌}
-use Rattle.std.specs.List.{AllByRecursion}
-use Rattle.std.specs.Ordering.{is_eq}
+use Rattle.std.specs.Prelude.{◌≡◌, ℤ, Bool, true, false, ◌&&◌, List, [], ◌∷◌}
+use Rattle.std.specs.List.{AllByRecursion, list_all}
+use Rattle.std.specs.Ordering.{is_eq, is_lt}
 use Rattle.sqlite.specs.Order.{Row, value_cmp}
 use Rattle.sqlite.specs.Table.{Table}
 use Rattle.sqlite.specs.Tree.{rowid, IsAscending}
@@ -25,3 +25,17 @@ pub record Stands (table : Place → Table) (place : Place) (rows : List Row) (d
   pub listed : Lists db.schema (table place)
   pub keyed : IsKeyed (db.trees place.tree)
   pub holds : Holds db (table place) rows
+
+-- the first row's rowid is below that of the next one, if there is one
+abbrev pub comes_first : Row → List Row → Bool
+comes_first r [] = true
+comes_first r (next ∷ rows) = is_lt (value_cmp (rowid r) (rowid next))
+
+-- the rowids rise
+abbrev pub rises : List Row → Bool
+rises [] = true
+rises (r ∷ rows) = comes_first r rows && rises rows
+
+-- each rowid is an integer
+abbrev pub have_ids : List Row → Bool
+have_ids = list_all (λ r. is_int (rowid r))

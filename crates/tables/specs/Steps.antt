@@ -1,13 +1,17 @@
 -- What a statement, a transaction and a crash do, under a relation P between the database before and after.
-use Rattle.std.specs.Prelude.{◌≡◌, IsTrue, true, false}
+use Rattle.std.specs.Prelude.{◌≡◌, ◌^◌, IsTrue, true, false, List, map, drop, nat_lt}
 use Rattle.sqlite.specs.Effect.{Database}
-use Rattle.sqlite.specs.State.{State, Shows}
+use Rattle.sqlite.specs.State.{State, IsUnchanged, Shows as Sees}
+use Rattle.sqlite.specs.Order.{Row}
+use Rattle.sqlite.specs.Table.{Table}
+use Rattle.tables.specs.Table.{Place, Lists}
+use Rattle.tables.specs.Keyed.{Stands}
 use Rattle.sqlite.specs.Tree.{Trees}
 
 -- a statement in a transaction went through: nothing is committed, and what the transaction sees changed by P
 pub record HasStepped (P : Database → Database → Type 0) (old new : State) : Type 0 where
   pub inside : old.in_transaction ≡ true
-  pub shown : Shows old new new.now old.committed true
+  pub shown : Sees old new new.now old.committed true
   pub step : P old.now new.now
 
 -- the same of a run of statements, which may be none
@@ -19,7 +23,7 @@ pub record Stays (P : Database → Database → Type 0) (old new : State) : Type
 
 -- a transaction was made and committed, and changed the database by P
 pub record HasSaved (P : Database → Database → Type 0) (old new : State) : Type 0 where
-  pub shown : Shows old new new.now new.now false
+  pub shown : Sees old new new.now new.now false
   pub step : P old.now new.now
 
 -- nothing has changed, unless a fault of the disk has shut the connection
@@ -29,3 +33,8 @@ IsKept old new = IsTrue new.is_open → (new.now ≡ old.now) × (new.committed 
 -- the trees of a database that P makes of the old one
 abbrev pub IsLeft : (Database → Database → Type 0) → Database → Trees → Type 0
 IsLeft P old trees = (db : Database) × P old db × (trees ≡ db.trees)
+
+-- where the table is listed, these are its rows, each after its rowid, and nothing has changed
+abbrev pub Shows : (Place → Table) → List Row → State → State → Type 0
+Shows table rows old new =
+    (place : Place) → Lists old.now.schema (table place) → nat_lt place.tree (2 ^ 31) ≡ true → Stands table place (map (drop 1) rows) old.now × IsUnchanged old new

@@ -6,5 +6,6 @@ pub mod fault;
 pub mod inert;
 pub mod layout;
 pub mod project;
+mod read;
 pub mod student;
 pub mod supervisor;

@@ -1,16 +1,15 @@
 //! The statements over `supervisor`.
 
-ghost use Rattle.std.specs.Prelude.{◌≡◌, [], ◌∷◌, pos, IfOk, OnOk, map, nat_lt, true, false, ◌^◌};
-ghost use Rattle.std.specs.List.Sorted.{IsPermutation};
-ghost use Rattle.sqlite.specs.State.{HasCleanDisk, IsUnchanged, KeepsCommit, Survives};
+ghost use Rattle.std.specs.Prelude.{◌≡◌, [], ◌∷◌, pos, IfOk, OnOk, false};
+ghost use Rattle.sqlite.specs.State.{HasCleanDisk, KeepsCommit, Survives};
 ghost use Rattle.sqlite.specs.Held.{state};
-ghost use Rattle.sqlite.specs.Rows.{shown};
 ghost use Rattle.sqlite.specs.declared.types.Value.TheVariants.{Int, Text};
-ghost use Rattle.tables.specs.Table.{Place, Lists, supervisor_table};
+ghost use Rattle.tables.specs.Table.{supervisor_table};
 ghost use Rattle.tables.specs.Writes.{Adds, Makes, Puts, Removes, Replaces};
-ghost use Rattle.tables.specs.Steps.{HasStepped};
+ghost use Rattle.tables.specs.Steps.{HasStepped, Shows};
 
 use crate::fault::TableFault;
+use crate::read::read;
 use sqlite::{Alter, Connection, Row, Transaction, params};
 
 /// Makes the table.
@@ -99,10 +98,11 @@ pub fn delete_supervisor<S: Alter>(
     Ok(())
 }
 
-/// Each row of the table after its rowid.
+/// Each row of the table, after its rowid.
 pub fn read_supervisors<S: Alter>(conn: &mut Connection<S>) -> Result<Vec<Row>, TableFault>
-    ensures rows { HasCleanDisk (state S.Store conn.new) → IfOk result (λ rows. (place : Place) → Lists (state S.Store conn.old).now.schema (supervisor_table place) → nat_lt place.tree (2 ^ 31) ≡ true → IsPermutation rows.items (map (shown (supervisor_table place)) ((state S.Store conn.old).now.trees place.tree)) × IsUnchanged (state S.Store conn.old) (state S.Store conn.new)) }
+    ensures rows { HasCleanDisk (state S.Store conn.new) → IfOk result (λ rows. Shows supervisor_table rows.items (state S.Store conn.old) (state S.Store conn.new)) }
     ensures mode { conn.old.in_transaction ≡ false → conn.new.in_transaction ≡ false }
+    ensures survives { Survives (state S.Store conn.old) (state S.Store conn.new) (λ _. ⊥) }
 {
-    Ok(conn.query_all("SELECT rowid, * FROM supervisor", &[])?)
+    read(conn, "SELECT rowid, * FROM supervisor")
 }
