@@ -51,13 +51,13 @@ use Rattle.sqlite.specs.Rows.{shown}
 use Rattle.sqlite_sql.specs.Term.{eval_all}
 use Rattle.tables.specs.Table.{Place, Lists}
 use Rattle.tables.specs.Keyed.{IsKeyed, Stands}
-use Rattle.tables.specs.Steps.{Shows}
+use Rattle.tables.specs.Steps.{Shows, Rests, RanQuery}
 use Rattle.tables.specs.declared.fault.TableFault.{TableFault}
 use Rattle.std.specs.declared.alloc.Global.{Global}
-use Rattle.std.proofs.Common.{Vec, IfOk}
+use Rattle.std.proofs.Common.{Vec, IfOk, inl, inr, IsTrue}
 use Rattle.tables.proofs.Rowids.{keyed_by_ids}
 use Rattle.sqlite_keyed.proofs.ListLemmas.{map-map}
-use Rattle.sqlite.specs.State.{CommitsShowing}
+use Rattle.sqlite.specs.State.{CommitsShowing, IsRolledBack, FailsToQuery, IsNotRun}
 use Rattle.tables.proofs.Places.{placed}
 
 abbrev pub Page : Type 0
@@ -65,6 +65,14 @@ Page = Term × Term
 
 abbrev pub no_page : Page
 no_page = (lit (Int (negsuc 0)), number 0)
+
+-- what changed nothing rests
+unchanged_rests : (old new : State) → IsUnchanged old new → Rests old new
+unchanged_rests old new same up = (same.0.was_open, λ settled. (same.0.now_is, same.0.committed_is))
+
+-- so does what was rolled back
+rolled_rests : (old new : State) → IsRolledBack old new → Rests old new
+rolled_rests old new back up = (back.was_open up, λ settled. let undone = back.undone up in (undone.0 ∙ sym settled, undone.1))
 
 -- the parts of a plain SELECT
 pub record IsPlainSelect (sql : List ℕ) : Type 0 where
@@ -293,3 +301,23 @@ module _ (sql : List ℕ) (t0 : Table) (it : IsSelect sql t0) where
       let none : q.0 ≡ None = let e = q.2 in cc in
       let is : h.0.returning ≡ None = ap (λ (it : Compiled). it.returning) q.4 ∙ none in
       absurd (let f = rw is at h.2 in cc)
+
+  -- the text changes nothing
+  pub select_rests : (old new : State) → RanQuery sql old new → Rests old new
+  unfolding HasShown FailsToQuery IsNotRun returning timed
+  select_rests old new (inl (rows, h)) =
+      let p = planned_of old.now.schema sql it.plain.p h.0 it.unlisted it.plain.parsed h.1.is in
+      let q = rw (it.plain.plain, it.plain.no_names, it.plain.statement) at p in
+      let none : q.0 ≡ None = let e = q.2 in cc in
+      let is : h.0.returning ≡ None = ap (λ (it : Compiled). it.returning) q.4 ∙ none in
+      let seen = rw is at h.2 in
+      unchanged_rests old new seen.3
+  select_rests old new (inr (e, inl (inl h))) = unchanged_rests old new h.1
+  select_rests old new (inr (e, inl (inr h))) = rolled_rests old new h.3
+  select_rests old new (inr (e, inr h)) =
+      let p = planned_of old.now.schema sql it.plain.p h.0 it.unlisted it.plain.parsed h.1.is in
+      let q = rw (it.plain.plain, it.plain.no_names, it.plain.statement) at p in
+      let none : q.0 ≡ None = let e = q.2 in cc in
+      let is : h.0.returning ≡ None = ap (λ (it : Compiled). it.returning) q.4 ∙ none in
+      let seen = rw is at h.2 in
+      unchanged_rests old new seen.3

@@ -1,7 +1,8 @@
 -- What a statement, a transaction and a crash do, under a relation P between the database before and after.
-use Rattle.std.specs.Prelude.{◌≡◌, ◌^◌, IsTrue, true, false, List, map, drop, nat_lt}
+use Rattle.std.specs.Prelude.{◌≡◌, ◌⊎◌, ◌^◌, ℕ, IsTrue, true, false, List, [], map, drop, nat_lt}
 use Rattle.sqlite.specs.Effect.{Database}
-use Rattle.sqlite.specs.State.{State, IsUnchanged, Shows as Sees}
+use Rattle.sqlite.specs.State.{State, IsUnchanged, Shown, FailsToQuery, Shows as Sees}
+use Rattle.sqlite.specs.declared.error.Error.{Error}
 use Rattle.sqlite.specs.Order.{Row}
 use Rattle.sqlite.specs.Table.{Table}
 use Rattle.tables.specs.Table.{Place, Lists}
@@ -38,3 +39,11 @@ IsLeft P old trees = (db : Database) × P old db × (trees ≡ db.trees)
 abbrev pub Shows : (Place → Table) → List Row → State → State → Type 0
 Shows table rows old new =
     (place : Place) → Lists old.now.schema (table place) → nat_lt place.tree (2 ^ 31) ≡ true → Stands table place (map (drop 1) rows) old.now × IsUnchanged old new
+
+-- a query was run, or failed
+abbrev pub RanQuery : List ℕ → State → State → Type 0
+RanQuery sql old new = ((rows : List Row) × Shown sql [] old new rows) ⊎ ((e : Error) × FailsToQuery sql [] old new e)
+
+-- where no transaction was open nothing has changed, unless a fault of the disk has shut the connection
+abbrev pub Rests : State → State → Type 0
+Rests old new = IsTrue new.is_open → IsTrue old.is_open × (old.now ≡ old.committed → (new.now ≡ old.now) × (new.committed ≡ old.committed))

@@ -6,7 +6,7 @@ ghost use Rattle.sqlite.specs.Held.{state};
 ghost use Rattle.sqlite.specs.declared.types.Value.TheVariants.{Int};
 ghost use Rattle.tables.specs.Table.{edition_table};
 ghost use Rattle.tables.specs.Writes.{Adds, Makes};
-ghost use Rattle.tables.specs.Steps.{HasStepped, Shows};
+ghost use Rattle.tables.specs.Steps.{HasStepped, Rests, Shows};
 
 use crate::fault::TableFault;
 use crate::read::read;
@@ -55,6 +55,7 @@ pub fn make_edition<S: Alter>(tx: &mut Transaction<'_, S>) -> Result<(), TableFa
 /// Each row of the table, after its rowid.
 pub fn read_edition<S: Alter>(conn: &mut Connection<S>) -> Result<Vec<Row>, TableFault>
     ensures rows { HasCleanDisk (state S.Store conn.new) → IfOk result (λ rows. Shows edition_table rows.items (state S.Store conn.old) (state S.Store conn.new)) }
+    ensures rests { HasCleanDisk (state S.Store conn.new) → Rests (state S.Store conn.old) (state S.Store conn.new) }
     ensures mode { conn.old.in_transaction ≡ false → conn.new.in_transaction ≡ false }
     ensures survives { Survives (state S.Store conn.old) (state S.Store conn.new) (λ _. ⊥) }
 {

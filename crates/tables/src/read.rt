@@ -6,6 +6,7 @@ ghost use Rattle.sqlite.specs.Held.{state};
 ghost use Rattle.sqlite_value.specs.Value.{owned};
 ghost use Rattle.sqlite_trees.specs.Tree.{rowid};
 ghost use Rattle.sqlite_trees.specs.View.{is_int};
+ghost use Rattle.tables.specs.Steps.{RanQuery};
 ghost use Rattle.tables.specs.Keyed.{IsKeyed, comes_first, rises, have_ids};
 
 use crate::fault::TableFault;
@@ -70,6 +71,7 @@ fn are_keyed(rows: &[Row]) -> bool
 pub(crate) fn read<S: Alter>(conn: &mut Connection<S>, sql: &str) -> Result<Vec<Row>, TableFault>
     ensures keyed { IfOk result (λ rows. IsKeyed rows.items) }
     ensures shown { HasCleanDisk (state S.Store conn.new) → IfOk result (λ rows. Shown sql.now [] (state S.Store conn.old) (state S.Store conn.new) rows.items) }
+    ensures ran { HasCleanDisk (state S.Store conn.new) → RanQuery sql.now (state S.Store conn.old) (state S.Store conn.new) }
     ensures mode { conn.old.in_transaction ≡ false → conn.new.in_transaction ≡ false }
     ensures survives { Survives (state S.Store conn.old) (state S.Store conn.new) (CommitsShowing sql.now [] (state S.Store conn.old)) }
 {

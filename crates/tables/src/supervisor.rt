@@ -6,7 +6,7 @@ ghost use Rattle.sqlite.specs.Held.{state};
 ghost use Rattle.sqlite.specs.declared.types.Value.TheVariants.{Int, Text};
 ghost use Rattle.tables.specs.Table.{supervisor_table};
 ghost use Rattle.tables.specs.Writes.{Adds, Makes, Puts, Removes, Replaces};
-ghost use Rattle.tables.specs.Steps.{HasStepped, Shows};
+ghost use Rattle.tables.specs.Steps.{HasStepped, Rests, Shows};
 
 use crate::fault::TableFault;
 use crate::read::read;
@@ -101,6 +101,7 @@ pub fn delete_supervisor<S: Alter>(
 /// Each row of the table, after its rowid.
 pub fn read_supervisors<S: Alter>(conn: &mut Connection<S>) -> Result<Vec<Row>, TableFault>
     ensures rows { HasCleanDisk (state S.Store conn.new) → IfOk result (λ rows. Shows supervisor_table rows.items (state S.Store conn.old) (state S.Store conn.new)) }
+    ensures rests { HasCleanDisk (state S.Store conn.new) → Rests (state S.Store conn.old) (state S.Store conn.new) }
     ensures mode { conn.old.in_transaction ≡ false → conn.new.in_transaction ≡ false }
     ensures survives { Survives (state S.Store conn.old) (state S.Store conn.new) (λ _. ⊥) }
 {

@@ -1,5 +1,5 @@
 use Rattle.sqlite.proofs.StateLemmas.{survives_weaker}
-use Rattle.tables.proofs.Selecting.{read_shows, select_commits}
+use Rattle.tables.proofs.Selecting.{read_shows, select_commits, select_rests}
 use Rattle.tables.proofs.StudentTexts.{student, select_student, student_select}
 use Rattle.tables.proofs.student.read_students.Goals as goal
 
@@ -8,3 +8,6 @@ returns-clause-rows g c clean = read_shows select_student student student_select
 
 pub returns-clause-survives : goal.returns-clause-survives
 returns-clause-survives g c = survives_weaker _ _ _ _ (λ clean db h. select_commits select_student student student_select _ _ db h) c.read.ensures.survives
+
+pub returns-clause-rests : goal.returns-clause-rests
+returns-clause-rests g c clean = select_rests select_student student student_select _ _ (c.read.ensures.ran clean)
