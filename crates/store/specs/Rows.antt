@@ -5,6 +5,8 @@ use Rattle.sqlite.specs.Order.{Row as Cells}
 use Rattle.rolls.specs.declared.row.Row.{Row}
 use Rattle.rolls.specs.declared.row.Row.TheVariants as row
 use Rattle.rolls.specs.declared.row.RowKey.{RowKey}
+use Rattle.store.specs.declared.roll.Roll.{Roll}
+use Rattle.store.specs.declared.roll.Roll.TheVariants.{Supervisors, Projects, Students}
 use Rattle.rolls.specs.From.{are_apart, row_in}
 
 -- the columns of a row
@@ -13,27 +15,27 @@ columns (row.Supervisor code label quota) = Text code ∷ Text label ∷ Int (po
 columns (row.Project code label supervisor quota) = Text code ∷ Text label ∷ Text supervisor ∷ Int (pos quota) ∷ []
 columns (row.Student code label) = Text code ∷ Text label ∷ []
 
--- whether it is a row of `supervisor`
-abbrev pub is_supervisor_row : Row → Bool
-is_supervisor_row (row.Supervisor code label quota) = true
-is_supervisor_row (row.Project code label supervisor quota) = false
-is_supervisor_row (row.Student code label) = false
+-- how many columns a row of the roll has
+abbrev pub width_of : Roll → ℕ
+width_of Supervisors = 3
+width_of Projects = 4
+width_of Students = 2
 
--- whether it is a row of `project`
-abbrev pub is_project_row : Row → Bool
-is_project_row (row.Supervisor code label quota) = false
-is_project_row (row.Project code label supervisor quota) = true
-is_project_row (row.Student code label) = false
+-- whether it is a row of this roll's table
+abbrev pub is_in : Roll → Row → Bool
+is_in Supervisors (row.Supervisor code label quota) = true
+is_in Supervisors (row.Project code label supervisor quota) = false
+is_in Supervisors (row.Student code label) = false
+is_in Projects (row.Supervisor code label quota) = false
+is_in Projects (row.Project code label supervisor quota) = true
+is_in Projects (row.Student code label) = false
+is_in Students (row.Supervisor code label quota) = false
+is_in Students (row.Project code label supervisor quota) = false
+is_in Students (row.Student code label) = true
 
--- whether it is a row of `student`
-abbrev pub is_student_row : Row → Bool
-is_student_row (row.Supervisor code label quota) = false
-is_student_row (row.Project code label supervisor quota) = false
-is_student_row (row.Student code label) = true
-
--- the columns of those of the rows that are of one table
-abbrev pub columns_of : (Row → Bool) → List Row → List Cells
-columns_of is_of rows = map columns (filter is_of rows)
+-- the columns of those of the rows that are of this roll's table
+abbrev pub columns_of : Roll → List Row → List Cells
+columns_of roll rows = map columns (filter (is_in roll) rows)
 
 -- the rows are those at the keys, each once
 pub record AreRowsAt (list : List Row) (rows : RowKey → Option Row) : Type 0 where

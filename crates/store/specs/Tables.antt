@@ -13,7 +13,8 @@ use Rattle.rolls.specs.Rows.{row_of}
 use Rattle.rolls.specs.State.{State, empty}
 use Rattle.tables.specs.Table.{Place, edition_table, supervisor_table, project_table, student_table}
 use Rattle.tables.specs.Keyed.{Stands}
-use Rattle.store.specs.Rows.{AreRowsAt, columns_of, is_supervisor_row, is_project_row, is_student_row}
+use Rattle.store.specs.Rows.{AreRowsAt, columns_of}
+use Rattle.store.specs.declared.roll.Roll.TheVariants.{Supervisors, Projects, Students}
 
 -- the one row of `edition`: its number is 1
 abbrev pub first_edition : List Cells
@@ -35,9 +36,9 @@ pub record TablesHold (db : Database) (rows : RowKey → Option Row) : Type 0 wh
   pub list : List Row
   pub at : AreRowsAt list rows
   pub editions : Stands edition_table edition first_edition db
-  pub supervisors : Stands supervisor_table supervisor (columns_of is_supervisor_row list) db
-  pub projects : Stands project_table project (columns_of is_project_row list) db
-  pub students : Stands student_table student (columns_of is_student_row list) db
+  pub supervisors : Stands supervisor_table supervisor (columns_of Supervisors list) db
+  pub projects : Stands project_table project (columns_of Projects list) db
+  pub students : Stands student_table student (columns_of Students list) db
 
 -- the tables hold the rows of this office, and nothing else
 abbrev pub StandsFor : Database → State → Type 0

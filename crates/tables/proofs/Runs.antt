@@ -1,6 +1,10 @@
 -- Statements one after the other, and what they leave alone.
-use Rattle.std.proofs.Common.{◌≡◌, ◌≢◌, ◌⊎◌, inl, inr, arith, ℕ, List, [], ◌∷◌, refl, sym, subst, ◌∙◌, IsTrue, true, false, Bool, map}
-use Rattle.std.specs.List.{AllByRecursion}
+use Rattle.std.proofs.Common.{◌≡◌, ◌≢◌, ◌⊎◌, inl, inr, arith, ℕ, List, [], ◌∷◌, refl, sym, subst, ◌∙◌, IsTrue, true, false, Bool, map, ap, ◌<◌, ◌^◌, nat_lt, Option, Some, slice_get}
+use Rattle.std.specs.List.{AllByRecursion, AllZip}
+use Rattle.std.proofs.lemmas.Bool.Decides.{Decides-ltb}
+use Rattle.sqlite_schema.specs.Names.{table_named}
+use Rattle.sqlite_catalog.specs.Listing.{IsSound, IsTableRow}
+use Rattle.sqlite_rules.specs.Lists.{Has}
 use Rattle.std.specs.List.Sorted.{IsPermutation}
 use Rattle.sqlite.specs.Order.{Row}
 use Rattle.sqlite.specs.Schema.{Schema}
@@ -12,7 +16,7 @@ use Rattle.sqlite_rules.proofs.ListLemmas.{all_has, all_from, has_got}
 use Rattle.tables.specs.Table.{Place, Lists, Holds, cells}
 use Rattle.tables.specs.Keyed.{IsKeyed, Stands}
 use Rattle.tables.specs.Writes.{WritesOnly, Adds, Makes}
-use Rattle.tables.specs.Steps.{HasStepped, Stays}
+use Rattle.tables.specs.Steps.{HasStepped, Stays, Rests}
 use Rattle.tables.proofs.Places.{listed_along}
 
 -- what writes nothing writes only one table
@@ -113,3 +117,36 @@ stepped_as P Q a b weaker p = record { inside = p.inside; shown = p.shown; step 
 -- what does nothing survives
 pub survives_none : (s : State) (P : Trees → Type 0) → Survives s s P
 survives_none s P = record { clean = omega arith; shield = λ h. h; counts = omega arith; limit = refl; closes = λ clean up. inl up; crash = λ clean db h. inl h }
+
+-- two readings one after the other
+pub rests_then : (a b c : State) → Rests a b → Rests b c → Rests a c
+rests_then a b c p q up =
+    let late = q up in
+    let early = p late.0 in
+    (
+      early.0,
+      λ settled.
+      let one = early.1 settled in
+      let two = late.1 (one.0 ∙ settled ∙ sym one.1) in
+      (two.0 ∙ one.0, two.1 ∙ one.1),
+    )
+
+-- the tree of a listed table is below 2 ^ 16
+pub low_tree : (schema : Schema) (trees : Trees) (table : Table) → IsSound schema trees → Lists schema table → nat_lt table.tree (2 ^ 31) ≡ true
+low_tree schema trees table sound listed =
+    let low : table.tree < 65536 = zip_low _ schema.tables table sound.lists.listed.tables (has_got schema.tables listed.at table listed.there) in
+    (Decides-ltb table.tree (2 ^ 31)).1 (omega (arith, low))
+  where
+    zip_low : (rows : List Row) (tables : List Table) (table : Table) → AllZip IsTableRow rows tables → Has tables table → table.tree < 65536
+    zip_low [] [] table zip h = absurd h
+    zip_low (r ∷ rows) [] table zip h = absurd h
+    zip_low [] (t ∷ tables) table zip h = absurd zip
+    zip_low (r ∷ rows) (t ∷ tables) table zip (inl same) = subst (λ (it : Table). it.tree < 65536) (sym same) zip.0.described.low
+    zip_low (r ∷ rows) (t ∷ tables) table zip (inr h) = zip_low rows tables table zip.1 h
+
+-- a table that is listed is listed at one place
+pub listed_once : (schema : Schema) (table : Place → Table) (p q : Place) → (table p).name ≡ (table q).name → (l : Lists schema (table p)) → (m : Lists schema (table q)) → table p ≡ table q
+listed_once schema table p q named l m =
+    let at : l.at ≡ m.at = let e : Some l.at ≡ Some m.at = sym l.named ∙ ap (table_named schema) named ∙ m.named in cc in
+    let both : ◌≡◌ {A = Option Table} (Some (table p)) (Some (table q)) = sym l.there ∙ ap (slice_get schema.tables) at ∙ m.there in
+    cc

@@ -286,10 +286,24 @@ module _ (sql : List ℕ) (t0 : Table) (it : IsSelect sql t0) where
         both.1,
       )
 
+  -- rows that are shown change nothing
+  select_unchanged : (old new : State) (rows : List Row) → HasShown sql [] old new rows → IsUnchanged old new
+  unfolding HasShown returning timed
+  select_unchanged old new rows h =
+      let p = planned_of old.now.schema sql it.plain.p h.0 it.unlisted it.plain.parsed h.1.is in
+      let q = rw (it.plain.plain, it.plain.no_names, it.plain.statement) at p in
+      let none : q.0 ≡ None = let e = q.2 in cc in
+      let is : h.0.returning ≡ None = ap (λ (it : Compiled). it.returning) q.4 ∙ none in
+      let seen = rw is at h.2 in
+      seen.3
+
   -- the same of a call that answers them
   pub read_shows : (old new : State) (result : Result (Vec Row Global) TableFault) → IfOk result (λ rows. IsKeyed rows.items) → IfOk result (λ rows. HasShown sql [] old new rows.items)
       → IfOk result (λ rows. Shows (placed t0) rows.items old new)
-  read_shows old new (Ok rows) keyed seen = λ place listed low. select_reads old new rows.items place listed low keyed seen
+  read_shows old new (Ok rows) keyed seen = record {
+    same = select_unchanged old new rows.items seen;
+    stands = λ place listed low. (select_reads old new rows.items place listed low keyed seen).0;
+  }
   read_shows old new (Err fault) keyed seen = seen
 
   -- the text commits nothing
@@ -304,14 +318,8 @@ module _ (sql : List ℕ) (t0 : Table) (it : IsSelect sql t0) where
 
   -- the text changes nothing
   pub select_rests : (old new : State) → RanQuery sql old new → Rests old new
-  unfolding HasShown FailsToQuery IsNotRun returning timed
-  select_rests old new (inl (rows, h)) =
-      let p = planned_of old.now.schema sql it.plain.p h.0 it.unlisted it.plain.parsed h.1.is in
-      let q = rw (it.plain.plain, it.plain.no_names, it.plain.statement) at p in
-      let none : q.0 ≡ None = let e = q.2 in cc in
-      let is : h.0.returning ≡ None = ap (λ (it : Compiled). it.returning) q.4 ∙ none in
-      let seen = rw is at h.2 in
-      unchanged_rests old new seen.3
+  unfolding FailsToQuery IsNotRun returning timed
+  select_rests old new (inl (rows, h)) = unchanged_rests old new (select_unchanged old new rows h)
   select_rests old new (inr (e, inl (inl h))) = unchanged_rests old new h.1
   select_rests old new (inr (e, inl (inr h))) = rolled_rests old new h.3
   select_rests old new (inr (e, inr h)) =

@@ -35,10 +35,10 @@ IsKept old new = IsTrue new.is_open → (new.now ≡ old.now) × (new.committed 
 abbrev pub IsLeft : (Database → Database → Type 0) → Database → Trees → Type 0
 IsLeft P old trees = (db : Database) × P old db × (trees ≡ db.trees)
 
--- where the table is listed, these are its rows, each after its rowid, and nothing has changed
-abbrev pub Shows : (Place → Table) → List Row → State → State → Type 0
-Shows table rows old new =
-    (place : Place) → Lists old.now.schema (table place) → nat_lt place.tree (2 ^ 31) ≡ true → Stands table place (map (drop 1) rows) old.now × IsUnchanged old new
+-- nothing has changed, and where the table is listed these are its rows, each after its rowid
+pub record Shows (table : Place → Table) (rows : List Row) (old new : State) : Type 0 where
+  pub same : IsUnchanged old new
+  pub stands : (place : Place) → Lists old.now.schema (table place) → nat_lt place.tree (2 ^ 31) ≡ true → Stands table place (map (drop 1) rows) old.now
 
 -- a query was run, or failed
 abbrev pub RanQuery : List ℕ → State → State → Type 0
