@@ -1,1 +1,5 @@
 mod Cells
+mod Keys
+mod Columns
+mod Holding
+mod Applying

@@ -4,5 +4,6 @@
 mod fault;
 mod roll;
 mod rows;
+mod saving;
 
 pub use fault::StoreFault;
