@@ -3,3 +3,4 @@ mod Keys
 mod Columns
 mod Holding
 mod Applying
+mod Making

@@ -49,6 +49,10 @@ pub record Founds (old new : Database) : Type 0 where
   pub none : HasNone old.schema
   pub stands : StandsFor new empty
 
+-- a database comes to stand for the empty office
+unfoldable pub Empties : Database → Database → Type 0
+Empties old new = StandsFor new empty
+
 -- what was opened: the empty office where none of the tables was there, and else the office that they stand for
 abbrev pub Opens : Database → Database → State → Type 0
 Opens old new office = (HasNone old.schema × (office ≡ empty) × StandsFor new empty) ⊎ ((new ≡ old) × StandsFor old office)

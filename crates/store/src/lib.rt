@@ -2,6 +2,7 @@
 #![tactic(auto)]
 
 mod fault;
+mod founding;
 mod roll;
 mod rows;
 mod saving;
