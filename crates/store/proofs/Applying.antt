@@ -8,7 +8,8 @@ use Rattle.rolls.specs.declared.row.Row.{Row}
 use Rattle.rolls.specs.declared.row.RowKey.{RowKey}
 use Rattle.rolls.specs.declared.row.Change.{Change}
 use Rattle.rolls.specs.Rows.{after_change, after_changes}
-use Rattle.tables.specs.Steps.{HasStepped, Stays}
+use Rattle.sqlite.specs.Tree.{Trees}
+use Rattle.tables.specs.Steps.{HasStepped, HasSaved, IsLeft, Stays}
 use Rattle.tables.proofs.Runs.{stepped_as, stays_none, stays_then}
 use Rattle.store.specs.Tables.{TablesHold}
 use Rattle.store.specs.Saving.{AreInert, Applies, AppliesOne, Saves}
@@ -48,3 +49,12 @@ changes_more i changes change a b c low is p q =
 pub saves : (changes : List Change) (old new : Database) → AreInert old.schema → Applies changes old new → Saves changes old new
 unfolding Applies Saves
 saves changes old new inert p rows t = (p inert rows t).0
+
+-- the same of a transaction
+pub saves_call : {E : Type 0} (changes : List Change) (a b : State) (r : Result (Unit {0}) E) → AreInert a.now.schema → OnOk r (HasSaved (Applies changes) a b) → OnOk r (HasSaved (Saves changes) a b)
+saves_call changes a b (Ok u) inert h = record { shown = h.shown; step = saves changes a.now b.now inert h.step }
+saves_call changes a b (Err e) inert h = h
+
+-- and of what a crash leaves
+pub saves_left : (changes : List Change) (old : Database) (trees : Trees) → AreInert old.schema → IsLeft (Applies changes) old trees → IsLeft (Saves changes) old trees
+saves_left changes old trees inert h = (h.0, saves changes old h.0 inert h.1, h.2)

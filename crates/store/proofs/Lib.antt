@@ -4,3 +4,4 @@ mod Columns
 mod Holding
 mod Applying
 mod Making
+mod Inertness

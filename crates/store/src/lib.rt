@@ -5,6 +5,9 @@ mod fault;
 mod founding;
 mod roll;
 mod rows;
+mod quiet;
 mod saving;
+mod store;
 
 pub use fault::StoreFault;
+pub use store::Store;

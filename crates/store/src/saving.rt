@@ -1,14 +1,15 @@
 //! Changes, in a transaction.
 
-ghost use Rattle.std.specs.Prelude.{◌≡◌, OnOk};
+ghost use Rattle.std.specs.Prelude.{◌≡◌, ◌≢◌, IsTrue, false, OnOk, OnErr};
 ghost use Rattle.sqlite.specs.State.{HasCleanDisk, KeepsCommit, Survives};
 ghost use Rattle.sqlite.specs.Held.{state};
-ghost use Rattle.tables.specs.Steps.{HasStepped, Stays};
-ghost use Rattle.store.specs.Saving.{Applies, AppliesOne};
+ghost use Rattle.tables.specs.Steps.{HasSaved, HasStepped, IsKept, IsLeft, Stays};
+ghost use Rattle.store.specs.Saving.{Applies, AppliesOne, Saves};
 
 use crate::fault::StoreFault;
+use crate::quiet::are_left;
 use rolls::{Change, Row, RowKey};
-use sqlite::{Alter, Transaction};
+use sqlite::{Alter, Connection, Transaction};
 use tables::fault::TableFault;
 use tables::project::{delete_project, put_project};
 use tables::student::{delete_student, put_student};
@@ -73,4 +74,37 @@ pub fn apply_all<S: Alter>(tx: &mut Transaction<'_, S>, changes: &[Change]) -> R
         apply(tx, change)?;
     }
     Ok(())
+}
+
+/// Makes the changes in one transaction.
+fn save_all<S: Alter>(conn: &mut Connection<S>, changes: &[Change]) -> Result<(), StoreFault>
+    ensures ok { HasCleanDisk (state S.Store conn.new) → OnOk result (HasSaved (Applies changes.now) (state S.Store conn.old) (state S.Store conn.new)) }
+    ensures err { HasCleanDisk (state S.Store conn.new) → OnErr result (IsKept (state S.Store conn.old) (state S.Store conn.new)) }
+    ensures faults { result ≢ Err StoreFault.Damaged }
+    ensures crash { Survives (state S.Store conn.old) (state S.Store conn.new) (IsLeft (Applies changes.now) (state S.Store conn.old).now) }
+    ensures ended { conn.old.in_transaction ≡ false → conn.new.in_transaction ≡ false }
+{
+    if !conn.is_autocommit() {
+        return Err(StoreFault::Storage);
+    }
+    let mut tx = conn.transaction();
+    apply_all(&mut tx, changes)?;
+    match tx.commit() {
+        Ok(()) => Ok(()),
+        Err(error) => Err(TableFault::from(error).into()),
+    }
+}
+
+/// Makes the changes in one transaction, where no other table acts on the product's.
+pub fn save_changes<S: Alter>(conn: &mut Connection<S>, changes: &[Change]) -> Result<(), StoreFault>
+    ensures ok { HasCleanDisk (state S.Store conn.new) → OnOk result (HasSaved (Saves changes.now) (state S.Store conn.old) (state S.Store conn.new)) }
+    ensures err { HasCleanDisk (state S.Store conn.new) → OnErr result (IsKept (state S.Store conn.old) (state S.Store conn.new)) }
+    ensures faults { result ≢ Err StoreFault.Damaged }
+    ensures crash { Survives (state S.Store conn.old) (state S.Store conn.new) (IsLeft (Saves changes.now) (state S.Store conn.old).now) }
+    ensures ended { conn.old.in_transaction ≡ false → conn.new.in_transaction ≡ false }
+{
+    if !are_left(conn.schema()) {
+        return Err(StoreFault::Storage);
+    }
+    save_all(conn, changes)
 }
