@@ -1,1 +1,7 @@
 mod Cells
+mod Keys
+mod Columns
+mod Holding
+mod Applying
+mod Making
+mod Inertness

@@ -2,12 +2,20 @@
 use Rattle.std.specs.Prelude.{◌≡◌, ℕ, pos, Bool, true, false, IsTrue, List, [], ◌∷◌, map, filter, Option}
 use Rattle.sqlite.specs.declared.types.Value.TheVariants.{Int, Text}
 use Rattle.sqlite.specs.Order.{Row as Cells}
+use Rattle.sqlite.specs.Table.{Table}
+use Rattle.tables.specs.Table.{Place, supervisor_table, project_table, student_table}
 use Rattle.rolls.specs.declared.row.Row.{Row}
 use Rattle.rolls.specs.declared.row.Row.TheVariants as row
 use Rattle.rolls.specs.declared.row.RowKey.{RowKey}
 use Rattle.store.specs.declared.roll.Roll.{Roll}
 use Rattle.store.specs.declared.roll.Roll.TheVariants.{Supervisors, Projects, Students}
 use Rattle.rolls.specs.From.{are_apart, row_in}
+
+-- the table of a roll
+abbrev pub table_of : Roll → Place → Table
+table_of Supervisors = supervisor_table
+table_of Projects = project_table
+table_of Students = student_table
 
 -- the columns of a row
 abbrev pub columns : Row → Cells

@@ -2,7 +2,12 @@
 #![tactic(auto)]
 
 mod fault;
+mod founding;
 mod roll;
 mod rows;
+mod quiet;
+mod saving;
+mod store;
 
 pub use fault::StoreFault;
+pub use store::Store;
