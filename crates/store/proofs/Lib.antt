@@ -5,3 +5,5 @@ mod Holding
 mod Applying
 mod Making
 mod Inertness
+mod Judging
+mod Gathering
