@@ -7,3 +7,6 @@ mod Making
 mod Inertness
 mod Judging
 mod Gathering
+mod Permuted
+mod Fitness
+mod Judged

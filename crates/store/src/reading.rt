@@ -112,3 +112,22 @@ fn read_rows<S: Alter>(alloc: Global, conn: &mut Connection<S>) -> Result<Vec<Ro
     rows.append(&mut students)?;
     Ok(rows)
 }
+
+/// The office of the tables, where none is being written.
+pub fn office_of<S: Alter>(alloc: Global, conn: &mut Connection<S>) -> Result<Office, StoreFault>
+    ensures ok { HasCleanDisk (state S.Store conn.new) → IfOk result (λ office. IsUnchanged (state S.Store conn.old) (state S.Store conn.new) × StandsFor (state S.Store conn.old).now office) }
+    ensures damaged { HasCleanDisk (state S.Store conn.new) → result ≡ Err StoreFault.Damaged → IsDamaged (state S.Store conn.old).now }
+    ensures rests { HasCleanDisk (state S.Store conn.new) → Rests (state S.Store conn.old) (state S.Store conn.new) }
+    ensures mode { conn.old.in_transaction ≡ false → conn.new.in_transaction ≡ false }
+    ensures survives { Survives (state S.Store conn.old) (state S.Store conn.new) (λ _. ⊥) }
+{
+    if !are_listed(conn.schema()) {
+        return Err(StoreFault::Damaged);
+    }
+    let edition = read_edition(conn)?;
+    if !are_first(edition.as_slice()) {
+        return Err(StoreFault::Damaged);
+    }
+    let rows = read_rows(alloc, conn)?;
+    Ok(Office::from_rows(alloc, rows)?)
+}
