@@ -1,3 +1,4 @@
+pub mod Standing
 mod Cells
 mod Keys
 mod Columns
