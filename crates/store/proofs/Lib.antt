@@ -1,3 +1,4 @@
+pub mod Standing
 mod Cells
 mod Keys
 mod Columns
@@ -5,3 +6,8 @@ mod Holding
 mod Applying
 mod Making
 mod Inertness
+mod Judging
+mod Gathering
+mod Permuted
+mod Fitness
+mod Judged

@@ -1,5 +1,5 @@
 -- The tables that were made stand for the empty office.
-use Rattle.std.proofs.Common.{◌≡◌, ◌≢◌, ℕ, List, [], ◌∷◌, Option, None, refl, sym, ap, ◌∙◌, pos}
+use Rattle.std.proofs.Common.{◌≡◌, ◌≢◌, ℕ, List, [], ◌∷◌, Option, None, inl, inr, refl, sym, ap, ◌∙◌, pos}
 use Rattle.sqlite.specs.Effect.{Database}
 use Rattle.sqlite.specs.Order.{Row as Cells}
 use Rattle.sqlite.specs.State.{State as Seen}
@@ -7,16 +7,17 @@ use Rattle.rolls.specs.declared.row.RowKey.{RowKey}
 use Rattle.rolls.specs.declared.row.RowKey.TheVariants as key
 use Rattle.rolls.specs.Rows.{row_of}
 use Rattle.rolls.specs.From.{row_in}
-use Rattle.rolls.specs.State.{empty}
+use Rattle.rolls.specs.State.{State, empty}
 use Rattle.tables.specs.Table.{Place, edition_table, supervisor_table, project_table, student_table}
 use Rattle.tables.specs.Keyed.{Stands}
 use Rattle.tables.specs.Writes.{Makes}
-use Rattle.tables.specs.Steps.{HasStepped}
+use Rattle.sqlite.specs.Tree.{Trees}
+use Rattle.tables.specs.Steps.{HasStepped, IsLeft}
 use Rattle.tables.proofs.Runs.{stands_beside, stepped_then}
 use Rattle.store.specs.declared.roll.Roll.{Roll}
 use Rattle.store.specs.declared.roll.Roll.TheVariants.{Supervisors, Projects, Students}
 use Rattle.store.specs.Rows.{columns_of, table_of, AreRowsAt}
-use Rattle.store.specs.Tables.{TablesHold, StandsFor, Empties, first_edition}
+use Rattle.store.specs.Tables.{TablesHold, StandsFor, Empties, Founds, HasNone, Opens, first_edition}
 
 no_row : (k : RowKey) → row_in [] k ≡ row_of empty k
 no_row (key.Supervisor code) = refl
@@ -92,3 +93,13 @@ founded a b c d e m n o p = record {
   };
   step = empty_stands a.now b.now c.now d.now e.now m.step n.step o.step p.step;
 }
+
+-- the tables were made where there were none
+pub opens_new : (old new : Database) (office : State) → HasNone old.schema → office ≡ empty → Empties old new → Opens old new office
+unfolding Empties
+opens_new old new office none is made = inl (none, is, made)
+
+-- what a crash leaves of the making
+pub founds_left : (old : Database) (trees : Trees) → HasNone old.schema → IsLeft Empties old trees → IsLeft Founds old trees
+unfolding Empties
+founds_left old trees none h = (h.0, record { none = none; stands = h.1 }, h.2)

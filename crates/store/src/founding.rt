@@ -1,6 +1,6 @@
 //! Making the tables.
 
-ghost use Rattle.std.specs.Prelude.{◌≡◌, IsTrue, false, OnOk, OnErr};
+ghost use Rattle.std.specs.Prelude.{◌≡◌, ◌≢◌, IsTrue, false, OnOk, OnErr};
 ghost use Rattle.sqlite.specs.State.{HasCleanDisk, KeepsCommit, Survives};
 ghost use Rattle.sqlite.specs.Held.{state};
 ghost use Rattle.tables.specs.Steps.{HasSaved, HasStepped, IsKept, IsLeft};
@@ -45,6 +45,7 @@ fn make_tables<S: Alter>(tx: &mut Transaction<'_, S>) -> Result<(), TableFault>
 pub fn found<S: Alter>(conn: &mut Connection<S>) -> Result<(), StoreFault>
     ensures ok { HasCleanDisk (state S.Store conn.new) → OnOk result (HasSaved Empties (state S.Store conn.old) (state S.Store conn.new)) }
     ensures err { HasCleanDisk (state S.Store conn.new) → OnErr result (IsKept (state S.Store conn.old) (state S.Store conn.new)) }
+    ensures faults { result ≢ Err StoreFault.Damaged }
     ensures crash { Survives (state S.Store conn.old) (state S.Store conn.new) (IsLeft Empties (state S.Store conn.old).now) }
     ensures ended { conn.old.in_transaction ≡ false → conn.new.in_transaction ≡ false }
 {

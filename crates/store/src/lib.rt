@@ -3,6 +3,7 @@
 
 mod fault;
 mod founding;
+mod reading;
 mod roll;
 mod rows;
 mod quiet;
