@@ -9,14 +9,20 @@
 #![tactic(auto)]
 
 mod code;
+mod instance;
 mod label;
+mod laws;
 mod lex;
+mod matching;
 mod text;
 mod worth;
 
 pub use code::Code;
+pub use instance::Instance;
 pub use label::Label;
+pub use laws::{greedy_law, list_law, price_law};
 pub use lex::{Lex, lex_law};
+pub use matching::{MatchFault, Matching, profile};
 pub use text::{TextFault, is_code_text, is_label_text};
 pub use worth::Worth;
 
