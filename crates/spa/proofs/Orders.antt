@@ -1,8 +1,6 @@
 -- The order of rows is total, transitive, and kept by sums.
-use Rattle.std.proofs.Common.{◌≡◌, ℕ, zero, suc, ◌+◌, ◌<◌, ◌⊎◌, inl, inr, refl, sym, ◌∙◌, ap, subst, arith, ℤ, ◌<ℤ◌, ◌≤ℤ◌, true, false, T, ◌↔◌, SFits, of_z, to_z, w64}
-use Rattle.std.proofs.lemmas.Int.{ints, by_lt_z, to_z-of_z}
-use Rattle.std.proofs.lemmas.Bool.{cases_lt, cases_Bool}
-use lib.Signed.{lt_z}
+use Rattle.std.proofs.Common.{◌≡◌, ℕ, zero, suc, ◌<◌, ◌⊎◌, inl, inr, refl, sym, ◌∙◌, arith, ℤ, ◌<ℤ◌}
+use Rattle.std.proofs.lemmas.Int.{ints, by_lt_z}
 use Rattle.spa.specs.Order.{Precedes, plus}
 
 -- a row without its first place
@@ -83,46 +81,3 @@ RowAtMost-plus (suc n) u v w x (inr s) (inr t) =
     let e : u 0 ≡ v 0 = s.0 in
     let f : w 0 ≡ x 0 = t.0 in
     inr (omega (arith, ints), RowAtMost-plus n (after u) (after v) (after w) (after x) s.1 t.1)
-
--- a test of numbers that passed
-pub yes_below : (a b : ℤ) → lt_z a b ≡ true → a <ℤ b
-yes_below a b h = record { lt = subst T (sym h) tt }
-
--- the test passes on a smaller number
-pub below_yes : (a b : ℤ) → a <ℤ b → lt_z a b ≡ true
-below_yes a b h = elim (cases_Bool (lt_z a b)) [ inl e ↦ e | inr e ↦ absurd (subst T e h.lt) ]
-
--- where the rows first differ, the test decides
-pub decided_at : (n : ℕ) (v w : ℕ → ℤ) (t : ℕ) → t < n → ((k : ℕ) → k < t → v k ≡ w k) → (v t ≡ w t → ⊥) → (lt_z (v t) (w t) ≡ true) ↔ Precedes n v w
-decided_at n v w t r same differ = (
-  λ h. record { place = t; in_range = r; alike = same; smaller = yes_below (v t) (w t) h },
-  λ b. below_yes (v t) (w t) (elim (cases_lt b.place t) [
-    | inl h ↦ let e : v b.place ≡ w b.place = same b.place h in let s = b.smaller in absurd (omega (arith, ints, e, s))
-    | inr h ↦ elim (cases_lt t b.place) [
-      | inl k ↦ absurd (differ (b.alike t k))
-      | inr k ↦ let e : b.place ≡ t = omega arith in subst (λ (p : ℕ). v p <ℤ w p) e b.smaller
-    ]
-  ]),
-)
-
--- rows that are alike: neither comes first
-pub alike_not_before : (n : ℕ) (v w : ℕ → ℤ) → ((k : ℕ) → k < n → v k ≡ w k) → ¬ Precedes n v w
-alike_not_before n v w same b = let e : v b.place ≡ w b.place = same b.place b.in_range in let s = b.smaller in absurd (omega (arith, ints, e, s))
-
--- one place more that is alike
-pub alike_more : (v w : ℕ → ℤ) (t : ℕ) → ((k : ℕ) → k < t → v k ≡ w k) → v t ≡ w t → (k : ℕ) → k < t + 1 → v k ≡ w k
-alike_more v w t same here k h =
-    elim (cases_lt k t) [ inl l ↦ same k l | inr g ↦ let e : t ≡ k = omega arith in subst (λ (p : ℕ). v p ≡ w p) e here ]
-
--- two numbers of one width with the same bits
-pub same_bits : (a b : ℤ) → SFits w64 a → SFits w64 b → of_z w64 a ≡ of_z w64 b → a ≡ b
-same_bits a b f g e = sym (to_z-of_z w64 a f) ∙ ap (to_z w64) e ∙ to_z-of_z w64 b g
-
--- the same at two numbers that the code has read or computed
-pub decided_values : (n : ℕ) (v w : ℕ → ℤ) (t : ℕ) (x y : ℤ) → t < n → ((k : ℕ) → k < t → v k ≡ w k) → x ≡ v t → y ≡ w t → SFits w64 x → SFits w64 y → (of_z w64 x ≡ of_z w64 y → ⊥) → (lt_z (to_z w64 (of_z w64 x)) (to_z w64 (of_z w64 y)) ≡ true) ↔ Precedes n v w
-decided_values n v w t x y r same ex ey f g differ =
-    rw (to_z-of_z w64 x f, to_z-of_z w64 y g, ex, ey) (decided_at n v w t r same (λ e. differ (ap (of_z w64) (ex ∙ e ∙ sym ey))))
-
--- and fails on one that is not smaller
-pub not_below_no : (a b : ℤ) → b ≤ℤ a → lt_z a b ≡ false
-not_below_no a b h = elim (cases_Bool (lt_z a b)) [ inl e ↦ absurd (let s : a <ℤ b = yes_below a b e in omega (arith, ints)) | inr e ↦ e ]

@@ -14,6 +14,7 @@ mod label;
 mod laws;
 mod lex;
 mod matching;
+mod order;
 mod text;
 mod worth;
 
@@ -23,6 +24,7 @@ pub use label::Label;
 pub use laws::{greedy_law, list_law, price_law};
 pub use lex::{Lex, lex_law};
 pub use matching::{MatchFault, Matching, profile};
+pub use order::precedes;
 pub use text::{TextFault, is_code_text, is_label_text};
 pub use worth::Worth;
 
