@@ -6,3 +6,6 @@ pub mod Duality
 pub mod Greedy
 pub mod Places
 pub mod PairsOf
+pub mod CodeLists
+pub mod RollLists
+pub mod Making

@@ -1,11 +1,16 @@
 //! Instances: rolls of supervisors, projects and students with their lists.
 #![tactic(auto)]
 
-ghost use Rattle.std.specs.Prelude.{◌≡◌, ◌<◌, length, map};
+ghost use Rattle.std.specs.Prelude.{◌≡◌, ◌<◌, length, map, IfOk, IfErr};
 ghost use Rattle.spa.specs.Shape.{list_of, supervisor_of, project_quota, supervisor_quota};
-ghost use Rattle.spa.specs.Named.{IsFit};
+ghost use Rattle.spa.specs.Instance.{given};
+ghost use Rattle.spa.specs.Named.{IsFit, instance_of};
+ghost use Rattle.spa.specs.Made.{IsFirstInstanceFault};
 
 use crate::code::Code;
+use crate::columns::{place, split};
+use crate::fault::InstanceFault;
+use std::alloc::Global;
 use std::marker::Model;
 
 /// An instance of student/project allocation. Supervisors, projects and students have codes, and are known by their
@@ -32,6 +37,28 @@ impl Model for Instance {
 }
 
 impl Instance {
+    /// The instance of these rolls: supervisors with quota, projects with supervisor and quota, students with list.
+    pub fn new(
+        alloc: Global,
+        supervisors: Vec<(Code, u32)>,
+        projects: Vec<(Code, Code, u32)>,
+        students: Vec<(Code, Vec<Code>)>,
+    ) -> Result<Instance, InstanceFault>
+        ensures made { IfOk result (λ i. instance_of i ≡ given supervisors.items projects.items (map (λ e. (e.0, e.1.items)) students.items)) }
+        ensures fault { IfErr result (λ fault. IsFirstInstanceFault (given supervisors.items projects.items (map (λ e. (e.0, e.1.items)) students.items)) fault) }
+    {
+        let columns = split(alloc, supervisors, projects, students)?;
+        let (projects, students) = place(alloc, &columns)?;
+        Ok(Instance {
+            supervisor_codes: columns.supervisor_codes,
+            project_codes: columns.project_codes,
+            student_codes: columns.student_codes,
+            supervisors: columns.supervisor_quotas,
+            projects,
+            students,
+        })
+    }
+
     /// An instance is sound and within the limits, and no code stands twice in a roll.
     pub fn fit(&self)
         ensures { IsFit self.now }

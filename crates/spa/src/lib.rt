@@ -9,16 +9,23 @@
 #![tactic(auto)]
 
 mod code;
+mod codes;
+mod columns;
+mod fault;
 mod instance;
 mod label;
 mod laws;
 mod lex;
+mod lists;
 mod matching;
+mod offers;
 mod order;
+mod rolls;
 mod text;
 mod worth;
 
 pub use code::Code;
+pub use fault::{InstanceFault, Roll};
 pub use instance::Instance;
 pub use label::Label;
 pub use laws::{greedy_law, list_law, price_law};
@@ -27,6 +34,18 @@ pub use matching::{MatchFault, Matching, profile};
 pub use order::precedes;
 pub use text::{TextFault, is_code_text, is_label_text};
 pub use worth::Worth;
+
+/// The most supervisors of an instance.
+pub const MOST_SUPERVISORS: usize = 100;
+
+/// The most projects of an instance.
+pub const MOST_PROJECTS: usize = 400;
+
+/// The most students of an instance.
+pub const MOST_STUDENTS: usize = 500;
+
+/// The greatest quota of a supervisor or a project.
+pub const MOST_PLACES: u32 = 500;
 
 /// The longest list, and so the ranks that a pair can have.
 pub const RANKS: usize = 8;
