@@ -14,3 +14,6 @@ mod totals;
 
 pub use conditions::{CheckFault, check};
 pub use prices::{LIMIT, Prices};
+
+#[cfg(test)]
+mod tests;
