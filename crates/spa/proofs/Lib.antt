@@ -9,3 +9,4 @@ pub mod PairsOf
 pub mod CodeLists
 pub mod RollLists
 pub mod Making
+pub mod ByCodes

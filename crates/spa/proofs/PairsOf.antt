@@ -72,7 +72,8 @@ none_past key m k (e ∷ M) a h =
     let f : eqb (key e) k ≡ false = ne_eqb (key e) k (λ x. absurd (omega arith)) in
     simp (sum_by-cons, f, r)
 
-within_all : (key : Pair → ℕ) (m : ℕ) (quota : ℕ → ℕ) (M : List Pair) → AllByRecursion (λ e. key e < m) M → ((k : ℕ) → k < m → count_by (λ e. key e == k) M ≤ quota k) → (k : ℕ) → count_by (λ e. key e == k) M ≤ quota k
+-- where each quota that is known is kept, all are
+pub within_all : (key : Pair → ℕ) (m : ℕ) (quota : ℕ → ℕ) (M : List Pair) → AllByRecursion (λ e. key e < m) M → ((k : ℕ) → k < m → count_by (λ e. key e == k) M ≤ quota k) → (k : ℕ) → count_by (λ e. key e == k) M ≤ quota k
 within_all key m quota M a within k =
     elim (cases_lt k m) [ inl h ↦ within k h | inr h ↦ let z = none_past key m k M a h in omega (arith, z) ]
 

@@ -6,6 +6,7 @@ ghost use Rattle.spa.specs.Order.{greedy};
 ghost use Rattle.spa.specs.Shape.{list_of};
 ghost use Rattle.spa.specs.Matching.{Pair, IsBest, IsGreedyMaximum, rank_in};
 ghost use Rattle.spa.specs.Prices.{ProveBest};
+ghost use Rattle.spa.specs.Coded.{SaysTheSame};
 
 use crate::instance::Instance;
 
@@ -26,6 +27,13 @@ pub fn greedy_law(instance: &Instance)
 /// Prices that prove a matching best are right: it is, against every matching of the instance.
 pub fn price_law(instance: &Instance)
     ensures { (M : List Pair) (u y z : ℕ → ℕ → ℤ) → ProveBest greedy instance.now.shape M u y z → IsBest greedy instance.now.shape M }
+{
+    instance.fit();
+}
+
+/// Matchings, profiles and greedy maximum say the same by codes as by positions.
+pub fn code_law(instance: &Instance)
+    ensures { SaysTheSame instance.now }
 {
     instance.fit();
 }
