@@ -89,6 +89,7 @@ record IsRoll {E : Type 0} (code : E → List ℕ) (codes : List (List ℕ)) (es
   coded : (k : ℕ) → code (make k) ≡ code_at codes k
   apart : AreApart codes (length codes)
 
+-- a look-up by a code finds the entry at its position
 entry_at : {E : Type 0} (code : E → List ℕ) (codes : List (List ℕ)) (es : List E) (make : ℕ → E) → IsRoll code codes es make → (k : ℕ) → k < length codes → find (λ e. bytes_eq (code_at codes k) (code e)) es ≡ Some (make k)
 entry_at {E} code codes es make r k h =
     let d : E = make k in
@@ -103,6 +104,7 @@ entry_at {E} code codes es make r k h =
     let Q : List ℕ → Type 0 = λ c. find (λ e. bytes_eq c (code e)) es ≡ Some (make k) in
     subst Q (r.coded k) (subst P (r.at k d h) (found_entry code es k d (omega arith) apart))
 
+-- and finds nothing where the code stands nowhere
 nothing_at : {E : Type 0} (code : E → List ℕ) (codes : List (List ℕ)) (es : List E) (make : ℕ → E) → IsRoll code codes es make → (x : List ℕ) → ((k : ℕ) → k < length codes → code_at codes k ≢ x) → find (λ e. bytes_eq x (code e)) es ≡ None
 nothing_at {E} code codes es make r x never =
     let many = r.many in
@@ -111,49 +113,59 @@ nothing_at {E} code codes es make r x never =
 
 -- ---- the rolls of an instance
 
+-- the supervisor at a position
 abbrev supervisor_at : List (List ℕ) → List ℕ → ℕ → Supervisor
 supervisor_at codes quotas k = record { code = code_at codes k; quota = slice_index quotas k }
 
+-- the project at a position
 abbrev project_at : List (List ℕ) → List (List ℕ) → List (ℕ × ℕ) → ℕ → Project
 project_at supervisors codes ps k = record { code = code_at codes k; supervisor = code_at supervisors (get_or ps k (0, 0)).0; quota = (get_or ps k (0, 0)).1 }
 
+-- the student at a position
 abbrev student_at : List (List ℕ) → List (List ℕ) → List (List ℕ) → ℕ → Student
 student_at projects codes lists k = record { code = code_at codes k; list = map (code_at projects) (get_or lists k []) }
 
+-- the roll of supervisors has it there
 supervisors_at : (codes : List (List ℕ)) (quotas : List ℕ) (k : ℕ) (d : Supervisor) → length codes ≡ length quotas → k < length codes → get_or (supervisors_named codes quotas) k d ≡ supervisor_at codes quotas k
 supervisors_at [] quotas k d e h = absurd (omega arith)
 supervisors_at (c ∷ codes) [] k d e h = absurd (omega arith)
 supervisors_at (c ∷ codes) (q ∷ quotas) zero d e h = refl
 supervisors_at (c ∷ codes) (q ∷ quotas) (suc k) d e h = supervisors_at codes quotas k d (omega arith) (omega arith)
 
+-- the roll of projects has it there
 projects_at : (supervisors codes : List (List ℕ)) (ps : List (ℕ × ℕ)) (k : ℕ) (d : Project) → length codes ≡ length ps → k < length codes → get_or (projects_named supervisors codes ps) k d ≡ project_at supervisors codes ps k
 projects_at supervisors [] ps k d e h = absurd (omega arith)
 projects_at supervisors (c ∷ codes) [] k d e h = absurd (omega arith)
 projects_at supervisors (c ∷ codes) (p ∷ ps) zero d e h = refl
 projects_at supervisors (c ∷ codes) (p ∷ ps) (suc k) d e h = projects_at supervisors codes ps k d (omega arith) (omega arith)
 
+-- the roll of students has it there
 students_at : (projects codes : List (List ℕ)) (xss : List (List ℕ)) (k : ℕ) (d : Student) → length codes ≡ length xss → k < length codes → get_or (students_named projects codes xss) k d ≡ student_at projects codes xss k
 students_at projects [] xss k d e h = absurd (omega arith)
 students_at projects (c ∷ codes) [] k d e h = absurd (omega arith)
 students_at projects (c ∷ codes) (xs ∷ xss) zero d e h = refl
 students_at projects (c ∷ codes) (xs ∷ xss) (suc k) d e h = students_at projects codes xss k d (omega arith) (omega arith)
 
+-- there are as many supervisors as codes
 many_supervisors : (codes : List (List ℕ)) (quotas : List ℕ) → length codes ≡ length quotas → length (supervisors_named codes quotas) ≡ length codes
 many_supervisors [] quotas e = refl
 many_supervisors (c ∷ codes) [] e = absurd (omega arith)
 many_supervisors (c ∷ codes) (q ∷ quotas) e = let r = many_supervisors codes quotas (omega arith) in omega arith
 
+-- there are as many projects as codes
 many_projects : (supervisors codes : List (List ℕ)) (ps : List (ℕ × ℕ)) → length codes ≡ length ps → length (projects_named supervisors codes ps) ≡ length codes
 many_projects supervisors [] ps e = refl
 many_projects supervisors (c ∷ codes) [] e = absurd (omega arith)
 many_projects supervisors (c ∷ codes) (p ∷ ps) e = let r = many_projects supervisors codes ps (omega arith) in omega arith
 
+-- there are as many students as codes
 many_students : (projects codes : List (List ℕ)) (xss : List (List ℕ)) → length codes ≡ length xss → length (students_named projects codes xss) ≡ length codes
 many_students projects [] xss e = refl
 many_students projects (c ∷ codes) [] e = absurd (omega arith)
 many_students projects (c ∷ codes) (xs ∷ xss) e = let r = many_students projects codes xss (omega arith) in omega arith
 
 module _ (i : Named) (fit : IsFit i) where
+  -- the supervisors of a fit instance are entries by their codes
   supervisors_roll : IsRoll (λ e. e.code) i.supervisor_codes (supervisors_named i.supervisor_codes i.shape.supervisors) (supervisor_at i.supervisor_codes i.shape.supervisors)
   supervisors_roll = record {
     many = many_supervisors i.supervisor_codes i.shape.supervisors fit.supervisors.one_each;
@@ -162,6 +174,7 @@ module _ (i : Named) (fit : IsFit i) where
     apart = subst (AreApart i.supervisor_codes) (sym fit.supervisors.one_each) fit.supervisors.distinct;
   }
 
+  -- so are the projects
   projects_roll : IsRoll (λ e. e.code) i.project_codes (projects_named i.supervisor_codes i.project_codes i.shape.projects) (project_at i.supervisor_codes i.project_codes i.shape.projects)
   projects_roll = record {
     many = many_projects i.supervisor_codes i.project_codes i.shape.projects fit.projects.one_each;
@@ -170,6 +183,7 @@ module _ (i : Named) (fit : IsFit i) where
     apart = subst (AreApart i.project_codes) (sym fit.projects.one_each) fit.projects.distinct;
   }
 
+  -- and the students
   students_roll : IsRoll (λ e. e.code) i.student_codes (students_named i.project_codes i.student_codes i.shape.students) (student_at i.project_codes i.student_codes i.shape.students)
   students_roll = record {
     many = many_students i.project_codes i.student_codes i.shape.students fit.students.one_each;
@@ -182,15 +196,19 @@ module _ (i : Named) (fit : IsFit i) where
   choices_at : (s : ℕ) → s < length i.student_codes → choices_of (instance_of i) (code_at i.student_codes s) ≡ map (code_at i.project_codes) (list_of i.shape s)
   choices_at s h = ap (λ (o : Option Student). option_map_or (λ e. e.list) o []) (entry_at (λ e. e.code) i.student_codes (students_named i.project_codes i.student_codes i.shape.students) (student_at i.project_codes i.student_codes i.shape.students) students_roll s h)
 
+  -- a code that stands nowhere lists nothing
   no_choices : (x : List ℕ) → ((k : ℕ) → k < length i.student_codes → code_at i.student_codes k ≢ x) → choices_of (instance_of i) x ≡ []
   no_choices x never = ap (λ (o : Option Student). option_map_or (λ e. e.list) o []) (nothing_at (λ e. e.code) i.student_codes (students_named i.project_codes i.student_codes i.shape.students) (student_at i.project_codes i.student_codes i.shape.students) students_roll x never)
 
+  -- who offers a project
   offerer_at : (p : ℕ) → p < length i.project_codes → offerer_of (instance_of i) (code_at i.project_codes p) ≡ code_at i.supervisor_codes (supervisor_of i.shape p)
   offerer_at p h = ap (λ (o : Option Project). option_map_or (λ e. e.supervisor) o []) (entry_at (λ e. e.code) i.project_codes (projects_named i.supervisor_codes i.project_codes i.shape.projects) (project_at i.supervisor_codes i.project_codes i.shape.projects) projects_roll p h)
 
+  -- how many pairs a project may have
   places_in_at : (p : ℕ) → p < length i.project_codes → places_in (instance_of i) (code_at i.project_codes p) ≡ project_quota i.shape p
   places_in_at p h = ap (λ (o : Option Project). option_map_or (λ e. e.quota) o 0) (entry_at (λ e. e.code) i.project_codes (projects_named i.supervisor_codes i.project_codes i.shape.projects) (project_at i.supervisor_codes i.project_codes i.shape.projects) projects_roll p h)
 
+  -- how many pairs a supervisor may have
   places_with_at : (l : ℕ) → l < length i.supervisor_codes → places_with (instance_of i) (code_at i.supervisor_codes l) ≡ supervisor_quota i.shape l
   places_with_at l h = ap (λ (o : Option Supervisor). option_map_or (λ e. e.quota) o 0) (entry_at (λ e. e.code) i.supervisor_codes (supervisors_named i.supervisor_codes i.shape.supervisors) (supervisor_at i.supervisor_codes i.shape.supervisors) supervisors_roll l h)
 
@@ -290,12 +308,15 @@ module _ (i : Named) (fit : IsFit i) where
   abbrev IsKnown : Pair → Type 0
   IsKnown e = (e.student < length i.student_codes) × (e.project < length i.project_codes)
 
+  -- the codes of the supervisors are apart
   apart_supervisors : AreApart i.supervisor_codes (length i.supervisor_codes)
   apart_supervisors = subst (AreApart i.supervisor_codes) (sym fit.supervisors.one_each) fit.supervisors.distinct
 
+  -- so are those of the projects
   apart_projects : AreApart i.project_codes (length i.project_codes)
   apart_projects = subst (AreApart i.project_codes) (sym fit.projects.one_each) fit.projects.distinct
 
+  -- and those of the students
   apart_students : AreApart i.student_codes (length i.student_codes)
   apart_students = subst (AreApart i.student_codes) (sym fit.students.one_each) fit.students.distinct
 
@@ -308,26 +329,32 @@ module _ (i : Named) (fit : IsFit i) where
       let b = fit.projects.one_each in
       (omega arith, omega arith)
 
+  -- a known project has a known supervisor
   supervisor_known : (p : ℕ) → p < length i.project_codes → supervisor_of i.shape p < length i.supervisor_codes
   supervisor_known p h =
       let a = fit.projects.one_each in
       let within : p < length i.shape.projects = omega arith in
       subst (λ (n : ℕ). supervisor_of i.shape p < n) (sym fit.supervisors.one_each) (fit.sound.offered p (0, 0) within)
 
+  -- known pairs by their students
   keyed_students : (M : List Pair) → AllByRecursion IsKnown M → Keyed (codes_of i) (λ e. e.student) (λ e. e.student) i.student_codes M
   keyed_students M a = each_from IsKnown (λ e. (e.student < length i.student_codes) × (code_at i.student_codes e.student ≡ code_at i.student_codes e.student)) (λ e k. (k.0, refl)) M a
 
+  -- known pairs by their projects
   keyed_projects : (M : List Pair) → AllByRecursion IsKnown M → Keyed (codes_of i) (λ e. e.project) (λ e. e.project) i.project_codes M
   keyed_projects M a = each_from IsKnown (λ e. (e.project < length i.project_codes) × (code_at i.project_codes e.project ≡ code_at i.project_codes e.project)) (λ e k. (k.1, refl)) M a
 
+  -- known pairs by their supervisors
   keyed_supervisors : (M : List Pair) → AllByRecursion IsKnown M → Keyed (codes_of i) (λ e. offerer_of (instance_of i) e.project) (λ e. supervisor_of i.shape e.project) i.supervisor_codes M
   keyed_supervisors M a =
       each_from IsKnown (λ e. (supervisor_of i.shape e.project < length i.supervisor_codes) × (offerer_of (instance_of i) (code_at i.project_codes e.project) ≡ code_at i.supervisor_codes (supervisor_of i.shape e.project)))
       (λ e k. (supervisor_known e.project k.1, offerer_at i fit e.project k.1)) M a
 
+  -- the pairs of a matching are known
   known_pairs : (M : List Pair) → IsMatching i.shape M → AllByRecursion IsKnown M
   known_pairs M m = each_from (λ e. Contains (list_of i.shape e.student) e.project) IsKnown known_pair M (recursion_from_All (λ e. Contains (list_of i.shape e.student) e.project) M m.listed)
 
+  -- a matching by positions is one by codes
   pub to_codes : (M : List Pair) → IsMatching i.shape M → IsMatchingByCodes (instance_of i) (map (codes_of i) M)
   to_codes M m =
       let known = known_pairs M m in
@@ -371,6 +398,7 @@ module _ (i : Named) (fit : IsFit i) where
         ap (λ (x : CodePair). x ∷ map (codes_of i) r.0) p.2 ∙ ap (λ (xs : List CodePair). e ∷ xs) r.2,
       )
 
+  -- listed pairs whose codes are a matching are one
   matching_from : (M : List Pair) → AllByRecursion (λ e. Contains (list_of i.shape e.student) e.project) M → IsMatchingByCodes (instance_of i) (map (codes_of i) M) → IsMatching i.shape M
   matching_from M listed m =
       let known = each_from (λ (e : Pair). Contains (list_of i.shape e.student) e.project) IsKnown known_pair M listed in
@@ -384,6 +412,7 @@ module _ (i : Named) (fit : IsFit i) where
             (within_positions (codes_of i) (λ e. offerer_of (instance_of i) e.project) (λ e. supervisor_of i.shape e.project) i.supervisor_codes apart_supervisors M (keyed_supervisors M known) (supervisor_quota i.shape) (places_with (instance_of i)) (places_with_at i fit) m.supervisor_within);
       }
 
+  -- a matching by codes is one by positions
   pub from_codes : (N : List CodePair) → IsMatchingByCodes (instance_of i) N → (M : List Pair) × IsMatching i.shape M × (map (codes_of i) M ≡ N)
   from_codes N m =
       let r = positions_of_pairs N (recursion_from_All (λ (e : CodePair). Contains (choices_of (instance_of i) e.student) e.project) N m.listed) in
@@ -391,6 +420,7 @@ module _ (i : Named) (fit : IsFit i) where
 
   -- ---- profiles
 
+  -- the rank of a listed pair
   same_rank : (e : Pair) → Contains (list_of i.shape e.student) e.project → rank_by_codes (instance_of i) (codes_of i e) ≡ rank i.shape e
   same_rank e c =
       let k = known_pair e c in
@@ -401,6 +431,7 @@ module _ (i : Named) (fit : IsFit i) where
       let p = prefix_same i.project_codes apart_projects e.project k.1 (list_of i.shape e.student) all in
       rw (choices_at i fit e.student k.0, p) refl
 
+  -- the profile of a matching
   pub same_profiles : (M : List Pair) → IsMatching i.shape M → (k : ℕ) → profile_by_codes (instance_of i) (map (codes_of i) M) k ≡ profile i.shape M k
   same_profiles M m k =
       count_same (codes_of i) (λ e. rank i.shape e == k + 1) (λ e. rank_by_codes (instance_of i) e == k + 1) M
@@ -411,11 +442,13 @@ module _ (i : Named) (fit : IsFit i) where
   abbrev code_row : List CodePair → ℕ → ℤ
   code_row N k = pos (profile_by_codes (instance_of i) N k)
 
+  -- the same as a row
   same_rows : (M : List Pair) (N : List CodePair) → IsMatching i.shape M → map (codes_of i) M ≡ N → code_row N ≡ (λ k. pos (profile i.shape M k))
   same_rows M N m e = ap code_row (sym e) ∙ (λ j k. pos (same_profiles M m k j))
 
   -- ---- greedy maximum
 
+  -- greedy maximum by positions is so by codes
   pub greedy_to_codes : (M : List Pair) → IsGreedyMaximum i.shape M → IsGreedyMaximumByCodes (instance_of i) (map (codes_of i) M)
   greedy_to_codes M g = record {
     matching = to_codes M g.matching;
@@ -431,6 +464,7 @@ module _ (i : Named) (fit : IsFit i) where
         g.first b.0 b.1 size (subst (λ (x : ℕ → ℤ). Precedes RANKS (λ k. pos (profile i.shape M k)) x) w (subst (λ (x : ℕ → ℤ). Precedes RANKS x (code_row N)) v before)));
   }
 
+  -- and by codes, by positions
   pub greedy_from_codes : (N : List CodePair) → IsGreedyMaximumByCodes (instance_of i) N → (M : List Pair) × IsGreedyMaximum i.shape M × (map (codes_of i) M ≡ N)
   greedy_from_codes N g =
       let b = from_codes N g.matching in (

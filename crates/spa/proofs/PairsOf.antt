@@ -47,6 +47,7 @@ none_before s n (xs ∷ xss) (Some k ∷ ks) h =
     let e : eqb n s ≡ false = ne_eqb n s (λ x. absurd (omega arith)) in
     simp (sum_by-cons, e, r)
 
+-- each student is in one pair at most
 one_at_most : (s n : ℕ) (xss : List (List ℕ)) (ks : List (Option ℕ)) → count_by (λ e. e.student == s) (pairs_from n xss ks) ≤ 1
 one_at_most s n [] ks = omega arith
 one_at_most s n (xs ∷ xss) [] = omega arith
@@ -77,6 +78,7 @@ pub within_all : (key : Pair → ℕ) (m : ℕ) (quota : ℕ → ℕ) (M : List 
 within_all key m quota M a within k =
     elim (cases_lt k m) [ inl h ↦ within k h | inr h ↦ let z = none_past key m k M a h in omega (arith, z) ]
 
+-- places within their lists, and counts within the quotas of known positions, are a matching
 pub matched_from : (i : Shape) (ks : List (Option ℕ)) → IsSound i → HasPlaces i ks
     → ((p : ℕ) → p < length i.projects → in_project i ks p ≤ project_quota i p)
     → ((l : ℕ) → l < length i.supervisors → with_supervisor i ks l ≤ supervisor_quota i l)

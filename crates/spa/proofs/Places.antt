@@ -9,12 +9,15 @@ use Rattle.spa.proofs.Duality.{listed_student}
 abbrev pub rest : (Pair → Bool) → ℕ → List (List ℕ) → List (Option ℕ) → ℕ
 rest test s xss ks = count_by test (pairs_from s (drop s xss) (drop s ks))
 
+-- nobody is left past the last student
 pub rest_end : (test : Pair → Bool) (s : ℕ) (xss : List (List ℕ)) (ks : List (Option ℕ)) → length xss ≤ s → rest test s xss ks ≡ 0
 rest_end test s xss ks h = rw (drop_of_length-le xss h) refl
 
+-- a student without a place counts nothing
 pub rest_none : (test : Pair → Bool) (s : ℕ) (xss : List (List ℕ)) (ks : List (Option ℕ)) → s < length xss → s < length ks → get_or ks s None ≡ None → rest test s xss ks ≡ rest test (s + 1) xss ks
 rest_none test s xss ks h k e = rw (drop-cons xss s [], drop-cons ks s None, e) (simp add-one)
 
+-- a student with a place counts where the pair passes
 pub rest_some : (test : Pair → Bool) (s k : ℕ) (xss : List (List ℕ)) (ks : List (Option ℕ)) → s < length xss → s < length ks → get_or ks s None ≡ Some k → rest test s xss ks ≡ cond (test record { student = s; project = slice_index (get_or xss s []) k }) 1 0 + rest test (s + 1) xss ks
 rest_some test s k xss ks h g e =
     rw (drop-cons xss s [], drop-cons ks s None, e) (simp add-one (sum_by-cons (λ (p : Pair). cond (test p) 1 0) (record { student = s; project = slice_index (get_or xss s []) k }) (pairs_from (suc s) (drop (suc s) xss) (drop (suc s) ks))))
@@ -29,9 +32,11 @@ slice_get_at (y ∷ xs) (suc i) d x h e = slice_get_at xs i d x (omega arith) e
 pub count_none : (test : Pair → Bool) (s placed total : ℕ) (xss : List (List ℕ)) (ks : List (Option ℕ)) → s < length xss → s < length ks → placed + rest test s xss ks ≡ total → get_or ks s None ≡ None → placed + rest test (s + 1) xss ks ≡ total
 count_none test s placed total xss ks h g so e = let r = rest_none test s xss ks h g e in omega (arith, r, so)
 
+-- a pair that passes
 pub count_yes : (test : Pair → Bool) (s k placed total : ℕ) (xss : List (List ℕ)) (ks : List (Option ℕ)) → s < length xss → s < length ks → placed + rest test s xss ks ≡ total → get_or ks s None ≡ Some k → test (record { student = s; project = slice_index (get_or xss s []) k }) ≡ true → placed + 1 + rest test (s + 1) xss ks ≡ total
 count_yes test s k placed total xss ks h g so e passes = let r = rw passes at (rest_some test s k xss ks h g e) in omega (arith, r, so)
 
+-- a pair that does not
 pub count_no : (test : Pair → Bool) (s k placed total : ℕ) (xss : List (List ℕ)) (ks : List (Option ℕ)) → s < length xss → s < length ks → placed + rest test s xss ks ≡ total → get_or ks s None ≡ Some k → test (record { student = s; project = slice_index (get_or xss s []) k }) ≡ false → placed + rest test (s + 1) xss ks ≡ total
 count_no test s k placed total xss ks h g so e fails = let r = rw fails at (rest_some test s k xss ks h g e) in omega (arith, r, so)
 
@@ -39,12 +44,15 @@ count_no test s k placed total xss ks h g so e fails = let r = rw fails at (rest
 abbrev pub left : ℕ → List (List ℕ) → List (Option ℕ) → ℕ
 left s xss ks = length (pairs_from s (drop s xss) (drop s ks))
 
+-- a student without a place is no pair
 pub left_none : (s : ℕ) (xss : List (List ℕ)) (ks : List (Option ℕ)) → s < length xss → s < length ks → get_or ks s None ≡ None → left s xss ks ≡ left (s + 1) xss ks
 left_none s xss ks h k e = rw (drop-cons xss s [], drop-cons ks s None, e) (simp add-one)
 
+-- a student with a place is one
 pub left_some : (s k : ℕ) (xss : List (List ℕ)) (ks : List (Option ℕ)) → s < length xss → s < length ks → get_or ks s None ≡ Some k → left s xss ks ≡ 1 + left (s + 1) xss ks
 left_some s k xss ks h g e = rw (drop-cons xss s [], drop-cons ks s None, e) (simp add-one (omega arith))
 
+-- no pair is left past the last student
 pub left_end : (s : ℕ) (xss : List (List ℕ)) (ks : List (Option ℕ)) → length xss ≤ s → left s xss ks ≡ 0
 left_end s xss ks h = rw (drop_of_length-le xss h) refl
 

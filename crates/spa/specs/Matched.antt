@@ -19,9 +19,11 @@ pub record IsMatched (i : Shape) (ks : List (Option ℕ)) : Type 0 where
   pub places : HasPlaces i ks
   pub matching : IsMatching i (pairs i ks)
 
+-- how many pairs have a project
 abbrev pub in_project : Shape → List (Option ℕ) → ℕ → ℕ
 in_project i ks p = count_by (λ e. e.project == p) (pairs i ks)
 
+-- how many pairs have a project of a supervisor
 abbrev pub with_supervisor : Shape → List (Option ℕ) → ℕ → ℕ
 with_supervisor i ks l = count_by (λ e. supervisor_of i e.project == l) (pairs i ks)
 
@@ -46,5 +48,6 @@ IsFirstFault i ks (Place s) = IsFirstBadPlace i ks s
 IsFirstFault i ks (ProjectOver p) = HasPlaces i ks × IsFirstOver (in_project i ks) (project_quota i) (length i.projects) p
 IsFirstFault i ks (SupervisorOver l) = HasPlaces i ks × ((p : ℕ) → p < length i.projects → in_project i ks p ≤ project_quota i p) × IsFirstOver (with_supervisor i ks) (supervisor_quota i) (length i.supervisors) l
 
+-- how many pairs have a rank
 abbrev pub with_rank : Shape → List (Option ℕ) → ℕ → ℕ
 with_rank i ks r = count_by (λ e. rank i e == r) (pairs i ks)

@@ -3,6 +3,7 @@
 use Rattle.std.specs.Prelude.{ℕ, ◌<◌, ◌≤◌, List, [], length, slice_index, slice_index_or, All, AllPairs, ◌≢◌}
 use Rattle.spa.specs.declared.TheConstants.{RANKS}
 
+-- the three rolls by position
 pub record Shape : Type 0 where
   -- each supervisor's quota
   pub supervisors : List ℕ
