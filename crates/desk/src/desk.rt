@@ -22,6 +22,7 @@ use std::marker::Model;
 use store::{Store, StoreFault};
 
 /// An office in memory beside the tables that stand for it.
+#[derive(Drop)]
 pub struct Desk<S: Alter> {
     alloc: Global,
     office: Office,

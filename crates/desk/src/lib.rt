@@ -11,5 +11,7 @@
 #![tactic(auto)]
 
 mod desk;
+#[cfg(test)]
+mod tests;
 
 pub use desk::Desk;

@@ -19,6 +19,7 @@ use std::alloc::Global;
 use std::marker::Model;
 
 /// The office's tables, over a database.
+#[derive(Drop)]
 pub struct Store<S: Alter> {
     conn: Connection<S>,
     alloc: Global,
