@@ -50,8 +50,7 @@ hold_put q code r old new named kind puts inert rows t =
     let own : columns_of q list ≡ with_row code (columns r) (columns_of q t.list) =
     columns_more q r _ kind ∙ ap (λ more. columns r ∷ more) (ap (λ k. columns_of q (dropped k t.list)) named ∙ columns_without q code t.list) in
     let others : (roll : Roll) → roll ≢ q → columns_of roll list ≡ columns_of roll t.list = λ roll other.
-    columns_same roll r _ (false_from_ne_true _ (λ h. other (in_once roll q r h kind))) ∙ ap (λ k. columns_of roll (dropped k t.list)) named ∙ columns_beside roll q code t.list other in
-    (
+    columns_same roll r _ (false_from_ne_true _ (λ h. other (in_once roll q r h kind))) ∙ ap (λ k. columns_of roll (dropped k t.list)) named ∙ columns_beside roll q code t.list other in (
       record {
         edition = t.edition;
         places = t.places;
@@ -73,8 +72,7 @@ hold_take q code key old new named removes inert rows t =
     let list : List Row = dropped key t.list in
     let own : columns_of q list ≡ without code (columns_of q t.list) = ap (λ k. columns_of q (dropped k t.list)) named ∙ columns_without q code t.list in
     let others : (roll : Roll) → roll ≢ q → columns_of roll list ≡ columns_of roll t.list = λ roll other.
-    ap (λ k. columns_of roll (dropped k t.list)) named ∙ columns_beside roll q code t.list other in
-    (
+    ap (λ k. columns_of roll (dropped k t.list)) named ∙ columns_beside roll q code t.list other in (
       record {
         edition = t.edition;
         places = t.places;

@@ -71,24 +71,24 @@ along_swap : (x y : Row) (xs : List Row) → Along (x ∷ y ∷ xs) (y ∷ x ∷
 along_swap x y xs = record {
   any = λ k. or_turned (same_row k (key_of x)) (same_row k (key_of y)) (any_at k xs);
   apart = λ h.
-    let parts = and_parts _ _ h in
-    let first = or_parts _ _ (not-true _ parts.0) in
-    let rest = and_parts _ _ parts.1 in
-    and_from _ _ (none_both _ _ (same_row_turned (key_of x) (key_of y) first.0) (not-true _ rest.0)) (and_from _ _ (ap not first.1) rest.1);
+      let parts = and_parts _ _ h in
+      let first = or_parts _ _ (not-true _ parts.0) in
+      let rest = and_parts _ _ parts.1 in
+      and_from _ _ (none_both _ _ (same_row_turned (key_of x) (key_of y) first.0) (not-true _ rest.0)) (and_from _ _ (ap not first.1) rest.1);
   each = λ h k.
-    let parts = and_parts _ _ h in
-    let first = or_parts _ _ (not-true _ parts.0) in
-    in_turned x y (row_in xs k) (same_row k (key_of x)) (same_row k (key_of y))
+      let parts = and_parts _ _ h in
+      let first = or_parts _ _ (not-true _ parts.0) in
+      in_turned x y (row_in xs k) (same_row k (key_of x)) (same_row k (key_of y))
       (λ p q. sym (same_row_by (key_of x) (key_of y) (sym (same_row_is k (key_of x) p) ∙ same_row_is k (key_of y) q)) ∙ first.0);
 }
 
 along : (xs ys : List Row) → IsPermutation xs ys → Along xs ys
 along = along_permutation Along (λ xs. record { any = λ k. refl; apart = λ h. h; each = λ h k. refl }) along_cons along_swap
-  (λ xs ys zs f g. record {
-    any = λ k. f.any k ∙ g.any k;
-    apart = λ h. g.apart (f.apart h);
-    each = λ h k. f.each h k ∙ g.each (f.apart h) k;
-  })
+    (λ xs ys zs f g. record {
+      any = λ k. f.any k ∙ g.any k;
+      apart = λ h. g.apart (f.apart h);
+      each = λ h k. f.each h k ∙ g.each (f.apart h) k;
+    })
 
 -- the rows at the keys don't depend on the order
 pub rows_permuted : (xs ys : List Row) (rows : RowKey → Option Row) → IsPermutation xs ys → AreRowsAt xs rows → AreRowsAt ys rows
@@ -169,5 +169,5 @@ beside a b c d p q = IsPermutation-trans _ _ _ (IsPermutation-append_left c a b 
 -- rows whose columns are the same in each table are the same
 pub permuted_by_rolls : (xs ys : List Row) → ((roll : Roll) → IsPermutation (columns_of roll xs) (columns_of roll ys)) → IsPermutation xs ys
 permuted_by_rolls xs ys same = IsPermutation-trans _ _ _ (sorted xs) (IsPermutation-trans _ _ _
-  (beside _ _ _ _ (rolls_permuted Supervisors xs ys (same Supervisors)) (beside _ _ _ _ (rolls_permuted Projects xs ys (same Projects)) (rolls_permuted Students xs ys (same Students))))
-  (IsPermutation-sym _ _ (sorted ys)))
+    (beside _ _ _ _ (rolls_permuted Supervisors xs ys (same Supervisors)) (beside _ _ _ _ (rolls_permuted Projects xs ys (same Projects)) (rolls_permuted Students xs ys (same Students))))
+    (IsPermutation-sym _ _ (sorted ys)))

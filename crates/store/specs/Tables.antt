@@ -27,7 +27,6 @@ pub record TablesHold (db : Database) (rows : RowKey → Option Row) : Type 0 wh
   pub places : Roll → Place
   pub edition_apart : (roll : Roll) → (places roll).tree ≢ edition.tree
   pub apart : (a b : Roll) → a ≢ b → (places a).tree ≢ (places b).tree
-
   pub list : List Row
   pub at : AreRowsAt list rows
   pub editions : Stands edition_table edition first_edition db

@@ -1,14 +1,24 @@
 //! The office as tables.
+//!
+//! A `Store` is a database whose tables hold the rows of an office. It decides nothing of the office, and
+//! has no SQL: `office` judges rows, and `tables` has the statements.
+//!
+//! Promised: `open` and `load` give the office that the tables stand for, or call them damaged where they
+//! stand for none; a database with none of the tables gets them in one transaction; `save` makes changes in
+//! one transaction, and touches only the rows that they name; after a fault everything is as before; and each
+//! says what a crash leaves. Other tables are left alone. Begin with `specs/Tables.antt`, then `store.rt`.
 #![tactic(auto)]
 
 mod fault;
 mod founding;
+mod quiet;
 mod reading;
 mod roll;
 mod rows;
-mod quiet;
 mod saving;
 mod store;
+#[cfg(test)]
+mod tests;
 
 pub use fault::StoreFault;
 pub use store::Store;

@@ -86,7 +86,11 @@ fn read_cells<S: Alter>(conn: &mut Connection<S>, roll: Roll) -> Result<Vec<Cell
 }
 
 /// The rows of a roll.
-fn read_roll<S: Alter>(alloc: Global, conn: &mut Connection<S>, roll: Roll) -> Result<Vec<Row>, StoreFault>
+fn read_roll<S: Alter>(
+    alloc: Global,
+    conn: &mut Connection<S>,
+    roll: Roll,
+) -> Result<Vec<Row>, StoreFault>
     ensures rows { HasCleanDisk (state S.Store conn.new) → IfOk result (λ rows. ReadsRoll roll rows.items (state S.Store conn.old) (state S.Store conn.new)) }
     ensures damaged { HasCleanDisk (state S.Store conn.new) → result ≡ Err StoreFault.Damaged → IsTrue (state S.Store conn.old).is_open × HoldsNoRow roll (state S.Store conn.old).now }
     ensures rests { HasCleanDisk (state S.Store conn.new) → Rests (state S.Store conn.old) (state S.Store conn.new) }

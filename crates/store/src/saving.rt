@@ -31,7 +31,13 @@ fn put_row<S: Alter>(tx: &mut Transaction<'_, S>, row: &Row) -> Result<(), Table
             label,
             supervisor,
             quota,
-        } => put_project(tx, code.as_str(), label.as_str(), supervisor.as_str(), *quota),
+        } => put_project(
+            tx,
+            code.as_str(),
+            label.as_str(),
+            supervisor.as_str(),
+            *quota,
+        ),
         Row::Student { code, label } => put_student(tx, code.as_str(), label.as_str()),
     }
 }
@@ -64,7 +70,10 @@ fn apply<S: Alter>(tx: &mut Transaction<'_, S>, change: &Change) -> Result<(), T
 }
 
 /// Makes the changes in turn.
-pub fn apply_all<S: Alter>(tx: &mut Transaction<'_, S>, changes: &[Change]) -> Result<(), TableFault>
+pub fn apply_all<S: Alter>(
+    tx: &mut Transaction<'_, S>,
+    changes: &[Change],
+) -> Result<(), TableFault>
     ensures same_reference { tx.new.conn.ghost_name ≡ tx.old.conn.ghost_name }
     ensures survives { Survives (state S.Store tx.old.conn.now) (state S.Store tx.new.conn.now) (λ _. ⊥) }
     ensures stays { HasCleanDisk (state S.Store tx.new.conn.now) → OnOk result (Stays (Applies changes.now) (state S.Store tx.old.conn.now) (state S.Store tx.new.conn.now)) }
@@ -96,7 +105,10 @@ fn save_all<S: Alter>(conn: &mut Connection<S>, changes: &[Change]) -> Result<()
 }
 
 /// Makes the changes in one transaction, where no other table acts on the product's.
-pub fn save_changes<S: Alter>(conn: &mut Connection<S>, changes: &[Change]) -> Result<(), StoreFault>
+pub fn save_changes<S: Alter>(
+    conn: &mut Connection<S>,
+    changes: &[Change],
+) -> Result<(), StoreFault>
     ensures ok { HasCleanDisk (state S.Store conn.new) → OnOk result (HasSaved (Saves changes.now) (state S.Store conn.old) (state S.Store conn.new)) }
     ensures err { HasCleanDisk (state S.Store conn.new) → OnErr result (IsKept (state S.Store conn.old) (state S.Store conn.new)) }
     ensures faults { result ≢ Err StoreFault.Damaged }

@@ -25,6 +25,12 @@ pub struct Store<S: Alter> {
     alloc: Global,
 }
 
+impl<S: Alter + Drop> Drop for Store<S> {
+    fn drop(self) {
+        let Store { conn: _, alloc: _ } = self;
+    }
+}
+
 impl<S: Alter> Model for Store<S> {
     ghost use Rattle.sqlite.specs.Held.{Held, held_code};
 

@@ -140,8 +140,7 @@ module _ (sql : List ℕ) (t0 : Table) (terms : List Term) (width : ℕ) (it : I
       let row = with_rowid Chosen here (cast_row t is.source) in
       let free : is_taken here row ≡ false = not_true _ applies.fresh in
       let grown = IsPermutation-trans _ _ _ (IsPermutation-cons given rows _ stands.holds)
-      (subst (λ first. IsPermutation (first ∷ map (cells t) here) (map (cells t) (put_row row here))) (is.shown here) (IsPermutation-map (cells t) _ _ (put_row_permutes row here free))) in
-      (
+      (subst (λ first. IsPermutation (first ∷ map (cells t) here) (map (cells t) (put_row row here))) (is.shown here) (IsPermutation-map (cells t) _ _ (put_row_permutes row here free))) in (
         record {
           listed = listed_along old.now.schema new.now.schema t done.0 stands.listed;
           keyed = subst IsKeyed (sym applies.rows) (keyed_put row here (and_parts _ _ applies.keyed).0 free stands.keyed);

@@ -99,7 +99,6 @@ made_command schema name k h =
     let t = makes (is_attached schema name) (creates false name same other) (Ok CreateTable) k (only_new name same other) h in
     cc
 
-
 module _ (sql : List ℕ) (t0 : Table) (it : IsCreate sql t0) where
   abbrev first_made : Table
   first_made = placed t0 (record { tree = 0; checks = it.checks })

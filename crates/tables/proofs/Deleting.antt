@@ -61,8 +61,16 @@ test = expr.Binary binary.Eq (expr.Column None (codes "code")) (expr.Parameter 1
 
 abbrev pub by_code : ℕ → Draft
 by_code tree = record {
-  from = inner tree end; filter = op2 (Compare Eq Binary) (col 1 1) (col 0 0) ∷ []; group = None; project = col 1 0 ∷ []; distinct = false; collations = []; order = [];
-  limit = lit (Int (negsuc 0)); offset = lit (Int (pos 0)) }
+  from = inner tree end;
+  filter = op2 (Compare Eq Binary) (col 1 1) (col 0 0) ∷ [];
+  group = None;
+  project = col 1 0 ∷ [];
+  distinct = false;
+  collations = [];
+  order = [];
+  limit = lit (Int (negsuc 0));
+  offset = lit (Int (pos 0));
+}
 
 abbrev pub code_query : ℕ → Query
 code_query tree = record {
@@ -171,8 +179,7 @@ module _ (sql : List ℕ) (t0 : Table) (it : IsDelete sql t0) (coded : IsCoded t
       let done = delete_does old.step_limit (mode_of old) (Text code ∷ []) old.now new.now sql listed.at t (code_program place.tree) w.tally listed.there (λ olds. inert olds []) w.changed in
       let left : new.now.trees place.tree ≡ filter (λ r. not (hit code r)) here = done.3.rows ∙ taken_out (hit code) here (ids_of done.1) stands.keyed (ids_are old.now place.tree code done.1 done.2) in
       let shown : map (cells t) (filter (λ r. not (hit code r)) here) ≡ filter (differs_from code) (map (cells t) here) =
-      map_filter (cells t) (λ r. not (hit code r)) (differs_from code) (λ r. and_true (equal Binary (column r 1) (Text code)) ∙ ap (λ v. not (equal Binary v (Text code))) (sym (coded.first r))) here in
-      (
+      map_filter (cells t) (λ r. not (hit code r)) (differs_from code) (λ r. and_true (equal Binary (column r 1) (Text code)) ∙ ap (λ v. not (equal Binary v (Text code))) (sym (coded.first r))) here in (
         record {
           listed = listed_along old.now.schema new.now.schema t done.0 listed;
           keyed = subst IsKeyed (sym left) (still_keyed (λ r. not (hit code r)) here stands.keyed);

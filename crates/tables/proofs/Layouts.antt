@@ -218,7 +218,7 @@ project_is t h =
     let d = and_parts _ _ c.0 in
     coded_is t (codes "project") _ _ d.0
     (four_are t.columns _ _ _ _ (same_number _ _ d.1) (column_is t 0 (codes "code") Text text_is b.1) (column_is t 1 (codes "label") Text text_is a.1) (column_is t 2 (codes "supervisor") Text text_is z.1)
-      (column_is t 3 (codes "quota") Integer integer_is y.1))
+    (column_is t 3 (codes "quota") Integer integer_is y.1))
     (one_is t.references to_supervisor (same_number _ _ c.1) (at_is is_to_supervisor (slice_get t.references 0) to_supervisor reference_is r.1))
 
 pub edition_is : (t : Table) → is_edition t ≡ true → t ≡ edition_table (place_of t)

@@ -28,8 +28,8 @@ module _ (table : Place → Table) (code : List ℕ) (given : Row) where
     inside = p.inside;
     shown = p.shown;
     step = λ place rows inert stands.
-      let it = p.step place rows inert stands in
-      (subst (λ (first : List Row). Stands table place (first ++ without code rows) b.now) (one given (filter (has_code code) rows) (sym some ∙ it.2)) it.0, it.1);
+        let it = p.step place rows inert stands in
+        (subst (λ (first : List Row). Stands table place (first ++ without code rows) b.now) (one given (filter (has_code code) rows) (sym some ∙ it.2)) it.0, it.1);
   }
 
   -- there was none
@@ -45,9 +45,9 @@ module _ (table : Place → Table) (code : List ℕ) (given : Row) where
       mode = q.shown.mode;
     };
     step = λ place rows inert stands.
-      let it = p.step place rows inert stands in
-      let empty = none (filter (has_code code) rows) (sym zero ∙ it.2) in
-      let mid = subst (λ (first : List Row). Stands table place (map (λ (_ : Row). given) first ++ without code rows) b.now) empty it.0 in
-      let then = q.step place (without code rows) mid in
-      (then.0, writes_then place.tree a.now b.now c.now it.1 then.1);
+        let it = p.step place rows inert stands in
+        let empty = none (filter (has_code code) rows) (sym zero ∙ it.2) in
+        let mid = subst (λ (first : List Row). Stands table place (map (λ (_ : Row). given) first ++ without code rows) b.now) empty it.0 in
+        let then = q.step place (without code rows) mid in
+        (then.0, writes_then place.tree a.now b.now c.now it.1 then.1);
   }

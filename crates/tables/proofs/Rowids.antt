@@ -51,20 +51,20 @@ turned_has x y xs z (inr (inr h)) = inr (inr h)
 
 along : (xs ys : List Row) → IsPermutation xs ys → Along xs ys
 along = along_permutation Along (λ xs. (λ h. h, λ y h. h))
-  (λ x xs ys f. (
-    λ keyed.
-      let later = f.0 (record { ids = keyed.ids.1; apart = keyed.apart.1 }) in
-      record { ids = (keyed.ids.0, later.ids); apart = (all_from _ ys (λ y h. all_has _ xs y keyed.apart.0 (f.1 y h)), later.apart) },
-    under_has x xs ys f.1,
-  ))
-  (λ x y xs. (
-    λ keyed. record {
-      ids = (keyed.ids.1.0, (keyed.ids.0, keyed.ids.1.1));
-      apart = ((flip (rowid x) (rowid y) keyed.apart.0.0, keyed.apart.1.0), (keyed.apart.0.1, keyed.apart.1.1));
-    },
-    turned_has x y xs,
-  ))
-  (λ xs ys zs f g. (λ keyed. g.0 (f.0 keyed), λ y h. f.1 y (g.1 y h)))
+    (λ x xs ys f. (
+      λ keyed.
+          let later = f.0 (record { ids = keyed.ids.1; apart = keyed.apart.1 }) in
+          record { ids = (keyed.ids.0, later.ids); apart = (all_from _ ys (λ y h. all_has _ xs y keyed.apart.0 (f.1 y h)), later.apart) },
+      under_has x xs ys f.1,
+    ))
+    (λ x y xs. (
+      λ keyed. record {
+        ids = (keyed.ids.1.0, (keyed.ids.0, keyed.ids.1.1));
+        apart = ((flip (rowid x) (rowid y) keyed.apart.0.0, keyed.apart.1.0), (keyed.apart.0.1, keyed.apart.1.1));
+      },
+      turned_has x y xs,
+    ))
+    (λ xs ys zs f g. (λ keyed. g.0 (f.0 keyed), λ y h. f.1 y (g.1 y h)))
 
 pub keyed_permuted : (xs ys : List Row) → IsPermutation xs ys → IsKeyed xs → IsKeyed ys
 keyed_permuted xs ys same = (along xs ys same).0

@@ -54,12 +54,11 @@ made_with table row a b c made adds =
       place = made.place;
       stands = grown.0;
       others = λ t listed.
-        let was = made.others t listed in
-        (
-          listed_along b.schema c.schema t grown.1.schema was.0,
-          all_has _ b.schema.tables t grown.1.others (has_got b.schema.tables was.0.at t was.0.there) was.2 ∙ was.1,
-          was.2,
-        );
+          let was = made.others t listed in (
+            listed_along b.schema c.schema t grown.1.schema was.0,
+            all_has _ b.schema.tables t grown.1.others (has_got b.schema.tables was.0.at t was.0.there) was.2 ∙ was.1,
+            was.2,
+          );
     }
 
 -- a table stands as before where another is made, and is another
@@ -67,8 +66,7 @@ pub stands_beside : (table : Place → Table) (place : Place) (same : (table pla
     → (made : Makes other given old new) → Stands table place rows old → Stands table place rows new × (place.tree ≢ made.place.tree)
 stands_beside table place same rows other given old new made stands =
     let t = table place in
-    let kept = made.others t stands.listed in
-    (
+    let kept = made.others t stands.listed in (
       record {
         listed = kept.0;
         keyed = subst IsKeyed (subst (λ n. old.trees n ≡ new.trees n) same (sym kept.1)) stands.keyed;
@@ -122,13 +120,12 @@ survives_none s P = record { clean = omega arith; shield = λ h. h; counts = ome
 pub rests_then : (a b c : State) → Rests a b → Rests b c → Rests a c
 rests_then a b c p q up =
     let late = q up in
-    let early = p late.0 in
-    (
+    let early = p late.0 in (
       early.0,
       λ settled.
-      let one = early.1 settled in
-      let two = late.1 (one.0 ∙ settled ∙ sym one.1) in
-      (two.0 ∙ one.0, two.1 ∙ one.1),
+          let one = early.1 settled in
+          let two = late.1 (one.0 ∙ settled ∙ sym one.1) in
+          (two.0 ∙ one.0, two.1 ∙ one.1),
     )
 
 -- the tree of a listed table is below 2 ^ 16

@@ -121,7 +121,6 @@ module _ (schema : Schema) (sql : List ℕ) (it : IsPlainSelect sql) (shown : Sh
   unfolding query query_to
   queried = levelled (query_to 15) schema sql it shown is
 
-
 -- where the query of one table of this name is
 abbrev pub bounds_at : List ℕ → ℕ → List Bound
 bounds_at name at = record { name = name; table = at; slot = 1; shared = [] } ∷ []
@@ -213,7 +212,6 @@ accepted : (b : Bool) (p : Program) (names : List (List ℕ)) (k : Command)
 accepted true p names k h = cc
 accepted false p names k h = absurd (cc)
 
-
 module _ (sql : List ℕ) (t0 : Table) (it : IsSelect sql t0) (schema : Schema) (place : Place) (listed : Lists schema (placed t0 place)) (low : nat_lt place.tree (2 ^ 31) ≡ true) where
   abbrev core : Core
   core = (out-Select it.plain.s).first
@@ -276,8 +274,7 @@ module _ (sql : List ℕ) (t0 : Table) (it : IsSelect sql t0) where
   select_reads old new rows place listed low keyed h =
       let both = reads_by sql [] old new rows _ sql it.unlisted (select_means sql t0 it old.now.schema place listed low) h in
       let here = old.now.trees place.tree in
-      let same : IsPermutation rows (map (shown t0) here) = IsPermutation-sym _ _ (answers old.now place.tree rows both.0) in
-      (
+      let same : IsPermutation rows (map (shown t0) here) = IsPermutation-sym _ _ (answers old.now place.tree rows both.0) in (
         record {
           listed = listed;
           keyed = keyed_by_ids (shown t0) (λ r. refl) here rows same keyed;

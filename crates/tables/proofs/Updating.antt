@@ -120,7 +120,7 @@ pub update_does : (limit : Option ℕ) (mode : Mode) (params : Row) (db after : 
     → slice_get db.schema.tables at ≡ Some table → ((olds news : List Row) → works db.schema mode.keys 0 table.tree olds news ≡ [])
     → Does limit mode params db text None (Update at q) (Ok (tally, after))
     → (after.schema ≡ db.schema) × (rows : List Row) × Answers db q params rows × Applies db.schema mode.keys db.trees (edit_of db.trees table (ids_of rows) Given 1 rows) after.trees
-      × (tally.rows ≡ Some (length (numbered Given (without_all (db.trees table.tree) (ids_of rows)) (map (λ s. cast_row table (drop 1 s)) rows))))
+    × (tally.rows ≡ Some (length (numbered Given (without_all (db.trees table.tree) (ids_of rows)) (map (λ s. cast_row table (drop 1 s)) rows))))
 update_does limit mode params db after text at table q tally there inert h =
     let done = went (rw there at h) in
     let same = same_value (went (went done.2).2).2 in
@@ -130,8 +130,7 @@ update_does limit mode params db after text at table q tally there inert h =
     let edit = edit_of db.trees table (ids_of given.0) Given 1 given.0 in
     let trees : done.0.trees ≡ edited.0 = ap (λ (it : Written). it.trees) (same_value edited.2) in
     let made : Applies db.schema mode.keys db.trees edit edited.0 = one_step db.schema mode.keys db.trees edited.0 edit (inert _ _) edited.1 in
-    let count : tally.rows ≡ Some (length done.0.rows) = ap (λ (p : Tally × Database). p.0.rows) same in
-    (
+    let count : tally.rows ≡ Some (length done.0.rows) = ap (λ (p : Tally × Database). p.0.rows) same in (
       ap (λ (d : Database). d.schema) now,
       given.0,
       given.1,
@@ -260,13 +259,12 @@ module _ (sql : List ℕ) (t0 : Table) (it : IsUpdate sql t0) (coded : IsCoded t
       let same = numbered_given (map (remade t) answer) left in
       let fresh = subst (λ news. are_fresh left news ≡ true) same done.3.fresh in
       let ints = subst (λ news. have_rowids news ≡ true) same done.3.keyed in
-      let there : new.now.trees place.tree ≡ put_all left (map (remade t) answer) = done.3.rows ∙ ap (put_all left) same in
-      (
+      let there : new.now.trees place.tree ≡ put_all left (map (remade t) answer) = done.3.rows ∙ ap (put_all left) same in (
         record {
           listed = listed_along old.now.schema new.now.schema t done.0 listed;
           keyed = subst IsKeyed (sym there) (keyed_put_all (map (remade t) answer) left ints fresh (left_keyed t0 coded place code rest (is.set place) here answer rows stands.keyed got stands.holds));
           holds = subst (λ all. IsPermutation (map (λ (_ : Row). row) (filter (has_code code) rows) ++ without code rows) (map (cells t) all)) (sym there)
-            (together t0 coded place code rest (is.set place) here answer rows stands.keyed got stands.holds _ (put_all_permutes (map (remade t) answer) left fresh));
+              (together t0 coded place code rest (is.set place) here answer rows stands.keyed got stands.holds _ (put_all_permutes (map (remade t) answer) left fresh));
         },
         record { schema = done.0; others = done.3.tables },
         w.counted ∙ ap (λ n. unwrap_or n 0) (done.4 ∙ ap (λ news. Some (length news)) same) ∙ counted t0 coded place code rest (is.set place) here answer rows stands.keyed got stands.holds,

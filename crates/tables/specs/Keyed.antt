@@ -19,7 +19,6 @@ pub record IsKeyed (rows : List Row) : Type 0 where
   pub ids : AllByRecursion (λ r. is_int (rowid r) ≡ true) rows
   pub apart : IsAscending (λ a b. is_eq (value_cmp (rowid a) (rowid b)) ≡ false) rows
 
-
 -- the table is listed with its columns and rules, and holds these rows, each under a rowid of its own
 pub record Stands (table : Place → Table) (place : Place) (rows : List Row) (db : Database) : Type 0 where
   pub listed : Lists db.schema (table place)

@@ -33,10 +33,7 @@ fn insert_edition<S: Alter>(tx: &mut Transaction<'_, S>) -> Result<(), TableFaul
     ensures stepped { HasCleanDisk (state S.Store tx.new.conn.now) → OnOk result (HasStepped (Adds edition_table (Int (pos 1) ∷ Int (pos 1) ∷ [])) (state S.Store tx.old.conn.now) (state S.Store tx.new.conn.now)) }
     ensures kept { HasCleanDisk (state S.Store tx.new.conn.now) → KeepsCommit (state S.Store tx.old.conn.now) (state S.Store tx.new.conn.now) }
 {
-    tx.execute(
-        "INSERT INTO edition (id, number) VALUES (1, 1)",
-        &[],
-    )?;
+    tx.execute("INSERT INTO edition (id, number) VALUES (1, 1)", &[])?;
     Ok(())
 }
 

@@ -88,10 +88,7 @@ pub fn put_project<S: Alter>(
 }
 
 /// Takes the project with this code away.
-pub fn delete_project<S: Alter>(
-    tx: &mut Transaction<'_, S>,
-    code: &str,
-) -> Result<(), TableFault>
+pub fn delete_project<S: Alter>(tx: &mut Transaction<'_, S>, code: &str) -> Result<(), TableFault>
     ensures same_reference { tx.new.conn.ghost_name ≡ tx.old.conn.ghost_name }
     ensures survives { Survives (state S.Store tx.old.conn.now) (state S.Store tx.new.conn.now) (λ _. ⊥) }
     ensures stepped { HasCleanDisk (state S.Store tx.new.conn.now) → OnOk result (HasStepped (Removes project_table code.now) (state S.Store tx.old.conn.now) (state S.Store tx.new.conn.now)) }

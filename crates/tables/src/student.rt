@@ -82,10 +82,7 @@ pub fn put_student<S: Alter>(
 }
 
 /// Takes the student with this code away.
-pub fn delete_student<S: Alter>(
-    tx: &mut Transaction<'_, S>,
-    code: &str,
-) -> Result<(), TableFault>
+pub fn delete_student<S: Alter>(tx: &mut Transaction<'_, S>, code: &str) -> Result<(), TableFault>
     ensures same_reference { tx.new.conn.ghost_name ≡ tx.old.conn.ghost_name }
     ensures survives { Survives (state S.Store tx.old.conn.now) (state S.Store tx.new.conn.now) (λ _. ⊥) }
     ensures stepped { HasCleanDisk (state S.Store tx.new.conn.now) → OnOk result (HasStepped (Removes student_table code.now) (state S.Store tx.old.conn.now) (state S.Store tx.new.conn.now)) }

@@ -41,8 +41,7 @@ returns-clause-ok g c clean =
     let shows = c.in_ok-edition.ensures.rows early in
     let all = c.in_ok-rows.ensures.rows clean in
     let listed = subst AreListed c.schema.ensures.value (c.are_listed.ensures.right c.if-not-are_listed.false) in
-    let first = subst (λ (rows : List Cells). map (drop 1) rows ≡ first_edition) c.as_slice.ensures.value (c.are_first.ensures.right c.if-not-are_first.false) in
-    (
+    let first = subst (λ (rows : List Cells). map (drop 1) rows ≡ first_edition) c.as_slice.ensures.value (c.are_first.ensures.right c.if-not-are_first.false) in (
       unchanged_then _ _ _ shows.same all.same,
       stood (state g.S.Store c.args.conn.now) c.schema.ensures.live shows.same.0.was_open listed _ _ c.in_ok-rows.rows.items _ shows first (λ roll. holds_back roll _ _ _ shows.same.0.now_is (all.holds roll)) c.in_ok-from_rows.ensures.rows,
     )

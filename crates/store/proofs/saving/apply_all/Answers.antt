@@ -16,8 +16,8 @@ loop-change-preserved g c =
       it.same_reference ∙ l.0,
       survives_then old mid new _ _ (λ _. ⊥) (λ _ db none. none) (λ _ db none. none) l.1 it.survives,
       λ clean.
-      let early : HasCleanDisk mid = omega (arith, it.survives.clean) in
-      changes_more c.loop-change.change-index c.args.changes.now c.change-item.result old mid new c.loop-change-test.true c.change-item.is (l.2 early) (it.stepped clean),
+          let early : HasCleanDisk mid = omega (arith, it.survives.clean) in
+          changes_more c.loop-change.change-index c.args.changes.now c.change-item.result old mid new c.loop-change-test.true c.change-item.is (l.2 early) (it.stepped clean),
     )
 
 pub loop-change-init : goal.loop-change-init
