@@ -19,7 +19,6 @@ use std::alloc::Global;
 use std::marker::Model;
 
 /// The office's tables, over a database.
-#[derive(Drop)]
 pub struct Store<S: Alter> {
     conn: Connection<S>,
     alloc: Global,
