@@ -1,0 +1,103 @@
+//! The two ends of a stream: what is read and what is written, with counts of failures.
+
+ghost use Rattle.std.specs.Prelude.{◌≡◌, ℕ, ◌+◌, ◌-◌, ◌^◌, ◌<◌, ◌≤◌, List, Option, IfOk, OnOk, OnErr, length};
+ghost use Rattle.std.specs.Io.KnownBytes.{Appends, Consumes, Keeps, IsAtEnd, ReadConsumes, WriteAppends};
+ghost use Rattle.wire.specs.Endpoints.{CountsErr, CountsNone};
+
+use std::io;
+use std::io::{Read, Write};
+
+/// What is read, with a count of the calls that failed.
+pub trait Source {
+    // The bytes that are left to read, where they are known.
+    ghost left: { Self → Option (List ℕ) };
+
+    // How many calls failed.
+    ghost failures: { Self → ℕ };
+
+    /// Reads some bytes into the front of `buf`; none at the end alone.
+    fn read(&mut self, buf: &mut [u8]) -> io::Result<usize>
+        requires { failures self.old < 2 ^ 64 - 1 }
+        ensures bound { IfOk result (λ n. n ≤ length buf.new) }
+        ensures bytes { ReadConsumes (left self.old) (left self.new) result buf.new }
+        ensures count { CountsErr (failures self.old) (failures self.new) result };
+}
+
+/// What is written, with a count of the calls that failed or took no byte.
+pub trait Sink {
+    // The bytes that were written, where they are known.
+    ghost written: { Self → Option (List ℕ) };
+
+    // How many calls failed or took no byte.
+    ghost failures: { Self → ℕ };
+
+    /// Writes some bytes from the front of `buf`.
+    fn write(&mut self, buf: &[u8]) -> io::Result<usize>
+        requires { failures self.old < 2 ^ 64 - 1 }
+        ensures bound { IfOk result (λ n. n ≤ length buf.now) }
+        ensures bytes { WriteAppends (written self.old) (written self.new) result buf.now }
+        ensures count { CountsNone (failures self.old) (failures self.new) result };
+}
+
+/// Any reader or writer, with the count, which begins at 0.
+#[derive(Drop)]
+pub struct Watched<T> {
+    inner: T,
+    failures: u64,
+}
+
+impl<T> Watched<T> {
+    pub fn new(inner: T) -> Self
+        ensures inner { result.inner ≡ inner }
+        ensures failures { result.failures ≡ 0 }
+    {
+        Watched { inner, failures: 0 }
+    }
+
+    pub fn failures(&self) -> u64
+        ensures { result ≡ self.now.failures }
+    {
+        self.failures
+    }
+
+    pub fn into_inner(self) -> T
+        ensures { result ≡ self.inner }
+    {
+        let Watched { inner, failures: _ } = self;
+        inner
+    }
+}
+
+impl<R: Read> Source for Watched<R> {
+    ghost left = { λ w. R.remaining w.inner };
+    ghost failures = { λ w. w.failures };
+
+    fn read(&mut self, buf: &mut [u8]) -> io::Result<usize> {
+        match self.inner.read(buf) {
+            Ok(n) => Ok(n),
+            Err(e) => {
+                self.failures += 1;
+                Err(e)
+            }
+        }
+    }
+}
+
+impl<W: Write> Sink for Watched<W> {
+    ghost written = { λ w. W.contents w.inner };
+    ghost failures = { λ w. w.failures };
+
+    fn write(&mut self, buf: &[u8]) -> io::Result<usize> {
+        match self.inner.write(buf) {
+            Ok(0) => {
+                self.failures += 1;
+                Ok(0)
+            }
+            Ok(n) => Ok(n),
+            Err(e) => {
+                self.failures += 1;
+                Err(e)
+            }
+        }
+    }
+}
