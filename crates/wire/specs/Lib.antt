@@ -1,6 +1,8 @@
 pub mod Endpoints
+pub mod Watching
 pub mod Messages
 pub mod Judged
+pub mod Text
 pub mod Run
 pub mod Replies
 pub mod Served

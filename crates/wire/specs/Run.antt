@@ -7,6 +7,7 @@ use Rattle.wire.specs.declared.outcome.End.TheVariants.{Closed, Unfinished, BadH
 use Rattle.wire.specs.declared.front.Parts.{Parts}
 use Rattle.httparse.specs.Spans.{span_bytes}
 use Rattle.wire.specs.Messages.{Message}
+use Rattle.wire.specs.Text.{fault_answer}
 
 -- what a desk sees of a message
 pub record Said : Type 0 where
@@ -41,27 +42,12 @@ abbrev pub unread : Option (List ℕ) → List ℕ
 unread None = []
 unread (Some bytes) = bytes
 
--- the lines of an answer's head, and its body
-abbrev pub crlf : List ℕ
-crlf = 13 ∷ 10 ∷ []
-
--- the answers of the two refusals that end a stream
-unfoldable pub bad_head_text : List ℕ
-bad_head_text =
-    codes "HTTP/1.1 400 Bad Request" ++ crlf ++ codes "Content-Type: application/json" ++ crlf ++ codes "Content-Length: 30" ++ crlf ++ crlf
-    ++ codes "{\"fault\":\"BadHead\",\"number\":3}"
-
-unfoldable pub too_large_text : List ℕ
-too_large_text =
-    codes "HTTP/1.1 413 Payload Too Large" ++ crlf ++ codes "Content-Type: application/json" ++ crlf ++ codes "Content-Length: 31" ++ crlf ++ crlf
-    ++ codes "{\"fault\":\"TooLarge\",\"number\":4}"
-
 -- what is written at a stream's end
 abbrev pub last_words : End → List ℕ
 last_words Closed = []
 last_words Unfinished = []
-last_words BadHead = bad_head_text
-last_words TooLarge = too_large_text
+last_words BadHead = fault_answer 400 (codes "BadHead") 3
+last_words TooLarge = fault_answer 413 (codes "TooLarge") 4
 last_words Hundred = []
 
 -- how many answers that is

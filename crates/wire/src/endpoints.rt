@@ -3,11 +3,12 @@
 ghost use Rattle.std.specs.Prelude.{◌≡◌, ℕ, ◌+◌, ◌-◌, ◌^◌, ◌<◌, ◌≤◌, List, Option, IfOk, OnOk, OnErr, length};
 ghost use Rattle.std.specs.Io.KnownBytes.{Appends, Consumes, Keeps, IsAtEnd, ReadConsumes, WriteAppends};
 ghost use Rattle.wire.specs.Endpoints.{CountsErr, CountsNone};
+ghost use Rattle.wire.specs.Watching.{inner_of, failures_of};
 
 use std::io;
 use std::io::{Read, Write};
 
-/// What is read, with a count of the calls that failed.
+/// What is read, with a count of the calls that failed. A call is made only below the greatest count.
 pub trait Source {
     // The bytes that are left to read, where they are known.
     ghost left: { Self → Option (List ℕ) };
@@ -39,7 +40,7 @@ pub trait Sink {
         ensures count { CountsNone (failures self.old) (failures self.new) result };
 }
 
-/// Any reader or writer, with the count, which begins at 0.
+/// Any reader or writer, with the count of its calls that failed, from 0.
 #[derive(Drop)]
 pub struct Watched<T> {
     inner: T,
@@ -47,21 +48,24 @@ pub struct Watched<T> {
 }
 
 impl<T> Watched<T> {
+    /// Begins to watch, at a count of 0.
     pub fn new(inner: T) -> Self
-        ensures inner { result.inner ≡ inner }
-        ensures failures { result.failures ≡ 0 }
+        ensures inner { inner_of result ≡ inner }
+        ensures failures { failures_of result ≡ 0 }
     {
         Watched { inner, failures: 0 }
     }
 
+    /// How many calls failed.
     pub fn failures(&self) -> u64
-        ensures { result ≡ self.now.failures }
+        ensures { result ≡ failures_of self.now }
     {
         self.failures
     }
 
+    /// Gives up the reader or writer.
     pub fn into_inner(self) -> T
-        ensures { result ≡ self.inner }
+        ensures { result ≡ inner_of self }
     {
         let Watched { inner, failures: _ } = self;
         inner
@@ -69,8 +73,8 @@ impl<T> Watched<T> {
 }
 
 impl<R: Read> Source for Watched<R> {
-    ghost left = { λ w. R.remaining w.inner };
-    ghost failures = { λ w. w.failures };
+    ghost left = { λ w. R.remaining (inner_of w) };
+    ghost failures = { failures_of };
 
     fn read(&mut self, buf: &mut [u8]) -> io::Result<usize> {
         match self.inner.read(buf) {
@@ -84,8 +88,8 @@ impl<R: Read> Source for Watched<R> {
 }
 
 impl<W: Write> Sink for Watched<W> {
-    ghost written = { λ w. W.contents w.inner };
-    ghost failures = { λ w. w.failures };
+    ghost written = { λ w. W.contents (inner_of w) };
+    ghost failures = { failures_of };
 
     fn write(&mut self, buf: &[u8]) -> io::Result<usize> {
         match self.inner.write(buf) {

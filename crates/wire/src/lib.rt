@@ -10,7 +10,9 @@
 //! `specs/Run.antt` and `specs/Served.antt`.
 #![tactic(auto)]
 
+mod answers;
 mod buffer;
+mod ending;
 mod endpoints;
 mod fields;
 mod front;
@@ -18,8 +20,11 @@ mod handling;
 mod laws;
 mod outcome;
 mod service;
+#[cfg(test)]
+mod tests;
 mod writing;
 
+pub use answers::{json, refused};
 pub use endpoints::{Sink, Source, Watched};
 pub use handling::{Handler, Reply};
 pub use laws::one_reading;

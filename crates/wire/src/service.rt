@@ -11,6 +11,7 @@ ghost use Rattle.wire.specs.Served.{SoFar, GoesOn, BreaksOff, BrokeOff, ServedTo
 use crate::buffer::{MOST, Next, drop_front, empty, read_next};
 use crate::endpoints::{Sink, Source};
 use crate::front::{FIELDS, Front, Parts};
+use crate::ending::finish;
 use crate::handling::{Handler, Reply};
 use crate::outcome::{End, Served, StreamFault};
 use crate::writing::write_all;
@@ -101,58 +102,6 @@ fn turn<D, H: Handler<D>, R: Source, W: Sink>(
                 Ok(()) => Ok(None),
             },
         },
-    }
-}
-
-const BAD_HEAD: &[u8] =
-    b"HTTP/1.1 400 Bad Request\r\nContent-Type: application/json\r\nContent-Length: 30\r\n\r\n{\"fault\":\"BadHead\",\"number\":3}";
-
-const TOO_LARGE: &[u8] =
-    b"HTTP/1.1 413 Payload Too Large\r\nContent-Type: application/json\r\nContent-Length: 31\r\n\r\n{\"fault\":\"TooLarge\",\"number\":4}";
-
-/// What is written at a stream's end.
-#[tactic(auto, unfolding(crate::specs::Run::bad_head_text, crate::specs::Run::too_large_text))]
-fn last_text(end: End) -> &'static [u8]
-    ensures { result.now ≡ last_words end }
-{
-    match end {
-        End::BadHead => BAD_HEAD,
-        End::TooLarge => TOO_LARGE,
-        End::Closed => &[],
-        End::Unfinished => &[],
-        End::Hundred => &[],
-    }
-}
-
-fn count_of(end: End) -> u32
-    ensures { result ≡ last_count end }
-{
-    match end {
-        End::BadHead => 1,
-        End::TooLarge => 1,
-        End::Closed => 0,
-        End::Unfinished => 0,
-        End::Hundred => 0,
-    }
-}
-
-/// Writes the last words.
-fn finish<W: Sink>(writer: &mut W, end: End, answered: u32) -> Result<Served, StreamFault>
-    requires failures { W.failures writer.old < 2 ^ 64 - 1 }
-    requires few { answered < 100 }
-    ensures ok { IfOk result (λ s. s ≡ record { answered = answered + last_count end; end = end }) }
-    ensures wrote { OnOk result (Appends (W.written writer.old) (W.written writer.new) (last_words end)) }
-    ensures err { OnErr result ((n : ℕ) × Appends (W.written writer.old) (W.written writer.new) (take n (last_words end))) }
-    ensures fault { IfErr result (λ e. e ≡ StreamFault.Write) }
-    ensures count_ok { OnOk result (W.failures writer.new ≡ W.failures writer.old) }
-    ensures count_err { OnErr result (W.failures writer.new ≡ W.failures writer.old + 1) }
-{
-    match write_all(writer, last_text(end)) {
-        Err(fault) => Err(fault),
-        Ok(()) => Ok(Served {
-            answered: answered + count_of(end),
-            end,
-        }),
     }
 }
 
