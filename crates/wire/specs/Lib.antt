@@ -4,6 +4,6 @@ pub mod Messages
 pub mod Judged
 pub mod Text
 pub mod Run
-pub mod Replies
+pub mod Answers
 pub mod Served
 pub mod Taken

@@ -18,9 +18,13 @@ status_line status = codes "HTTP/1.1 " ++ decimal status ++ codes " " ++ reason_
 abbrev pub json_fields : ℕ → List ℕ
 json_fields n = codes "Content-Type: application/json\r\nContent-Length: " ++ decimal n ++ codes "\r\n\r\n"
 
+-- what comes before the body of an answer in JSON, of so many bytes
+abbrev pub json_head : ℕ → ℕ → List ℕ
+json_head status n = status_line status ++ json_fields n
+
 -- an answer in JSON
 abbrev pub json_answer : ℕ → List ℕ → List ℕ
-json_answer status body = status_line status ++ json_fields (length body) ++ body
+json_answer status body = json_head status (length body) ++ body
 
 -- the body of a refusal with this name and number
 abbrev pub fault_body : List ℕ → ℕ → List ℕ

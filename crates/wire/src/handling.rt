@@ -1,25 +1,25 @@
 //! What answers messages.
 ghost use Rattle.std.specs.Prelude.{◌≡◌, ℕ, List};
-ghost use Rattle.wire.specs.Replies.{reply_bytes};
+ghost use Rattle.wire.specs.Answers.{answer_bytes};
 ghost use Rattle.wire.specs.Run.{Said};
 
 use arrayvec::ArrayVec;
 
 /// The bytes of an answer: in a fixed array, or in memory.
 #[derive(Drop)]
-pub enum Reply {
+pub enum Answer {
     Short(ArrayVec<u8, 320>),
-    Long(String),
+    Long(Vec<u8>),
 }
 
-impl Reply {
-    /// The bytes.
+impl Answer {
+    /// Its bytes.
     pub fn as_slice(&self) -> &[u8]
-        ensures { result.now ≡ reply_bytes self.now }
+        ensures { result.now ≡ answer_bytes self.now }
     {
         match self {
-            Reply::Short(bytes) => bytes.as_slice(),
-            Reply::Long(text) => text.as_bytes(),
+            Answer::Short(bytes) => bytes.as_slice(),
+            Answer::Long(bytes) => bytes.as_slice(),
         }
     }
 }
@@ -33,9 +33,9 @@ pub trait Handler<D> {
     ghost step: { D → Said → List ℕ → D → Type 0 };
 
     /// Answers one message.
-    fn answer(&self, desk: &mut D, method: &[u8], target: &[u8], body: &[u8]) -> Reply
+    fn answer(&self, desk: &mut D, method: &[u8], target: &[u8], body: &[u8]) -> Answer
         requires { holds desk.old }
         ensures step { step desk.old (record { method = method.now; target = target.now; body = body.now })
-            (reply_bytes result) desk.new }
+            (answer_bytes result) desk.new }
         ensures holds { holds desk.new };
 }

@@ -24,9 +24,9 @@ mod service;
 mod tests;
 mod writing;
 
-pub use answers::{json, refused};
+pub use answers::{json, json_head, refused};
 pub use endpoints::{Sink, Source, Watched};
-pub use handling::{Handler, Reply};
+pub use handling::{Answer, Handler};
 pub use laws::one_reading;
 pub use outcome::{End, Served, StreamFault};
 pub use service::serve_stream;

@@ -5,24 +5,24 @@ ghost use Rattle.httparse.specs.Spans.{IsWithin};
 ghost use Rattle.wire.specs.Messages.{Message, Stops};
 ghost use Rattle.wire.specs.Judged.{IsPartsOf, Judges};
 ghost use Rattle.wire.specs.Run.{said_at, last_words, last_count, unread, read_failed, write_failed};
-ghost use Rattle.wire.specs.Replies.{reply_bytes};
+ghost use Rattle.wire.specs.Answers.{answer_bytes};
 ghost use Rattle.wire.specs.Served.{SoFar, GoesOn, BreaksOff, BrokeOff, ServedTo};
 
 use crate::buffer::{MOST, Next, drop_front, empty, read_next};
 use crate::endpoints::{Sink, Source};
 use crate::front::{FIELDS, Front, Parts};
 use crate::ending::finish;
-use crate::handling::{Handler, Reply};
+use crate::handling::{Handler, Answer};
 use crate::outcome::{End, Served, StreamFault};
 use crate::writing::write_all;
 use httparse::spans::{EMPTY_HEADER_SPAN, HeaderSpan};
 use std::alloc::Global;
 
 /// Asks the desk for the answer to the message at the front.
-fn ask<D, H: Handler<D>>(handler: &H, desk: &mut D, bytes: &[u8], parts: Parts) -> Reply
+fn ask<D, H: Handler<D>>(handler: &H, desk: &mut D, bytes: &[u8], parts: Parts) -> Answer
     requires parts { Judges bytes.now (Front.Whole parts) }
     requires holds { H.holds desk.old }
-    ensures step { H.step desk.old (said_at bytes.now parts) (reply_bytes result) desk.new }
+    ensures step { H.step desk.old (said_at bytes.now parts) (answer_bytes result) desk.new }
     ensures holds { H.holds desk.new }
 {
     handler.answer(

@@ -18,10 +18,10 @@ impl Handler<u32> for FullStop {
     ghost holds = { λ _. ⊤ };
     ghost step = { λ _ _ _ _. ⊤ };
 
-    fn answer(&self, _desk: &mut u32, _method: &[u8], _target: &[u8], _body: &[u8]) -> Reply {
+    fn answer(&self, _desk: &mut u32, _method: &[u8], _target: &[u8], _body: &[u8]) -> Answer {
         let mut bytes = ArrayVec::new();
         bytes.push(b'.');
-        Reply::Short(bytes)
+        Answer::Short(bytes)
     }
 }
 

@@ -1,0 +1,8 @@
+use Rattle.rolls.proofs.Places.{rises_written, rises_inserted, key_of_parts}
+use Rattle.rolls.proofs.table.Table.put.Goals as goal
+
+pub invariant_of-self : goal.invariant_of-self
+invariant_of-self g c = rises_written g.E.Keyed.key _ _ _ _ _ c.deref.ensures.value c.in-Ok.ensures.found (key_of_parts (g.E.Keyed.key c.args.entry) _ _ c.round.ensures c.code.ensures) c.self.invariant
+
+pub invariant_of-self-in-Err : goal.invariant_of-self-in-Err
+invariant_of-self-in-Err g c = rises_inserted g.E.Keyed.key _ _ _ _ _ _ c.deref.ensures.value c.in-Err.ensures.absent (key_of_parts (g.E.Keyed.key c.args.entry) _ _ c.round.ensures c.code.ensures) c.in_ok-insert-in-Err.ensures.items c.self.invariant

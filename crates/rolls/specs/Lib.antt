@@ -1,0 +1,12 @@
+pub mod Roll
+pub mod Place
+pub mod State
+pub mod Fit
+pub mod Asked
+pub mod Numbers
+pub mod Refusing
+pub mod Stepping
+pub mod Rows
+pub mod From
+pub mod Answers
+pub mod Run

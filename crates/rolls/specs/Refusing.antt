@@ -1,0 +1,62 @@
+-- Which refusal a request gets, if any: in each line the first that applies.
+use Rattle.std.specs.Prelude.{ℕ, Bool, false, not, ◌&&◌, nat_lt, nat_le, List, [], ◌∷◌, length, Option, Some, None, if◌then◌else◌}
+use Rattle.std.specs.Option.{option_map_or}
+use Rattle.std.specs.Str.{bytes_eq}
+use Rattle.spa.specs.Text.{is_code, is_label}
+use Rattle.rolls.specs.declared.refusal.Refusal.{Refusal}
+use Rattle.rolls.specs.declared.refusal.Refusal.TheVariants as no
+use Rattle.rolls.specs.State.{State, project_of, has_supervisor, has_project, has_student, placed_in_project, placed_with_supervisor}
+use Rattle.rolls.specs.Asked.{Put, Asked, PutSupervisor, PutProject, PutStudent, GetSupervisor, GetProject, GetStudent, Plain}
+
+-- the first refusal whose condition holds
+abbrev pub first : List (Bool × Refusal) → Option Refusal
+first [] = None
+first (c ∷ cs) = if c.0 then Some c.1 else first cs
+
+-- a known project is put with another supervisor
+abbrev pub is_moved : State → List ℕ → List ℕ → Bool
+is_moved o code supervisor = option_map_or (λ p. not (bytes_eq supervisor p.supervisor)) (project_of o code) false
+
+-- what a put of a supervisor is judged by
+abbrev pub supervisor_tests : State → List ℕ → List ℕ → ℕ → List (Bool × Refusal)
+supervisor_tests o code label quota =
+    (not (is_code code), no.Code)
+  ∷ (not (is_label label), no.Label)
+  ∷ (nat_lt 500 quota, no.Quota)
+  ∷ (nat_lt quota (placed_with_supervisor o code), no.BelowPlaced)
+  ∷ (not (has_supervisor o code) && nat_le 100 (length o.supervisors), no.RollFull)
+  ∷ []
+
+-- what a put of a project is judged by
+abbrev pub project_tests : State → List ℕ → List ℕ → List ℕ → ℕ → List (Bool × Refusal)
+project_tests o code label supervisor quota =
+    (not (is_code code), no.Code)
+  ∷ (not (is_code supervisor), no.Code)
+  ∷ (not (is_label label), no.Label)
+  ∷ (nat_lt 500 quota, no.Quota)
+  ∷ (not (has_supervisor o supervisor), no.UnknownSupervisor)
+  ∷ (is_moved o code supervisor, no.SupervisorFixed)
+  ∷ (nat_lt quota (placed_in_project o code), no.BelowPlaced)
+  ∷ (not (has_project o code) && nat_le 400 (length o.projects), no.RollFull)
+  ∷ []
+
+-- what a put of a student is judged by
+abbrev pub student_tests : State → List ℕ → List ℕ → List (Bool × Refusal)
+student_tests o code label =
+    (not (is_code code), no.Code)
+  ∷ (not (is_label label), no.Label)
+  ∷ (not (has_student o code) && nat_le 500 (length o.students), no.RollFull)
+  ∷ []
+
+-- the first refusal of a plain request
+abbrev pub put_refusal : State → Put → Option Refusal
+put_refusal o (PutSupervisor code label quota) = first (supervisor_tests o code label quota)
+put_refusal o (PutProject code label supervisor quota) = first (project_tests o code label supervisor quota)
+put_refusal o (PutStudent code label) = first (student_tests o code label)
+put_refusal o (GetSupervisor code) = first ((not (has_supervisor o code), no.UnknownSupervisor) ∷ [])
+put_refusal o (GetProject code) = first ((not (has_project o code), no.UnknownProject) ∷ [])
+put_refusal o (GetStudent code) = first ((not (has_student o code), no.UnknownStudent) ∷ [])
+
+-- the first refusal of a request
+abbrev pub refusal : State → Asked → Option Refusal
+refusal o (Plain p) = put_refusal o p

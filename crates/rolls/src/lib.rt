@@ -1,0 +1,24 @@
+//! The rolls of an office, and the words in which the office is spoken of: what is asked of it, what
+//! it answers, why it refuses, and the rows that its tables have.
+//!
+//! Nothing here decides a request: `office` does, one crate above. The types are values that every
+//! crate above takes as given, and `specs/` has the definitions that their contracts cite: begin with
+//! `specs/State.antt` (what the office holds), then `Refusing`, `Stepping` and `Run`.
+//!
+//! Promised: a `Table` is a finite map whose entries are lent in the order of their keys, and each
+//! refusal has its number.
+#![tactic(auto)]
+
+mod entries;
+mod refusal;
+mod request;
+mod row;
+mod table;
+mod text;
+
+pub use entries::{Project, Student, Supervisor};
+pub use refusal::Refusal;
+pub use request::{Done, Plain, Reply, Request};
+pub use row::{Change, Row, RowKey};
+pub use table::{Duplicate, Keyed, Table};
+pub use text::Text;

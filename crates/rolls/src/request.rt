@@ -1,0 +1,69 @@
+//! Requests, and what comes of them.
+
+use crate::row::Change;
+use spa::{Code, Label};
+
+/// A request that needs nothing but the office. Texts and quotas come as they were sent, for the office
+/// to judge.
+#[derive(Drop)]
+pub enum Plain {
+    /// Makes the supervisor's entry this one.
+    PutSupervisor {
+        code: String,
+        label: String,
+        quota: u32,
+    },
+    /// Makes the project's entry this one.
+    PutProject {
+        code: String,
+        label: String,
+        supervisor: String,
+        quota: u32,
+    },
+    /// Makes the student's entry this one.
+    PutStudent { code: String, label: String },
+    /// Reads a supervisor's entry.
+    GetSupervisor { code: String },
+    /// Reads a project's entry.
+    GetProject { code: String },
+    /// Reads a student's entry.
+    GetStudent { code: String },
+}
+
+/// A request.
+#[derive(Drop)]
+pub enum Request {
+    /// One that needs nothing but the office.
+    Plain(Plain),
+}
+
+/// The answer to a request that was done.
+#[derive(Drop)]
+pub enum Reply {
+    /// A change was made.
+    Done,
+    /// A supervisor: name, number placed, quota.
+    Supervisor {
+        name: Label,
+        placed: u32,
+        quota: u32,
+    },
+    /// A project: name, number placed, quota, and the supervisor who offers it.
+    Project {
+        name: Label,
+        placed: u32,
+        quota: u32,
+        supervisor: Code,
+    },
+    /// A student: name. There are no lists or placements yet.
+    Student { name: Label },
+}
+
+/// What a request made: its answer, and what it changes in the tables.
+#[derive(Drop)]
+pub struct Done {
+    /// The answer.
+    pub reply: Reply,
+    /// The changes of the tables, the first of them first.
+    pub changes: Vec<Change>,
+}
