@@ -1,19 +1,18 @@
 -- What the window says, and what that says of the whole stream.
-use Rattle.std.proofs.Common.{◌≡◌, ℕ, zero, suc, ◌+◌, ◌-◌, ◌<◌, ◌≤◌, ◌⊎◌, inl, inr, true, false, List, [], ◌∷◌, ◌++◌, length, take, drop, map, min, slice_range, refl, sym, ap, ◌∙◌, subst, arith, append_assoc, length-append}
+use Rattle.std.proofs.Common.{◌≡◌, ℕ, ◌+◌, ◌-◌, ◌<◌, ◌≤◌, inl, inr, true, false, List, ◌++◌, length, take, drop, map, slice_range, refl, sym, ap, ◌∙◌, subst, arith, append_assoc, length-append}
 use Rattle.std.proofs.Math.Seq.{drop-append_seam, drop-append-add}
-use Rattle.std.proofs.lemmas.List.{length-take, length-drop, take-append-drop, take-append-le, drop-append-le, take_all}
+use Rattle.std.proofs.lemmas.List.{length-take, length-drop, take-append-drop, take-append-le, drop-append-le}
 use Rattle.httparse.specs.Grammar.{RequestHead, print_request, ReadsRequest, HasNoRequest, NeverHasRequest}
-use Rattle.httparse.specs.Spans.{IsWithin, span_bytes, IsRequestAt, IsRequestWithin, AreFieldsAt, header_bytes, name_and_value}
+use Rattle.httparse.specs.Spans.{span_bytes, IsRequestAt, IsRequestWithin, header_bytes}
 use Rattle.httparse.specs.declared.spans.Span.{Span}
 use Rattle.httparse.specs.declared.spans.HeaderSpan.{HeaderSpan}
 use Rattle.httparse.specs.declared.spans.RequestSpans.{RequestSpans}
 use Rattle.wire.specs.declared.fields.Framing.{Framing}
-use Rattle.wire.specs.declared.fields.Framing.TheVariants.{Length, Wrong, Long}
-use Rattle.wire.specs.declared.front.Parts.{Parts}
+use Rattle.wire.specs.declared.fields.Framing.TheVariants.{Length}
 use Rattle.wire.specs.declared.front.Front.TheVariants.{Whole, Stop, Open}
-use Rattle.wire.specs.declared.outcome.End.TheVariants.{BadHead, TooLarge, Unfinished}
-use Rattle.wire.specs.Messages.{Message, window, HeadAt, HeadFramed, framing, framing_of, has_line, IsMalformed, IsOpen, BodyCut, Begins, Stops}
-use Rattle.wire.specs.Judged.{IsPartsOf, Judges}
+use Rattle.wire.specs.declared.outcome.End.TheVariants.{BadHead, TooLarge}
+use Rattle.wire.specs.Messages.{window, HeadAt, HeadFramed, framing, framing_of, has_line, IsMalformed}
+use Rattle.wire.specs.Judged.{Judges}
 use Rattle.wire.proofs.Windows.{head_stays, malformed_stays}
 
 -- what the spans say is what the head says
@@ -106,10 +105,13 @@ open_message buf none fine short = (omega arith, λ some. inr (record { headless
 pub long_message : (buf : List ℕ) → HasNoRequest (window buf) → (IsMalformed (window buf) → ⊥) → 8192 ≤ length buf → Judges buf (Stop TooLarge)
 long_message buf none fine long more =
     let same = take-append-le 8192 buf more long in
-    inr (record {
-      headless = subst HasNoRequest (sym same) none;
-      well_formed = subst (λ (t : List ℕ). IsMalformed t → ⊥) (sym same) fine;
-    }, simp length-append (omega arith))
+    inr (
+      record {
+        headless = subst HasNoRequest (sym same) none;
+        well_formed = subst (λ (t : List ℕ). IsMalformed t → ⊥) (sym same) fine;
+      },
+      simp length-append (omega arith),
+    )
 
 pub malformed_message : (buf : List ℕ) → has_line false (window buf) ≡ true → NeverHasRequest (window buf) → Judges buf (Stop BadHead)
 malformed_message buf line never more = inr (malformed_stays buf more line never)

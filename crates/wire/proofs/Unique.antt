@@ -1,13 +1,13 @@
 -- A stream has one list of messages and one end.
-use Rattle.std.proofs.Common.{◌≡◌, ℕ, zero, suc, ◌+◌, ◌-◌, ◌<◌, ◌≤◌, ◌⊎◌, inl, inr, true, false, List, [], ◌∷◌, ◌++◌, length, take, drop, refl, sym, ap, ◌∙◌, subst, arith, append_assoc, append-nil, length-append, add-zero, zero-add}
+use Rattle.std.proofs.Common.{◌≡◌, ℕ, suc, ◌+◌, ◌<◌, ◌≤◌, ◌⊎◌, inl, inr, true, false, List, [], ◌∷◌, ◌++◌, length, take, drop, refl, sym, ap, ◌∙◌, subst, arith, append_assoc, length-append, add-zero, zero-add}
 use Rattle.std.proofs.lemmas.List.{take_at, drop_at, append_cancel_left}
-use Rattle.httparse.specs.Grammar.{RequestHead, print_request, print_blank, print_version, print_end, print_section, ReadsRequest, HasNoRequest}
+use Rattle.httparse.specs.Grammar.{RequestHead, print_request, HasNoRequest}
 use Rattle.httparse.proofs.GrammarLemmas.{request_unique, print_request-append}
 use Rattle.wire.specs.declared.fields.Framing.{Framing}
 use Rattle.wire.specs.declared.fields.Framing.TheVariants.{Length, Wrong, Long}
 use Rattle.wire.specs.declared.outcome.End.{End}
 use Rattle.wire.specs.declared.outcome.End.TheVariants.{Closed, Unfinished, BadHead, TooLarge, Hundred}
-use Rattle.wire.specs.Messages.{Message, window, has_line, HeadAt, HeadFramed, framing, IsMalformed, IsOpen, BodyCut, Begins, Stops, Splits, EndsAt, Messages}
+use Rattle.wire.specs.Messages.{Message, window, has_line, HeadAt, HeadFramed, framing, IsMalformed, BodyCut, Begins, Stops, Splits, EndsAt, Messages}
 
 head_unique : (rest : List ℕ) (h k : RequestHead) → HeadAt rest h → HeadAt rest k → h ≡ k
 head_unique rest h k x y = (request_unique (window rest) h k x.0 y.0 x.1 y.1).0
@@ -150,7 +150,7 @@ few_ends n rest TooLarge x = inr x
 
 ends_unique : (n : ℕ) (rest : List ℕ) (d e : End) → EndsAt n rest d → EndsAt n rest e → d ≡ e
 ends_unique n rest d e x y = elim (few_ends n rest d x) [
-    inl a ↦ elim (few_ends n rest e y) [ inl b ↦ a.0 ∙ sym b.0 | inr b ↦ absurd (omega (arith, a.1, b.0)) ]
+  | inl a ↦ elim (few_ends n rest e y) [ inl b ↦ a.0 ∙ sym b.0 | inr b ↦ absurd (omega (arith, a.1, b.0)) ]
   | inr a ↦ elim (few_ends n rest e y) [ inl b ↦ absurd (omega (arith, a.0, b.1)) | inr b ↦ stops_unique rest d e a.1 b.1 ]
 ]
 
@@ -160,7 +160,7 @@ at_most n rest e x = elim (few_ends n rest e x) [ inl a ↦ omega (arith, a.1) |
 -- where one list ends the other does not go on
 ends_or_goes_on : (n more : ℕ) (rest after last : List ℕ) (m : Message) (d e : End) → EndsAt n rest d → Begins rest m after → EndsAt (n + suc more) last e → ⊥
 ends_or_goes_on n more rest after last m d e x b y = elim (few_ends n rest d x) [
-    inl a ↦ let k = at_most (n + suc more) last e y in omega (arith, a.1, k)
+  | inl a ↦ let k = at_most (n + suc more) last e y in omega (arith, a.1, k)
   | inr a ↦ begins_or_stops rest m after d b a.1
 ]
 
@@ -177,7 +177,7 @@ splits_unique n bytes (m ∷ ms) (k ∷ ks) r q d e s t x y =
     let i : n + suc (length ms) ≡ suc n + length ms = omega arith in
     let j : n + suc (length ks) ≡ suc n + length ks = omega arith in
     let others = splits_unique (suc n) s.0 ms ks r q d e s.2 (subst (λ (v : List ℕ). Splits v ks q) (sym one.1) t.2)
-        (subst (λ (c : ℕ). EndsAt c r d) i x) (subst (λ (c : ℕ). EndsAt c q e) j y) in
+    (subst (λ (c : ℕ). EndsAt c r d) i x) (subst (λ (c : ℕ). EndsAt c q e) j y) in
     (cc (one.0, others.0), others.1)
 
 -- a stream has one list of messages, and one end

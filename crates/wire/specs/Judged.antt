@@ -1,5 +1,5 @@
 -- What is known of a stream of which some bytes have come.
-use Rattle.std.specs.Prelude.{◌≡◌, ℕ, ◌+◌, ◌<◌, ◌≤◌, true, false, List, [], ◌++◌, length, drop, slice_range}
+use Rattle.std.specs.Prelude.{◌≡◌, ℕ, ◌+◌, ◌<◌, ◌≤◌, true, false, List, ◌++◌, length, drop, slice_range}
 use Rattle.httparse.specs.Grammar.{RequestHead, print_request, HasNoRequest, NeverHasRequest}
 use Rattle.httparse.specs.Spans.{IsWithin, IsRequestWithin, IsRequestAt, span_bytes}
 use Rattle.httparse.specs.declared.spans.HeaderSpan.{HeaderSpan}
@@ -8,7 +8,6 @@ use Rattle.wire.specs.declared.front.Head.TheVariants.{Found, Malformed, Missing
 use Rattle.wire.specs.declared.front.Parts.{Parts}
 use Rattle.wire.specs.declared.front.Front.{Front}
 use Rattle.wire.specs.declared.front.Front.TheVariants.{Whole, Stop, Open}
-use Rattle.wire.specs.declared.outcome.End.TheVariants.{Unfinished}
 use Rattle.wire.specs.Messages.{Message, has_line, IsMalformed, Begins, Stops, IsCut}
 
 -- what a search for a head in the window found

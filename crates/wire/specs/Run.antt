@@ -1,5 +1,5 @@
 -- Runs of a desk over the messages of a stream.
-use Rattle.std.specs.Prelude.{◌≡◌, codes, ℕ, ◌+◌, List, [], ◌∷◌, ◌++◌, slice_range, Option, Some, None, IfSome, Result, Ok, Err}
+use Rattle.std.specs.Prelude.{◌≡◌, codes, ℕ, ◌+◌, List, [], ◌∷◌, slice_range, Option, Some, None, IfSome, Result, Ok, Err}
 use Rattle.wire.specs.declared.outcome.StreamFault.{StreamFault}
 use Rattle.wire.specs.declared.outcome.StreamFault.TheVariants.{Memory, Read, Write}
 use Rattle.wire.specs.declared.outcome.End.{End}

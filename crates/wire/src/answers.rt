@@ -77,7 +77,11 @@ fn push_json_fields(out: &mut ArrayVec<u8, 320>, len: u64)
     ensures items { out.new.items ≡ out.old.items ++ json_fields len }
     ensures len { array_vec_len out.new ≤ array_vec_len out.old + 72 }
 {
-    push_labelled(out, b"Content-Type: application/json\r\nContent-Length: ", len);
+    push_labelled(
+        out,
+        b"Content-Type: application/json\r\nContent-Length: ",
+        len,
+    );
     push(out, b"\r\n\r\n");
 }
 

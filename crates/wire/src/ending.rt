@@ -51,4 +51,3 @@ pub fn finish<W: Sink>(writer: &mut W, end: End, answered: u32) -> Result<Served
         }),
     }
 }
-

@@ -74,6 +74,7 @@ impl<T> Watched<T> {
 
 impl<R: Read> Source for Watched<R> {
     ghost left = { λ w. R.remaining (inner_of w) };
+
     ghost failures = { failures_of };
 
     fn read(&mut self, buf: &mut [u8]) -> io::Result<usize> {
@@ -89,6 +90,7 @@ impl<R: Read> Source for Watched<R> {
 
 impl<W: Write> Sink for Watched<W> {
     ghost written = { λ w. W.contents (inner_of w) };
+
     ghost failures = { failures_of };
 
     fn write(&mut self, buf: &[u8]) -> io::Result<usize> {

@@ -7,5 +7,4 @@ ghost use Rattle.wire.specs.declared.outcome.End.{End};
 pub fn one_reading()
     ensures { (bytes : List ℕ) (ms ks : List Message) (d e : End) → Messages bytes ms d → Messages bytes ks e
         → (ms ≡ ks) × (d ≡ e) }
-{
-}
+{}

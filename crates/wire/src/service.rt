@@ -9,10 +9,10 @@ ghost use Rattle.wire.specs.Answers.{answer_bytes};
 ghost use Rattle.wire.specs.Served.{SoFar, GoesOn, BreaksOff, BrokeOff, ServedTo};
 
 use crate::buffer::{MOST, Next, drop_front, empty, read_next};
+use crate::ending::finish;
 use crate::endpoints::{Sink, Source};
 use crate::front::{FIELDS, Front, Parts};
-use crate::ending::finish;
-use crate::handling::{Handler, Answer};
+use crate::handling::{Answer, Handler};
 use crate::outcome::{End, Served, StreamFault};
 use crate::writing::write_all;
 use httparse::spans::{EMPTY_HEADER_SPAN, HeaderSpan};
@@ -56,8 +56,8 @@ fn serve_one<D, H: Handler<D>, W: Sink>(
     ensures count_ok { OnOk result (W.failures writer.new ≡ W.failures writer.old) }
     ensures count_err { OnErr result (W.failures writer.new ≡ W.failures writer.old + 1) }
 {
-    let reply = ask(handler, desk, buffer.as_slice(), parts);
-    write_all(writer, reply.as_slice())?;
+    let answer = ask(handler, desk, buffer.as_slice(), parts);
+    write_all(writer, answer.as_slice())?;
     drop_front(buffer, parts.head + parts.body);
     Ok(())
 }

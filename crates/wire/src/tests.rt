@@ -8,7 +8,8 @@ use std::io;
 use std::io::Read;
 use std::test::Fail;
 
-const TWO: &[u8] = b"PUT /students/S1 HTTP/1.1\r\nContent-Length: 14\r\n\r\n{\"name\":\"Ann\"}PUT /students/S2 HTTP/1.1\r\nContent-Length: 14\r\n\r\n{\"name\":\"Bob\"}";
+const TWO: &[u8] =
+    b"PUT /students/S1 HTTP/1.1\r\nContent-Length: 14\r\n\r\n{\"name\":\"Ann\"}PUT /students/S2 HTTP/1.1\r\nContent-Length: 14\r\n\r\n{\"name\":\"Bob\"}";
 
 /// Answers by a full stop.
 #[derive(Drop)]
@@ -16,6 +17,7 @@ struct FullStop;
 
 impl Handler<u32> for FullStop {
     ghost holds = { λ _. ⊤ };
+
     ghost step = { λ _ _ _ _. ⊤ };
 
     fn answer(&self, _desk: &mut u32, _method: &[u8], _target: &[u8], _body: &[u8]) -> Answer {
@@ -56,7 +58,11 @@ fn prefixes(rt: HostRuntime) -> Result<(), Fail> {
             64..=125 => (1, End::Unfinished),
             _ => (2, End::Closed),
         };
-        assert_eq!(rt; served(rt.alloc(), &TWO[..n]), Ok(Served { answered, end }), "{n}");
+        assert_eq!(rt;
+            served(rt.alloc(), &TWO[..n]),
+            Ok(Served { answered, end }),
+            "{n}"
+        );
     }
     Ok(())
 }
@@ -80,7 +86,11 @@ const HEADS: [(&str, u32, End); 12] = [
 #[test]
 fn heads(rt: HostRuntime) -> Result<(), Fail> {
     for (text, answered, end) in HEADS {
-        assert_eq!(rt; served(rt.alloc(), text.as_bytes()), Ok(Served { answered, end }), "{text}");
+        assert_eq!(rt;
+            served(rt.alloc(), text.as_bytes()),
+            Ok(Served { answered, end }),
+            "{text}"
+        );
     }
     Ok(())
 }
@@ -93,7 +103,11 @@ fn limits(rt: HostRuntime) -> Result<(), Fail> {
             head.push(b'a')?;
         }
         head.extend_from_slice(b"\r\n\r\n")?;
-        assert_eq!(rt; served(rt.alloc(), &head), Ok(Served { answered, end }), "{letters}");
+        assert_eq!(rt;
+            served(rt.alloc(), &head),
+            Ok(Served { answered, end }),
+            "{letters}"
+        );
     }
     for (fields, end) in [(32, End::Closed), (33, End::TooLarge)] {
         let mut head = Vec::from_slice(rt.alloc(), b"GET /students/S1 HTTP/1.1\r\n")?;
@@ -101,13 +115,20 @@ fn limits(rt: HostRuntime) -> Result<(), Fail> {
             head.extend_from_slice(b"X: a\r\n")?;
         }
         head.extend_from_slice(b"\r\n")?;
-        assert_eq!(rt; served(rt.alloc(), &head), Ok(Served { answered: 1, end }), "{fields}");
+        assert_eq!(rt;
+            served(rt.alloc(), &head),
+            Ok(Served { answered: 1, end }),
+            "{fields}"
+        );
     }
     let mut many = Vec::new(rt.alloc());
     for _ in 0..101 {
         many.extend_from_slice(b"GET / HTTP/1.1\r\n\r\n")?;
     }
-    let hundred = Served { answered: 100, end: End::Hundred };
+    let hundred = Served {
+        answered: 100,
+        end: End::Hundred,
+    };
     assert_eq!(rt; served(rt.alloc(), &many), Ok(hundred));
     Ok(())
 }

@@ -1,5 +1,4 @@
 use Rattle.std.proofs.Common.{◌≡◌, ℕ, List, ◌++◌, codes, decimal, append_assoc}
-use Rattle.wire.specs.Text.{json_fields}
 use Rattle.wire.proofs.answers.push_json_fields.Goals as goal
 
 regroup : (o l n e : List ℕ) → (o ++ (l ++ n)) ++ e ≡ o ++ (l ++ n ++ e)

@@ -1,11 +1,10 @@
-use Rattle.std.proofs.Common.{◌≡◌, ◌≤◌, ℕ, List, length, refl, ap, subst, Result, Ok, Err}
+use Rattle.std.proofs.Common.{◌≡◌, ◌≤◌, ℕ, List, length, ap, subst, Ok, Err}
 use Rattle.httparse.specs.declared.Error.{Error}
-use Rattle.httparse.specs.declared.Error.TheVariants.{TooManyHeaders}
 use Rattle.httparse.specs.declared.Status.{Status}
-use Rattle.httparse.specs.declared.Status.TheVariants.{Complete, Partial}
+use Rattle.httparse.specs.declared.Status.TheVariants.{Partial}
 use Rattle.httparse.specs.declared.spans.RequestSpans.{RequestSpans}
 use Rattle.httparse.specs.Grammar.{HasNoRequest, MayBecomeRequest}
-use Rattle.httparse.specs.Outcome.{OnPartial, OnTooManyHeaders}
+use Rattle.httparse.specs.Outcome.{OnPartial}
 use Rattle.httparse.specs.Spans.{RequestExceeds}
 use Rattle.wire.specs.Messages.{IsMalformed}
 use Rattle.wire.proofs.Windows.{may_be_well_formed, has_room}

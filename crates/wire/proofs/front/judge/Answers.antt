@@ -1,16 +1,13 @@
-use Rattle.std.proofs.Common.{◌≡◌, ◌<◌, ◌≤◌, ◌+◌, ◌-◌, ℕ, List, ◌++◌, inl, refl, ap, subst, ◌∙◌, sym, take, min, map, length, arith}
+use Rattle.std.proofs.Common.{◌≡◌, ◌<◌, ◌≤◌, ◌+◌, ◌-◌, ℕ, List, ◌++◌, inl, ap, subst, ◌∙◌, take, min, map, length, arith}
 use Rattle.std.proofs.lemmas.List.{take_min, length-take}
-use Rattle.httparse.specs.Grammar.{RequestHead, HasNoRequest, NeverHasRequest}
-use Rattle.httparse.specs.Spans.{IsRequestAt, IsRequestWithin, header_bytes}
+use Rattle.httparse.specs.Spans.{header_bytes}
 use Rattle.httparse.specs.declared.spans.HeaderSpan.{HeaderSpan}
 use Rattle.httparse.specs.declared.spans.RequestSpans.{RequestSpans}
 use Rattle.wire.specs.declared.fields.Framing.{Framing}
 use Rattle.wire.specs.declared.fields.Framing.TheVariants.{Length, Wrong, Long}
 use Rattle.wire.specs.declared.front.Head.{Head}
 use Rattle.wire.specs.declared.front.Head.TheVariants.{Found, Malformed, Missing}
-use Rattle.wire.specs.declared.front.Parts.{Parts}
-use Rattle.wire.specs.declared.front.Front.TheVariants.{Whole, Stop, Open}
-use Rattle.wire.specs.declared.outcome.End.TheVariants.{BadHead, TooLarge}
+use Rattle.wire.specs.declared.front.Front.TheVariants.{Whole, Open}
 use Rattle.wire.specs.Messages.{window, HeadFramed, framing_of}
 use Rattle.wire.specs.Judged.{FindsHead, Judges}
 use Rattle.wire.proofs.Judging.{framing_read, framed_stays, whole_message, cut_message, open_message, long_message, malformed_message}
