@@ -1,0 +1,4 @@
+pub mod Paths
+pub mod Members
+pub mod Requests
+pub mod Texts
