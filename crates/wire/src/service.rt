@@ -1,5 +1,5 @@
 //! The service of a stream.
-ghost use Rattle.std.specs.Prelude.{◌≡◌, ℕ, ◌+◌, ◌-◌, ◌^◌, ◌<◌, ◌≤◌, List, Option, [], ◌++◌, length, take, drop, vec_len, vec_capacity, IfOk, OnOk, OnErr, IfErr, IfSome, IfNone};
+ghost use Rattle.std.specs.Prelude.{◌≡◌, ◌≢◌, ℕ, ◌+◌, ◌-◌, ◌^◌, ◌<◌, ◌≤◌, List, Option, [], ◌++◌, length, take, drop, vec_len, vec_capacity, IfOk, OnOk, OnErr, IfErr, IfSome, IfNone};
 ghost use Rattle.std.specs.Io.KnownBytes.{Appends};
 ghost use Rattle.httparse.specs.Spans.{IsWithin};
 ghost use Rattle.wire.specs.Messages.{Message, Stops};
@@ -90,6 +90,7 @@ fn turn<D, H: Handler<D>, R: Source, W: Sink>(
     ensures size { OnOk result (vec_len buffer.new ≤ MOST) }
     ensures capacity { OnOk result (MOST ≤ vec_capacity buffer.new) }
     ensures holds { H.holds desk.new }
+    ensures fault { IfErr result (λ fault. fault ≢ StreamFault.Memory) }
     ensures read_count { R.failures reader.new ≡ R.failures reader.old + read_failed result }
     ensures write_count { W.failures writer.new ≡ W.failures writer.old + write_failed result }
 {
@@ -123,6 +124,7 @@ fn serve_messages<D, H: Handler<D>, R: Source, W: Sink>(
     ensures served { IfOk result (λ served. ServedTo H.step desk.old (R.left reader.old) (W.written writer.old) (W.written writer.new) served desk.new) }
     ensures broken { IfErr result (λ fault. BrokeOff H.step desk.old (R.left reader.old) (W.written writer.old) (R.left reader.new) (W.written writer.new) desk.new fault) }
     ensures holds { H.holds desk.new }
+    ensures fault { IfErr result (λ fault. fault ≢ StreamFault.Memory) }
     ensures read_count { R.failures reader.new ≡ R.failures reader.old + read_failed result }
     ensures write_count { W.failures writer.new ≡ W.failures writer.old + write_failed result }
 {
@@ -155,7 +157,15 @@ pub fn serve_stream<D, H: Handler<D>, R: Source, W: Sink>(
     requires holds { H.holds desk.old }
     ensures served { IfOk result (λ served. ServedTo H.step desk.old (R.left reader.old) (W.written writer.old) (W.written writer.new) served desk.new) }
     ensures broken { IfErr result (λ fault. BrokeOff H.step desk.old (R.left reader.old) (W.written writer.old) (R.left reader.new) (W.written writer.new) desk.new fault) }
+
+    // Want of memory comes before anything is read, asked or written.
+    ensures early { result ≡ Err StreamFault.Memory → (desk.new ≡ desk.old)
+        × (R.left reader.new ≡ R.left reader.old) × (W.written writer.new ≡ W.written writer.old) }
+
+    // What holds of the desk between two messages holds after the last.
     ensures holds { H.holds desk.new }
+
+    // `Read` and `Write` come exactly where the reader's or the writer's count of failures grows.
     ensures read_count { R.failures reader.new ≡ R.failures reader.old + read_failed result }
     ensures write_count { W.failures writer.new ≡ W.failures writer.old + write_failed result }
 {
