@@ -2,3 +2,4 @@ pub mod Paths
 pub mod Members
 pub mod Requests
 pub mod Texts
+pub mod Serving

@@ -13,4 +13,5 @@
 mod members;
 mod requests;
 mod routes;
+mod serving;
 mod texts;
