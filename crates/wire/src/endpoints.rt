@@ -60,7 +60,8 @@ impl<T> Watched<T> {
     pub fn failures(&self) -> u64
         ensures { result ≡ failures_of self.now }
     {
-        self.failures
+        let Watched { inner: _, failures } = self;
+        *failures
     }
 
     /// Gives up the reader or writer.
@@ -78,13 +79,11 @@ impl<R: Read> Source for Watched<R> {
     ghost failures = { failures_of };
 
     fn read(&mut self, buf: &mut [u8]) -> io::Result<usize> {
-        match self.inner.read(buf) {
-            Ok(n) => Ok(n),
-            Err(e) => {
-                self.failures += 1;
-                Err(e)
-            }
+        let read = self.inner.read(buf);
+        if read.is_err() {
+            self.failures += 1;
         }
+        read
     }
 }
 
