@@ -39,7 +39,7 @@ suc_both false n = omega arith
 
 module _ {E : Type 0} (key : E → Key) where
   find_by : (q : Key) (e x : E) (xs : List E) (r : Ordering) → key_cmp (key e) (key x) ≡ r → find key q (put key e xs) ≡ cond (same_key q (key e)) (Some e) (find key q xs)
-    → find key q (by_order r (e ∷ x ∷ xs) (e ∷ xs) (x ∷ put key e xs)) ≡ cond (same_key q (key e)) (Some e) (cond (same_key q (key x)) (Some x) (find key q xs))
+      → find key q (by_order r (e ∷ x ∷ xs) (e ∷ xs) (x ∷ put key e xs)) ≡ cond (same_key q (key e)) (Some e) (cond (same_key q (key x)) (Some x) (find key q xs))
   find_by q e x xs Less c h = refl
   find_by q e x xs Equal c h =
       let alike : key_cmp q (key e) ≡ key_cmp q (key x) = alike_right keys_total (key e) (key x) q c in
@@ -47,8 +47,8 @@ module _ {E : Type 0} (key : E → Key) where
   find_by q e x xs Greater c h =
       ap (λ o. cond (same_key q (key x)) (Some x) o) h
       ∙ swapped (same_key q (key x)) (same_key q (key e)) (Some x) (Some e) (find key q xs) (λ tied_x tied_e.
-          let joined : key_cmp (key e) (key x) ≡ Equal = sym (keys_total.congr q (key e) (key x) (is_equal _ tied_e)) ∙ is_equal _ tied_x in
-          cc)
+      let joined : key_cmp (key e) (key x) ≡ Equal = sym (keys_total.congr q (key e) (key x) (is_equal _ tied_e)) ∙ is_equal _ tied_x in
+      cc)
 
   -- what is found after an entry was put
   pub find-put : (q : Key) (e : E) (es : List E) → find key q (put key e es) ≡ cond (same_key q (key e)) (Some e) (find key q es)
@@ -56,7 +56,7 @@ module _ {E : Type 0} (key : E → Key) where
   find-put q e (x ∷ xs) = find_by q e x xs (key_cmp (key e) (key x)) refl (find-put q e xs)
 
   length_by : (e x : E) (xs : List E) (r : Ordering) → key_cmp (key e) (key x) ≡ r → is_below key (key x) xs ≡ true → length (put key e xs) ≡ cond (has key (key e) xs) (length xs) (length xs + 1)
-    → length (by_order r (e ∷ x ∷ xs) (e ∷ xs) (x ∷ put key e xs)) ≡ cond (has key (key e) (x ∷ xs)) (length (x ∷ xs)) (length (x ∷ xs) + 1)
+      → length (by_order r (e ∷ x ∷ xs) (e ∷ xs) (x ∷ put key e xs)) ≡ cond (has key (key e) (x ∷ xs)) (length (x ∷ xs)) (length (x ∷ xs) + 1)
   length_by e x xs Less c b h =
       let absent : has key (key e) (x ∷ xs) ≡ false = ap (λ r. is_some (cond (is_eq r) (Some x) (find key (key e) xs))) c ∙ ap is_some (find_below key (key e) xs (below_all key (key e) (key x) xs c b)) in
       one_added (length (x ∷ xs)) ∙ sym (ap (λ t. cond t (length (x ∷ xs)) (length (x ∷ xs) + 1)) absent)

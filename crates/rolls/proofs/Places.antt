@@ -114,10 +114,10 @@ module _ {E : Type 0} (key : E → Key) where
         in_range = h;
         found = find_passed k es i p (omega (arith, h)) ∙ ap (find key k) at ∙ tied_find k x (drop (suc i) es) t ∙ sym (slice_get_read es (length es) i x refl h is);
         written = λ e same.
-          put_passed e es i (subst (λ q. Passed q es i) (sym same) p) (omega (arith, h))
-          ∙ ap (λ l. take i es ++ put key e l) at
-          ∙ ap (λ l. take i es ++ l) (tied_put e x (drop (suc i) es) (subst (λ q. key_cmp q (key x) ≡ Equal) (sym same) t))
-          ∙ sym (set_split es i e h);
+            put_passed e es i (subst (λ q. Passed q es i) (sym same) p) (omega (arith, h))
+            ∙ ap (λ l. take i es ++ put key e l) at
+            ∙ ap (λ l. take i es ++ l) (tied_put e x (drop (suc i) es) (subst (λ q. key_cmp q (key x) ≡ Equal) (sym same) t))
+            ∙ sym (set_split es i e h);
         removed = take_out_passed k es i p (omega (arith, h)) ∙ ap (λ l. take i es ++ take_out key k l) at ∙ ap (λ l. take i es ++ l) (tied_take_out k x (drop (suc i) es) t rest);
       }
 
@@ -127,8 +127,8 @@ module _ {E : Type 0} (key : E → Key) where
     in_range = h;
     absent = find_passed k es i p h ∙ find_below k (drop i es) b;
     inserted = λ e same.
-      put_passed e es i (subst (λ q. Passed q es i) (sym same) p) h
-      ∙ ap (λ l. take i es ++ l) (put_below e (drop i es) (subst (λ q. is_below key q (drop i es) ≡ true) (sym same) b));
+        put_passed e es i (subst (λ q. Passed q es i) (sym same) p) h
+        ∙ ap (λ l. take i es ++ l) (put_below e (drop i es) (subst (λ q. is_below key q (drop i es) ≡ true) (sym same) b));
     unchanged = take_out_passed k es i p h ∙ ap (λ l. take i es ++ l) (kept_below k (drop i es) b) ∙ take-append-drop i es;
   }
 

@@ -1,5 +1,5 @@
 -- Requests as values: their texts by the bytes alone.
-use Rattle.std.specs.Prelude.{ℕ, List, string_bytes}
+use Rattle.std.specs.Prelude.{ℕ, Bool, true, false, List, string_bytes}
 use Rattle.rolls.specs.declared.request.Plain.{Plain as PlainRequest}
 use Rattle.rolls.specs.declared.request.Plain.TheVariants as plain
 use Rattle.rolls.specs.declared.request.Request.{Request}
@@ -30,3 +30,12 @@ put_of (plain.GetStudent code) = GetStudent (string_bytes code)
 -- the value of a request
 abbrev pub asked_of : Request → Asked
 asked_of (request.Plain p) = Plain (put_of p)
+
+-- whether a plain request changes nothing, whatever the office
+abbrev pub is_read : Put → Bool
+is_read (PutSupervisor code label quota) = false
+is_read (PutProject code label supervisor quota) = false
+is_read (PutStudent code label) = false
+is_read (GetSupervisor code) = true
+is_read (GetProject code) = true
+is_read (GetStudent code) = true

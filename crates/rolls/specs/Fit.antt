@@ -37,11 +37,9 @@ pub record IsFit (o : State) : Type 0 where
   pub supervisors_rise : IsTrue (rises supervisor_key o.supervisors)
   pub projects_rise : IsTrue (rises project_key o.projects)
   pub students_rise : IsTrue (rises student_key o.students)
-
   pub few_supervisors : length o.supervisors ≤ 100
   pub few_projects : length o.projects ≤ 400
   pub few_students : length o.students ≤ 500
-
   pub supervisors_fit : AllByRecursion SupervisorFits o.supervisors
   pub projects_fit : AllByRecursion (ProjectFits o) o.projects
   pub students_fit : AllByRecursion StudentFits o.students

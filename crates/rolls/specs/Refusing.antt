@@ -21,32 +21,32 @@ is_moved o code supervisor = option_map_or (λ p. not (bytes_eq supervisor p.sup
 abbrev pub supervisor_tests : State → List ℕ → List ℕ → ℕ → List (Bool × Refusal)
 supervisor_tests o code label quota =
     (not (is_code code), no.Code)
-  ∷ (not (is_label label), no.Label)
-  ∷ (nat_lt 500 quota, no.Quota)
-  ∷ (nat_lt quota (placed_with_supervisor o code), no.BelowPlaced)
-  ∷ (not (has_supervisor o code) && nat_le 100 (length o.supervisors), no.RollFull)
-  ∷ []
+    ∷ (not (is_label label), no.Label)
+    ∷ (nat_lt 500 quota, no.Quota)
+    ∷ (nat_lt quota (placed_with_supervisor o code), no.BelowPlaced)
+    ∷ (not (has_supervisor o code) && nat_le 100 (length o.supervisors), no.RollFull)
+    ∷ []
 
 -- what a put of a project is judged by
 abbrev pub project_tests : State → List ℕ → List ℕ → List ℕ → ℕ → List (Bool × Refusal)
 project_tests o code label supervisor quota =
     (not (is_code code), no.Code)
-  ∷ (not (is_code supervisor), no.Code)
-  ∷ (not (is_label label), no.Label)
-  ∷ (nat_lt 500 quota, no.Quota)
-  ∷ (not (has_supervisor o supervisor), no.UnknownSupervisor)
-  ∷ (is_moved o code supervisor, no.SupervisorFixed)
-  ∷ (nat_lt quota (placed_in_project o code), no.BelowPlaced)
-  ∷ (not (has_project o code) && nat_le 400 (length o.projects), no.RollFull)
-  ∷ []
+    ∷ (not (is_code supervisor), no.Code)
+    ∷ (not (is_label label), no.Label)
+    ∷ (nat_lt 500 quota, no.Quota)
+    ∷ (not (has_supervisor o supervisor), no.UnknownSupervisor)
+    ∷ (is_moved o code supervisor, no.SupervisorFixed)
+    ∷ (nat_lt quota (placed_in_project o code), no.BelowPlaced)
+    ∷ (not (has_project o code) && nat_le 400 (length o.projects), no.RollFull)
+    ∷ []
 
 -- what a put of a student is judged by
 abbrev pub student_tests : State → List ℕ → List ℕ → List (Bool × Refusal)
 student_tests o code label =
     (not (is_code code), no.Code)
-  ∷ (not (is_label label), no.Label)
-  ∷ (not (has_student o code) && nat_le 500 (length o.students), no.RollFull)
-  ∷ []
+    ∷ (not (is_label label), no.Label)
+    ∷ (not (has_student o code) && nat_le 500 (length o.students), no.RollFull)
+    ∷ []
 
 -- the first refusal of a plain request
 abbrev pub put_refusal : State → Put → Option Refusal

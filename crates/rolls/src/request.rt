@@ -1,5 +1,8 @@
 //! Requests, and what comes of them.
 
+ghost use Rattle.std.specs.Prelude.{◌≡◌};
+ghost use Rattle.rolls.specs.Asked.{is_read, put_of};
+
 use crate::row::Change;
 use spa::{Code, Label};
 
@@ -21,13 +24,38 @@ pub enum Plain {
         quota: u32,
     },
     /// Makes the student's entry this one.
-    PutStudent { code: String, label: String },
+    PutStudent {
+        code: String,
+        label: String,
+    },
     /// Reads a supervisor's entry.
-    GetSupervisor { code: String },
+    GetSupervisor {
+        code: String,
+    },
     /// Reads a project's entry.
-    GetProject { code: String },
+    GetProject {
+        code: String,
+    },
     /// Reads a student's entry.
-    GetStudent { code: String },
+    GetStudent {
+        code: String,
+    },
+}
+
+impl Plain {
+    /// Whether the request only reads: it changes no office.
+    pub fn is_read(&self) -> bool
+        ensures read { result ≡ is_read (put_of self.now) }
+    {
+        match self {
+            Plain::PutSupervisor { .. } | Plain::PutProject { .. } | Plain::PutStudent { .. } => {
+                false
+            }
+            Plain::GetSupervisor { .. } | Plain::GetProject { .. } | Plain::GetStudent { .. } => {
+                true
+            }
+        }
+    }
 }
 
 /// A request.
@@ -56,7 +84,9 @@ pub enum Reply {
         supervisor: Code,
     },
     /// A student: name. There are no lists or placements yet.
-    Student { name: Label },
+    Student {
+        name: Label,
+    },
 }
 
 /// What a request made: its answer, and what it changes in the tables.

@@ -19,7 +19,10 @@ pub enum Row {
         quota: u32,
     },
     /// Of the table `student`.
-    Student { code: Text, label: Text },
+    Student {
+        code: Text,
+        label: Text,
+    },
 }
 
 /// The key of a row, and its table.

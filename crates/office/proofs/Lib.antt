@@ -1,0 +1,4 @@
+pub mod FitPuts
+pub mod Puts
+pub mod Reading
+pub mod Gathered

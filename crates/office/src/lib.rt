@@ -1,0 +1,21 @@
+//! What a request means: which refusal it gets, what it makes of the office, and what changes with it
+//! in the tables.
+//!
+//! An `Office` holds the rolls in memory and knows no database and no protocol. Its value is the
+//! abstract office of `rolls`, and it is fit by construction: each code stands once, no roll is too
+//! long, and whatever an entry names is there.
+//!
+//! Promised: `refusal_of` names the first refusal that applies, and takes no memory; `apply` makes
+//! exactly the step of the request, and its changes turn the rows of the office before into those of
+//! the office after; after a refusal the office is as before; `from_rows` gives the office of the rows,
+//! and calls rows unfit only where no office has them. Begin with `office.rt`.
+#![tactic(auto)]
+
+mod draft;
+mod making;
+mod office;
+#[cfg(test)]
+mod tests;
+
+pub use draft::RowsFault;
+pub use office::Office;

@@ -1,0 +1,184 @@
+//! The office.
+
+mod judging;
+mod puts;
+mod reads;
+
+ghost use Rattle.std.specs.Prelude.{◌≡◌, IfOk, Err, []};
+ghost use Rattle.rolls.specs.State.{State, empty};
+ghost use Rattle.rolls.specs.Fit.{IsFit};
+ghost use Rattle.rolls.specs.Asked.{put_of, asked_of};
+ghost use Rattle.rolls.specs.Refusing.{put_refusal, refusal};
+ghost use Rattle.rolls.specs.Answers.{Answers};
+ghost use Rattle.rolls.specs.From.{AreRowsOf};
+
+use crate::draft::{RowsFault, gather};
+use rolls::{Done, Plain, Project, Refusal, Reply, Request, Row, Student, Supervisor, Table};
+use std::alloc::{AllocError, Global};
+use std::marker::Model;
+
+/// An office in memory.
+#[derive(Drop)]
+pub struct Office {
+    alloc: Global,
+    supervisors: Table<Supervisor>,
+    projects: Table<Project>,
+    students: Table<Student>,
+}
+
+impl Model for Office {
+    ghost use Rattle.rolls.specs.State.{State};
+    ghost use Rattle.rolls.specs.Fit.{IsFit};
+    ghost use Rattle.office.specs.View.{state_of};
+
+    ghost Value = { State };
+
+    ghost view = { state_of };
+
+    ghost invariant = { λ a. IsFit (state_of a) };
+}
+
+impl Office {
+    /// The empty office. Takes no memory.
+    pub fn new(alloc: Global) -> Self
+        ensures empty { result ≡ empty }
+    {
+        Office {
+            alloc,
+            supervisors: Table::new(alloc),
+            projects: Table::new(alloc),
+            students: Table::new(alloc),
+        }
+    }
+
+    /// The office of these rows, which may come in any order. `Unfit` where no office has them.
+    pub fn from_rows(alloc: Global, rows: Vec<Row>) -> Result<Office, RowsFault>
+        ensures rows { IfOk result (λ office. AreRowsOf rows.items office) }
+        ensures unfit { result ≡ Err RowsFault.Unfit → (o : State) → IsFit o → AreRowsOf rows.items o → ⊥ }
+    {
+        let draft = match gather(alloc, &rows) {
+            Ok(draft) => draft,
+            Err(fault) => return Err(fault),
+        };
+        if !draft.is_whole() {
+            return Err(RowsFault::Unfit);
+        }
+        Ok(Office {
+            alloc,
+            supervisors: draft.supervisors,
+            projects: draft.projects,
+            students: draft.students,
+        })
+    }
+
+    /// The same office, in memory of its own.
+    pub fn copy(&self) -> Result<Self, AllocError>
+        ensures same { IfOk result (λ copy. copy ≡ self.now) }
+    {
+        let alloc = self.alloc;
+        Ok(Office {
+            alloc,
+            supervisors: self.supervisors.duplicate(alloc)?,
+            projects: self.projects.duplicate(alloc)?,
+            students: self.students.duplicate(alloc)?,
+        })
+    }
+
+    /// The supervisors on the roll, by code.
+    pub fn supervisors(&self) -> &[Supervisor]
+        ensures all { let o = self.now in result.now ≡ o.supervisors }
+    {
+        self.supervisors.entries()
+    }
+
+    /// The projects on the roll, by code.
+    pub fn projects(&self) -> &[Project]
+        ensures all { let o = self.now in result.now ≡ o.projects }
+    {
+        self.projects.entries()
+    }
+
+    /// The students on the roll, by code.
+    pub fn students(&self) -> &[Student]
+        ensures all { let o = self.now in result.now ≡ o.students }
+    {
+        self.students.entries()
+    }
+
+    /// Every office is fit.
+    pub fn fit(&self)
+        ensures fit { IsFit self.now }
+    {
+        let _ = &self.students;
+    }
+
+    /// The first refusal that applies to a request, if any. Takes no memory.
+    pub fn refusal_of(&self, request: &Request) -> Option<Refusal>
+        ensures refusal { result ≡ refusal self.now (asked_of request.now) }
+    {
+        match request {
+            Request::Plain(plain) => self.plain_refusal(plain),
+        }
+    }
+
+    /// Makes the step of a plain request, or refuses it and stays as it was.
+    pub fn apply(&mut self, request: Plain) -> Result<Done, Refusal>
+        ensures step { Answers (put_of request) self.old self.new result }
+    {
+        match request {
+            Plain::PutSupervisor { code, label, quota } => {
+                self.put_supervisor(code.as_str(), label.as_str(), quota)
+            }
+            Plain::PutProject {
+                code,
+                label,
+                supervisor,
+                quota,
+            } => self.put_project(code.as_str(), label.as_str(), supervisor.as_str(), quota),
+            Plain::PutStudent { code, label } => self.put_student(code.as_str(), label.as_str()),
+            Plain::GetSupervisor { code } => Ok(self.answered(self.get_supervisor(code.as_str())?)),
+            Plain::GetProject { code } => Ok(self.answered(self.get_project(code.as_str())?)),
+            Plain::GetStudent { code } => Ok(self.answered(self.get_student(code.as_str())?)),
+        }
+    }
+
+    /// What a read did: it answers, and changes nothing.
+    fn answered(&self, reply: Reply) -> Done
+        ensures reply { result.reply ≡ reply }
+        ensures changes { let changes = result.changes in changes.items ≡ [] }
+    {
+        Done {
+            reply,
+            changes: Vec::new(self.alloc),
+        }
+    }
+
+    /// The first refusal of a plain request.
+    fn plain_refusal(&self, plain: &Plain) -> Option<Refusal>
+        ensures { result ≡ put_refusal self.now (put_of plain.now) }
+    {
+        match plain {
+            Plain::PutSupervisor { code, label, quota } => {
+                self.supervisor_refusal(code.as_str(), label.as_str(), *quota)
+            }
+            Plain::PutProject {
+                code,
+                label,
+                supervisor,
+                quota,
+            } => self.project_refusal(code.as_str(), label.as_str(), supervisor.as_str(), *quota),
+            Plain::PutStudent { code, label } => {
+                self.student_refusal(code.as_str(), label.as_str())
+            }
+            Plain::GetSupervisor { code } if self.supervisors.find(0, code.as_str()).is_none() =>
+                Some(Refusal::UnknownSupervisor),
+            Plain::GetProject { code } if self.projects.find(0, code.as_str()).is_none() => Some(
+                Refusal::UnknownProject,
+            ),
+            Plain::GetStudent { code } if self.students.find(0, code.as_str()).is_none() => Some(
+                Refusal::UnknownStudent,
+            ),
+            _ => None,
+        }
+    }
+}

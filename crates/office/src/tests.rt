@@ -1,0 +1,163 @@
+use crate::{Office, RowsFault};
+use rolls::{Plain, Refusal, Reply, Request, Row, Text};
+use std::rt::HostRuntime;
+use std::test::Fail;
+
+// A request that puts a supervisor, a project or a student: the supervisor of a project last.
+#[derive(Clone, Copy)]
+enum Put {
+    Supervisor(&'static str, &'static str, u32),
+    Project(&'static str, &'static str, u32, &'static str),
+    Student(&'static str, &'static str),
+}
+
+fn plain(rt: &HostRuntime, put: Put) -> Result<Plain, Fail> {
+    let text = |text: &str| String::from_str(rt.alloc(), text);
+    Ok(match put {
+        Put::Supervisor(code, label, quota) => Plain::PutSupervisor {
+            code: text(code)?,
+            label: text(label)?,
+            quota,
+        },
+        Put::Project(code, label, quota, supervisor) => Plain::PutProject {
+            code: text(code)?,
+            label: text(label)?,
+            supervisor: text(supervisor)?,
+            quota,
+        },
+        Put::Student(code, label) => Plain::PutStudent {
+            code: text(code)?,
+            label: text(label)?,
+        },
+    })
+}
+
+// Puts in turn, each with the number of its refusal, 0 for none.
+#[rattlefmt::skip]
+const PUTS: [(&str, Put, u32); 17] = [
+    ("quota above the limit",        Put::Supervisor("L", "Lee", 501), 11),
+    ("project before supervisor",    Put::Project("P", "Pumps", 1, "L"), 13),
+    ("quota at the limit",           Put::Supervisor("L", "Lee", 500), 0),
+    ("no code",                      Put::Supervisor("-A", "Lee", 5), 9),
+    ("empty label",                  Put::Supervisor("L", "", 5), 10),
+    ("label before quota",           Put::Supervisor("L", "", 501), 10),
+    ("unknown supervisor",           Put::Project("P", "Pumps", 1, "K"), 13),
+    ("project",                      Put::Project("P", "Pumps", 1, "L"), 0),
+    ("known project, unknown other", Put::Project("P", "Pumps", 1, "K"), 13),
+    ("another supervisor",           Put::Supervisor("K", "Kim", 0), 0),
+    ("known project, known other",   Put::Project("P", "Pumps", 1, "K"), 16),
+    ("supervisor that is no code",   Put::Project("P", "", 501, "k"), 9),
+    ("project with an empty label",  Put::Project("Q", "", 501, "K"), 10),
+    ("project above the limit",      Put::Project("Q", "Quarks", 501, "N"), 11),
+    ("project again",                Put::Project("P", "Pipes", 0, "L"), 0),
+    ("student",                      Put::Student("S1", "Ann"), 0),
+    ("student without a name",       Put::Student("S2", ""), 10),
+];
+
+#[test]
+fn puts_are_refused_in_their_order(rt: HostRuntime) -> Result<(), Fail> {
+    let mut office = Office::new(rt.alloc());
+    for (name, put, number) in PUTS {
+        let named = match office.refusal_of(&Request::Plain(plain(&rt, put)?)) {
+            Some(refusal) => refusal.number(),
+            None => 0,
+        };
+        assert_eq!(rt; named, number, "{name}");
+        let answered = match office.apply(plain(&rt, put)?) {
+            Ok(_) => 0,
+            Err(refusal) => refusal.number(),
+        };
+        assert_eq!(rt; answered, number, "{name}");
+    }
+    assert_eq!(rt; office.supervisors().len(), 2);
+    assert_eq!(rt; office.students().len(), 1);
+    assert_eq!(rt; office.projects().len(), 1);
+    assert_eq!(rt; office.projects()[0].label.as_str(), "Pipes");
+    Ok(())
+}
+
+#[test]
+fn entries_are_read_as_they_were_put(rt: HostRuntime) -> Result<(), Fail> {
+    let mut office = Office::new(rt.alloc());
+    for (_, put, _) in PUTS {
+        let _ = office.apply(plain(&rt, put)?);
+    }
+    let mut copy = office.copy()?;
+    let code = String::from_str(rt.alloc(), "P")?;
+    match copy.apply(Plain::GetProject { code }) {
+        Ok(done) => {
+            assert!(rt; done.changes.is_empty());
+            match done.reply {
+                Reply::Project {
+                    name,
+                    placed,
+                    quota,
+                    supervisor,
+                } => {
+                    assert_eq!(rt; name.as_str(), "Pipes");
+                    assert_eq!(rt; supervisor.as_str(), "L");
+                    assert!(rt; placed == 0 && quota == 0);
+                }
+                _ => assert!(rt; false, "another reply"),
+            }
+        }
+        Err(refusal) => assert!(rt; false, "refused {}", refusal.number()),
+    }
+    let code = String::from_str(rt.alloc(), "S9")?;
+    match copy.apply(Plain::GetStudent { code }) {
+        Ok(_) => assert!(rt; false, "S9 is not on the roll"),
+        Err(refusal) => assert!(rt; refusal == Refusal::UnknownStudent),
+    }
+    Ok(())
+}
+
+fn row(rt: &HostRuntime, put: Put) -> Result<Row, Fail> {
+    let text = |text: &str| Text::of(rt.alloc(), text);
+    Ok(match put {
+        Put::Supervisor(code, label, quota) => Row::Supervisor {
+            code: text(code)?,
+            label: text(label)?,
+            quota,
+        },
+        Put::Project(code, label, quota, supervisor) => Row::Project {
+            code: text(code)?,
+            label: text(label)?,
+            supervisor: text(supervisor)?,
+            quota,
+        },
+        Put::Student(code, label) => Row::Student {
+            code: text(code)?,
+            label: text(label)?,
+        },
+    })
+}
+
+// Three rows each, and whether some office has them.
+#[rattlefmt::skip]
+const ROWS: [(&str, [Put; 3], bool); 6] = [
+    ("in any order",      [Put::Project("P", "Pumps", 1, "L"), Put::Student("S1", "Ann"), Put::Supervisor("L", "Lee", 5)], true),
+    ("no supervisor",     [Put::Project("P", "Pumps", 1, "K"), Put::Student("S1", "Ann"), Put::Supervisor("L", "Lee", 5)], false),
+    ("a quota of 501",    [Put::Project("P", "Pumps", 501, "L"), Put::Student("S1", "Ann"), Put::Supervisor("L", "Lee", 5)], false),
+    ("an empty label",    [Put::Student("S2", ""), Put::Student("S1", "Ann"), Put::Supervisor("L", "Lee", 5)], false),
+    ("the code -A",       [Put::Student("-A", "Al"), Put::Student("S1", "Ann"), Put::Supervisor("L", "Lee", 5)], false),
+    ("one student twice", [Put::Student("S1", "Ann"), Put::Student("S1", "Ann"), Put::Supervisor("L", "Lee", 5)], false),
+];
+
+#[test]
+fn rows_make_an_office_where_one_has_them(rt: HostRuntime) -> Result<(), Fail> {
+    for (name, puts, want) in ROWS {
+        let mut rows = Vec::new(rt.alloc());
+        for put in puts {
+            rows.push(row(&rt, put)?)?;
+        }
+        match Office::from_rows(rt.alloc(), rows) {
+            Ok(office) => {
+                assert!(rt; want, "{name}");
+                assert_eq!(rt; office.projects().len(), 1, "{name}");
+                assert_eq!(rt; office.students().len(), 1, "{name}");
+            }
+            Err(fault) => assert!(rt; !want && fault == RowsFault::Unfit, "{name}"),
+        }
+    }
+    Ok(())
+}
