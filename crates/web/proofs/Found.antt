@@ -47,7 +47,7 @@ nothing_else {K} zero (b ∷ path) =
     neither (seek 0 [] path) (seek ((both (cond (b == slash) true (has_slash path))).0 - 1) (both (cond (b == slash) true (has_slash path))).1 path)
     (nothing_else 0 path)
     (elim (cond (b == slash) true (has_slash path)) as (λ v. seek {K = K} ((both v).0 - 1) (both v).1 path ≡ None)
-      [ true ↦ nothing_else (0 - 1) path | false ↦ nothing_else (suc (length path) - 1) path ])
+    [ true ↦ nothing_else (0 - 1) path | false ↦ nothing_else (suc (length path) - 1) path ])
 
 -- a row that has ended finds its route at the end of the path alone
 ended : {K : Type 0} (k : K) (path : List ℕ) → (seek 0 (([], k) ∷ []) path ≡ None) ⊎ (seek 0 (([], k) ∷ []) path ≡ Some k)
@@ -58,7 +58,7 @@ ended {K} k (b ∷ path) =
     inl (neither (seek 0 [] path) (seek ((both (cond (b == slash) true (has_slash path))).0 - 1) (both (cond (b == slash) true (has_slash path))).1 path)
     (nothing_else 0 path)
     (elim (cond (b == slash) true (has_slash path)) as (λ v. seek {K = K} ((both v).0 - 1) (both v).1 path ≡ None)
-      [ true ↦ nothing_else (0 - 1) path | false ↦ nothing_else (suc (length path) - 1) path ]))
+    [ true ↦ nothing_else (0 - 1) path | false ↦ nothing_else (suc (length path) - 1) path ]))
 
 -- the literal branch beside a parameter finds nothing, or the parameter's own route
 beside : {K : Type 0} (v : Bool) (k : K) (path : List ℕ) → (seek 0 (cond v (([], k) ∷ []) []) path ≡ None) ⊎ (seek 0 (cond v (([], k) ∷ []) []) path ≡ Some k)

@@ -20,14 +20,20 @@ module _ {D S : Type 0} (see : D → S) (step : S → Said → List ℕ → S �
   run_seen before after (m ∷ messages) (a ∷ answers) r = (see r.0, r.1, run_seen r.0 after messages answers r.2)
 
   pub serves_seen : (before after : D) (left w0 w : Option (List ℕ)) (served : Served) → ServedTo seen before left w0 w served after → ServedTo step (see before) left w0 w served (see after)
-  serves_seen before after left w0 w served s = (s.0, s.1, s.2, s.3, record {
-    messages = s.4.messages;
-    of_stream = s.4.of_stream;
-    answers = s.4.answers;
-    ran = run_seen before after s.4.messages s.4.answers s.4.ran;
-    written = s.4.written;
-    counted = s.4.counted;
-  })
+  serves_seen before after left w0 w served s = (
+    s.0,
+    s.1,
+    s.2,
+    s.3,
+    record {
+      messages = s.4.messages;
+      of_stream = s.4.of_stream;
+      answers = s.4.answers;
+      ran = run_seen before after s.4.messages s.4.answers s.4.ran;
+      written = s.4.written;
+      counted = s.4.counted;
+    },
+  )
 
   pub broke_seen : (before now : D) (left0 w0 left w : Option (List ℕ)) (fault : StreamFault) → BrokeOff seen before left0 w0 left w now fault → BrokeOff step (see before) left0 w0 left w (see now) fault
   broke_seen before now left0 w0 left w fault b = record {
@@ -70,6 +76,7 @@ nothing_broken step before left w = record {
     consumes_none : (a : Option (List ℕ)) → Consumes a a []
     consumes_none None = tt
     consumes_none (Some u) = refl
+
     appends_none : (a : Option (List ℕ)) → Appends a a []
     appends_none None = tt
     appends_none (Some u) = sym (append-nil u)

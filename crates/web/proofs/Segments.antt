@@ -82,10 +82,12 @@ kind_of-word word kind e = first (bytes_eq word (codes "supervisors")) refl e
     third : (t : Bool) → bytes_eq word (codes "students") ≡ t → (if t then Some Student else None) ≡ Some kind → word ≡ word_of kind
     third true at f = same_bytes word (codes "students") at ∙ ap word_of (let g : Some Student ≡ Some kind = f in let k : Student ≡ kind = cc in k)
     third false at f = absurd (let g : None ≡ Some kind = f in cc)
+
     second : (t : Bool) → bytes_eq word (codes "projects") ≡ t
         → (if t then Some Project else if bytes_eq word (codes "students") then Some Student else None) ≡ Some kind → word ≡ word_of kind
     second true at f = same_bytes word (codes "projects") at ∙ ap word_of (let g : Some Project ≡ Some kind = f in let k : Project ≡ kind = cc in k)
     second false at f = third (bytes_eq word (codes "students")) refl f
+
     first : (t : Bool) → bytes_eq word (codes "supervisors") ≡ t
         → (if t then Some Supervisor else if bytes_eq word (codes "projects") then Some Project else if bytes_eq word (codes "students") then Some Student else None) ≡ Some kind
         → word ≡ word_of kind

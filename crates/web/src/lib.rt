@@ -14,4 +14,8 @@ mod members;
 mod requests;
 mod routes;
 mod serving;
+#[cfg(test)]
+mod tests;
 mod texts;
+
+pub use wire::{End, Served, Sink, Source, StreamFault, Watched};

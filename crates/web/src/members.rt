@@ -77,13 +77,7 @@ fn quota_at_most(number: Option<u64>) -> u32
 {
     match number {
         None => 9999,
-        Some(n) => {
-            if n < 10000 {
-                n as u32
-            } else {
-                9999
-            }
-        }
+        Some(n) => { if n < 10000 { n as u32 } else { 9999 } }
     }
 }
 

@@ -159,11 +159,20 @@ fn reply_answer(alloc: Global, reply: Reply) -> Result<Answer, AllocError>
 {
     match reply {
         Reply::Done => Ok(Answer::Short(done_answer())),
-        Reply::Supervisor { name, placed, quota } => {
+        Reply::Supervisor {
+            name,
+            placed,
+            quota,
+        } => {
             let body = supervisor_text(alloc, name.as_str(), placed, quota)?;
             Ok(Answer::Long(with_head(alloc, body.as_str())?))
         }
-        Reply::Project { name, placed, quota, supervisor } => {
+        Reply::Project {
+            name,
+            placed,
+            quota,
+            supervisor,
+        } => {
             let body = project_text(alloc, name.as_str(), placed, quota, supervisor.as_str())?;
             Ok(Answer::Long(with_head(alloc, body.as_str())?))
         }

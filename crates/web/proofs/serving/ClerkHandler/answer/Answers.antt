@@ -1,4 +1,4 @@
-use Rattle.web.proofs.Stepping.{refused_here, answered_here}
+use Rattle.web.proofs.Stepping.{refused_here}
 use Rattle.web.proofs.serving.ClerkHandler.answer.Goals as goal
 
 pub returns-in-Err-clause-step : goal.returns-in-Err-clause-step
