@@ -1,5 +1,6 @@
 use crate::{Office, RowsFault};
-use rolls::{Plain, Refusal, Reply, Request, Row, Text};
+use rolls::{Done, Plain, Refusal, Reply, Request, Row, Text};
+use std::process::Abort;
 use std::rt::HostRuntime;
 use std::test::Fail;
 
@@ -30,6 +31,14 @@ fn plain(rt: &HostRuntime, put: Put) -> Result<Plain, Fail> {
             label: text(label)?,
         },
     })
+}
+
+// The number of the refusal that the put gets, 0 for none.
+fn put_in(rt: &HostRuntime, office: &mut Office, put: Put) -> Result<u32, Fail> {
+    match office.apply(plain(rt, put)?) {
+        Ok(_done) => Ok(0),
+        Err(refusal) => Ok(refusal.number()),
+    }
 }
 
 // Puts in turn, each with the number of its refusal, 0 for none.
@@ -63,10 +72,7 @@ fn puts_are_refused_in_their_order(rt: HostRuntime) -> Result<(), Fail> {
             None => 0,
         };
         assert_eq!(rt; named, number, "{name}");
-        let answered = match office.apply(plain(&rt, put)?) {
-            Ok(_) => 0,
-            Err(refusal) => refusal.number(),
-        };
+        let answered = put_in(&rt, &mut office, put)?;
         assert_eq!(rt; answered, number, "{name}");
     }
     assert_eq!(rt; office.supervisors().len(), 2);
@@ -76,36 +82,40 @@ fn puts_are_refused_in_their_order(rt: HostRuntime) -> Result<(), Fail> {
     Ok(())
 }
 
+// The answer to reading P is the project as it was put last, and changes nothing.
+fn are_pipes(rt: &impl Abort, done: &Done) {
+    assert!(rt; done.changes.is_empty());
+    match &done.reply {
+        Reply::Project {
+            name,
+            placed,
+            quota,
+            supervisor,
+        } => {
+            assert_eq!(rt; name.as_str(), "Pipes");
+            assert_eq!(rt; supervisor.as_str(), "L");
+            assert!(rt; *placed == 0 && *quota == 0);
+        }
+        _ => assert!(rt; false, "a project was asked for"),
+    }
+}
+
 #[test]
 fn entries_are_read_as_they_were_put(rt: HostRuntime) -> Result<(), Fail> {
     let mut office = Office::new(rt.alloc());
-    for (_, put, _) in PUTS {
-        let _ = office.apply(plain(&rt, put)?);
+    for (name, put, number) in PUTS {
+        let answered = put_in(&rt, &mut office, put)?;
+        assert_eq!(rt; answered, number, "{name}");
     }
     let mut copy = office.copy()?;
     let code = String::from_str(rt.alloc(), "P")?;
     match copy.apply(Plain::GetProject { code }) {
-        Ok(done) => {
-            assert!(rt; done.changes.is_empty());
-            match done.reply {
-                Reply::Project {
-                    name,
-                    placed,
-                    quota,
-                    supervisor,
-                } => {
-                    assert_eq!(rt; name.as_str(), "Pipes");
-                    assert_eq!(rt; supervisor.as_str(), "L");
-                    assert!(rt; placed == 0 && quota == 0);
-                }
-                _ => assert!(rt; false, "another reply"),
-            }
-        }
+        Ok(done) => are_pipes(&rt, &done),
         Err(refusal) => assert!(rt; false, "refused {}", refusal.number()),
     }
     let code = String::from_str(rt.alloc(), "S9")?;
     match copy.apply(Plain::GetStudent { code }) {
-        Ok(_) => assert!(rt; false, "S9 is not on the roll"),
+        Ok(_done) => assert!(rt; false, "S9 is not on the roll"),
         Err(refusal) => assert!(rt; refusal == Refusal::UnknownStudent),
     }
     Ok(())
