@@ -34,6 +34,7 @@ second : {K : Type 0} (o p : Option K) (k : K) → (o ≡ None ⊎ o ≡ Some k)
 second o p k (inl e) f = ap (λ v. or_else v (or_else p None)) e ∙ ap (λ v. or_else v None) f
 second o p k (inr e) f = ap (λ v. or_else v (or_else p None)) e
 
+-- no answer where both are none
 neither : {K : Type 0} (o p : Option K) → o ≡ None → p ≡ None → or_else o (or_else p None) ≡ None
 neither o p e f = ap (λ v. or_else v (or_else p None)) e ∙ ap (λ v. or_else v None) f
 

@@ -37,6 +37,7 @@ AllPlain : List (List ℕ) → Type 0
 AllPlain [] = Unit {0}
 AllPlain (s ∷ ss) = (has_slash s ≡ false) × AllPlain ss
 
+-- a byte more in the first segment
 tail_of-onto : (b : ℕ) (path : List ℕ) (ss : List (List ℕ)) → 47 ∷ path ≡ tail_of ss → 47 ∷ b ∷ path ≡ tail_of (onto_first b ss)
 unfolding tail_of
 tail_of-onto b path [] e = cc
@@ -52,11 +53,13 @@ whole (b ∷ path) = by (b == 47) refl (whole path)
     by true e h = let f : b ≡ 47 = eqb-true b 47 e in cc
     by false e h = tail_of-onto b path (segments path) h
 
+-- another byte than a slash in the first segment
 plain_onto : (b : ℕ) (ss : List (List ℕ)) → (b == 47) ≡ false → AllPlain ss → AllPlain (onto_first b ss)
 unfolding AllPlain
 plain_onto b [] e h = (ap (λ t. cond t true false) e, tt)
 plain_onto b (s ∷ ss) e h = (ap (λ t. cond t true (has_slash s)) e ∙ h.0, h.1)
 
+-- no segment has a slash
 segments_are_plain : (path : List ℕ) → AllPlain (segments path)
 unfolding AllPlain
 segments_are_plain [] = (refl, tt)
@@ -66,6 +69,7 @@ segments_are_plain (b ∷ path) = by (b == 47) refl (segments_are_plain path)
     by true e h = (refl, h)
     by false e h = plain_onto b (segments path) e h
 
+-- texts that are compared as equal are equal
 same_bytes : (xs ys : List ℕ) → bytes_eq xs ys ≡ true → xs ≡ ys
 same_bytes xs ys e = (bytes_eq-Decides xs ys).0 e
 
@@ -75,6 +79,7 @@ word_of Supervisor = codes "supervisors"
 word_of Project = codes "projects"
 word_of Student = codes "students"
 
+-- a kind is named by its word alone
 kind_of-word : (word : List ℕ) (kind : Kind) → kind_of word ≡ Some kind → word ≡ word_of kind
 unfolding word_of
 kind_of-word word kind e = first (bytes_eq word (codes "supervisors")) refl e
@@ -94,6 +99,7 @@ kind_of-word word kind e = first (bytes_eq word (codes "supervisors")) refl e
     first true at f = same_bytes word (codes "supervisors") at ∙ ap word_of (let g : Some Supervisor ≡ Some kind = f in let k : Supervisor ≡ kind = cc in k)
     first false at f = second (bytes_eq word (codes "projects")) refl f
 
+-- the front of a kind is its word between slashes
 front_of-word : (kind : Kind) (code : List ℕ) → 47 ∷ word_of kind ++ 47 ∷ code ≡ front_of kind ++ code
 unfolding word_of
 front_of-word Supervisor code = refl
@@ -106,16 +112,20 @@ pub record IsPathOf (path : List ℕ) (kind : Kind) (code : List ℕ) : Type 0 w
   pub some : is_empty code ≡ false
   pub plain : has_slash code ≡ false
 
+-- a path of two segments after a slash
 joined : (path b c code : List ℕ) (kind : Kind) → 47 ∷ path ≡ (47 ∷ []) ++ ((47 ∷ b) ++ ((47 ∷ c) ++ [])) → b ≡ word_of kind → c ≡ code
     → path ≡ (47 ∷ word_of kind) ++ (47 ∷ code)
 joined path b c code kind w e f = let g = append-nil (47 ∷ c) in cc
 
+-- two values that are there are equal
 some_same : (A : Type 0) (a b : A) → Some a ≡ Some b → a ≡ b
 some_same A a b e = cc
 
+-- no value is not a value
 none_is_some : {A : Type 0} (a : A) → None ≡ Some a → ⊥
 none_is_some a e = absurd (let f : None ≡ Some a = e in cc)
 
+-- what these segments name stands in their path behind its front
 named : (path : List ℕ) (ss : List (List ℕ)) (kind : Kind) (code : List ℕ) → 47 ∷ path ≡ tail_of ss → AllPlain ss → place_at ss ≡ Some (kind, code) → IsPathOf path kind code
 unfolding tail_of AllPlain
 named path [] kind code w p e = absurd (none_is_some (kind, code) e)

@@ -16,6 +16,7 @@ abbrev pub segments : List ℕ → List (List ℕ)
 segments [] = [] ∷ []
 segments (b ∷ path) = if b == 47 then [] ∷ segments path else onto_first b (segments path)
 
+-- a text without a byte
 abbrev pub is_empty : List ℕ → Bool
 is_empty [] = true
 is_empty (b ∷ text) = false

@@ -10,6 +10,7 @@
 //! `specs/Texts.antt` (what is answered) and `specs/Serving.antt` (both together); begin there.
 #![tactic(auto)]
 
+mod laws;
 mod members;
 mod requests;
 mod routes;
@@ -18,4 +19,5 @@ mod serving;
 mod tests;
 mod texts;
 
+pub use laws::ends_are_refusals;
 pub use wire::{End, Served, Sink, Source, StreamFault, Watched};

@@ -79,6 +79,8 @@ impl Write for Narrow {
 struct Outcome {
     written: Vec<u8>,
     result: Result<Served, StreamFault>,
+    failed_reads: u64,
+    failed_writes: u64,
 }
 
 /// Serves what the reader gives, to a writer with so much room.
@@ -93,10 +95,14 @@ fn served_by(
     let mut reader = Watched::new(reader);
     let mut writer = Watched::new(Narrow { taken, room, fails });
     let result = serve_at(alloc, desk, &mut reader, &mut writer);
+    let failed_reads = reader.failures();
+    let failed_writes = writer.failures();
     let Narrow { taken, .. } = writer.into_inner();
     Outcome {
         written: taken,
         result,
+        failed_reads,
+        failed_writes,
     }
 }
 
@@ -194,6 +200,7 @@ fn faults(rt: HostRuntime) -> Result<(), Fail> {
     };
     let read = served_by(rt.alloc(), &mut desk, reader, 100_000, false);
     assert_eq!(rt; read.result, Err(StreamFault::Read));
+    assert!(rt; read.failed_reads == 1 && read.failed_writes == 0);
     assert_eq!(rt; read.written.as_slice(), DONE.as_bytes());
     assert_eq!(rt; desk.students().len(), 1);
     for (room, fails, students) in [(100, true, 2), (0, false, 1)] {
@@ -205,6 +212,7 @@ fn faults(rt: HostRuntime) -> Result<(), Fail> {
         };
         let write = served_by(rt.alloc(), &mut desk, reader, room, fails);
         assert_eq!(rt; write.result, Err(StreamFault::Write), "{room}");
+        assert!(rt; write.failed_reads == 0 && write.failed_writes == 1, "{room}");
         assert_eq!(rt; write.written.len(), room, "{room}");
         assert_eq!(rt; desk.students().len(), students, "{room}");
         let next = served(rt.alloc(), &mut desk, PUT_ANN, 200);

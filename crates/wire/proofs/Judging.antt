@@ -38,6 +38,7 @@ part_of_front w z s o e =
     let inside : s.end - s.start ≤ length (drop s.start w) = omega (arith, l) in
     ap (take (s.end - s.start)) (drop-append-le s.start w z front) ∙ take-append-le (s.end - s.start) (drop s.start w) z inside
 
+-- a part of the window is that part of the buffer
 pub part_of_window : (n : ℕ) (buf : List ℕ) (s : Span) → s.start ≤ s.end → s.end ≤ length (take n buf) → span_bytes buf s ≡ span_bytes (take n buf) s
 part_of_window n buf s o e =
     ap (λ (t : List ℕ). span_bytes t s) (sym (take-append-drop n buf)) ∙ part_of_front (take n buf) (drop n buf) s o e
@@ -48,17 +49,20 @@ cut_after p y n =
     let d : length p + n - length p ≡ n = omega arith in
     simp (drop-append_seam, drop-append-add, d, append_assoc, take-append-drop)
 
+-- a buffer that begins with a front, cut at n after it
 pub cut_at : (buf p y : List ℕ) (k n : ℕ) → buf ≡ p ++ y → k ≡ length p → buf ≡ p ++ slice_range buf k (k + n) ++ drop (k + n) buf
 cut_at buf p y k n e l =
     subst (λ (b : List ℕ). b ≡ p ++ slice_range b k (k + n) ++ drop (k + n) b) (sym e)
     (subst (λ (j : ℕ). p ++ y ≡ p ++ slice_range (p ++ y) j (j + n) ++ drop (j + n) (p ++ y)) (sym l) (cut_after p y n))
 
+-- a part has the length that was asked for
 length_of_part : (buf : List ℕ) (k n : ℕ) → k + n ≤ length buf → length (slice_range buf k (k + n)) ≡ n
 length_of_part buf k n fits =
     let l = length-take (k + n - k) (drop k buf) in
     let m = length-drop k buf in
     omega (arith, l, m)
 
+-- what stands at the front of a window stands at the front of the buffer
 pub whole_front : (n : ℕ) (buf p r : List ℕ) → take n buf ≡ p ++ r → buf ≡ p ++ (r ++ drop n buf)
 whole_front n buf p r e = sym (take-append-drop n buf) ∙ ap (λ (t : List ℕ). t ++ drop n buf) e ∙ append_assoc p r (drop n buf)
 
@@ -102,6 +106,7 @@ cut_message buf headers spans h n at within e small cut =
 pub open_message : (buf : List ℕ) → HasNoRequest (window buf) → (IsMalformed (window buf) → ⊥) → length buf < 8192 → Judges buf Open
 open_message buf none fine short = (omega arith, λ some. inr (record { headless = none; well_formed = fine }, short, some))
 
+-- a window is full, and has no head
 pub long_message : (buf : List ℕ) → HasNoRequest (window buf) → (IsMalformed (window buf) → ⊥) → 8192 ≤ length buf → Judges buf (Stop TooLarge)
 long_message buf none fine long more =
     let same = take-append-le 8192 buf more long in
@@ -113,5 +118,6 @@ long_message buf none fine long more =
       simp length-append (omega arith),
     )
 
+-- a line has come, and no head can
 pub malformed_message : (buf : List ℕ) → has_line false (window buf) ≡ true → NeverHasRequest (window buf) → Judges buf (Stop BadHead)
 malformed_message buf line never more = inr (malformed_stays buf more line never)

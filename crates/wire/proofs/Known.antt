@@ -5,12 +5,14 @@ use Rattle.std.proofs.lemmas.List.{take_all, length-drop}
 use Rattle.std.specs.Io.KnownBytes.{Appends, Consumes}
 use Rattle.wire.specs.Run.{Tells, unread}
 
+-- two writes are one
 pub appends_compose : (a b c : Option (List ℕ)) (x y : List ℕ) → Appends a b x → Appends b c y → Appends a c (x ++ y)
 appends_compose None b c x y p q = tt
 appends_compose (Some u) None c x y p q = absurd p
 appends_compose (Some u) (Some v) None x y p q = absurd q
 appends_compose (Some u) (Some v) (Some w) x y p q = q ∙ ap (λ (t : List ℕ). t ++ y) p ∙ append_assoc u x y
 
+-- a part is written after the parts before it
 pub appends_part : (a b c : Option (List ℕ)) (bytes : List ℕ) (at n : ℕ) → Appends a b (take at bytes)
     → Appends b c (take n (take (length bytes - at) (drop at bytes))) → Appends a c (take (at + n) bytes)
 appends_part a b c bytes at n p q =
@@ -18,16 +20,19 @@ appends_part a b c bytes at n p q =
     subst (Appends a c) (sym (take-add at n bytes))
     (appends_compose a b c (take at bytes) (take n (drop at bytes)) p (subst (λ (t : List ℕ). Appends b c (take n t)) whole q))
 
+-- nothing was written
 pub appends_none : (a : Option (List ℕ)) → Appends a a []
 appends_none None = tt
 appends_none (Some u) = sym (append-nil u)
 
+-- two reads are one
 pub consumes_compose : (a b c : Option (List ℕ)) (x y : List ℕ) → Consumes a b x → Consumes b c y → Consumes a c (x ++ y)
 consumes_compose None b c x y p q = tt
 consumes_compose (Some u) None c x y p q = absurd p
 consumes_compose (Some u) (Some v) None x y p q = absurd q
 consumes_compose (Some u) (Some v) (Some w) x y p q = p ∙ ap (λ (t : List ℕ). x ++ t) q ∙ sym (append_assoc x y w)
 
+-- nothing was read
 pub consumes_none : (a : Option (List ℕ)) → Consumes a a []
 consumes_none None = tt
 consumes_none (Some u) = refl

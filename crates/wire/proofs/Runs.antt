@@ -13,11 +13,13 @@ use Rattle.wire.specs.Served.{SoFar, ServedTo}
 use Rattle.wire.specs.Taken.{Grows}
 use Rattle.wire.proofs.Known.{appends_compose, appends_none, consumes_compose, consumes_none, tells_whole}
 
+-- one more message is split off
 pub splits_more : (bytes : List ℕ) (ms : List Message) (rest after : List ℕ) (m : Message) → Splits bytes ms rest → Begins rest m after
     → Splits bytes (ms ++ m ∷ []) after
 splits_more bytes [] rest after m s b = (after, subst (λ (t : List ℕ). Begins t m after) (sym s) b, refl)
 splits_more bytes (k ∷ ms) rest after m s b = (s.0, s.1, splits_more s.0 ms rest after m s.2 b)
 
+-- a run goes on by one step
 pub run_more : {S : Type 0} (step : S → Said → List ℕ → S → Type 0) (s u t : S) (ms : List Message) (ks : List (List ℕ)) (m : Message) (a : List ℕ)
     → Run step s ms ks u → step u (said m) a t → Run step s (ms ++ m ∷ []) (ks ++ a ∷ []) t
 run_more step s u t [] [] m a r x = (t, subst (λ v. step v (said m) a t) (sym r) x, refl)
@@ -25,10 +27,12 @@ run_more step s u t [] (b ∷ ks) m a r x = absurd r
 run_more step s u t (k ∷ ms) [] m a r x = absurd r
 run_more step s u t (k ∷ ms) (b ∷ ks) m a r x = (r.0, r.1, run_more step r.0 u t ms ks m a r.2 x)
 
+-- one more text at the end
 pub concat_more : (xs : List (List ℕ)) (a : List ℕ) → concat (xs ++ a ∷ []) ≡ concat xs ++ a
 concat_more [] a = append-nil a
 concat_more (x ∷ xs) a = ap (λ (t : List ℕ). x ++ t) (concat_more xs a) ∙ sym (append_assoc x (concat xs) a)
 
+-- what stands at the parts is what the message says
 pub said_same : (buffer : List ℕ) (p : Parts) (m : Message) → IsPartsOf buffer p m → said_at buffer p ≡ said m
 said_same buffer p m h = λ i. record { method = h.method i; target = h.target i; body = h.body i }
 
@@ -89,6 +93,7 @@ answers_on step before now after left0 w0 left w w' rest count p a so judged x w
   wrote = subst (Appends w0 w') (sym (concat_more so.answers a)) (appends_compose w0 w w' (concat so.answers) a so.wrote wrote);
 }
 
+-- an end that comes before the hundredth message
 ends_at : (count : ℕ) (rest : List ℕ) (end : End) → count < 100 → Stops rest end → EndsAt count rest end
 ends_at count rest Closed few stops = (few, stops)
 ends_at count rest Unfinished few stops = (few, stops)

@@ -17,6 +17,7 @@ use Rattle.wire.specs.Taken.{Grows}
 use Rattle.wire.proofs.Known.{appends_compose, appends_none, consumes_none}
 use Rattle.wire.proofs.Runs.{reads_on, answers_on, concat_more, splits_more, run_more, said_same, ends_here}
 
+-- the reader failed before a whole message had come
 pub breaks_reading : {S : Type 0} (step : S → Said → List ℕ → S → Type 0) (left w left' : Option (List ℕ)) (rest rest' : List ℕ) (now : S) (fault : StreamFault)
     → Grows rest rest' left left' → Judges rest' Open → fault ≡ Read → BreaksOff step left w rest now left' w now fault
 breaks_reading step left w left' rest rest' now fault grows still e before left0 w0 count so below =
@@ -32,9 +33,11 @@ breaks_reading step left w left' rest rest' now fault grows still e before left0
       wrote = subst (λ (f : StreamFault). WroteUntil f (concat now_so.answers) rest' left' w0 w) (sym e) (now_so.wrote, still.1);
     }
 
+-- a part of the last text is a part of all of them
 part_of_all : (xs a : List ℕ) (n : ℕ) → xs ++ take n a ≡ take (length xs + n) ((xs ++ a) ++ [])
 part_of_all xs a n = sym (ap (take (length xs + n)) (append-nil (xs ++ a)) ∙ take-append-add xs a n)
 
+-- the writer failed within an answer
 pub breaks_writing : {S : Type 0} (step : S → Said → List ℕ → S → Type 0) (left w left' w' : Option (List ℕ)) (rest rest' : List ℕ) (now after : S) (fault : StreamFault)
     (p : Parts) (a : List ℕ) (n : ℕ)
     → Grows rest rest' left left' → Judges rest' (Whole p) → step now (said_at rest' p) a after → Appends w w' (take n a) → fault ≡ Write
@@ -61,6 +64,7 @@ breaks_writing step left w left' w' rest rest' now after fault p a n grows judge
       wrote = subst (λ (f : StreamFault). WroteUntil f (concat (all ++ a ∷ [])) after_p left' w0 w') (sym e) ([], inl refl, k, w_so);
     }
 
+-- a message was answered, and taken away
 pub message_goes_on : {S : Type 0} (step : S → Said → List ℕ → S → Type 0) (left w left' w' : Option (List ℕ)) (rest rest' rest'' : List ℕ) (now after : S) (p : Parts) (a : List ℕ)
     → Grows rest rest' left left' → Judges rest' (Whole p) → step now (said_at rest' p) a after → Appends w w' a → rest'' ≡ drop (p.head + p.body) rest'
     → GoesOn step left w rest now left' w' rest'' after 1
@@ -68,6 +72,7 @@ message_goes_on step left w left' w' rest rest' rest'' now after p a grows judge
     subst (λ (t : List ℕ). SoFar step before left0 w0 left' w' t (count + 1) after) (sym e)
     (answers_on step before now after left0 w0 left' w w' rest' count p a (reads_on step before now left0 w0 left left' w rest rest' count so grows) judged x wrote)
 
+-- the end has come, and all before it stands
 pub end_goes_on : {S : Type 0} (step : S → Said → List ℕ → S → Type 0) (left w left' : Option (List ℕ)) (rest rest' : List ℕ) (now : S)
     → Grows rest rest' left left' → GoesOn step left w rest now left' w rest' now 0
 end_goes_on step left w left' rest rest' now grows before left0 w0 count so =

@@ -57,6 +57,7 @@ framing_of minor fields =
     else if list_any (is_named (codes "transfer-encoding")) fields then Wrong
     else framing_by (lengths fields)
 
+-- what a head says of its body
 abbrev pub framing : RequestHead → Framing
 framing h = framing_of h.minor (map name_and_value h.fields)
 

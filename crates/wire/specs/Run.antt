@@ -15,6 +15,7 @@ pub record Said : Type 0 where
   pub target : List ℕ
   pub body : List ℕ
 
+-- what a message says
 abbrev pub said : Message → Said
 said m = record { method = m.head.method; target = m.head.target; body = m.body }
 

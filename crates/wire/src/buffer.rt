@@ -46,10 +46,12 @@ fn refill<R: Source>(reader: &mut R, buffer: &mut Vec<u8>) -> Result<usize, Stre
     requires failures { R.failures reader.old < 2 ^ 64 - 1 }
     requires capacity { MOST ≤ vec_capacity buffer.old }
     requires room { vec_len buffer.old < MOST }
-    ensures grows { OnOk result (Grows buffer.old.items buffer.new.items (R.left reader.old) (R.left reader.new)) }
+    ensures grows { OnOk result
+        (Grows buffer.old.items buffer.new.items (R.left reader.old) (R.left reader.new)) }
     ensures end { IfOk result (λ n. AtEndIfNone n buffer.old.items buffer.new.items (R.left reader.new)) }
     ensures same { OnErr result (buffer.new.items ≡ buffer.old.items) }
-    ensures kept { OnErr result (Grows buffer.old.items buffer.new.items (R.left reader.old) (R.left reader.new)) }
+    ensures kept { OnErr result
+        (Grows buffer.old.items buffer.new.items (R.left reader.old) (R.left reader.new)) }
     ensures room { vec_len buffer.new ≤ MOST }
     ensures capacity { MOST ≤ vec_capacity buffer.new }
     ensures fault { IfErr result (λ e. e ≡ StreamFault.Read) }

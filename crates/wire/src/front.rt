@@ -11,7 +11,7 @@ use httparse::{Error, Status};
 /// The bytes in which a head stands.
 const WINDOW: usize = 8192;
 
-/// The fields for which the parser has room: more than stand in so many bytes, so that it judges whole heads alone.
+/// The fields for which the parser has room: more than stand in so many bytes, so whole heads are judged.
 pub const FIELDS: usize = 2800;
 
 /// What a search for a head found: its parts, that none can come, or none so far.

@@ -80,7 +80,8 @@ fn turn<D, H: Handler<D>, R: Source, W: Sink>(
     ensures answers { IfOk result (λ o. IfNone o (GoesOn H.step
         (R.left reader.old) (W.written writer.old) buffer.old.items desk.old
         (R.left reader.new) (W.written writer.new) buffer.new.items desk.new 1)) }
-    ensures ends { IfOk result (λ o. IfSome o (λ end. Stops (buffer.new.items ++ unread (R.left reader.new)) end
+    ensures ends { IfOk result (λ o. IfSome o (λ end.
+        Stops (buffer.new.items ++ unread (R.left reader.new)) end
         × GoesOn H.step
         (R.left reader.old) (W.written writer.old) buffer.old.items desk.old
         (R.left reader.new) (W.written writer.new) buffer.new.items desk.new 0)) }
@@ -121,8 +122,10 @@ fn serve_messages<D, H: Handler<D>, R: Source, W: Sink>(
     requires capacity { MOST ≤ vec_capacity buffer.old }
     requires empty { buffer.old.items ≡ [] }
     requires fields { length headers.old ≡ FIELDS }
-    ensures served { IfOk result (λ served. ServedTo H.step desk.old (R.left reader.old) (W.written writer.old) (W.written writer.new) served desk.new) }
-    ensures broken { IfErr result (λ fault. BrokeOff H.step desk.old (R.left reader.old) (W.written writer.old) (R.left reader.new) (W.written writer.new) desk.new fault) }
+    ensures served { IfOk result (λ served. ServedTo H.step desk.old
+        (R.left reader.old) (W.written writer.old) (W.written writer.new) served desk.new) }
+    ensures broken { IfErr result (λ fault. BrokeOff H.step desk.old (R.left reader.old) (W.written writer.old)
+        (R.left reader.new) (W.written writer.new) desk.new fault) }
     ensures holds { H.holds desk.new }
     ensures fault { IfErr result (λ fault. fault ≢ StreamFault.Memory) }
     ensures read_count { R.failures reader.new ≡ R.failures reader.old + read_failed result }
@@ -155,8 +158,10 @@ pub fn serve_stream<D, H: Handler<D>, R: Source, W: Sink>(
     requires read_failures { R.failures reader.old < 2 ^ 64 - 1 }
     requires write_failures { W.failures writer.old < 2 ^ 64 - 1 }
     requires holds { H.holds desk.old }
-    ensures served { IfOk result (λ served. ServedTo H.step desk.old (R.left reader.old) (W.written writer.old) (W.written writer.new) served desk.new) }
-    ensures broken { IfErr result (λ fault. BrokeOff H.step desk.old (R.left reader.old) (W.written writer.old) (R.left reader.new) (W.written writer.new) desk.new fault) }
+    ensures served { IfOk result (λ served. ServedTo H.step desk.old
+        (R.left reader.old) (W.written writer.old) (W.written writer.new) served desk.new) }
+    ensures broken { IfErr result (λ fault. BrokeOff H.step desk.old (R.left reader.old) (W.written writer.old)
+        (R.left reader.new) (W.written writer.new) desk.new fault) }
 
     // Want of memory comes before anything is read, asked or written.
     ensures early { result ≡ Err StreamFault.Memory → (desk.new ≡ desk.old)

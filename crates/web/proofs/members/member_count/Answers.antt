@@ -7,10 +7,12 @@ use Rattle.serde_json.specs.declared.value.Value.{Value}
 use Rattle.web.specs.Members.{count}
 use Rattle.web.proofs.members.member_count.Goals as goal
 
+-- as many members as were given
 counted : (ms : List (String Global × Data)) → count (members_of ms) ≡ length ms
 counted [] = refl
 counted (m ∷ ms) = let e = counted ms in omega arith
 
+-- as many members as values
 viewed : (ms : List (String Global × Value)) → count (members_view ms) ≡ length ms
 viewed ms = counted (map (λ m. (m.0, view m.1)) ms) ∙ simp length-map
 

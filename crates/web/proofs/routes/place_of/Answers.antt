@@ -14,6 +14,7 @@ found_in router path o e f = ap (λ rows. first rows path) (sym e) ∙ f
 pub returns-in-Err : goal.returns-in-Err
 returns-in-Err c = place_of-lost c.args.path.now (found_in c.args.router.now c.args.path.now None c.requires c.in-Err.ensures.missing)
 
+-- no code follows the front, however it is written
 bare : (path front : List ℕ) (kind : Kind) → front ≡ front_of kind → ((rest : List ℕ) → path ≡ front ++ rest → is_empty rest ≡ false → has_slash rest ≡ false → ⊥)
     → (rest : List ℕ) → path ≡ front_of kind ++ rest → is_empty rest ≡ false → has_slash rest ≡ false → ⊥
 bare path front kind e h rest p = h rest (p ∙ ap (λ f. f ++ rest) (sym e))
@@ -23,6 +24,7 @@ returns-in-None c =
     place_of-bare c.args.path.now _ (found_in c.args.router.now c.args.path.now _ c.requires c.in-Ok.ensures.found)
     (bare c.args.path.now c.front_of.result.now c.in-Ok.found.value.now c.front_of.ensures c.in-None.ensures)
 
+-- a code follows the front of its kind
 follows : (path front code : List ℕ) (kind : Kind) → front ≡ front_of kind → (path ≡ front ++ code) × (is_empty code ≡ false) × (has_slash code ≡ false)
     → Some (kind, code) ≡ place_of path
 follows path front code kind e h = sym (ap place_of (h.0 ∙ ap (λ f. f ++ code) e) ∙ place_of-front kind code h.1 h.2)

@@ -3,6 +3,7 @@ use Rattle.wire.specs.declared.front.Front.{Front}
 use Rattle.wire.specs.Judged.{Judges}
 use Rattle.wire.proofs.buffer.front_of.Goals as goal
 
+-- the same bytes have the same front
 along : (xs ys : List ℕ) (f : Front) → xs ≡ ys → Judges xs f → Judges ys f
 along xs ys f e h = subst (λ (t : List ℕ). Judges t f) e h
 

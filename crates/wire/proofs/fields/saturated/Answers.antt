@@ -8,22 +8,27 @@ use Rattle.std.proofs.lemmas.Bool.Decides.{nat_tests}
 use Rattle.wire.specs.Messages.{is_number}
 use Rattle.wire.proofs.fields.saturated.Goals as goal
 
+-- a step of a number that is cut off at the limit
 saturates : (x y d e t : ℕ) → y ≡ x * 10 + d → d ≡ e → t ≡ min x 65537 → min (t * 10 + e) 65537 ≡ min y 65537
 saturates x y d e t p q f = omega arith
 
+-- the value of a digit
 digit_of : (c : ℕ) → is_ascii_digit c ≡ true → digit_value c ≡ c - 48
 digit_of c h = grind (arith, nat_tests)
 
+-- a test that is not false is true
 tested : (b : Bool) → (b ≡ false → true ≡ false) → b ≡ true
 tested true h = refl
 tested false h = absurd (let e : true ≡ false = h refl in cc)
 
+-- no test of two parts passes where the second fails
 and_false : (a b : Bool) → b ≡ false → IsTrue (a && b) → true ≡ false
 and_false true true e h = e
 and_false true false e h = cc
 and_false false true e h = cc
 and_false false false e h = cc
 
+-- each byte of a number is a digit
 digit_at : (v : List ℕ) (i : ℕ) → i < length v → IsTrue (is_number v) → is_ascii_digit (get_or v i 0) ≡ true
 digit_at v i lt n = tested (is_ascii_digit (get_or v i 0)) (λ no. let f = list_all_at is_ascii_digit v i 0 lt no in and_false (nat_lt 0 (length v)) (list_all is_ascii_digit v) f n)
 

@@ -17,16 +17,19 @@ use Rattle.wire.proofs.front.judge.Goals as goal
 cut_is_window : (n : ℕ) (buf : List ℕ) → n ≡ min 8192 (length buf) → take n buf ≡ window buf
 cut_is_window n buf e = ap (λ (k : ℕ). take k buf) e ∙ take_min 8192 buf
 
+-- what was found in the cut was found in the window
 found_in : (n : ℕ) (buf : List ℕ) (headers : List HeaderSpan) (head : Head) → n ≡ min 8192 (length buf)
     → FindsHead (take n buf) headers head → FindsHead (window buf) headers head
 found_in n buf headers head e f = subst (λ (w : List ℕ). FindsHead w headers head) (cut_is_window n buf e) f
 
+-- what the cut says of the body, the window says
 said_in : (n : ℕ) (buf : List ℕ) (headers : List HeaderSpan) (spans : RequestSpans) (f : Framing) → n ≡ min 8192 (length buf)
     → f ≡ framing_of spans.version (map (header_bytes (take n buf)) (take spans.headers headers))
     → f ≡ framing_of spans.version (map (header_bytes (window buf)) (take spans.headers headers))
 said_in n buf headers spans f e s =
     subst (λ (w : List ℕ). f ≡ framing_of spans.version (map (header_bytes w) (take spans.headers headers))) (cut_is_window n buf e) s
 
+-- a head of which this is said stands in the stream
 framed : (n : ℕ) (buf more : List ℕ) (headers : List HeaderSpan) (spans : RequestSpans) (f : Framing) → n ≡ min 8192 (length buf)
     → FindsHead (take n buf) headers (Found spans)
     → f ≡ framing_of spans.version (map (header_bytes (take n buf)) (take spans.headers headers))
@@ -43,6 +46,7 @@ pub returns-in-Long : goal.returns-in-Long
 returns-in-Long c more =
     inl (framed c.min.result c.args.buf.now more c.find_head.new.headers c.in-Found.spans Long c.min.ensures c.in-Found.ensures c.in-Long.ensures.value)
 
+-- the body has not come whole
 cut_short : (n : ℕ) (buf : List ℕ) (headers : List HeaderSpan) (spans : RequestSpans) (body : ℕ) → n ≡ min 8192 (length buf)
     → FindsHead (take n buf) headers (Found spans)
     → Length body ≡ framing_of spans.version (map (header_bytes (take n buf)) (take spans.headers headers))
@@ -56,6 +60,7 @@ returns-then-buf-spans c =
     cut_short c.min.result c.args.buf.now c.find_head.new.headers c.in-Found.spans c.in-Length.body c.min.ensures c.in-Found.ensures c.in-Length.ensures.value
     c.in-Length.ensures.small (omega (arith, c.if-buf-spans.true))
 
+-- the message has come whole
 complete : (n : ℕ) (buf : List ℕ) (headers : List HeaderSpan) (spans : RequestSpans) (body : ℕ) → n ≡ min 8192 (length buf)
     → FindsHead (take n buf) headers (Found spans)
     → Length body ≡ framing_of spans.version (map (header_bytes (take n buf)) (take spans.headers headers))
@@ -64,6 +69,7 @@ complete n buf headers spans body e found said fits =
     let h = found_in n buf headers (Found spans) e found in
     whole_message buf headers spans h.0 body h.1 h.2 (framing_read (window buf) headers spans h.0 (Length body) h.1 (said_in n buf headers spans (Length body) e said)) fits
 
+-- the head and the body are within the buffer
 inside : (n : ℕ) (buf : List ℕ) (len body : ℕ) → len ≤ length (take n buf) → body ≤ length buf - len → len + body ≤ length buf
 inside n buf len body a b = omega (arith, length-take n buf)
 

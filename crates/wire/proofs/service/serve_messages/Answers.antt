@@ -7,10 +7,12 @@ use Rattle.wire.proofs.Runs.{nothing_yet, hundred_here}
 use Rattle.wire.proofs.Turns.{finished, unfinished}
 use Rattle.wire.proofs.service.serve_messages.Goals as goal
 
+-- at first nothing was read, asked or written
 starts : {S : Type 0} (step : S → Said → List ℕ → S → Type 0) (before : S) (left w : Option (List ℕ)) (rest : List ℕ) → rest ≡ []
     → SoFar step before left w left w rest 0 before
 starts step before left w rest e = subst (λ (t : List ℕ). SoFar step before left w left w t 0 before) (sym e) (nothing_yet step before left w)
 
+-- an empty buffer is within its limit
 short : (xs : List ℕ) (n : ℕ) → length xs ≡ n → xs ≡ [] → n ≤ 73728
 short xs n l e = let z = ap length e in omega arith
 
@@ -29,6 +31,7 @@ returns-in-Err-clause-broken g c =
     c.in-Err.ensures.breaks c.args.desk.now (g.R.Source.left c.args.reader.now) (g.W.Sink.written c.args.writer.now) c.loop-answered.answered
     c.loop-answered.invariant.so_far c.loop-answered-test.true
 
+-- what is said of an end that was found
 at_end : (P : End → Type 0) (found : Option End) (end : End) → found ≡ Some end → IfSome found P → P end
 at_end P found end e h = subst (λ (o : Option End). IfSome o P) e h
 
@@ -50,6 +53,7 @@ returns-in-Some-clause-broken g c =
     c.loop-answered.invariant.so_far c.loop-answered-test.true
     (at_end _ c.in-Ok.found c.in-Some.end c.in-Some.is c.in-Ok.ensures.ends) c.finish.ensures.fault c.finish.ensures.err
 
+-- a hundred messages were answered
 hundred : {S : Type 0} (step : S → Said → List ℕ → S → Type 0) (before now : S) (left0 w0 left w : Option (List ℕ)) (rest : List ℕ) (count : ℕ)
     → SoFar step before left0 w0 left w rest count now → count ≡ 100 → ServedTo step before left0 w0 w (record { answered = 100; end = Hundred }) now
 hundred step before now left0 w0 left w rest count so e =

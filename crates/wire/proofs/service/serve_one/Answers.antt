@@ -4,6 +4,7 @@ use Rattle.wire.specs.declared.front.Front.TheVariants.{Whole}
 use Rattle.wire.specs.Judged.{Judges}
 use Rattle.wire.proofs.service.serve_one.Goals as goal
 
+-- the same bytes have the same message
 along : (xs ys : List ℕ) (p : Parts) → xs ≡ ys → Judges ys (Whole p) → Judges xs (Whole p)
 along xs ys p e h = subst (λ (t : List ℕ). Judges t (Whole p)) (sym e) h
 

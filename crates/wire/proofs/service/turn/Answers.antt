@@ -5,6 +5,7 @@ use Rattle.wire.specs.Taken.{Finds}
 use Rattle.wire.proofs.Turns.{breaks_reading, breaks_writing, message_goes_on, end_goes_on}
 use Rattle.wire.proofs.service.turn.Goals as goal
 
+-- what was found, by its case
 found_as : (buffer : List ℕ) (left : Option (List ℕ)) (found next : Next) → found ≡ next → Finds buffer left found → Finds buffer left next
 found_as buffer left found next e h = subst (Finds buffer left) e h
 
