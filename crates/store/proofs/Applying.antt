@@ -1,0 +1,60 @@
+-- Changes one after another.
+use Rattle.std.proofs.Common.{◌≡◌, ℕ, ◌+◌, ◌<◌, List, [], ◌∷◌, ◌++◌, length, get_or, take, refl, sym, ap, subst, ◌∙◌, Result, Ok, Err, OnOk, Option}
+use Rattle.std.proofs.lemmas.List.{take_more}
+use Rattle.sqlite.specs.Effect.{Database}
+use Rattle.sqlite.specs.Schema.{Schema}
+use Rattle.sqlite.specs.State.{State}
+use Rattle.rolls.specs.declared.row.Row.{Row}
+use Rattle.rolls.specs.declared.row.RowKey.{RowKey}
+use Rattle.rolls.specs.declared.row.Change.{Change}
+use Rattle.rolls.specs.Rows.{after_change, after_changes}
+use Rattle.sqlite.specs.Tree.{Trees}
+use Rattle.tables.specs.Steps.{HasStepped, HasSaved, IsLeft, Stays}
+use Rattle.tables.proofs.Runs.{stepped_as, stays_none, stays_then}
+use Rattle.store.specs.Tables.{TablesHold}
+use Rattle.store.specs.Saving.{AreInert, Applies, AppliesOne, Saves}
+
+-- the same call, in another word
+pub as_step : {E : Type 0} (P Q : Database → Database → Type 0) (a b : State) (r : Result (Unit {0}) E) → (P a.now b.now → Q a.now b.now) → OnOk r (HasStepped P a b) → OnOk r (HasStepped Q a b)
+as_step P Q a b (Ok u) weaker h = stepped_as P Q a b weaker h
+as_step P Q a b (Err e) weaker h = h
+
+pub applies_none : (db : Database) → Applies [] db db
+unfolding Applies
+applies_none db inert rows t = (t, refl)
+
+after_more : (cs : List Change) (c : Change) (rows : RowKey → Option Row) → after_changes (cs ++ c ∷ []) rows ≡ after_change c (after_changes cs rows)
+after_more [] c rows = refl
+after_more (d ∷ cs) c rows = after_more cs c (after_change d rows)
+
+applies_then : (cs : List Change) (c : Change) (x y z : Database) → Applies cs x y → AppliesOne c y z → Applies (cs ++ c ∷ []) x z
+unfolding Applies AppliesOne
+applies_then cs c x y z p q inert rows t =
+    let first = p inert rows t in
+    let then = q (subst AreInert (sym first.1) inert) (after_changes cs rows) first.0 in
+    (subst (TablesHold z) (sym (after_more cs c rows)) then.0, then.1 ∙ first.1)
+
+-- nothing was changed yet
+pub changes_none : (s : State) → Stays (Applies []) s s
+changes_none s = stays_none (Applies []) s (applies_none s.now)
+
+-- one change more
+pub changes_more : (i : ℕ) (changes : List Change) (change : Change) (a b c : State) → i < length changes → change ≡ get_or changes i change → Stays (Applies (take i changes)) a b
+    → HasStepped (AppliesOne change) b c → Stays (Applies (take (i + 1) changes)) a c
+changes_more i changes change a b c low is p q =
+    let all : take i changes ++ change ∷ [] ≡ take (i + 1) changes = ap (λ x. take i changes ++ x ∷ []) is ∙ sym (take_more changes i change low) in
+    subst (λ cs. Stays (Applies cs) a c) all (stays_then (Applies (take i changes)) (AppliesOne change) (Applies (take i changes ++ change ∷ [])) a b c (applies_then (take i changes) change a.now b.now c.now) p q)
+
+-- changes that were applied are saved, where nothing acts on the tables
+pub saves : (changes : List Change) (old new : Database) → AreInert old.schema → Applies changes old new → Saves changes old new
+unfolding Applies Saves
+saves changes old new inert p rows t = (p inert rows t).0
+
+-- the same of a transaction
+pub saves_call : {E : Type 0} (changes : List Change) (a b : State) (r : Result (Unit {0}) E) → AreInert a.now.schema → OnOk r (HasSaved (Applies changes) a b) → OnOk r (HasSaved (Saves changes) a b)
+saves_call changes a b (Ok u) inert h = record { shown = h.shown; step = saves changes a.now b.now inert h.step }
+saves_call changes a b (Err e) inert h = h
+
+-- and of what a crash leaves
+pub saves_left : (changes : List Change) (old : Database) (trees : Trees) → AreInert old.schema → IsLeft (Applies changes) old trees → IsLeft (Saves changes) old trees
+saves_left changes old trees inert h = (h.0, saves changes old h.0 inert h.1, h.2)

@@ -1,0 +1,135 @@
+-- The columns of the rows of one table, once a row is put or taken away.
+use Rattle.std.proofs.Common.{◌≡◌, ◌≢◌, ◌⊎◌, inl, inr, ℕ, List, [], ◌∷◌, Bool, true, false, not, cond, Some, is_eq, filter, map, refl, sym, ap, ◌∙◌}
+use Rattle.std.specs.Str.{bytes_eq}
+use Rattle.std.proofs.lemmas.Map.Text.{is_eq-slice_cmp}
+use Rattle.sqlite_value.proofs.OrderLemmas.{value_cmp-Text}
+use Rattle.sqlite.specs.declared.types.Value.TheVariants.{Text}
+use Rattle.sqlite.specs.Order.{Row as Cells, value_cmp}
+use Rattle.sqlite.specs.Collation.TheVariants.{Binary}
+use Rattle.sqlite_sql.specs.Ops.{binary, is_true, from_truth}
+use Rattle.sqlite_schema.specs.Rules.{equal}
+use Rattle.tables.specs.Writes.{differs_from, without}
+use Rattle.rolls.specs.declared.row.Row.{Row}
+use Rattle.rolls.specs.declared.row.Row.TheVariants as row
+use Rattle.rolls.specs.declared.row.RowKey.{RowKey}
+use Rattle.rolls.specs.declared.row.RowKey.TheVariants as key
+use Rattle.rolls.specs.Rows.{key_of, same_row}
+use Rattle.store.specs.declared.roll.Roll.{Roll}
+use Rattle.store.specs.declared.roll.Roll.TheVariants.{Supervisors, Projects, Students}
+use Rattle.store.specs.Rows.{columns, is_in, columns_of}
+use Rattle.store.proofs.Keys.{dropped}
+
+truth_is : (b : Bool) → is_true (from_truth (Some b)) ≡ b
+truth_is true = refl
+truth_is false = refl
+
+text_order : (a b : List ℕ) → is_eq (value_cmp (Text a) (Text b)) ≡ bytes_eq a b
+text_order a b = ap is_eq (value_cmp-Text a b) ∙ is_eq-slice_cmp a b
+
+-- texts are equal as SQL has it where their bytes are
+pub equal_text : (a b : List ℕ) → equal Binary (Text a) (Text b) ≡ bytes_eq a b
+unfolding binary
+equal_text a b = truth_is _ ∙ text_order a b
+
+-- the key of a roll's row with this code
+abbrev pub keyed : Roll → List ℕ → RowKey
+keyed Supervisors code = key.Supervisor code
+keyed Projects code = key.Project code
+keyed Students code = key.Student code
+
+pub decide_roll : (a b : Roll) → (a ≡ b) ⊎ (a ≢ b)
+decide_roll Supervisors Supervisors = inl refl
+decide_roll Supervisors Projects = inr (λ e. cc)
+decide_roll Supervisors Students = inr (λ e. cc)
+decide_roll Projects Supervisors = inr (λ e. cc)
+decide_roll Projects Projects = inl refl
+decide_roll Projects Students = inr (λ e. cc)
+decide_roll Students Supervisors = inr (λ e. cc)
+decide_roll Students Projects = inr (λ e. cc)
+decide_roll Students Students = inl refl
+
+-- a row is of one roll
+pub in_once : (a b : Roll) (r : Row) → is_in a r ≡ true → is_in b r ≡ true → a ≡ b
+in_once Supervisors Supervisors r p q = refl
+in_once Projects Projects r p q = refl
+in_once Students Students r p q = refl
+in_once Supervisors Projects (row.Supervisor c l n) p q = absurd (cc)
+in_once Supervisors Projects (row.Project c l s n) p q = absurd (cc)
+in_once Supervisors Projects (row.Student c l) p q = absurd (cc)
+in_once Supervisors Students (row.Supervisor c l n) p q = absurd (cc)
+in_once Supervisors Students (row.Project c l s n) p q = absurd (cc)
+in_once Supervisors Students (row.Student c l) p q = absurd (cc)
+in_once Projects Supervisors (row.Supervisor c l n) p q = absurd (cc)
+in_once Projects Supervisors (row.Project c l s n) p q = absurd (cc)
+in_once Projects Supervisors (row.Student c l) p q = absurd (cc)
+in_once Projects Students (row.Supervisor c l n) p q = absurd (cc)
+in_once Projects Students (row.Project c l s n) p q = absurd (cc)
+in_once Projects Students (row.Student c l) p q = absurd (cc)
+in_once Students Supervisors (row.Supervisor c l n) p q = absurd (cc)
+in_once Students Supervisors (row.Project c l s n) p q = absurd (cc)
+in_once Students Supervisors (row.Student c l) p q = absurd (cc)
+in_once Students Projects (row.Supervisor c l n) p q = absurd (cc)
+in_once Students Projects (row.Project c l s n) p q = absurd (cc)
+in_once Students Projects (row.Student c l) p q = absurd (cc)
+
+-- in its own table SQL drops the rows that have the key
+drops_own : (q : Roll) (code : List ℕ) (s : Row) → is_in q s ≡ true → not (same_row (key_of s) (keyed q code)) ≡ differs_from code (columns s)
+drops_own Supervisors code (row.Supervisor c l n) h = ap not (sym (equal_text c code))
+drops_own Supervisors code (row.Project c l s n) h = absurd (cc)
+drops_own Supervisors code (row.Student c l) h = absurd (cc)
+drops_own Projects code (row.Supervisor c l n) h = absurd (cc)
+drops_own Projects code (row.Project c l s n) h = ap not (sym (equal_text c code))
+drops_own Projects code (row.Student c l) h = absurd (cc)
+drops_own Students code (row.Supervisor c l n) h = absurd (cc)
+drops_own Students code (row.Project c l s n) h = absurd (cc)
+drops_own Students code (row.Student c l) h = ap not (sym (equal_text c code))
+
+-- the key of one roll is that of no row of another
+keeps_other : (roll q : Roll) (code : List ℕ) (s : Row) → roll ≢ q → is_in roll s ≡ true → not (same_row (key_of s) (keyed q code)) ≡ true
+keeps_other Supervisors q code (row.Project c l s n) apart h = absurd (cc)
+keeps_other Supervisors q code (row.Student c l) apart h = absurd (cc)
+keeps_other Supervisors Supervisors code (row.Supervisor c l n) apart h = absurd (apart refl)
+keeps_other Supervisors Projects code (row.Supervisor c l n) apart h = refl
+keeps_other Supervisors Students code (row.Supervisor c l n) apart h = refl
+keeps_other Projects q code (row.Supervisor c l n) apart h = absurd (cc)
+keeps_other Projects q code (row.Student c l) apart h = absurd (cc)
+keeps_other Projects Supervisors code (row.Project c l s n) apart h = refl
+keeps_other Projects Projects code (row.Project c l s n) apart h = absurd (apart refl)
+keeps_other Projects Students code (row.Project c l s n) apart h = refl
+keeps_other Students q code (row.Supervisor c l n) apart h = absurd (cc)
+keeps_other Students q code (row.Project c l s n) apart h = absurd (cc)
+keeps_other Students Supervisors code (row.Student c l) apart h = refl
+keeps_other Students Projects code (row.Student c l) apart h = refl
+keeps_other Students Students code (row.Student c l) apart h = absurd (apart refl)
+
+module _ (roll : Roll) (key : RowKey) (g : Cells → Bool) (same : (s : Row) → is_in roll s ≡ true → not (same_row (key_of s) key) ≡ g (columns s)) where
+  dropped_go : (s : Row) (rest : List Row) (a b : Bool) → is_in roll s ≡ a → not (same_row (key_of s) key) ≡ b → columns_of roll (dropped key rest) ≡ filter g (columns_of roll rest)
+      → columns_of roll (cond b (s ∷ dropped key rest) (dropped key rest)) ≡ filter g (map columns (cond a (s ∷ filter (is_in roll) rest) (filter (is_in roll) rest)))
+  dropped_go s rest true true kind is later = rw (kind, sym (same s kind) ∙ is) (ap (λ more. columns s ∷ more) later)
+  dropped_go s rest true false kind is later = rw (sym (same s kind) ∙ is) later
+  dropped_go s rest false true kind is later = rw kind later
+  dropped_go s rest false false kind is later = later
+
+  columns_dropped : (list : List Row) → columns_of roll (dropped key list) ≡ filter g (columns_of roll list)
+  columns_dropped [] = refl
+  columns_dropped (s ∷ rest) = dropped_go s rest (is_in roll s) (not (same_row (key_of s) key)) refl refl (columns_dropped rest)
+
+all_kept : {X : Type 0} (xs : List X) → filter (λ (_ : X). true) xs ≡ xs
+all_kept [] = refl
+all_kept (x ∷ xs) = ap (λ ys. x ∷ ys) (all_kept xs)
+
+-- the columns of the table that lost the rows with a code
+pub columns_without : (q : Roll) (code : List ℕ) (list : List Row) → columns_of q (dropped (keyed q code) list) ≡ without code (columns_of q list)
+columns_without q code list = columns_dropped q (keyed q code) (differs_from code) (drops_own q code) list
+
+-- those of another table
+pub columns_beside : (roll q : Roll) (code : List ℕ) (list : List Row) → roll ≢ q → columns_of roll (dropped (keyed q code) list) ≡ columns_of roll list
+columns_beside roll q code list apart = columns_dropped roll (keyed q code) (λ _. true) (λ s. keeps_other roll q code s apart) list ∙ all_kept (columns_of roll list)
+
+-- a row more in its table
+pub columns_more : (q : Roll) (r : Row) (list : List Row) → is_in q r ≡ true → columns_of q (r ∷ list) ≡ columns r ∷ columns_of q list
+columns_more q r list kind = rw kind refl
+
+-- and in none of the others
+pub columns_same : (roll : Roll) (r : Row) (list : List Row) → is_in roll r ≡ false → columns_of roll (r ∷ list) ≡ columns_of roll list
+columns_same roll r list kind = rw kind refl

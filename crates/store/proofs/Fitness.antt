@@ -1,0 +1,98 @@
+-- The rows of a fit office have small quotas.
+use Rattle.std.proofs.Common.{◌≡◌, ◌⊎◌, inl, inr, ℕ, ◌<◌, ◌≤◌, ◌^◌, List, [], ◌∷◌, Bool, true, false, cond, filter, map, Option, Some, None, refl, sym, ap, subst, ◌∙◌, arith}
+use Rattle.std.specs.Option.{option_map}
+use Rattle.std.specs.List.{AllByRecursion}
+use Rattle.std.proofs.lemmas.Bool.{and_parts, or_parts, not-true, cases_Bool}
+use Rattle.sqlite.specs.Order.{Row as Cells}
+use Rattle.sqlite_rules.specs.Lists.{Has}
+use Rattle.sqlite_rules.proofs.ListLemmas.{all_has}
+use Rattle.rolls.specs.declared.entries.Supervisor.{Supervisor}
+use Rattle.rolls.specs.declared.entries.Project.{Project}
+use Rattle.rolls.specs.declared.entries.Student.{Student}
+use Rattle.rolls.specs.declared.row.Row.{Row}
+use Rattle.rolls.specs.declared.row.Row.TheVariants as row
+use Rattle.rolls.specs.declared.row.RowKey.{RowKey}
+use Rattle.rolls.specs.Roll.{Key, find, same_key}
+use Rattle.rolls.specs.State.{State, supervisor_of, project_of, supervisor_key, project_key}
+use Rattle.rolls.specs.Fit.{IsFit, SupervisorFits, ProjectFits}
+use Rattle.rolls.specs.Rows.{key_of, same_row, row_of, supervisor_row, project_row, student_row}
+use Rattle.rolls.specs.From.{row_in, are_apart}
+use Rattle.store.specs.declared.roll.Roll.{Roll}
+use Rattle.store.specs.Rows.{columns, is_in, columns_of, AreRowsAt}
+use Rattle.store.specs.Reading.{HasSmallQuota}
+use Rattle.store.proofs.Keys.{same_row_is, same_row_self}
+use Rattle.std.specs.List.{list_any}
+
+found_go : {E : Type 0} (key : E → Key) (k : Key) (e x : E) (es : List E) (b : Bool) → (find key k es ≡ Some x → Has es x) → cond b (Some e) (find key k es) ≡ Some x → Has (e ∷ es) x
+found_go key k e x es true later h = inl (cc)
+found_go key k e x es false later h = inr (later h)
+
+found_has : {E : Type 0} (key : E → Key) (k : Key) (es : List E) (x : E) → find key k es ≡ Some x → Has es x
+found_has key k [] x h = absurd (cc)
+found_has key k (e ∷ es) x h = found_go key k e x es (same_key k (key e)) (found_has key k es x) h
+
+mapped : {X Y : Type 0} (f : X → Y) (o : Option X) (y : Y) → option_map f o ≡ Some y → (x : X) × (o ≡ Some x) × (f x ≡ y)
+mapped f None y h = absurd (cc)
+mapped f (Some x) y h = (x, refl, cc)
+
+any_has : (k : RowKey) (rest : List Row) (r : Row) → Has rest r → same_row k (key_of r) ≡ true → list_any (λ t. same_row k (key_of t)) rest ≡ false → true ≡ false
+any_has k [] r h same none = absurd h
+any_has k (s ∷ rest) r (inl e) same none = sym same ∙ ap (λ t. same_row k (key_of t)) e ∙ (or_parts _ _ none).0
+any_has k (s ∷ rest) r (inr h) same none = any_has k rest r h same (or_parts _ _ none).1
+
+-- each row stands at its key
+row_stands : (list : List Row) (r : Row) → are_apart list ≡ true → Has list r → row_in list (key_of r) ≡ Some r
+row_stands [] r apart h = absurd h
+row_stands (s ∷ rest) r apart (inl same) = subst (λ t. row_in (t ∷ rest) (key_of r) ≡ Some r) same (ap (λ b. cond b (Some r) (row_in rest (key_of r))) (same_row_self (key_of r)))
+row_stands (s ∷ rest) r apart (inr h) =
+    let parts = and_parts _ _ apart in
+    elim (cases_Bool (same_row (key_of r) (key_of s))) [
+      | inl same ↦
+          let e = same_row_is (key_of r) (key_of s) same in
+          absurd (let f = any_has (key_of s) rest r h (subst (λ k. same_row k (key_of r) ≡ true) e (same_row_self (key_of r))) (not-true _ parts.0) in cc)
+      | inr other ↦ ap (λ b. cond b (Some s) (row_in rest (key_of r))) other ∙ row_stands rest r parts.1 h
+    ]
+
+quota_in : Row → ℕ
+quota_in (row.Supervisor c l n) = n
+quota_in (row.Project c l s n) = n
+quota_in (row.Student c l) = 0
+
+small_at : (o : State) → IsFit o → (r : Row) → row_of o (key_of r) ≡ Some r → HasSmallQuota r
+unfolding quota_in
+small_at o fit (row.Supervisor code label quota) h =
+    let it = mapped supervisor_row (supervisor_of o code) (row.Supervisor code label quota) h in
+    let fits = all_has SupervisorFits o.supervisors it.0 fit.supervisors_fit (found_has supervisor_key (0, code) o.supervisors it.0 it.1) in
+    let same : it.0.quota ≡ quota = ap quota_in it.2 in
+    omega (arith, fits.quota, same)
+small_at o fit (row.Project code label supervisor quota) h =
+    let it = mapped project_row (project_of o code) (row.Project code label supervisor quota) h in
+    let fits = all_has (ProjectFits o) o.projects it.0 fit.projects_fit (found_has project_key (0, code) o.projects it.0 it.1) in
+    let same : it.0.quota ≡ quota = ap quota_in it.2 in
+    omega (arith, fits.quota, same)
+small_at o fit (row.Student code label) h = tt
+
+-- each row of a fit office has a small quota
+pub small_quota : (o : State) (list : List Row) (r : Row) → IsFit o → AreRowsAt list (row_of o) → Has list r → HasSmallQuota r
+small_quota o list r fit at h = small_at o fit r (sym (at.each (key_of r)) ∙ row_stands list r at.apart h)
+
+filtered_go : (p : Row → Bool) (s r : Row) (rest : List Row) (b : Bool) → p s ≡ b → (Has (filter p rest) r → Has rest r × (p r ≡ true)) → Has (cond b (s ∷ filter p rest) (filter p rest)) r → Has (s ∷ rest) r × (p r ≡ true)
+filtered_go p s r rest true is later (inl same) = (inl same, ap p same ∙ is)
+filtered_go p s r rest true is later (inr h) = let it = later h in (inr it.0, it.1)
+filtered_go p s r rest false is later h = let it = later h in (inr it.0, it.1)
+
+filtered : (p : Row → Bool) (rest : List Row) (r : Row) → Has (filter p rest) r → Has rest r × (p r ≡ true)
+filtered p [] r h = absurd h
+filtered p (s ∷ rest) r h = filtered_go p s r rest (p s) refl (filtered p rest r) h
+
+unmapped : (rows : List Row) (cells : Cells) → Has (map columns rows) cells → (r : Row) × Has rows r × (cells ≡ columns r)
+unmapped [] cells h = absurd h
+unmapped (r ∷ rows) cells (inl same) = (r, inl refl, same)
+unmapped (r ∷ rows) cells (inr h) = let it = unmapped rows cells h in (it.0, inr it.1, it.2)
+
+-- columns of a roll are those of a row of it
+pub row_of_columns : (roll : Roll) (list : List Row) (cells : Cells) → Has (columns_of roll list) cells → (r : Row) × Has list r × (is_in roll r ≡ true) × (cells ≡ columns r)
+row_of_columns roll list cells h =
+    let it = unmapped (filter (is_in roll) list) cells h in
+    let kept = filtered (is_in roll) list it.0 it.1 in
+    (it.0, kept.0, kept.1, it.2)

@@ -1,0 +1,33 @@
+-- A table that is listed at a tree on which nothing acts.
+use Rattle.std.proofs.Common.{◌≡◌, ℕ, refl, sym, ap, subst, ◌∙◌}
+use Rattle.sqlite.specs.Table.{Table}
+use Rattle.sqlite.specs.Schema.{Schema}
+use Rattle.tables.specs.Table.{Place, Lists}
+use Rattle.tables.specs.Writes.{IsInert}
+use Rattle.tables.specs.Layout.{IsListed, IsUnlisted}
+use Rattle.tables.proofs.Runs.{listed_once}
+use Rattle.store.specs.declared.roll.Roll.{Roll}
+use Rattle.store.specs.declared.roll.Roll.TheVariants.{Supervisors, Projects, Students}
+use Rattle.store.specs.Rows.{table_of}
+use Rattle.store.specs.Saving.{IsLeftAlone, AreInert}
+use Rattle.store.proofs.Holding.{tree_is}
+
+named_alike : (roll : Roll) (p q : Place) → (table_of roll p).name ≡ (table_of roll q).name
+named_alike Supervisors p q = refl
+named_alike Projects p q = refl
+named_alike Students p q = refl
+
+-- the trees at which a roll's table is listed are one
+pub one_tree : (roll : Roll) (schema : Schema) (p q : Place) → Lists schema (table_of roll p) → Lists schema (table_of roll q) → p.tree ≡ q.tree
+one_tree roll schema p q l m = sym (tree_is roll p) ∙ ap (λ (t : Table). t.tree) (listed_once schema (table_of roll) p q (named_alike roll p q) l m) ∙ tree_is roll q
+
+pub left_there : (roll : Roll) (schema : Schema) (tree : ℕ) → IsListed (table_of roll) schema tree → IsInert schema tree → IsLeftAlone (table_of roll) schema
+left_there roll schema tree there inert place listed = subst (IsInert schema) (one_tree roll schema (record { tree = tree; checks = there.0 }) place there.1 listed) inert
+
+pub left_nowhere : (roll : Roll) (schema : Schema) → IsUnlisted (table_of roll) schema → IsLeftAlone (table_of roll) schema
+left_nowhere roll schema none place listed = absurd (none place listed)
+
+pub all_left : (schema : Schema) → IsLeftAlone (table_of Supervisors) schema → IsLeftAlone (table_of Projects) schema → IsLeftAlone (table_of Students) schema → AreInert schema
+all_left schema a b c Supervisors = a
+all_left schema a b c Projects = b
+all_left schema a b c Students = c

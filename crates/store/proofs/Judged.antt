@@ -1,0 +1,99 @@
+-- What was read from the tables says whether they stand for a fit office.
+use Rattle.std.proofs.Common.{◌≡◌, ◌≢◌, ℕ, List, [], ◌∷◌, map, drop, Option, refl, sym, ap, subst, ◌∙◌, nat_lt, ◌^◌, true, IsTrue, length, arith, inl, inr}
+use Rattle.std.specs.List.Sorted.{IsPermutation}
+use Rattle.std.proofs.lemmas.List.Sorted.{IsPermutation-trans, IsPermutation-sym, length_permutation}
+use Rattle.sqlite_rules.specs.Lists.{Has}
+use Rattle.sqlite.specs.Order.{Row as Cells}
+use Rattle.sqlite.specs.Table.{Table}
+use Rattle.sqlite.specs.Effect.{Database}
+use Rattle.sqlite.specs.State.{State as Seen, IsLive, IsUnchanged}
+use Rattle.tables.specs.Table.{Place, Lists, edition_table}
+use Rattle.tables.specs.Keyed.{Stands}
+use Rattle.tables.specs.Steps.{Shows}
+use Rattle.tables.proofs.Runs.{low_tree}
+use Rattle.rolls.specs.declared.row.Row.{Row}
+use Rattle.rolls.specs.State.{State}
+use Rattle.rolls.specs.Fit.{IsFit}
+use Rattle.rolls.specs.Rows.{row_of}
+use Rattle.rolls.specs.From as from
+use Rattle.store.specs.declared.roll.Roll.{Roll}
+use Rattle.store.specs.Rows.{columns, is_in, columns_of, table_of, AreRowsAt}
+use Rattle.office.specs.declared.draft.RowsFault.{RowsFault}
+use Rattle.office.specs.declared.draft.RowsFault.TheVariants.{Unfit}
+use Rattle.office.specs.declared.draft.RowsFault.TheVariants as why
+use Rattle.store.specs.Faults.{of_rows}
+use Rattle.store.specs.declared.fault.StoreFault.TheVariants.{Damaged}
+use Rattle.store.specs.Tables.{TablesHold, StandsFor, first_edition}
+use Rattle.store.specs.Reading.{AreListed, HoldsCells, HoldsNoRow, ReadsAll, IsDamaged}
+use Rattle.store.proofs.Holding.{tree_is}
+use Rattle.store.proofs.Permuted.{has_permuted, rows_permuted, permuted_by_rolls}
+use Rattle.store.proofs.Fitness.{small_quota, row_of_columns}
+
+-- tables that are listed otherwise stand for no office
+pub unlisted : (db : Database) → (AreListed db.schema → ⊥) → IsDamaged db
+unlisted db none office fit t = none (record {
+  edition = t.edition;
+  places = t.places;
+  edition_apart = t.edition_apart;
+  apart = t.apart;
+  edition_listed = t.editions.listed;
+  rolls_listed = λ roll. (t.rolls roll).listed;
+})
+
+one_has : (x : Cells) (rows : List Cells) → length rows ≡ 1 → ((y : Cells) → Has rows y → Has (x ∷ []) y) → rows ≡ x ∷ []
+one_has x [] h among = absurd (omega (arith, h))
+one_has x (y ∷ []) h among = elim (among y (inl refl)) [ inl same ↦ ap (λ z. z ∷ []) same | inr none ↦ absurd none ]
+one_has x (y ∷ z ∷ rows) h among = absurd (omega (arith, h))
+
+-- one row alone is in one order
+alone : (x : Cells) (rows : List Cells) → IsPermutation rows (x ∷ []) → rows ≡ x ∷ []
+alone x rows same = one_has x rows (sym (length_permutation rows (x ∷ []) same)) (has_permuted rows (x ∷ []) same)
+
+module _ (s : Seen) (live : IsLive s) (open_ : IsTrue s.is_open) where
+  low_edition : (place : Place) → Lists s.now.schema (edition_table place) → nat_lt place.tree (2 ^ 31) ≡ true
+  low_edition place listed = low_tree s.now.schema s.now.trees (edition_table place) (live open_).0 listed
+
+  low_roll : (roll : Roll) (place : Place) → Lists s.now.schema (table_of roll place) → nat_lt place.tree (2 ^ 31) ≡ true
+  low_roll roll place listed = subst (λ n. nat_lt n (2 ^ 31) ≡ true) (tree_is roll place) (low_tree s.now.schema s.now.trees (table_of roll place) (live open_).0 listed)
+
+  -- another edition
+  pub other_edition : (rows : List Cells) (new : Seen) → Shows edition_table rows s new → map (drop 1) rows ≢ first_edition → IsDamaged s.now
+  other_edition rows new shows other office fit t =
+      let here = shows.stands t.edition t.editions.listed (low_edition t.edition t.editions.listed) in
+      other (alone _ (map (drop 1) rows) (IsPermutation-trans _ _ _ here.holds (IsPermutation-sym _ _ t.editions.holds)))
+
+  -- a roll that holds what no row has
+  pub unread : (roll : Roll) → HoldsNoRow roll s.now → IsDamaged s.now
+  unread roll n office fit t =
+      let here = n.holds (t.places roll) (t.rolls roll).listed (low_roll roll (t.places roll) (t.rolls roll).listed) in
+      let same : IsPermutation n.all (columns_of roll t.list) = IsPermutation-trans _ _ _ here.holds (IsPermutation-sym _ _ (t.rolls roll).holds) in
+      let it = row_of_columns roll t.list n.cells (has_permuted _ _ same n.cells n.among) in
+      n.none it.0 it.2 (small_quota office t.list it.0 fit t.at it.1) (sym it.3)
+
+  -- rows of no office
+  pub unfit : (rows : List Row) → ((roll : Roll) → HoldsCells roll (columns_of roll rows) s.now) → ((o : State) → IsFit o → from.AreRowsOf rows o → ⊥) → IsDamaged s.now
+  unfit rows holds none office fit t =
+      let each : (roll : Roll) → IsPermutation (columns_of roll t.list) (columns_of roll rows) = λ roll.
+      let here = holds roll (t.places roll) (t.rolls roll).listed (low_roll roll (t.places roll) (t.rolls roll).listed) in
+      IsPermutation-trans _ _ _ (t.rolls roll).holds (IsPermutation-sym _ _ here.holds) in
+      let at = rows_permuted t.list rows (row_of office) (permuted_by_rolls t.list rows each) t.at in
+      none office fit (record { apart = at.apart; each = at.each })
+
+  -- the office of the rows
+  pub stood : (l : AreListed s.now.schema) (first : List Cells) (mid : Seen) (rows : List Row) (office : State) → Shows edition_table first s mid → map (drop 1) first ≡ first_edition
+      → ((roll : Roll) → HoldsCells roll (columns_of roll rows) s.now) → from.AreRowsOf rows office → StandsFor s.now office
+  stood l first mid rows office shows is holds are = record {
+    edition = l.edition;
+    places = l.places;
+    edition_apart = l.edition_apart;
+    apart = l.apart;
+    list = rows;
+    at = record { apart = are.apart; each = are.each };
+    editions = subst (λ all. Stands edition_table l.edition all s.now) is (shows.stands l.edition l.edition_listed (low_edition l.edition l.edition_listed));
+    rolls = λ roll. holds roll (l.places roll) (l.rolls_listed roll) (low_roll roll (l.places roll) (l.rolls_listed roll));
+  }
+
+-- rows that are refused are those of no office
+pub refused : (e : RowsFault) → of_rows e ≡ Damaged → e ≡ Unfit
+refused why.Memory h = absurd (cc)
+refused Unfit h = refl

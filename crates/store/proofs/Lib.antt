@@ -1,0 +1,13 @@
+pub mod Standing
+mod Cells
+mod Keys
+mod Columns
+mod Holding
+mod Applying
+mod Making
+mod Inertness
+mod Judging
+mod Gathering
+mod Permuted
+mod Fitness
+mod Judged

@@ -1,0 +1,173 @@
+-- Rows in another order.
+use Rattle.std.proofs.Common.{◌≡◌, ◌≢◌, ◌⊎◌, inl, inr, List, [], ◌∷◌, ◌++◌, Bool, true, false, not, ◌&&◌, ◌||◌, cond, filter, map, Option, Some, None, refl, sym, ap, subst, subst₂, ◌∙◌, true≢false, ℕ, ℤ, pos, negsuc}
+use Rattle.std.specs.List.{list_any}
+use Rattle.std.specs.List.Sorted.{IsPermutation}
+use Rattle.std.proofs.lemmas.Bool.{and_parts, and_from, or_parts, not-true, cases_Bool}
+use Rattle.std.proofs.lemmas.List.Sorted.{IsPermutation-refl, IsPermutation-trans, IsPermutation-sym, IsPermutation-cons, IsPermutation-middle, IsPermutation-map, IsPermutation-append_left, IsPermutation-append_right}
+use Rattle.sqlite_keyed.proofs.ListLemmas.{along_permutation, map-map}
+use Rattle.sqlite.specs.declared.types.Value.{Value}
+use Rattle.sqlite.specs.declared.types.Value.TheVariants.{Null, Int, Real, Text, Blob}
+use Rattle.sqlite.specs.Order.{Row as Cells, column}
+use Rattle.sqlite_rules.specs.Lists.{Has}
+use Rattle.rolls.specs.declared.row.Row.{Row}
+use Rattle.rolls.specs.declared.row.Row.TheVariants as row
+use Rattle.rolls.specs.declared.row.RowKey.{RowKey}
+use Rattle.rolls.specs.Rows.{key_of, same_row}
+use Rattle.rolls.specs.From.{row_in, are_apart}
+use Rattle.store.specs.declared.roll.Roll.{Roll}
+use Rattle.store.specs.declared.roll.Roll.TheVariants.{Supervisors, Projects, Students}
+use Rattle.store.specs.Rows.{columns, is_in, columns_of, AreRowsAt}
+use Rattle.store.proofs.Keys.{same_row_is, same_row_by, same_row_turned}
+
+-- ---- what is among permuted rows
+
+module _ {X : Type 0} where
+  abbrev Among : List X → List X → Type 0
+  Among xs ys = (y : X) → Has xs y → Has ys y
+
+  under : (x : X) (xs ys : List X) → Among xs ys → Among (x ∷ xs) (x ∷ ys)
+  under x xs ys f y (inl same) = inl same
+  under x xs ys f y (inr h) = inr (f y h)
+
+  turned : (x y : X) (xs : List X) → Among (x ∷ y ∷ xs) (y ∷ x ∷ xs)
+  turned x y xs z (inl same) = inr (inl same)
+  turned x y xs z (inr (inl same)) = inl same
+  turned x y xs z (inr (inr h)) = inr (inr h)
+
+  pub has_permuted : (xs ys : List X) → IsPermutation xs ys → Among xs ys
+  has_permuted = along_permutation Among (λ xs y h. h) under turned (λ xs ys zs f g y h. g y (f y h))
+
+-- ---- the rows at the keys
+
+abbrev any_at : RowKey → List Row → Bool
+any_at k = list_any (λ s. same_row k (key_of s))
+
+record Along (xs ys : List Row) : Type 0 where
+  any : (k : RowKey) → any_at k xs ≡ any_at k ys
+  apart : are_apart xs ≡ true → are_apart ys ≡ true
+  each : are_apart xs ≡ true → (k : RowKey) → row_in xs k ≡ row_in ys k
+
+along_cons : (x : Row) (xs ys : List Row) → Along xs ys → Along (x ∷ xs) (x ∷ ys)
+along_cons x xs ys f = record {
+  any = λ k. ap (λ b. same_row k (key_of x) || b) (f.any k);
+  apart = λ h. let parts = and_parts _ _ h in and_from _ _ (ap not (sym (f.any (key_of x))) ∙ parts.0) (f.apart parts.1);
+  each = λ h k. let parts = and_parts _ _ h in ap (λ o. cond (same_row k (key_of x)) (Some x) o) (f.each parts.1 k);
+}
+
+or_turned : (a b c : Bool) → (a || (b || c)) ≡ (b || (a || c))
+or_turned true true c = refl
+or_turned true false c = refl
+or_turned false b c = refl
+
+in_turned : (x y : Row) (o : Option Row) (a b : Bool) → (a ≡ true → b ≡ true → true ≡ false) → cond a (Some x) (cond b (Some y) o) ≡ cond b (Some y) (cond a (Some x) o)
+in_turned x y o true true apart = absurd (true≢false (apart refl refl))
+in_turned x y o true false apart = refl
+in_turned x y o false b apart = refl
+
+none_both : (a b : Bool) → a ≡ false → b ≡ false → not (a || b) ≡ true
+none_both a b p q = λ i. not (p i || q i)
+
+along_swap : (x y : Row) (xs : List Row) → Along (x ∷ y ∷ xs) (y ∷ x ∷ xs)
+along_swap x y xs = record {
+  any = λ k. or_turned (same_row k (key_of x)) (same_row k (key_of y)) (any_at k xs);
+  apart = λ h.
+    let parts = and_parts _ _ h in
+    let first = or_parts _ _ (not-true _ parts.0) in
+    let rest = and_parts _ _ parts.1 in
+    and_from _ _ (none_both _ _ (same_row_turned (key_of x) (key_of y) first.0) (not-true _ rest.0)) (and_from _ _ (ap not first.1) rest.1);
+  each = λ h k.
+    let parts = and_parts _ _ h in
+    let first = or_parts _ _ (not-true _ parts.0) in
+    in_turned x y (row_in xs k) (same_row k (key_of x)) (same_row k (key_of y))
+      (λ p q. sym (same_row_by (key_of x) (key_of y) (sym (same_row_is k (key_of x) p) ∙ same_row_is k (key_of y) q)) ∙ first.0);
+}
+
+along : (xs ys : List Row) → IsPermutation xs ys → Along xs ys
+along = along_permutation Along (λ xs. record { any = λ k. refl; apart = λ h. h; each = λ h k. refl }) along_cons along_swap
+  (λ xs ys zs f g. record {
+    any = λ k. f.any k ∙ g.any k;
+    apart = λ h. g.apart (f.apart h);
+    each = λ h k. f.each h k ∙ g.each (f.apart h) k;
+  })
+
+-- the rows at the keys don't depend on the order
+pub rows_permuted : (xs ys : List Row) (rows : RowKey → Option Row) → IsPermutation xs ys → AreRowsAt xs rows → AreRowsAt ys rows
+rows_permuted xs ys rows same at = let it = along xs ys same in record { apart = it.apart at.apart; each = λ k. sym (it.each at.apart k) ∙ at.each k }
+
+-- ---- rows from their columns
+
+text_in : Value → List ℕ
+text_in Null = []
+text_in (Int n) = []
+text_in (Real x) = []
+text_in (Text t) = t
+text_in (Blob b) = []
+
+natural : ℤ → ℕ
+natural (pos n) = n
+natural (negsuc n) = 0
+
+number_in : Value → ℕ
+number_in Null = 0
+number_in (Int n) = natural n
+number_in (Real x) = 0
+number_in (Text t) = 0
+number_in (Blob b) = 0
+
+-- the row of a roll with these columns
+row_from : Roll → Cells → Row
+row_from Supervisors v = row.Supervisor (text_in (column v 0)) (text_in (column v 1)) (number_in (column v 2))
+row_from Projects v = row.Project (text_in (column v 0)) (text_in (column v 1)) (text_in (column v 2)) (number_in (column v 3))
+row_from Students v = row.Student (text_in (column v 0)) (text_in (column v 1))
+
+from_columns : (roll : Roll) (r : Row) → is_in roll r ≡ true → row_from roll (columns r) ≡ r
+unfolding row_from text_in number_in natural
+from_columns Supervisors (row.Supervisor c l n) h = refl
+from_columns Supervisors (row.Project c l s n) h = absurd (cc)
+from_columns Supervisors (row.Student c l) h = absurd (cc)
+from_columns Projects (row.Supervisor c l n) h = absurd (cc)
+from_columns Projects (row.Project c l s n) h = refl
+from_columns Projects (row.Student c l) h = absurd (cc)
+from_columns Students (row.Supervisor c l n) h = absurd (cc)
+from_columns Students (row.Project c l s n) h = absurd (cc)
+from_columns Students (row.Student c l) h = refl
+
+back_go : (roll : Roll) (r : Row) (rest : List Row) (b : Bool) → is_in roll r ≡ b → map (row_from roll) (map columns (filter (is_in roll) rest)) ≡ filter (is_in roll) rest
+    → map (row_from roll) (map columns (cond b (r ∷ filter (is_in roll) rest) (filter (is_in roll) rest))) ≡ cond b (r ∷ filter (is_in roll) rest) (filter (is_in roll) rest)
+back_go roll r rest true is later = λ i. from_columns roll r is i ∷ later i
+back_go roll r rest false is later = later
+
+back : (roll : Roll) (rows : List Row) → map (row_from roll) (columns_of roll rows) ≡ filter (is_in roll) rows
+back roll [] = refl
+back roll (r ∷ rest) = back_go roll r rest (is_in roll r) refl (back roll rest)
+
+rolls_permuted : (roll : Roll) (xs ys : List Row) → IsPermutation (columns_of roll xs) (columns_of roll ys) → IsPermutation (filter (is_in roll) xs) (filter (is_in roll) ys)
+rolls_permuted roll xs ys same = subst₂ IsPermutation (back roll xs) (back roll ys) (IsPermutation-map (row_from roll) _ _ same)
+
+abbrev by_rolls : List Row → List Row
+by_rolls rows = filter (is_in Supervisors) rows ++ (filter (is_in Projects) rows ++ filter (is_in Students) rows)
+
+-- rows sorted by their rolls
+sorted_go : (r : Row) (rest : List Row) → IsPermutation rest (by_rolls rest) → IsPermutation (r ∷ rest) (by_rolls (r ∷ rest))
+sorted_go (row.Supervisor c l n) rest h = IsPermutation-cons _ _ _ h
+sorted_go (row.Project c l s n) rest h = IsPermutation-trans _ _ _ (IsPermutation-cons _ _ _ h) (IsPermutation-sym _ _ (IsPermutation-middle (filter (is_in Supervisors) rest) (row.Project c l s n) _))
+sorted_go (row.Student c l) rest h =
+    let r = row.Student c l in
+    let sup = filter (is_in Supervisors) rest in
+    let inner : IsPermutation (r ∷ filter (is_in Projects) rest ++ filter (is_in Students) rest) (filter (is_in Projects) rest ++ r ∷ filter (is_in Students) rest) =
+    IsPermutation-sym _ _ (IsPermutation-middle (filter (is_in Projects) rest) r _) in
+    IsPermutation-trans _ _ _ (IsPermutation-cons _ _ _ h)
+    (IsPermutation-trans _ _ _ (IsPermutation-sym _ _ (IsPermutation-middle sup r _)) (IsPermutation-append_right sup _ _ inner))
+
+sorted : (rows : List Row) → IsPermutation rows (by_rolls rows)
+sorted [] = IsPermutation-refl _
+sorted (r ∷ rest) = sorted_go r rest (sorted rest)
+
+beside : (a b c d : List Row) → IsPermutation a b → IsPermutation c d → IsPermutation (a ++ c) (b ++ d)
+beside a b c d p q = IsPermutation-trans _ _ _ (IsPermutation-append_left c a b p) (IsPermutation-append_right b c d q)
+
+-- rows whose columns are the same in each table are the same
+pub permuted_by_rolls : (xs ys : List Row) → ((roll : Roll) → IsPermutation (columns_of roll xs) (columns_of roll ys)) → IsPermutation xs ys
+permuted_by_rolls xs ys same = IsPermutation-trans _ _ _ (sorted xs) (IsPermutation-trans _ _ _
+  (beside _ _ _ _ (rolls_permuted Supervisors xs ys (same Supervisors)) (beside _ _ _ _ (rolls_permuted Projects xs ys (same Projects)) (rolls_permuted Students xs ys (same Students))))
+  (IsPermutation-sym _ _ (sorted ys)))

@@ -1,0 +1,48 @@
+use Rattle.std.proofs.Common.{◌≡◌, ◌≢◌, Err, List, map, drop, sym, ap, subst, ◌∙◌, arith, rules}
+use Rattle.sqlite.specs.Order.{Row as Cells}
+use Rattle.sqlite.specs.State.{HasCleanDisk}
+use Rattle.sqlite.specs.Held.{state}
+use Rattle.office.specs.declared.draft.RowsFault.TheVariants.{Unfit}
+use Rattle.store.specs.declared.fault.StoreFault.TheVariants.{Damaged}
+use Rattle.store.specs.Faults.{of_rows}
+use Rattle.store.specs.Tables.{first_edition}
+use Rattle.store.specs.Reading.{AreListed}
+use Rattle.store.specs.Rows.{columns_of}
+use Rattle.store.proofs.Gathering.{none_back, holds_back, unchanged_then}
+use Rattle.store.proofs.Judged.{other_edition, unread, unfit, stood, refused}
+use Rattle.store.proofs.reading.office_of.Goals as goal
+
+pub returns-then-not-are_first-clause-damaged : goal.returns-then-not-are_first-clause-damaged
+returns-then-not-are_first-clause-damaged g c clean h =
+    let shows = c.in_ok-edition.ensures.rows clean in
+    let other = subst (λ (all : List Cells). map (drop 1) all ≢ first_edition) c.as_slice.ensures.value (c.are_first.ensures.wrong c.if-not-are_first.true) in
+    other_edition (state g.S.Store c.args.conn.now) c.schema.ensures.live shows.same.0.was_open _ _ shows other
+
+pub returns-in_err-rows-clause-damaged : goal.returns-in_err-rows-clause-damaged
+returns-in_err-rows-clause-damaged g c clean h =
+    let was : c.read_rows.result ≡ Err Damaged = search rules in
+    let found = c.read_rows.ensures.damaged clean was in
+    let early : HasCleanDisk (state g.S.Store c.read_edition.new.conn) = omega (arith, c.read_rows.ensures.survives.clean) in
+    let shows = c.in_ok-edition.ensures.rows early in
+    unread (state g.S.Store c.args.conn.now) c.schema.ensures.live shows.same.0.was_open found.1 (none_back found.1 _ _ shows.same.0.now_is found.2)
+
+pub returns-in_err-from_rows-clause-damaged : goal.returns-in_err-from_rows-clause-damaged
+returns-in_err-from_rows-clause-damaged g c clean h =
+    let gave : of_rows c.in_err-from_rows.field-0.0 ≡ Damaged = search rules in
+    let was : c.from_rows.result ≡ Err Unfit = c.in_err-from_rows.was {u = tt} ∙ ap Err (refused _ gave) in
+    let early : HasCleanDisk (state g.S.Store c.read_edition.new.conn) = omega (arith, c.read_rows.ensures.survives.clean) in
+    let shows = c.in_ok-edition.ensures.rows early in
+    let all = c.in_ok-rows.ensures.rows clean in
+    unfit (state g.S.Store c.args.conn.now) c.schema.ensures.live shows.same.0.was_open c.in_ok-rows.rows.items (λ roll. holds_back roll _ _ _ shows.same.0.now_is (all.holds roll)) (c.from_rows.ensures.unfit was)
+
+pub returns-clause-ok : goal.returns-clause-ok
+returns-clause-ok g c clean =
+    let early : HasCleanDisk (state g.S.Store c.read_edition.new.conn) = omega (arith, c.read_rows.ensures.survives.clean) in
+    let shows = c.in_ok-edition.ensures.rows early in
+    let all = c.in_ok-rows.ensures.rows clean in
+    let listed = subst AreListed c.schema.ensures.value (c.are_listed.ensures.right c.if-not-are_listed.false) in
+    let first = subst (λ (rows : List Cells). map (drop 1) rows ≡ first_edition) c.as_slice.ensures.value (c.are_first.ensures.right c.if-not-are_first.false) in
+    (
+      unchanged_then _ _ _ shows.same all.same,
+      stood (state g.S.Store c.args.conn.now) c.schema.ensures.live shows.same.0.was_open listed _ _ c.in_ok-rows.rows.items _ shows first (λ roll. holds_back roll _ _ _ shows.same.0.now_is (all.holds roll)) c.in_ok-from_rows.ensures.rows,
+    )

@@ -1,0 +1,13 @@
+use Rattle.std.proofs.Common.{sym, subst, ◌∙◌}
+use Rattle.sqlite.specs.Held.{state}
+use Rattle.sqlite.proofs.StateLemmas.{survives_weaker}
+use Rattle.store.specs.Saving.{AreInert}
+use Rattle.store.proofs.Applying.{saves_call, saves_left}
+use Rattle.store.proofs.saving.save_changes.Goals as goal
+
+pub returns-clause-ok : goal.returns-clause-ok
+returns-clause-ok g c clean = saves_call _ _ _ _ (subst AreInert c.schema.ensures.value (c.are_left.ensures c.if-not-are_left.false)) (c.save_all.ensures.ok clean)
+
+pub returns-clause-crash : goal.returns-clause-crash
+returns-clause-crash g c =
+    survives_weaker _ _ _ _ (λ clean trees h. saves_left _ _ trees (subst AreInert c.schema.ensures.value (c.are_left.ensures c.if-not-are_left.false)) h) c.save_all.ensures.crash

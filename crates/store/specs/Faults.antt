@@ -1,0 +1,17 @@
+-- Why a call of the store fails, by why a call below it does.
+use Rattle.tables.specs.declared.fault.TableFault.{TableFault}
+use Rattle.tables.specs.declared.fault.TableFault.TheVariants as table
+use Rattle.office.specs.declared.draft.RowsFault.{RowsFault}
+use Rattle.office.specs.declared.draft.RowsFault.TheVariants as rows
+use Rattle.store.specs.declared.fault.StoreFault.{StoreFault}
+use Rattle.store.specs.declared.fault.StoreFault.TheVariants.{Memory, Storage, Damaged}
+
+-- a statement's fault
+abbrev pub of_table : TableFault → StoreFault
+of_table table.Memory = Memory
+of_table table.Storage = Storage
+
+-- rows that are not those of an office
+abbrev pub of_rows : RowsFault → StoreFault
+of_rows rows.Memory = Memory
+of_rows rows.Unfit = Damaged

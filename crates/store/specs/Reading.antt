@@ -1,0 +1,76 @@
+-- What the rows that are read from the tables say.
+use Rattle.std.specs.Prelude.{◌≡◌, ◌≢◌, ◌<◌, ◌^◌, ℕ, true, IsTrue, List, map, drop, nat_lt}
+use Rattle.std.specs.List.{list_all}
+use Rattle.sqlite.specs.Order.{Row as Cells}
+use Rattle.sqlite.specs.Effect.{Database}
+use Rattle.rolls.specs.declared.row.Row.{Row}
+use Rattle.rolls.specs.declared.row.Row.TheVariants as row
+use Rattle.rolls.specs.State.{State}
+use Rattle.rolls.specs.Fit.{IsFit}
+use Rattle.store.specs.declared.roll.Roll.{Roll}
+use Rattle.store.specs.Rows.{columns, is_in, columns_of, table_of}
+use Rattle.sqlite.specs.Schema.{Schema}
+use Rattle.sqlite.specs.State.{State as Seen, IsUnchanged}
+use Rattle.sqlite_rules.specs.Lists.{Has}
+use Rattle.tables.specs.Table.{Place, Lists, edition_table}
+use Rattle.tables.specs.Keyed.{Stands}
+use Rattle.store.specs.Tables.{StandsFor}
+
+-- the quota, if there is one, is a `u32`
+abbrev pub HasSmallQuota : Row → Type 0
+HasSmallQuota (row.Supervisor code label quota) = quota < 2 ^ 32
+HasSmallQuota (row.Project code label supervisor quota) = quota < 2 ^ 32
+HasSmallQuota (row.Student code label) = Unit {0}
+
+-- no row of the roll has these columns
+abbrev pub IsNoRow : Roll → Cells → Type 0
+IsNoRow roll cells = (row : Row) → is_in roll row ≡ true → HasSmallQuota row → columns row ≢ cells
+
+-- the rows of the roll whose columns these are, each after its rowid
+pub record AreRowsOf (roll : Roll) (cells : List Cells) (rows : List Row) : Type 0 where
+  pub columns : map columns rows ≡ map (drop 1) cells
+  pub kind : list_all (is_in roll) rows ≡ true
+
+-- the product's tables are listed with their columns and rules, each in a tree of its own
+pub record AreListed (schema : Schema) : Type 0 where
+  pub edition : Place
+  pub places : Roll → Place
+  pub edition_apart : (roll : Roll) → (places roll).tree ≢ edition.tree
+  pub apart : (a b : Roll) → a ≢ b → (places a).tree ≢ (places b).tree
+  pub edition_listed : Lists schema (edition_table edition)
+  pub rolls_listed : (roll : Roll) → Lists schema (table_of roll (places roll))
+
+-- no two of four numbers are one
+abbrev pub AreApart : ℕ → ℕ → ℕ → ℕ → Type 0
+AreApart a b c d = (a ≢ b) × (a ≢ c) × (a ≢ d) × (b ≢ c) × (b ≢ d) × (c ≢ d)
+
+-- wherever the table of the roll is listed it holds these columns
+abbrev pub HoldsCells : Roll → List Cells → Database → Type 0
+HoldsCells roll cells db = (place : Place) → Lists db.schema (table_of roll place) → nat_lt place.tree (2 ^ 31) ≡ true → Stands (table_of roll) place cells db
+
+-- a roll was read, and nothing has changed
+pub record ReadsRoll (roll : Roll) (rows : List Row) (old new : Seen) : Type 0 where
+  pub same : IsUnchanged old new
+  pub kind : list_all (is_in roll) rows ≡ true
+  pub holds : HoldsCells roll (map columns rows) old.now
+
+-- the table of a roll holds columns that no row has
+pub record HoldsNoRow (roll : Roll) (db : Database) : Type 0 where
+  pub all : List Cells
+  pub cells : Cells
+  pub among : Has all cells
+  pub none : IsNoRow roll cells
+  pub holds : HoldsCells roll all db
+
+-- each roll was read, and nothing has changed
+pub record ReadsAll (rows : List Row) (old new : Seen) : Type 0 where
+  pub same : IsUnchanged old new
+  pub holds : (roll : Roll) → HoldsCells roll (columns_of roll rows) old.now
+
+-- one of the rolls holds columns that no row has
+abbrev pub HoldsUnread : Seen → Type 0
+HoldsUnread old = IsTrue old.is_open × (roll : Roll) × HoldsNoRow roll old.now
+
+-- the tables stand for no fit office
+abbrev pub IsDamaged : Database → Type 0
+IsDamaged db = (office : State) → IsFit office → StandsFor db office → ⊥

@@ -1,0 +1,36 @@
+-- What saving changes does to the tables.
+use Rattle.std.specs.Prelude.{◌≡◌, List, Option}
+use Rattle.sqlite.specs.Schema.{Schema}
+use Rattle.sqlite.specs.Table.{Table}
+use Rattle.sqlite.specs.Effect.{Database}
+use Rattle.rolls.specs.declared.row.Row.{Row}
+use Rattle.rolls.specs.declared.row.RowKey.{RowKey}
+use Rattle.rolls.specs.declared.row.Change.{Change}
+use Rattle.rolls.specs.Rows.{after_change, after_changes}
+use Rattle.tables.specs.Table.{Place, Lists}
+use Rattle.store.specs.Rows.{table_of}
+use Rattle.store.specs.declared.roll.Roll.{Roll}
+use Rattle.tables.specs.Writes.{IsInert}
+use Rattle.store.specs.Tables.{TablesHold}
+
+-- whatever rows the tables held, they hold those after the changes
+unfoldable pub Saves : List Change → Database → Database → Type 0
+Saves changes old new = (rows : RowKey → Option Row) → TablesHold old rows → TablesHold new (after_changes changes rows)
+
+-- no foreign key acts on this table, wherever it is listed
+abbrev pub IsLeftAlone : (Place → Table) → Schema → Type 0
+IsLeftAlone table schema = (place : Place) → Lists schema (table place) → IsInert schema place.tree
+
+-- no foreign key of another table acts on the product's tables
+abbrev pub AreInert : Schema → Type 0
+AreInert schema = (roll : Roll) → IsLeftAlone (table_of roll) schema
+
+-- the same, of a run of statements: the schema stays as it is
+unfoldable pub Applies : List Change → Database → Database → Type 0
+Applies changes old new =
+    AreInert old.schema → (rows : RowKey → Option Row) → TablesHold old rows → TablesHold new (after_changes changes rows) × (new.schema ≡ old.schema)
+
+-- the same, of one change
+unfoldable pub AppliesOne : Change → Database → Database → Type 0
+AppliesOne change old new =
+    AreInert old.schema → (rows : RowKey → Option Row) → TablesHold old rows → TablesHold new (after_change change rows) × (new.schema ≡ old.schema)

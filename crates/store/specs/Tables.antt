@@ -1,0 +1,62 @@
+-- When the tables of a database hold the rows of an office.
+use Rattle.std.specs.Prelude.{◌≡◌, ◌≢◌, ◌⊎◌, ℕ, pos, true, false, List, [], ◌∷◌, Option, is_some, codes}
+use Rattle.sqlite.specs.declared.types.Value.TheVariants.{Int}
+use Rattle.sqlite.specs.Order.{Row as Cells}
+use Rattle.sqlite.specs.Schema.{Schema}
+use Rattle.sqlite.specs.Tree.{Trees}
+use Rattle.sqlite.specs.Effect.{Database}
+use Rattle.sqlite.specs.State.{State as Seen}
+use Rattle.sqlite_schema.specs.Names.{table_named}
+use Rattle.rolls.specs.declared.row.Row.{Row}
+use Rattle.rolls.specs.declared.row.RowKey.{RowKey}
+use Rattle.rolls.specs.Rows.{row_of}
+use Rattle.rolls.specs.State.{State, empty}
+use Rattle.tables.specs.Table.{Place, edition_table}
+use Rattle.tables.specs.Keyed.{Stands}
+use Rattle.store.specs.Rows.{AreRowsAt, columns_of, table_of}
+use Rattle.store.specs.declared.roll.Roll.{Roll}
+
+-- the one row of `edition`: its number is 1
+abbrev pub first_edition : List Cells
+first_edition = (Int (pos 1) ∷ Int (pos 1) ∷ []) ∷ []
+
+-- The product's tables are listed with their columns and rules, each in a tree of its own, and at each key
+-- there is exactly this row. What else the schema lists is not looked at.
+pub record TablesHold (db : Database) (rows : RowKey → Option Row) : Type 0 where
+  pub edition : Place
+  pub places : Roll → Place
+  pub edition_apart : (roll : Roll) → (places roll).tree ≢ edition.tree
+  pub apart : (a b : Roll) → a ≢ b → (places a).tree ≢ (places b).tree
+
+  pub list : List Row
+  pub at : AreRowsAt list rows
+  pub editions : Stands edition_table edition first_edition db
+  pub rolls : (roll : Roll) → Stands (table_of roll) (places roll) (columns_of roll list) db
+
+-- the tables hold the rows of this office, and nothing else
+abbrev pub StandsFor : Database → State → Type 0
+StandsFor db office = TablesHold db (row_of office)
+
+-- none of the product's tables is there
+pub record HasNone (schema : Schema) : Type 0 where
+  pub edition : is_some (table_named schema (codes "edition")) ≡ false
+  pub supervisor : is_some (table_named schema (codes "supervisor")) ≡ false
+  pub project : is_some (table_named schema (codes "project")) ≡ false
+  pub student : is_some (table_named schema (codes "student")) ≡ false
+
+-- a database with none of the tables comes to stand for the empty office
+pub record Founds (old new : Database) : Type 0 where
+  pub none : HasNone old.schema
+  pub stands : StandsFor new empty
+
+-- a database comes to stand for the empty office
+unfoldable pub Empties : Database → Database → Type 0
+Empties old new = StandsFor new empty
+
+-- what was opened: the empty office where none of the tables was there, and else the office that they stand for
+abbrev pub Opens : Database → Database → State → Type 0
+Opens old new office = (HasNone old.schema × (office ≡ empty) × StandsFor new empty) ⊎ ((new ≡ old) × StandsFor old office)
+
+-- a crash leaves what is seen, and nothing else
+abbrev pub LeavesAlone : Seen → Type 0
+LeavesAlone s = (trees : Trees) → s.may_leave trees → trees ≡ s.now.trees

@@ -1,0 +1,66 @@
+//! Why a call of the store fails.
+
+use office::RowsFault;
+use std::alloc::{AllocError, AllocFailed};
+use tables::fault::TableFault;
+
+/// Why a call of the store was not carried out.
+#[derive(Clone, Copy, Debug, PartialEq, Eq, Drop)]
+pub enum StoreFault {
+    /// A growth was refused.
+    Memory,
+    /// The database refused it, or its disk failed.
+    Storage,
+    /// The tables stand for no office of this edition.
+    Damaged,
+}
+
+impl From<TableFault> for StoreFault {
+    ghost use Rattle.std.specs.Prelude.{◌≡◌};
+    ghost use Rattle.store.specs.Faults.{of_table};
+
+    ghost from_gives = { λ e fault. fault ≡ of_table e };
+
+    fn from(fault: TableFault) -> StoreFault {
+        match fault {
+            TableFault::Memory => StoreFault::Memory,
+            TableFault::Storage => StoreFault::Storage,
+        }
+    }
+}
+
+impl From<RowsFault> for StoreFault {
+    ghost use Rattle.std.specs.Prelude.{◌≡◌};
+    ghost use Rattle.store.specs.Faults.{of_rows};
+
+    ghost from_gives = { λ e fault. fault ≡ of_rows e };
+
+    fn from(fault: RowsFault) -> StoreFault {
+        match fault {
+            RowsFault::Memory => StoreFault::Memory,
+            RowsFault::Unfit => StoreFault::Damaged,
+        }
+    }
+}
+
+impl From<AllocError> for StoreFault {
+    ghost use Rattle.std.specs.Prelude.{◌≡◌};
+    ghost use Rattle.store.specs.declared.fault.StoreFault.TheVariants.{Memory};
+
+    ghost from_gives = { λ _ fault. fault ≡ Memory };
+
+    fn from(_error: AllocError) -> StoreFault {
+        StoreFault::Memory
+    }
+}
+
+impl<T: Drop> From<AllocFailed<T>> for StoreFault {
+    ghost use Rattle.std.specs.Prelude.{◌≡◌};
+    ghost use Rattle.store.specs.declared.fault.StoreFault.TheVariants.{Memory};
+
+    ghost from_gives = { λ _ fault. fault ≡ Memory };
+
+    fn from(_error: AllocFailed<T>) -> StoreFault {
+        StoreFault::Memory
+    }
+}

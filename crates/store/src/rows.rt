@@ -1,0 +1,101 @@
+//! Rows as they are read.
+
+ghost use Rattle.std.specs.Prelude.{◌≡◌, ◌≢◌, ◌<◌, ◌^◌, ℕ, pos, List, IfOk, drop, true};
+ghost use Rattle.sqlite.specs.declared.types.Value.TheVariants.{Int, Text as Words};
+ghost use Rattle.sqlite.specs.Order.{Row as AnyCells, column};
+ghost use Rattle.sqlite_rules.specs.Lists.{Has};
+ghost use Rattle.store.specs.Rows.{columns, is_in, width_of};
+ghost use Rattle.store.specs.Reading.{IsNoRow, AreRowsOf};
+
+use crate::fault::StoreFault;
+use crate::roll::Roll;
+use rolls::{Row, Text};
+use sqlite::Row as Cells;
+use sqlite_value::value::ValueRef;
+use std::alloc::Global;
+
+/// The text in a column.
+fn text_at(alloc: Global, cells: &Cells, at: usize) -> Result<Text, StoreFault>
+    ensures text { IfOk result (λ text. column cells.now at ≡ Words text) }
+    ensures damaged { result ≡ Err StoreFault.Damaged → (text : List ℕ) → column cells.now at ≢ Words text }
+{
+    let Ok(value) = cells.get_ref(at) else {
+        return Err(StoreFault::Storage);
+    };
+    let ValueRef::Text(bytes) = value else {
+        return Err(StoreFault::Damaged);
+    };
+    let Ok(text) = std::str::from_utf8(bytes) else {
+        return Err(StoreFault::Storage);
+    };
+    Ok(Text::of(alloc, text)?)
+}
+
+/// The number in a column.
+fn number_at(cells: &Cells, at: usize) -> Result<u32, StoreFault>
+    ensures number { IfOk result (λ n. column cells.now at ≡ Int (pos n)) }
+    ensures damaged { result ≡ Err StoreFault.Damaged → (n : ℕ) → n < 2 ^ 32 → column cells.now at ≢ Int (pos n) }
+{
+    let Ok(value) = cells.get_ref(at) else {
+        return Err(StoreFault::Storage);
+    };
+    let ValueRef::Int(n) = value else {
+        return Err(StoreFault::Damaged);
+    };
+    match u32::try_from(n) {
+        Ok(n) => Ok(n),
+        Err(_) => Err(StoreFault::Damaged),
+    }
+}
+
+/// How many columns a row of the roll has.
+fn width_of(roll: Roll) -> usize
+    ensures { result ≡ width_of roll }
+{
+    match roll {
+        Roll::Supervisors => 3,
+        Roll::Projects => 4,
+        Roll::Students => 2,
+    }
+}
+
+/// The row with these columns, which come after its rowid.
+fn row_with(alloc: Global, roll: Roll, cells: &Cells) -> Result<Row, StoreFault>
+    ensures row { IfOk result (λ row. (is_in roll row ≡ true) × (columns row ≡ drop 1 cells.now)) }
+    ensures damaged { result ≡ Err StoreFault.Damaged → IsNoRow roll (drop 1 cells.now) }
+{
+    if cells.column_count() != width_of(roll) + 1 {
+        return Err(StoreFault::Storage);
+    }
+    let code = text_at(alloc, cells, 1)?;
+    let label = text_at(alloc, cells, 2)?;
+    match roll {
+        Roll::Supervisors => {
+            let quota = number_at(cells, 3)?;
+            Ok(Row::Supervisor { code, label, quota })
+        }
+        Roll::Projects => {
+            let supervisor = text_at(alloc, cells, 3)?;
+            let quota = number_at(cells, 4)?;
+            Ok(Row::Project {
+                code,
+                label,
+                supervisor,
+                quota,
+            })
+        }
+        Roll::Students => Ok(Row::Student { code, label }),
+    }
+}
+
+/// The rows with these columns.
+pub fn rows_with(alloc: Global, roll: Roll, all: &[Cells]) -> Result<Vec<Row>, StoreFault>
+    ensures rows { IfOk result (λ rows. AreRowsOf roll all.now rows.items) }
+    ensures damaged { result ≡ Err StoreFault.Damaged → (cells : AnyCells) × Has all.now cells × IsNoRow roll (drop 1 cells) }
+{
+    let mut rows = Vec::new(alloc);
+    for cells in all {
+        rows.push(row_with(alloc, roll, cells)?)?;
+    }
+    Ok(rows)
+}

@@ -1,0 +1,110 @@
+//! Changes, in a transaction.
+
+ghost use Rattle.std.specs.Prelude.{◌≡◌, ◌≢◌, IsTrue, false, OnOk, OnErr};
+ghost use Rattle.sqlite.specs.State.{HasCleanDisk, KeepsCommit, Survives};
+ghost use Rattle.sqlite.specs.Held.{state};
+ghost use Rattle.tables.specs.Steps.{HasSaved, HasStepped, IsKept, IsLeft, Stays};
+ghost use Rattle.store.specs.Saving.{Applies, AppliesOne, Saves};
+
+use crate::fault::StoreFault;
+use crate::quiet::are_left;
+use rolls::{Change, Row, RowKey};
+use sqlite::{Alter, Connection, Transaction};
+use tables::fault::TableFault;
+use tables::project::{delete_project, put_project};
+use tables::student::{delete_student, put_student};
+use tables::supervisor::{delete_supervisor, put_supervisor};
+
+/// Puts a row in its table.
+fn put_row<S: Alter>(tx: &mut Transaction<'_, S>, row: &Row) -> Result<(), TableFault>
+    ensures same_reference { tx.new.conn.ghost_name ≡ tx.old.conn.ghost_name }
+    ensures survives { Survives (state S.Store tx.old.conn.now) (state S.Store tx.new.conn.now) (λ _. ⊥) }
+    ensures stepped { HasCleanDisk (state S.Store tx.new.conn.now) → OnOk result (HasStepped (AppliesOne (Change.Put row.now)) (state S.Store tx.old.conn.now) (state S.Store tx.new.conn.now)) }
+    ensures kept { HasCleanDisk (state S.Store tx.new.conn.now) → KeepsCommit (state S.Store tx.old.conn.now) (state S.Store tx.new.conn.now) }
+{
+    match row {
+        Row::Supervisor { code, label, quota } => {
+            put_supervisor(tx, code.as_str(), label.as_str(), *quota)
+        }
+        Row::Project {
+            code,
+            label,
+            supervisor,
+            quota,
+        } => put_project(tx, code.as_str(), label.as_str(), supervisor.as_str(), *quota),
+        Row::Student { code, label } => put_student(tx, code.as_str(), label.as_str()),
+    }
+}
+
+/// Takes the row with a key out of its table.
+fn take_row<S: Alter>(tx: &mut Transaction<'_, S>, key: &RowKey) -> Result<(), TableFault>
+    ensures same_reference { tx.new.conn.ghost_name ≡ tx.old.conn.ghost_name }
+    ensures survives { Survives (state S.Store tx.old.conn.now) (state S.Store tx.new.conn.now) (λ _. ⊥) }
+    ensures stepped { HasCleanDisk (state S.Store tx.new.conn.now) → OnOk result (HasStepped (AppliesOne (Change.Take key.now)) (state S.Store tx.old.conn.now) (state S.Store tx.new.conn.now)) }
+    ensures kept { HasCleanDisk (state S.Store tx.new.conn.now) → KeepsCommit (state S.Store tx.old.conn.now) (state S.Store tx.new.conn.now) }
+{
+    match key {
+        RowKey::Supervisor(code) => delete_supervisor(tx, code.as_str()),
+        RowKey::Project(code) => delete_project(tx, code.as_str()),
+        RowKey::Student(code) => delete_student(tx, code.as_str()),
+    }
+}
+
+/// Makes one change.
+fn apply<S: Alter>(tx: &mut Transaction<'_, S>, change: &Change) -> Result<(), TableFault>
+    ensures same_reference { tx.new.conn.ghost_name ≡ tx.old.conn.ghost_name }
+    ensures survives { Survives (state S.Store tx.old.conn.now) (state S.Store tx.new.conn.now) (λ _. ⊥) }
+    ensures stepped { HasCleanDisk (state S.Store tx.new.conn.now) → OnOk result (HasStepped (AppliesOne change.now) (state S.Store tx.old.conn.now) (state S.Store tx.new.conn.now)) }
+    ensures kept { HasCleanDisk (state S.Store tx.new.conn.now) → KeepsCommit (state S.Store tx.old.conn.now) (state S.Store tx.new.conn.now) }
+{
+    match change {
+        Change::Put(row) => put_row(tx, row),
+        Change::Take(key) => take_row(tx, key),
+    }
+}
+
+/// Makes the changes in turn.
+pub fn apply_all<S: Alter>(tx: &mut Transaction<'_, S>, changes: &[Change]) -> Result<(), TableFault>
+    ensures same_reference { tx.new.conn.ghost_name ≡ tx.old.conn.ghost_name }
+    ensures survives { Survives (state S.Store tx.old.conn.now) (state S.Store tx.new.conn.now) (λ _. ⊥) }
+    ensures stays { HasCleanDisk (state S.Store tx.new.conn.now) → OnOk result (Stays (Applies changes.now) (state S.Store tx.old.conn.now) (state S.Store tx.new.conn.now)) }
+    ensures kept { HasCleanDisk (state S.Store tx.new.conn.now) → KeepsCommit (state S.Store tx.old.conn.now) (state S.Store tx.new.conn.now) }
+{
+    for change in changes {
+        apply(tx, change)?;
+    }
+    Ok(())
+}
+
+/// Makes the changes in one transaction.
+fn save_all<S: Alter>(conn: &mut Connection<S>, changes: &[Change]) -> Result<(), StoreFault>
+    ensures ok { HasCleanDisk (state S.Store conn.new) → OnOk result (HasSaved (Applies changes.now) (state S.Store conn.old) (state S.Store conn.new)) }
+    ensures err { HasCleanDisk (state S.Store conn.new) → OnErr result (IsKept (state S.Store conn.old) (state S.Store conn.new)) }
+    ensures faults { result ≢ Err StoreFault.Damaged }
+    ensures crash { Survives (state S.Store conn.old) (state S.Store conn.new) (IsLeft (Applies changes.now) (state S.Store conn.old).now) }
+    ensures ended { conn.old.in_transaction ≡ false → conn.new.in_transaction ≡ false }
+{
+    if !conn.is_autocommit() {
+        return Err(StoreFault::Storage);
+    }
+    let mut tx = conn.transaction();
+    apply_all(&mut tx, changes)?;
+    match tx.commit() {
+        Ok(()) => Ok(()),
+        Err(error) => Err(TableFault::from(error).into()),
+    }
+}
+
+/// Makes the changes in one transaction, where no other table acts on the product's.
+pub fn save_changes<S: Alter>(conn: &mut Connection<S>, changes: &[Change]) -> Result<(), StoreFault>
+    ensures ok { HasCleanDisk (state S.Store conn.new) → OnOk result (HasSaved (Saves changes.now) (state S.Store conn.old) (state S.Store conn.new)) }
+    ensures err { HasCleanDisk (state S.Store conn.new) → OnErr result (IsKept (state S.Store conn.old) (state S.Store conn.new)) }
+    ensures faults { result ≢ Err StoreFault.Damaged }
+    ensures crash { Survives (state S.Store conn.old) (state S.Store conn.new) (IsLeft (Saves changes.now) (state S.Store conn.old).now) }
+    ensures ended { conn.old.in_transaction ≡ false → conn.new.in_transaction ≡ false }
+{
+    if !are_left(conn.schema()) {
+        return Err(StoreFault::Storage);
+    }
+    save_all(conn, changes)
+}

@@ -1,0 +1,130 @@
+//! The store.
+
+ghost use Rattle.std.specs.Prelude.{◌≡◌, ◌≢◌, IsTrue, false, IfOk, IfErr, OnOk, OnErr};
+ghost use Rattle.sqlite.specs.State.{HasCleanDisk, Survives};
+ghost use Rattle.sqlite.specs.Held.{state};
+ghost use Rattle.tables.specs.Steps.{HasSaved, IsKept, IsLeft};
+ghost use Rattle.store.specs.Tables.{Founds, HasNone, LeavesAlone, Opens, StandsFor};
+ghost use Rattle.store.specs.Reading.{IsDamaged};
+ghost use Rattle.store.specs.Saving.{Saves};
+
+use crate::fault::StoreFault;
+use crate::founding::{found, has_none};
+use crate::reading::office_of;
+use crate::saving::save_changes;
+use office::Office;
+use rolls::Change;
+use sqlite::{Alter, Connection};
+use std::alloc::Global;
+use std::marker::Model;
+
+/// The office's tables, over a database.
+pub struct Store<S: Alter> {
+    conn: Connection<S>,
+    alloc: Global,
+}
+
+impl<S: Alter> Model for Store<S> {
+    ghost use Rattle.sqlite.specs.Held.{Held, held_code};
+
+    ghost Value = { Held S };
+
+    ghost coded = { held_code S.code };
+
+    ghost view = { λ s. s.conn };
+}
+
+/// The office of the tables, which are made where none of them is there.
+fn open_tables<S: Alter>(alloc: Global, conn: &mut Connection<S>) -> Result<Office, StoreFault>
+    ensures ok { HasCleanDisk (state S.Store conn.new) → IfOk result (Opens (state S.Store conn.old).now (state S.Store conn.new).now) }
+    ensures ended { OnOk result (conn.new.in_transaction ≡ false) }
+    ensures alone { HasCleanDisk (state S.Store conn.new) → OnOk result (LeavesAlone (state S.Store conn.new)) }
+    ensures damaged { HasCleanDisk (state S.Store conn.new) → result ≡ Err StoreFault.Damaged → IsDamaged (state S.Store conn.old).now }
+    ensures some { result ≡ Err StoreFault.Damaged → HasNone (state S.Store conn.old).now.schema → ⊥ }
+    ensures kept { HasCleanDisk (state S.Store conn.new) → OnErr result (IsKept (state S.Store conn.old) (state S.Store conn.new)) }
+    ensures crash { Survives (state S.Store conn.old) (state S.Store conn.new) (IsLeft Founds (state S.Store conn.old).now) }
+{
+    if !conn.is_autocommit() {
+        return Err(StoreFault::Storage);
+    }
+    if has_none(conn.schema()) {
+        found(conn)?;
+        return Ok(Office::new(alloc));
+    }
+    office_of(alloc, conn)
+}
+
+/// The office of the tables, where no transaction is open.
+fn load_tables<S: Alter>(alloc: Global, conn: &mut Connection<S>) -> Result<Office, StoreFault>
+    ensures ok { HasCleanDisk (state S.Store conn.new) → IfOk result (StandsFor (state S.Store conn.old).now) }
+    ensures damaged { HasCleanDisk (state S.Store conn.new) → result ≡ Err StoreFault.Damaged → IsDamaged (state S.Store conn.old).now }
+    ensures kept { HasCleanDisk (state S.Store conn.new) → IsKept (state S.Store conn.old) (state S.Store conn.new) }
+    ensures crash { Survives (state S.Store conn.old) (state S.Store conn.new) (λ _. ⊥) }
+    ensures ended { conn.old.in_transaction ≡ false → conn.new.in_transaction ≡ false }
+{
+    if !conn.is_autocommit() {
+        return Err(StoreFault::Storage);
+    }
+    office_of(alloc, conn)
+}
+
+impl<S: Alter> Store<S> {
+    /// Opens the tables: the office that they stand for, or the empty one of a database that has none of
+    /// them, where they are made in one transaction. Other tables are left alone. With a fault the
+    /// connection is given back.
+    pub fn open(
+        alloc: Global,
+        mut conn: Connection<S>,
+    ) -> Result<(Store<S>, Office), (StoreFault, Connection<S>)>
+        ensures ok { IfOk result (λ it. HasCleanDisk (state S.Store it.0) → Opens (state S.Store conn).now (state S.Store it.0).now it.1) }
+        ensures ended { IfOk result (λ it. let store = it.0 in store.in_transaction ≡ false) }
+        ensures alone { IfOk result (λ it. HasCleanDisk (state S.Store it.0) → LeavesAlone (state S.Store it.0)) }
+        ensures damaged { IfErr result (λ it. HasCleanDisk (state S.Store it.1) → it.0 ≡ StoreFault.Damaged → IsDamaged (state S.Store conn).now) }
+        ensures some { IfErr result (λ it. it.0 ≡ StoreFault.Damaged → HasNone (state S.Store conn).now.schema → ⊥) }
+        ensures kept { IfErr result (λ it. HasCleanDisk (state S.Store it.1) → IsKept (state S.Store conn) (state S.Store it.1)) }
+
+        // A crash at any moment of the call.
+        ensures crash { IfOk result (λ it. Survives (state S.Store conn) (state S.Store it.0) (IsLeft Founds (state S.Store conn).now)) }
+        ensures crash_err { IfErr result (λ it. Survives (state S.Store conn) (state S.Store it.1) (IsLeft Founds (state S.Store conn).now)) }
+    {
+        match open_tables(alloc, &mut conn) {
+            Ok(office) => Ok((Store { conn, alloc }, office)),
+            Err(fault) => Err((fault, conn)),
+        }
+    }
+
+    /// Reads the office from its tables.
+    pub fn load(&mut self) -> Result<Office, StoreFault>
+        ensures ok { HasCleanDisk (state S.Store self.new) → IfOk result (StandsFor (state S.Store self.old).now) }
+        ensures damaged { HasCleanDisk (state S.Store self.new) → result ≡ Err StoreFault.Damaged → IsDamaged (state S.Store self.old).now }
+        ensures kept { HasCleanDisk (state S.Store self.new) → IsKept (state S.Store self.old) (state S.Store self.new) }
+
+        // A crash at any moment of the call.
+        ensures crash { Survives (state S.Store self.old) (state S.Store self.new) (λ _. ⊥) }
+        ensures ended { self.old.in_transaction ≡ false → self.new.in_transaction ≡ false }
+    {
+        load_tables(self.alloc, &mut self.conn)
+    }
+
+    /// Makes the changes in one transaction, which touches only the rows that they name.
+    pub fn save(&mut self, changes: &[Change]) -> Result<(), StoreFault>
+        ensures ok { HasCleanDisk (state S.Store self.new) → OnOk result (HasSaved (Saves changes.now) (state S.Store self.old) (state S.Store self.new)) }
+        ensures alone { HasCleanDisk (state S.Store self.new) → OnOk result (LeavesAlone (state S.Store self.new)) }
+        ensures err { HasCleanDisk (state S.Store self.new) → OnErr result (IsKept (state S.Store self.old) (state S.Store self.new)) }
+        ensures faults { result ≢ Err StoreFault.Damaged }
+
+        // A crash at any moment of the call.
+        ensures crash { Survives (state S.Store self.old) (state S.Store self.new) (IsLeft (Saves changes.now) (state S.Store self.old).now) }
+        ensures ended { self.old.in_transaction ≡ false → self.new.in_transaction ≡ false }
+    {
+        save_changes(&mut self.conn, changes)
+    }
+
+    /// Gives the connection up. Takes no memory.
+    pub fn into_connection(self) -> Connection<S>
+        ensures same { result ≡ self }
+    {
+        let Store { conn, alloc: _ } = self;
+        conn
+    }
+}

@@ -1,0 +1,151 @@
+-- What an INSERT of one row does to the rows of a table, and what its text means under any schema.
+use Rattle.std.proofs.Common.{◌≡◌, ◌≢◌, ◌⊎◌, inl, inr, ℕ, ℤ, ◌+◌, ◌/◌, length, List, [], ◌∷◌, ◌++◌, map, filter, slice_get, slice_range, Option, Some, None, Ok, Err, Result, refl, sym, ap, subst, ◌∙◌, false, true, Bool, cond, not, ◌&&◌}
+use Rattle.std.specs.List.Sorted.{IsPermutation}
+use Rattle.std.proofs.lemmas.Bool.{and_parts}
+use Rattle.std.proofs.lemmas.List.Sorted.{IsPermutation-trans, IsPermutation-cons, IsPermutation-map}
+use Rattle.sqlite.specs.declared.types.Value.{Value}
+use Rattle.sqlite.specs.declared.types.Value.TheVariants.{Null, Int}
+use Rattle.sqlite.specs.Order.{Row}
+use Rattle.sqlite.specs.Schema.{Schema}
+use Rattle.sqlite.specs.Table.{Table}
+use Rattle.sqlite.specs.Term.{Term}
+use Rattle.sqlite.specs.Kind.TheVariants.{Integer}
+use Rattle.sqlite.specs.Cast.{cast, cast_row}
+use Rattle.sqlite.specs.Ops.{unary}
+use Rattle.sqlite.specs.Tree.{put_row}
+use Rattle.sqlite.specs.Edit.{is_taken, Applies, with_rowid}
+use Rattle.sqlite.specs.Effect.{value_rows}
+use Rattle.sqlite.specs.Command.TheVariants.{Insert}
+use Rattle.sqlite.specs.Source.TheVariants.{Values}
+use Rattle.sqlite.specs.State.{State, mode_of, Executes, text_of}
+use Rattle.sqlite.specs.Rowids.TheVariants.{Chosen}
+use Rattle.sqlite.specs.Compile.{compiled, first, timed, returning, command, small, with_command, on_table, planned, meaning, insert, insert_or_abort, new_rows, shows}
+use Rattle.sqlite.specs.Listing.{understood}
+use Rattle.sqlite_schema.specs.Names.{table_named}
+use Rattle.sqlite_schema.specs.declared.command.Returning.{Returning}
+use Rattle.sqlite_schema.specs.declared.schema.Keys.TheVariants.{Enforced}
+use Rattle.sqlite_syntax.specs.declared.statement.Parsed.{Parsed}
+use Rattle.sqlite_ast.specs.declared.Statement.{Statement}
+use Rattle.sqlite_ast.specs.declared.Statement.TheVariants as written
+use Rattle.sqlite_ast.specs.declared.Conflict.TheVariants as conflict
+use Rattle.sqlite_ast.specs.declared.Rows.{Rows}
+use Rattle.sqlite_resolve.specs.Lowering.{Checked}
+use Rattle.sqlite_resolve.specs.declared.compiled.Compiled.{Compiled}
+use Rattle.sqlite.specs.Command.{Command}
+use Rattle.tables.specs.Table.{Place, Lists, cells}
+use Rattle.tables.specs.Keyed.{IsKeyed, Stands}
+use Rattle.tables.specs.Writes.{WritesOnly, Adds}
+use Rattle.tables.proofs.Places.{untimed, placed, listed_along}
+use Rattle.tables.proofs.Understood.{Means, runs_by}
+use Rattle.tables.proofs.Inserting.{insert_does, insert_edit}
+use Rattle.tables.proofs.Puts.{put_row_permutes}
+use Rattle.tables.proofs.Rowids.{keyed_put}
+
+not_true : (b : Bool) → (not b && true) ≡ true → b ≡ false
+not_true true e = absurd (cc)
+not_true false e = refl
+
+either : (b : Bool) (x : Value) → cond b x x ≡ x
+either true x = refl
+either false x = refl
+
+-- NULL stays what it is under the affinity of an integer column
+pub cast_null : cast Integer Null ≡ Null
+unfolding unary
+cast_null = either _ Null
+
+-- so does an integer
+pub cast_int : (n : ℤ) → cast Integer (Int n) ≡ Int n
+unfolding unary
+cast_int n = either _ (Int n)
+
+-- a name that finds a table at a position of the schema
+pub record Has (schema : Schema) (name : List ℕ) (at : ℕ) (table : Table) : Type 0 where
+  pub named : table_named schema name ≡ Some at
+  pub there : slice_get schema.tables at ≡ Some table
+
+-- a table that is listed is found by its name
+pub has_listed : (schema : Schema) (table : Table) (listed : Lists schema table) → Has schema table.name listed.at table
+has_listed schema table listed = record { named = listed.named; there = listed.there }
+
+-- what is compiled over a table that is found is compiled over it
+pub on_table_is : (schema : Schema) (name : List ℕ) (at : ℕ) (table : Table) (f : ℕ → Table → Checked Command) → Has schema name at table → on_table schema name f ≡ f at table
+on_table_is schema name at table f has = rw (has.named, has.there) refl
+
+understood_is : (schema : Schema) (sql : List ℕ) (c : Compiled) → compiled schema sql ≡ Ok c → understood schema sql ≡ Ok c
+unfolding understood
+understood_is schema sql c h = rw h refl
+
+compiled_is : (schema : Schema) (sql : List ℕ) (p : Parsed) (formats : List (List ℕ)) (shown : Option Returning) (c : Command) → first sql ≡ Ok p → timed schema p.formats p.statement ≡ formats
+    → returning schema (small p.names + small formats) p.statement ≡ Ok shown → command schema p.formats (small p.names + small formats) p.statement ≡ Ok c → compiled schema sql ≡ Ok (with_command p (formats, (c, shown)))
+unfolding compiled planned meaning
+compiled_is schema sql p formats shown c parsed is_timed shows commands = rw (parsed, is_timed, shows, commands) refl
+
+-- the text of an INSERT of one row of terms, read under the table alone
+pub record IsInsert (sql : List ℕ) (made : Table) (terms : List Term) (width : ℕ) : Type 0 where
+  pub p : Parsed
+  pub columns : List (List ℕ)
+  pub values : Rows
+  pub parsed : first sql ≡ Ok p
+  pub statement : p.statement ≡ written.Insert conflict.Abort made.name columns values [] []
+  pub plain : p.formats ≡ []
+  pub laid : (schema : Schema) (place : Place) → new_rows schema (placed made place) (small p.names + small []) columns values ≡ Ok (Values terms width)
+  pub whole : slice_range sql p.start p.end ≡ sql
+
+module _ (sql : List ℕ) (t0 : Table) (terms : List Term) (width : ℕ) (it : IsInsert sql t0 terms width) (schema : Schema) (at : ℕ) (place : Place)
+    (has : Has schema t0.name at (placed t0 place)) where
+  abbrev statement : Statement
+  statement = written.Insert conflict.Abort t0.name it.columns it.values [] []
+
+  commands : command schema [] (small it.p.names + small []) statement ≡ Ok (Insert at (Values terms width))
+  unfolding command insert insert_or_abort
+  commands = on_table_is schema t0.name at (placed t0 place) _ has ∙ rw (it.laid schema place) refl
+
+  no_time : timed schema [] statement ≡ []
+  unfolding timed
+  no_time = rw (has.named, has.there) refl
+
+  shows_none : (base : ℕ) → returning schema base statement ≡ Ok None
+  unfolding returning shows
+  shows_none base = refl
+
+  compiles : understood schema sql ≡ Ok (with_command it.p ([], (Insert at (Values terms width), None)))
+  compiles = understood_is schema sql _ (compiled_is schema sql it.p [] None _ it.parsed (rw (it.plain, it.statement) no_time) (rw it.statement (shows_none _)) (rw (it.plain, it.statement) commands))
+
+  -- the text means the INSERT at the table's position
+  pub insert_means : Means schema sql (Insert at (Values terms width)) sql
+  insert_means c h =
+      let is : Ok (with_command it.p ([], (Insert at (Values terms width), None))) ≡ Ok c = sym compiles ∙ h in
+      let same : with_command it.p ([], (Insert at (Values terms width), None)) ≡ c = cc in
+      (sym (ap (λ (it : Compiled). it.command) same), sym (ap (λ (it : Compiled). it.returning) same), sym (ap (λ (it : Compiled). it.formats) same), sym (ap (text_of sql) same) ∙ it.whole)
+
+-- with these parameters the terms are one row, whose columns are given
+pub record IsGiven (made : Table) (params : Row) (terms : List Term) (width : ℕ) (given : Row) : Type 0 where
+  pub source : Row
+  pub one : value_rows params width (length terms / width) terms ≡ source ∷ []
+  pub shown : (here : List Row) → cells made (with_rowid Chosen here (cast_row made source)) ≡ given
+
+module _ (sql : List ℕ) (t0 : Table) (terms : List Term) (width : ℕ) (it : IsInsert sql t0 terms width) where
+  -- an INSERT that went through added the given row, and nothing else
+  pub inserts : (params given : Row) → IsGiven t0 params terms width given → (old new : State) (count : ℕ) → Executes sql params old new (Ok count)
+      → Adds (placed t0) given old.now new.now
+  inserts params given is old new count ran place rows stands =
+      let t : Table = placed t0 place in
+      let w = runs_by sql params old new count (Insert stands.listed.at (Values terms width)) sql
+      (insert_means sql t0 terms width it old.now.schema stands.listed.at place (has_listed old.now.schema t stands.listed)) ran in
+      let done = insert_does old.step_limit (mode_of old) params old.now new.now sql stands.listed.at t terms width w.tally stands.listed.there w.changed in
+      let applies : Applies old.now.schema Enforced old.now.trees (insert_edit old.now t (is.source ∷ [])) new.now.trees =
+      subst (λ all. Applies old.now.schema Enforced old.now.trees (insert_edit old.now t all) new.now.trees) is.one done.1 in
+      let here = old.now.trees place.tree in
+      let row = with_rowid Chosen here (cast_row t is.source) in
+      let free : is_taken here row ≡ false = not_true _ applies.fresh in
+      let grown = IsPermutation-trans _ _ _ (IsPermutation-cons given rows _ stands.holds)
+      (subst (λ first. IsPermutation (first ∷ map (cells t) here) (map (cells t) (put_row row here))) (is.shown here) (IsPermutation-map (cells t) _ _ (put_row_permutes row here free))) in
+      (
+        record {
+          listed = listed_along old.now.schema new.now.schema t done.0 stands.listed;
+          keyed = subst IsKeyed (sym applies.rows) (keyed_put row here (and_parts _ _ applies.keyed).0 free stands.keyed);
+          holds = subst (λ all. IsPermutation (given ∷ rows) (map (cells t) all)) (sym applies.rows) grown;
+        },
+        record { schema = done.0; others = applies.tables },
+      )

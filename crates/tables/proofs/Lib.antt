@@ -1,0 +1,21 @@
+mod Places
+mod Understood
+mod Inserting
+mod Puts
+mod Rowids
+mod Keyed
+mod Adding
+mod Appending
+mod Creating
+mod Selecting
+mod Deleting
+mod Updating
+pub mod Runs
+mod Putting
+mod Quiet
+mod StudentTexts
+mod EditionTexts
+mod SupervisorTexts
+mod ProjectTexts
+mod Layouts
+mod Rising

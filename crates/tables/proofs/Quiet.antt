@@ -1,0 +1,83 @@
+-- Where no reference to a table has an action, none acts.
+use Rattle.std.proofs.Common.{◌≡◌, ◌⊎◌, inl, inr, ℕ, List, [], ◌∷◌, ◌++◌, Bool, true, false, not, ◌&&◌, ◌||◌, ◌==◌, Option, Some, None, option_map, option_and_then, find, length, refl, sym, ap, subst, ◌∙◌, true≢false}
+use Rattle.std.specs.List.{list_all, flat_map, filter_map}
+use Rattle.std.proofs.lemmas.Bool.{and_parts, and_from, false_from_ne_true}
+use Rattle.sqlite_rules.proofs.ListLemmas.{has_found, some_from}
+use Rattle.sqlite.specs.Order.{Row}
+use Rattle.sqlite.specs.Schema.{Schema}
+use Rattle.sqlite.specs.Table.{Table}
+use Rattle.sqlite_schema.specs.declared.schema.Action.{Action}
+use Rattle.sqlite_schema.specs.declared.schema.Action.TheVariants.{NoAction, Restrict, Cascade, SetNull, SetDefault}
+use Rattle.sqlite_schema.specs.declared.schema.Keys.TheVariants.{Enforced}
+use Rattle.sqlite_schema.specs.declared.schema.Reference.{Reference}
+use Rattle.sqlite_schema.specs.Names.{same_name}
+use Rattle.sqlite_schema.specs.Rules.{ParentKey, parent_key, key_in, key_places, declared_order}
+use Rattle.sqlite_value.specs.declared.keys.Order.{Order}
+use Rattle.sqlite_rules.specs.declared.action.Deed.{Deed}
+use Rattle.sqlite_rules.specs.Action.{works, work_by, work_for, deed_for, deed_of, pairs, Work}
+use Rattle.tables.specs.Writes.{IsInert}
+use Rattle.tables.specs.Inert.{is_passive, refers_to, is_quiet, is_inert}
+
+passive_is : (a : Action) → is_passive a ≡ true → a ≡ NoAction
+passive_is NoAction h = refl
+passive_is Restrict h = absurd (true≢false (sym h))
+passive_is Cascade h = absurd (true≢false (sym h))
+passive_is SetNull h = absurd (true≢false (sym h))
+passive_is SetDefault h = absurd (true≢false (sym h))
+
+no_deed : (b : Bool) (ref : Reference) → ref.on_delete ≡ NoAction → ref.on_update ≡ NoAction → deed_for Enforced b ref ≡ None
+no_deed true ref p q = rw p refl
+no_deed false ref p q = rw q refl
+
+module _ (schema : Schema) (tree : ℕ) (olds news : List Row) (child : Table) (ref : Reference) where
+  abbrev moves : List (Row × Row)
+  moves = pairs olds news
+
+  ordered : (deed : Deed) (t : Table) (places : List ℕ) (o : Option Order) → (t.tree == tree) ≡ false
+      → work_by 0 tree moves child ref (Some deed) (option_map (λ o. (t.tree, places, o)) o) ≡ None
+  ordered deed t places None h = refl
+  ordered deed t places (Some o) h = rw h refl
+
+  placed : (deed : Deed) (t : Table) (places : Option (List ℕ)) → (t.tree == tree) ≡ false → work_by 0 tree moves child ref (Some deed) (option_and_then (key_in t) places) ≡ None
+  placed deed t None h = refl
+  placed deed t (Some places) h = ordered deed t places (declared_order t places) h
+
+  away : (deed : Option Deed) (found : Option Table) → ((t : Table) → found ≡ Some t → (t.tree == tree) ≡ false)
+      → work_by 0 tree moves child ref deed (option_and_then (λ t. option_and_then (key_in t) (key_places t ref.parent_columns)) found) ≡ None
+  away None found h = refl
+  away (Some deed) None h = refl
+  away (Some deed) (Some t) h = placed deed t (key_places t ref.parent_columns) (h t refl)
+
+  still : (deed : Option Deed) (key : Option ParentKey) → deed ≡ None → work_by 0 tree moves child ref deed key ≡ None
+  still None key h = refl
+  still (Some deed) key h = absurd (cc)
+
+  either : (a b : Bool) → (a || not b) ≡ true → (a ≡ true) ⊎ (b ≡ false)
+  either true b h = inl refl
+  either false true h = absurd (true≢false (sym h))
+  either false false h = inr refl
+
+  far_off : refers_to schema.tables tree ref ≡ false → (t : Table) → find (λ t. same_name t.name ref.parent) schema.tables ≡ Some t → (t.tree == tree) ≡ false
+  far_off none t is =
+      let at = has_found (λ t. same_name t.name ref.parent) schema.tables t is in
+      false_from_ne_true _ (λ same. true≢false (sym (some_from (λ t. same_name t.name ref.parent && (t.tree == tree)) schema.tables t at.0 (and_from _ _ at.1 same)) ∙ none))
+
+  quiet : is_quiet schema.tables tree ref ≡ true → work_for schema Enforced 0 tree olds news child ref ≡ None
+  quiet h = elim (either _ _ h) [
+    | inl passive ↦
+        let both = and_parts _ _ passive in
+        still (deed_for Enforced (length news == 0) ref) _ (no_deed (length news == 0) ref (passive_is ref.on_delete both.0) (passive_is ref.on_update both.1))
+    | inr far ↦ away (deed_for Enforced (length news == 0) ref) (find (λ t. same_name t.name ref.parent) schema.tables) (far_off far)
+  ]
+
+none_of : {X Y : Type 0} (h : X → Option Y) (p : X → Bool) → ((x : X) → p x ≡ true → h x ≡ None) → (xs : List X) → list_all p xs ≡ true → filter_map h xs ≡ []
+none_of h p each [] all = refl
+none_of h p each (x ∷ xs) all = let parts = and_parts _ _ all in rw (each x parts.0) (none_of h p each xs parts.1)
+
+nil_of : {X Y : Type 0} (h : X → List Y) (p : X → Bool) → ((x : X) → p x ≡ true → h x ≡ []) → (xs : List X) → list_all p xs ≡ true → flat_map h xs ≡ []
+nil_of h p each [] all = refl
+nil_of h p each (x ∷ xs) all = let parts = and_parts _ _ all in rw (each x parts.0) (nil_of h p each xs parts.1)
+
+pub inert : (schema : Schema) (tree : ℕ) → is_inert schema.tables tree ≡ true → IsInert schema tree
+inert schema tree h olds news =
+    nil_of _ (λ (t : Table). list_all (is_quiet schema.tables tree) t.references) (λ child all. none_of _ (is_quiet schema.tables tree) (λ ref. quiet schema tree olds news child ref) child.references all) schema.tables h

@@ -1,0 +1,44 @@
+-- Rows whose rowids rise are told apart by them.
+use Rattle.std.proofs.Common.{◌≡◌, ◌⊎◌, inl, inr, List, [], ◌∷◌, Bool, true, false, ◌&&◌, refl, sym, ap, ◌∙◌, Ordering, Less, Equal, Greater, is_eq}
+use Rattle.std.specs.List.{AllByRecursion, list_all}
+use Rattle.std.specs.Ordering.{is_lt}
+use Rattle.std.proofs.lemmas.Bool.{and_parts}
+use Rattle.sqlite.specs.Order.{Row, value_cmp}
+use Rattle.sqlite.specs.Tree.{rowid, IsAscending}
+use Rattle.sqlite_trees.specs.View.{is_int}
+use Rattle.sqlite_value.proofs.OrderLemmas.{value_cmp_total}
+use Rattle.sqlite_rules.specs.Lists.{Has}
+use Rattle.sqlite_rules.proofs.ListLemmas.{all_has, all_from}
+use Rattle.tables.specs.Keyed.{IsKeyed, comes_first, rises, have_ids}
+
+below : (o : Ordering) → is_lt o ≡ true → o ≡ Less
+below Less h = refl
+below Equal h = absurd (cc)
+below Greater h = absurd (cc)
+
+apart : (o : Ordering) → o ≡ Less → is_eq o ≡ false
+apart o h = ap is_eq h
+
+abbrev Below : Row → Row → Type 0
+Below a b = value_cmp (rowid a) (rowid b) ≡ Less
+
+-- each later one is above the first
+rising : (rows : List Row) → rises rows ≡ true → IsAscending Below rows
+rising [] h = tt
+rising (r ∷ []) h = (tt, tt)
+rising (r ∷ next ∷ rows) h =
+    let parts = and_parts _ _ h in
+    let first : Below r next = below _ parts.0 in
+    let later = rising (next ∷ rows) parts.1 in
+    ((first, all_from _ rows (λ y h. value_cmp_total.trans (rowid r) (rowid next) (rowid y) first (all_has _ rows y later.0 h))), later)
+
+told : (rows : List Row) → IsAscending Below rows → IsAscending (λ a b. is_eq (value_cmp (rowid a) (rowid b)) ≡ false) rows
+told [] up = tt
+told (r ∷ rows) up = (all_from _ rows (λ y h. apart _ (all_has _ rows y up.0 h)), told rows up.1)
+
+each : (rows : List Row) → have_ids rows ≡ true → AllByRecursion (λ r. is_int (rowid r) ≡ true) rows
+each [] h = tt
+each (r ∷ rows) h = let parts = and_parts _ _ h in (parts.0, each rows parts.1)
+
+pub keyed_if_rising : (rows : List Row) → have_ids rows ≡ true → rises rows ≡ true → IsKeyed rows
+keyed_if_rising rows ids up = record { ids = each rows ids; apart = told rows (rising rows up) }

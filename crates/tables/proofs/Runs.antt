@@ -1,0 +1,152 @@
+-- Statements one after the other, and what they leave alone.
+use Rattle.std.proofs.Common.{◌≡◌, ◌≢◌, ◌⊎◌, inl, inr, arith, ℕ, List, [], ◌∷◌, refl, sym, subst, ◌∙◌, IsTrue, true, false, Bool, map, ap, ◌<◌, ◌^◌, nat_lt, Option, Some, slice_get}
+use Rattle.std.specs.List.{AllByRecursion, AllZip}
+use Rattle.std.proofs.lemmas.Bool.Decides.{Decides-ltb}
+use Rattle.sqlite_schema.specs.Names.{table_named}
+use Rattle.sqlite_catalog.specs.Listing.{IsSound, IsTableRow}
+use Rattle.sqlite_rules.specs.Lists.{Has}
+use Rattle.std.specs.List.Sorted.{IsPermutation}
+use Rattle.sqlite.specs.Order.{Row}
+use Rattle.sqlite.specs.Schema.{Schema}
+use Rattle.sqlite.specs.Table.{Table}
+use Rattle.sqlite.specs.Effect.{Database}
+use Rattle.sqlite.specs.State.{State, Survives}
+use Rattle.sqlite.specs.Tree.{Trees}
+use Rattle.sqlite_rules.proofs.ListLemmas.{all_has, all_from, has_got}
+use Rattle.tables.specs.Table.{Place, Lists, Holds, cells}
+use Rattle.tables.specs.Keyed.{IsKeyed, Stands}
+use Rattle.tables.specs.Writes.{WritesOnly, Adds, Makes}
+use Rattle.tables.specs.Steps.{HasStepped, Stays, Rests}
+use Rattle.tables.proofs.Places.{listed_along}
+
+-- what writes nothing writes only one table
+pub writes_none : (tree : ℕ) (db : Database) → WritesOnly tree db db
+writes_none tree db = record { schema = refl; others = all_from _ db.schema.tables (λ t h apart. refl) }
+
+-- so do two that write it one after the other
+pub writes_then : (tree : ℕ) (a b c : Database) → WritesOnly tree a b → WritesOnly tree b c → WritesOnly tree a c
+writes_then tree a b c p q =
+    let later : AllByRecursion (λ (t : Table). t.tree ≢ tree → c.trees t.tree ≡ b.trees t.tree) a.schema.tables =
+    subst (λ (s : Schema). AllByRecursion (λ (t : Table). t.tree ≢ tree → c.trees t.tree ≡ b.trees t.tree) s.tables) p.schema q.others in
+    record {
+      schema = q.schema ∙ p.schema;
+      others = all_from _ a.schema.tables (λ t h apart. all_has _ a.schema.tables t later h apart ∙ all_has _ a.schema.tables t p.others h apart);
+    }
+
+-- a table stands as before where another is written
+pub stands_apart : (table : Place → Table) (place : Place) (same : (table place).tree ≡ place.tree) (rows : List Row) (tree : ℕ) (old new : Database) → place.tree ≢ tree → WritesOnly tree old new
+    → Stands table place rows old → Stands table place rows new
+stands_apart table place same rows tree old new apart only stands =
+    let t = table place in
+    let other : t.tree ≢ tree = λ e. apart (sym same ∙ e) in
+    let kept : new.trees t.tree ≡ old.trees t.tree = all_has _ old.schema.tables t only.others (has_got old.schema.tables stands.listed.at t stands.listed.there) other in
+    record {
+      listed = listed_along old.schema new.schema t only.schema stands.listed;
+      keyed = subst IsKeyed (subst (λ n. old.trees n ≡ new.trees n) same (sym kept)) stands.keyed;
+      holds = subst (λ all. IsPermutation rows (map (cells t) all)) (sym kept) stands.holds;
+    }
+
+-- a table that is made, and then gets a row
+pub made_with : (table : Place → Table) (row : Row) (a b c : Database) → Makes table [] a b → Adds table row b c → Makes table (row ∷ []) a c
+made_with table row a b c made adds =
+    let grown = adds made.place [] made.stands in
+    record {
+      place = made.place;
+      stands = grown.0;
+      others = λ t listed.
+        let was = made.others t listed in
+        (
+          listed_along b.schema c.schema t grown.1.schema was.0,
+          all_has _ b.schema.tables t grown.1.others (has_got b.schema.tables was.0.at t was.0.there) was.2 ∙ was.1,
+          was.2,
+        );
+    }
+
+-- a table stands as before where another is made, and is another
+pub stands_beside : (table : Place → Table) (place : Place) (same : (table place).tree ≡ place.tree) (rows : List Row) (other : Place → Table) (given : List Row) (old new : Database)
+    → (made : Makes other given old new) → Stands table place rows old → Stands table place rows new × (place.tree ≢ made.place.tree)
+stands_beside table place same rows other given old new made stands =
+    let t = table place in
+    let kept = made.others t stands.listed in
+    (
+      record {
+        listed = kept.0;
+        keyed = subst IsKeyed (subst (λ n. old.trees n ≡ new.trees n) same (sym kept.1)) stands.keyed;
+        holds = subst (λ all. IsPermutation rows (map (cells t) all)) (sym kept.1) stands.holds;
+      },
+      λ e. kept.2 (same ∙ e),
+    )
+
+-- a connection that was open and is
+pub both_open : (a b : Bool) → IsTrue a → IsTrue b → b ≡ a
+both_open true true p q = refl
+both_open true false p q = absurd (cc)
+both_open false b p q = absurd (cc)
+
+-- nothing was done
+pub stays_none : (P : Database → Database → Type 0) (s : State) → P s.now s.now → Stays P s s
+stays_none P s p = record { shut = refl; committed = refl; mode = refl; step = p }
+
+-- one statement more
+pub stays_then : (P Q R : Database → Database → Type 0) (a b c : State) → (P a.now b.now → Q b.now c.now → R a.now c.now) → Stays P a b → HasStepped Q b c → Stays R a c
+stays_then P Q R a b c both p q = record {
+  shut = both_open b.is_open c.is_open q.shown.was_open q.shown.is_open ∙ p.shut;
+  committed = q.shown.committed_is ∙ p.committed;
+  mode = q.shown.mode ∙ sym q.inside ∙ p.mode;
+  step = both p.step q.step;
+}
+
+-- two statements
+pub stepped_then : (P Q R : Database → Database → Type 0) (a b c : State) → (P a.now b.now → Q b.now c.now → R a.now c.now) → HasStepped P a b → HasStepped Q b c → HasStepped R a c
+stepped_then P Q R a b c both p q = record {
+  inside = p.inside;
+  shown = record {
+    was_open = p.shown.was_open;
+    is_open = q.shown.is_open;
+    now_is = refl;
+    committed_is = q.shown.committed_is ∙ p.shown.committed_is;
+    mode = q.shown.mode;
+  };
+  step = both p.step q.step;
+}
+
+-- the same statement, in a weaker word
+pub stepped_as : (P Q : Database → Database → Type 0) (a b : State) → (P a.now b.now → Q a.now b.now) → HasStepped P a b → HasStepped Q a b
+stepped_as P Q a b weaker p = record { inside = p.inside; shown = p.shown; step = weaker p.step }
+
+-- what does nothing survives
+pub survives_none : (s : State) (P : Trees → Type 0) → Survives s s P
+survives_none s P = record { clean = omega arith; shield = λ h. h; counts = omega arith; limit = refl; closes = λ clean up. inl up; crash = λ clean db h. inl h }
+
+-- two readings one after the other
+pub rests_then : (a b c : State) → Rests a b → Rests b c → Rests a c
+rests_then a b c p q up =
+    let late = q up in
+    let early = p late.0 in
+    (
+      early.0,
+      λ settled.
+      let one = early.1 settled in
+      let two = late.1 (one.0 ∙ settled ∙ sym one.1) in
+      (two.0 ∙ one.0, two.1 ∙ one.1),
+    )
+
+-- the tree of a listed table is below 2 ^ 16
+pub low_tree : (schema : Schema) (trees : Trees) (table : Table) → IsSound schema trees → Lists schema table → nat_lt table.tree (2 ^ 31) ≡ true
+low_tree schema trees table sound listed =
+    let low : table.tree < 65536 = zip_low _ schema.tables table sound.lists.listed.tables (has_got schema.tables listed.at table listed.there) in
+    (Decides-ltb table.tree (2 ^ 31)).1 (omega (arith, low))
+  where
+    zip_low : (rows : List Row) (tables : List Table) (table : Table) → AllZip IsTableRow rows tables → Has tables table → table.tree < 65536
+    zip_low [] [] table zip h = absurd h
+    zip_low (r ∷ rows) [] table zip h = absurd h
+    zip_low [] (t ∷ tables) table zip h = absurd zip
+    zip_low (r ∷ rows) (t ∷ tables) table zip (inl same) = subst (λ (it : Table). it.tree < 65536) (sym same) zip.0.described.low
+    zip_low (r ∷ rows) (t ∷ tables) table zip (inr h) = zip_low rows tables table zip.1 h
+
+-- a table that is listed is listed at one place
+pub listed_once : (schema : Schema) (table : Place → Table) (p q : Place) → (table p).name ≡ (table q).name → (l : Lists schema (table p)) → (m : Lists schema (table q)) → table p ≡ table q
+listed_once schema table p q named l m =
+    let at : l.at ≡ m.at = let e : Some l.at ≡ Some m.at = sym l.named ∙ ap (table_named schema) named ∙ m.named in cc in
+    let both : ◌≡◌ {A = Option Table} (Some (table p)) (Some (table q)) = sym l.there ∙ ap (slice_get schema.tables) at ∙ m.there in
+    cc

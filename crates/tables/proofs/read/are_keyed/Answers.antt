@@ -1,0 +1,6 @@
+use Rattle.std.proofs.Common.{sym, ◌∙◌}
+use Rattle.tables.proofs.Rising.{keyed_if_rising}
+use Rattle.tables.proofs.read.are_keyed.Goals as goal
+
+pub returns-then-have_ids : goal.returns-then-have_ids
+returns-then-have_ids c h = keyed_if_rising _ (sym c.have_ids.ensures ∙ c.if-have_ids.true) (sym c.rise.ensures ∙ h)

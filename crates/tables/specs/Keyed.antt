@@ -1,0 +1,41 @@
+-- Rows that are told apart by their rowids, and a table that holds them.
+use Rattle.std.specs.Prelude.{◌≡◌, ℤ, Bool, true, false, ◌&&◌, List, [], ◌∷◌}
+use Rattle.std.specs.List.{AllByRecursion, list_all}
+use Rattle.std.specs.Ordering.{is_eq, is_lt}
+use Rattle.sqlite.specs.Order.{Row, value_cmp}
+use Rattle.sqlite.specs.Table.{Table}
+use Rattle.sqlite.specs.Tree.{rowid, IsAscending}
+use Rattle.sqlite.specs.Effect.{Database}
+use Rattle.sqlite.specs.Edit.{id_in}
+use Rattle.sqlite_trees.specs.View.{is_int}
+use Rattle.tables.specs.Table.{Place, Lists, Holds}
+
+-- the rowid as a number
+abbrev pub id_of : Row → ℤ
+id_of r = id_in (rowid r)
+
+-- each rowid is an integer, and no two are one
+pub record IsKeyed (rows : List Row) : Type 0 where
+  pub ids : AllByRecursion (λ r. is_int (rowid r) ≡ true) rows
+  pub apart : IsAscending (λ a b. is_eq (value_cmp (rowid a) (rowid b)) ≡ false) rows
+
+
+-- the table is listed with its columns and rules, and holds these rows, each under a rowid of its own
+pub record Stands (table : Place → Table) (place : Place) (rows : List Row) (db : Database) : Type 0 where
+  pub listed : Lists db.schema (table place)
+  pub keyed : IsKeyed (db.trees place.tree)
+  pub holds : Holds db (table place) rows
+
+-- the first row's rowid is below that of the next one, if there is one
+abbrev pub comes_first : Row → List Row → Bool
+comes_first r [] = true
+comes_first r (next ∷ rows) = is_lt (value_cmp (rowid r) (rowid next))
+
+-- the rowids rise
+abbrev pub rises : List Row → Bool
+rises [] = true
+rises (r ∷ rows) = comes_first r rows && rises rows
+
+-- each rowid is an integer
+abbrev pub have_ids : List Row → Bool
+have_ids = list_all (λ r. is_int (rowid r))

@@ -1,0 +1,49 @@
+-- What a statement, a transaction and a crash do, under a relation P between the database before and after.
+use Rattle.std.specs.Prelude.{◌≡◌, ◌⊎◌, ◌^◌, ℕ, IsTrue, true, false, List, [], map, drop, nat_lt}
+use Rattle.sqlite.specs.Effect.{Database}
+use Rattle.sqlite.specs.State.{State, IsUnchanged, Shown, FailsToQuery, Shows as Sees}
+use Rattle.sqlite.specs.declared.error.Error.{Error}
+use Rattle.sqlite.specs.Order.{Row}
+use Rattle.sqlite.specs.Table.{Table}
+use Rattle.tables.specs.Table.{Place, Lists}
+use Rattle.tables.specs.Keyed.{Stands}
+use Rattle.sqlite.specs.Tree.{Trees}
+
+-- a statement in a transaction went through: nothing is committed, and what the transaction sees changed by P
+pub record HasStepped (P : Database → Database → Type 0) (old new : State) : Type 0 where
+  pub inside : old.in_transaction ≡ true
+  pub shown : Sees old new new.now old.committed true
+  pub step : P old.now new.now
+
+-- the same of a run of statements, which may be none
+pub record Stays (P : Database → Database → Type 0) (old new : State) : Type 0 where
+  pub shut : new.is_open ≡ old.is_open
+  pub committed : new.committed ≡ old.committed
+  pub mode : new.in_transaction ≡ old.in_transaction
+  pub step : P old.now new.now
+
+-- a transaction was made and committed, and changed the database by P
+pub record HasSaved (P : Database → Database → Type 0) (old new : State) : Type 0 where
+  pub shown : Sees old new new.now new.now false
+  pub step : P old.now new.now
+
+-- nothing has changed, unless the connection is shut, as it was before or by a fault of the disk
+abbrev pub IsKept : State → State → Type 0
+IsKept old new = IsTrue new.is_open → IsTrue old.is_open × (new.now ≡ old.now) × (new.committed ≡ old.committed)
+
+-- the trees of a database that P makes of the old one
+abbrev pub IsLeft : (Database → Database → Type 0) → Database → Trees → Type 0
+IsLeft P old trees = (db : Database) × P old db × (trees ≡ db.trees)
+
+-- nothing has changed, and where the table is listed these are its rows, each after its rowid
+pub record Shows (table : Place → Table) (rows : List Row) (old new : State) : Type 0 where
+  pub same : IsUnchanged old new
+  pub stands : (place : Place) → Lists old.now.schema (table place) → nat_lt place.tree (2 ^ 31) ≡ true → Stands table place (map (drop 1) rows) old.now
+
+-- a query was run, or failed
+abbrev pub RanQuery : List ℕ → State → State → Type 0
+RanQuery sql old new = ((rows : List Row) × Shown sql [] old new rows) ⊎ ((e : Error) × FailsToQuery sql [] old new e)
+
+-- where no transaction was open nothing has changed, unless a fault of the disk has shut the connection
+abbrev pub Rests : State → State → Type 0
+Rests old new = IsTrue new.is_open → IsTrue old.is_open × (old.now ≡ old.committed → (new.now ≡ old.now) × (new.committed ≡ old.committed))

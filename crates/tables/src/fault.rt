@@ -1,0 +1,26 @@
+//! Why a statement fails.
+
+ghost use Rattle.std.specs.Prelude.{◌≡◌};
+ghost use Rattle.tables.specs.Faults.{fault_of};
+
+use sqlite::{Error, ErrorCode};
+
+/// Why a statement was not carried out.
+#[derive(Clone, Copy, Debug, PartialEq, Eq, Drop)]
+pub enum TableFault {
+    /// A growth was refused.
+    Memory,
+    /// The database refused it, or its disk failed.
+    Storage,
+}
+
+impl From<Error> for TableFault {
+    ghost from_gives = { λ e fault. fault ≡ fault_of e };
+
+    fn from(error: Error) -> TableFault {
+        match error {
+            Error::SqliteFailure(ErrorCode::OutOfMemory) => TableFault::Memory,
+            _ => TableFault::Storage,
+        }
+    }
+}

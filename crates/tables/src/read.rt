@@ -1,0 +1,83 @@
+//! Reading a whole table.
+
+ghost use Rattle.std.specs.Prelude.{◌≡◌, IfOk, IsTrue, false, []};
+ghost use Rattle.sqlite.specs.State.{HasCleanDisk, Shown, Survives, CommitsShowing};
+ghost use Rattle.sqlite.specs.Held.{state};
+ghost use Rattle.sqlite_value.specs.Value.{owned};
+ghost use Rattle.sqlite_trees.specs.Tree.{rowid};
+ghost use Rattle.sqlite_trees.specs.View.{is_int};
+ghost use Rattle.tables.specs.Steps.{RanQuery};
+ghost use Rattle.tables.specs.Keyed.{IsKeyed, comes_first, rises, have_ids};
+
+use crate::fault::TableFault;
+use sqlite::{Alter, Connection, Row};
+use sqlite_value::order::compare;
+use sqlite_value::value::ValueRef;
+use std::cmp::Ordering;
+
+/// The rowid of a row that a query shows after it.
+fn id_of(row: &Row) -> ValueRef<'_>
+    ensures { owned result ≡ rowid row.now }
+{
+    match row.get_ref(0) {
+        Ok(id) => id,
+        Err(_) => ValueRef::Null,
+    }
+}
+
+fn has_id(row: &Row) -> bool
+    ensures { result ≡ is_int (rowid row.now) }
+{
+    matches!(id_of(row), ValueRef::Int(_))
+}
+
+fn comes_first(row: &Row, more: &[Row]) -> bool
+    ensures { result ≡ comes_first row.now more.now }
+{
+    match more {
+        [next, ..] => compare(id_of(row), id_of(next)) == Ordering::Less,
+        [] => true,
+    }
+}
+
+fn rise(rows: &[Row]) -> bool
+    ensures { result ≡ rises rows.now }
+{
+    let mut rest = rows;
+    while let [row, more @ ..] = rest {
+        if !comes_first(row, more) {
+            return false;
+        }
+        rest = more;
+    }
+    true
+}
+
+fn have_ids(rows: &[Row]) -> bool
+    ensures { result ≡ have_ids rows.now }
+{
+    rows.iter().all(|row| has_id(row))
+}
+
+/// Whether the rowids are integers, and no two are one.
+#[tactic(auto, using(crate::proofs::Rising::keyed_if_rising))]
+fn are_keyed(rows: &[Row]) -> bool
+    ensures { IsTrue result → IsKeyed rows.now }
+{
+    have_ids(rows) && rise(rows)
+}
+
+/// The rows that a query shows, each after its rowid.
+pub(crate) fn read<S: Alter>(conn: &mut Connection<S>, sql: &str) -> Result<Vec<Row>, TableFault>
+    ensures keyed { IfOk result (λ rows. IsKeyed rows.items) }
+    ensures shown { HasCleanDisk (state S.Store conn.new) → IfOk result (λ rows. Shown sql.now [] (state S.Store conn.old) (state S.Store conn.new) rows.items) }
+    ensures ran { HasCleanDisk (state S.Store conn.new) → RanQuery sql.now (state S.Store conn.old) (state S.Store conn.new) }
+    ensures mode { conn.old.in_transaction ≡ false → conn.new.in_transaction ≡ false }
+    ensures survives { Survives (state S.Store conn.old) (state S.Store conn.new) (CommitsShowing sql.now [] (state S.Store conn.old)) }
+{
+    let rows = conn.query_all(sql, &[])?;
+    if !are_keyed(rows.as_slice()) {
+        return Err(TableFault::Storage);
+    }
+    Ok(rows)
+}
