@@ -14,10 +14,12 @@ mod laws;
 mod members;
 mod requests;
 mod routes;
+mod service;
 mod serving;
 #[cfg(test)]
 mod tests;
 mod texts;
 
 pub use laws::ends_are_refusals;
+pub use service::serve_stream;
 pub use wire::{End, Served, Sink, Source, StreamFault, Watched};

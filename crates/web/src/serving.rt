@@ -25,7 +25,7 @@ pub trait Asks {
     ghost holds: { Self → Type 0 };
 
     /// One step.
-    fn ask(&mut self, request: Request) -> Result<Reply, Refusal>
+    fn make_step(&mut self, request: Request) -> Result<Reply, Refusal>
         requires { holds self.old }
         ensures step { Step (office self.old) (asked_of request) result (office self.new) }
         ensures holds { holds self.new };
@@ -47,7 +47,7 @@ impl<D: Asks> Handler<D> for Clerk {
     fn answer(&self, desk: &mut D, method: &[u8], target: &[u8], body: &[u8]) -> Answer {
         match request_of(self.alloc, &self.router, method, target, body) {
             Err(refusal) => Answer::Short(refusal_answer(refusal)),
-            Ok(request) => answer_of(self.alloc, desk.ask(request)),
+            Ok(request) => answer_of(self.alloc, desk.make_step(request)),
         }
     }
 }

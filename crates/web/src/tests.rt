@@ -23,7 +23,7 @@ impl Asks for Office {
 
     ghost holds = { λ _. ⊤ };
 
-    fn ask(&mut self, request: Request) -> Result<Reply, Refusal> {
+    fn make_step(&mut self, request: Request) -> Result<Reply, Refusal> {
         match request {
             Request::Plain(plain) => match self.apply(plain) {
                 Ok(done) => Ok(done.reply),
