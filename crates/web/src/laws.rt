@@ -9,5 +9,4 @@ ghost use Rattle.web.specs.Texts.{refusal_text};
 pub fn ends_are_refusals()
     ensures bad_head { last_words BadHead ≡ refusal_text no.BadHead }
     ensures too_large { last_words TooLarge ≡ refusal_text no.TooLarge }
-{
-}
+{}

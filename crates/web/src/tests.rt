@@ -212,7 +212,10 @@ fn faults(rt: HostRuntime) -> Result<(), Fail> {
         };
         let write = served_by(rt.alloc(), &mut desk, reader, room, fails);
         assert_eq!(rt; write.result, Err(StreamFault::Write), "{room}");
-        assert!(rt; write.failed_reads == 0 && write.failed_writes == 1, "{room}");
+        assert!(rt;
+            write.failed_reads == 0 && write.failed_writes == 1,
+            "{room}"
+        );
         assert_eq!(rt; write.written.len(), room, "{room}");
         assert_eq!(rt; desk.students().len(), students, "{room}");
         let next = served(rt.alloc(), &mut desk, PUT_ANN, 200);
