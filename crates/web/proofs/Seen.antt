@@ -1,0 +1,82 @@
+-- A run at a desk is a run of its office.
+use Rattle.std.proofs.Common.{◌≡◌, ℕ, List, [], ◌∷◌, Option, Some, None, Result, Ok, Err, IfOk, IfErr, refl, sym, ap, arith, append-nil}
+use Rattle.std.specs.Io.KnownBytes.{Appends, Consumes}
+use Rattle.wire.specs.Messages.{Message}
+use Rattle.wire.specs.Run.{Said, said, Run}
+use Rattle.wire.specs.Served.{Serves, ServedTo, BrokeOff}
+use Rattle.wire.specs.declared.outcome.Served.{Served}
+use Rattle.wire.specs.declared.outcome.StreamFault.{StreamFault}
+use Rattle.wire.specs.declared.outcome.StreamFault.TheVariants.{Memory}
+
+module _ {D S : Type 0} (see : D → S) (step : S → Said → List ℕ → S → Type 0) where
+  -- the step as it is seen
+  abbrev pub seen : D → Said → List ℕ → D → Type 0
+  seen before said bytes after = step (see before) said bytes (see after)
+
+  pub run_seen : (before after : D) (messages : List Message) (answers : List (List ℕ)) → Run seen before messages answers after → Run step (see before) messages answers (see after)
+  run_seen before after [] [] r = ap see r
+  run_seen before after [] (a ∷ answers) r = absurd r
+  run_seen before after (m ∷ messages) [] r = absurd r
+  run_seen before after (m ∷ messages) (a ∷ answers) r = (see r.0, r.1, run_seen r.0 after messages answers r.2)
+
+  pub serves_seen : (before after : D) (left w0 w : Option (List ℕ)) (served : Served) → ServedTo seen before left w0 w served after → ServedTo step (see before) left w0 w served (see after)
+  serves_seen before after left w0 w served s = (
+    s.0,
+    s.1,
+    s.2,
+    s.3,
+    record {
+      messages = s.4.messages;
+      of_stream = s.4.of_stream;
+      answers = s.4.answers;
+      ran = run_seen before after s.4.messages s.4.answers s.4.ran;
+      written = s.4.written;
+      counted = s.4.counted;
+    },
+  )
+
+  pub broke_seen : (before now : D) (left0 w0 left w : Option (List ℕ)) (fault : StreamFault) → BrokeOff seen before left0 w0 left w now fault → BrokeOff step (see before) left0 w0 left w (see now) fault
+  broke_seen before now left0 w0 left w fault b = record {
+    given = b.given;
+    read = b.read;
+    messages = b.messages;
+    few = b.few;
+    rest = b.rest;
+    split = b.split;
+    answers = b.answers;
+    ran = run_seen before now b.messages b.answers b.ran;
+    wrote = b.wrote;
+  }
+
+  -- for whatever came of it
+  pub served_seen : (before after : D) (left w0 w : Option (List ℕ)) (result : Result Served StreamFault)
+      → IfOk result (λ served. ServedTo seen before left w0 w served after) → IfOk result (λ served. ServedTo step (see before) left w0 w served (see after))
+  served_seen before after left w0 w (Ok served) s = serves_seen before after left w0 w served s
+  served_seen before after left w0 w (Err fault) s = tt
+
+  pub broken_seen : (before now : D) (left0 w0 left w : Option (List ℕ)) (result : Result Served StreamFault)
+      → IfErr result (λ fault. BrokeOff seen before left0 w0 left w now fault) → IfErr result (λ fault. BrokeOff step (see before) left0 w0 left w (see now) fault)
+  broken_seen before now left0 w0 left w (Ok served) b = tt
+  broken_seen before now left0 w0 left w (Err fault) b = broke_seen before now left0 w0 left w fault b
+
+-- nothing was read, asked or written
+pub nothing_broken : {S : Type 0} (step : S → Said → List ℕ → S → Type 0) (before : S) (left w : Option (List ℕ)) → BrokeOff step before left w left w before Memory
+nothing_broken step before left w = record {
+  given = [];
+  read = consumes_none left;
+  messages = [];
+  few = omega arith;
+  rest = [];
+  split = λ more. refl;
+  answers = [];
+  ran = refl;
+  wrote = (refl, refl, appends_none w);
+}
+  where
+    consumes_none : (a : Option (List ℕ)) → Consumes a a []
+    consumes_none None = tt
+    consumes_none (Some u) = refl
+
+    appends_none : (a : Option (List ℕ)) → Appends a a []
+    appends_none None = tt
+    appends_none (Some u) = sym (append-nil u)

@@ -1,0 +1,198 @@
+//! The bytes of answers.
+ghost use Rattle.std.specs.Prelude.{◌≡◌, ◌≤◌, ◌⊎◌, ◌++◌, length, IfOk, OnErr, string_bytes};
+ghost use Rattle.serde_json.specs.View.{view};
+ghost use Rattle.serde_json.specs.Written.{compact_text};
+ghost use Rattle.wire.specs.Answers.{answer_bytes};
+ghost use Rattle.wire.specs.Text.{reason_of, json_answer};
+ghost use Rattle.web.specs.Texts.{refusal_name, refusal_status, refusal_text, supervisor_data, project_data, student_data, reply_body, text_of, IsRead};
+
+use arrayvec::ArrayVec;
+use http::StatusCode;
+use rolls::{Refusal, Reply};
+use serde_json::{Value, json};
+use std::alloc::{AllocError, Global};
+use wire::{Answer, json, json_head, refused};
+
+/// The name of a refusal.
+fn name_of(refusal: Refusal) -> &'static str
+    ensures value { result.now ≡ refusal_name refusal }
+    ensures short { length result.now ≤ 100 }
+{
+    match refusal {
+        Refusal::Memory => "Memory",
+        Refusal::Storage => "Storage",
+        Refusal::BadHead => "BadHead",
+        Refusal::TooLarge => "TooLarge",
+        Refusal::NoRoute => "NoRoute",
+        Refusal::WrongMethod => "WrongMethod",
+        Refusal::Json => "Json",
+        Refusal::Members => "Members",
+        Refusal::Code => "Code",
+        Refusal::Label => "Label",
+        Refusal::Quota => "Quota",
+        Refusal::RollFull => "RollFull",
+        Refusal::UnknownSupervisor => "UnknownSupervisor",
+        Refusal::UnknownProject => "UnknownProject",
+        Refusal::UnknownStudent => "UnknownStudent",
+        Refusal::SupervisorFixed => "SupervisorFixed",
+        Refusal::BelowPlaced => "BelowPlaced",
+        Refusal::Damaged => "Damaged",
+    }
+}
+
+/// The status of a refusal.
+#[tactic(auto, unfolding(wire::specs::Text::reason_of))]
+fn status_of(refusal: Refusal) -> StatusCode
+    ensures value { result ≡ refusal_status refusal }
+    ensures short { length (reason_of result) ≤ 32 }
+{
+    match refusal {
+        Refusal::Memory | Refusal::Storage | Refusal::Damaged => StatusCode::SERVICE_UNAVAILABLE,
+        Refusal::TooLarge => StatusCode::PAYLOAD_TOO_LARGE,
+        Refusal::NoRoute
+        | Refusal::UnknownSupervisor
+        | Refusal::UnknownProject
+        | Refusal::UnknownStudent => StatusCode::NOT_FOUND,
+        Refusal::WrongMethod => StatusCode::METHOD_NOT_ALLOWED,
+        Refusal::RollFull | Refusal::SupervisorFixed | Refusal::BelowPlaced => {
+            StatusCode::CONFLICT
+        }
+        Refusal::BadHead
+        | Refusal::Json
+        | Refusal::Members
+        | Refusal::Code
+        | Refusal::Label
+        | Refusal::Quota => StatusCode::BAD_REQUEST,
+    }
+}
+
+/// The answer of a refusal, which takes no memory.
+pub fn refusal_answer(refusal: Refusal) -> ArrayVec<u8, 320>
+    ensures { result.items ≡ refusal_text refusal }
+{
+    refused(status_of(refusal), name_of(refusal), refusal.number())
+}
+
+/// The answer of a change, which takes no memory.
+#[tactic(auto, unfolding(wire::specs::Text::reason_of))]
+fn done_answer() -> ArrayVec<u8, 320>
+    ensures { result.items ≡ text_of (Ok Reply.Done) }
+{
+    json(StatusCode::OK, b"{\"ok\":true}")
+}
+
+/// A supervisor in JSON.
+fn supervisor_value(alloc: Global, name: &str, placed: u32, quota: u32) -> Result<Value, AllocError>
+    ensures { IfOk result (λ value. view value ≡ supervisor_data name.now placed quota) }
+{
+    json!(in alloc; {"name": name, "placed": u64::from(placed), "quota": u64::from(quota)})
+}
+
+/// A project in JSON.
+fn project_value(
+    alloc: Global,
+    name: &str,
+    placed: u32,
+    quota: u32,
+    supervisor: &str,
+) -> Result<Value, AllocError>
+    ensures { IfOk result (λ value. view value ≡ project_data name.now placed quota supervisor.now) }
+{
+    json!(in alloc; {
+        "name": name, "placed": u64::from(placed), "quota": u64::from(quota), "supervisor": supervisor
+    })
+}
+
+/// A student in JSON.
+fn student_value(alloc: Global, name: &str) -> Result<Value, AllocError>
+    ensures { IfOk result (λ value. view value ≡ student_data name.now) }
+{
+    json!(in alloc; {"list": null, "name": name, "placed": null})
+}
+
+/// The text of a supervisor.
+fn supervisor_text(alloc: Global, name: &str, placed: u32, quota: u32) -> Result<String, AllocError>
+    ensures { IfOk result (λ text. string_bytes text ≡ compact_text (supervisor_data name.now placed quota)) }
+{
+    let value = supervisor_value(alloc, name, placed, quota)?;
+    value.to_string(alloc)
+}
+
+/// The text of a project.
+fn project_text(
+    alloc: Global,
+    name: &str,
+    placed: u32,
+    quota: u32,
+    supervisor: &str,
+) -> Result<String, AllocError>
+    ensures { IfOk result (λ text.
+        string_bytes text ≡ compact_text (project_data name.now placed quota supervisor.now)) }
+{
+    let value = project_value(alloc, name, placed, quota, supervisor)?;
+    value.to_string(alloc)
+}
+
+/// The text of a student.
+fn student_text(alloc: Global, name: &str) -> Result<String, AllocError>
+    ensures { IfOk result (λ text. string_bytes text ≡ compact_text (student_data name.now)) }
+{
+    let value = student_value(alloc, name)?;
+    value.to_string(alloc)
+}
+
+/// The answer of success with a body.
+#[tactic(auto, unfolding(wire::specs::Text::reason_of))]
+fn with_head(alloc: Global, body: &str) -> Result<Vec<u8>, AllocError>
+    ensures { IfOk result (λ bytes. bytes.items ≡ json_answer 200 body.now) }
+{
+    let head = json_head(StatusCode::OK, body.len());
+    let mut bytes = Vec::from_slice(alloc, head.as_slice())?;
+    bytes.extend_from_slice(body.as_bytes())?;
+    Ok(bytes)
+}
+
+/// The answer of success. For a change it takes no memory.
+fn reply_answer(alloc: Global, reply: Reply) -> Result<Answer, AllocError>
+    ensures text { IfOk result (λ answer. answer_bytes answer ≡ text_of (Ok reply)) }
+    ensures memory { OnErr result (IsRead (Ok reply)) }
+{
+    match reply {
+        Reply::Done => Ok(Answer::Short(done_answer())),
+        Reply::Supervisor {
+            name,
+            placed,
+            quota,
+        } => {
+            let body = supervisor_text(alloc, name.as_str(), placed, quota)?;
+            Ok(Answer::Long(with_head(alloc, body.as_str())?))
+        }
+        Reply::Project {
+            name,
+            placed,
+            quota,
+            supervisor,
+        } => {
+            let body = project_text(alloc, name.as_str(), placed, quota, supervisor.as_str())?;
+            Ok(Answer::Long(with_head(alloc, body.as_str())?))
+        }
+        Reply::Student { name } => {
+            let body = student_text(alloc, name.as_str())?;
+            Ok(Answer::Long(with_head(alloc, body.as_str())?))
+        }
+    }
+}
+
+/// The answer; that of a read may be refused for want of memory.
+pub fn answer_of(alloc: Global, outcome: Result<Reply, Refusal>) -> Answer
+    ensures { (answer_bytes result ≡ text_of outcome)
+        ⊎ (IsRead outcome × (answer_bytes result ≡ refusal_text Refusal.Memory)) }
+{
+    match outcome {
+        Err(refusal) => Answer::Short(refusal_answer(refusal)),
+        Ok(reply) => match reply_answer(alloc, reply) {
+            Ok(answer) => answer,
+            Err(_) => Answer::Short(refusal_answer(Refusal::Memory)),
+        },
+    }
+}

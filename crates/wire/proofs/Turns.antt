@@ -1,0 +1,134 @@
+-- One turn of the service.
+use Rattle.std.proofs.Common.{◌≡◌, ℕ, ◌+◌, ◌<◌, inl, inr, List, [], ◌∷◌, ◌++◌, length, take, drop, Option, Result, Ok, Err, IfOk, OnOk, IfErr, OnErr, refl, sym, ap, ◌∙◌, subst, append-nil, add-zero, length-append, arith}
+use Rattle.std.proofs.Math.Seq.{take-append-add}
+use Rattle.std.specs.List.{concat}
+use Rattle.std.specs.Io.KnownBytes.{Appends}
+use Rattle.wire.specs.declared.front.Parts.{Parts}
+use Rattle.wire.specs.declared.front.Front.TheVariants.{Whole, Open}
+use Rattle.wire.specs.declared.outcome.End.{End}
+use Rattle.wire.specs.Messages.{Stops}
+use Rattle.wire.specs.Judged.{Judges}
+use Rattle.wire.specs.declared.outcome.Served.{Served}
+use Rattle.wire.specs.declared.outcome.StreamFault.{StreamFault}
+use Rattle.wire.specs.declared.outcome.StreamFault.TheVariants.{Memory, Read, Write}
+use Rattle.wire.specs.Run.{Said, said_at, unread, last_words, last_count}
+use Rattle.wire.specs.Served.{SoFar, GoesOn, BreaksOff, BrokeOff, WroteUntil, ServedTo}
+use Rattle.wire.specs.Taken.{Grows}
+use Rattle.wire.proofs.Known.{appends_compose, appends_none, consumes_none}
+use Rattle.wire.proofs.Runs.{reads_on, answers_on, concat_more, splits_more, run_more, said_same, ends_here}
+
+-- the reader failed before a whole message had come
+pub breaks_reading : {S : Type 0} (step : S → Said → List ℕ → S → Type 0) (left w left' : Option (List ℕ)) (rest rest' : List ℕ) (now : S) (fault : StreamFault)
+    → Grows rest rest' left left' → Judges rest' Open → fault ≡ Read → BreaksOff step left w rest now left' w now fault
+breaks_reading step left w left' rest rest' now fault grows still e before left0 w0 count so below =
+    let now_so = reads_on step before now left0 w0 left left' w rest rest' count so grows in record {
+      given = now_so.given;
+      read = now_so.read;
+      messages = now_so.messages;
+      few = omega (arith, now_so.counted);
+      rest = rest';
+      split = now_so.split;
+      answers = now_so.answers;
+      ran = now_so.ran;
+      wrote = subst (λ (f : StreamFault). WroteUntil f (concat now_so.answers) rest' left' w0 w) (sym e) (now_so.wrote, still.1);
+    }
+
+-- a part of the last text is a part of all of them
+part_of_all : (xs a : List ℕ) (n : ℕ) → xs ++ take n a ≡ take (length xs + n) ((xs ++ a) ++ [])
+part_of_all xs a n = sym (ap (take (length xs + n)) (append-nil (xs ++ a)) ∙ take-append-add xs a n)
+
+-- the writer failed within an answer
+pub breaks_writing : {S : Type 0} (step : S → Said → List ℕ → S → Type 0) (left w left' w' : Option (List ℕ)) (rest rest' : List ℕ) (now after : S) (fault : StreamFault)
+    (p : Parts) (a : List ℕ) (n : ℕ)
+    → Grows rest rest' left left' → Judges rest' (Whole p) → step now (said_at rest' p) a after → Appends w w' (take n a) → fault ≡ Write
+    → BreaksOff step left w rest now left' w' after fault
+breaks_writing step left w left' w' rest rest' now after fault p a n grows judged x wrote e before left0 w0 count so below =
+    let so_now = reads_on step before now left0 w0 left left' w rest rest' count so grows in
+    let all = so_now.answers in
+    let after_p = drop (p.head + p.body) rest' in
+    let k = length (concat all) + n in
+    let part : concat all ++ take n a ≡ take k (concat (all ++ a ∷ []) ++ []) =
+    part_of_all (concat all) a n ∙ ap (λ (t : List ℕ). take k (t ++ [])) (sym (concat_more all a)) in
+    let w_so : Appends w0 w' (take k (concat (all ++ a ∷ []) ++ [])) =
+    subst (Appends w0 w') part (appends_compose w0 w w' (concat all) (take n a) so_now.wrote wrote) in
+    record {
+      given = so_now.given;
+      read = so_now.read;
+      messages = so_now.messages ++ judged.0 ∷ [];
+      few = simp length-append (omega (arith, so_now.counted));
+      rest = after_p;
+      split = λ more. splits_more _ so_now.messages (rest' ++ more) (after_p ++ more) judged.0 (so_now.split more) (judged.2 more);
+      answers = all ++ a ∷ [];
+      ran = run_more step before now after so_now.messages all judged.0 a so_now.ran
+          (subst (λ (q : Said). step now q a after) (said_same rest' p judged.0 judged.1) x);
+      wrote = subst (λ (f : StreamFault). WroteUntil f (concat (all ++ a ∷ [])) after_p left' w0 w') (sym e) ([], inl refl, k, w_so);
+    }
+
+-- a message was answered, and taken away
+pub message_goes_on : {S : Type 0} (step : S → Said → List ℕ → S → Type 0) (left w left' w' : Option (List ℕ)) (rest rest' rest'' : List ℕ) (now after : S) (p : Parts) (a : List ℕ)
+    → Grows rest rest' left left' → Judges rest' (Whole p) → step now (said_at rest' p) a after → Appends w w' a → rest'' ≡ drop (p.head + p.body) rest'
+    → GoesOn step left w rest now left' w' rest'' after 1
+message_goes_on step left w left' w' rest rest' rest'' now after p a grows judged x wrote e before left0 w0 count so =
+    subst (λ (t : List ℕ). SoFar step before left0 w0 left' w' t (count + 1) after) (sym e)
+    (answers_on step before now after left0 w0 left' w w' rest' count p a (reads_on step before now left0 w0 left left' w rest rest' count so grows) judged x wrote)
+
+-- the end has come, and all before it stands
+pub end_goes_on : {S : Type 0} (step : S → Said → List ℕ → S → Type 0) (left w left' : Option (List ℕ)) (rest rest' : List ℕ) (now : S)
+    → Grows rest rest' left left' → GoesOn step left w rest now left' w rest' now 0
+end_goes_on step left w left' rest rest' now grows before left0 w0 count so =
+    subst (λ (k : ℕ). SoFar step before left0 w0 left' w rest' k now) (sym (add-zero count)) (reads_on step before now left0 w0 left left' w rest rest' count so grows)
+
+-- no memory for the buffers
+pub nothing_broken : {S : Type 0} (step : S → Said → List ℕ → S → Type 0) (before : S) (left w : Option (List ℕ)) → BrokeOff step before left w left w before Memory
+nothing_broken step before left w = record {
+  given = [];
+  read = consumes_none left;
+  messages = [];
+  few = omega arith;
+  rest = [];
+  split = λ more. refl;
+  answers = [];
+  ran = refl;
+  wrote = (refl, refl, appends_none w);
+}
+
+-- the last words were written
+pub finished : {S : Type 0} (step : S → Said → List ℕ → S → Type 0) (before now was : S) (left0 w0 left l w w1 w' : Option (List ℕ)) (rest r : List ℕ) (count : ℕ) (end : End)
+    (result : Result Served StreamFault)
+    → SoFar step before left0 w0 left w rest count was → count < 100
+    → Stops (r ++ unread l) end × GoesOn step left w rest was l w1 r now 0
+    → IfOk result (λ s. s ≡ record { answered = count + last_count end; end = end }) → OnOk result (Appends w1 w' (last_words end))
+    → IfOk result (λ served. ServedTo step before left0 w0 w' served now)
+finished step before now was left0 w0 left l w w1 w' rest r count end (Ok s) so few stops e wrote =
+    let goes = subst (λ (k : ℕ). SoFar step before left0 w0 l w1 r k now) (add-zero count) (stops.1 before left0 w0 count so) in
+    subst (λ (t : Served). ServedTo step before left0 w0 w' t now) (sym e) (ends_here step before now left0 w0 l w1 w' r count end goes few stops.0 wrote)
+finished step before now was left0 w0 left l w w1 w' rest r count end (Err f) so few stops e wrote = tt
+
+-- or not all of them
+pub unfinished : {S : Type 0} (step : S → Said → List ℕ → S → Type 0) (before now was : S) (left0 w0 left l w w1 w' : Option (List ℕ)) (rest r : List ℕ) (count : ℕ) (end : End)
+    (result : Result Served StreamFault)
+    → SoFar step before left0 w0 left w rest count was → count < 100
+    → Stops (r ++ unread l) end × GoesOn step left w rest was l w1 r now 0
+    → IfErr result (λ e. e ≡ Write) → OnErr result ((n : ℕ) × Appends w1 w' (take n (last_words end)))
+    → IfErr result (λ fault. BrokeOff step before left0 w0 l w' now fault)
+unfinished step before now was left0 w0 left l w w1 w' rest r count end (Ok s) so below stops e wrote = tt
+unfinished step before now was left0 w0 left l w w1 w' rest r count end (Err f) so below stops e wrote =
+    let goes = stops.1 before left0 w0 count so in
+    let words = last_words end in
+    let k = length (concat goes.answers) + wrote.0 in
+    record {
+      given = goes.given;
+      read = goes.read;
+      messages = goes.messages;
+      few = omega (arith, goes.counted);
+      rest = r;
+      split = goes.split;
+      answers = goes.answers;
+      ran = goes.ran;
+      wrote = subst (λ (f : StreamFault). WroteUntil f (concat goes.answers) r l w0 w') (sym e) (
+        words,
+        inr (end, stops.0, refl),
+        k,
+        subst (Appends w0 w') (sym (take-append-add (concat goes.answers) words wrote.0)) (appends_compose w0 w1 w' (concat goes.answers) (take wrote.0 words) goes.wrote wrote.1),
+      );
+    }

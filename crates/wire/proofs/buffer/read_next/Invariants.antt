@@ -1,0 +1,14 @@
+use Rattle.std.proofs.Common.{◌≡◌, ◌≤◌, ◌-◌, vec_len, vec_capacity}
+use Rattle.wire.specs.Taken.{Grows}
+use Rattle.wire.proofs.buffer.read_next.Given as goal
+
+abbrev pub invariant-reading : goal.invariant-reading
+invariant-reading g l = record {
+  grows : Grows l.initial.buffer.items l.buffer.items (g.R.Source.left l.initial.reader) (g.R.Source.left l.reader);
+  size : vec_len l.buffer ≤ 73728;
+  capacity : 73728 ≤ vec_capacity l.buffer;
+  count : g.R.Source.failures l.reader ≡ g.R.Source.failures l.initial.reader;
+}
+
+abbrev pub decreases-reading : goal.decreases-reading
+decreases-reading g l = 73728 - vec_len l.buffer

@@ -1,0 +1,12 @@
+use Rattle.std.proofs.Common.{◌≡◌, ◌++◌, map, drop, length, IfSome}
+use Rattle.std.specs.Option.{option_map, option_to_list}
+use Rattle.httparse.specs.Spans.{header_bytes, span_bytes, IsWithin}
+use Rattle.wire.specs.Messages.{lengths}
+use Rattle.wire.proofs.fields.framing_by_lengths.Given as goal
+
+abbrev pub invariant-loop-header : goal.invariant-loop-header
+invariant-loop-header l = record {
+  same : option_to_list (option_map (span_bytes l.buf) l.found) ++ lengths (map (header_bytes l.buf) (drop l.header-index l.headers))
+      ≡ lengths (map (header_bytes l.buf) l.headers);
+  within : IfSome l.found (IsWithin (length l.buf));
+}

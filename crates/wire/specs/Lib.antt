@@ -1,0 +1,9 @@
+pub mod Endpoints
+pub mod Watching
+pub mod Messages
+pub mod Judged
+pub mod Text
+pub mod Run
+pub mod Answers
+pub mod Served
+pub mod Taken

@@ -1,0 +1,74 @@
+-- Runs of a desk over the messages of a stream.
+use Rattle.std.specs.Prelude.{◌≡◌, codes, ℕ, ◌+◌, List, [], ◌∷◌, slice_range, Option, Some, None, IfSome, Result, Ok, Err}
+use Rattle.wire.specs.declared.outcome.StreamFault.{StreamFault}
+use Rattle.wire.specs.declared.outcome.StreamFault.TheVariants.{Memory, Read, Write}
+use Rattle.wire.specs.declared.outcome.End.{End}
+use Rattle.wire.specs.declared.outcome.End.TheVariants.{Closed, Unfinished, BadHead, TooLarge, Hundred}
+use Rattle.wire.specs.declared.front.Parts.{Parts}
+use Rattle.httparse.specs.Spans.{span_bytes}
+use Rattle.wire.specs.Messages.{Message}
+use Rattle.wire.specs.Text.{fault_answer}
+
+-- what a desk sees of a message
+pub record Said : Type 0 where
+  pub method : List ℕ
+  pub target : List ℕ
+  pub body : List ℕ
+
+-- what a message says
+abbrev pub said : Message → Said
+said m = record { method = m.head.method; target = m.head.target; body = m.body }
+
+-- what stands at these parts of the buffer
+abbrev pub said_at : List ℕ → Parts → Said
+said_at buffer p = record {
+  method = span_bytes buffer p.method;
+  target = span_bytes buffer p.target;
+  body = slice_range buffer p.head (p.head + p.body);
+}
+
+-- step after step, these answers to these messages
+abbrev pub Run : {S : Type 0} → (S → Said → List ℕ → S → Type 0) → S → List Message → List (List ℕ) → S → Type 0
+Run {S} step s [] [] t = s ≡ t
+Run {S} step s (m ∷ messages) (a ∷ answers) t = (u : S) × step s (said m) a u × Run step u messages answers t
+Run {S} step s [] (a ∷ answers) t = ⊥
+Run {S} step s (m ∷ messages) [] t = ⊥
+
+-- the bytes are these, where they are known
+abbrev pub Tells : Option (List ℕ) → List ℕ → Type 0
+Tells known bytes = IfSome known (λ xs. xs ≡ bytes)
+
+-- the bytes that are left, none where they are not known
+abbrev pub unread : Option (List ℕ) → List ℕ
+unread None = []
+unread (Some bytes) = bytes
+
+-- what is written at a stream's end
+abbrev pub last_words : End → List ℕ
+last_words Closed = []
+last_words Unfinished = []
+last_words BadHead = fault_answer 400 (codes "BadHead") 3
+last_words TooLarge = fault_answer 413 (codes "TooLarge") 4
+last_words Hundred = []
+
+-- how many answers that is
+abbrev pub last_count : End → ℕ
+last_count Closed = 0
+last_count Unfinished = 0
+last_count BadHead = 1
+last_count TooLarge = 1
+last_count Hundred = 0
+
+-- 1 where the result is that the reader failed
+abbrev pub read_failed : {A : Type 0} → Result A StreamFault → ℕ
+read_failed (Ok a) = 0
+read_failed (Err Memory) = 0
+read_failed (Err Read) = 1
+read_failed (Err Write) = 0
+
+-- 1 where the result is that the writer failed
+abbrev pub write_failed : {A : Type 0} → Result A StreamFault → ℕ
+write_failed (Ok a) = 0
+write_failed (Err Memory) = 0
+write_failed (Err Read) = 0
+write_failed (Err Write) = 1

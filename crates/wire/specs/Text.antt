@@ -1,0 +1,35 @@
+-- The text of an answer.
+use Rattle.std.specs.Prelude.{ℕ, List, [], ◌∷◌, ◌++◌, length, codes, decimal, unwrap_or}
+use Rattle.http.specs.StatusCode.{reason_phrase}
+
+-- the end of a line
+abbrev pub crlf : List ℕ
+crlf = 13 ∷ 10 ∷ []
+
+-- the standard reason phrase of a status
+unfoldable pub reason_of : ℕ → List ℕ
+reason_of status = unwrap_or (reason_phrase status) []
+
+-- the first line of an answer
+abbrev pub status_line : ℕ → List ℕ
+status_line status = codes "HTTP/1.1 " ++ decimal status ++ codes " " ++ reason_of status ++ crlf
+
+-- the fields of an answer in JSON, whose body has so many bytes, and the empty line
+abbrev pub json_fields : ℕ → List ℕ
+json_fields n = codes "Content-Type: application/json\r\nContent-Length: " ++ decimal n ++ codes "\r\n\r\n"
+
+-- what comes before the body of an answer in JSON, of so many bytes
+abbrev pub json_head : ℕ → ℕ → List ℕ
+json_head status n = status_line status ++ json_fields n
+
+-- an answer in JSON
+abbrev pub json_answer : ℕ → List ℕ → List ℕ
+json_answer status body = json_head status (length body) ++ body
+
+-- the body of a refusal with this name and number
+abbrev pub fault_body : List ℕ → ℕ → List ℕ
+fault_body name number = codes "{\"fault\":\"" ++ name ++ codes "\",\"number\":" ++ decimal number ++ codes "}"
+
+-- the answer of a refusal
+abbrev pub fault_answer : ℕ → List ℕ → ℕ → List ℕ
+fault_answer status name number = json_answer status (fault_body name number)

@@ -1,0 +1,108 @@
+//! The two ends of a stream: what is read and what is written, with counts of failures.
+
+ghost use Rattle.std.specs.Prelude.{◌≡◌, ℕ, ◌+◌, ◌-◌, ◌^◌, ◌<◌, ◌≤◌, List, Option, IfOk, OnOk, OnErr, length};
+ghost use Rattle.std.specs.Io.KnownBytes.{Appends, Consumes, Keeps, IsAtEnd, ReadConsumes, WriteAppends};
+ghost use Rattle.wire.specs.Endpoints.{CountsErr, CountsNone};
+ghost use Rattle.wire.specs.Watching.{inner_of, failures_of};
+
+use std::io;
+use std::io::{Read, Write};
+
+/// What is read, with a count of the calls that failed. A call is made only below the greatest count.
+pub trait Source {
+    // The bytes that are left to read, where they are known.
+    ghost left: { Self → Option (List ℕ) };
+
+    // How many calls failed.
+    ghost failures: { Self → ℕ };
+
+    /// Reads some bytes into the front of `buf`; none at the end alone.
+    fn read(&mut self, buf: &mut [u8]) -> io::Result<usize>
+        requires { failures self.old < 2 ^ 64 - 1 }
+        ensures bound { IfOk result (λ n. n ≤ length buf.new) }
+        ensures bytes { ReadConsumes (left self.old) (left self.new) result buf.new }
+        ensures count { CountsErr (failures self.old) (failures self.new) result };
+}
+
+/// What is written, with a count of the calls that failed or took no byte.
+pub trait Sink {
+    // The bytes that were written, where they are known.
+    ghost written: { Self → Option (List ℕ) };
+
+    // How many calls failed or took no byte.
+    ghost failures: { Self → ℕ };
+
+    /// Writes some bytes from the front of `buf`.
+    fn write(&mut self, buf: &[u8]) -> io::Result<usize>
+        requires { failures self.old < 2 ^ 64 - 1 }
+        ensures bound { IfOk result (λ n. n ≤ length buf.now) }
+        ensures bytes { WriteAppends (written self.old) (written self.new) result buf.now }
+        ensures count { CountsNone (failures self.old) (failures self.new) result };
+}
+
+/// Any reader or writer, with the count of its calls that failed, from 0.
+#[derive(Drop)]
+pub struct Watched<T> {
+    inner: T,
+    failures: u64,
+}
+
+impl<T> Watched<T> {
+    /// Begins to watch, at a count of 0.
+    pub fn new(inner: T) -> Self
+        ensures inner { inner_of result ≡ inner }
+        ensures failures { failures_of result ≡ 0 }
+    {
+        Watched { inner, failures: 0 }
+    }
+
+    /// How many calls failed.
+    pub fn failures(&self) -> u64
+        ensures { result ≡ failures_of self.now }
+    {
+        let Watched { inner: _, failures } = self;
+        *failures
+    }
+
+    /// Gives up the reader or writer.
+    pub fn into_inner(self) -> T
+        ensures { result ≡ inner_of self }
+    {
+        let Watched { inner, failures: _ } = self;
+        inner
+    }
+}
+
+impl<R: Read> Source for Watched<R> {
+    ghost left = { λ w. R.remaining (inner_of w) };
+
+    ghost failures = { failures_of };
+
+    fn read(&mut self, buf: &mut [u8]) -> io::Result<usize> {
+        let read = self.inner.read(buf);
+        if read.is_err() {
+            self.failures += 1;
+        }
+        read
+    }
+}
+
+impl<W: Write> Sink for Watched<W> {
+    ghost written = { λ w. W.contents (inner_of w) };
+
+    ghost failures = { failures_of };
+
+    fn write(&mut self, buf: &[u8]) -> io::Result<usize> {
+        match self.inner.write(buf) {
+            Ok(0) => {
+                self.failures += 1;
+                Ok(0)
+            }
+            Ok(n) => Ok(n),
+            Err(e) => {
+                self.failures += 1;
+                Err(e)
+            }
+        }
+    }
+}

@@ -1,0 +1,113 @@
+//! What stands at the front of a stream of which some bytes have come.
+ghost use Rattle.std.specs.Prelude.{◌≡◌, ◌≤◌, ◌+◌, ℕ, false, length};
+ghost use Rattle.wire.specs.Messages.{has_line};
+ghost use Rattle.wire.specs.Judged.{FindsHead, Judges};
+
+use crate::fields::{Framing, framing_of};
+use crate::outcome::End;
+use httparse::spans::{HeaderSpan, RequestSpans, Span, parse_request};
+use httparse::{Error, Status};
+
+/// The bytes in which a head stands.
+const WINDOW: usize = 8192;
+
+/// The fields for which the parser has room: more than stand in so many bytes, so whole heads are judged.
+pub const FIELDS: usize = 2800;
+
+/// What a search for a head found: its parts, that none can come, or none so far.
+enum Head {
+    Found(RequestSpans),
+    Malformed,
+    Missing,
+}
+
+/// Where the parts of a message stand.
+#[derive(Clone, Copy)]
+pub struct Parts {
+    pub method: Span,
+    pub target: Span,
+    pub head: usize,
+    pub body: usize,
+}
+
+/// What stands at the front of a stream.
+pub enum Front {
+    Whole(Parts),
+    Stop(End),
+    Open,
+}
+
+/// Whether an LF comes after a byte that is neither CR nor LF.
+fn has_line(buf: &[u8]) -> bool
+    ensures { result ≡ has_line false buf.now }
+{
+    let mut begun = false;
+    for b in buf {
+        if *b == b'\n' {
+            if begun {
+                return true;
+            }
+        } else if *b != b'\r' {
+            begun = true;
+        }
+    }
+    false
+}
+
+/// Looks for a head at the front.
+fn find_head(window: &[u8], headers: &mut [HeaderSpan]) -> Head
+    requires room { length headers.old ≡ FIELDS }
+    requires short { length window.now ≤ WINDOW }
+    ensures { FindsHead window.now headers.new result }
+{
+    match parse_request(window, headers) {
+        Ok(status) => match status {
+            Status::Complete(spans) => Head::Found(spans),
+            Status::Partial => Head::Missing,
+        },
+        Err(error) => match error {
+            Error::TooManyHeaders => Head::Missing,
+            _ => {
+                if has_line(window) {
+                    Head::Malformed
+                } else {
+                    Head::Missing
+                }
+            }
+        },
+    }
+}
+
+/// Says what stands at the front.
+pub fn judge(buf: &[u8], headers: &mut [HeaderSpan]) -> Front
+    requires { length headers.old ≡ FIELDS }
+    ensures { Judges buf.now result }
+{
+    let window = &buf[..WINDOW.min(buf.len())];
+    match find_head(window, headers) {
+        Head::Found(spans) => match framing_of(window, spans.version, &headers[..spans.headers]) {
+            Framing::Wrong => Front::Stop(End::BadHead),
+            Framing::Long => Front::Stop(End::TooLarge),
+            Framing::Length(body) => {
+                if buf.len() - spans.len < body {
+                    Front::Open
+                } else {
+                    Front::Whole(Parts {
+                        method: spans.method,
+                        target: spans.path,
+                        head: spans.len,
+                        body,
+                    })
+                }
+            }
+        },
+        Head::Malformed => Front::Stop(End::BadHead),
+        Head::Missing => {
+            if buf.len() < WINDOW {
+                Front::Open
+            } else {
+                Front::Stop(End::TooLarge)
+            }
+        }
+    }
+}
