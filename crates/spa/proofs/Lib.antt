@@ -1,2 +1,12 @@
 pub mod Rows
 pub mod LexOrder
+pub mod Orders
+pub mod Sums
+pub mod Duality
+pub mod Greedy
+pub mod Places
+pub mod PairsOf
+pub mod CodeLists
+pub mod RollLists
+pub mod Making
+pub mod ByCodes

@@ -1,24 +1,55 @@
-//! The values that every crate above speaks of: codes and labels, and the worths of matchings.
+//! Student/project allocation: codes, instances, matchings, profiles and worths.
 //!
-//! A value of these types is well formed by construction: what takes one tests nothing again. Nothing here chooses
-//! a matching, and nothing here knows an office.
+//! A value of these types is well formed by construction: every crate above takes it as given and tests nothing again.
+//! Nothing here chooses a matching; `network` and `solver` do, and `verdict` checks one. Nothing here knows an office.
 //!
-//! Promised: `Code::read` and `Label::read` keep exactly the texts that have the form, byte for byte. `Lex` keeps the laws of `Worth`,
-//! with the lexicographic order of rows (`lex_law`). The forms are
-//! in `specs/Text.antt`; begin there.
+//! Promised: `Code::read` and `Label::read` keep exactly the texts that have the form. `Instance::new` answers the
+//! instance that is, by codes, exactly the rolls handed in, or names the first fault. `Matching::fault` is none exactly
+//! for a matching, and `profile` counts its pairs by rank. `Lex` keeps the laws of `Worth`. The functions of `laws`
+//! carry what the crates above rest on: prices bound every matching, and codes say the same as positions.
+//!
+//! Read on in `specs/Shape.antt`, `specs/Matching.antt` and `specs/Prices.antt`, which speak of positions, then in
+//! `specs/Instance.antt` and `specs/Coded.antt`, which say the same by codes.
 #![tactic(auto)]
 
 mod code;
+mod codes;
+mod columns;
+mod fault;
+mod instance;
 mod label;
+mod laws;
 mod lex;
+mod lists;
+mod matching;
+mod offers;
+mod order;
+mod rolls;
 mod text;
 mod worth;
 
 pub use code::Code;
+pub use fault::{InstanceFault, Roll};
+pub use instance::Instance;
 pub use label::Label;
+pub use laws::{code_law, greedy_law, list_law, price_law};
 pub use lex::{Lex, lex_law};
+pub use matching::{MatchFault, Matching, profile};
+pub use order::precedes;
 pub use text::{TextFault, is_code_text, is_label_text};
 pub use worth::Worth;
+
+/// The most supervisors of an instance.
+pub const MOST_SUPERVISORS: usize = 100;
+
+/// The most projects of an instance.
+pub const MOST_PROJECTS: usize = 400;
+
+/// The most students of an instance.
+pub const MOST_STUDENTS: usize = 500;
+
+/// The greatest quota of a supervisor or a project.
+pub const MOST_PLACES: u32 = 500;
 
 /// The longest list, and so the ranks that a pair can have.
 pub const RANKS: usize = 8;

@@ -27,9 +27,9 @@ pub record HasSaved (P : Database → Database → Type 0) (old new : State) : T
   pub shown : Sees old new new.now new.now false
   pub step : P old.now new.now
 
--- nothing has changed, unless a fault of the disk has shut the connection
+-- nothing has changed, unless the connection is shut, as it was before or by a fault of the disk
 abbrev pub IsKept : State → State → Type 0
-IsKept old new = IsTrue new.is_open → (new.now ≡ old.now) × (new.committed ≡ old.committed)
+IsKept old new = IsTrue new.is_open → IsTrue old.is_open × (new.now ≡ old.now) × (new.committed ≡ old.committed)
 
 -- the trees of a database that P makes of the old one
 abbrev pub IsLeft : (Database → Database → Type 0) → Database → Trees → Type 0

@@ -1,0 +1,93 @@
+-- Changes that turn the rows of one office into those of the next, saved: the tables stand for the next one.
+use Rattle.std.proofs.Common.{◌≡◌, ◌⊎◌, inl, inr, ◌≤◌, ℕ, false, true, List, Option, Some, None, IsTrue, refl, sym, ap, subst, ◌∙◌, arith}
+use Rattle.std.specs.Prelude.{Ok, Err}
+use Rattle.sqlite.specs.Effect.{Database}
+use Rattle.sqlite.specs.State.{State as Seen, HasCleanDisk, Survives}
+use Rattle.sqlite.specs.Tree.{Trees}
+use Rattle.tables.specs.Steps.{HasSaved, IsKept, IsLeft}
+use Rattle.rolls.specs.declared.row.Row.{Row}
+use Rattle.rolls.specs.declared.row.RowKey.{RowKey}
+use Rattle.rolls.specs.declared.row.Change.{Change}
+use Rattle.rolls.specs.declared.request.Done.{Done}
+use Rattle.rolls.specs.State.{State}
+use Rattle.rolls.specs.Rows.{row_of, after_changes, Turns}
+use Rattle.rolls.specs.Asked.{Put, Plain, is_read, PutSupervisor, PutProject, PutStudent, GetSupervisor, GetProject, GetStudent}
+use Rattle.rolls.specs.Answers.{IsDone}
+use Rattle.rolls.specs.Run.{Step}
+use Rattle.rolls.specs.Stepping.{after_put}
+use Rattle.store.specs.Rows.{AreRowsAt}
+use Rattle.store.specs.Tables.{TablesHold, StandsFor, Opens}
+use Rattle.store.specs.Saving.{Saves}
+use Rattle.desk.specs.Keeping.{Keeps, Leads}
+
+-- tables hold rows that are the same at each key
+hold_same : (db : Database) (rows others : RowKey → Option Row) → ((k : RowKey) → rows k ≡ others k) → TablesHold db rows → TablesHold db others
+hold_same db rows others same h = record {
+  edition = h.edition;
+  places = h.places;
+  edition_apart = h.edition_apart;
+  apart = h.apart;
+  list = h.list;
+  at = record { apart = h.at.apart; each = λ k. h.at.each k ∙ same k };
+  editions = h.editions;
+  rolls = h.rolls;
+}
+
+-- what is saved stands for the next office
+pub stands_after : (changes : List Change) (office next : State) (old new : Database) → Turns changes office next → Saves changes old new → StandsFor old office → StandsFor new next
+unfolding Saves
+stands_after changes office next old new turns saves stands = hold_same new (after_changes changes (row_of office)) (row_of next) turns (saves (row_of office) stands)
+
+-- a disk that is clean was clean before
+was_clean : (old new : Seen) (P : Trees → Type 0) → Survives old new P → HasCleanDisk new → HasCleanDisk old
+was_clean old new P survives clean = let c = survives.clean in omega (arith, c, clean)
+
+-- after the changes are saved the tables stand for the next office
+pub saved_keeps : (changes given : List Change) → given ≡ changes → (office here next : State) → here ≡ office → (old new : Seen) (P : Trees → Type 0)
+    → Turns changes office next → Survives old new P → (HasCleanDisk new → HasSaved (Saves given) old new) → Keeps old here → Keeps new next
+saved_keeps changes given same_changes office here next same old new P turns survives saved keeps clean is_open =
+    let s = saved clean in
+    let step : Saves changes old.now new.now = subst (λ cs. Saves cs old.now new.now) same_changes s.step in
+    let before : StandsFor old.now office = subst (λ (o : State). StandsFor old.now o) same (keeps (was_clean old new P survives clean) s.shown.was_open) in
+    stands_after changes office next old.now new.now turns step before
+
+-- where nothing was changed the tables stand for the office as before
+pub kept_keeps : (office : State) (old new : Seen) (P : Trees → Type 0) → Survives old new P → (HasCleanDisk new → IsKept old new) → Keeps old office → Keeps new office
+kept_keeps office old new P survives kept keeps clean is_open =
+    let k = kept clean is_open in
+    subst (λ (db : Database). StandsFor db office) (sym k.1) (keeps (was_clean old new P survives clean) k.0)
+
+-- what a crash may leave, in weaker words
+pub survives_weaker : (old new : Seen) (P Q : Trees → Type 0) → ((trees : Trees) → P trees → Q trees) → Survives old new P → Survives old new Q
+survives_weaker old new P Q weaker s = record {
+  clean = s.clean;
+  shield = s.shield;
+  counts = s.counts;
+  limit = s.limit;
+  closes = s.closes;
+  crash = λ clean trees left. elim (s.crash clean trees left) as (λ _. old.may_leave trees ⊎ Q trees) [ inl before ↦ inl before | inr made ↦ inr (weaker trees made) ];
+}
+
+-- saved changes of a request lead to an office that the request makes
+pub done_leads : (put : Put) (office next : State) (done : Done) (old new : Database) → IsDone put office next done → Saves done.changes.items old new → Leads office (Plain put) old new
+unfolding Leads
+done_leads put office next done old new is saves stands =
+    (done.reply, next, (is.allowed, (is.reply, is.after)), stands_after done.changes.items office next old new is.changes saves stands)
+
+-- what a crash may leave of saved changes is what it may leave of the request
+pub left_leads : (put : Put) (office next : State) (done : Done) (old : Database) → IsDone put office next done → (trees : Trees) → IsLeft (Saves done.changes.items) old trees → IsLeft (Leads office (Plain put)) old trees
+left_leads put office next done old is trees left = (left.0, done_leads put office next done old left.0 is left.1, left.2)
+
+-- an office that was opened is one that the tables stand for
+pub opened_stands : (old new : Database) (office : State) → Opens old new office → StandsFor new office
+opened_stands old new office (inl made) = subst (λ (o : State). StandsFor new o) (sym made.1) made.2
+opened_stands old new office (inr found) = subst (λ (db : Database). StandsFor db office) (sym found.0) found.1
+
+-- a read leaves the office as it was
+pub read_keeps : (put : Put) (office : State) → is_read put ≡ true → after_put put office ≡ office
+read_keeps (PutSupervisor code label quota) office h = cc
+read_keeps (PutProject code label supervisor quota) office h = cc
+read_keeps (PutStudent code label) office h = cc
+read_keeps (GetSupervisor code) office h = refl
+read_keeps (GetProject code) office h = refl
+read_keeps (GetStudent code) office h = refl

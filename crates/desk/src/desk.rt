@@ -1,0 +1,186 @@
+//! The desk.
+
+ghost use Rattle.std.specs.Prelude.{◌≡◌, ◌≢◌, ◌⊎◌, Err, IfOk, IfErr, IfSome, OnOk, OnErr, map, false, true};
+ghost use Rattle.sqlite.specs.State.{HasCleanDisk, Survives};
+ghost use Rattle.sqlite.specs.Held.{state};
+ghost use Rattle.tables.specs.Steps.{IsKept, IsLeft};
+ghost use Rattle.rolls.specs.Answers.{Answers, IsDone};
+ghost use Rattle.rolls.specs.Rows.{Turns};
+ghost use Rattle.store.specs.Saving.{Saves};
+ghost use Rattle.rolls.specs.Asked.{asked_of, put_of, is_read, Plain as ThePlain};
+ghost use Rattle.rolls.specs.Refusing.{refusal};
+ghost use Rattle.rolls.specs.Run.{Step, Run};
+ghost use Rattle.store.specs.Tables.{Opens, Founds, HasNone, LeavesAlone};
+ghost use Rattle.store.specs.Reading.{IsDamaged};
+ghost use Rattle.desk.specs.Keeping.{Keeps, Leads, needs_no_table, only_reads};
+
+use office::Office;
+use rolls::{Done, Plain, Refusal, Reply, Request};
+use sqlite::{Alter, Connection};
+use std::alloc::{AllocError, Global};
+use std::marker::Model;
+use store::{Store, StoreFault};
+
+/// An office in memory beside the tables that stand for it.
+#[derive(Drop)]
+pub struct Desk<S: Alter> {
+    alloc: Global,
+    office: Office,
+    store: Store<S>,
+}
+
+impl<S: Alter> Model for Desk<S> {
+    ghost use Rattle.desk.specs.Kept.{Kept, kept_code};
+    ghost use Rattle.desk.specs.Keeping.{IsKeeping};
+
+    ghost Value = { Kept S };
+
+    ghost coded = { kept_code S.code };
+
+    ghost view = { λ d. record { office = d.office; store = d.store } };
+
+    ghost invariant = { λ d. IsKeeping S.Store (record { office = d.office; store = d.store }) };
+}
+
+/// The refusal that a fault of the store is answered by.
+fn refusal_of_fault(fault: StoreFault) -> Refusal
+    ensures memory { fault ≡ StoreFault.Memory → result ≡ Refusal.Memory }
+    ensures storage { fault ≡ StoreFault.Storage → result ≡ Refusal.Storage }
+    ensures damaged { fault ≡ StoreFault.Damaged → result ≡ Refusal.Damaged }
+{
+    match fault {
+        StoreFault::Memory => Refusal::Memory,
+        StoreFault::Storage => Refusal::Storage,
+        StoreFault::Damaged => Refusal::Damaged,
+    }
+}
+
+impl<S: Alter> Desk<S> {
+    /// Opens the office that the tables of a database stand for. Where none of the tables is there they are made, and the
+    /// office is the empty one. With a refusal the connection is given back and its database is as before.
+    pub fn open(
+        alloc: Global,
+        connection: Connection<S>,
+    ) -> Result<Desk<S>, (Refusal, Connection<S>)>
+        ensures office { IfOk result (λ desk. HasCleanDisk (state S.Store desk.store) → Opens (state S.Store connection).now (state S.Store desk.store).now desk.office) }
+        ensures tables { IfOk result (λ desk. Keeps (state S.Store desk.store) desk.office) }
+        ensures damaged { IfErr result (λ e. HasCleanDisk (state S.Store e.1) → e.0 ≡ Refusal.Damaged → IsDamaged (state S.Store connection).now × (HasNone (state S.Store connection).now.schema → ⊥)) }
+        ensures refused { IfErr result (λ e. (e.0 ≡ Refusal.Memory) ⊎ ((e.0 ≡ Refusal.Storage) ⊎ (e.0 ≡ Refusal.Damaged))) }
+        ensures kept { IfErr result (λ e. HasCleanDisk (state S.Store e.1) → IsKept (state S.Store connection) (state S.Store e.1)) }
+
+        // What a crash leaves: what it could leave before, or tables of the empty office where none was there.
+        ensures crash_ok { IfOk result (λ desk. Survives (state S.Store connection) (state S.Store desk.store) (IsLeft Founds (state S.Store connection).now)) }
+        ensures crash_err { IfErr result (λ e. Survives (state S.Store connection) (state S.Store e.1) (IsLeft Founds (state S.Store connection).now)) }
+        ensures alone { IfOk result (λ desk. HasCleanDisk (state S.Store desk.store) → LeavesAlone (state S.Store desk.store)) }
+    {
+        match Store::open(alloc, connection) {
+            Ok((store, office)) => Ok(Desk {
+                alloc,
+                office,
+                store,
+            }),
+            Err((fault, connection)) => Err((refusal_of_fault(fault), connection)),
+        }
+    }
+
+    /// Gives the connection up. Takes no memory.
+    pub fn into_connection(self) -> Connection<S>
+        ensures same { result ≡ self.store }
+    {
+        let Desk {
+            alloc: _,
+            office,
+            store,
+        } = self;
+        drop(office);
+        store.into_connection()
+    }
+
+    /// All the requests in turn, each answered by a step. Want of memory for the answers comes before the first request
+    /// is asked.
+    pub fn run(&mut self, requests: Vec<Request>) -> Result<Vec<Result<Reply, Refusal>>, AllocError>
+        ensures run { IfOk result (λ answers. Run self.old.office (map asked_of requests.items) answers.items self.new.office) }
+        ensures tables { Keeps (state S.Store self.new.store) self.new.office }
+        ensures err { OnErr result (self.new ≡ self.old) }
+    {
+        let mut answers = Vec::with_capacity(self.alloc, requests.len())?;
+        for request in requests {
+            let answer = self.ask(request);
+            answers.push(answer)?;
+        }
+        Ok(answers)
+    }
+
+    /// One step of the office.
+    pub fn ask(&mut self, request: Request) -> Result<Reply, Refusal>
+        ensures step { Step self.old.office (asked_of request) result self.new.office }
+        ensures tables { Keeps (state S.Store self.new.store) self.new.office }
+        ensures quiet { needs_no_table self.old.office (asked_of request) ≡ true → self.new.store ≡ self.old.store }
+        ensures named { IfSome (refusal self.old.office (asked_of request)) (λ r. result ≡ Err r) }
+        ensures storage { result ≡ Err Refusal.Storage → only_reads (asked_of request) ≡ false }
+
+        // What a crash leaves: what it could leave before, or the tables of an office that the request makes; after an
+        // answered change the tables after it alone.
+        ensures crash { Survives (state S.Store self.old.store) (state S.Store self.new.store) (IsLeft (Leads self.old.office (asked_of request)) (state S.Store self.old.store).now) }
+        ensures alone { only_reads (asked_of request) ≡ false → HasCleanDisk (state S.Store self.new.store) → OnOk result (LeavesAlone (state S.Store self.new.store)) }
+    {
+        if let Some(refusal) = self.office.refusal_of(&request) {
+            return Err(refusal);
+        }
+        match request {
+            Request::Plain(plain) => {
+                if plain.is_read() {
+                    self.read(plain)
+                } else {
+                    self.change(plain)
+                }
+            }
+        }
+    }
+
+    /// A request that only reads is answered from the office.
+    fn read(&mut self, plain: Plain) -> Result<Reply, Refusal>
+        requires read { is_read (put_of plain) ≡ true }
+        ensures step { Step self.old.office (ThePlain (put_of plain)) result self.new.office }
+        ensures store { self.new.store ≡ self.old.store }
+        ensures tables { Keeps (state S.Store self.new.store) self.new.office }
+        ensures storage { result ≢ Err Refusal.Storage }
+    {
+        match self.office.apply(plain) {
+            Ok(done) => Ok(done.reply),
+            Err(refusal) => Err(refusal),
+        }
+    }
+
+    /// A change is made on a copy, which becomes the office once its changes are saved.
+    fn change(&mut self, plain: Plain) -> Result<Reply, Refusal>
+        ensures step { Step self.old.office (ThePlain (put_of plain)) result self.new.office }
+        ensures tables { Keeps (state S.Store self.new.store) self.new.office }
+        ensures crash { Survives (state S.Store self.old.store) (state S.Store self.new.store) (IsLeft (Leads self.old.office (ThePlain (put_of plain))) (state S.Store self.old.store).now) }
+        ensures alone { HasCleanDisk (state S.Store self.new.store) → OnOk result (LeavesAlone (state S.Store self.new.store)) }
+    {
+        let mut next = self.office.copy()?;
+        match next.apply(plain) {
+            Ok(done) => self.settle(next, done),
+            Err(refusal) => Err(refusal),
+        }
+    }
+
+    /// The changes are saved, and then the office is the next one.
+    fn settle(&mut self, next: Office, done: Done) -> Result<Reply, Refusal>
+        requires turns { let changes = done.changes in Turns changes.items self.old.office next }
+        ensures ok { IfOk result (λ reply. (reply ≡ done.reply) × (self.new.office ≡ next)) }
+        ensures err { IfErr result (λ refusal. ((refusal ≡ Refusal.Memory) ⊎ (refusal ≡ Refusal.Storage)) × (self.new.office ≡ self.old.office)) }
+        ensures tables { Keeps (state S.Store self.new.store) self.new.office }
+        ensures crash { let changes = done.changes in Survives (state S.Store self.old.store) (state S.Store self.new.store) (IsLeft (Saves changes.items) (state S.Store self.old.store).now) }
+        ensures alone { HasCleanDisk (state S.Store self.new.store) → OnOk result (LeavesAlone (state S.Store self.new.store)) }
+    {
+        match self.store.save(&done.changes) {
+            Ok(()) => {
+                self.office = next;
+                Ok(done.reply)
+            }
+            Err(fault) => Err(refusal_of_fault(fault)),
+        }
+    }
+}

@@ -1,0 +1,39 @@
+//! Laws of instances that the crates above rest on: functions with nothing to do, whose contracts are the laws.
+#![tactic(auto)]
+
+ghost use Rattle.std.specs.Prelude.{◌≡◌, ℕ, ℤ, ◌+◌, ◌<◌, ◌↔◌, List, length, slice_index, Contains};
+ghost use Rattle.spa.specs.Order.{greedy};
+ghost use Rattle.spa.specs.Shape.{list_of};
+ghost use Rattle.spa.specs.Matching.{Pair, IsBest, IsGreedyMaximum, rank_in};
+ghost use Rattle.spa.specs.Prices.{ProveBest};
+ghost use Rattle.spa.specs.Coded.{SaysTheSame};
+
+use crate::instance::Instance;
+
+/// A project that a student lists is known, and so is the student; its rank is one more than its place in the list.
+pub fn list_law(instance: &Instance)
+    ensures student { (s p : ℕ) → Contains (list_of instance.now.shape s) p → s < length instance.now.shape.students }
+    ensures project { (s p : ℕ) → Contains (list_of instance.now.shape s) p → p < length instance.now.shape.projects }
+    ensures rank { (s k : ℕ) → k < length (list_of instance.now.shape s) → rank_in (list_of instance.now.shape s) (slice_index (list_of instance.now.shape s) k) ≡ k + 1 }
+{
+    instance.fit();
+}
+
+/// A matching is greedy maximum exactly where no matching has a total weight that comes after its own.
+pub fn greedy_law(instance: &Instance)
+    ensures { (M : List Pair) → IsGreedyMaximum instance.now.shape M ↔ IsBest greedy instance.now.shape M }
+{}
+
+/// Prices that prove a matching best are right: it is, against every matching of the instance.
+pub fn price_law(instance: &Instance)
+    ensures { (M : List Pair) (u y z : ℕ → ℕ → ℤ) → ProveBest greedy instance.now.shape M u y z → IsBest greedy instance.now.shape M }
+{
+    instance.fit();
+}
+
+/// Matchings, profiles and greedy maximum say the same by codes as by positions.
+pub fn code_law(instance: &Instance)
+    ensures { SaysTheSame instance.now }
+{
+    instance.fit();
+}

@@ -1,0 +1,59 @@
+//! The five conditions, in their order.
+#![tactic(auto)]
+
+ghost use Rattle.std.specs.Prelude.{◌↔◌, IsOk, OnOk, IfErr};
+ghost use Rattle.spa.specs.Order.{greedy};
+ghost use Rattle.spa.specs.Matching.{IsGreedyMaximum};
+ghost use Rattle.spa.specs.Matched.{pairs};
+ghost use Rattle.verdict.specs.Verdict.{IsProvedBest, IsFirstFailure};
+
+use crate::cover::first_uncovered;
+use crate::prices::{Prices, has_shape, is_above};
+use crate::totals::is_equal;
+use spa::{Instance, Matching, greedy_law, list_law, price_law};
+use thiserror::Error;
+
+/// The first condition that fails.
+#[derive(Clone, Copy, Debug, PartialEq, Eq, Drop, Error)]
+pub enum CheckFault {
+    #[error("the matching is none of the instance")]
+    NotMatching,
+    #[error("there is not one price within the limits for each entry of each roll")]
+    Shape,
+    #[error("a price is below zero")]
+    Below,
+    #[error("student {0} and the project at place {1} of the list pay less than the pair weighs")]
+    Uncovered(usize, usize),
+    #[error("the prices do not add up to the matching's total weight")]
+    Unequal,
+}
+
+/// Checks that the prices prove the matching best, whoever made them. Takes no memory.
+pub fn check(instance: &Instance, matching: &Matching, prices: &Prices) -> Result<(), CheckFault>
+    ensures accepted { IsOk result ↔ IsProvedBest greedy instance.now.shape matching.now.places.items prices.now }
+    ensures failed { IfErr result (λ f. IsFirstFailure greedy instance.now.shape matching.now.places.items prices.now f) }
+
+    // A yes proves the matching best against every matching of the instance.
+    ensures greedy_maximum { OnOk result (IsGreedyMaximum instance.now.shape (pairs instance.now.shape matching.now.places.items)) }
+{
+    instance.fit();
+    list_law(instance);
+    greedy_law(instance);
+    price_law(instance);
+    if matching.fault(instance).is_some() {
+        return Err(CheckFault::NotMatching);
+    }
+    if !has_shape(instance, prices) {
+        return Err(CheckFault::Shape);
+    }
+    if !is_above(prices) {
+        return Err(CheckFault::Below);
+    }
+    if let Some((student, place)) = first_uncovered(instance, prices) {
+        return Err(CheckFault::Uncovered(student, place + 1));
+    }
+    if !is_equal(instance, matching, prices) {
+        return Err(CheckFault::Unequal);
+    }
+    Ok(())
+}

@@ -1,0 +1,89 @@
+//! Prices of an instance: whether they have its shape, and whether none is below zero.
+#![tactic(auto)]
+
+ghost use Rattle.std.specs.Prelude.{◌↔◌, IsTrue};
+ghost use Rattle.spa.specs.Order.{greedy, none};
+ghost use Rattle.spa.specs.Row.{at};
+ghost use Rattle.verdict.specs.Rows.{EachInRange, AllInRange, AllAbove};
+ghost use Rattle.verdict.specs.Verdict.{HasShape, IsAbove};
+
+use spa::{Instance, PLACES, precedes};
+
+/// The greatest number that a place of a price may have, and the least but for its sign.
+pub const LIMIT: i64 = 1_000_000;
+
+/// Prices of the students, projects and supervisors of an instance, in its order.
+#[derive(Debug, Drop)]
+pub struct Prices {
+    pub students: Vec<[i64; PLACES]>,
+    pub projects: Vec<[i64; PLACES]>,
+    pub supervisors: Vec<[i64; PLACES]>,
+}
+
+/// Whether each place of a price is within the limit.
+fn is_in_range(price: &[i64; PLACES]) -> bool
+    ensures { IsTrue result ↔ EachInRange price.now }
+{
+    for t in 0..PLACES {
+        if price[t] < -LIMIT || price[t] > LIMIT {
+            return false;
+        }
+    }
+    true
+}
+
+/// Whether each place of each price is within the limit.
+fn are_in_range(prices: &[[i64; PLACES]]) -> bool
+    ensures { IsTrue result ↔ AllInRange prices.now }
+{
+    for price in prices {
+        if !is_in_range(price) {
+            return false;
+        }
+    }
+    true
+}
+
+/// Whether a price comes before zero.
+fn is_below_zero(price: &[i64; PLACES]) -> bool
+    ensures { IsTrue result ↔ greedy (at price.now) none }
+{
+    precedes(price, &[0; PLACES])
+}
+
+/// Whether no price comes before zero.
+fn are_above(prices: &[[i64; PLACES]]) -> bool
+    ensures { IsTrue result ↔ AllAbove greedy prices.now }
+{
+    for price in prices {
+        if is_below_zero(price) {
+            return false;
+        }
+    }
+    true
+}
+
+/// Whether there is a price for each entry of each roll, and each place is within the limits.
+pub(crate) fn has_shape(instance: &Instance, prices: &Prices) -> bool
+    ensures { IsTrue result ↔ HasShape instance.now.shape prices.now }
+{
+    prices.students.len() == instance.student_count()
+        && prices.projects.len() == instance.project_count()
+        && prices.supervisors.len() == instance.supervisor_count()
+        && are_in_range(&prices.students)
+        && are_in_range(&prices.projects)
+        && are_in_range(&prices.supervisors)
+}
+
+/// Whether no price comes before zero.
+pub(crate) fn is_above(prices: &Prices) -> bool
+    ensures { IsTrue result ↔ IsAbove greedy prices.now }
+{
+    if !are_above(&prices.students) {
+        return false;
+    }
+    if !are_above(&prices.projects) {
+        return false;
+    }
+    are_above(&prices.supervisors)
+}
