@@ -19,6 +19,7 @@ pub as_step : {E : Type 0} (P Q : Database → Database → Type 0) (a b : State
 as_step P Q a b (Ok u) weaker h = stepped_as P Q a b weaker h
 as_step P Q a b (Err e) weaker h = h
 
+-- no change applies nothing
 pub applies_none : (db : Database) → Applies [] db db
 unfolding Applies
 applies_none db inert rows t = (t, refl)

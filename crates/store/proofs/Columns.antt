@@ -37,6 +37,7 @@ keyed Supervisors code = key.Supervisor code
 keyed Projects code = key.Project code
 keyed Students code = key.Student code
 
+-- two rolls are one or two
 pub decide_roll : (a b : Roll) → (a ≡ b) ⊎ (a ≢ b)
 decide_roll Supervisors Supervisors = inl refl
 decide_roll Supervisors Projects = inr (λ e. cc)

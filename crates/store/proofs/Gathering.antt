@@ -35,6 +35,7 @@ filter_none p q (x ∷ xs) apart h = let parts = and_parts _ _ h in ap (λ b. co
 pub of_other : (a b : Roll) (rows : List Row) → a ≢ b → list_all (is_in b) rows ≡ true → columns_of a rows ≡ []
 of_other a b rows apart kind = ap (map columns) (filter_none (is_in a) (is_in b) rows (λ r h. false_from_ne_true _ (λ k. apart (in_once a b r k h))) kind)
 
+-- the rows of one roll among themselves
 pub of_own : (a : Roll) (rows : List Row) → list_all (is_in a) rows ≡ true → columns_of a rows ≡ map columns rows
 of_own a rows kind = ap (map columns) (filter_all (is_in a) rows kind)
 
@@ -61,6 +62,7 @@ module _ (s p t : List Row) (ss : list_all (is_in Supervisors) s ≡ true) (pp :
 pub holds_back : (roll : Roll) (cells : List Cells) (old new : Database) → new ≡ old → HoldsCells roll cells new → HoldsCells roll cells old
 holds_back roll cells old new same = subst (HoldsCells roll cells) same
 
+-- the same of columns that no row has
 pub none_back : (roll : Roll) (old new : Database) → new ≡ old → HoldsNoRow roll new → HoldsNoRow roll old
 none_back roll old new same = subst (HoldsNoRow roll) same
 

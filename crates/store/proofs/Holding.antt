@@ -20,6 +20,7 @@ use Rattle.store.specs.Saving.{AppliesOne}
 use Rattle.store.proofs.Keys.{dropped, rows_put, rows_taken}
 use Rattle.store.proofs.Columns.{keyed, decide_roll, in_once, columns_without, columns_beside, columns_more, columns_same}
 
+-- a roll's table stands at its place's tree
 pub tree_is : (roll : Roll) (place : Place) → (table_of roll place).tree ≡ place.tree
 tree_is Supervisors place = refl
 tree_is Projects place = refl

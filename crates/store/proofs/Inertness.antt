@@ -21,12 +21,15 @@ named_alike Students p q = refl
 pub one_tree : (roll : Roll) (schema : Schema) (p q : Place) → Lists schema (table_of roll p) → Lists schema (table_of roll q) → p.tree ≡ q.tree
 one_tree roll schema p q l m = sym (tree_is roll p) ∙ ap (λ (t : Table). t.tree) (listed_once schema (table_of roll) p q (named_alike roll p q) l m) ∙ tree_is roll q
 
+-- nothing acts on a table that is listed at an inert tree
 pub left_there : (roll : Roll) (schema : Schema) (tree : ℕ) → IsListed (table_of roll) schema tree → IsInert schema tree → IsLeftAlone (table_of roll) schema
 left_there roll schema tree there inert place listed = subst (IsInert schema) (one_tree roll schema (record { tree = tree; checks = there.0 }) place there.1 listed) inert
 
+-- nor on one that is listed nowhere
 pub left_nowhere : (roll : Roll) (schema : Schema) → IsUnlisted (table_of roll) schema → IsLeftAlone (table_of roll) schema
 left_nowhere roll schema none place listed = absurd (none place listed)
 
+-- so on none of the three
 pub all_left : (schema : Schema) → IsLeftAlone (table_of Supervisors) schema → IsLeftAlone (table_of Projects) schema → IsLeftAlone (table_of Students) schema → AreInert schema
 all_left schema a b c Supervisors = a
 all_left schema a b c Projects = b

@@ -52,6 +52,7 @@ module _ (schema : Schema) (edition supervisor project student : ℕ) (e : IsLis
   all_listed Projects = p.1
   all_listed Students = t.1
 
+  -- four tables in trees apart are listed
   pub listed_right : AreApart edition supervisor project student → AreListed schema
   listed_right apart = record {
     edition = record { tree = edition; checks = e.0 };
@@ -65,6 +66,7 @@ module _ (schema : Schema) (edition supervisor project student : ℕ) (e : IsLis
   edition_tree : (place : Place) → Lists schema (edition_table place) → place.tree ≡ edition
   edition_tree place listed = ap (λ (table : Table). table.tree) (listed_once schema edition_table place (record { tree = edition; checks = e.0 }) refl listed e.1)
 
+  -- in trees that are not apart they are not
   pub listed_wrong : (AreApart edition supervisor project student → ⊥) → AreListed schema → ⊥
   listed_wrong close l =
       let a = edition_tree l.edition l.edition_listed in
@@ -84,6 +86,7 @@ module _ (schema : Schema) (edition supervisor project student : ℕ) (e : IsLis
 pub no_edition : (schema : Schema) → IsUnlisted edition_table schema → AreListed schema → ⊥
 no_edition schema none l = none l.edition l.edition_listed
 
+-- nor where a roll's table is missing
 pub no_roll : (roll : Roll) (schema : Schema) → IsUnlisted (table_of roll) schema → AreListed schema → ⊥
 no_roll roll schema none l = none (l.places roll) (l.rolls_listed roll)
 

@@ -12,6 +12,7 @@ use Rattle.rolls.specs.Rows.{key_of, same_row, after_change}
 use Rattle.rolls.specs.From.{row_in, are_apart}
 use Rattle.store.specs.Rows.{AreRowsAt}
 
+-- keys that are tested to be one are one
 pub same_row_is : (a b : RowKey) → same_row a b ≡ true → a ≡ b
 same_row_is (key.Supervisor a) (key.Supervisor b) h = ap key.Supervisor ((bytes_eq-Decides a b).0 h)
 same_row_is (key.Supervisor a) (key.Project b) h = absurd (cc)
@@ -23,11 +24,13 @@ same_row_is (key.Student a) (key.Supervisor b) h = absurd (cc)
 same_row_is (key.Student a) (key.Project b) h = absurd (cc)
 same_row_is (key.Student a) (key.Student b) h = ap key.Student ((bytes_eq-Decides a b).0 h)
 
+-- a key is itself
 pub same_row_self : (a : RowKey) → same_row a a ≡ true
 same_row_self (key.Supervisor a) = (bytes_eq-Decides a a).1 refl
 same_row_self (key.Project a) = (bytes_eq-Decides a a).1 refl
 same_row_self (key.Student a) = (bytes_eq-Decides a a).1 refl
 
+-- one key is tested to be one
 pub same_row_by : (a b : RowKey) → a ≡ b → same_row a b ≡ true
 same_row_by a b e = subst (λ k. same_row a k ≡ true) e (same_row_self a)
 
@@ -35,6 +38,7 @@ same_row_by a b e = subst (λ k. same_row a k ≡ true) e (same_row_self a)
 pub other_row : (a b c : RowKey) → same_row a c ≡ false → same_row b c ≡ true → same_row a b ≡ false
 other_row a b c apart same = false_from_ne_true _ (λ h. true≢false (sym (same_row_by a c (same_row_is a b h ∙ same_row_is b c same)) ∙ apart))
 
+-- keys differ either way round
 pub same_row_turned : (a b : RowKey) → same_row a b ≡ false → same_row b a ≡ false
 same_row_turned a b apart = false_from_ne_true _ (λ h. true≢false (sym (same_row_by a b (sym (same_row_is b a h))) ∙ apart))
 
@@ -47,6 +51,7 @@ in_other_go : (k key : RowKey) (s : Row) (rest : List Row) (b : Bool) → same_r
 in_other_go k key s rest true is apart later = later ∙ sym (ap (λ t. cond t (Some s) (row_in rest k)) (other_row k (key_of s) key apart is))
 in_other_go k key s rest false is apart later = ap (λ o. cond (same_row k (key_of s)) (Some s) o) later
 
+-- what stands at another key stays
 pub in_other : (k key : RowKey) (list : List Row) → same_row k key ≡ false → row_in (dropped key list) k ≡ row_in list k
 in_other k key [] apart = refl
 in_other k key (s ∷ rest) apart = in_other_go k key s rest (same_row (key_of s) key) refl apart (in_other k key rest apart)
@@ -56,6 +61,7 @@ in_gone_go : (key : RowKey) (s : Row) (rest : List Row) (b : Bool) → same_row 
 in_gone_go key s rest true is later = later
 in_gone_go key s rest false is later = ap (λ t. cond t (Some s) (row_in (dropped key rest) key)) (same_row_turned (key_of s) key is) ∙ later
 
+-- nothing stands at a key that is dropped
 pub in_gone : (key : RowKey) (list : List Row) → row_in (dropped key list) key ≡ None
 in_gone key [] = refl
 in_gone key (s ∷ rest) = in_gone_go key s rest (same_row (key_of s) key) refl (in_gone key rest)
@@ -73,6 +79,7 @@ apart_go key s rest true apart later = let parts = and_parts _ _ apart in
     and_from _ _ (ap not (any_kept (λ t. same_row (key_of s) (key_of t)) (λ t. not (same_row (key_of t) key)) rest (not-true _ parts.0))) later
 apart_go key s rest false apart later = later
 
+-- rows stay apart
 pub apart_dropped : (key : RowKey) (list : List Row) → are_apart list ≡ true → are_apart (dropped key list) ≡ true
 apart_dropped key [] apart = refl
 apart_dropped key (s ∷ rest) apart = apart_go key s rest (not (same_row (key_of s) key)) apart (apart_dropped key rest (and_parts _ _ apart).1)
@@ -82,6 +89,7 @@ none_go : (key : RowKey) (s : Row) (rest : List Row) (b : Bool) → same_row (ke
 none_go key s rest true is later = later
 none_go key s rest false is later = λ i. same_row_turned (key_of s) key is i || later i
 
+-- no row is left with the key
 pub none_dropped : (key : RowKey) (list : List Row) → list_any (λ t. same_row key (key_of t)) (dropped key list) ≡ false
 none_dropped key [] = refl
 none_dropped key (s ∷ rest) = none_go key s rest (same_row (key_of s) key) refl (none_dropped key rest)

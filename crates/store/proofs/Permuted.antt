@@ -34,6 +34,7 @@ module _ {X : Type 0} where
   turned x y xs z (inr (inl same)) = inl same
   turned x y xs z (inr (inr h)) = inr (inr h)
 
+  -- what is among rows is among them in any order
   pub has_permuted : (xs ys : List X) → IsPermutation xs ys → Among xs ys
   has_permuted = along_permutation Among (λ xs y h. h) under turned (λ xs ys zs f g y h. g y (f y h))
 

@@ -88,6 +88,7 @@ code_query tree = record {
 abbrev pub code_program : ℕ → Program
 code_program tree = record { lets = []; body = code_query tree }
 
+-- a program that is accepted is the command's
 pub accepted : (b : Bool) (p : Program) (f : Program → Command) (k : Command) → ◌≡◌ {A = Checked Command} (and_then (if b then Ok p else Err Mismatch) (λ p. Ok (f p))) (Ok k) → k ≡ f p
 accepted true p f k h = cc
 accepted false p f k h = absurd (cc)
@@ -119,6 +120,7 @@ module _ (sql : List ℕ) (t0 : Table) (it : IsDelete sql t0) (schema : Schema) 
       let none : q.0 ≡ None = let e = q.2 in cc in
       (ap (λ (it : Compiled). it.command) q.4 ∙ k, ap (λ (it : Compiled). it.returning) q.4 ∙ none, ap (λ (it : Compiled). it.formats) q.4, ap (text_of sql) q.4 ∙ it.whole)
 
+-- what a DELETE does where no foreign key acts
 pub delete_does : (limit : Option ℕ) (mode : Mode) (params : Row) (db after : Database) (text : List ℕ) (at : ℕ) (table : Table) (q : Program) (tally : Tally)
     → slice_get db.schema.tables at ≡ Some table → ((olds : List Row) → works db.schema mode.keys 0 table.tree olds [] ≡ [])
     → Does limit mode params db text None (Delete at q) (Ok (tally, after))
@@ -150,6 +152,7 @@ shows_ids : (tree : ℕ) (code : List ℕ) (rows : List Row)
 shows_ids tree code [] = refl
 shows_ids tree code (r ∷ rows) = ap (λ more. id_of r ∷ more) (shows_ids tree code rows)
 
+-- the rowids that the query of a DELETE finds
 pub ids_are : (db : Database) (tree : ℕ) (code : List ℕ) (rows : List Row) → Answers db (code_program tree) (Text code ∷ []) rows → IsPermutation (map id_of (filter (hit code) (db.trees tree))) (ids_of rows)
 ids_are db tree code rows answers =
     let q = code_query tree in
@@ -159,6 +162,7 @@ ids_are db tree code rows answers =
     let first = ap (λ all. map (λ (r : Row). id_in (rowid r)) (map (λ (o : Output). o.1) all)) (a.distinct ∙ ap (map (output q)) staged) ∙ shows_ids tree code (filter (hit code) (db.trees tree)) in
     subst₂ IsPermutation first (ap ids_of (sym a.shown)) (IsPermutation-map (λ (r : Row). id_in (rowid r)) _ _ (IsPermutation-map (λ (o : Output). o.1) _ _ a.same))
 
+-- a test beside what is true
 pub and_true : (b : Bool) → not (b && true) ≡ not b
 and_true true = refl
 and_true false = refl

@@ -29,6 +29,7 @@ edition = edition_table nowhere
 abbrev pub create_edition : List ℕ
 create_edition = codes "CREATE TABLE edition (id INTEGER NOT NULL PRIMARY KEY CHECK (id = 1), number INTEGER NOT NULL) STRICT"
 
+-- the text that makes the table
 pub edition_create : IsCreate create_edition edition
 unfolding everything listing_schema
 edition_create = record {
@@ -50,6 +51,7 @@ insert_edition = codes "INSERT INTO edition (id, number) VALUES (1, 1)"
 abbrev pub new_edition : List Term
 new_edition = lit (Int (pos 1)) ∷ lit Null ∷ lit (Int (pos 1)) ∷ []
 
+-- the text that adds its row
 pub edition_insert : IsInsert insert_edition edition new_edition 3
 unfolding everything
 edition_insert = record {
@@ -63,6 +65,7 @@ edition_insert = record {
   whole = refl;
 }
 
+-- its row
 pub edition_given : IsGiven edition [] new_edition 3 (Int (pos 1) ∷ Int (pos 1) ∷ [])
 edition_given = record { source = Int (pos 1) ∷ Null ∷ Int (pos 1) ∷ []; one = refl; shown = λ here. rw (cast_int (pos 1)) refl }
 
@@ -106,6 +109,7 @@ select_listed : if_select (compiled listing_schema select_edition) ≡ Err NoSuc
 unfolding everything listing_schema
 select_listed = refl
 
+-- the text that reads it
 pub edition_select : IsSelect select_edition edition
 edition_select = record {
   plain = select_plain;

@@ -22,10 +22,12 @@ use Rattle.sqlite_rules.specs.Action.{works, work_for, work_by, deed_for, Work}
 use Rattle.sqlite.proofs.Callers.{one_step}
 use Rattle.tables.proofs.Places.{untimed}
 
+-- a call that answered went on
 pub went : {B E R : Type 0} {b : B} {Stops : E → Type 0} → ((stop : E) × Stops stop × (Ok b ≡ Err stop)) ⊎ R → R
 went (inl stopped) = absurd (let e = stopped.2 in cc)
 went (inr on) = on
 
+-- two answers that are one have one value
 pub same_value : {B E : Type 0} {a b : B} → ◌≡◌ {A = Result B E} (Ok a) (Ok b) → a ≡ b
 same_value e = cc
 
@@ -55,6 +57,7 @@ no_works schema keys depth tree news =
 abbrev pub insert_edit : Database → Table → List Row → Edit
 insert_edit db table rows = edit_of db.trees table [] Chosen 0 rows
 
+-- what an INSERT does where no foreign key acts
 pub insert_does : (limit : Option ℕ) (mode : Mode) (params : Row) (db after : Database) (text : List ℕ) (at : ℕ) (table : Table) (terms : List Term) (width : ℕ) (tally : Tally)
     → slice_get db.schema.tables at ≡ Some (untimed table)
     → Does limit mode params db text None (Insert at (Values terms width)) (Ok (tally, after))

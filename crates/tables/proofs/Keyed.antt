@@ -37,6 +37,7 @@ module _ (p : Row → Bool) where
   tail_go x r xs true other later = rw other later
   tail_go x r xs false other later = later
 
+  -- a row is hit by the rowids of the rows that pass where it passes
   pub hits : (rows : List Row) → AllByRecursion (λ r. has_rowid (id_of r) r ≡ true) rows → IsAscending (λ a b. (has_rowid (id_of a) b ≡ false) × (has_rowid (id_of b) a ≡ false)) rows
       → (r : Row) → Has rows r → Hit (filter p rows) r ≡ p r
   hits [] found apart r h = absurd h
@@ -46,6 +47,7 @@ module _ (p : Row → Bool) where
 filter_go : {X : Type 0} (a b : Bool) (x : X) (xs ys : List X) → a ≡ b → xs ≡ ys → ◌≡◌ {A = List X} (cond a (x ∷ xs) xs) (cond b (x ∷ ys) ys)
 filter_go a b x xs ys same later = λ i. cond (same i) (x ∷ later i) (later i)
 
+-- tests that agree keep the same
 pub filter_same : {X : Type 0} (f g : X → Bool) (xs : List X) → ((x : X) → Has xs x → f x ≡ g x) → filter f xs ≡ filter g xs
 filter_same f g [] same = refl
 filter_same f g (x ∷ xs) same = filter_go (f x) (g x) x _ _ (same x (inl refl)) (filter_same f g xs (λ y h. same y (inr h)))
@@ -80,9 +82,11 @@ taken_out p rows ids keyed same =
     without_is ids rows ∙ filter_same _ _ rows (λ r h.
     ap not (sym (list_any-IsPermutation (λ id. has_rowid id r) (map id_of (filter p rows)) ids same) ∙ any_map (λ id. has_rowid id r) id_of (filter p rows) ∙ hits p rows (found_of rows keyed.ids) (both_of rows keyed.ids keyed.apart) r h))
 
+-- some of the rows of a keyed table are keyed
 pub still_keyed : (p : Row → Bool) (rows : List Row) → IsKeyed rows → IsKeyed (filter p rows)
 still_keyed p rows keyed = record { ids = all-filter _ p rows keyed.ids; apart = ascending-filter _ p rows keyed.apart }
 
+-- to keep by what is mapped and to map what is kept is one
 pub map_filter : {X Y : Type 0} (h : X → Y) (f : X → Bool) (g : Y → Bool) → ((x : X) → f x ≡ g (h x)) → (xs : List X) → map h (filter f xs) ≡ filter g (map h xs)
 map_filter h f g same [] = refl
 map_filter h f g same (x ∷ xs) = map_go (f x) (g (h x)) (same x) (map_filter h f g same xs)

@@ -89,6 +89,7 @@ column_is t at name kind same h = at_is (is_required name kind) (slice_get t.col
 
 -- ---- lists of a few, by their length and what stands at each place
 
+-- a list of no length is empty
 pub empty_is : {X : Type 0} (xs : List X) → length xs ≡ 0 → xs ≡ []
 empty_is [] h = refl
 empty_is (x ∷ xs) h = absurd (omega (arith, h))
@@ -96,6 +97,7 @@ empty_is (x ∷ xs) h = absurd (omega (arith, h))
 some_is : {X : Type 0} {a b : X} → ◌≡◌ {A = Option X} (Some a) (Some b) → a ≡ b
 some_is e = cc
 
+-- a list of length one
 pub one_is : {X : Type 0} (xs : List X) (a : X) → length xs ≡ 1 → slice_get xs 0 ≡ Some a → xs ≡ a ∷ []
 one_is [] a h p = absurd (omega (arith, h))
 one_is (x ∷ xs) a h p = λ i. some_is p i ∷ empty_is xs (omega (arith, h)) i
@@ -171,6 +173,7 @@ coded_is t name columns references h cols refs =
       is_counted = u.counted i;
     }
 
+-- what passes for `student` is it
 pub student_is : (t : Table) → is_student t ≡ true → t ≡ student_table (place_of t)
 student_is t h =
     let a = and_parts _ _ h in
@@ -179,6 +182,7 @@ student_is t h =
     let d = and_parts _ _ c.0 in
     coded_is t (codes "student") _ [] d.0 (two_are t.columns _ _ (same_number _ _ d.1) (column_is t 0 (codes "code") Text text_is b.1) (column_is t 1 (codes "label") Text text_is a.1)) (empty_is t.references (same_number _ _ c.1))
 
+-- what passes for `supervisor` is it
 pub supervisor_is : (t : Table) → is_supervisor t ≡ true → t ≡ supervisor_table (place_of t)
 supervisor_is t h =
     let z = and_parts _ _ h in
@@ -207,6 +211,7 @@ reference_is r h =
       is_deferred = falls r.is_deferred a.1 i;
     }
 
+-- what passes for `project` is it
 pub project_is : (t : Table) → is_project t ≡ true → t ≡ project_table (place_of t)
 project_is t h =
     let y = and_parts _ _ h in
@@ -221,6 +226,7 @@ project_is t h =
     (column_is t 3 (codes "quota") Integer integer_is y.1))
     (one_is t.references to_supervisor (same_number _ _ c.1) (at_is is_to_supervisor (slice_get t.references 0) to_supervisor reference_is r.1))
 
+-- what passes for `edition` is it
 pub edition_is : (t : Table) → is_edition t ≡ true → t ≡ edition_table (place_of t)
 edition_is t h =
     let a = and_parts _ _ h in

@@ -34,6 +34,7 @@ project = project_table nowhere
 abbrev pub create_project : List ℕ
 create_project = codes "CREATE TABLE project (code TEXT NOT NULL PRIMARY KEY, label TEXT NOT NULL, supervisor TEXT NOT NULL REFERENCES supervisor (code), quota INTEGER NOT NULL CHECK (quota BETWEEN 0 AND 500)) STRICT"
 
+-- the text that makes the table
 pub project_create : IsCreate create_project project
 unfolding everything listing_schema
 project_create = record {
@@ -55,6 +56,7 @@ insert_project = codes "INSERT INTO project (code, label, supervisor, quota) VAL
 abbrev pub new_project : List Term
 new_project = lit Null ∷ col 0 0 ∷ col 0 1 ∷ col 0 2 ∷ col 0 3 ∷ []
 
+-- the text that adds a row
 pub project_insert : IsInsert insert_project project new_project 5
 unfolding everything
 project_insert = record {
@@ -68,6 +70,7 @@ project_insert = record {
   whole = refl;
 }
 
+-- the row that it adds
 pub project_given : (code label supervisor : List ℕ) (quota : ℕ) → IsGiven project (Text code ∷ Text label ∷ Text supervisor ∷ Int (pos quota) ∷ []) new_project 5 (Text code ∷ Text label ∷ Text supervisor ∷ Int (pos quota) ∷ [])
 project_given code label supervisor quota = record { source = Null ∷ Text code ∷ Text label ∷ Text supervisor ∷ Int (pos quota) ∷ []; one = refl; shown = λ here. rw (cast_null, cast_int (pos quota)) refl }
 
@@ -78,6 +81,7 @@ project_coded = record { first = λ r. refl }
 abbrev pub delete_project : List ℕ
 delete_project = codes "DELETE FROM project WHERE code = ?1"
 
+-- the text that takes a row away by its code
 pub project_delete : IsDelete delete_project project
 unfolding everything listing_schema
 project_delete = record {
@@ -122,6 +126,7 @@ updated_is : (schema : Schema) (at : ℕ) (place : Place) → Has schema (codes 
 unfolding updated updated_in
 updated_is schema at place has = rw (sets_are schema at place, row_is place) (picked_is schema at place _ has)
 
+-- the text that sets a row by its code
 pub project_update : IsUpdate update_project project
 unfolding everything listing_schema
 project_update = record {
@@ -136,6 +141,7 @@ project_update = record {
   draft = updated_is;
 }
 
+-- the row that it sets
 pub project_set : (code label supervisor : List ℕ) (quota : ℕ) → IsSet project project_update.values (Text code ∷ Text label ∷ Text supervisor ∷ Int (pos quota) ∷ [])
 unfolding project_update
 project_set code label supervisor quota = record { shows = λ r. refl; set = λ place r. rw (cast_int (pos quota)) refl }
@@ -180,6 +186,7 @@ select_listed : if_select (compiled listing_schema select_project) ≡ Err NoSuc
 unfolding everything listing_schema
 select_listed = refl
 
+-- the text that reads the table
 pub project_select : IsSelect select_project project
 project_select = record {
   plain = select_plain;

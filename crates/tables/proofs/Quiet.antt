@@ -78,6 +78,7 @@ nil_of : {X Y : Type 0} (h : X → List Y) (p : X → Bool) → ((x : X) → p x
 nil_of h p each [] all = refl
 nil_of h p each (x ∷ xs) all = let parts = and_parts _ _ all in rw (each x parts.0) (nil_of h p each xs parts.1)
 
+-- where no reference acts on the tree, none does at any rows
 pub inert : (schema : Schema) (tree : ℕ) → is_inert schema.tables tree ≡ true → IsInert schema tree
 inert schema tree h olds news =
     nil_of _ (λ (t : Table). list_all (is_quiet schema.tables tree) t.references) (λ child all. none_of _ (is_quiet schema.tables tree) (λ ref. quiet schema tree olds news child ref) child.references all) schema.tables h

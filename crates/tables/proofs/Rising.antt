@@ -40,5 +40,6 @@ each : (rows : List Row) → have_ids rows ≡ true → AllByRecursion (λ r. is
 each [] h = tt
 each (r ∷ rows) h = let parts = and_parts _ _ h in (parts.0, each rows parts.1)
 
+-- rows with rising integers as rowids are keyed
 pub keyed_if_rising : (rows : List Row) → have_ids rows ≡ true → rises rows ≡ true → IsKeyed rows
 keyed_if_rising rows ids up = record { ids = each rows ids; apart = told rows (rising rows up) }

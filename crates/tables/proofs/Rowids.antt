@@ -20,15 +20,18 @@ use Rattle.sqlite_keyed.proofs.ListLemmas.{along_permutation}
 use Rattle.tables.specs.Keyed.{id_of, IsKeyed}
 use Rattle.tables.proofs.Puts.{put_row_permutes}
 
+-- values that differ differ the other way round
 pub flip : (a b : Value) → is_eq (value_cmp a b) ≡ false → is_eq (value_cmp b a) ≡ false
 flip a b h = (eq_by_cmp_equiv value_cmp_total).symm b a ∙ h
 
+-- a row is found by its rowid
 pub found_of : (rows : List Row) → AllByRecursion (λ r. is_int (rowid r) ≡ true) rows → AllByRecursion (λ r. has_rowid (id_of r) r ≡ true) rows
 found_of rows ids = all_from _ rows (λ r h. ap (λ v. is_eq (value_cmp (rowid r) v)) (sym (int_is (rowid r) (all_has _ rows r ids h))) ∙ ap is_eq (tied_itself value_cmp_total (rowid r)))
 
 apart_one : (a b : Row) → is_int (rowid a) ≡ true → is_eq (value_cmp (rowid b) (rowid a)) ≡ false → has_rowid (id_of a) b ≡ false
 apart_one a b int h = ap (λ v. is_eq (value_cmp (rowid b) v)) (sym (int_is (rowid a) int)) ∙ h
 
+-- and by no other
 pub both_of : (rows : List Row) → AllByRecursion (λ r. is_int (rowid r) ≡ true) rows → IsAscending (λ a b. is_eq (value_cmp (rowid a) (rowid b)) ≡ false) rows
     → IsAscending (λ a b. (has_rowid (id_of a) b ≡ false) × (has_rowid (id_of b) a ≡ false)) rows
 both_of [] ids apart = tt
@@ -66,6 +69,7 @@ along = along_permutation Along (λ xs. (λ h. h, λ y h. h))
     ))
     (λ xs ys zs f g. (λ keyed. g.0 (f.0 keyed), λ y h. f.1 y (g.1 y h)))
 
+-- keyed rows are keyed in any order
 pub keyed_permuted : (xs ys : List Row) → IsPermutation xs ys → IsKeyed xs → IsKeyed ys
 keyed_permuted xs ys same = (along xs ys same).0
 
@@ -74,12 +78,14 @@ none_has q [] x none h = absurd h
 none_has q (y ∷ xs) x none (inl same) = ap q same ∙ (or_parts _ _ none).0
 none_has q (y ∷ xs) x none (inr h) = none_has q xs x (or_parts _ _ none).1 h
 
+-- a row with a free rowid leaves the rows keyed
 pub keyed_put : (new : Row) (rows : List Row) → is_int (rowid new) ≡ true → is_taken rows new ≡ false → IsKeyed rows → IsKeyed (put_row new rows)
 keyed_put new rows int free keyed = keyed_permuted (new ∷ rows) _ (put_row_permutes new rows free) (record {
   ids = (int, keyed.ids);
   apart = (all_from _ rows (λ r h. flip (rowid r) (rowid new) (none_has _ rows r free h)), keyed.apart);
 })
 
+-- so many rows more
 pub put_all_permutes : (news rows : List Row) → are_fresh rows news ≡ true → IsPermutation (news ++ rows) (put_all rows news)
 put_all_permutes [] rows fresh = IsPermutation-refl rows
 put_all_permutes (n ∷ news) rows fresh =
@@ -87,6 +93,7 @@ put_all_permutes (n ∷ news) rows fresh =
     let one = IsPermutation-append_right news _ _ (put_row_permutes n rows (not-true _ parts.0)) in
     IsPermutation-trans _ _ _ (IsPermutation-sym _ _ (IsPermutation-middle news n rows)) (IsPermutation-trans _ _ _ one (put_all_permutes news (put_row n rows) parts.1))
 
+-- which leaves them keyed
 pub keyed_put_all : (news rows : List Row) → have_rowids news ≡ true → are_fresh rows news ≡ true → IsKeyed rows → IsKeyed (put_all rows news)
 keyed_put_all [] rows ints fresh keyed = keyed
 keyed_put_all (n ∷ news) rows ints fresh keyed =

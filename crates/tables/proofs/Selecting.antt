@@ -103,6 +103,7 @@ module _ (q : Schema → Select → Building Shown) (schema : Schema) (core : Co
   unfolding single
   singled = ap (λ r. and_then r (λ found. viewing q schema core [] page 64 found.0 found.1)) from ∙ viewed
 
+  -- a core alone
   pub aloned : alone q schema core [] page lets ≡ Ok (shown, lets)
   unfolding alone
   aloned = ap (λ r. and_then r (λ found. lift (Ok found.0.0) found.1)) singled
@@ -112,11 +113,13 @@ module _ (q : Schema → Select → Building Shown) (schema : Schema) (sql : Lis
   unfolding whole paging constant_or
   wholed = rw (it.no_limit, it.no_offset, it.no_others, it.no_order) (aloned q schema (out-Select it.s).first no_page shown is [] (it.from q schema []))
 
+  -- a query at its level
   pub levelled : level q schema it.s [] ≡ Ok (shown, [])
   unfolding level with
   levelled = rw it.no_with wholed
 
 module _ (schema : Schema) (sql : List ℕ) (it : IsPlainSelect sql) (shown : Shown) (is : named schema (out-Select it.s).first [] no_page ≡ Ok shown) where
+  -- and so a whole query is resolved
   pub queried : query schema it.s ≡ Ok (shown, [])
   unfolding query query_to
   queried = levelled (query_to 15) schema sql it shown is
@@ -194,6 +197,7 @@ module _ (schema : Schema) (core : Core) (name : List ℕ) (at tree budget : ℕ
   unfolding parts keys having sorts tests
   parts_are = rw (body_is, no_group, no_having) refl
 
+  -- so it is named
   pub named_is : named schema core [] no_page ≡ Ok (draft tree outs, names outs, map (λ (o : Output). o.carried.collation) outs)
   unfolding named assembled ungrouped
   named_is = rw (parts_are, no_distinct) refl
@@ -223,6 +227,7 @@ module _ (sql : List ℕ) (t0 : Table) (it : IsSelect sql t0) (schema : Schema) 
   unfolding command read program
   read_is k h = accepted _ _ _ k (rw (queried schema sql it.plain _ (named_is schema core t0.name listed.at place.tree it.budget it.outs (it.resolved schema place listed low) it.plain.no_group it.plain.no_having it.plain.no_distinct)) at h)
 
+  -- the text means the query of the whole table
   pub select_means : Means schema sql whole_command sql
   unfolding returning timed
   select_means c h =
@@ -232,6 +237,7 @@ module _ (sql : List ℕ) (t0 : Table) (it : IsSelect sql t0) (schema : Schema) 
       let none : q.0 ≡ None = let e = q.2 in cc in
       (ap (λ (it : Compiled). it.command) q.4 ∙ k, ap (λ (it : Compiled). it.returning) q.4 ∙ none, ap (λ (it : Compiled). it.formats) q.4, ap (text_of sql) q.4 ∙ it.plain.whole)
 
+-- a query with no subqueries reads the trees as they are
 pub no_overlay : (trees : Trees) (t : ℕ) → overlay trees [] t ≡ trees t
 no_overlay trees t = by_bool (nat_le (2 ^ 31) t)
   where
@@ -243,6 +249,7 @@ no_overlay trees t = by_bool (nat_le (2 ^ 31) t)
 unlisted_of : (schema : Schema) (sql : List ℕ) (c : Compiled) → compiled schema sql ≡ Ok c → reads_listing schema sql ≡ false
 unlisted_of schema sql c h = rw h refl
 
+-- what a text shows is the answer of the query that it means
 pub reads_by : (sql : List ℕ) (params : Row) (old new : State) (rows : List Row) (k : Command) (text : List ℕ) → if_select (compiled listing_schema sql) ≡ Err NoSuchTable
     → Means old.now.schema sql k text → HasShown sql params old new rows → Reads k old.now params rows × IsUnchanged old new
 unfolding HasShown

@@ -29,6 +29,7 @@ student = student_table nowhere
 abbrev pub create_student : List ℕ
 create_student = codes "CREATE TABLE student (code TEXT NOT NULL PRIMARY KEY, label TEXT NOT NULL) STRICT"
 
+-- the text that makes the table
 pub student_create : IsCreate create_student student
 unfolding everything listing_schema
 student_create = record {
@@ -50,6 +51,7 @@ insert_student = codes "INSERT INTO student (code, label) VALUES (?1, ?2)"
 abbrev pub new_student : List Term
 new_student = lit Null ∷ col 0 0 ∷ col 0 1 ∷ []
 
+-- the text that adds a row
 pub student_insert : IsInsert insert_student student new_student 3
 unfolding everything
 student_insert = record {
@@ -70,6 +72,7 @@ student_insert = record {
   whole = refl;
 }
 
+-- the row that it adds
 pub student_given : (code label : List ℕ) → IsGiven student (Text code ∷ Text label ∷ []) new_student 3 (Text code ∷ Text label ∷ [])
 student_given code label = record { source = Null ∷ Text code ∷ Text label ∷ []; one = refl; shown = λ here. rw cast_null refl }
 
@@ -80,6 +83,7 @@ student_coded = record { first = λ r. refl }
 abbrev pub delete_student : List ℕ
 delete_student = codes "DELETE FROM student WHERE code = ?1"
 
+-- the text that takes a row away by its code
 pub student_delete : IsDelete delete_student student
 unfolding everything listing_schema
 student_delete = record {
@@ -96,6 +100,7 @@ student_delete = record {
 abbrev pub update_student : List ℕ
 update_student = codes "UPDATE student SET code = ?1, label = ?2 WHERE code = ?1"
 
+-- the text that sets a row by its code
 pub student_update : IsUpdate update_student student
 unfolding everything listing_schema
 student_update = record {
@@ -117,6 +122,7 @@ student_update = record {
   draft = λ schema at place has. rw has.there (rw has.there (rw has.there refl));
 }
 
+-- the row that it sets
 pub student_set : (code label : List ℕ) → IsSet student student_update.values (Text code ∷ Text label ∷ [])
 unfolding student_update
 student_set code label = record { shows = λ r. refl; set = λ place r. refl }
@@ -161,6 +167,7 @@ select_listed : if_select (compiled listing_schema select_student) ≡ Err NoSuc
 unfolding everything listing_schema
 select_listed = refl
 
+-- the text that reads the table
 pub student_select : IsSelect select_student student
 student_select = record {
   plain = select_plain;

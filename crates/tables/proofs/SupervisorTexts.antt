@@ -29,6 +29,7 @@ supervisor = supervisor_table nowhere
 abbrev pub create_supervisor : List ℕ
 create_supervisor = codes "CREATE TABLE supervisor (code TEXT NOT NULL PRIMARY KEY, label TEXT NOT NULL, quota INTEGER NOT NULL CHECK (quota BETWEEN 0 AND 500)) STRICT"
 
+-- the text that makes the table
 pub supervisor_create : IsCreate create_supervisor supervisor
 unfolding everything listing_schema
 supervisor_create = record {
@@ -50,6 +51,7 @@ insert_supervisor = codes "INSERT INTO supervisor (code, label, quota) VALUES (?
 abbrev pub new_supervisor : List Term
 new_supervisor = lit Null ∷ col 0 0 ∷ col 0 1 ∷ col 0 2 ∷ []
 
+-- the text that adds a row
 pub supervisor_insert : IsInsert insert_supervisor supervisor new_supervisor 4
 unfolding everything
 supervisor_insert = record {
@@ -63,6 +65,7 @@ supervisor_insert = record {
   whole = refl;
 }
 
+-- the row that it adds
 pub supervisor_given : (code label : List ℕ) (quota : ℕ) → IsGiven supervisor (Text code ∷ Text label ∷ Int (pos quota) ∷ []) new_supervisor 4 (Text code ∷ Text label ∷ Int (pos quota) ∷ [])
 supervisor_given code label quota = record { source = Null ∷ Text code ∷ Text label ∷ Int (pos quota) ∷ []; one = refl; shown = λ here. rw (cast_null, cast_int (pos quota)) refl }
 
@@ -73,6 +76,7 @@ supervisor_coded = record { first = λ r. refl }
 abbrev pub delete_supervisor : List ℕ
 delete_supervisor = codes "DELETE FROM supervisor WHERE code = ?1"
 
+-- the text that takes a row away by its code
 pub supervisor_delete : IsDelete delete_supervisor supervisor
 unfolding everything listing_schema
 supervisor_delete = record {
@@ -89,6 +93,7 @@ supervisor_delete = record {
 abbrev pub update_supervisor : List ℕ
 update_supervisor = codes "UPDATE supervisor SET code = ?1, label = ?2, quota = ?3 WHERE code = ?1"
 
+-- the text that sets a row by its code
 pub supervisor_update : IsUpdate update_supervisor supervisor
 unfolding everything listing_schema
 supervisor_update = record {
@@ -103,6 +108,7 @@ supervisor_update = record {
   draft = λ schema at place has. rw has.there (rw has.there (rw has.there refl));
 }
 
+-- the row that it sets
 pub supervisor_set : (code label : List ℕ) (quota : ℕ) → IsSet supervisor supervisor_update.values (Text code ∷ Text label ∷ Int (pos quota) ∷ [])
 unfolding supervisor_update
 supervisor_set code label quota = record { shows = λ r. refl; set = λ place r. rw (cast_int (pos quota)) refl }
@@ -147,6 +153,7 @@ select_listed : if_select (compiled listing_schema select_supervisor) ≡ Err No
 unfolding everything listing_schema
 select_listed = refl
 
+-- the text that reads the table
 pub supervisor_select : IsSelect select_supervisor supervisor
 supervisor_select = record {
   plain = select_plain;

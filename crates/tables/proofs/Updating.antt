@@ -210,6 +210,7 @@ module _ (t0 : Table) (coded : IsCoded t0) (place : Place) (code : List ℕ) (re
   left_is : left ≡ filter (λ r. not (hit code r)) here
   left_is = taken_out (hit code) here (ids_of answer) keyed ids
 
+  -- the rows that are left are keyed
   pub left_keyed : IsKeyed left
   left_keyed = subst IsKeyed (sym left_is) (still_keyed (λ r. not (hit code r)) here keyed)
 
@@ -226,18 +227,22 @@ module _ (t0 : Table) (coded : IsCoded t0) (place : Place) (code : List ℕ) (re
       (sym (map_filter (cells t) (hit code) (has_code code) (λ r. twice (equal Binary (column r 1) (Text code)) ∙ ap (λ v. not (not (equal Binary v (Text code)))) (sym (coded.first r))) here))
       ∙ map-map (λ (_ : Row). given) (cells t) (filter (hit code) here)
 
+  -- the rows that are written show the given one
   pub given_are : IsPermutation (map (λ (_ : Row). given) (filter (has_code code) rows)) (map (cells t) (map (remade t) answer))
   given_are = IsPermutation-trans _ _ _
       (subst (IsPermutation _) const_is (IsPermutation-map (λ (_ : Row). given) _ _ (IsPermutation-filter (has_code code) _ _ holds))) news_shown
 
+  -- the others are left
   pub others_are : IsPermutation (filter (differs_from code) rows) (map (cells t) left)
   others_are = subst (IsPermutation _) (sym left_shown) (IsPermutation-filter (differs_from code) _ _ holds)
 
+  -- both together are the table
   pub together : (all : List Row) → IsPermutation (map (remade t) answer ++ left) all
       → IsPermutation (map (λ (_ : Row). given) (filter (has_code code) rows) ++ without code rows) (map (cells t) all)
   together all same = IsPermutation-trans _ _ _ (beside _ _ _ _ given_are others_are)
       (subst (λ first. IsPermutation first (map (cells t) all)) (map-append (cells t) (map (remade t) answer) left) (IsPermutation-map (cells t) _ _ same))
 
+  -- so many rows were written
   pub counted : length (map (remade t) answer) ≡ length (filter (has_code code) rows)
   counted = sym (length-map (map (remade t) answer) (cells t)) ∙ length_permutation _ _ given_are ∙ length-map (filter (has_code code) rows) (λ (_ : Row). given)
 
