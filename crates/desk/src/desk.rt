@@ -83,6 +83,14 @@ impl<S: Alter> Desk<S> {
         }
     }
 
+    /// The tables of every desk stand for its office.
+    pub fn keeps(&self)
+        ensures tables { Keeps (state S.Store self.now.store) self.now.office }
+        ensures ended { self.now.store.in_transaction ≡ false }
+    {
+        let _ = &self.office;
+    }
+
     /// Gives the connection up. Takes no memory.
     pub fn into_connection(self) -> Connection<S>
         ensures same { result ≡ self.store }
