@@ -21,6 +21,7 @@ pub record IsRefused (q : Put) (old new : State) (refusal : Refusal) : Type 0 wh
   pub reason : (refusal ≡ no.Memory) ⊎ (put_refusal old q ≡ Some refusal)
   pub same : new ≡ old
 
+-- what came of a request: it was done or refused
 abbrev pub Answers : Put → State → State → Result Done Refusal → Type 0
 Answers q old new (Ok done) = IsDone q old new done
 Answers q old new (Err refusal) = IsRefused q old new refusal

@@ -19,9 +19,11 @@ code_cmp = slice_cmp nat_cmp
 abbrev pub key_cmp : Key → Key → Ordering
 key_cmp a b = ordering_then (nat_cmp a.0 b.0) (code_cmp a.1 b.1)
 
+-- whether two keys are one
 abbrev pub same_key : Key → Key → Bool
 same_key a b = is_eq (key_cmp a b)
 
+-- the first of these for below, the second for the same, the third for above
 abbrev pub by_order : {A : Type 0} → Ordering → A → A → A → A
 by_order Less a b c = a
 by_order Equal a b c = b
