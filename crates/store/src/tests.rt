@@ -96,7 +96,9 @@ fn saved_changes_are_read_back(rt: HostRuntime) -> Result<(), Fail> {
     assert_eq!(rt; store.save(changes.as_slice()), Ok(()));
     let office = store.load()?;
     assert_eq!(rt; sizes(&office), (1, 1, 1));
-    assert_eq!(rt; office.students()[0].label.as_str(), "Anne");
+    for student in office.students() {
+        assert_eq!(rt; student.label.as_str(), "Anne");
+    }
 
     // A project of an unknown supervisor is refused by its table, and the change before it is undone.
     let refused = vec![in rt.alloc(); student(&rt, "S3", "Cy")?, project(&rt, "Q", "K", 1)?]?;
