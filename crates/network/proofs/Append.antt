@@ -7,7 +7,7 @@ use Rattle.std.proofs.lemmas.List.{length-append}
 use Rattle.std.proofs.lemmas.Option.{slice_get_within, same_Some}
 use Rattle.spa.specs.Laws.{Ops, IsWorth, AtMost}
 use Rattle.network.specs.Arcs.{HasEntry, Holds, sink_of, project_count, IsFormed}
-use Rattle.network.specs.Fair.{height, IsFair, IsFairBut}
+use Rattle.network.specs.Fair.{potential, IsFair, IsFairBut}
 use Rattle.network.specs.Push.{sum_to, one_if, place_at, seat, seats, seats_of, IsCounted, IsPushed}
 use Rattle.network.proofs.Sums.{sum_to_same}
 use Rattle.network.specs.declared.flow.Flow.{Flow}
@@ -98,7 +98,7 @@ module _ {G : Type 0} {o : Ops G} (f : Flow G) (pushed : IsPushed o f)
   pub appended_formed : IsFormed o A
   appended_formed = record {
     students = omega (arith, lists_long, places_long, pushed.formed.students);
-    filled = pushed.formed.filled; load = pushed.formed.load; heights = pushed.formed.heights;
+    filled = pushed.formed.filled; load = pushed.formed.load; potentials = pushed.formed.potentials;
     entries = λ s k p w e. elim (row_cases s e.row e.student) [
         inl h ↦ pushed.formed.entries s k p w (record { row = e.row; student = h; place = e.place })
       | inr h ↦ known k p w (ap (λ (r : Vec (ℕ × G) Global). slice_get r.items k) h ∙ e.place) ];

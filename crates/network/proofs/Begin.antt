@@ -4,7 +4,7 @@ use Rattle.std.proofs.lemmas.Bool.{cases_eq, cases_Bool, cases_lt, cond-true, co
 use Rattle.std.proofs.lemmas.List.{get_or_past}
 use Rattle.std.proofs.lemmas.List.Sums.{sum_by-set, sum_by-cons, get_or-le-sum_by}
 use Rattle.spa.specs.Laws.{Ops, IsWorth, AtMost}
-use Rattle.network.specs.Marks.{is_seen, is_settled, is_open_mark, blank, mark_at, height_at, key_at, settled_as, unsettled}
+use Rattle.network.specs.Marks.{is_seen, is_settled, is_open_mark, blank, mark_at, potential_at, key_at, settled_as, unsettled}
 use Rattle.network.specs.Search.{Replaced, Reaches, Taken, Relaxes, rank_or, FromNode, IsSearch, Feasible, OffersOf}
 use Rattle.network.proofs.Settle.{open_rank, settled_rank}
 use Rattle.network.specs.declared.marks.Origin.{Origin}
@@ -66,9 +66,9 @@ module _ {G : Type 0} {o : Ops G} (laws : IsWorth o) where
   left_at_begin m h = all_left m h
 
   -- the marks after the start's offers
-  pub begins : (first : Origin → G → ℕ → Type 0) (arc : ℕ → Origin → G → ℕ → Type 0) (heights : List G) (m n : List (Mark G)) → ((b : ℕ) → mark_at o m b ≡ blank o)
-      → ((w : Origin) (x : G) (b : ℕ) → first w x b → o.span x ≤ 1) → Relaxes o first m n → IsSearch o first arc heights n 0
-  begins first arc heights m n fresh small r = record {
+  pub begins : (first : Origin → G → ℕ → Type 0) (arc : ℕ → Origin → G → ℕ → Type 0) (potentials : List G) (m n : List (Mark G)) → ((b : ℕ) → mark_at o m b ≡ blank o)
+      → ((w : Origin) (x : G) (b : ℕ) → first w x b → o.span x ≤ 1) → Relaxes o first m n → IsSearch o first arc potentials n 0
+  begins first arc potentials m n fresh small r = record {
     from = λ b e. go_from b e (r.moves b);
     ranks = λ b k e. absurd (closed b k e (r.moves b));
     begun = λ w x b f. go_begun x b (r.taken w x b f);

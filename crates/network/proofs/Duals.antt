@@ -6,9 +6,9 @@ use Rattle.std.proofs.lemmas.Option.{slice_get_within, slice_get-get_or}
 use Rattle.spa.specs.Laws.{Ops, IsWorth, AtMost}
 use Rattle.network.proofs.Group.{at_most_refl, at_most_back, zero_left, swapped}
 use Rattle.network.specs.Arcs.{HasEntry, Holds, project_count, IsFormed}
-use Rattle.network.specs.Fair.{height, IsFair, IsLow}
+use Rattle.network.specs.Fair.{potential, IsFair, IsLow}
 use Rattle.network.specs.Push.{IsPushed}
-use Rattle.network.specs.Prices.{at_entry, at_row, at_place, of_place, student_price, project_price, project_price_at, supervisor_price, ArePrices}
+use Rattle.network.specs.Prices.{at_entry, at_row, at_place, of_place, student_price, project_price, project_price_at, supervisor_price, PotentialPrices}
 use Rattle.network.proofs.Balance.{balanced}
 use Rattle.network.specs.declared.flow.Flow.{Flow}
 
@@ -23,7 +23,7 @@ module _ {G : Type 0} {o : Ops G} (laws : IsWorth o) where
 
   module _ (f : Flow G) (pushed : IsPushed o f) (low : IsLow o f) where
     abbrev H : ℕ → G
-    H v = height o f v
+    H v = potential o f v
 
     held_price : (s a k : ℕ) (w : G) → slice_get f.places.items s ≡ Some (Some k) → HasEntry f.lists.items s k a w → student_price o f s ≡ o.plus w (H a)
     held_price s a k w e h =
@@ -67,7 +67,7 @@ module _ {G : Type 0} {o : Ops G} (laws : IsWorth o) where
     project_span p None = rw laws.span_zero (omega arith)
     project_span p (Some d) = omega (arith, laws.span_minus (H (project_count f + d.0)) (H p), low (project_count f + d.0), low p)
 
-    pub prices_hold : ArePrices o f
+    pub prices_hold : PotentialPrices o f
     prices_hold = record {
       students = λ s. student_least s (slice_get f.places.items s) refl;
       projects = λ p. project_least p (slice_get f.projects.items p) refl;

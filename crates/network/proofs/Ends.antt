@@ -9,7 +9,7 @@ use Rattle.spa.specs.Laws.{Ops, IsWorth, AtMost}
 use Rattle.network.specs.Marks.{mark_at, is_seen}
 use Rattle.network.specs.Search.{rank_or}
 use Rattle.network.specs.Arcs.{HasEntry, Holds, EntryArc, LeaveArc, OfferArc, SwapArc, RoomArc, Arc, OfStudent, sink_of, project_count, IsFormed}
-use Rattle.network.specs.Fair.{height, IsFair}
+use Rattle.network.specs.Fair.{potential, IsFair}
 use Rattle.network.specs.Push.{sum_to, one_if, entry_at, row_at, place_at, seat, seats, seats_of, IsCounted, IsStep, IsFirst, HasSteps}
 use Rattle.network.proofs.Entries.{entry_same}
 use Rattle.network.proofs.Students.{holds_same, holds_along}
@@ -42,7 +42,7 @@ module _ {G : Type 0} {o : Ops G} (laws : IsWorth o) (f : Flow G) (formed : IsFo
     placed = fair.placed;
     placed_least = fair.placed_least;
     unplaced = λ s k p w ne none h. elim (cases_eq s fresh) [
-        inl q ↦ (let h' : HasEntry f.lists.items fresh k p w = rw q at h in subst (λ z. AtMost o (o.plus w (height o f p)) z) e (fair.waiting k p w h'))
+        inl q ↦ (let h' : HasEntry f.lists.items fresh k p w = rw q at h in subst (λ z. AtMost o (o.plus w (potential o f p)) z) e (fair.waiting k p w h'))
       | inr other ↦ fair.unplaced s k p w other none h ];
     waiting = λ k p w h. absurd (past_entry f k p w h);
     waiting_least = at_most_refl laws o.zero;
@@ -54,7 +54,7 @@ module _ {G : Type 0} {o : Ops G} (laws : IsWorth o) (f : Flow G) (formed : IsFo
     N = record f { places = P }
 
     -- a placed student gives the place up
-    module _ (a : ℕ) (was : Holds f s a) (x_is : x ≡ None) (tight : o.zero ≡ o.plus was.worth (height o f a)) where
+    module _ (a : ℕ) (was : Holds f s a) (x_is : x ≡ None) (tight : o.zero ≡ o.plus was.worth (potential o f a)) where
       none_now : slice_get P.items s ≡ Some None
       none_now = rw set_is (slice_get-set_same f.places.items s x (slice_get_within f.places.items s _ was.placed)) ∙ ap Some x_is
 
@@ -67,7 +67,7 @@ module _ {G : Type 0} {o : Ops G} (laws : IsWorth o) (f : Flow G) (formed : IsFo
             inl q ↦ absurd (let z : slice_get P.items s ≡ Some (Some h.place) = rw q at h.placed in let y = none_now in cc)
           | inr ne ↦ fair.placed_least t c (record { place = h.place; worth = h.worth; placed = sym (place_other laws f formed P s x set_is t ne) ∙ h.placed; entry = h.entry }) ];
         unplaced = λ t i p v ne none e. elim (cases_eq t s) [
-            inl q ↦ (let e' : HasEntry f.lists.items s i p v = rw q at e in subst (λ z. AtMost o (o.plus v (height o f p)) z) (sym tight) (fair.placed s a i p v was e'))
+            inl q ↦ (let e' : HasEntry f.lists.items s i p v = rw q at e in subst (λ z. AtMost o (o.plus v (potential o f p)) z) (sym tight) (fair.placed s a i p v was e'))
           | inr no_s ↦ fair.unplaced t i p v ne (sym (place_other laws f formed P s x set_is t no_s) ∙ none) e ];
         waiting = fair.waiting; waiting_least = fair.waiting_least;
         project = fair.project; project_room = fair.project_room; supervisor = fair.supervisor; supervisor_room = fair.supervisor_room; sink = fair.sink;
@@ -90,17 +90,17 @@ module _ {G : Type 0} {o : Ops G} (laws : IsWorth o) (f : Flow G) (formed : IsFo
 
     -- the new student is placed
     module _ (top : G) (b k : ℕ) (w : G) (none_was : slice_get f.places.items s ≡ Some None) (entry : HasEntry f.lists.items s k b w) (x_is : x ≡ Some k)
-        (tight : o.plus w (height o f b) ≡ top) where
+        (tight : o.plus w (potential o f b) ≡ top) where
       placed_now : slice_get P.items s ≡ Some (Some k)
       placed_now = rw set_is (slice_get-set_same f.places.items s x (slice_get_within f.places.items s _ none_was)) ∙ ap Some x_is
 
       pub holds_now : Holds N s b
       holds_now = record { place = k; worth = w; placed = placed_now; entry = entry }
 
-      value_now : (t p : ℕ) → t ≡ s → (h : Holds N t p) → o.plus h.worth (height o f p) ≡ top
+      value_now : (t p : ℕ) → t ≡ s → (h : Holds N t p) → o.plus h.worth (potential o f p) ≡ top
       value_now t p e h =
           let q = holds_along {f = N} (sym e) placed_now entry h in
-          ap (λ z. o.plus z (height o f p)) (sym q.1) ∙ ap (λ z. o.plus w (height o f z)) (sym q.0) ∙ tight
+          ap (λ z. o.plus z (potential o f p)) (sym q.1) ∙ ap (λ z. o.plus w (potential o f z)) (sym q.0) ∙ tight
 
       pub place_quiet : IsFair o f s top → IsQuiet o N
       place_quiet fair = record {

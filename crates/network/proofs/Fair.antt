@@ -1,22 +1,22 @@
--- fair heights let no arc lead up, and a search keeps them fair
+-- fair potentials let no arc lead up, and a search keeps them fair
 use Rattle.std.proofs.Common.{◌≡◌, ◌≢◌, ℕ, ◌+◌, ◌*◌, ◌<◌, ◌≤◌, ◌⊎◌, inl, inr, List, length, Option, Some, None, slice_get, refl, arith, sym, ◌∙◌, ap, subst}
 use Rattle.std.specs.Prelude.{slice_index}
 use Rattle.std.proofs.lemmas.Option.{slice_get_within}
 use Rattle.spa.specs.Laws.{Ops, IsWorth, AtMost}
 use Rattle.network.proofs.Group.{at_most_refl, at_most_trans, at_most_shift, at_most_back, moved_over, moved_back, zero_left}
-use Rattle.network.specs.Marks.{height_at}
+use Rattle.network.specs.Marks.{potential_at}
 use Rattle.network.specs.Search.{Feasible}
 use Rattle.network.specs.Arcs.{HasEntry, Holds, EntryArc, LeaveArc, OfferArc, SwapArc, RoomArc, Arc, OfStudent, sink_of, project_count, IsFormed}
-use Rattle.network.specs.Fair.{height, IsFair}
+use Rattle.network.specs.Fair.{potential, IsFair}
 use Rattle.network.specs.declared.flow.Flow.{Flow}
 use Rattle.network.specs.declared.marks.Origin.{Origin}
 use Rattle.network.specs.declared.marks.Origin.TheVariants.{Unseen, Entry, Leave, Offer, Swap, Room}
 
 module _ {G : Type 0} {o : Ops G} (laws : IsWorth o) (f : Flow G) where
   H : ℕ → G
-  H v = height o f v
+  H v = potential o f v
 
-  pub fair_feasible : (pending : ℕ) (top : G) → IsFair o f pending top → Feasible o (Arc o f) f.heights.items
+  pub fair_feasible : (pending : ℕ) (top : G) → IsFair o f pending top → Feasible o (Arc o f) f.potentials.items
   fair_feasible pending top fair a Unseen c b d = absurd d
   fair_feasible pending top fair a (Entry s k) c b d = rw d.is (moved_back laws d.worth d.holds.worth _ _ (fair.placed s a k b d.worth d.holds d.entry))
   fair_feasible pending top fair a (Leave s) c b d =
@@ -28,11 +28,11 @@ module _ {G : Type 0} {o : Ops G} (laws : IsWorth o) (f : Flow G) where
   fair_feasible pending top fair a (Room l) c b d =
       rw (d.is, zero_left laws, d.to_sink, fair.sink, d.from_supervisor) (fair.supervisor_room l d.known d.room)
 
--- what a search finds out of fair heights
+-- what a search finds out of fair potentials
 module _ {G : Type 0} {o : Ops G} (laws : IsWorth o) (f n : Flow G) (formed : IsFormed o f) (fresh : ℕ) (top : G)
     (lists : n.lists ≡ f.lists) (places : n.places ≡ f.places) (projects : n.projects ≡ f.projects) (supervisors : n.supervisors ≡ f.supervisors) (filled : n.filled ≡ f.filled) (load : n.load ≡ f.load)
     (low : ℕ → G)
-    (falls : (v : ℕ) → AtMost o (low v) (height o f v))
+    (falls : (v : ℕ) → AtMost o (low v) (potential o f v))
     (feasible : (a : ℕ) (w : Origin) (c : G) (b : ℕ) → Arc o f a w c b → AtMost o (o.plus c (low b)) (low a))
     (first : (w : Origin) (x : G) (b : ℕ) → OfStudent o f fresh o.zero w x b → AtMost o (o.plus x (low b)) top)
     (low_sink : low (sink_of f) ≡ o.zero) where

@@ -35,12 +35,12 @@ module _ {G : Type 0} {o : Ops G} (laws : IsWorth o) where
   pub at_most_back : (x y z : G) → AtMost o (plus x z) (plus y z) → AtMost o x y
   at_most_back x y z h = sym (ap is_gt (laws.keeps x y z)) ∙ h
 
-  -- a worth moved along an arc that its heights allow ends no higher
+  -- a worth moved along an arc that its potentials allow ends no higher
   pub offered_below : (d c hb hv : G) → AtMost o (plus c hb) hv → AtMost o (plus (plus d c) hb) (plus d hv)
   offered_below d c hb hv h =
       rw (laws.assoc d c hb, laws.comm d (plus c hb), laws.comm d hv) (at_most_shift _ _ d h)
 
-  -- new heights mv, mb of two settled nodes
+  -- new potentials mv, mb of two settled nodes
   pub both_settled : (dv db c mv mb top : G) → plus mv dv ≡ top → plus mb db ≡ top
       → AtMost o (plus dv c) db → AtMost o (plus c mb) mv
   both_settled dv db c mv mb top ev eb h =
@@ -56,15 +56,15 @@ module _ {G : Type 0} {o : Ops G} (laws : IsWorth o) where
       (let left : plus (plus c hb) dv ≡ plus (plus dv c) hb = simp (laws.assoc, laws.comm, swapped) in
       rw (left, ev) (at_most_trans _ _ _ (at_most_shift _ _ hb h) k))
 
-  -- a settled node's height falls
-  pub height_falls : (db mb hb top : G) → plus mb db ≡ top → AtMost o top (plus db hb) → AtMost o mb hb
-  height_falls db mb hb top eb k =
+  -- a settled node's potential falls
+  pub potential_falls : (db mb hb top : G) → plus mb db ≡ top → AtMost o top (plus db hb) → AtMost o mb hb
+  potential_falls db mb hb top eb k =
       at_most_back _ _ db (rw (eb, laws.comm hb db) k)
 
   pub second_settled : (db c mb hb hv top : G) → plus mb db ≡ top → AtMost o top (plus db hb)
       → AtMost o (plus c hb) hv → AtMost o (plus c mb) hv
   second_settled db c mb hb hv top eb k h =
-      at_most_trans _ _ _ (rw (laws.comm c mb, laws.comm c hb) (at_most_shift _ _ c (height_falls db mb hb top eb k))) h
+      at_most_trans _ _ _ (rw (laws.comm c mb, laws.comm c hb) (at_most_shift _ _ c (potential_falls db mb hb top eb k))) h
 
   pub tight : (dv db c mv mb top : G) → plus mv dv ≡ top → plus mb db ≡ top → db ≡ plus dv c → plus c mb ≡ mv
   tight dv db c mv mb top ev eb e =

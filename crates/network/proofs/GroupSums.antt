@@ -4,7 +4,7 @@ use Rattle.std.proofs.lemmas.Bool.{cases_eq}
 use Rattle.spa.specs.Laws.{Ops, IsWorth}
 use Rattle.network.proofs.Group.{swapped, zero_left}
 use Rattle.network.specs.Push.{sum_to}
-use Rattle.network.specs.Prices.{times, sum_of}
+use Rattle.network.specs.Seen.{multiple, sum_of}
 
 module _ {G : Type 0} {o : Ops G} (laws : IsWorth o) where
   pub crossed : (a b c d : G) → o.plus (o.plus a b) (o.plus c d) ≡ o.plus (o.plus a c) (o.plus b d)
@@ -33,20 +33,25 @@ module _ {G : Type 0} {o : Ops G} (laws : IsWorth o) where
       inl q ↦ ap (λ z. o.plus z (g n)) (sum_of_zero n g (λ j l. e j (λ z. omega (arith, z, q, l)))) ∙ zero_left laws (g n) ∙ ap g (sym q)
     | inr ne ↦ ap (λ z. o.plus z (g n)) (sum_of_pick n i g (omega (arith, lt, ne)) e) ∙ ap (o.plus (g i)) (e n (λ z. ne (sym z))) ∙ laws.unit (g i) ]
 
-  pub times_zero : (n : ℕ) → times o n o.zero ≡ o.zero
+  pub times_zero : (n : ℕ) → multiple o n o.zero ≡ o.zero
   times_zero zero = refl
   times_zero (suc n) = ap (λ z. o.plus z o.zero) (times_zero n) ∙ laws.unit o.zero
 
-  pub times_plus : (n : ℕ) (x y : G) → times o n (o.plus x y) ≡ o.plus (times o n x) (times o n y)
+  pub times_plus : (n : ℕ) (x y : G) → multiple o n (o.plus x y) ≡ o.plus (multiple o n x) (multiple o n y)
   times_plus zero x y = sym (laws.unit o.zero)
-  times_plus (suc n) x y = ap (λ z. o.plus z (o.plus x y)) (times_plus n x y) ∙ crossed (times o n x) (times o n y) x y
+  times_plus (suc n) x y = ap (λ z. o.plus z (o.plus x y)) (times_plus n x y) ∙ crossed (multiple o n x) (multiple o n y) x y
 
-  pub times_add : (a b : ℕ) (x : G) → times o (a + b) x ≡ o.plus (times o a x) (times o b x)
-  times_add a zero x = let e : a + 0 ≡ a = omega arith in ap (λ n. times o n x) e ∙ sym (laws.unit (times o a x))
+  pub times_add : (a b : ℕ) (x : G) → multiple o (a + b) x ≡ o.plus (multiple o a x) (multiple o b x)
+  times_add a zero x = let e : a + 0 ≡ a = omega arith in ap (λ n. multiple o n x) e ∙ sym (laws.unit (multiple o a x))
   times_add a (suc b) x =
       let e : a + suc b ≡ suc (a + b) = omega arith in
-      ap (λ n. times o n x) e ∙ ap (λ z. o.plus z x) (times_add a b x) ∙ laws.assoc (times o a x) (times o b x) x
+      ap (λ n. multiple o n x) e ∙ ap (λ z. o.plus z x) (times_add a b x) ∙ laws.assoc (multiple o a x) (multiple o b x) x
 
-  pub sum_of_times : (n : ℕ) (c : ℕ → ℕ) (x : G) → sum_of o n (λ i. times o (c i) x) ≡ times o (sum_to n c) x
+  pub sum_of_times : (n : ℕ) (c : ℕ → ℕ) (x : G) → sum_of o n (λ i. multiple o (c i) x) ≡ multiple o (sum_to n c) x
   sum_of_times zero c x = refl
-  sum_of_times (suc n) c x = ap (λ z. o.plus z (times o (c n) x)) (sum_of_times n c x) ∙ sym (times_add (sum_to n c) (c n) x)
+  sum_of_times (suc n) c x = ap (λ z. o.plus z (multiple o (c n) x)) (sum_of_times n c x) ∙ sym (times_add (sum_to n c) (c n) x)
+
+  -- the first value apart
+  pub sum_of_front : (n : ℕ) (g : ℕ → G) → sum_of o (suc n) g ≡ o.plus (g 0) (sum_of o n (λ i. g (suc i)))
+  sum_of_front zero g = laws.comm o.zero (g 0)
+  sum_of_front (suc n) g = ap (λ z. o.plus z (g (suc n))) (sum_of_front n g) ∙ laws.assoc (g 0) (sum_of o n (λ i. g (suc i))) (g (suc n))

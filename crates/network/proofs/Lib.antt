@@ -20,9 +20,12 @@ pub mod PushStart
 pub mod Spans
 pub mod Append
 pub mod Regrow
+pub mod Lists
+pub mod Matched
 pub mod Costs
 pub mod Start
 pub mod Admission
 pub mod GroupSums
 pub mod Balance
 pub mod Duals
+pub mod Priced

@@ -9,7 +9,7 @@ use Rattle.spa.specs.Laws.{Ops, IsWorth, AtMost}
 use Rattle.network.specs.Marks.{mark_at, is_seen}
 use Rattle.network.specs.Search.{rank_or}
 use Rattle.network.specs.Arcs.{HasEntry, Holds, EntryArc, LeaveArc, OfferArc, SwapArc, RoomArc, Arc, OfStudent, sink_of, project_count, IsFormed}
-use Rattle.network.specs.Fair.{height, IsFair}
+use Rattle.network.specs.Fair.{potential, IsFair}
 use Rattle.network.specs.Push.{sum_to, one_if, entry_at, row_at, place_at, seat, seats, seats_of, IsCounted, IsStep, IsFirst, HasSteps, IsPushing, IsPushed, IsNext}
 use Rattle.network.proofs.Ends.{place_quiet, place_counted}
 use Rattle.network.proofs.Entries.{entry_same}
@@ -33,7 +33,7 @@ module _ {G : Type 0} {o : Ops G} (laws : IsWorth o) (f : Flow G) (formed : IsFo
   pub placed_formed : ((k : ℕ) → x ≡ Some k → (p : ℕ) × (w : G) × HasEntry f.lists.items s k p w) → IsFormed o N
   placed_formed known = record {
     students = formed.students ∙ sym (ap length set_is ∙ length-set f.places.items s x);
-    filled = formed.filled; load = formed.load; heights = formed.heights; entries = formed.entries;
+    filled = formed.filled; load = formed.load; potentials = formed.potentials; entries = formed.entries;
     placed = λ t k e. elim (cases_eq t s) [
         inl q ↦ (let z : Some x ≡ Some (Some k) = sym (rw set_is (slice_get-set_same f.places.items s x within)) ∙ (rw q at e) in
           let kn = known k (same_Some _ _ z) in rw q kn)
@@ -60,8 +60,8 @@ module _ {G : Type 0} {o : Ops G} (laws : IsWorth o) (f : Flow G) (marks : List 
     go (inr h) =
         let arc : EntryArc o f h.before s k h.worth hole = rw origin at h.along in
         let same = holds_same placed held arc.holds in
-        let tight : o.plus arc.worth (height o f hole) ≡ o.plus arc.holds.worth (height o f h.before) =
-          moved_same laws arc.worth arc.holds.worth _ _ (ap (λ z. o.plus z (height o f hole)) (sym arc.is) ∙ h.tight) in
+        let tight : o.plus arc.worth (potential o f hole) ≡ o.plus arc.holds.worth (potential o f h.before) =
+          moved_same laws arc.worth arc.holds.worth _ _ (ap (λ z. o.plus z (potential o f hole)) (sym arc.is) ∙ h.tight) in
         let below_a = (pushing.formed.entries _ _ _ _ arc.holds.entry).0 in
         let below_b = (pushing.formed.entries _ _ _ _ arc.entry).0 in
         rw same.0 (record {
@@ -84,7 +84,7 @@ module _ {G : Type 0} {o : Ops G} (laws : IsWorth o) (f : Flow G) (marks : List 
     go (inr h) = let arc : EntryArc o f h.before s k h.worth hole = rw origin at h.along in absurd (let z = arc.holds.placed in cc)
     go (inl h) =
         let off : OfStudent o f fresh o.zero (Entry s k) (mark_at o marks hole).label hole = rw origin at h.offered in
-        let tight : o.plus off.1 (height o f hole) ≡ top = ap (λ z. o.plus z (height o f hole)) (sym (zero_left laws off.1) ∙ sym off.3) ∙ h.tight in
+        let tight : o.plus off.1 (potential o f hole) ≡ top = ap (λ z. o.plus z (potential o f hole)) (sym (zero_left laws off.1) ∙ sym off.3) ∙ h.tight in
         let fair : IsFair o f s top = rw off.0 pushing.fair in
         record {
           formed = placed_formed laws f pushing.formed P s (Some k) set_is (slice_get_within f.places.items s _ none) (λ i e. (hole, off.1, rw (← same_Some k i e) off.2));

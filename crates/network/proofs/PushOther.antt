@@ -9,7 +9,7 @@ use Rattle.spa.specs.Laws.{Ops, IsWorth, AtMost}
 use Rattle.network.specs.Marks.{mark_at, is_seen}
 use Rattle.network.specs.Search.{rank_or}
 use Rattle.network.specs.Arcs.{HasEntry, Holds, EntryArc, LeaveArc, OfferArc, SwapArc, RoomArc, Arc, OfStudent, sink_of, project_count, IsFormed}
-use Rattle.network.specs.Fair.{height, IsFair}
+use Rattle.network.specs.Fair.{potential, IsFair}
 use Rattle.network.specs.Push.{sum_to, one_if, entry_at, row_at, place_at, seat, seats, seats_of, IsCounted, IsStep, IsFirst, HasSteps, IsPushing, IsPushed, IsNext}
 use Rattle.network.proofs.Ends.{quiet_without, leave_fair, leave_counted, load_fair, load_counted}
 use Rattle.network.proofs.Shift.{filled_fair, more_counted, less_counted, filled_steps, now_here}
@@ -38,7 +38,7 @@ module _ {G : Type 0} {o : Ops G} (laws : IsWorth o) (f : Flow G) (marks : List 
     go (inr h) = let arc : LeaveArc o f h.before s h.worth hole = rw origin at h.along in absurd (let z = arc.holds.placed in cc)
     go (inl h) =
         let off : OfStudent o f fresh o.zero (Leave s) (mark_at o marks hole).label hole = rw origin at h.offered in
-        let e : top ≡ o.zero = sym h.tight ∙ ap (λ z. o.plus z (height o f hole)) off.2 ∙ zero_left laws (height o f hole) ∙ ap (height o f) off.1 ∙ pushing.fair.sink in
+        let e : top ≡ o.zero = sym h.tight ∙ ap (λ z. o.plus z (potential o f hole)) off.2 ∙ zero_left laws (potential o f hole) ∙ ap (potential o f) off.1 ∙ pushing.fair.sink in
         record {
           formed = pushing.formed;
           fair = quiet_without laws f pushing.formed fresh top e pushing.fair;
@@ -56,10 +56,10 @@ module _ {G : Type 0} {o : Ops G} (laws : IsWorth o) (f : Flow G) (marks : List 
     go (inr h) =
         let arc : LeaveArc o f h.before s h.worth hole = rw origin at h.along in
         let same = holds_same placed held arc.holds in
-        let at_sink : height o f hole ≡ o.zero = ap (height o f) arc.to_sink ∙ pushing.fair.sink in
-        let both : o.plus o.zero (height o f hole) ≡ o.plus arc.holds.worth (height o f h.before) =
-          moved_same laws o.zero arc.holds.worth _ _ (ap (λ z. o.plus z (height o f hole)) (sym arc.is) ∙ h.tight) in
-        let tight : o.zero ≡ o.plus arc.holds.worth (height o f h.before) = sym at_sink ∙ sym (zero_left laws (height o f hole)) ∙ both in
+        let at_sink : potential o f hole ≡ o.zero = ap (potential o f) arc.to_sink ∙ pushing.fair.sink in
+        let both : o.plus o.zero (potential o f hole) ≡ o.plus arc.holds.worth (potential o f h.before) =
+          moved_same laws o.zero arc.holds.worth _ _ (ap (λ z. o.plus z (potential o f hole)) (sym arc.is) ∙ h.tight) in
+        let tight : o.zero ≡ o.plus arc.holds.worth (potential o f h.before) = sym at_sink ∙ sym (zero_left laws (potential o f hole)) ∙ both in
         rw same.0 (record {
           pushing = record {
             formed = placed_formed laws f pushing.formed P s None set_is (slice_get_within f.places.items s _ placed) (λ i e. absurd (cc));
@@ -75,7 +75,7 @@ module _ {G : Type 0} {o : Ops G} (laws : IsWorth o) (f : Flow G) (marks : List 
 
   filled_formed : (F : Vec ℕ Global) (p y : ℕ) → F.items ≡ set f.filled.items p y → IsFormed o (record f { filled = F })
   filled_formed F p y set_is = let g = pushing.formed in record {
-    students = g.students; filled = ap length set_is ∙ length-set f.filled.items p y ∙ g.filled; load = g.load; heights = g.heights; entries = g.entries; placed = g.placed;
+    students = g.students; filled = ap length set_is ∙ length-set f.filled.items p y ∙ g.filled; load = g.load; potentials = g.potentials; entries = g.entries; placed = g.placed;
     projects = g.projects; quotas = g.quotas; loads = g.loads; few_students = g.few_students; few_projects = g.few_projects; few_supervisors = g.few_supervisors; short = g.short;
   }
 
@@ -114,8 +114,8 @@ module _ {G : Type 0} {o : Ops G} (laws : IsWorth o) (f : Flow G) (marks : List 
         let within = slice_get_within f.projects.items hole _ arc.project in
         let one : one_if (nat_eq hole hole) ≡ 1 = ap one_if (eq-eqb hole hole refl) in
         let some : y + 1 ≡ slice_index f.filled.items hole = (let c = pushing.counted.project hole within in omega (arith, c, one, less)) in
-        let meets : height o f hole ≡ height o f (project_count f + l) =
-          sym (zero_left laws (height o f hole)) ∙ ap (λ z. o.plus z (height o f hole)) (sym arc.is) ∙ h.tight ∙ ap (height o f) arc.from_supervisor in
+        let meets : potential o f hole ≡ potential o f (project_count f + l) =
+          sym (zero_left laws (potential o f hole)) ∙ ap (λ z. o.plus z (potential o f hole)) (sym arc.is) ∙ h.tight ∙ ap (potential o f) arc.from_supervisor in
         let here = now_here laws f pushing.formed F hole l arc.quota y set_is arc.project in
         record {
           pushing = record {
@@ -144,7 +144,7 @@ module _ {G : Type 0} {o : Ops G} (laws : IsWorth o) (f : Flow G) (marks : List 
         record {
           pushing = record {
             formed = record {
-              students = g.students; filled = g.filled; load = ap length set_is ∙ length-set f.load.items l _ ∙ g.load; heights = g.heights; entries = g.entries; placed = g.placed;
+              students = g.students; filled = g.filled; load = ap length set_is ∙ length-set f.load.items l _ ∙ g.load; potentials = g.potentials; entries = g.entries; placed = g.placed;
               projects = g.projects; quotas = g.quotas; loads = g.loads; few_students = g.few_students; few_projects = g.few_projects; few_supervisors = g.few_supervisors; short = g.short };
             fair = load_fair laws f g L l (slice_index f.load.items l + 1) arc.known set_is refl fresh top pushing.fair;
             counted = load_counted laws f g L l (slice_index f.load.items l + 1) arc.known set_is refl arc.room counted;

@@ -9,7 +9,7 @@ use Rattle.spa.specs.Laws.{Ops, IsWorth, AtMost}
 use Rattle.network.specs.Marks.{mark_at, is_seen}
 use Rattle.network.specs.Search.{rank_or}
 use Rattle.network.specs.Arcs.{HasEntry, Holds, EntryArc, LeaveArc, OfferArc, SwapArc, RoomArc, Arc, OfStudent, sink_of, project_count, IsFormed}
-use Rattle.network.specs.Fair.{height, IsFair}
+use Rattle.network.specs.Fair.{potential, IsFair}
 use Rattle.network.specs.Push.{sum_to, one_if, entry_at, row_at, place_at, seat, seats, seats_of, IsCounted, IsStep, IsFirst, HasSteps, IsPushing, IsPushed, IsNext}
 use Rattle.network.specs.Marks.{blank}
 use Rattle.std.proofs.lemmas.Bool.{cases_lt}

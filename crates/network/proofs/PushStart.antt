@@ -5,10 +5,10 @@ use Rattle.std.specs.declared.vec.Vec.{Vec}
 use Rattle.std.specs.declared.alloc.Global.{Global}
 use Rattle.spa.specs.Laws.{Ops, IsWorth, AtMost}
 use Rattle.network.proofs.Group.{at_most_refl, at_most_trans, at_most_shift, moved_back, zero_left}
-use Rattle.network.specs.Marks.{mark_at, height_at, key_at, is_seen, is_settled, is_open_mark}
+use Rattle.network.specs.Marks.{mark_at, potential_at, key_at, is_seen, is_settled, is_open_mark}
 use Rattle.network.specs.Search.{rank_or, FromNode, IsSearch, IsFound, Feasible, lowered}
 use Rattle.network.specs.Arcs.{HasEntry, Holds, EntryArc, LeaveArc, OfferArc, SwapArc, RoomArc, Arc, OfStudent, sink_of, project_count, IsFormed}
-use Rattle.network.specs.Fair.{height, IsFair, IsFairBut}
+use Rattle.network.specs.Fair.{potential, IsFair, IsFairBut}
 use Rattle.network.specs.Push.{IsCounted, IsStep, IsFirst, HasSteps, IsPushing}
 use Rattle.network.proofs.Settle.{open_rank}
 use Rattle.network.proofs.Lower.{falls, stays_feasible, first_covered, tight_arc, tight_first}
@@ -19,7 +19,7 @@ use Rattle.network.specs.declared.marks.Origin.TheVariants.{Unseen, Entry, Leave
 use Rattle.network.specs.declared.marks.Mark.{Mark}
 
 module _ {G : Type 0} {o : Ops G} (laws : IsWorth o) (f : Flow G) (fresh : ℕ) (fair : IsFairBut o f fresh) where
-  pub but_feasible : Feasible o (Arc o f) f.heights.items
+  pub but_feasible : Feasible o (Arc o f) f.potentials.items
   but_feasible a Unseen c b d = absurd d
   but_feasible a (Entry s k) c b d = rw d.is (moved_back laws d.worth d.holds.worth _ _ (fair.placed s a k b d.worth d.holds d.entry))
   but_feasible a (Leave s) c b d =
@@ -31,35 +31,35 @@ module _ {G : Type 0} {o : Ops G} (laws : IsWorth o) (f : Flow G) (fresh : ℕ) 
   but_feasible a (Room l) c b d =
       rw (d.is, zero_left laws, d.to_sink, fair.sink, d.from_supervisor) (fair.supervisor_room l d.known d.room)
 
-  module _ (formed : IsFormed o f) (marks : List (Mark G)) (len : length marks ≡ length f.heights.items)
-      (found : IsFound o (OfStudent o f fresh o.zero) (Arc o f) f.heights.items marks (sink_of f))
+  module _ (formed : IsFormed o f) (marks : List (Mark G)) (len : length marks ≡ length f.potentials.items)
+      (found : IsFound o (OfStudent o f fresh o.zero) (Arc o f) f.potentials.items marks (sink_of f))
       (none : slice_get f.places.items fresh ≡ Some None) (counted : IsCounted f (sink_of f))
-      (H : Vec G Global) (long : length H.items ≡ length f.heights.items)
-      (low_is : (v : ℕ) → height_at o H.items v ≡ lowered o marks f.heights.items (mark_at o marks (sink_of f)).label v) where
+      (H : Vec G Global) (long : length H.items ≡ length f.potentials.items)
+      (low_is : (v : ℕ) → potential_at o H.items v ≡ lowered o marks f.potentials.items (mark_at o marks (sink_of f)).label v) where
 
     abbrev pub N : Flow G
-    N = record f { heights = H }
+    N = record f { potentials = H }
 
     abbrev top : G
     top = (mark_at o marks (sink_of f)).label
 
     abbrev low : ℕ → G
-    low v = lowered o marks f.heights.items top v
+    low v = lowered o marks f.potentials.items top v
 
     low_sink : low (sink_of f) ≡ o.zero
     low_sink = let e : is_settled (mark_at o marks (sink_of f)).rank ≡ false = ap is_settled (open_rank (mark_at o marks (sink_of f)) found.opened).1 in
       rw e fair.sink
 
-    down : (v : ℕ) → AtMost o (low v) (height o f v)
-    down = falls laws (OfStudent o f fresh o.zero) (Arc o f) f.heights.items marks (sink_of f) found.settled found.search found.opened found.best fair.sink
+    down : (v : ℕ) → AtMost o (low v) (potential o f v)
+    down = falls laws (OfStudent o f fresh o.zero) (Arc o f) f.potentials.items marks (sink_of f) found.settled found.search found.opened found.best fair.sink
 
     arcs : (a : ℕ) (w : Origin) (c : G) (b : ℕ) → Arc o f a w c b → AtMost o (o.plus c (low b)) (low a)
-    arcs = stays_feasible laws (OfStudent o f fresh o.zero) (Arc o f) f.heights.items marks (sink_of f) found.settled found.search found.opened found.best fair.sink but_feasible
+    arcs = stays_feasible laws (OfStudent o f fresh o.zero) (Arc o f) f.potentials.items marks (sink_of f) found.settled found.search found.opened found.best fair.sink but_feasible
 
     begun : (w : Origin) (x : G) (b : ℕ) → OfStudent o f fresh o.zero w x b → AtMost o (o.plus x (low b)) top
-    begun = first_covered laws (OfStudent o f fresh o.zero) (Arc o f) f.heights.items marks (sink_of f) found.settled found.search found.opened found.best fair.sink
+    begun = first_covered laws (OfStudent o f fresh o.zero) (Arc o f) f.potentials.items marks (sink_of f) found.settled found.search found.opened found.best fair.sink
 
-    -- an inequality of the lowered heights, of the new flow's
+    -- an inequality of the lowered potentials, of the new flow's
     holds_of : (s a : ℕ) → Holds N s a → Holds f s a
     holds_of s a h = record { place = h.place; worth = h.worth; placed = h.placed; entry = h.entry }
 
@@ -68,7 +68,7 @@ module _ {G : Type 0} {o : Ops G} (laws : IsWorth o) (f : Flow G) (fresh : ℕ) 
     fair_now = record {
       placed = λ s a k p w h e. rw (low_is p, low_is a) (fair_placed laws f f formed fresh top refl refl refl refl refl refl low down arcs begun low_sink s a k p w (holds_of s a h) e);
       placed_least = λ s a h. rw (low_is a) (fair_placed_least laws f f formed fresh top refl refl refl refl refl refl low down arcs begun low_sink s a (holds_of s a h));
-      unplaced = λ s k p w ne no_place e. rw (low_is p, laws.comm w (low p)) (at_most_trans laws _ _ _ (at_most_shift laws (low p) (height o f p) w (down p)) (rw (laws.comm (height o f p) w) (fair.unplaced s k p w ne no_place e)));
+      unplaced = λ s k p w ne no_place e. rw (low_is p, laws.comm w (low p)) (at_most_trans laws _ _ _ (at_most_shift laws (low p) (potential o f p) w (down p)) (rw (laws.comm (potential o f p) w) (fair.unplaced s k p w ne no_place e)));
       waiting = λ k p w e. rw (low_is p) (fair_waiting laws f f formed fresh top refl refl refl refl refl refl low down arcs begun low_sink k p w e);
       waiting_least = fair_waiting_least laws f f formed fresh top refl refl refl refl refl refl low down arcs begun low_sink;
       project = λ p l q e. rw (low_is p, low_is (project_count f + l)) (fair_project laws f f formed fresh top refl refl refl refl refl refl low down arcs begun low_sink p l q e);
@@ -113,18 +113,18 @@ module _ {G : Type 0} {o : Ops G} (laws : IsWorth o) (f : Flow G) (fresh : ℕ) 
       go : OfStudent o f fresh o.zero (mark_at o marks v).origin (mark_at o marks v).label v ⊎ FromNode o (Arc o f) marks found.settled v → IsFirst o N marks fresh top v ⊎ IsStep o N marks (length marks) v
       go (inl h) = inl (record {
         offered = same_first _ _ v h;
-        tight = rw (low_is v) (tight_first laws (OfStudent o f fresh o.zero) (Arc o f) f.heights.items marks (sink_of f) found.settled found.search found.opened found.best fair.sink v here) })
+        tight = rw (low_is v) (tight_first laws (OfStudent o f fresh o.zero) (Arc o f) f.potentials.items marks (sink_of f) found.settled found.search found.opened found.best fair.sink v here) })
       go (inr h) = inr (record {
         before = h.before; rank = h.rank; worth = h.worth; settled = h.settled;
         earlier = rank_wider h.rank (mark_at o marks v).rank h.earlier;
         along = same_arc h.before (mark_at o marks v).origin h.worth v h.along;
-        tight = rw (low_is v, low_is h.before) (tight_arc laws (OfStudent o f fresh o.zero) (Arc o f) f.heights.items marks (sink_of f) found.settled found.search found.opened found.best fair.sink v here h) })
+        tight = rw (low_is v, low_is h.before) (tight_arc laws (OfStudent o f fresh o.zero) (Arc o f) f.potentials.items marks (sink_of f) found.settled found.search found.opened found.best fair.sink v here h) })
 
-    -- a found walk and the lowered heights are where a push starts
+    -- a found walk and the lowered potentials are where a push starts
     pub push_starts : IsPushing o N marks fresh top (sink_of N)
     push_starts = record {
       formed = record {
-        students = formed.students; filled = formed.filled; load = formed.load; heights = long ∙ formed.heights; entries = formed.entries; placed = formed.placed;
+        students = formed.students; filled = formed.filled; load = formed.load; potentials = long ∙ formed.potentials; entries = formed.entries; placed = formed.placed;
         projects = formed.projects; quotas = formed.quotas; loads = formed.loads; few_students = formed.few_students; few_projects = formed.few_projects; few_supervisors = formed.few_supervisors; short = formed.short };
       fair = fair_now;
       counted = record { project = counted.project; project_within = counted.project_within; supervisor = counted.supervisor; supervisor_within = counted.supervisor_within };

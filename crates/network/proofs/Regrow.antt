@@ -5,9 +5,9 @@ use Rattle.std.specs.declared.vec.Vec.{Vec}
 use Rattle.std.specs.declared.alloc.Global.{Global}
 use Rattle.spa.specs.Laws.{Ops, IsWorth, AtMost}
 use Rattle.network.specs.Arcs.{HasEntry, Holds, sink_of, project_count, IsFormed}
-use Rattle.network.specs.Fair.{height, IsFair}
+use Rattle.network.specs.Fair.{potential, IsFair}
 use Rattle.network.specs.Push.{sum_to, one_if, place_at, seat, seats, seats_of, IsCounted, IsPushed}
-use Rattle.network.specs.Seen.{IsReady}
+use Rattle.network.specs.View.{IsReady}
 use Rattle.network.proofs.Sums.{sum_to_same}
 use Rattle.network.specs.declared.flow.Flow.{Flow}
 
@@ -54,7 +54,7 @@ module _ {G : Type 0} {o : Ops G} (f : Flow G) (pushed : IsPushed o f)
   regrown = record {
     formed = record {
       students = omega (arith, long, pushed.formed.students, ap length places_are);
-      filled = pushed.formed.filled; load = pushed.formed.load; heights = pushed.formed.heights;
+      filled = pushed.formed.filled; load = pushed.formed.load; potentials = pushed.formed.potentials;
       entries = λ s k p w e. pushed.formed.entries s k p w (entry_old s k p w e);
       placed = λ s k e. let h = pushed.formed.placed s k (place_old s (Some k) e) in (h.0, h.1, entry_new s k h.0 h.1 h.2);
       projects = pushed.formed.projects; quotas = pushed.formed.quotas; loads = pushed.formed.loads;

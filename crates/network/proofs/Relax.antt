@@ -4,7 +4,7 @@ use Rattle.std.proofs.lemmas.Bool.{cases_eq, cases_Bool, cond-true, cond-false}
 use Rattle.std.specs.Ordering.{is_gt}
 use Rattle.spa.specs.Laws.{Ops, IsWorth, AtMost}
 use Rattle.network.proofs.Group.{at_most_refl, at_most_trans, at_most_rev}
-use Rattle.network.specs.Marks.{is_seen, is_settled, is_open_mark, blank, mark_at, height_at, key_at, relaxed}
+use Rattle.network.specs.Marks.{is_seen, is_settled, is_open_mark, blank, mark_at, potential_at, key_at, relaxed}
 use Rattle.network.specs.Search.{Replaced, Reaches, Taken, Relaxes, OneOffer}
 use Rattle.network.specs.declared.marks.Origin.{Origin}
 use Rattle.network.specs.declared.marks.Mark.{Mark}

@@ -3,7 +3,7 @@ use Rattle.std.proofs.Common.{◌≡◌, ◌≢◌, ℕ, ◌+◌, ◌*◌, ◌<�
 use Rattle.std.proofs.lemmas.Bool.{cases_eq, cases_Bool, and_parts}
 use Rattle.spa.specs.Laws.{Ops, IsWorth, AtMost}
 use Rattle.network.proofs.Group.{at_most_refl, at_most_trans, at_most_rev, at_most_back, offered_below}
-use Rattle.network.specs.Marks.{is_seen, is_settled, is_open_mark, blank, mark_at, height_at, key_at, settled_as}
+use Rattle.network.specs.Marks.{is_seen, is_settled, is_open_mark, blank, mark_at, potential_at, key_at, settled_as}
 use Rattle.network.specs.Search.{Replaced, Reaches, Taken, Relaxes, rank_or, FromNode, IsSearch, Feasible, OffersOf}
 use Rattle.network.specs.declared.marks.Origin.{Origin}
 use Rattle.network.specs.declared.marks.Mark.{Mark}
@@ -28,7 +28,7 @@ pub data Change {G : Type 0} (o : Ops G) (offer : Origin → G → ℕ → Type 
   stayed : (b ≡ node → ⊥) → n ≡ m → Change o offer node k b m n
   offered : (b ≡ node → ⊥) → Replaced o offer b m n → Change o offer node k b m n
 
-module _ {G : Type 0} {o : Ops G} (laws : IsWorth o) (first : Origin → G → ℕ → Type 0) (arc : ℕ → Origin → G → ℕ → Type 0) (heights : List G)
+module _ {G : Type 0} {o : Ops G} (laws : IsWorth o) (first : Origin → G → ℕ → Type 0) (arc : ℕ → Origin → G → ℕ → Type 0) (potentials : List G)
     (marks middle new : List (Mark G)) (node k : ℕ) where
 
   abbrev pub M : ℕ → Mark G
@@ -51,9 +51,9 @@ module _ {G : Type 0} {o : Ops G} (laws : IsWorth o) (first : Origin → G → �
     elsewhere q (inl f) = stayed q (f ∙ rw e (get_or-set_other marks node b _ (blank o) q))
     elsewhere q (inr f) = offered q (rw (let there : mark_at o middle b ≡ M b = rw e (get_or-set_other marks node b _ (blank o) q) in there) at f)
 
-  module _ (old : IsSearch o first arc heights marks k) (opened : is_open_mark (M node) ≡ true)
-      (best : (b : ℕ) → is_open_mark (M b) ≡ true → AtMost o (key_at o marks heights b) (key_at o marks heights node))
-      (feasible : Feasible o arc heights) (small : (a : ℕ) (w : Origin) (c : G) (b : ℕ) → arc a w c b → o.span c ≤ 2)
+  module _ (old : IsSearch o first arc potentials marks k) (opened : is_open_mark (M node) ≡ true)
+      (best : (b : ℕ) → is_open_mark (M b) ≡ true → AtMost o (key_at o marks potentials b) (key_at o marks potentials node))
+      (feasible : Feasible o arc potentials) (small : (a : ℕ) (w : Origin) (c : G) (b : ℕ) → arc a w c b → o.span c ≤ 2)
       (changes : (b : ℕ) → Change o (OffersOf o arc node D) node k b (M b) (N b))
       (taken : (w : Origin) (x : G) (b : ℕ) → OffersOf o arc node D w x b → Taken o new b x) where
 
@@ -88,8 +88,8 @@ module _ {G : Type 0} {o : Ops G} (laws : IsWorth o) (first : Origin → G → �
       go (offered q f) = record { seen = f.seen; enough = at_most_trans laws x _ _ s.enough (f.grows s.seen) }
 
     -- the labels and keys of marks that did not move
-    key_same : (b : ℕ) (m : Mark G) → N b ≡ m → m.label ≡ (M b).label → key_at o new heights b ≡ key_at o marks heights b
-    key_same b m e f = ap (λ z. o.plus z (height_at o heights b)) (ap (λ (z : Mark G). z.label) e ∙ f)
+    key_same : (b : ℕ) (m : Mark G) → N b ≡ m → m.label ≡ (M b).label → key_at o new potentials b ≡ key_at o marks potentials b
+    key_same b m e f = ap (λ z. o.plus z (potential_at o potentials b)) (ap (λ (z : Mark G). z.label) e ∙ f)
 
     from_now : (b : ℕ) → is_seen (N b).origin ≡ true → first (N b).origin (N b).label b ⊎ FromNode o arc new (k + 1) b
     from_now b h = go (changes b) where
@@ -122,14 +122,14 @@ module _ {G : Type 0} {o : Ops G} (laws : IsWorth o) (first : Origin → G → �
     -- what leads to a settled node was enough before
     settled_reached : (w : Origin) (c : G) (b : ℕ) → arc node w c b → (r : ℕ) → (N b).rank ≡ Some r → Reaches o new b (o.plus D c)
     settled_reached w c b f r h =
-        let up : AtMost o (o.plus (o.plus D c) (height_at o heights b)) (o.plus D (height_at o heights node)) = offered_below laws D c (height_at o heights b) (height_at o heights node) (feasible node w c b f) in
+        let up : AtMost o (o.plus (o.plus D c) (potential_at o potentials b)) (o.plus D (potential_at o potentials node)) = offered_below laws D c (potential_at o potentials b) (potential_at o potentials node) (feasible node w c b f) in
         elim (settled_now b r h) [
           inl g ↦ record {
             seen = (ranks_now b r h).1;
-            enough = rw g.2 (at_most_back laws (o.plus D c) D (height_at o heights node) (rw g.0 at up)) }
+            enough = rw g.2 (at_most_back laws (o.plus D c) D (potential_at o potentials node) (rw g.0 at up)) }
         | inr g ↦ record {
             seen = (ranks_now b r h).1;
-            enough = rw g.0 (at_most_back laws (o.plus D c) (M b).label (height_at o heights b)
+            enough = rw g.0 (at_most_back laws (o.plus D c) (M b).label (potential_at o potentials b)
               (at_most_trans laws _ _ _ up (old.ordered b r node g.1 opened))) } ]
 
     done_now : (a r : ℕ) (w : Origin) (c : G) (b : ℕ) → (N a).rank ≡ Some r → arc a w c b → Reaches o new b (o.plus (N a).label c)
@@ -140,18 +140,18 @@ module _ {G : Type 0} {o : Ops G} (laws : IsWorth o) (first : Origin → G → �
           | inr s ↦ s ])
       | inr g ↦ rw g.0 (reaches_stays b _ (old.done a r w c b g.1 f)) ]
 
-    ordered_now : (a r b : ℕ) → (N a).rank ≡ Some r → is_open_mark (N b) ≡ true → AtMost o (key_at o new heights b) (key_at o new heights a)
-    ordered_now a r b h e = at_most_trans laws _ (key_at o marks heights node) _ (below (changes b)) (above (settled_now a r h)) where
-      below : Change o (OffersOf o arc node D) node k b (M b) (N b) → AtMost o (key_at o new heights b) (key_at o marks heights node)
+    ordered_now : (a r b : ℕ) → (N a).rank ≡ Some r → is_open_mark (N b) ≡ true → AtMost o (key_at o new potentials b) (key_at o new potentials a)
+    ordered_now a r b h e = at_most_trans laws _ (key_at o marks potentials node) _ (below (changes b)) (above (settled_now a r h)) where
+      below : Change o (OffersOf o arc node D) node k b (M b) (N b) → AtMost o (key_at o new potentials b) (key_at o marks potentials node)
       below (is_node q f) = absurd (let g : Some k ≡ None = sym (ap (λ (z : Mark G). z.rank) f) ∙ (open_rank (N b) e).1 in cc)
       below (stayed q f) = rw (key_same b (M b) f refl) (best b (rw f at e))
-      below (offered q f) = let a = f.offered in let ke : key_at o new heights b ≡ o.plus (o.plus D a.0) (height_at o heights b) = ap (λ z. o.plus z (height_at o heights b)) a.2 in rw ke (offered_below laws D a.0 (height_at o heights b) (height_at o heights node) (feasible node _ a.0 b a.1))
-      above : ((a ≡ node) × (r ≡ k) × (N a ≡ settled_as (M node) k)) ⊎ ((N a ≡ M a) × ((M a).rank ≡ Some r)) → AtMost o (key_at o marks heights node) (key_at o new heights a)
+      below (offered q f) = let a = f.offered in let ke : key_at o new potentials b ≡ o.plus (o.plus D a.0) (potential_at o potentials b) = ap (λ z. o.plus z (potential_at o potentials b)) a.2 in rw ke (offered_below laws D a.0 (potential_at o potentials b) (potential_at o potentials node) (feasible node _ a.0 b a.1))
+      above : ((a ≡ node) × (r ≡ k) × (N a ≡ settled_as (M node) k)) ⊎ ((N a ≡ M a) × ((M a).rank ≡ Some r)) → AtMost o (key_at o marks potentials node) (key_at o new potentials a)
       above (inl g) =
-          let ke : key_at o new heights a ≡ key_at o marks heights node = ap (λ (z : Mark G). o.plus z.label (height_at o heights a)) g.2 ∙ ap (λ c. o.plus D (height_at o heights c)) g.0 in
+          let ke : key_at o new potentials a ≡ key_at o marks potentials node = ap (λ (z : Mark G). o.plus z.label (potential_at o potentials a)) g.2 ∙ ap (λ c. o.plus D (potential_at o potentials c)) g.0 in
           rw ke (at_most_refl laws _)
       above (inr g) =
-          let ke : key_at o new heights a ≡ key_at o marks heights a = key_same a (M a) g.0 refl in
+          let ke : key_at o new potentials a ≡ key_at o marks potentials a = key_same a (M a) g.0 refl in
           rw ke (old.ordered a r node g.1 opened)
 
     spans_now : (b : ℕ) → o.span (N b).label ≤ 2 * (k + 1) + 1
@@ -161,7 +161,7 @@ module _ {G : Type 0} {o : Ops G} (laws : IsWorth o) (first : Origin → G → �
       go (stayed q e) = rw e (omega (arith, old.spans b))
       go (offered q f) = let a = f.offered in rw a.2 (omega (arith, laws.span_plus D a.0, old.spans node, small node _ a.0 b a.1))
 
-    pub settles : IsSearch o first arc heights new (k + 1)
+    pub settles : IsSearch o first arc potentials new (k + 1)
     settles = record {
       from = from_now;
       ranks = ranks_now;

@@ -10,7 +10,7 @@ use Rattle.network.proofs.Group.{at_most_refl, zero_left}
 use Rattle.network.specs.Marks.{mark_at, is_seen}
 use Rattle.network.specs.Search.{rank_or}
 use Rattle.network.specs.Arcs.{HasEntry, Holds, EntryArc, LeaveArc, OfferArc, SwapArc, RoomArc, Arc, OfStudent, sink_of, project_count, IsFormed}
-use Rattle.network.specs.Fair.{height, IsFair}
+use Rattle.network.specs.Fair.{potential, IsFair}
 use Rattle.network.specs.Push.{sum_to, one_if, owner_at, seat, seats, seats_of, IsCounted, IsStep, IsFirst, HasSteps}
 use Rattle.network.proofs.Sums.{sum_to_change, sum_to_same}
 use Rattle.network.specs.declared.flow.Flow.{Flow}
@@ -45,8 +45,8 @@ module _ {G : Type 0} {o : Ops G} (laws : IsWorth o) (f : Flow G) (formed : IsFo
   abbrev pub after_holds : (t c : ℕ) → Holds f t c → Holds N t c
   after_holds t c h = record { place = h.place; worth = h.worth; placed = h.placed; entry = h.entry }
 
-  -- fair, as long as room at p was room before or the heights meet
-  pub filled_fair : (pending : ℕ) (top : G) → (now p < q → AtMost o (height o f (project_count f + l)) (height o f p)) → IsFair o f pending top → IsFair o N pending top
+  -- fair, as long as room at p was room before or the potentials meet
+  pub filled_fair : (pending : ℕ) (top : G) → (now p < q → AtMost o (potential o f (project_count f + l)) (potential o f p)) → IsFair o f pending top → IsFair o N pending top
   filled_fair pending top here fair = record {
     placed = λ t c i r v h e. fair.placed t c i r v (before_holds t c h) e;
     placed_least = λ t c h. fair.placed_least t c (before_holds t c h);

@@ -6,17 +6,14 @@ use Rattle.std.specs.declared.alloc.Global.{Global}
 use Rattle.std.proofs.lemmas.Option.{slice_get_within}
 use Rattle.spa.specs.Laws.{Ops, IsWorth, AtMost}
 use Rattle.network.proofs.Group.{at_most_refl}
-use Rattle.network.specs.Marks.{height_at}
+use Rattle.network.specs.Marks.{potential_at}
 use Rattle.network.specs.Arcs.{HasEntry, Holds, sink_of, project_count, IsFormed}
-use Rattle.network.specs.Fair.{height, IsFair, IsLow}
+use Rattle.network.specs.Fair.{potential, IsFair, IsLow}
 use Rattle.network.specs.Push.{sum_to, one_if, seat, seats, seats_of, owner_at, IsCounted, IsPushed}
-use Rattle.network.specs.Seen.{IsReady}
+use Rattle.network.specs.View.{IsReady}
+use Rattle.network.proofs.Sums.{sum_to_zero}
 use Rattle.network.proofs.Ends.{not_sink, node_not_sink}
 use Rattle.network.specs.declared.flow.Flow.{Flow}
-
-pub sum_to_zero : (n : ℕ) (g : ℕ → ℕ) → ((i : ℕ) → g i ≡ 0) → sum_to n g ≡ 0
-sum_to_zero zero g e = refl
-sum_to_zero (suc n) g e = omega (arith, sum_to_zero n g e, e n)
 
 module _ {G : Type 0} {o : Ops G} (laws : IsWorth o) (f : Flow G)
     (few_supervisors : length f.supervisors.items ≤ 100) (few_projects : length f.projects.items ≤ 400)
@@ -25,7 +22,7 @@ module _ {G : Type 0} {o : Ops G} (laws : IsWorth o) (f : Flow G)
     (no_lists : f.lists.items ≡ []) (no_places : f.places.items ≡ [])
     (filled_long : length f.filled.items ≡ length f.projects.items) (filled : (i : ℕ) → slice_index f.filled.items i ≡ 0)
     (load_long : length f.load.items ≡ length f.supervisors.items) (load : (i : ℕ) → slice_index f.load.items i ≡ 0)
-    (heights_long : length f.heights.items ≡ length f.projects.items + length f.supervisors.items + 1) (heights : (i : ℕ) → height_at o f.heights.items i ≡ o.zero) where
+    (potentials_long : length f.potentials.items ≡ length f.projects.items + length f.supervisors.items + 1) (potentials : (i : ℕ) → potential_at o f.potentials.items i ≡ o.zero) where
 
   no_student : {X : Type 0} (s : ℕ) (x : X) (xs : List X) → xs ≡ [] → slice_get xs s ≡ Some x → ⊥
   no_student s x xs e h = let n = slice_get_within xs s x h in let z = ap length e in omega (arith, n, z)
@@ -36,15 +33,15 @@ module _ {G : Type 0} {o : Ops G} (laws : IsWorth o) (f : Flow G)
   none_listed : (s k p : ℕ) (w : G) → HasEntry f.lists.items s k p w → ⊥
   none_listed s k p w h = no_student s h.row f.lists.items no_lists h.student
 
-  zeros : (a b : ℕ) → AtMost o (height o f a) (height o f b)
-  zeros a b = rw (heights a, heights b) (at_most_refl laws o.zero)
+  zeros : (a b : ℕ) → AtMost o (potential o f a) (potential o f b)
+  zeros a b = rw (potentials a, potentials b) (at_most_refl laws o.zero)
 
   pub started : IsReady o f 0
   started = record {
     pushed = record {
       formed = record {
         students = ap length no_lists ∙ sym (ap length no_places);
-        filled = filled_long; load = load_long; heights = heights_long;
+        filled = filled_long; load = load_long; potentials = potentials_long;
         entries = λ s k p w h. absurd (none_listed s k p w h);
         placed = λ s k e. absurd (no_student s (Some k) f.places.items no_places e);
         projects = λ p l q e. (known p l q e).0;
@@ -62,9 +59,9 @@ module _ {G : Type 0} {o : Ops G} (laws : IsWorth o) (f : Flow G)
         waiting_least = at_most_refl laws o.zero;
         project = λ p l q e. zeros _ _;
         project_room = λ p l q e lt. zeros _ _;
-        supervisor = λ l lt. rw (heights (project_count f + l)) (at_most_refl laws o.zero);
-        supervisor_room = λ l lt room. rw (heights (project_count f + l)) (at_most_refl laws o.zero);
-        sink = heights _;
+        supervisor = λ l lt. rw (potentials (project_count f + l)) (at_most_refl laws o.zero);
+        supervisor_room = λ l lt room. rw (potentials (project_count f + l)) (at_most_refl laws o.zero);
+        sink = potentials _;
       };
       counted = record {
         project = λ p lt.
@@ -77,6 +74,6 @@ module _ {G : Type 0} {o : Ops G} (laws : IsWorth o) (f : Flow G)
         supervisor_within = λ l lt. omega (arith, load l);
       };
     };
-    low = λ v. rw (heights v, laws.span_zero) (omega arith);
+    low = λ v. rw (potentials v, laws.span_zero) (omega arith);
     counted = omega arith;
   }

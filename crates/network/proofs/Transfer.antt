@@ -9,7 +9,7 @@ use Rattle.spa.specs.Laws.{Ops, IsWorth, AtMost}
 use Rattle.network.specs.Marks.{mark_at, is_seen}
 use Rattle.network.specs.Search.{rank_or}
 use Rattle.network.specs.Arcs.{HasEntry, Holds, EntryArc, LeaveArc, OfferArc, SwapArc, RoomArc, Arc, OfStudent, sink_of, project_count, IsFormed}
-use Rattle.network.specs.Fair.{height, IsFair}
+use Rattle.network.specs.Fair.{potential, IsFair}
 use Rattle.network.specs.Push.{sum_to, one_if, entry_at, row_at, place_at, seat, seats, seats_of, IsCounted, IsStep, IsFirst, HasSteps}
 use Rattle.network.proofs.Entries.{entry_same}
 use Rattle.network.proofs.Students.{holds_same, holds_along}
@@ -86,7 +86,7 @@ module _ {G : Type 0} {o : Ops G} (laws : IsWorth o) (f : Flow G) (formed : IsFo
       still (Room l) c v' ne d = record { from_supervisor = d.from_supervisor; known = d.known; room = d.room; to_sink = d.to_sink; is = d.is }
 
   module _ (a b k : ℕ) (w : G) (was : Holds f s a) (entry : HasEntry f.lists.items s k b w) (x_is : x ≡ Some k)
-      (tight : o.plus w (height o f b) ≡ o.plus was.worth (height o f a)) where
+      (tight : o.plus w (potential o f b) ≡ o.plus was.worth (potential o f a)) where
 
     s_within : s < length f.places.items
     s_within = slice_get_within f.places.items s _ was.placed
@@ -98,10 +98,10 @@ module _ {G : Type 0} {o : Ops G} (laws : IsWorth o) (f : Flow G) (formed : IsFo
     holds_now = record { place = k; worth = w; placed = placed_now; entry = entry }
 
     -- a student's value stays
-    value_same : (t p : ℕ) → t ≡ s → (h : Holds N t p) → o.plus h.worth (height o f p) ≡ o.plus was.worth (height o f a)
+    value_same : (t p : ℕ) → t ≡ s → (h : Holds N t p) → o.plus h.worth (potential o f p) ≡ o.plus was.worth (potential o f a)
     value_same t p e h =
         let q = holds_along {f = N} (sym e) placed_now entry h in
-        ap (λ z. o.plus z (height o f p)) (sym q.1) ∙ ap (λ z. o.plus w (height o f z)) (sym q.0) ∙ tight
+        ap (λ z. o.plus z (potential o f p)) (sym q.1) ∙ ap (λ z. o.plus w (potential o f z)) (sym q.0) ∙ tight
 
     pub transfer_fair : (pending : ℕ) (top : G) → (s ≡ pending → ⊥) → IsFair o f pending top → IsFair o N pending top
     unfolding holds_before

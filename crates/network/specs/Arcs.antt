@@ -86,7 +86,7 @@ pub record IsFormed {G : Type 0} (o : Ops G) (f : Flow G) : Type 0 where
   pub students : length f.lists.items ≡ length f.places.items
   pub filled : length f.filled.items ≡ length f.projects.items
   pub load : length f.load.items ≡ length f.supervisors.items
-  pub heights : length f.heights.items ≡ sink_of f + 1
+  pub potentials : length f.potentials.items ≡ sink_of f + 1
   pub entries : (s k p : ℕ) (w : G) → HasEntry f.lists.items s k p w → (p < project_count f) × (o.span w ≤ 1)
   pub placed : (s k : ℕ) → slice_get f.places.items s ≡ Some (Some k) → (p : ℕ) × (w : G) × HasEntry f.lists.items s k p w
   pub projects : (p l q : ℕ) → slice_get f.projects.items p ≡ Some (l, q) → l < length f.supervisors.items
@@ -125,5 +125,5 @@ ProjectsBelow o f l label i (Swap m) x b = (b < i) × (m ≡ l) × ((q : ℕ) ×
 ProjectsBelow o f l label i (Room m) x b = ⊥
 
 -- list entries, students, and twice the projects and the supervisors
-abbrev pub arc_count : {G : Type 0} → Flow G → ℕ
-arc_count f = sum_by (λ row. length row.items + 1) f.lists.items + 2 * length f.projects.items + 2 * length f.supervisors.items
+abbrev pub flow_arcs : {G : Type 0} → Flow G → ℕ
+flow_arcs f = sum_by (λ row. length row.items + 1) f.lists.items + 2 * length f.projects.items + 2 * length f.supervisors.items

@@ -28,12 +28,12 @@ blank o = record { label = o.zero; origin = Unseen; rank = None }
 abbrev pub mark_at : {G : Type 0} → Ops G → List (Mark G) → ℕ → Mark G
 mark_at o marks v = slice_index_or marks v (blank o)
 
-abbrev pub height_at : {G : Type 0} → Ops G → List G → ℕ → G
-height_at o heights v = slice_index_or heights v o.zero
+abbrev pub potential_at : {G : Type 0} → Ops G → List G → ℕ → G
+potential_at o potentials v = slice_index_or potentials v o.zero
 
 -- the worth that a walk by this node may come to
 abbrev pub key_at : {G : Type 0} → Ops G → List (Mark G) → List G → ℕ → G
-key_at o marks heights v = o.plus (mark_at o marks v).label (height_at o heights v)
+key_at o marks potentials v = o.plus (mark_at o marks v).label (potential_at o potentials v)
 
 -- what one relaxation makes of a mark
 abbrev pub relaxed : {G : Type 0} → Ops G → Mark G → G → Origin → Mark G

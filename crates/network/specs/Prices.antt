@@ -1,21 +1,12 @@
 -- prices and their sums
-use Rattle.std.specs.Prelude.{◌≡◌, ℕ, ◌+◌, ◌*◌, ◌≤◌, ◌<◌, zero, suc, List, length, Option, Some, None, slice_get, slice_index, slice_index_or}
+use Rattle.std.specs.Prelude.{◌≡◌, ℕ, ◌+◌, ◌*◌, ◌≤◌, ◌<◌, List, length, Option, Some, None, slice_get, slice_index, slice_index_or}
 use Rattle.std.specs.declared.vec.Vec.{Vec}
 use Rattle.std.specs.declared.alloc.Global.{Global}
 use Rattle.spa.specs.Laws.{Ops, AtMost}
+use Rattle.network.specs.Seen.{multiple, sum_of}
 use Rattle.network.specs.Arcs.{project_count, HasEntry}
-use Rattle.network.specs.Fair.{height}
+use Rattle.network.specs.Fair.{potential}
 use Rattle.network.specs.declared.flow.Flow.{Flow}
-
--- the value added up n times
-abbrev pub times : {G : Type 0} → Ops G → ℕ → G → G
-times o zero x = o.zero
-times o (suc n) x = o.plus (times o n x) x
-
--- the sum of the values at the numbers below n
-abbrev pub sum_of : {G : Type 0} → Ops G → ℕ → (ℕ → G) → G
-sum_of o zero g = o.zero
-sum_of o (suc n) g = o.plus (sum_of o n g) (g n)
 
 abbrev pub at_entry : {G : Type 0} → Ops G → (ℕ → G → G) → Option (ℕ × G) → G
 at_entry o v None = o.zero
@@ -36,7 +27,7 @@ of_place o f v s = at_place o v (slice_get f.places.items s) (slice_get f.lists.
 
 -- the price of a student, of a project and of a supervisor
 abbrev pub student_price : {G : Type 0} → Ops G → Flow G → ℕ → G
-student_price o f = of_place o f (λ p w. o.plus w (height o f p))
+student_price o f = of_place o f (λ p w. o.plus w (potential o f p))
 
 abbrev pub quota_at : Option (ℕ × ℕ) → ℕ
 quota_at None = 0
@@ -44,27 +35,27 @@ quota_at (Some e) = e.1
 
 abbrev pub project_price_at : {G : Type 0} → Ops G → Flow G → ℕ → Option (ℕ × ℕ) → G
 project_price_at o f p None = o.zero
-project_price_at o f p (Some e) = o.minus (height o f (project_count f + e.0)) (height o f p)
+project_price_at o f p (Some e) = o.minus (potential o f (project_count f + e.0)) (potential o f p)
 
 abbrev pub project_price : {G : Type 0} → Ops G → Flow G → ℕ → G
 project_price o f p = project_price_at o f p (slice_get f.projects.items p)
 
 abbrev pub supervisor_price : {G : Type 0} → Ops G → Flow G → ℕ → G
-supervisor_price o f l = o.minus o.zero (height o f (project_count f + l))
+supervisor_price o f l = o.minus o.zero (potential o f (project_count f + l))
 
 -- the worth of all places together
-abbrev pub total_worth : {G : Type 0} → Ops G → Flow G → G
-total_worth o f = sum_of o (length f.lists.items) (of_place o f (λ p w. w))
+abbrev pub placed_worth : {G : Type 0} → Ops G → Flow G → G
+placed_worth o f = sum_of o (length f.lists.items) (of_place o f (λ p w. w))
 
 -- students' prices, projects' prices by quota and supervisors' prices by quota
 abbrev pub price_sum : {G : Type 0} → Ops G → Flow G → G
 price_sum o f =
     o.plus (o.plus (sum_of o (length f.lists.items) (student_price o f))
-        (sum_of o (length f.projects.items) (λ p. times o (quota_at (slice_get f.projects.items p)) (project_price o f p))))
-      (sum_of o (length f.supervisors.items) (λ l. times o (slice_index f.supervisors.items l) (supervisor_price o f l)))
+        (sum_of o (length f.projects.items) (λ p. multiple o (quota_at (slice_get f.projects.items p)) (project_price o f p))))
+      (sum_of o (length f.supervisors.items) (λ l. multiple o (slice_index f.supervisors.items l) (supervisor_price o f l)))
 
 -- the prices of a flow: none is below zero, they cover each listed pair, their spans are small, and their sum is the total worth
-pub record ArePrices {G : Type 0} (o : Ops G) (f : Flow G) : Type 0 where
+pub record PotentialPrices {G : Type 0} (o : Ops G) (f : Flow G) : Type 0 where
   pub students : (s : ℕ) → AtMost o o.zero (student_price o f s)
   pub projects : (p : ℕ) → AtMost o o.zero (project_price o f p)
   pub supervisors : (l : ℕ) → l < length f.supervisors.items → AtMost o o.zero (supervisor_price o f l)
@@ -73,4 +64,4 @@ pub record ArePrices {G : Type 0} (o : Ops G) (f : Flow G) : Type 0 where
   pub student_spans : (s : ℕ) → o.span (student_price o f s) ≤ 2007
   pub project_spans : (p : ℕ) → o.span (project_price o f p) ≤ 4012
   pub supervisor_spans : (l : ℕ) → o.span (supervisor_price o f l) ≤ 2006
-  pub equal : price_sum o f ≡ total_worth o f
+  pub equal : price_sum o f ≡ placed_worth o f

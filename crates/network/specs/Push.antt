@@ -6,7 +6,7 @@ use Rattle.spa.specs.Laws.{Ops, AtMost}
 use Rattle.network.specs.Marks.{mark_at, is_settled, is_seen}
 use Rattle.network.specs.Search.{rank_or}
 use Rattle.network.specs.Arcs.{HasEntry, Holds, Arc, OfStudent, project_count, sink_of, IsFormed}
-use Rattle.network.specs.Fair.{height, IsFair}
+use Rattle.network.specs.Fair.{potential, IsFair}
 use Rattle.network.specs.declared.flow.Flow.{Flow}
 use Rattle.network.specs.declared.marks.Origin.{Origin}
 use Rattle.network.specs.declared.marks.Mark.{Mark}
@@ -63,12 +63,12 @@ pub record IsStep {G : Type 0} (o : Ops G) (f : Flow G) (marks : List (Mark G)) 
   pub settled : (mark_at o marks before).rank ≡ Some rank
   pub earlier : rank < rank_or k (mark_at o marks v).rank
   pub along : Arc o f before (mark_at o marks v).origin worth v
-  pub tight : o.plus worth (height o f v) ≡ height o f before
+  pub tight : o.plus worth (potential o f v) ≡ potential o f before
 
 -- or the new student's own first step
 pub record IsFirst {G : Type 0} (o : Ops G) (f : Flow G) (marks : List (Mark G)) (fresh : ℕ) (top : G) (v : ℕ) : Type 0 where
   pub offered : OfStudent o f fresh o.zero (mark_at o marks v).origin (mark_at o marks v).label v
-  pub tight : o.plus (mark_at o marks v).label (height o f v) ≡ top
+  pub tight : o.plus (mark_at o marks v).label (potential o f v) ≡ top
 
 -- all nodes up to the hole have their step
 abbrev pub HasSteps : {G : Type 0} → Ops G → Flow G → List (Mark G) → ℕ → G → ℕ → ℕ → Type 0

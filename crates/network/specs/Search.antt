@@ -1,7 +1,7 @@
 -- what a search keeps of its marks
 use Rattle.std.specs.Prelude.{◌≡◌, ◌≢◌, ℕ, ◌+◌, ◌*◌, ◌≤◌, ◌<◌, ◌⊎◌, List, length, Option, Some, None, Bool, true, false, cond}
 use Rattle.spa.specs.Laws.{Ops, AtMost}
-use Rattle.network.specs.Marks.{is_seen, is_settled, is_open_mark, mark_at, height_at, key_at, blank, unsettled}
+use Rattle.network.specs.Marks.{is_seen, is_settled, is_open_mark, mark_at, potential_at, key_at, blank, unsettled}
 use Rattle.network.specs.declared.marks.Origin.{Origin}
 use Rattle.network.specs.declared.marks.Mark.{Mark}
 
@@ -47,39 +47,39 @@ pub record FromNode {G : Type 0} (o : Ops G) (arc : ℕ → Origin → G → ℕ
   pub label : (mark_at o marks b).label ≡ o.plus (mark_at o marks before).label worth
 
 -- the marks of a search after k nodes were settled: `first` is offered by the start, `arc a w c b` is an arc from a to b of worth c
-pub record IsSearch {G : Type 0} (o : Ops G) (first : Origin → G → ℕ → Type 0) (arc : ℕ → Origin → G → ℕ → Type 0) (heights : List G) (marks : List (Mark G)) (k : ℕ) : Type 0 where
+pub record IsSearch {G : Type 0} (o : Ops G) (first : Origin → G → ℕ → Type 0) (arc : ℕ → Origin → G → ℕ → Type 0) (potentials : List G) (marks : List (Mark G)) (k : ℕ) : Type 0 where
   pub from : (b : ℕ) → is_seen (mark_at o marks b).origin ≡ true → first (mark_at o marks b).origin (mark_at o marks b).label b ⊎ FromNode o arc marks k b
   pub ranks : (b r : ℕ) → (mark_at o marks b).rank ≡ Some r → (r < k) × (is_seen (mark_at o marks b).origin ≡ true)
   pub begun : (w : Origin) (x : G) (b : ℕ) → first w x b → Reaches o marks b x
   pub done : (a r : ℕ) (w : Origin) (c : G) (b : ℕ) → (mark_at o marks a).rank ≡ Some r → arc a w c b → Reaches o marks b (o.plus (mark_at o marks a).label c)
-  pub ordered : (a r b : ℕ) → (mark_at o marks a).rank ≡ Some r → is_open_mark (mark_at o marks b) ≡ true → AtMost o (key_at o marks heights b) (key_at o marks heights a)
+  pub ordered : (a r b : ℕ) → (mark_at o marks a).rank ≡ Some r → is_open_mark (mark_at o marks b) ≡ true → AtMost o (key_at o marks potentials b) (key_at o marks potentials a)
   pub spans : (b : ℕ) → o.span (mark_at o marks b).label ≤ 2 * k + 1
 
--- no arc leads up: what it is worth and the height at its end are together at most the height at its start
+-- no arc leads up: what it is worth and the potential at its end are together at most the potential at its start
 abbrev pub Feasible : {G : Type 0} → Ops G → (ℕ → Origin → G → ℕ → Type 0) → List G → Type 0
-Feasible {G} o arc heights = (a : ℕ) (w : Origin) (c : G) (b : ℕ) → arc a w c b → AtMost o (o.plus c (height_at o heights b)) (height_at o heights a)
+Feasible {G} o arc potentials = (a : ℕ) (w : Origin) (c : G) (b : ℕ) → arc a w c b → AtMost o (o.plus c (potential_at o potentials b)) (potential_at o potentials a)
 
 -- what one offer from a node is
 abbrev pub OffersOf : {G : Type 0} → Ops G → (ℕ → Origin → G → ℕ → Type 0) → ℕ → G → Origin → G → ℕ → Type 0
 OffersOf {G} o arc a d w x b = (c : G) × arc a w c b × (x ≡ o.plus d c)
 
--- the heights after a search: a settled node's is what the sink's label leaves above its own label
+-- the potentials after a search: a settled node's is what the sink's label leaves above its own label
 abbrev pub lowered : {G : Type 0} → Ops G → List (Mark G) → List G → G → ℕ → G
-lowered o marks heights top v = cond (is_settled (mark_at o marks v).rank) (o.minus top (mark_at o marks v).label) (height_at o heights v)
+lowered o marks potentials top v = cond (is_settled (mark_at o marks v).rank) (o.minus top (mark_at o marks v).label) (potential_at o potentials v)
 
 -- the end of a search: of all open nodes the sink's walk comes to the most
-pub record IsFound {G : Type 0} (o : Ops G) (first : Origin → G → ℕ → Type 0) (arc : ℕ → Origin → G → ℕ → Type 0) (heights : List G) (marks : List (Mark G)) (sink : ℕ) : Type 0 where
+pub record IsFound {G : Type 0} (o : Ops G) (first : Origin → G → ℕ → Type 0) (arc : ℕ → Origin → G → ℕ → Type 0) (potentials : List G) (marks : List (Mark G)) (sink : ℕ) : Type 0 where
   pub settled : ℕ
-  pub few : settled < length heights
-  pub search : IsSearch o first arc heights marks settled
+  pub few : settled < length potentials
+  pub search : IsSearch o first arc potentials marks settled
   pub opened : is_open_mark (mark_at o marks sink) ≡ true
-  pub best : (b : ℕ) → is_open_mark (mark_at o marks b) ≡ true → AtMost o (key_at o marks heights b) (key_at o marks heights sink)
+  pub best : (b : ℕ) → is_open_mark (mark_at o marks b) ≡ true → AtMost o (key_at o marks potentials b) (key_at o marks potentials sink)
 
 -- a search that chose its next node
-pub record IsRunning {G : Type 0} (o : Ops G) (first : Origin → G → ℕ → Type 0) (arc : ℕ → Origin → G → ℕ → Type 0) (heights : List G) (sink : ℕ) (marks : List (Mark G)) (rank node : ℕ) : Type 0 where
-  pub search : IsSearch o first arc heights marks rank
-  pub len : length marks ≡ length heights
-  pub left : rank + unsettled marks ≡ length heights
+pub record IsRunning {G : Type 0} (o : Ops G) (first : Origin → G → ℕ → Type 0) (arc : ℕ → Origin → G → ℕ → Type 0) (potentials : List G) (sink : ℕ) (marks : List (Mark G)) (rank node : ℕ) : Type 0 where
+  pub search : IsSearch o first arc potentials marks rank
+  pub len : length marks ≡ length potentials
+  pub left : rank + unsettled marks ≡ length potentials
   pub sink_open : is_open_mark (mark_at o marks sink) ≡ true
   pub chosen : is_open_mark (mark_at o marks node) ≡ true
-  pub best : (b : ℕ) → is_open_mark (mark_at o marks b) ≡ true → AtMost o (key_at o marks heights b) (key_at o marks heights node)
+  pub best : (b : ℕ) → is_open_mark (mark_at o marks b) ≡ true → AtMost o (key_at o marks potentials b) (key_at o marks potentials node)

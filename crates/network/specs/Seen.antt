@@ -1,30 +1,85 @@
--- what callers see of a network
-use Rattle.std.specs.Prelude.{◌≡◌, ℕ, ◌+◌, ◌*◌, ◌≤◌, ◌<◌, ◌^◌, List, [], ◌∷◌, ◌++◌, map, length, Option, Some, None, Bool, true, false, slice_get, sum_by}
-use Rattle.std.specs.declared.vec.Vec.{Vec}
-use Rattle.std.specs.declared.alloc.Global.{Global}
-use Rattle.spa.specs.Laws.{Ops}
-use Rattle.network.specs.Arcs.{project_count}
-use Rattle.network.specs.Fair.{IsLow}
-use Rattle.network.specs.Push.{IsPushed}
-use Rattle.network.specs.Marks.{height_at}
-use Rattle.network.specs.Prices.{ArePrices, student_price, project_price, supervisor_price}
-use Rattle.network.specs.declared.flow.Flow.{Flow}
+-- What callers see of a network: the rolls, the lists admitted so far with a best matching of them, and prices.
+use Rattle.std.specs.Prelude.{◌≡◌, ℕ, zero, suc, ◌+◌, ◌*◌, ◌≤◌, List, [], ◌∷◌, ◌++◌, map, length, sum_by, slice_get, slice_index_or, Option, Some, None, Bool, true, false}
+use Rattle.spa.specs.Laws.{Ops, AtMost}
+use Rattle.spa.specs.Shape.{Shape, supervisor_of, project_quota, supervisor_quota}
+use Rattle.spa.specs.Matched.{IsMatched}
+use Rattle.network.specs.declared.TheConstants.{LARGEST_PRICE}
 
--- the rolls, the lists of the students admitted, their places and the heights, and the relaxations since the start
+-- the value of a network
 pub record Seen (G : Type 0) : Type 0 where
+  -- each supervisor's quota
   pub supervisors : List ℕ
+  -- each project's supervisor and quota
   pub projects : List (ℕ × ℕ)
+  -- each student's projects with the worth of each pair, in the order of admission
   pub lists : List (List (ℕ × G))
+  -- each student's place in the list, or none
   pub places : List (Option ℕ)
-  pub heights : List G
+  -- the relaxations since the start
   pub steps : ℕ
 
-abbrev pub row_of : {G : Type 0} → Vec (ℕ × G) Global → List (ℕ × G)
-row_of r = r.items
+-- the instance by positions: the rolls, and the lists without their worths
+abbrev pub shape_of : {G : Type 0} → Seen G → Shape
+shape_of v = record { supervisors = v.supervisors; projects = v.projects; students = map (map (λ e. e.0)) v.lists }
 
-abbrev pub seen : {G : Type 0} → Flow G → ℕ → Seen G
-seen f steps = record { supervisors = f.supervisors.items; projects = f.projects.items; lists = map row_of f.lists.items; places = f.places.items; heights = f.heights.items; steps = steps }
+-- the price at a position, and zero past the end
+abbrev pub price : {G : Type 0} → Ops G → List G → ℕ → G
+price o prices n = slice_index_or prices n o.zero
 
+-- n times the value
+abbrev pub multiple : {G : Type 0} → Ops G → ℕ → G → G
+multiple o zero x = o.zero
+multiple o (suc n) x = o.plus (multiple o n x) x
+
+-- f 0 and so on, up to f (n - 1), added up
+abbrev pub sum_of : {G : Type 0} → Ops G → ℕ → (ℕ → G) → G
+sum_of o zero f = o.zero
+sum_of o (suc n) f = o.plus (sum_of o n f) (f n)
+
+-- all prices added up, those of projects and supervisors as often as their quotas
+abbrev pub price_total : {G : Type 0} → Ops G → Shape → (ℕ → G) → (ℕ → G) → (ℕ → G) → G
+price_total o i u y z =
+    o.plus
+      (o.plus (sum_of o (length i.students) u)
+        (sum_of o (length i.projects) (λ p. multiple o (project_quota i p) (y p))))
+      (sum_of o (length i.supervisors) (λ l. multiple o (supervisor_quota i l) (z l)))
+
+-- the worth at a place of a list
+abbrev pub worth_at : {G : Type 0} → Ops G → List (ℕ × G) → ℕ → G
+worth_at o list k = (slice_index_or list k (0, o.zero)).1
+
+-- the worths of the places added up
+abbrev pub total_worth : {G : Type 0} → Ops G → List (List (ℕ × G)) → List (Option ℕ) → G
+total_worth o [] ks = o.zero
+total_worth o (list ∷ lists) [] = o.zero
+total_worth o (list ∷ lists) (None ∷ ks) = total_worth o lists ks
+total_worth o (list ∷ lists) (Some k ∷ ks) = o.plus (worth_at o list k) (total_worth o lists ks)
+
+-- u, y and z price the students, the projects and the supervisors: none is below zero, a listed pair pays its worth at
+-- least, no price is large, and all together pay what the places are worth
+pub record ArePrices {G : Type 0} (o : Ops G) (v : Seen G) (u y z : List G) : Type 0 where
+  pub student_each : length u ≡ length v.lists
+  pub project_each : length y ≡ length v.projects
+  pub supervisor_each : length z ≡ length v.supervisors
+  pub students_above : (s : ℕ) → AtMost o o.zero (price o u s)
+  pub projects_above : (p : ℕ) → AtMost o o.zero (price o y p)
+  pub supervisors_above : (l : ℕ) → AtMost o o.zero (price o z l)
+  pub covered : (s k p : ℕ) (w : G) (list : List (ℕ × G)) → slice_get v.lists s ≡ Some list → slice_get list k ≡ Some (p, w)
+      → AtMost o w (o.plus (price o u s) (o.plus (price o y p) (price o z (supervisor_of (shape_of v) p))))
+  pub students_small : (s : ℕ) → o.span (price o u s) ≤ LARGEST_PRICE
+  pub projects_small : (p : ℕ) → o.span (price o y p) ≤ LARGEST_PRICE
+  pub supervisors_small : (l : ℕ) → o.span (price o z l) ≤ LARGEST_PRICE
+  pub equal : price_total o (shape_of v) (price o u) (price o y) (price o z) ≡ total_worth o v.lists v.places
+
+-- the places are a matching of the lists, and there are prices that show it to be a best one
+pub record IsPriced {G : Type 0} (o : Ops G) (v : Seen G) : Type 0 where
+  pub matched : IsMatched (shape_of v) v.places
+  pub students : List G
+  pub projects : List G
+  pub supervisors : List G
+  pub prices : ArePrices o v students projects supervisors
+
+-- a place, and no want of one
 abbrev pub is_place : Option (Option ℕ) → Bool
 is_place None = false
 is_place (Some None) = false
@@ -39,36 +94,15 @@ abbrev pub node_count : {G : Type 0} → Seen G → ℕ
 node_count v = length v.lists + length v.projects + length v.supervisors + 1
 
 -- list entries, students, and twice the projects and the supervisors
-abbrev pub arcs_of : {G : Type 0} → Seen G → ℕ
-arcs_of v = sum_by (λ row. length row + 1) v.lists + 2 * length v.projects + 2 * length v.supervisors
+abbrev pub arc_count : {G : Type 0} → Seen G → ℕ
+arc_count v = sum_by length v.lists + length v.lists + 2 * length v.projects + 2 * length v.supervisors
 
--- each entry names a known project, and its worth is small
-abbrev pub IsKnownList : {G : Type 0} → Ops G → ℕ → List (ℕ × G) → Type 0
-IsKnownList {G} o projects list = (k p : ℕ) (w : G) → slice_get list k ≡ Some (p, w) → (p < projects) × (o.span w ≤ 1)
-
--- what holds between two calls
-pub record IsReady {G : Type 0} (o : Ops G) (f : Flow G) (steps : ℕ) : Type 0 where
-  pub pushed : IsPushed o f
-  pub low : IsLow o f
-  pub counted : steps ≤ 2 ^ 22 * length f.lists.items
-
--- one student was admitted
-pub record IsAdmission {G : Type 0} (old new : Seen G) (list : List (ℕ × G)) (placed : Bool) (relaxations : ℕ) : Type 0 where
+-- a student was admitted with this list, and the places are a best matching again
+pub record IsAdmission {G : Type 0} (o : Ops G) (old new : Seen G) (list : List (ℕ × G)) (placed : Bool) (relaxations : ℕ) : Type 0 where
   pub lists : new.lists ≡ old.lists ++ list ∷ []
   pub projects : new.projects ≡ old.projects
   pub supervisors : new.supervisors ≡ old.supervisors
+  pub priced : IsPriced o new
   pub placed_is : placed ≡ is_placed new (length old.lists)
-  pub bound : relaxations ≤ (node_count new + 1) * arcs_of new
   pub counted : new.steps ≡ old.steps + relaxations
-
--- prices of a network: those of a flow that callers see as this
-pub record IsPricing {G : Type 0} (o : Ops G) (v : Seen G) (students projects supervisors : List G) : Type 0 where
-  pub flow : Flow G
-  pub is : seen flow v.steps ≡ v
-  pub hold : ArePrices o flow
-  pub student_count : length students ≡ length flow.lists.items
-  pub student_values : (s : ℕ) → s < length students → height_at o students s ≡ student_price o flow s
-  pub project_count_is : length projects ≡ length flow.projects.items
-  pub project_values : (p : ℕ) → p < length projects → height_at o projects p ≡ project_price o flow p
-  pub supervisor_count : length supervisors ≡ length flow.supervisors.items
-  pub supervisor_values : (l : ℕ) → l < length supervisors → height_at o supervisors l ≡ supervisor_price o flow l
+  pub bound : relaxations ≤ (node_count new + 1) * arc_count new

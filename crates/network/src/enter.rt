@@ -3,10 +3,11 @@
 ghost use Rattle.std.specs.Prelude.{◌≡◌, ℕ, ◌+◌, ◌-◌, ◌*◌, ◌<◌, ◌≤◌, ◌^◌, [], ◌∷◌, ◌++◌, length, slice_get, Some, None, IfOk, OnOk};
 ghost use Rattle.std.specs.Vec.{vec_len, vec_capacity};
 ghost use Rattle.network.specs.Marks.{mark_at, blank};
-ghost use Rattle.network.specs.Arcs.{project_count, sink_of, arc_count};
+ghost use Rattle.network.specs.Arcs.{project_count, sink_of, flow_arcs};
 ghost use Rattle.network.specs.Fair.{IsLow};
 ghost use Rattle.network.specs.Push.{IsPushed};
-ghost use Rattle.network.specs.Seen.{is_place, IsKnownList};
+ghost use Rattle.network.specs.Seen.{is_place};
+ghost use Rattle.network.specs.View.{IsKnownList};
 
 use crate::admit::place_new;
 use crate::flow::Flow;
@@ -14,10 +15,12 @@ use crate::marks::{Mark, Origin};
 use std::alloc::{AllocError, Global};
 use spa::Worth;
 
-/// Whether the student got a place, and how many relaxations it took.
+/// What an admission came to.
 #[derive(Clone, Copy, Debug, PartialEq, Eq)]
 pub struct Admitted {
+    /// Whether the new student has a place.
     pub placed: bool,
+    /// The labels that were compared across a residual arc.
     pub relaxations: u64,
 }
 
@@ -83,7 +86,7 @@ pub fn enter<G: Worth>(flow: &mut Flow<G>, row: Vec<(usize, G)>, marks: &mut [Ma
     requires known { IsKnownList G.ops (project_count flow.old) row.items }
     requires list_room { vec_len flow.old.lists < vec_capacity flow.old.lists }
     requires place_room { vec_len flow.old.places < vec_capacity flow.old.places }
-    requires marks { length marks.old ≡ length flow.old.heights.items }
+    requires marks { length marks.old ≡ length flow.old.potentials.items }
     requires blank { (b : ℕ) → mark_at G.ops marks.old b ≡ blank G.ops }
     ensures pushed { IsPushed G.ops flow.new }
     ensures low { IsLow G.ops flow.new }
@@ -91,7 +94,7 @@ pub fn enter<G: Worth>(flow: &mut Flow<G>, row: Vec<(usize, G)>, marks: &mut [Ma
     ensures projects { flow.new.projects ≡ flow.old.projects }
     ensures supervisors { flow.new.supervisors ≡ flow.old.supervisors }
     ensures placed { result.placed ≡ is_place (slice_get flow.new.places.items (length flow.old.lists.items)) }
-    ensures cost { result.relaxations ≤ length row.items + 1 + sink_of flow.new * arc_count flow.new }
+    ensures cost { result.relaxations ≤ length row.items + 1 + sink_of flow.new * flow_arcs flow.new }
 {
     let student = flow.lists.len();
     append(flow, row);

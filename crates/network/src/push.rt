@@ -8,7 +8,7 @@ ghost use Rattle.network.specs.Search.{rank_or};
 ghost use Rattle.network.specs.Arcs.{HasEntry, sink_of, project_count, IsFormed};
 ghost use Rattle.network.specs.Push.{IsPushing, IsPushed, IsNext};
 
-use crate::flow::Flow;
+use crate::flow::{Flow, place_of};
 use crate::marks::{Mark, Origin};
 use crate::relaxes::{entry, sink, supervisor_node};
 use spa::Worth;
@@ -50,14 +50,6 @@ fn load_up<G>(flow: &mut Flow<G>, supervisor: usize)
     ensures rest { flow.new ≡ record flow.old { load = flow.new.load } }
 {
     flow.load[supervisor] += 1;
-}
-
-/// The place of a student.
-fn place_of<G: Worth>(flow: &Flow<G>, student: usize) -> Option<usize>
-    requires { student < length flow.now.places.items }
-    ensures { slice_get flow.now.places.items student ≡ Some result }
-{
-    flow.places[student]
 }
 
 /// How a node was reached.

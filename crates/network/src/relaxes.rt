@@ -38,7 +38,7 @@ pub fn sink<G: Worth>(flow: &Flow<G>) -> usize
 /// One entry of a student's list is offered what the label makes of it.
 fn relax_entry<G: Worth>(flow: &Flow<G>, student: usize, place: usize, label: G, marks: &mut [Mark<G>], count: &mut u64)
     requires formed { IsFormed G.ops flow.now }
-    requires marks { length marks.old ≡ length flow.now.heights.items }
+    requires marks { length marks.old ≡ length flow.now.potentials.items }
     requires student { student < length flow.now.lists.items }
     requires place { (row : _) → slice_get flow.now.lists.items student ≡ Some row → place < length row.items }
     requires label { G.ops.span label < 2 ^ 32 }
@@ -53,7 +53,7 @@ fn relax_entry<G: Worth>(flow: &Flow<G>, student: usize, place: usize, label: G,
 /// Each entry of a student's list, and the sink, is offered what the label makes of it.
 pub fn relax_entries<G: Worth>(flow: &Flow<G>, student: usize, label: G, marks: &mut [Mark<G>], count: &mut u64)
     requires formed { IsFormed G.ops flow.now }
-    requires marks { length marks.old ≡ length flow.now.heights.items }
+    requires marks { length marks.old ≡ length flow.now.potentials.items }
     requires student { student < length flow.now.lists.items }
     requires label { G.ops.span label < 2 ^ 32 }
     requires count { count.old < 2 ^ 32 }
@@ -87,7 +87,7 @@ fn held<G: Worth>(flow: &Flow<G>, student: usize, project: usize) -> Option<G>
 /// The offers of one student, where placed at the project.
 fn relax_student<G: Worth>(flow: &Flow<G>, project: usize, student: usize, label: G, marks: &mut [Mark<G>], count: &mut u64)
     requires formed { IsFormed G.ops flow.now }
-    requires marks { length marks.old ≡ length flow.now.heights.items }
+    requires marks { length marks.old ≡ length flow.now.potentials.items }
     requires student { student < length flow.now.lists.items }
     requires label { G.ops.span label < 2 ^ 31 }
     requires count { count.old < 2 ^ 32 }
@@ -104,7 +104,7 @@ fn relax_student<G: Worth>(flow: &Flow<G>, project: usize, student: usize, label
 /// The offers of all students who are placed at the project.
 fn relax_students<G: Worth>(flow: &Flow<G>, project: usize, label: G, marks: &mut [Mark<G>], count: &mut u64)
     requires formed { IsFormed G.ops flow.now }
-    requires marks { length marks.old ≡ length flow.now.heights.items }
+    requires marks { length marks.old ≡ length flow.now.potentials.items }
     requires label { G.ops.span label < 2 ^ 31 }
     requires count { count.old < 2 ^ 31 }
     ensures relaxes { Relaxes G.ops (StudentsBelow G.ops flow.now project label (length flow.now.lists.items)) marks.old marks.new }
@@ -153,7 +153,7 @@ pub fn supervisor_node<G: Worth>(flow: &Flow<G>, supervisor: usize) -> usize
 /// The arcs out of a project.
 pub fn relax_project<G: Worth>(flow: &Flow<G>, at: usize, label: G, marks: &mut [Mark<G>], count: &mut u64)
     requires formed { IsFormed G.ops flow.now }
-    requires marks { length marks.old ≡ length flow.now.heights.items }
+    requires marks { length marks.old ≡ length flow.now.potentials.items }
     requires at { at < length flow.now.projects.items }
     requires label { G.ops.span label < 2 ^ 31 }
     requires count { count.old < 2 ^ 31 }
@@ -171,7 +171,7 @@ pub fn relax_project<G: Worth>(flow: &Flow<G>, at: usize, label: G, marks: &mut 
 /// A supervisor's offer to one project.
 fn relax_swap<G: Worth>(flow: &Flow<G>, supervisor: usize, at: usize, label: G, marks: &mut [Mark<G>], count: &mut u64)
     requires formed { IsFormed G.ops flow.now }
-    requires marks { length marks.old ≡ length flow.now.heights.items }
+    requires marks { length marks.old ≡ length flow.now.potentials.items }
     requires at { at < length flow.now.projects.items }
     requires count { count.old < 2 ^ 32 }
     ensures relaxes { (m : _) → Relaxes G.ops (ProjectsBelow G.ops flow.now supervisor label at) m marks.old → Relaxes G.ops (ProjectsBelow G.ops flow.now supervisor label (at + 1)) m marks.new }
@@ -186,7 +186,7 @@ fn relax_swap<G: Worth>(flow: &Flow<G>, supervisor: usize, at: usize, label: G, 
 /// A supervisor's offers to all projects.
 fn relax_swaps<G: Worth>(flow: &Flow<G>, supervisor: usize, label: G, marks: &mut [Mark<G>], count: &mut u64)
     requires formed { IsFormed G.ops flow.now }
-    requires marks { length marks.old ≡ length flow.now.heights.items }
+    requires marks { length marks.old ≡ length flow.now.potentials.items }
     requires count { count.old < 2 ^ 31 }
     ensures relaxes { Relaxes G.ops (ProjectsBelow G.ops flow.now supervisor label (length flow.now.projects.items)) marks.old marks.new }
     ensures cost { count.new ≤ count.old + length flow.now.projects.items }
@@ -199,7 +199,7 @@ fn relax_swaps<G: Worth>(flow: &Flow<G>, supervisor: usize, label: G, marks: &mu
 /// The arcs out of a supervisor.
 pub fn relax_supervisor<G: Worth>(flow: &Flow<G>, supervisor: usize, label: G, marks: &mut [Mark<G>], count: &mut u64)
     requires formed { IsFormed G.ops flow.now }
-    requires marks { length marks.old ≡ length flow.now.heights.items }
+    requires marks { length marks.old ≡ length flow.now.potentials.items }
     requires supervisor { supervisor < length flow.now.supervisors.items }
     requires label { G.ops.span label < 2 ^ 31 }
     requires count { count.old < 2 ^ 31 }

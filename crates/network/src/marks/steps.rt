@@ -4,7 +4,7 @@ ghost use Rattle.std.specs.Prelude.{◌≡◌, ℕ, ◌+◌, ◌-◌, ◌<◌, �
 ghost use Rattle.std.specs.Ordering.{is_gt};
 ghost use Rattle.spa.specs.Laws.{AtMost};
 ghost use Rattle.network.specs.Search.{Relaxes, OneOffer};
-ghost use Rattle.network.specs.Marks.{mark_at, height_at, key_at, relaxed, is_seen, is_settled, is_open_mark};
+ghost use Rattle.network.specs.Marks.{mark_at, potential_at, key_at, relaxed, is_seen, is_settled, is_open_mark};
 
 use super::{Mark, Origin};
 use spa::Worth;
@@ -72,30 +72,30 @@ fn is_open_at<G: Worth>(marks: &[Mark<G>], v: usize) -> bool
 }
 
 /// What a walk by the node may come to.
-fn key_of<G: Worth>(marks: &[Mark<G>], heights: &[G], v: usize) -> G
+fn key_of<G: Worth>(marks: &[Mark<G>], potentials: &[G], v: usize) -> G
     requires within { v < length marks.now }
-    requires heights { length heights.now ≡ length marks.now }
-    requires span { G.ops.span (mark_at G.ops marks.now v).label + G.ops.span (height_at G.ops heights.now v) < 2 ^ 63 }
-    ensures { result ≡ key_at G.ops marks.now heights.now v }
+    requires potentials { length potentials.now ≡ length marks.now }
+    requires span { G.ops.span (mark_at G.ops marks.now v).label + G.ops.span (potential_at G.ops potentials.now v) < 2 ^ 63 }
+    ensures { result ≡ key_at G.ops marks.now potentials.now v }
 {
-    marks[v].label.plus(heights[v])
+    marks[v].label.plus(potentials[v])
 }
 
 /// The open node whose walk can end highest, the last node where several can.
-pub fn best_open<G: Worth>(marks: &[Mark<G>], heights: &[G]) -> usize
+pub fn best_open<G: Worth>(marks: &[Mark<G>], potentials: &[G]) -> usize
     requires some { 0 < length marks.now }
     requires last_open { is_open_mark (mark_at G.ops marks.now (length marks.now - 1)) ≡ true }
-    requires heights { length heights.now ≡ length marks.now }
-    requires spans { (v : ℕ) → v < length marks.now → G.ops.span (mark_at G.ops marks.now v).label + G.ops.span (height_at G.ops heights.now v) < 2 ^ 63 }
+    requires potentials { length potentials.now ≡ length marks.now }
+    requires spans { (v : ℕ) → v < length marks.now → G.ops.span (mark_at G.ops marks.now v).label + G.ops.span (potential_at G.ops potentials.now v) < 2 ^ 63 }
     ensures within { result < length marks.now }
     ensures opened { is_open_mark (mark_at G.ops marks.now result) ≡ true }
-    ensures best { (w : ℕ) → w < length marks.now → is_open_mark (mark_at G.ops marks.now w) ≡ true → AtMost G.ops (key_at G.ops marks.now heights.now w) (key_at G.ops marks.now heights.now result) }
+    ensures best { (w : ℕ) → w < length marks.now → is_open_mark (mark_at G.ops marks.now w) ≡ true → AtMost G.ops (key_at G.ops marks.now potentials.now w) (key_at G.ops marks.now potentials.now result) }
 {
     let mut best = marks.len() - 1;
-    let mut top = key_of(marks, heights, best);
+    let mut top = key_of(marks, potentials, best);
     for v in 0..marks.len() {
         if is_open_at(marks, v) {
-            let key = key_of(marks, heights, v);
+            let key = key_of(marks, potentials, v);
             if exceeds(key, top) {
                 best = v;
                 top = key;
