@@ -34,7 +34,6 @@ module _ {G : Type 0} {o : Ops G} (laws : IsWorth o) where
       (running : IsRunning o first arc potentials sink marks rank node) (middle_is : middle ≡ set marks node (settled_as (mark_at o marks node) rank))
       (relaxed : Relaxes o (OffersOf o arc node (mark_at o marks node).label) middle new)
       (feasible : Feasible o arc potentials) (small : (a : ℕ) (w : Origin) (c : G) (b : ℕ) → arc a w c b → o.span c ≤ 2) (other : node ≡ sink → ⊥) where
-
     within : node < length marks
     within = open_within laws marks node running.chosen
 
@@ -103,9 +102,9 @@ ready_first {G} {o} laws f formed student marks new len fresh relaxed =
       sink_open = and_from _ _ sink.seen (unranked (mark_at o new (sink_of f)).rank (λ r e. let h = (search.ranks (sink_of f) r e).0 in omega (arith, h)));
       few = omega (arith, formed.potentials);
     } where
-    unranked : (r : Option ℕ) → ((k : ℕ) → r ≡ Some k → ⊥) → not (is_settled r) ≡ true
-    unranked None h = refl
-    unranked (Some k) h = absurd (h k refl)
+      unranked : (r : Option ℕ) → ((k : ℕ) → r ≡ Some k → ⊥) → not (is_settled r) ≡ true
+      unranked None h = refl
+      unranked (Some k) h = absurd (h k refl)
 
 -- what a choice needs of the labels
 pub ready_labels : {G : Type 0} {o : Ops G} (f : Flow G) → IsFormed o f → (first : Origin → G → ℕ → Type 0) (marks : List (Mark G)) (rank : ℕ)

@@ -27,15 +27,15 @@ slice_get-either [] y z zero e = inr (refl, same_Some _ _ e)
 slice_get-either [] y z (suc i) e = cc
 slice_get-either (x ∷ xs) y z zero e = inl e
 slice_get-either (x ∷ xs) y z (suc i) e = elim (slice_get-either xs y z i e) [
-    inl h ↦ inl h
-  | inr h ↦ inr (ap suc h.0, h.1) ]
+  | inl h ↦ inl h
+  | inr h ↦ inr (ap suc h.0, h.1)
+]
 
 module _ {G : Type 0} {o : Ops G} (f : Flow G) (pushed : IsPushed o f)
     (L : Vec (Vec (ℕ × G) Global) Global) (P : Vec (Option ℕ) Global) (row : Vec (ℕ × G) Global)
     (lists_are : L.items ≡ f.lists.items ++ row ∷ []) (places_are : P.items ≡ f.places.items ++ None ∷ [])
     (few : length f.lists.items < 500) (short : length row.items ≤ 12)
     (known : (k p : ℕ) (w : G) → slice_get row.items k ≡ Some (p, w) → (p < project_count f) × (o.span w ≤ 1)) where
-
   abbrev pub A : Flow G
   A = record f { lists = L; places = P }
 
@@ -56,18 +56,21 @@ module _ {G : Type 0} {o : Ops G} (f : Flow G) (pushed : IsPushed o f)
 
   place_old : (s k : ℕ) → slice_get P.items s ≡ Some (Some k) → slice_get f.places.items s ≡ Some (Some k)
   place_old s k e = elim (slice_get-either f.places.items None (Some k) s (subst (λ z. slice_get z s ≡ Some (Some k)) places_are e)) [
-      inl h ↦ h
-    | inr h ↦ absurd (let q = h.1 in cc) ]
+    | inl h ↦ h
+    | inr h ↦ absurd (let q = h.1 in cc)
+  ]
 
   none_old : (s : ℕ) → (s ≡ last → ⊥) → slice_get P.items s ≡ Some None → slice_get f.places.items s ≡ Some None
   none_old s ne e = elim (slice_get-either f.places.items None None s (subst (λ z. slice_get z s ≡ Some None) places_are e)) [
-      inl h ↦ h
-    | inr h ↦ absurd (ne (h.0 ∙ sym pushed.formed.students)) ]
+    | inl h ↦ h
+    | inr h ↦ absurd (ne (h.0 ∙ sym pushed.formed.students))
+  ]
 
   row_old : (s : ℕ) (r : Vec (ℕ × G) Global) → (s ≡ last → ⊥) → slice_get L.items s ≡ Some r → slice_get f.lists.items s ≡ Some r
   row_old s r ne e = elim (slice_get-either f.lists.items row r s (subst (λ z. slice_get z s ≡ Some r) lists_are e)) [
-      inl h ↦ h
-    | inr h ↦ absurd (ne h.0) ]
+    | inl h ↦ h
+    | inr h ↦ absurd (ne h.0)
+  ]
 
   entry_old : (s k p : ℕ) (w : G) → (s ≡ last → ⊥) → HasEntry L.items s k p w → HasEntry f.lists.items s k p w
   entry_old s k p w ne e = record { row = e.row; student = row_old s e.row ne e.student; place = e.place }
@@ -77,7 +80,9 @@ module _ {G : Type 0} {o : Ops G} (f : Flow G) (pushed : IsPushed o f)
 
   holds_old : (s a : ℕ) → Holds A s a → Holds f s a
   holds_old s a h = record {
-    place = h.place; worth = h.worth; placed = place_old s h.place h.placed;
+    place = h.place;
+    worth = h.worth;
+    placed = place_old s h.place h.placed;
     entry = entry_old s h.place a h.worth (not_last s h.place h.placed) h.entry;
   }
 
@@ -87,31 +92,43 @@ module _ {G : Type 0} {o : Ops G} (f : Flow G) (pushed : IsPushed o f)
     placed = λ s a k p w h e. pushed.fair.placed s a k p w (holds_old s a h) (entry_old s k p w (not_last s h.place h.placed) e);
     placed_least = λ s a h. pushed.fair.placed_least s a (holds_old s a h);
     unplaced = λ s k p w ne none e. pushed.fair.unplaced s k p w ne (none_old s ne none) (entry_old s k p w ne e);
-    project = pushed.fair.project; project_room = pushed.fair.project_room; supervisor = pushed.fair.supervisor; supervisor_room = pushed.fair.supervisor_room; sink = pushed.fair.sink;
+    project = pushed.fair.project;
+    project_room = pushed.fair.project_room;
+    supervisor = pushed.fair.supervisor;
+    supervisor_room = pushed.fair.supervisor_room;
+    sink = pushed.fair.sink;
   }
 
   row_cases : (s : ℕ) (r : Vec (ℕ × G) Global) → slice_get L.items s ≡ Some r → (slice_get f.lists.items s ≡ Some r) ⊎ (row ≡ r)
   row_cases s r e = elim (slice_get-either f.lists.items row r s (subst (λ z. slice_get z s ≡ Some r) lists_are e)) [
-      inl h ↦ inl h
-    | inr h ↦ inr h.1 ]
+    | inl h ↦ inl h
+    | inr h ↦ inr h.1
+  ]
 
   pub appended_formed : IsFormed o A
   appended_formed = record {
     students = omega (arith, lists_long, places_long, pushed.formed.students);
-    filled = pushed.formed.filled; load = pushed.formed.load; potentials = pushed.formed.potentials;
+    filled = pushed.formed.filled;
+    load = pushed.formed.load;
+    potentials = pushed.formed.potentials;
     entries = λ s k p w e. elim (row_cases s e.row e.student) [
-        inl h ↦ pushed.formed.entries s k p w (record { row = e.row; student = h; place = e.place })
-      | inr h ↦ known k p w (ap (λ (r : Vec (ℕ × G) Global). slice_get r.items k) h ∙ e.place) ];
+      | inl h ↦ pushed.formed.entries s k p w (record { row = e.row; student = h; place = e.place })
+      | inr h ↦ known k p w (ap (λ (r : Vec (ℕ × G) Global). slice_get r.items k) h ∙ e.place)
+    ];
     placed = λ s k e.
-      let h = pushed.formed.placed s k (place_old s k e) in
-      let lt = slice_get_within f.lists.items s _ h.2.student in
-      (h.0, h.1, record { row = h.2.row; student = ap (λ z. slice_get z s) lists_are ∙ slice_get-before f.lists.items row s lt ∙ h.2.student; place = h.2.place });
-    projects = pushed.formed.projects; quotas = pushed.formed.quotas; loads = pushed.formed.loads;
+        let h = pushed.formed.placed s k (place_old s k e) in
+        let lt = slice_get_within f.lists.items s _ h.2.student in
+        (h.0, h.1, record { row = h.2.row; student = ap (λ z. slice_get z s) lists_are ∙ slice_get-before f.lists.items row s lt ∙ h.2.student; place = h.2.place });
+    projects = pushed.formed.projects;
+    quotas = pushed.formed.quotas;
+    loads = pushed.formed.loads;
     few_students = omega (arith, lists_long, few);
-    few_projects = pushed.formed.few_projects; few_supervisors = pushed.formed.few_supervisors;
+    few_projects = pushed.formed.few_projects;
+    few_supervisors = pushed.formed.few_supervisors;
     short = λ s r e. elim (row_cases s r e) [
-        inl h ↦ pushed.formed.short s r h
-      | inr h ↦ subst (λ (z : Vec (ℕ × G) Global). length z.items ≤ 12) h short ];
+      | inl h ↦ pushed.formed.short s r h
+      | inr h ↦ subst (λ (z : Vec (ℕ × G) Global). length z.items ≤ 12) h short
+    ];
   }
 
   seat_same : (p s : ℕ) → s < last → seat f p s ≡ seat A p s

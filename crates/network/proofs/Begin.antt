@@ -79,12 +79,15 @@ module _ {G : Type 0} {o : Ops G} (laws : IsWorth o) where
     closed : (b k : ℕ) → (mark_at o n b).rank ≡ Some k → (mark_at o n b ≡ mark_at o m b) ⊎ Replaced o first b (mark_at o m b) (mark_at o n b) → ⊥
     closed b k e (inl f) = let g : None ≡ Some k = sym (ap (λ (z : Mark G). z.rank) (f ∙ fresh b)) ∙ e in cc
     closed b k e (inr f) = let g : None ≡ Some k = sym f.is_open ∙ e in cc
+
     go_from : (b : ℕ) → is_seen (mark_at o n b).origin ≡ true → (mark_at o n b ≡ mark_at o m b) ⊎ Replaced o first b (mark_at o m b) (mark_at o n b) → first (mark_at o n b).origin (mark_at o n b).label b ⊎ FromNode o arc n 0 b
     go_from b e (inl f) = absurd (let g : false ≡ true = sym (ap (λ (z : Mark G). is_seen z.origin) (f ∙ fresh b)) ∙ e in cc)
     go_from b e (inr f) = inl f.offered
+
     go_begun : (x : G) (b : ℕ) → Taken o n b x → Reaches o n b x
     go_begun x b (inl s) = let t = settled_rank (mark_at o n b).rank s in absurd (closed b t.0 t.1 (r.moves b))
     go_begun x b (inr s) = s
+
     go_span : (b : ℕ) → (mark_at o n b ≡ mark_at o m b) ⊎ Replaced o first b (mark_at o m b) (mark_at o n b) → o.span (mark_at o n b).label ≤ 2 * 0 + 1
     go_span b (inl f) = let g : (mark_at o n b).label ≡ o.zero = ap (λ (z : Mark G). z.label) (f ∙ fresh b) in rw g (omega (arith, laws.span_zero))
     go_span b (inr f) = omega (arith, small _ _ _ f.offered)

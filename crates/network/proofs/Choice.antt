@@ -21,12 +21,16 @@ module _ {G : Type 0} {o : Ops G} (laws : IsWorth o) {P : ℕ → Bool} {key : �
 
   pub best_keep : Best o P key n i best top → is_gt (o.cmp (key i) top) ≡ false → Best o P key n (i + 1) best top
   best_keep b h = record {
-    within = b.within; opened = b.opened; is = b.is;
+    within = b.within;
+    opened = b.opened;
+    is = b.is;
     below = below_more _ i b.below (λ _. h);
   }
 
   pub best_skip : Best o P key n i best top → P i ≡ false → Best o P key n (i + 1) best top
   best_skip b h = record {
-    within = b.within; opened = b.opened; is = b.is;
+    within = b.within;
+    opened = b.opened;
+    is = b.is;
     below = below_more _ i b.below (λ q. absurd (cc));
   }

@@ -73,9 +73,9 @@ module _ {G : Type 0} {o : Ops G} (laws : IsWorth o) where
       projects = λ p. project_least p (slice_get f.projects.items p) refl;
       supervisors = λ l lt. rest_least _ _ (pushed.fair.supervisor l lt);
       covered = λ s k p l q w h e.
-        let y : project_price o f p ≡ o.minus (H (project_count f + l)) (H p) = ap (project_price_at o f p) e in
-        let left = price_left (student_price o f s) (H (project_count f + l)) (H p) in
-        at_most_back laws _ _ (H p) (rw (y, left) (student_covers s k p w (slice_get f.places.items s) refl h));
+          let y : project_price o f p ≡ o.minus (H (project_count f + l)) (H p) = ap (project_price_at o f p) e in
+          let left = price_left (student_price o f s) (H (project_count f + l)) (H p) in
+          at_most_back laws _ _ (H p) (rw (y, left) (student_covers s k p w (slice_get f.places.items s) refl h));
       student_spans = λ s. student_span s (slice_get f.places.items s) refl;
       project_spans = λ p. project_span p (slice_get f.projects.items p);
       supervisor_spans = λ l. omega (arith, laws.span_minus o.zero (H (project_count f + l)), laws.span_zero, low (project_count f + l));

@@ -36,7 +36,6 @@ module _ {G : Type 0} {o : Ops G} (laws : IsWorth o) (f n : Flow G) (formed : Is
     (feasible : (a : ℕ) (w : Origin) (c : G) (b : ℕ) → Arc o f a w c b → AtMost o (o.plus c (low b)) (low a))
     (first : (w : Origin) (x : G) (b : ℕ) → OfStudent o f fresh o.zero w x b → AtMost o (o.plus x (low b)) top)
     (low_sink : low (sink_of f) ≡ o.zero) where
-
   pub fair_placed : (s a k p : ℕ) (w : G) (h : Holds f s a) → HasEntry f.lists.items s k p w → AtMost o (o.plus w (low p)) (o.plus h.worth (low a))
   fair_placed s a k p w h e = moved_over laws w h.worth _ _ (feasible a (Entry s k) (o.minus w h.worth) p (record { holds = h; worth = w; entry = e; is = refl }))
 

@@ -30,8 +30,9 @@ module _ {G : Type 0} {o : Ops G} (laws : IsWorth o) where
   pub sum_of_pick : (n i : ℕ) (g : ℕ → G) → i < n → ((j : ℕ) → (j ≡ i → ⊥) → g j ≡ o.zero) → sum_of o n g ≡ g i
   sum_of_pick zero i g lt e = absurd (omega (arith, lt))
   sum_of_pick (suc n) i g lt e = elim (cases_eq i n) [
-      inl q ↦ ap (λ z. o.plus z (g n)) (sum_of_zero n g (λ j l. e j (λ z. omega (arith, z, q, l)))) ∙ zero_left laws (g n) ∙ ap g (sym q)
-    | inr ne ↦ ap (λ z. o.plus z (g n)) (sum_of_pick n i g (omega (arith, lt, ne)) e) ∙ ap (o.plus (g i)) (e n (λ z. ne (sym z))) ∙ laws.unit (g i) ]
+    | inl q ↦ ap (λ z. o.plus z (g n)) (sum_of_zero n g (λ j l. e j (λ z. omega (arith, z, q, l)))) ∙ zero_left laws (g n) ∙ ap g (sym q)
+    | inr ne ↦ ap (λ z. o.plus z (g n)) (sum_of_pick n i g (omega (arith, lt, ne)) e) ∙ ap (o.plus (g i)) (e n (λ z. ne (sym z))) ∙ laws.unit (g i)
+  ]
 
   pub times_zero : (n : ℕ) → multiple o n o.zero ≡ o.zero
   times_zero zero = refl

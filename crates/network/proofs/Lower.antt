@@ -18,7 +18,6 @@ module _ {G : Type 0} {o : Ops G} (laws : IsWorth o) (first : Origin → G → �
     (opened : is_open_mark (mark_at o marks sink) ≡ true)
     (best : (b : ℕ) → is_open_mark (mark_at o marks b) ≡ true → AtMost o (key_at o marks potentials b) (key_at o marks potentials sink))
     (zero_sink : potential_at o potentials sink ≡ o.zero) where
-
   abbrev pub label : ℕ → G
   label v = (mark_at o marks v).label
 
@@ -38,16 +37,17 @@ module _ {G : Type 0} {o : Ops G} (laws : IsWorth o) (first : Origin → G → �
 
   low_of : (v : ℕ) → Low v
   low_of v = elim (cases_Bool (is_settled (mark_at o marks v).rank)) [
-      inl s ↦ (let t = settled_rank (mark_at o marks v).rank s in
+    | inl s ↦ (let t = settled_rank (mark_at o marks v).rank s in
         sunk t.0 t.1 (rw (cond-true (is_settled (mark_at o marks v).rank) (o.minus top (label v)) (potential_at o potentials v) s) (laws.undo top (label v)))
-          (subst (λ z. AtMost o z (key_at o marks potentials v)) key_sink (search.ordered v t.0 sink t.1 opened)))
-    | inr s ↦ kept s (cond-false (is_settled (mark_at o marks v).rank) (o.minus top (label v)) (potential_at o potentials v) s) ]
+        (subst (λ z. AtMost o z (key_at o marks potentials v)) key_sink (search.ordered v t.0 sink t.1 opened)))
+    | inr s ↦ kept s (cond-false (is_settled (mark_at o marks v).rank) (o.minus top (label v)) (potential_at o potentials v) s)
+  ]
 
   -- a node that was reached and is not settled can end no higher than the sink
   open_below : (b : ℕ) → is_seen (mark_at o marks b).origin ≡ true → is_settled (mark_at o marks b).rank ≡ false → AtMost o (o.plus (label b) (potential_at o potentials b)) top
   open_below b s e =
       subst (λ z. AtMost o (key_at o marks potentials b) z) key_sink
-        (best b (and_from (is_seen (mark_at o marks b).origin) (not (is_settled (mark_at o marks b).rank)) s (not_settled_false _ e)))
+      (best b (and_from (is_seen (mark_at o marks b).origin) (not (is_settled (mark_at o marks b).rank)) s (not_settled_false _ e)))
 
   pub falls : (v : ℕ) → AtMost o (low v) (potential_at o potentials v)
   falls v = go (low_of v) where
@@ -82,7 +82,7 @@ module _ {G : Type 0} {o : Ops G} (laws : IsWorth o) (first : Origin → G → �
   pub tight_arc : (b : ℕ) → (b ≡ sink) ⊎ (is_settled (mark_at o marks b).rank ≡ true) → (f : FromNode o arc marks k b) → o.plus f.worth (low b) ≡ low f.before
   tight_arc b h f =
       tight laws (label f.before) (label b) f.worth (low f.before) (low b) top
-        (meets f.before (inr (rw f.settled refl))) (meets b h) f.label
+      (meets f.before (inr (rw f.settled refl))) (meets b h) f.label
 
   pub tight_first : (b : ℕ) → (b ≡ sink) ⊎ (is_settled (mark_at o marks b).rank ≡ true) → o.plus (label b) (low b) ≡ top
   tight_first b h = laws.comm (label b) (low b) ∙ meets b h

@@ -105,17 +105,17 @@ by_project owns n [] a = sym (sum_to_zero n (λ p. one_if (owns p) * 0) (λ p. o
 by_project owns n (e ∷ M) a =
     let rest = by_project owns n M a.1 in
     let other : (j : ℕ) → (j ≡ e.project → ⊥) → one_if (owns j) * count_by (λ (x : Pair). x.project == j) M ≡ one_if (owns j) * count_by (λ (x : Pair). x.project == j) (e ∷ M) = λ j ne.
-      ap (λ z. one_if (owns j) * z) (
-        let f : one_if (eqb e.project j) ≡ 0 = ap one_if (ne_eqb e.project j (λ x. ne (sym x))) in
-        let c = sum_by-cons (λ (x : Pair). cond (x.project == j) 1 0) e M in
-        omega (arith, c, f, cond_one (eqb e.project j))) in
+    ap (λ z. one_if (owns j) * z) (
+    let f : one_if (eqb e.project j) ≡ 0 = ap one_if (ne_eqb e.project j (λ x. ne (sym x))) in
+    let c = sum_by-cons (λ (x : Pair). cond (x.project == j) 1 0) e M in
+    omega (arith, c, f, cond_one (eqb e.project j))) in
     let change = sum_to_change n e.project (λ p. one_if (owns p) * count_by (λ (x : Pair). x.project == p) M) (λ p. one_if (owns p) * count_by (λ (x : Pair). x.project == p) (e ∷ M)) a.0 other in
     let one : count_by (λ (x : Pair). x.project == e.project) (e ∷ M) ≡ 1 + count_by (λ (x : Pair). x.project == e.project) M = (
-      let f : one_if (eqb e.project e.project) ≡ 1 = ap one_if (eq-eqb e.project e.project refl) in
-      let c = sum_by-cons (λ (x : Pair). cond (x.project == e.project) 1 0) e M in
-      omega (arith, c, f, cond_one (eqb e.project e.project))) in
+    let f : one_if (eqb e.project e.project) ≡ 1 = ap one_if (eq-eqb e.project e.project refl) in
+    let c = sum_by-cons (λ (x : Pair). cond (x.project == e.project) 1 0) e M in
+    omega (arith, c, f, cond_one (eqb e.project e.project))) in
     let here : one_if (owns e.project) * count_by (λ (x : Pair). x.project == e.project) (e ∷ M) ≡ one_if (owns e.project) + one_if (owns e.project) * count_by (λ (x : Pair). x.project == e.project) M =
-      ap (λ z. one_if (owns e.project) * z) one ∙ omega arith in
+    ap (λ z. one_if (owns e.project) * z) one ∙ omega arith in
     let head = sum_by-cons (λ (x : Pair). cond (owns x.project) 1 0) e M in
     omega (arith, rest, change, here, head, cond_one (owns e.project))
 
@@ -165,9 +165,10 @@ known_from n m (r ∷ rows) [] a known = tt
 known_from n m (r ∷ rows) (None ∷ ks) a known =
     known_from (suc n) m rows ks (rest_in r rows None ks a) (λ s k p w h. known (suc s) k p w (record { row = h.row; student = h.student; place = h.place }))
 known_from n m (r ∷ rows) (Some k ∷ ks) a known =
-    let h = a 0 k refl in
-    (rw (first_project r rows k h.0 h.1 h.2).1 (known 0 k h.0 h.1 h.2),
-     known_from (suc n) m rows ks (rest_in r rows (Some k) ks a) (λ s k p w h. known (suc s) k p w (record { row = h.row; student = h.student; place = h.place })))
+    let h = a 0 k refl in (
+      rw (first_project r rows k h.0 h.1 h.2).1 (known 0 k h.0 h.1 h.2),
+      known_from (suc n) m rows ks (rest_in r rows (Some k) ks a) (λ s k p w h. known (suc s) k p w (record { row = h.row; student = h.student; place = h.place })),
+    )
 
 module _ {G : Type 0} {o : Ops G} (f : Flow G) (steps : ℕ) (pushed : IsPushed o f) where
   abbrev i : Shape
@@ -190,9 +191,9 @@ module _ {G : Type 0} {o : Ops G} (f : Flow G) (steps : ℕ) (pushed : IsPushed 
   has_places = record {
     one_each = sym (students_seen ∙ pushed.formed.students);
     in_list = λ s k e.
-      let h = pushed.formed.placed s k e in
-      let at = slice_get_within h.2.row.items k _ h.2.place in
-      rw (list_seen s h.2.row h.2.student, length-map h.2.row.items (λ (e : ℕ × G). e.0)) at;
+        let h = pushed.formed.placed s k e in
+        let at = slice_get_within h.2.row.items k _ h.2.place in
+        rw (list_seen s h.2.row h.2.student, length-map h.2.row.items (λ (e : ℕ × G). e.0)) at;
   }
 
   abbrev M : List Pair
@@ -230,8 +231,8 @@ module _ {G : Type 0} {o : Ops G} (f : Flow G) (steps : ℕ) (pushed : IsPushed 
       listed = All-from_recursion (λ e. Contains (list_of i e.student) e.project) M listed;
       student_once = λ s. one_at_most s 0 i.students ks;
       project_within = within_all (λ e. e.project) (length f.projects.items) (project_quota i) M projects
-        (λ p lt. let w = pushed.counted.project_within p _ _ (project_seen p lt) in omega (arith, w, filled_by p lt));
+          (λ p lt. let w = pushed.counted.project_within p _ _ (project_seen p lt) in omega (arith, w, filled_by p lt));
       supervisor_within = within_all (λ e. supervisor_of i e.project) (length f.supervisors.items) (supervisor_quota i) M supervisors
-        (λ l lt. omega (arith, pushed.counted.supervisor_within l lt, loaded_by l lt));
+          (λ l lt. omega (arith, pushed.counted.supervisor_within l lt, loaded_by l lt));
     };
   }

@@ -36,8 +36,9 @@ module _ {G : Type 0} {o : Ops G} (laws : IsWorth o) where
   -- what holds of each price and of zero holds at every position
   each_price : (P : G → Type 0) (xs : List G) (g : ℕ → G) → ((i : ℕ) → i < length xs → price o xs i ≡ g i) → ((i : ℕ) → i < length xs → P (g i)) → P o.zero → (i : ℕ) → P (price o xs i)
   each_price P xs g same each none i = elim (cases_lt i (length xs)) [
-      inl lt ↦ subst P (sym (same i lt)) (each i lt)
-    | inr past ↦ subst P (sym (get_or_past xs i o.zero past)) none ]
+    | inl lt ↦ subst P (sym (same i lt)) (each i lt)
+    | inr past ↦ subst P (sym (get_or_past xs i o.zero past)) none
+  ]
 
   -- the worth of an entry
   entry_worth : (xs : List (ℕ × G)) (k : ℕ) → at_entry o (λ p w. w) (slice_get xs k) ≡ worth_at o xs k
@@ -72,7 +73,6 @@ module _ {G : Type 0} {o : Ops G} (laws : IsWorth o) where
         (u_long : length u ≡ length f.lists.items) (u_is : (s : ℕ) → s < length u → price o u s ≡ student_price o f s)
         (y_long : length y ≡ length f.projects.items) (y_is : (p : ℕ) → p < length y → price o y p ≡ project_price o f p)
         (z_long : length z ≡ length f.supervisors.items) (z_is : (l : ℕ) → l < length z → price o z l ≡ supervisor_price o f l) where
-
       students_sum : sum_of o (length i.students) (price o u) ≡ sum_of o (length f.lists.items) (student_price o f)
       students_sum = ap (λ n. sum_of o n (price o u)) (students_seen f steps pushed)
           ∙ sum_of_same laws (length f.lists.items) (price o u) (student_price o f) (λ s lt. u_is s (omega (arith, lt, u_long)))
@@ -102,7 +102,7 @@ module _ {G : Type 0} {o : Ops G} (laws : IsWorth o) where
           let known = pushed.formed.projects p _ _ (project_seen p lt) in
           let c = hold.covered s k p (supervisor_of i p) (project_quota i p) w h (project_seen p lt) in
           rw (u_is s (omega (arith, here, u_long)), y_is p (omega (arith, lt, y_long)), z_is (supervisor_of i p) (omega (arith, known, z_long)))
-            (subst (AtMost o w) (laws.assoc (student_price o f s) (project_price o f p) (supervisor_price o f (supervisor_of i p))) c)
+          (subst (AtMost o w) (laws.assoc (student_price o f s) (project_price o f p) (supervisor_price o f (supervisor_of i p))) c)
 
       zero_small : o.span o.zero ≤ 4012
       zero_small = omega (arith, laws.span_zero)
@@ -132,7 +132,7 @@ module _ {G : Type 0} {o : Ops G} (laws : IsWorth o) where
         projects = by_position P (project_price o f);
         supervisors = by_position L (supervisor_price o f);
         prices = prices_of f steps ready.pushed ready.low (by_position S (student_price o f)) (by_position P (project_price o f)) (by_position L (supervisor_price o f))
-          (by_position_long S (student_price o f)) (by_position_at o S (student_price o f))
-          (by_position_long P (project_price o f)) (by_position_at o P (project_price o f))
-          (by_position_long L (supervisor_price o f)) (by_position_at o L (supervisor_price o f));
+            (by_position_long S (student_price o f)) (by_position_at o S (student_price o f))
+            (by_position_long P (project_price o f)) (by_position_at o P (project_price o f))
+            (by_position_long L (supervisor_price o f)) (by_position_at o L (supervisor_price o f));
       }

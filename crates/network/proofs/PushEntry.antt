@@ -22,8 +22,6 @@ use Rattle.network.specs.declared.marks.Origin.{Origin}
 use Rattle.network.specs.declared.marks.Origin.TheVariants.{Unseen, Entry, Leave, Offer, Swap, Room}
 use Rattle.network.specs.declared.marks.Mark.{Mark}
 
-
-
 module _ {G : Type 0} {o : Ops G} (laws : IsWorth o) (f : Flow G) (formed : IsFormed o f) (P : Vec (Option ℕ) Global) (s : ℕ) (x : Option ℕ)
     (set_is : P.items ≡ set f.places.items s x) (within : s < length f.places.items) where
   abbrev pub N : Flow G
@@ -33,17 +31,26 @@ module _ {G : Type 0} {o : Ops G} (laws : IsWorth o) (f : Flow G) (formed : IsFo
   pub placed_formed : ((k : ℕ) → x ≡ Some k → (p : ℕ) × (w : G) × HasEntry f.lists.items s k p w) → IsFormed o N
   placed_formed known = record {
     students = formed.students ∙ sym (ap length set_is ∙ length-set f.places.items s x);
-    filled = formed.filled; load = formed.load; potentials = formed.potentials; entries = formed.entries;
+    filled = formed.filled;
+    load = formed.load;
+    potentials = formed.potentials;
+    entries = formed.entries;
     placed = λ t k e. elim (cases_eq t s) [
-        inl q ↦ (let z : Some x ≡ Some (Some k) = sym (rw set_is (slice_get-set_same f.places.items s x within)) ∙ (rw q at e) in
+      | inl q ↦ (let z : Some x ≡ Some (Some k) = sym (rw set_is (slice_get-set_same f.places.items s x within)) ∙ (rw q at e) in
           let kn = known k (same_Some _ _ z) in rw q kn)
-      | inr ne ↦ formed.placed t k (sym (place_other laws f formed P s x set_is t ne) ∙ e) ];
-    projects = formed.projects; quotas = formed.quotas; loads = formed.loads; few_students = formed.few_students; few_projects = formed.few_projects; few_supervisors = formed.few_supervisors; short = formed.short;
+      | inr ne ↦ formed.placed t k (sym (place_other laws f formed P s x set_is t ne) ∙ e)
+    ];
+    projects = formed.projects;
+    quotas = formed.quotas;
+    loads = formed.loads;
+    few_students = formed.few_students;
+    few_projects = formed.few_projects;
+    few_supervisors = formed.few_supervisors;
+    short = formed.short;
   }
 
 module _ {G : Type 0} {o : Ops G} (laws : IsWorth o) (f : Flow G) (marks : List (Mark G)) (fresh : ℕ) (top : G) (hole s k : ℕ) (pushing : IsPushing o f marks fresh top hole)
     (origin : (mark_at o marks hole).origin ≡ Entry s k) (P : Vec (Option ℕ) Global) (set_is : P.items ≡ set f.places.items s (Some k)) where
-
   abbrev pub Placed : Flow G
   Placed = record f { places = P }
 
@@ -55,13 +62,14 @@ module _ {G : Type 0} {o : Ops G} (laws : IsWorth o) (f : Flow G) (marks : List 
   entry_next old from v placed held = go step_here where
     fresh_other : s ≡ fresh → ⊥
     fresh_other e = let z = pushing.waiting in let y : slice_get f.places.items fresh ≡ Some (Some old) = rw e at placed in cc
+
     go : IsFirst o f marks fresh top hole ⊎ IsStep o f marks (length marks) hole → IsNext o Placed marks fresh top hole from
     go (inl h) = let off : OfStudent o f fresh o.zero (Entry s k) (mark_at o marks hole).label hole = rw origin at h.offered in absurd (fresh_other off.0)
     go (inr h) =
         let arc : EntryArc o f h.before s k h.worth hole = rw origin at h.along in
         let same = holds_same placed held arc.holds in
         let tight : o.plus arc.worth (potential o f hole) ≡ o.plus arc.holds.worth (potential o f h.before) =
-          moved_same laws arc.worth arc.holds.worth _ _ (ap (λ z. o.plus z (potential o f hole)) (sym arc.is) ∙ h.tight) in
+        moved_same laws arc.worth arc.holds.worth _ _ (ap (λ z. o.plus z (potential o f hole)) (sym arc.is) ∙ h.tight) in
         let below_a = (pushing.formed.entries _ _ _ _ arc.holds.entry).0 in
         let below_b = (pushing.formed.entries _ _ _ _ arc.entry).0 in
         rw same.0 (record {

@@ -24,9 +24,6 @@ use Rattle.network.specs.declared.marks.Origin.{Origin}
 use Rattle.network.specs.declared.marks.Origin.TheVariants.{Unseen, Entry, Leave, Offer, Swap, Room}
 use Rattle.network.specs.declared.marks.Mark.{Mark}
 
-
-
-
 module _ {G : Type 0} {o : Ops G} (laws : IsWorth o) (f : Flow G) (marks : List (Mark G)) (fresh : ℕ) (top : G) (hole : ℕ) (pushing : IsPushing o f marks fresh top hole) where
   step_here : IsFirst o f marks fresh top hole ⊎ IsStep o f marks (length marks) hole
   step_here = pushing.steps hole pushing.seen (inl refl)
@@ -51,6 +48,7 @@ module _ {G : Type 0} {o : Ops G} (laws : IsWorth o) (f : Flow G) (marks : List 
   leave_next s old from v P set_is origin placed held = go step_here where
     fresh_other : s ≡ fresh → ⊥
     fresh_other e = let z = pushing.waiting in let y : slice_get f.places.items fresh ≡ Some (Some old) = rw e at placed in cc
+
     go : IsFirst o f marks fresh top hole ⊎ IsStep o f marks (length marks) hole → IsNext o (record f { places = P }) marks fresh top hole from
     go (inl h) = let off : OfStudent o f fresh o.zero (Leave s) (mark_at o marks hole).label hole = rw origin at h.offered in absurd (fresh_other off.0)
     go (inr h) =
@@ -58,7 +56,7 @@ module _ {G : Type 0} {o : Ops G} (laws : IsWorth o) (f : Flow G) (marks : List 
         let same = holds_same placed held arc.holds in
         let at_sink : potential o f hole ≡ o.zero = ap (potential o f) arc.to_sink ∙ pushing.fair.sink in
         let both : o.plus o.zero (potential o f hole) ≡ o.plus arc.holds.worth (potential o f h.before) =
-          moved_same laws o.zero arc.holds.worth _ _ (ap (λ z. o.plus z (potential o f hole)) (sym arc.is) ∙ h.tight) in
+        moved_same laws o.zero arc.holds.worth _ _ (ap (λ z. o.plus z (potential o f hole)) (sym arc.is) ∙ h.tight) in
         let tight : o.zero ≡ o.plus arc.holds.worth (potential o f h.before) = sym at_sink ∙ sym (zero_left laws (potential o f hole)) ∙ both in
         rw same.0 (record {
           pushing = record {
@@ -75,8 +73,19 @@ module _ {G : Type 0} {o : Ops G} (laws : IsWorth o) (f : Flow G) (marks : List 
 
   filled_formed : (F : Vec ℕ Global) (p y : ℕ) → F.items ≡ set f.filled.items p y → IsFormed o (record f { filled = F })
   filled_formed F p y set_is = let g = pushing.formed in record {
-    students = g.students; filled = ap length set_is ∙ length-set f.filled.items p y ∙ g.filled; load = g.load; potentials = g.potentials; entries = g.entries; placed = g.placed;
-    projects = g.projects; quotas = g.quotas; loads = g.loads; few_students = g.few_students; few_projects = g.few_projects; few_supervisors = g.few_supervisors; short = g.short;
+    students = g.students;
+    filled = ap length set_is ∙ length-set f.filled.items p y ∙ g.filled;
+    load = g.load;
+    potentials = g.potentials;
+    entries = g.entries;
+    placed = g.placed;
+    projects = g.projects;
+    quotas = g.quotas;
+    loads = g.loads;
+    few_students = g.few_students;
+    few_projects = g.few_projects;
+    few_supervisors = g.few_supervisors;
+    short = g.short;
   }
 
   -- the hole at a supervisor that a project led to: the project counts one more
@@ -115,7 +124,7 @@ module _ {G : Type 0} {o : Ops G} (laws : IsWorth o) (f : Flow G) (marks : List 
         let one : one_if (nat_eq hole hole) ≡ 1 = ap one_if (eq-eqb hole hole refl) in
         let some : y + 1 ≡ slice_index f.filled.items hole = (let c = pushing.counted.project hole within in omega (arith, c, one, less)) in
         let meets : potential o f hole ≡ potential o f (project_count f + l) =
-          sym (zero_left laws (potential o f hole)) ∙ ap (λ z. o.plus z (potential o f hole)) (sym arc.is) ∙ h.tight ∙ ap (potential o f) arc.from_supervisor in
+        sym (zero_left laws (potential o f hole)) ∙ ap (λ z. o.plus z (potential o f hole)) (sym arc.is) ∙ h.tight ∙ ap (potential o f) arc.from_supervisor in
         let here = now_here laws f pushing.formed F hole l arc.quota y set_is arc.project in
         record {
           pushing = record {
@@ -144,8 +153,20 @@ module _ {G : Type 0} {o : Ops G} (laws : IsWorth o) (f : Flow G) (marks : List 
         record {
           pushing = record {
             formed = record {
-              students = g.students; filled = g.filled; load = ap length set_is ∙ length-set f.load.items l _ ∙ g.load; potentials = g.potentials; entries = g.entries; placed = g.placed;
-              projects = g.projects; quotas = g.quotas; loads = g.loads; few_students = g.few_students; few_projects = g.few_projects; few_supervisors = g.few_supervisors; short = g.short };
+              students = g.students;
+              filled = g.filled;
+              load = ap length set_is ∙ length-set f.load.items l _ ∙ g.load;
+              potentials = g.potentials;
+              entries = g.entries;
+              placed = g.placed;
+              projects = g.projects;
+              quotas = g.quotas;
+              loads = g.loads;
+              few_students = g.few_students;
+              few_projects = g.few_projects;
+              few_supervisors = g.few_supervisors;
+              short = g.short;
+            };
             fair = load_fair laws f g L l (slice_index f.load.items l + 1) arc.known set_is refl fresh top pushing.fair;
             counted = load_counted laws f g L l (slice_index f.load.items l + 1) arc.known set_is refl arc.room counted;
             steps = kept h.rank settled h.earlier;
@@ -155,28 +176,43 @@ module _ {G : Type 0} {o : Ops G} (laws : IsWorth o) (f : Flow G) (marks : List 
           };
           falls = rw settled h.earlier;
         } where
-      kept : (rn : ℕ) → (mark_at o marks (project_count f + l)).rank ≡ Some rn → rn < rank_or (length marks) (mark_at o marks hole).rank → HasSteps o (record f { load = L }) marks fresh top (length marks) (project_count f + l)
-      kept rn settled lower v seen before =
-          elim (pushing.steps v seen (inr below)) [
-            inl h ↦ inl (record { offered = h.offered; tight = h.tight })
-          | inr h ↦ inr (record { before = h.before; rank = h.rank; worth = h.worth; settled = h.settled; earlier = h.earlier;
-              along = still (mark_at o marks v).origin h.before h.worth (λ e. let z = ap (λ z. (mark_at o marks z).rank) e in let r : Some h.rank ≡ Some rn = sym h.settled ∙ z ∙ settled in
-                let rr = same_Some h.rank rn r in omega (arith, h.earlier, at_most, rr)) h.along;
-              tight = h.tight }) ] where
-        rank_next : rank_or (length marks) (mark_at o marks (project_count f + l)).rank ≡ rn
-        rank_next = ap (rank_or (length marks)) settled
-        at_most : rank_or (length marks) (mark_at o marks v).rank ≤ rn
-        at_most = elim before [
-            inl e ↦ (let z : rank_or (length marks) (mark_at o marks v).rank ≡ rn = ap (λ z. rank_or (length marks) (mark_at o marks z).rank) e ∙ rank_next in omega (arith, z))
-          | inr lt ↦ omega (arith, lt, rank_next) ]
-        below : rank_or (length marks) (mark_at o marks v).rank < rank_or (length marks) (mark_at o marks hole).rank
-        below = omega (arith, at_most, lower)
-        still : (w : Origin) (c : ℕ) (x : G) → (c ≡ project_count f + l → ⊥) → Arc o f c w x v → Arc o (record f { load = L }) c w x v
-        still Unseen c x ne d = d
-        still (Entry t i) c x ne d = record { holds = record { place = d.holds.place; worth = d.holds.worth; placed = d.holds.placed; entry = d.holds.entry }; worth = d.worth; entry = d.entry; is = d.is }
-        still (Leave t) c x ne d = record { holds = record { place = d.holds.place; worth = d.holds.worth; placed = d.holds.placed; entry = d.holds.entry }; is = d.is; to_sink = d.to_sink }
-        still (Offer i) c x ne d = record { supervisor = d.supervisor; quota = d.quota; from_project = d.from_project; project = d.project; room = d.room; to_supervisor = d.to_supervisor; is = d.is }
-        still (Swap i) c x ne d = record { quota = d.quota; from_supervisor = d.from_supervisor; project = d.project; is = d.is }
-        still (Room i) c x ne d = record { from_supervisor = d.from_supervisor; known = d.known;
-          room = (let z : slice_index L.items i ≡ slice_index f.load.items i = rw set_is (get_or-set_other f.load.items l i _ 0 (λ e. ne (d.from_supervisor ∙ ap (λ z. project_count f + z) e))) in rw z d.room);
-          to_sink = d.to_sink; is = d.is }
+          kept : (rn : ℕ) → (mark_at o marks (project_count f + l)).rank ≡ Some rn → rn < rank_or (length marks) (mark_at o marks hole).rank → HasSteps o (record f { load = L }) marks fresh top (length marks) (project_count f + l)
+          kept rn settled lower v seen before =
+              elim (pushing.steps v seen (inr below)) [
+                | inl h ↦ inl (record { offered = h.offered; tight = h.tight })
+                | inr h ↦ inr (record {
+                  before = h.before;
+                  rank = h.rank;
+                  worth = h.worth;
+                  settled = h.settled;
+                  earlier = h.earlier;
+                  along = still (mark_at o marks v).origin h.before h.worth (λ e. let z = ap (λ z. (mark_at o marks z).rank) e in let r : Some h.rank ≡ Some rn = sym h.settled ∙ z ∙ settled in
+                      let rr = same_Some h.rank rn r in omega (arith, h.earlier, at_most, rr)) h.along;
+                  tight = h.tight;
+                })
+              ] where
+                rank_next : rank_or (length marks) (mark_at o marks (project_count f + l)).rank ≡ rn
+                rank_next = ap (rank_or (length marks)) settled
+
+                at_most : rank_or (length marks) (mark_at o marks v).rank ≤ rn
+                at_most = elim before [
+                  | inl e ↦ (let z : rank_or (length marks) (mark_at o marks v).rank ≡ rn = ap (λ z. rank_or (length marks) (mark_at o marks z).rank) e ∙ rank_next in omega (arith, z))
+                  | inr lt ↦ omega (arith, lt, rank_next)
+                ]
+
+                below : rank_or (length marks) (mark_at o marks v).rank < rank_or (length marks) (mark_at o marks hole).rank
+                below = omega (arith, at_most, lower)
+
+                still : (w : Origin) (c : ℕ) (x : G) → (c ≡ project_count f + l → ⊥) → Arc o f c w x v → Arc o (record f { load = L }) c w x v
+                still Unseen c x ne d = d
+                still (Entry t i) c x ne d = record { holds = record { place = d.holds.place; worth = d.holds.worth; placed = d.holds.placed; entry = d.holds.entry }; worth = d.worth; entry = d.entry; is = d.is }
+                still (Leave t) c x ne d = record { holds = record { place = d.holds.place; worth = d.holds.worth; placed = d.holds.placed; entry = d.holds.entry }; is = d.is; to_sink = d.to_sink }
+                still (Offer i) c x ne d = record { supervisor = d.supervisor; quota = d.quota; from_project = d.from_project; project = d.project; room = d.room; to_supervisor = d.to_supervisor; is = d.is }
+                still (Swap i) c x ne d = record { quota = d.quota; from_supervisor = d.from_supervisor; project = d.project; is = d.is }
+                still (Room i) c x ne d = record {
+                  from_supervisor = d.from_supervisor;
+                  known = d.known;
+                  room = (let z : slice_index L.items i ≡ slice_index f.load.items i = rw set_is (get_or-set_other f.load.items l i _ 0 (λ e. ne (d.from_supervisor ∙ ap (λ z. project_count f + z) e))) in rw z d.room);
+                  to_sink = d.to_sink;
+                  is = d.is;
+                }

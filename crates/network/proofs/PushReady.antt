@@ -27,10 +27,6 @@ use Rattle.network.specs.declared.marks.Origin.{Origin}
 use Rattle.network.specs.declared.marks.Origin.TheVariants.{Unseen, Entry, Leave, Offer, Swap, Room}
 use Rattle.network.specs.declared.marks.Mark.{Mark}
 
-
-
-
-
 module _ {G : Type 0} {o : Ops G} (laws : IsWorth o) (f : Flow G) (marks : List (Mark G)) (fresh : ℕ) (top : G) (hole : ℕ) (pushing : IsPushing o f marks fresh top hole) where
   Step : Type 0
   Step = IsFirst o f marks fresh top hole ⊎ IsStep o f marks (length marks) hole
@@ -40,8 +36,9 @@ module _ {G : Type 0} {o : Ops G} (laws : IsWorth o) (f : Flow G) (marks : List 
 
   pub hole_within : hole < length marks
   hole_within = elim (cases_lt hole (length marks)) [
-      inl lt ↦ lt
-    | inr le ↦ absurd (let q : mark_at o marks hole ≡ blank o = get_or_past marks hole (blank o) le in let z = pushing.seen in let y : false ≡ true = sym (ap (λ (m : Mark G). is_seen m.origin) q) ∙ z in cc) ]
+    | inl lt ↦ lt
+    | inr le ↦ absurd (let q : mark_at o marks hole ≡ blank o = get_or_past marks hole (blank o) le in let z = pushing.seen in let y : false ≡ true = sym (ap (λ (m : Mark G). is_seen m.origin) q) ∙ z in cc)
+  ]
 
   pub never_unseen : (mark_at o marks hole).origin ≡ Unseen → ⊥
   never_unseen e = let z : false ≡ true = sym (ap is_seen e) ∙ pushing.seen in cc
@@ -50,14 +47,14 @@ module _ {G : Type 0} {o : Ops G} (laws : IsWorth o) (f : Flow G) (marks : List 
   entry_within s k origin = go step_here where
     go : IsFirst o f marks fresh top hole ⊎ IsStep o f marks (length marks) hole → s < length f.places.items
     go (inl h) = let off : OfStudent o f fresh o.zero (Entry s k) (mark_at o marks hole).label hole = rw origin at h.offered in
-      let w = slice_get_within f.places.items fresh _ pushing.waiting in rw off.0 w
+        let w = slice_get_within f.places.items fresh _ pushing.waiting in rw off.0 w
     go (inr h) = let arc : EntryArc o f h.before s k h.worth hole = rw origin at h.along in slice_get_within f.places.items s _ arc.holds.placed
 
   pub leave_within : (s : ℕ) → (mark_at o marks hole).origin ≡ Leave s → s < length f.places.items
   leave_within s origin = go step_here where
     go : IsFirst o f marks fresh top hole ⊎ IsStep o f marks (length marks) hole → s < length f.places.items
     go (inl h) = let off : OfStudent o f fresh o.zero (Leave s) (mark_at o marks hole).label hole = rw origin at h.offered in
-      let w = slice_get_within f.places.items fresh _ pushing.waiting in rw off.0 w
+        let w = slice_get_within f.places.items fresh _ pushing.waiting in rw off.0 w
     go (inr h) = let arc : LeaveArc o f h.before s h.worth hole = rw origin at h.along in slice_get_within f.places.items s _ arc.holds.placed
 
   pub offer_ready : (p : ℕ) → (mark_at o marks hole).origin ≡ Offer p → (p < length f.filled.items) × (slice_index f.filled.items p < 500)
@@ -65,21 +62,21 @@ module _ {G : Type 0} {o : Ops G} (laws : IsWorth o) (f : Flow G) (marks : List 
     go : IsFirst o f marks fresh top hole ⊎ IsStep o f marks (length marks) hole → (p < length f.filled.items) × (slice_index f.filled.items p < 500)
     go (inl h) = let off : OfStudent o f fresh o.zero (Offer p) (mark_at o marks hole).label hole = rw origin at h.offered in absurd off
     go (inr h) = let arc : OfferArc o f h.before p h.worth hole = rw origin at h.along in
-      let lt = slice_get_within f.projects.items p _ arc.project in
-      (omega (arith, lt, pushing.formed.filled), omega (arith, arc.room, pushing.formed.quotas p arc.supervisor arc.quota arc.project))
+        let lt = slice_get_within f.projects.items p _ arc.project in
+        (omega (arith, lt, pushing.formed.filled), omega (arith, arc.room, pushing.formed.quotas p arc.supervisor arc.quota arc.project))
 
   pub swap_ready : (l : ℕ) → (mark_at o marks hole).origin ≡ Swap l → (hole < length f.filled.items) × (0 < slice_index f.filled.items hole) × (l < length f.supervisors.items)
   swap_ready l origin = go step_here where
     go : IsFirst o f marks fresh top hole ⊎ IsStep o f marks (length marks) hole → (hole < length f.filled.items) × (0 < slice_index f.filled.items hole) × (l < length f.supervisors.items)
     go (inl h) = let off : OfStudent o f fresh o.zero (Swap l) (mark_at o marks hole).label hole = rw origin at h.offered in absurd off
     go (inr h) = let arc : SwapArc o f h.before l h.worth hole = rw origin at h.along in
-      let lt = slice_get_within f.projects.items hole _ arc.project in
-      let one : one_if (nat_eq hole hole) ≡ 1 = ap one_if (eq-eqb hole hole refl) in
-      (omega (arith, lt, pushing.formed.filled), (let c = pushing.counted.project hole lt in omega (arith, c, one)), pushing.formed.projects hole l arc.quota arc.project)
+        let lt = slice_get_within f.projects.items hole _ arc.project in
+        let one : one_if (nat_eq hole hole) ≡ 1 = ap one_if (eq-eqb hole hole refl) in
+        (omega (arith, lt, pushing.formed.filled), (let c = pushing.counted.project hole lt in omega (arith, c, one)), pushing.formed.projects hole l arc.quota arc.project)
 
   pub room_ready : (l : ℕ) → (mark_at o marks hole).origin ≡ Room l → (l < length f.load.items) × (slice_index f.load.items l < 500) × (l < length f.supervisors.items)
   room_ready l origin = go step_here where
     go : IsFirst o f marks fresh top hole ⊎ IsStep o f marks (length marks) hole → (l < length f.load.items) × (slice_index f.load.items l < 500) × (l < length f.supervisors.items)
     go (inl h) = let off : OfStudent o f fresh o.zero (Room l) (mark_at o marks hole).label hole = rw origin at h.offered in absurd off
     go (inr h) = let arc : RoomArc o f h.before l h.worth hole = rw origin at h.along in
-      (omega (arith, arc.known, pushing.formed.load), omega (arith, arc.room, pushing.formed.loads l arc.known), arc.known)
+        (omega (arith, arc.known, pushing.formed.load), omega (arith, arc.room, pushing.formed.loads l arc.known), arc.known)

@@ -36,7 +36,6 @@ module _ {G : Type 0} {o : Ops G} (laws : IsWorth o) (f : Flow G) (fresh : ℕ) 
       (none : slice_get f.places.items fresh ≡ Some None) (counted : IsCounted f (sink_of f))
       (H : Vec G Global) (long : length H.items ≡ length f.potentials.items)
       (low_is : (v : ℕ) → potential_at o H.items v ≡ lowered o marks f.potentials.items (mark_at o marks (sink_of f)).label v) where
-
     abbrev pub N : Flow G
     N = record f { potentials = H }
 
@@ -48,7 +47,7 @@ module _ {G : Type 0} {o : Ops G} (laws : IsWorth o) (f : Flow G) (fresh : ℕ) 
 
     low_sink : low (sink_of f) ≡ o.zero
     low_sink = let e : is_settled (mark_at o marks (sink_of f)).rank ≡ false = ap is_settled (open_rank (mark_at o marks (sink_of f)) found.opened).1 in
-      rw e fair.sink
+        rw e fair.sink
 
     down : (v : ℕ) → AtMost o (low v) (potential o f v)
     down = falls laws (OfStudent o f fresh o.zero) (Arc o f) f.potentials.items marks (sink_of f) found.settled found.search found.opened found.best fair.sink
@@ -110,22 +109,40 @@ module _ {G : Type 0} {o : Ops G} (laws : IsWorth o) (f : Flow G) (fresh : ℕ) 
     steps_now v seen before = go (found.search.from v seen) where
       here : (v ≡ sink_of f) ⊎ (is_settled (mark_at o marks v).rank ≡ true)
       here = settled_or_sink v before
+
       go : OfStudent o f fresh o.zero (mark_at o marks v).origin (mark_at o marks v).label v ⊎ FromNode o (Arc o f) marks found.settled v → IsFirst o N marks fresh top v ⊎ IsStep o N marks (length marks) v
       go (inl h) = inl (record {
         offered = same_first _ _ v h;
-        tight = rw (low_is v) (tight_first laws (OfStudent o f fresh o.zero) (Arc o f) f.potentials.items marks (sink_of f) found.settled found.search found.opened found.best fair.sink v here) })
+        tight = rw (low_is v) (tight_first laws (OfStudent o f fresh o.zero) (Arc o f) f.potentials.items marks (sink_of f) found.settled found.search found.opened found.best fair.sink v here);
+      })
       go (inr h) = inr (record {
-        before = h.before; rank = h.rank; worth = h.worth; settled = h.settled;
+        before = h.before;
+        rank = h.rank;
+        worth = h.worth;
+        settled = h.settled;
         earlier = rank_wider h.rank (mark_at o marks v).rank h.earlier;
         along = same_arc h.before (mark_at o marks v).origin h.worth v h.along;
-        tight = rw (low_is v, low_is h.before) (tight_arc laws (OfStudent o f fresh o.zero) (Arc o f) f.potentials.items marks (sink_of f) found.settled found.search found.opened found.best fair.sink v here h) })
+        tight = rw (low_is v, low_is h.before) (tight_arc laws (OfStudent o f fresh o.zero) (Arc o f) f.potentials.items marks (sink_of f) found.settled found.search found.opened found.best fair.sink v here h);
+      })
 
     -- a found walk and the lowered potentials are where a push starts
     pub push_starts : IsPushing o N marks fresh top (sink_of N)
     push_starts = record {
       formed = record {
-        students = formed.students; filled = formed.filled; load = formed.load; potentials = long ∙ formed.potentials; entries = formed.entries; placed = formed.placed;
-        projects = formed.projects; quotas = formed.quotas; loads = formed.loads; few_students = formed.few_students; few_projects = formed.few_projects; few_supervisors = formed.few_supervisors; short = formed.short };
+        students = formed.students;
+        filled = formed.filled;
+        load = formed.load;
+        potentials = long ∙ formed.potentials;
+        entries = formed.entries;
+        placed = formed.placed;
+        projects = formed.projects;
+        quotas = formed.quotas;
+        loads = formed.loads;
+        few_students = formed.few_students;
+        few_projects = formed.few_projects;
+        few_supervisors = formed.few_supervisors;
+        short = formed.short;
+      };
       fair = fair_now;
       counted = record { project = counted.project; project_within = counted.project_within; supervisor = counted.supervisor; supervisor_within = counted.supervisor_within };
       steps = steps_now;

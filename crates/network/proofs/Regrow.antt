@@ -14,7 +14,6 @@ use Rattle.network.specs.declared.flow.Flow.{Flow}
 module _ {G : Type 0} {o : Ops G} (f : Flow G) (pushed : IsPushed o f)
     (L : Vec (Vec (ℕ × G) Global) Global) (P : Vec (Option ℕ) Global)
     (lists_are : L.items ≡ f.lists.items) (places_are : P.items ≡ f.places.items) where
-
   abbrev pub R : Flow G
   R = record f { lists = L; places = P }
 
@@ -41,7 +40,11 @@ module _ {G : Type 0} {o : Ops G} (f : Flow G) (pushed : IsPushed o f)
     unplaced = λ s k p w ne none e. pushed.fair.unplaced s k p w (λ q. ne (q ∙ sym long)) (place_old s None none) (entry_old s k p w e);
     waiting = λ k p w e. pushed.fair.waiting k p w (let e' : HasEntry f.lists.items (length L.items) k p w = entry_old (length L.items) k p w e in subst (λ z. HasEntry f.lists.items z k p w) long e');
     waiting_least = pushed.fair.waiting_least;
-    project = pushed.fair.project; project_room = pushed.fair.project_room; supervisor = pushed.fair.supervisor; supervisor_room = pushed.fair.supervisor_room; sink = pushed.fair.sink;
+    project = pushed.fair.project;
+    project_room = pushed.fair.project_room;
+    supervisor = pushed.fair.supervisor;
+    supervisor_room = pushed.fair.supervisor_room;
+    sink = pushed.fair.sink;
   }
 
   seat_same : (p s : ℕ) → seat f p s ≡ seat R p s
@@ -54,12 +57,17 @@ module _ {G : Type 0} {o : Ops G} (f : Flow G) (pushed : IsPushed o f)
   regrown = record {
     formed = record {
       students = omega (arith, long, pushed.formed.students, ap length places_are);
-      filled = pushed.formed.filled; load = pushed.formed.load; potentials = pushed.formed.potentials;
+      filled = pushed.formed.filled;
+      load = pushed.formed.load;
+      potentials = pushed.formed.potentials;
       entries = λ s k p w e. pushed.formed.entries s k p w (entry_old s k p w e);
       placed = λ s k e. let h = pushed.formed.placed s k (place_old s (Some k) e) in (h.0, h.1, entry_new s k h.0 h.1 h.2);
-      projects = pushed.formed.projects; quotas = pushed.formed.quotas; loads = pushed.formed.loads;
+      projects = pushed.formed.projects;
+      quotas = pushed.formed.quotas;
+      loads = pushed.formed.loads;
       few_students = omega (arith, long, pushed.formed.few_students);
-      few_projects = pushed.formed.few_projects; few_supervisors = pushed.formed.few_supervisors;
+      few_projects = pushed.formed.few_projects;
+      few_supervisors = pushed.formed.few_supervisors;
       short = λ s r e. pushed.formed.short s r (sym (ap (λ z. slice_get z s) lists_are) ∙ e);
     };
     fair = regrown_fair;

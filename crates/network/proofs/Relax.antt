@@ -14,11 +14,10 @@ not_settled None e = refl
 not_settled (Some r) e = cc
 
 module _ {G : Type 0} {o : Ops G} (laws : IsWorth o) where
-
   relaxed_moves : (m : Mark G) (label : G) (origin : Origin) (node : ℕ) → is_seen origin ≡ true
       → (s t u : Bool) → is_settled m.rank ≡ s → is_seen m.origin ≡ t → is_gt (o.cmp label m.label) ≡ u
       → let n : Mark G = cond s m (cond t (cond u (record { label = label; origin = origin; rank = None }) m) (record { label = label; origin = origin; rank = None })) in
-        (n ≡ m) ⊎ Replaced o (OneOffer origin label node) node m n
+      (n ≡ m) ⊎ Replaced o (OneOffer origin label node) node m n
   relaxed_moves m label origin node e true t u es et eu = inl refl
   relaxed_moves m label origin node e false false u es et eu =
       inr (record { was_open = not_settled m.rank es; is_open = refl; seen = e; offered = (refl, refl, refl); grows = λ h. absurd (cc) })
@@ -29,7 +28,7 @@ module _ {G : Type 0} {o : Ops G} (laws : IsWorth o) where
   relaxed_taken : (m : Mark G) (label : G) (origin : Origin) → is_seen origin ≡ true
       → (s t u : Bool) → is_settled m.rank ≡ s → is_seen m.origin ≡ t → is_gt (o.cmp label m.label) ≡ u
       → let n : Mark G = cond s m (cond t (cond u (record { label = label; origin = origin; rank = None }) m) (record { label = label; origin = origin; rank = None })) in
-        (is_settled n.rank ≡ true) ⊎ ((is_seen n.origin ≡ true) × AtMost o label n.label)
+      (is_settled n.rank ≡ true) ⊎ ((is_seen n.origin ≡ true) × AtMost o label n.label)
   relaxed_taken m label origin e true t u es et eu = inl es
   relaxed_taken m label origin e false false u es et eu = inr (e, at_most_refl laws label)
   relaxed_taken m label origin e false true false es et eu = inr (et, eu)
@@ -45,11 +44,13 @@ module _ {G : Type 0} {o : Ops G} (laws : IsWorth o) where
       record {
         len = rw is (simp length-set);
         moves = λ b. elim (cases_eq b node) [
-            inl q ↦ rw (q, here) (relaxed_moves m label origin node e _ _ _ refl refl refl)
-          | inr q ↦ inl (rw is (get_or-set_other marks node b _ (blank o) q)) ];
+          | inl q ↦ rw (q, here) (relaxed_moves m label origin node e _ _ _ refl refl refl)
+          | inr q ↦ inl (rw is (get_or-set_other marks node b _ (blank o) q))
+        ];
         taken = λ w x b f. rw (f.1, f.2) (elim (relaxed_taken m label origin e _ _ _ refl refl refl) [
-            inl s ↦ inl (rw here s)
-          | inr s ↦ inr (record { seen = rw here s.0; enough = rw here s.1 }) ]);
+          | inl s ↦ inl (rw here s)
+          | inr s ↦ inr (record { seen = rw here s.0; enough = rw here s.1 })
+        ]);
       }
 
   replaced_then : (p q : Origin → G → ℕ → Type 0) (b : ℕ) (l m n : Mark G)
@@ -61,8 +62,13 @@ module _ {G : Type 0} {o : Ops G} (laws : IsWorth o) where
   replaced_then p q b l m n (inr e) (inl f) =
       rw f (inr (record { was_open = e.was_open; is_open = e.is_open; seen = e.seen; offered = inl e.offered; grows = e.grows }))
   replaced_then p q b l m n (inr e) (inr f) =
-      inr (record { was_open = e.was_open; is_open = f.is_open; seen = f.seen; offered = inr f.offered;
-        grows = λ h. at_most_trans laws l.label m.label n.label (e.grows h) (f.grows e.seen) })
+      inr (record {
+        was_open = e.was_open;
+        is_open = f.is_open;
+        seen = f.seen;
+        offered = inr f.offered;
+        grows = λ h. at_most_trans laws l.label m.label n.label (e.grows h) (f.grows e.seen);
+      })
 
   -- what was taken stays taken
   pub taken_stays : (q : Origin → G → ℕ → Type 0) (old new : List (Mark G)) (b : ℕ) (x : G) → Relaxes o q old new → Taken o old b x → Taken o new b x

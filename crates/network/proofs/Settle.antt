@@ -30,7 +30,6 @@ pub data Change {G : Type 0} (o : Ops G) (offer : Origin → G → ℕ → Type 
 
 module _ {G : Type 0} {o : Ops G} (laws : IsWorth o) (first : Origin → G → ℕ → Type 0) (arc : ℕ → Origin → G → ℕ → Type 0) (potentials : List G)
     (marks middle new : List (Mark G)) (node k : ℕ) where
-
   abbrev pub M : ℕ → Mark G
   M b = mark_at o marks b
 
@@ -44,9 +43,11 @@ module _ {G : Type 0} {o : Ops G} (laws : IsWorth o) (first : Origin → G → �
   change lt e r b = elim (cases_eq b node) [ inl q ↦ rw q (at_node (r.moves node)) | inr q ↦ elsewhere q (r.moves b) ] where
     here : mark_at o middle node ≡ settled_as (M node) k
     here = rw e (get_or-set_same marks node _ (blank o) lt)
+
     at_node : (mark_at o new node ≡ mark_at o middle node) ⊎ Replaced o (OffersOf o arc node D) node (mark_at o middle node) (mark_at o new node) → Change o (OffersOf o arc node D) node k node (M node) (N node)
     at_node (inl f) = is_node refl (f ∙ here)
     at_node (inr f) = absurd (let h : Some k ≡ None = sym (ap (λ (z : Mark G). z.rank) here) ∙ f.was_open in cc)
+
     elsewhere : (b ≡ node → ⊥) → (mark_at o new b ≡ mark_at o middle b) ⊎ Replaced o (OffersOf o arc node D) b (mark_at o middle b) (mark_at o new b) → Change o (OffersOf o arc node D) node k b (M b) (N b)
     elsewhere q (inl f) = stayed q (f ∙ rw e (get_or-set_other marks node b _ (blank o) q))
     elsewhere q (inr f) = offered q (rw (let there : mark_at o middle b ≡ M b = rw e (get_or-set_other marks node b _ (blank o) q) in there) at f)
@@ -56,7 +57,6 @@ module _ {G : Type 0} {o : Ops G} (laws : IsWorth o) (first : Origin → G → �
       (feasible : Feasible o arc potentials) (small : (a : ℕ) (w : Origin) (c : G) (b : ℕ) → arc a w c b → o.span c ≤ 2)
       (changes : (b : ℕ) → Change o (OffersOf o arc node D) node k b (M b) (N b))
       (taken : (w : Origin) (x : G) (b : ℕ) → OffersOf o arc node D w x b → Taken o new b x) where
-
     -- a mark that is settled now was settled, or is the node's
     settled_now : (b r : ℕ) → (N b).rank ≡ Some r → ((b ≡ node) × (r ≡ k) × (N b ≡ settled_as (M node) k)) ⊎ ((N b ≡ M b) × ((M b).rank ≡ Some r))
     settled_now b r h = go (changes b) where
@@ -96,49 +96,63 @@ module _ {G : Type 0} {o : Ops G} (laws : IsWorth o) (first : Origin → G → �
       same : (n : Mark G) → N b ≡ n → n.origin ≡ (M b).origin → n.label ≡ (M b).label → rank_or k (M b).rank ≤ rank_or (k + 1) n.rank → is_seen (M b).origin ≡ true
           → first (N b).origin (N b).label b ⊎ FromNode o arc new (k + 1) b
       same n e eo el er s = elim (old.from b s) [
-          inl f ↦ inl (rw (e, eo, el) f)
+        | inl f ↦ inl (rw (e, eo, el) f)
         | inr f ↦ inr (let st = settled_stays f.before f.rank f.settled in record {
-            before = f.before; rank = f.rank; worth = f.worth;
-            settled = rw st f.settled;
-            earlier = rw e (omega (arith, f.earlier, er));
-            along = rw (e, eo) f.along;
-            label = rw (e, el, st) f.label }) ]
+          before = f.before;
+          rank = f.rank;
+          worth = f.worth;
+          settled = rw st f.settled;
+          earlier = rw e (omega (arith, f.earlier, er));
+          along = rw (e, eo) f.along;
+          label = rw (e, el, st) f.label;
+        })
+      ]
+
       go : Change o (OffersOf o arc node D) node k b (M b) (N b) → first (N b).origin (N b).label b ⊎ FromNode o arc new (k + 1) b
       go (is_node q e) = same (settled_as (M b) k) e refl refl
           (rw (let n : (M b).rank ≡ None = rw q (open_rank (M node) opened).1 in n) (omega arith)) (rw q (open_rank (M node) opened).0)
       go (stayed q e) = same (M b) e refl refl (rank_or_more k (M b).rank) (rw e at h)
       go (offered q f) = let a = f.offered in inr (record {
-        before = node; rank = k; worth = a.0;
+        before = node;
+        rank = k;
+        worth = a.0;
         settled = ap (λ (z : Mark G). z.rank) node_now;
         earlier = rw f.is_open (omega arith);
         along = a.1;
-        label = a.2 ∙ ap (λ (z : Mark G). o.plus z.label a.0) (sym node_now) })
+        label = a.2 ∙ ap (λ (z : Mark G). o.plus z.label a.0) (sym node_now);
+      })
 
     ranks_now : (b r : ℕ) → (N b).rank ≡ Some r → (r < k + 1) × (is_seen (N b).origin ≡ true)
     ranks_now b r h = elim (settled_now b r h) [
-        inl f ↦ (omega (arith, f.1), rw f.2 (open_rank (M node) opened).0)
-      | inr f ↦ (let p = old.ranks b r f.1 in (omega (arith, p.0), rw f.0 p.1)) ]
+      | inl f ↦ (omega (arith, f.1), rw f.2 (open_rank (M node) opened).0)
+      | inr f ↦ (let p = old.ranks b r f.1 in (omega (arith, p.0), rw f.0 p.1))
+    ]
 
     -- what leads to a settled node was enough before
     settled_reached : (w : Origin) (c : G) (b : ℕ) → arc node w c b → (r : ℕ) → (N b).rank ≡ Some r → Reaches o new b (o.plus D c)
     settled_reached w c b f r h =
         let up : AtMost o (o.plus (o.plus D c) (potential_at o potentials b)) (o.plus D (potential_at o potentials node)) = offered_below laws D c (potential_at o potentials b) (potential_at o potentials node) (feasible node w c b f) in
         elim (settled_now b r h) [
-          inl g ↦ record {
+          | inl g ↦ record {
             seen = (ranks_now b r h).1;
-            enough = rw g.2 (at_most_back laws (o.plus D c) D (potential_at o potentials node) (rw g.0 at up)) }
-        | inr g ↦ record {
+            enough = rw g.2 (at_most_back laws (o.plus D c) D (potential_at o potentials node) (rw g.0 at up));
+          }
+          | inr g ↦ record {
             seen = (ranks_now b r h).1;
             enough = rw g.0 (at_most_back laws (o.plus D c) (M b).label (potential_at o potentials b)
-              (at_most_trans laws _ _ _ up (old.ordered b r node g.1 opened))) } ]
+                (at_most_trans laws _ _ _ up (old.ordered b r node g.1 opened)));
+          }
+        ]
 
     done_now : (a r : ℕ) (w : Origin) (c : G) (b : ℕ) → (N a).rank ≡ Some r → arc a w c b → Reaches o new b (o.plus (N a).label c)
     done_now a r w c b h f = elim (settled_now a r h) [
-        inl g ↦ rw g.2 (let f' : arc node w c b = rw g.0 at f in
+      | inl g ↦ rw g.2 (let f' : arc node w c b = rw g.0 at f in
           elim (taken w (o.plus D c) b (c, f', refl)) [
-            inl s ↦ (let t = settled_rank (N b).rank s in settled_reached w c b f' t.0 t.1)
-          | inr s ↦ s ])
-      | inr g ↦ rw g.0 (reaches_stays b _ (old.done a r w c b g.1 f)) ]
+            | inl s ↦ (let t = settled_rank (N b).rank s in settled_reached w c b f' t.0 t.1)
+            | inr s ↦ s
+          ])
+      | inr g ↦ rw g.0 (reaches_stays b _ (old.done a r w c b g.1 f))
+    ]
 
     ordered_now : (a r b : ℕ) → (N a).rank ≡ Some r → is_open_mark (N b) ≡ true → AtMost o (key_at o new potentials b) (key_at o new potentials a)
     ordered_now a r b h e = at_most_trans laws _ (key_at o marks potentials node) _ (below (changes b)) (above (settled_now a r h)) where
@@ -146,6 +160,7 @@ module _ {G : Type 0} {o : Ops G} (laws : IsWorth o) (first : Origin → G → �
       below (is_node q f) = absurd (let g : Some k ≡ None = sym (ap (λ (z : Mark G). z.rank) f) ∙ (open_rank (N b) e).1 in cc)
       below (stayed q f) = rw (key_same b (M b) f refl) (best b (rw f at e))
       below (offered q f) = let a = f.offered in let ke : key_at o new potentials b ≡ o.plus (o.plus D a.0) (potential_at o potentials b) = ap (λ z. o.plus z (potential_at o potentials b)) a.2 in rw ke (offered_below laws D a.0 (potential_at o potentials b) (potential_at o potentials node) (feasible node _ a.0 b a.1))
+
       above : ((a ≡ node) × (r ≡ k) × (N a ≡ settled_as (M node) k)) ⊎ ((N a ≡ M a) × ((M a).rank ≡ Some r)) → AtMost o (key_at o marks potentials node) (key_at o new potentials a)
       above (inl g) =
           let ke : key_at o new potentials a ≡ key_at o marks potentials node = ap (λ (z : Mark G). o.plus z.label (potential_at o potentials a)) g.2 ∙ ap (λ c. o.plus D (potential_at o potentials c)) g.0 in

@@ -20,7 +20,6 @@ use Rattle.network.specs.declared.marks.Mark.{Mark}
 
 module _ {G : Type 0} {o : Ops G} (laws : IsWorth o) (f : Flow G) (formed : IsFormed o f) (F : Vec ℕ Global) (p l q y : ℕ)
     (set_is : F.items ≡ set f.filled.items p y) (project : slice_get f.projects.items p ≡ Some (l, q)) where
-
   abbrev pub N : Flow G
   N = record f { filled = F }
 
@@ -55,10 +54,11 @@ module _ {G : Type 0} {o : Ops G} (laws : IsWorth o) (f : Flow G) (formed : IsFo
     waiting_least = fair.waiting_least;
     project = fair.project;
     project_room = λ r m z e lt. elim (cases_eq r p) [
-        inl eq ↦ (let s = some_pair_parts _ _ _ _ (sym (rw eq at e) ∙ project) in
+      | inl eq ↦ (let s = some_pair_parts _ _ _ _ (sym (rw eq at e) ∙ project) in
           let room : now p < q = (let z' : now r ≡ now p = ap now eq in omega (arith, lt, s.1, z')) in
           rw (s.0, eq) (here room))
-      | inr ne ↦ fair.project_room r m z e (rw (sym (now_other r ne)) lt) ];
+      | inr ne ↦ fair.project_room r m z e (rw (sym (now_other r ne)) lt)
+    ];
     supervisor = fair.supervisor;
     supervisor_room = fair.supervisor_room;
     sink = fair.sink;
@@ -70,7 +70,7 @@ module _ {G : Type 0} {o : Ops G} (laws : IsWorth o) (f : Flow G) (formed : IsFo
   seats_of_moved : (m : ℕ) → seats_of N m + one_if (nat_eq l m) * was p ≡ seats_of f m + one_if (nat_eq l m) * y
   seats_of_moved m =
       let change = sum_to_change (length f.projects.items) p (λ i. owner_at (slice_get f.projects.items i) m * was i) (λ i. owner_at (slice_get f.projects.items i) m * now i) p_within
-        (λ i ne. ap (λ z. owner_at (slice_get f.projects.items i) m * z) (sym (now_other i ne))) in
+      (λ i ne. ap (λ z. owner_at (slice_get f.projects.items i) m * z) (sym (now_other i ne))) in
       let a = ap (λ z. z * was p) (owner_here m) in
       let b = ap (λ z. z * now p) (owner_here m) in
       let c = ap (λ z. one_if (nat_eq l m) * z) now_here in
@@ -84,8 +84,9 @@ module _ {G : Type 0} {o : Ops G} (laws : IsWorth o) (f : Flow G) (formed : IsFo
 
   node_is : (m : ℕ) → one_if (nat_eq (project_count f + m) (project_count f + l)) ≡ one_if (nat_eq l m)
   node_is m = elim (cases_eq l m) [
-      inl e ↦ ap one_if (eq-eqb _ _ (ap (λ z. project_count f + z) (sym e)) ∙ sym (eq-eqb l m e))
-    | inr ne ↦ ap one_if (ne_eqb (project_count f + m) (project_count f + l) (λ e. ne (omega (arith, e))) ∙ sym (ne_eqb l m ne)) ]
+    | inl e ↦ ap one_if (eq-eqb _ _ (ap (λ z. project_count f + z) (sym e)) ∙ sym (eq-eqb l m e))
+    | inr ne ↦ ap one_if (ne_eqb (project_count f + m) (project_count f + l) (λ e. ne (omega (arith, e))) ∙ sym (ne_eqb l m ne))
+  ]
 
   itself : (r : ℕ) → one_if (nat_eq r r) ≡ 1
   itself r = ap one_if (eq-eqb r r refl)
@@ -94,17 +95,19 @@ module _ {G : Type 0} {o : Ops G} (laws : IsWorth o) (f : Flow G) (formed : IsFo
   pub more_counted : y ≡ was p + 1 → was p < q → IsCounted f (project_count f + l) → IsCounted N p
   more_counted more room c = record {
     project = λ r lt. elim (cases_eq r p) [
-        inl e ↦ (let a = c.project r lt in let b = not_node l r lt in let z : now r ≡ y = ap now e ∙ now_here in let v : was r ≡ was p = ap was e in
+      | inl e ↦ (let a = c.project r lt in let b = not_node l r lt in let z : now r ≡ y = ap now e ∙ now_here in let v : was r ≡ was p = ap was e in
           let i : one_if (nat_eq r p) ≡ 1 = ap one_if (eq-eqb r p e) in omega (arith, a, b, z, v, more, i))
       | inr ne ↦ (let a = c.project r lt in let b = not_node l r lt in let z = now_other r ne in
-          let i : one_if (nat_eq r p) ≡ 0 = ap one_if (ne_eqb r p ne) in omega (arith, a, b, z, i)) ];
+          let i : one_if (nat_eq r p) ≡ 0 = ap one_if (ne_eqb r p ne) in omega (arith, a, b, z, i))
+    ];
     project_within = λ r m z e. elim (cases_eq r p) [
-        inl eq ↦ (let s = some_pair_parts _ _ _ _ (sym (rw eq at e) ∙ project) in let v : now r ≡ y = ap now eq ∙ now_here in omega (arith, s.1, v, more, room))
-      | inr ne ↦ omega (arith, c.project_within r m z e, now_other r ne) ];
+      | inl eq ↦ (let s = some_pair_parts _ _ _ _ (sym (rw eq at e) ∙ project) in let v : now r ≡ y = ap now eq ∙ now_here in omega (arith, s.1, v, more, room))
+      | inr ne ↦ omega (arith, c.project_within r m z e, now_other r ne)
+    ];
     supervisor = λ m lt.
-      let a = c.supervisor m lt in let b = node_is m in let d = not_project m p p_within in let s = seats_of_moved m in
-      let t : one_if (nat_eq l m) * y ≡ one_if (nat_eq l m) * was p + one_if (nat_eq l m) = ap (λ z. one_if (nat_eq l m) * z) more ∙ omega arith in
-      omega (arith, a, b, d, s, t);
+        let a = c.supervisor m lt in let b = node_is m in let d = not_project m p p_within in let s = seats_of_moved m in
+        let t : one_if (nat_eq l m) * y ≡ one_if (nat_eq l m) * was p + one_if (nat_eq l m) = ap (λ z. one_if (nat_eq l m) * z) more ∙ omega arith in
+        omega (arith, a, b, d, s, t);
     supervisor_within = c.supervisor_within;
   }
 
@@ -112,17 +115,19 @@ module _ {G : Type 0} {o : Ops G} (laws : IsWorth o) (f : Flow G) (formed : IsFo
   pub less_counted : y + 1 ≡ was p → IsCounted f p → IsCounted N (project_count f + l)
   less_counted less c = record {
     project = λ r lt. elim (cases_eq r p) [
-        inl e ↦ (let a = c.project r lt in let b = not_node l r lt in let z : now r ≡ y = ap now e ∙ now_here in let v : was r ≡ was p = ap was e in
+      | inl e ↦ (let a = c.project r lt in let b = not_node l r lt in let z : now r ≡ y = ap now e ∙ now_here in let v : was r ≡ was p = ap was e in
           let i : one_if (nat_eq r p) ≡ 1 = ap one_if (eq-eqb r p e) in omega (arith, a, b, z, v, less, i))
       | inr ne ↦ (let a = c.project r lt in let b = not_node l r lt in let z = now_other r ne in
-          let i : one_if (nat_eq r p) ≡ 0 = ap one_if (ne_eqb r p ne) in omega (arith, a, b, z, i)) ];
+          let i : one_if (nat_eq r p) ≡ 0 = ap one_if (ne_eqb r p ne) in omega (arith, a, b, z, i))
+    ];
     project_within = λ r m z e. elim (cases_eq r p) [
-        inl eq ↦ (let v : now r ≡ y = ap now eq ∙ now_here in let u : was r ≡ was p = ap was eq in omega (arith, c.project_within r m z e, v, u, less))
-      | inr ne ↦ omega (arith, c.project_within r m z e, now_other r ne) ];
+      | inl eq ↦ (let v : now r ≡ y = ap now eq ∙ now_here in let u : was r ≡ was p = ap was eq in omega (arith, c.project_within r m z e, v, u, less))
+      | inr ne ↦ omega (arith, c.project_within r m z e, now_other r ne)
+    ];
     supervisor = λ m lt.
-      let a = c.supervisor m lt in let b = node_is m in let d = not_project m p p_within in let s = seats_of_moved m in
-      let t : one_if (nat_eq l m) * was p ≡ one_if (nat_eq l m) * y + one_if (nat_eq l m) = ap (λ z. one_if (nat_eq l m) * z) (sym less) ∙ omega arith in
-      omega (arith, a, b, d, s, t);
+        let a = c.supervisor m lt in let b = node_is m in let d = not_project m p p_within in let s = seats_of_moved m in
+        let t : one_if (nat_eq l m) * was p ≡ one_if (nat_eq l m) * y + one_if (nat_eq l m) = ap (λ z. one_if (nat_eq l m) * z) (sym less) ∙ omega arith in
+        omega (arith, a, b, d, s, t);
     supervisor_within = c.supervisor_within;
   }
 
@@ -131,29 +136,43 @@ module _ {G : Type 0} {o : Ops G} (laws : IsWorth o) (f : Flow G) (formed : IsFo
       → ((now p ≤ was p) ⊎ (next ≡ p)) → HasSteps o f marks fresh top K hole → HasSteps o N marks fresh top K next
   filled_steps marks fresh top K hole next rn settled lower kind steps v seen before =
       elim (steps v seen (inr below)) [
-        inl h ↦ inl (record { offered = h.offered; tight = h.tight })
-      | inr h ↦ inr (record { before = h.before; rank = h.rank; worth = h.worth; settled = h.settled; earlier = h.earlier;
+        | inl h ↦ inl (record { offered = h.offered; tight = h.tight })
+        | inr h ↦ inr (record {
+          before = h.before;
+          rank = h.rank;
+          worth = h.worth;
+          settled = h.settled;
+          earlier = h.earlier;
           along = still (mark_at o marks v).origin h.before h.worth (λ e. let z = ap (λ z. (mark_at o marks z).rank) e in let r : Some h.rank ≡ Some rn = sym h.settled ∙ z ∙ settled in
-            let rr = same_Some h.rank rn r in omega (arith, h.earlier, at_most, rr)) h.along;
-          tight = h.tight }) ] where
-    rank_next : rank_or K (mark_at o marks next).rank ≡ rn
-    rank_next = ap (rank_or K) settled
-    at_most : rank_or K (mark_at o marks v).rank ≤ rn
-    at_most = elim before [
-        inl e ↦ (let z : rank_or K (mark_at o marks v).rank ≡ rn = ap (λ z. rank_or K (mark_at o marks z).rank) e ∙ rank_next in omega (arith, z))
-      | inr l ↦ omega (arith, l, rank_next) ]
-    below : rank_or K (mark_at o marks v).rank < rank_or K (mark_at o marks hole).rank
-    below = omega (arith, at_most, lower)
-    room : (c i z : ℕ) → (c ≡ next → ⊥) → c ≡ i → was i < z → now i < z
-    room c i z ne e lt = elim (cases_eq i p) [
-        inl eq ↦ elim kind [
-            inl k ↦ (let a : now i ≡ now p = ap now eq in let b : was i ≡ was p = ap was eq in omega (arith, a, b, k, lt))
-          | inr k ↦ absurd (ne (e ∙ eq ∙ sym k)) ]
-      | inr no_p ↦ omega (arith, now_other i no_p, lt) ]
-    still : (w : Origin) (c : ℕ) (x : G) → (c ≡ next → ⊥) → Arc o f c w x v → Arc o N c w x v
-    still Unseen c x ne d = d
-    still (Entry t i) c x ne d = record { holds = after_holds t c d.holds; worth = d.worth; entry = d.entry; is = d.is }
-    still (Leave t) c x ne d = record { holds = after_holds t c d.holds; is = d.is; to_sink = d.to_sink }
-    still (Offer i) c x ne d = record { supervisor = d.supervisor; quota = d.quota; from_project = d.from_project; project = d.project; room = room c i d.quota ne d.from_project d.room; to_supervisor = d.to_supervisor; is = d.is }
-    still (Swap i) c x ne d = record { quota = d.quota; from_supervisor = d.from_supervisor; project = d.project; is = d.is }
-    still (Room i) c x ne d = record { from_supervisor = d.from_supervisor; known = d.known; room = d.room; to_sink = d.to_sink; is = d.is }
+              let rr = same_Some h.rank rn r in omega (arith, h.earlier, at_most, rr)) h.along;
+          tight = h.tight;
+        })
+      ] where
+        rank_next : rank_or K (mark_at o marks next).rank ≡ rn
+        rank_next = ap (rank_or K) settled
+
+        at_most : rank_or K (mark_at o marks v).rank ≤ rn
+        at_most = elim before [
+          | inl e ↦ (let z : rank_or K (mark_at o marks v).rank ≡ rn = ap (λ z. rank_or K (mark_at o marks z).rank) e ∙ rank_next in omega (arith, z))
+          | inr l ↦ omega (arith, l, rank_next)
+        ]
+
+        below : rank_or K (mark_at o marks v).rank < rank_or K (mark_at o marks hole).rank
+        below = omega (arith, at_most, lower)
+
+        room : (c i z : ℕ) → (c ≡ next → ⊥) → c ≡ i → was i < z → now i < z
+        room c i z ne e lt = elim (cases_eq i p) [
+          | inl eq ↦ elim kind [
+            | inl k ↦ (let a : now i ≡ now p = ap now eq in let b : was i ≡ was p = ap was eq in omega (arith, a, b, k, lt))
+            | inr k ↦ absurd (ne (e ∙ eq ∙ sym k))
+          ]
+          | inr no_p ↦ omega (arith, now_other i no_p, lt)
+        ]
+
+        still : (w : Origin) (c : ℕ) (x : G) → (c ≡ next → ⊥) → Arc o f c w x v → Arc o N c w x v
+        still Unseen c x ne d = d
+        still (Entry t i) c x ne d = record { holds = after_holds t c d.holds; worth = d.worth; entry = d.entry; is = d.is }
+        still (Leave t) c x ne d = record { holds = after_holds t c d.holds; is = d.is; to_sink = d.to_sink }
+        still (Offer i) c x ne d = record { supervisor = d.supervisor; quota = d.quota; from_project = d.from_project; project = d.project; room = room c i d.quota ne d.from_project d.room; to_supervisor = d.to_supervisor; is = d.is }
+        still (Swap i) c x ne d = record { quota = d.quota; from_supervisor = d.from_supervisor; project = d.project; is = d.is }
+        still (Room i) c x ne d = record { from_supervisor = d.from_supervisor; known = d.known; room = d.room; to_sink = d.to_sink; is = d.is }

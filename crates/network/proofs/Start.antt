@@ -23,7 +23,6 @@ module _ {G : Type 0} {o : Ops G} (laws : IsWorth o) (f : Flow G)
     (filled_long : length f.filled.items ≡ length f.projects.items) (filled : (i : ℕ) → slice_index f.filled.items i ≡ 0)
     (load_long : length f.load.items ≡ length f.supervisors.items) (load : (i : ℕ) → slice_index f.load.items i ≡ 0)
     (potentials_long : length f.potentials.items ≡ length f.projects.items + length f.supervisors.items + 1) (potentials : (i : ℕ) → potential_at o f.potentials.items i ≡ o.zero) where
-
   no_student : {X : Type 0} (s : ℕ) (x : X) (xs : List X) → xs ≡ [] → slice_get xs s ≡ Some x → ⊥
   no_student s x xs e h = let n = slice_get_within xs s x h in let z = ap length e in omega (arith, n, z)
 
@@ -41,14 +40,17 @@ module _ {G : Type 0} {o : Ops G} (laws : IsWorth o) (f : Flow G)
     pushed = record {
       formed = record {
         students = ap length no_lists ∙ sym (ap length no_places);
-        filled = filled_long; load = load_long; potentials = potentials_long;
+        filled = filled_long;
+        load = load_long;
+        potentials = potentials_long;
         entries = λ s k p w h. absurd (none_listed s k p w h);
         placed = λ s k e. absurd (no_student s (Some k) f.places.items no_places e);
         projects = λ p l q e. (known p l q e).0;
         quotas = λ p l q e. (known p l q e).1;
         loads = quotas;
         few_students = let z = ap length no_lists in omega (arith, z);
-        few_projects = few_projects; few_supervisors = few_supervisors;
+        few_projects = few_projects;
+        few_supervisors = few_supervisors;
         short = λ s r e. absurd (no_student s r f.lists.items no_lists e);
       };
       fair = record {
@@ -65,12 +67,12 @@ module _ {G : Type 0} {o : Ops G} (laws : IsWorth o) (f : Flow G)
       };
       counted = record {
         project = λ p lt.
-          let n : seats f p ≡ 0 = ap (λ z. sum_to z (seat f p)) (ap length no_lists) in
-          omega (arith, filled p, n, not_sink f p lt);
+            let n : seats f p ≡ 0 = ap (λ z. sum_to z (seat f p)) (ap length no_lists) in
+            omega (arith, filled p, n, not_sink f p lt);
         project_within = λ p l q e. omega (arith, filled p);
         supervisor = λ l lt.
-          let n : seats_of f l ≡ 0 = sum_to_zero (length f.projects.items) _ (λ p. ap (λ z. owner_at (slice_get f.projects.items p) l * z) (filled p) ∙ omega arith) in
-          omega (arith, load l, n, node_not_sink f l lt);
+            let n : seats_of f l ≡ 0 = sum_to_zero (length f.projects.items) _ (λ p. ap (λ z. owner_at (slice_get f.projects.items p) l * z) (filled p) ∙ omega arith) in
+            omega (arith, load l, n, node_not_sink f l lt);
         supervisor_within = λ l lt. omega (arith, load l);
       };
     };

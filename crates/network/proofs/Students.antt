@@ -49,6 +49,7 @@ module _ {G : Type 0} {o : Ops G} (laws : IsWorth o) (f : Flow G) (a : ℕ) (lab
     to (Offer p) x b h = h
     to (Swap l) x b h = h
     to (Room l) x b h = h
+
     back : (w : Origin) (x : G) (b : ℕ) → Students (i + 1) w x b → Students i w x b
     back Unseen x b h = h
     back (Entry s k) x b h = (elim (cases_eq s i) [ inl e ↦ absurd (unheld (rw e at h.1.1.holds)) | inr e ↦ omega (arith, h.0, e) ], h.1)
@@ -61,35 +62,46 @@ module _ {G : Type 0} {o : Ops G} (laws : IsWorth o) (f : Flow G) (a : ℕ) (lab
   pub students_more : (l m n : List (Mark G)) (i : ℕ) (h : Holds f i a) → Relaxes o (Students i) l m → Relaxes o (OfStudent o f i (o.minus label h.worth)) m n → Relaxes o (Students (i + 1)) l n
   students_more l m n i h e r =
       relaxes_as laws (λ w x b. Students i w x b ⊎ OfStudent o f i (o.minus label h.worth) w x b) (Students (i + 1)) l n to back (relaxes_then laws _ _ l m n e r) where
-    to : (w : Origin) (x : G) (b : ℕ) → Students i w x b ⊎ OfStudent o f i (o.minus label h.worth) w x b → Students (i + 1) w x b
-    to Unseen x b = elim [ inl g ↦ g | inr g ↦ g ]
-    to (Entry s k) x b = elim [
-        inl g ↦ (omega (arith, g.0), g.1)
-      | inr g ↦ (omega (arith, g.0), (let t : (c : G) × EntryArc o f a s k c b × (x ≡ o.plus label c) =
-            let en : HasEntry f.lists.items i k b g.1 = rw g.0 at g.2 in
-            rw g.0 (o.minus g.1 h.worth, record { holds = h; worth = g.1; entry = en; is = refl }, g.3 ∙ change_of laws label h.worth g.1) in t)) ]
-    to (Leave s) x b = elim [
-        inl g ↦ (omega (arith, g.0), g.1)
-      | inr g ↦ (omega (arith, g.0), (let t : (c : G) × LeaveArc o f a s c b × (x ≡ o.plus label c) =
-            rw g.0 (o.minus o.zero h.worth, record { holds = h; is = refl; to_sink = g.1 }, g.2 ∙ leave_of laws label h.worth) in t)) ]
-    to (Offer q) x b = elim [ inl g ↦ g | inr g ↦ g ]
-    to (Swap q) x b = elim [ inl g ↦ g | inr g ↦ g ]
-    to (Room q) x b = elim [ inl g ↦ g | inr g ↦ g ]
-    back : (w : Origin) (x : G) (b : ℕ) → Students (i + 1) w x b → Students i w x b ⊎ OfStudent o f i (o.minus label h.worth) w x b
-    back Unseen x b g = inl g
-    back (Entry s k) x b g = elim (cases_eq s i) [
-        inl e ↦ (let d = g.1.1 in
-          let same : d.holds.worth ≡ h.worth = sym (holds_along (sym e) h.placed h.entry d.holds).1 in
-          inr (e, d.worth, d.entry, g.1.2 ∙ ap (o.plus label) (d.is ∙ ap (o.minus d.worth) same) ∙ sym (change_of laws label h.worth d.worth)))
-      | inr ne ↦ inl (omega (arith, g.0, ne), g.1) ]
-    back (Leave s) x b g = elim (cases_eq s i) [
-        inl e ↦ (let d = g.1.1 in
-          let same : d.holds.worth ≡ h.worth = sym (holds_along (sym e) h.placed h.entry d.holds).1 in
-          inr (e, d.to_sink, g.1.2 ∙ ap (o.plus label) (d.is ∙ ap (o.minus o.zero) same) ∙ sym (leave_of laws label h.worth)))
-      | inr ne ↦ inl (omega (arith, g.0, ne), g.1) ]
-    back (Offer q) x b g = inl g
-    back (Swap q) x b g = inl g
-    back (Room q) x b g = inl g
+        to : (w : Origin) (x : G) (b : ℕ) → Students i w x b ⊎ OfStudent o f i (o.minus label h.worth) w x b → Students (i + 1) w x b
+        to Unseen x b = elim [ inl g ↦ g | inr g ↦ g ]
+        to (Entry s k) x b = elim [
+          | inl g ↦ (omega (arith, g.0), g.1)
+          | inr g ↦ (
+            omega (arith, g.0),
+            (let t : (c : G) × EntryArc o f a s k c b × (x ≡ o.plus label c) =
+                let en : HasEntry f.lists.items i k b g.1 = rw g.0 at g.2 in
+                rw g.0 (o.minus g.1 h.worth, record { holds = h; worth = g.1; entry = en; is = refl }, g.3 ∙ change_of laws label h.worth g.1) in t),
+          )
+        ]
+        to (Leave s) x b = elim [
+          | inl g ↦ (omega (arith, g.0), g.1)
+          | inr g ↦ (
+            omega (arith, g.0),
+            (let t : (c : G) × LeaveArc o f a s c b × (x ≡ o.plus label c) =
+                rw g.0 (o.minus o.zero h.worth, record { holds = h; is = refl; to_sink = g.1 }, g.2 ∙ leave_of laws label h.worth) in t),
+          )
+        ]
+        to (Offer q) x b = elim [ inl g ↦ g | inr g ↦ g ]
+        to (Swap q) x b = elim [ inl g ↦ g | inr g ↦ g ]
+        to (Room q) x b = elim [ inl g ↦ g | inr g ↦ g ]
+
+        back : (w : Origin) (x : G) (b : ℕ) → Students (i + 1) w x b → Students i w x b ⊎ OfStudent o f i (o.minus label h.worth) w x b
+        back Unseen x b g = inl g
+        back (Entry s k) x b g = elim (cases_eq s i) [
+          | inl e ↦ (let d = g.1.1 in
+              let same : d.holds.worth ≡ h.worth = sym (holds_along (sym e) h.placed h.entry d.holds).1 in
+              inr (e, d.worth, d.entry, g.1.2 ∙ ap (o.plus label) (d.is ∙ ap (o.minus d.worth) same) ∙ sym (change_of laws label h.worth d.worth)))
+          | inr ne ↦ inl (omega (arith, g.0, ne), g.1)
+        ]
+        back (Leave s) x b g = elim (cases_eq s i) [
+          | inl e ↦ (let d = g.1.1 in
+              let same : d.holds.worth ≡ h.worth = sym (holds_along (sym e) h.placed h.entry d.holds).1 in
+              inr (e, d.to_sink, g.1.2 ∙ ap (o.plus label) (d.is ∙ ap (o.minus o.zero) same) ∙ sym (leave_of laws label h.worth)))
+          | inr ne ↦ inl (omega (arith, g.0, ne), g.1)
+        ]
+        back (Offer q) x b g = inl g
+        back (Swap q) x b g = inl g
+        back (Room q) x b g = inl g
 
 -- one more student's list in the cost
 pub cost_more : {G : Type 0} (lists : List (Vec (ℕ × G) Global)) (i start count new : ℕ) → i < length lists
@@ -97,7 +109,8 @@ pub cost_more : {G : Type 0} (lists : List (Vec (ℕ × G) Global)) (i start cou
     → ((row : Vec (ℕ × G) Global) → slice_get lists i ≡ Some row → new ≤ count + (length row.items + 1))
     → new ≤ start + sum_by (λ row. length row.items + 1) (take (i + 1) lists)
 cost_more {G} lists i start count new lt before step = elim (slice_get_cases lists i).1 [
-    inl h ↦ (let s = step h.0 h.2 in
+  | inl h ↦ (let s = step h.0 h.2 in
       let more : sum_by (λ row. length row.items + 1) (take (i + 1) lists) ≡ sum_by (λ row. length row.items + 1) (take i lists) + (length (get_or lists i h.0).items + 1) = sum_by_more (λ row. length row.items + 1) lists i h.0 lt in
       rw (more, h.3) (omega (arith, before, s)))
-  | inr h ↦ absurd (omega (arith, lt, h.0)) ]
+  | inr h ↦ absurd (omega (arith, lt, h.0))
+]

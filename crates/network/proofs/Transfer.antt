@@ -33,15 +33,15 @@ slice_get-set_other (y ∷ ys) (suc i) (suc j) x ne = slice_get-set_other ys i j
 
 pub same_either : (a p : ℕ) → one_if (nat_eq a p) ≡ one_if (nat_eq p a)
 same_either a p = elim (cases_eq a p) [
-    inl e ↦ ap one_if (eq-eqb a p e ∙ sym (eq-eqb p a (sym e)))
-  | inr ne ↦ ap one_if (ne_eqb a p ne ∙ sym (ne_eqb p a (λ e. ne (sym e)))) ]
+  | inl e ↦ ap one_if (eq-eqb a p e ∙ sym (eq-eqb p a (sym e)))
+  | inr ne ↦ ap one_if (ne_eqb a p ne ∙ sym (ne_eqb p a (λ e. ne (sym e))))
+]
 
 pub seat_held : {G : Type 0} (f : Flow G) (p s a : ℕ) → Holds f s a → seat f p s ≡ one_if (nat_eq a p)
 seat_held f p s a h = rw (h.placed, h.entry.student, h.entry.place) refl
 
 module _ {G : Type 0} {o : Ops G} (laws : IsWorth o) (f : Flow G) (formed : IsFormed o f) (P : Vec (Option ℕ) Global) (s : ℕ) (x : Option ℕ)
     (set_is : P.items ≡ set f.places.items s x) where
-
   abbrev pub N : Flow G
   N = record f { places = P }
 
@@ -60,34 +60,44 @@ module _ {G : Type 0} {o : Ops G} (laws : IsWorth o) (f : Flow G) (formed : IsFo
     unfolding holds_after
     moved_steps marks fresh top K hole ra settled lower steps v seen before =
         elim (steps v seen (inr below)) [
-          inl h ↦ inl (record { offered = h.offered; tight = h.tight })
-        | inr h ↦ inr (record { before = h.before; rank = h.rank; worth = h.worth; settled = h.settled; earlier = h.earlier;
+          | inl h ↦ inl (record { offered = h.offered; tight = h.tight })
+          | inr h ↦ inr (record {
+            before = h.before;
+            rank = h.rank;
+            worth = h.worth;
+            settled = h.settled;
+            earlier = h.earlier;
             along = still (mark_at o marks v).origin h.before h.worth (λ e. let q = ap (λ z. (mark_at o marks z).rank) e in let r : Some h.rank ≡ Some ra = sym h.settled ∙ q ∙ settled in
-              let rr = same_Some h.rank ra r in omega (arith, h.earlier, at_most_a, rr)) h.along;
-            tight = h.tight }) ] where
-      rank_a : rank_or K (mark_at o marks a).rank ≡ ra
-      rank_a = ap (rank_or K) settled
-      at_most_a : rank_or K (mark_at o marks v).rank ≤ ra
-      at_most_a = elim before [
-          inl e ↦ (let q : rank_or K (mark_at o marks v).rank ≡ ra = ap (λ z. rank_or K (mark_at o marks z).rank) e ∙ rank_a in omega (arith, q))
-        | inr l ↦ omega (arith, l, rank_a) ]
-      below : rank_or K (mark_at o marks v).rank < rank_or K (mark_at o marks hole).rank
-      below = omega (arith, at_most_a, lower)
-      still : (q : Origin) (c : ℕ) (v' : G) → (c ≡ a → ⊥) → Arc o f c q v' v → Arc o N c q v' v
-      still Unseen c v' ne d = d
-      still (Entry t i) c v' ne d =
-          let far : t ≡ s → ⊥ = λ (e : t ≡ s). ne (holds_along e d.holds.placed d.holds.entry was).0 in
-          record { holds = holds_after t c far d.holds; worth = d.worth; entry = d.entry; is = d.is }
-      still (Leave t) c v' ne d =
-          let far : t ≡ s → ⊥ = λ (e : t ≡ s). ne (holds_along e d.holds.placed d.holds.entry was).0 in
-          record { holds = holds_after t c far d.holds; is = d.is; to_sink = d.to_sink }
-      still (Offer p) c v' ne d = record { supervisor = d.supervisor; quota = d.quota; from_project = d.from_project; project = d.project; room = d.room; to_supervisor = d.to_supervisor; is = d.is }
-      still (Swap l) c v' ne d = record { quota = d.quota; from_supervisor = d.from_supervisor; project = d.project; is = d.is }
-      still (Room l) c v' ne d = record { from_supervisor = d.from_supervisor; known = d.known; room = d.room; to_sink = d.to_sink; is = d.is }
+                let rr = same_Some h.rank ra r in omega (arith, h.earlier, at_most_a, rr)) h.along;
+            tight = h.tight;
+          })
+        ] where
+          rank_a : rank_or K (mark_at o marks a).rank ≡ ra
+          rank_a = ap (rank_or K) settled
+
+          at_most_a : rank_or K (mark_at o marks v).rank ≤ ra
+          at_most_a = elim before [
+            | inl e ↦ (let q : rank_or K (mark_at o marks v).rank ≡ ra = ap (λ z. rank_or K (mark_at o marks z).rank) e ∙ rank_a in omega (arith, q))
+            | inr l ↦ omega (arith, l, rank_a)
+          ]
+
+          below : rank_or K (mark_at o marks v).rank < rank_or K (mark_at o marks hole).rank
+          below = omega (arith, at_most_a, lower)
+
+          still : (q : Origin) (c : ℕ) (v' : G) → (c ≡ a → ⊥) → Arc o f c q v' v → Arc o N c q v' v
+          still Unseen c v' ne d = d
+          still (Entry t i) c v' ne d =
+              let far : t ≡ s → ⊥ = λ (e : t ≡ s). ne (holds_along e d.holds.placed d.holds.entry was).0 in
+              record { holds = holds_after t c far d.holds; worth = d.worth; entry = d.entry; is = d.is }
+          still (Leave t) c v' ne d =
+              let far : t ≡ s → ⊥ = λ (e : t ≡ s). ne (holds_along e d.holds.placed d.holds.entry was).0 in
+              record { holds = holds_after t c far d.holds; is = d.is; to_sink = d.to_sink }
+          still (Offer p) c v' ne d = record { supervisor = d.supervisor; quota = d.quota; from_project = d.from_project; project = d.project; room = d.room; to_supervisor = d.to_supervisor; is = d.is }
+          still (Swap l) c v' ne d = record { quota = d.quota; from_supervisor = d.from_supervisor; project = d.project; is = d.is }
+          still (Room l) c v' ne d = record { from_supervisor = d.from_supervisor; known = d.known; room = d.room; to_sink = d.to_sink; is = d.is }
 
   module _ (a b k : ℕ) (w : G) (was : Holds f s a) (entry : HasEntry f.lists.items s k b w) (x_is : x ≡ Some k)
       (tight : o.plus w (potential o f b) ≡ o.plus was.worth (potential o f a)) where
-
     s_within : s < length f.places.items
     s_within = slice_get_within f.places.items s _ was.placed
 
@@ -107,14 +117,17 @@ module _ {G : Type 0} {o : Ops G} (laws : IsWorth o) (f : Flow G) (formed : IsFo
     unfolding holds_before
     transfer_fair pending top other fair = record {
       placed = λ t c i p v h e. elim (cases_eq t s) [
-          inl q ↦ (let e' : HasEntry f.lists.items s i p v = rw q at e in rw (value_same t c q h) (fair.placed s a i p v was e'))
-        | inr ne ↦ fair.placed t c i p v (holds_before t c ne h) e ];
+        | inl q ↦ (let e' : HasEntry f.lists.items s i p v = rw q at e in rw (value_same t c q h) (fair.placed s a i p v was e'))
+        | inr ne ↦ fair.placed t c i p v (holds_before t c ne h) e
+      ];
       placed_least = λ t c h. elim (cases_eq t s) [
-          inl q ↦ rw (value_same t c q h) (fair.placed_least s a was)
-        | inr ne ↦ fair.placed_least t c (holds_before t c ne h) ];
+        | inl q ↦ rw (value_same t c q h) (fair.placed_least s a was)
+        | inr ne ↦ fair.placed_least t c (holds_before t c ne h)
+      ];
       unplaced = λ t i p v ne none e. elim (cases_eq t s) [
-          inl q ↦ absurd (let z : slice_get P.items s ≡ Some None = rw q at none in let y = placed_now in cc)
-        | inr no_s ↦ fair.unplaced t i p v ne (sym (place_other t no_s) ∙ none) e ];
+        | inl q ↦ absurd (let z : slice_get P.items s ≡ Some None = rw q at none in let y = placed_now in cc)
+        | inr no_s ↦ fair.unplaced t i p v ne (sym (place_other t no_s) ∙ none) e
+      ];
       waiting = fair.waiting;
       waiting_least = fair.waiting_least;
       project = fair.project;
@@ -137,9 +150,8 @@ module _ {G : Type 0} {o : Ops G} (laws : IsWorth o) (f : Flow G) (formed : IsFo
       project = λ p lt. omega (arith, c.project p lt, seats_moved p, same_either a p, same_either b p);
       project_within = c.project_within;
       supervisor = λ l lt.
-        let ea : one_if (nat_eq (project_count f + l) a) ≡ 0 = ap one_if (ne_eqb (project_count f + l) a (λ e. omega (arith, e, la))) in
-        let eb : one_if (nat_eq (project_count f + l) b) ≡ 0 = ap one_if (ne_eqb (project_count f + l) b (λ e. omega (arith, e, lb))) in
-        omega (arith, c.supervisor l lt, ea, eb);
+          let ea : one_if (nat_eq (project_count f + l) a) ≡ 0 = ap one_if (ne_eqb (project_count f + l) a (λ e. omega (arith, e, la))) in
+          let eb : one_if (nat_eq (project_count f + l) b) ≡ 0 = ap one_if (ne_eqb (project_count f + l) b (λ e. omega (arith, e, lb))) in
+          omega (arith, c.supervisor l lt, ea, eb);
       supervisor_within = c.supervisor_within;
     }
-

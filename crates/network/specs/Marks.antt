@@ -39,8 +39,8 @@ key_at o marks potentials v = o.plus (mark_at o marks v).label (potential_at o p
 abbrev pub relaxed : {G : Type 0} → Ops G → Mark G → G → Origin → Mark G
 relaxed o m label origin =
     cond (is_settled m.rank) m
-      (cond (is_seen m.origin) (cond (is_gt (o.cmp label m.label)) (record { label = label; origin = origin; rank = None }) m)
-        (record { label = label; origin = origin; rank = None }))
+    (cond (is_seen m.origin) (cond (is_gt (o.cmp label m.label)) (record { label = label; origin = origin; rank = None }) m)
+    (record { label = label; origin = origin; rank = None }))
 
 -- the mark, settled as the k-th
 abbrev pub settled_as : {G : Type 0} → Mark G → ℕ → Mark G

@@ -51,8 +51,8 @@ placed_worth o f = sum_of o (length f.lists.items) (of_place o f (λ p w. w))
 abbrev pub price_sum : {G : Type 0} → Ops G → Flow G → G
 price_sum o f =
     o.plus (o.plus (sum_of o (length f.lists.items) (student_price o f))
-        (sum_of o (length f.projects.items) (λ p. multiple o (quota_at (slice_get f.projects.items p)) (project_price o f p))))
-      (sum_of o (length f.supervisors.items) (λ l. multiple o (slice_index f.supervisors.items l) (supervisor_price o f l)))
+    (sum_of o (length f.projects.items) (λ p. multiple o (quota_at (slice_get f.projects.items p)) (project_price o f p))))
+    (sum_of o (length f.supervisors.items) (λ l. multiple o (slice_index f.supervisors.items l) (supervisor_price o f l)))
 
 -- the prices of a flow: none is below zero, they cover each listed pair, their spans are small, and their sum is the total worth
 pub record PotentialPrices {G : Type 0} (o : Ops G) (f : Flow G) : Type 0 where

@@ -74,7 +74,7 @@ pub record IsFirst {G : Type 0} (o : Ops G) (f : Flow G) (marks : List (Mark G))
 abbrev pub HasSteps : {G : Type 0} → Ops G → Flow G → List (Mark G) → ℕ → G → ℕ → ℕ → Type 0
 HasSteps o f marks fresh top k hole =
     (v : ℕ) → is_seen (mark_at o marks v).origin ≡ true → (v ≡ hole) ⊎ (rank_or k (mark_at o marks v).rank < rank_or k (mark_at o marks hole).rank)
-      → IsFirst o f marks fresh top v ⊎ IsStep o f marks k v
+    → IsFirst o f marks fresh top v ⊎ IsStep o f marks k v
 
 -- a push whose walk is taken back as far as the hole
 pub record IsPushing {G : Type 0} (o : Ops G) (f : Flow G) (marks : List (Mark G)) (fresh : ℕ) (top : G) (hole : ℕ) : Type 0 where

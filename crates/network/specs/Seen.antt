@@ -40,9 +40,9 @@ sum_of o (suc n) f = o.plus (sum_of o n f) (f n)
 abbrev pub price_total : {G : Type 0} → Ops G → Shape → (ℕ → G) → (ℕ → G) → (ℕ → G) → G
 price_total o i u y z =
     o.plus
-      (o.plus (sum_of o (length i.students) u)
-        (sum_of o (length i.projects) (λ p. multiple o (project_quota i p) (y p))))
-      (sum_of o (length i.supervisors) (λ l. multiple o (supervisor_quota i l) (z l)))
+    (o.plus (sum_of o (length i.students) u)
+    (sum_of o (length i.projects) (λ p. multiple o (project_quota i p) (y p))))
+    (sum_of o (length i.supervisors) (λ l. multiple o (supervisor_quota i l) (z l)))
 
 -- the worth at a place of a list
 abbrev pub worth_at : {G : Type 0} → Ops G → List (ℕ × G) → ℕ → G

@@ -12,8 +12,8 @@ ghost use Rattle.network.specs.View.{IsKnownList};
 use crate::admit::place_new;
 use crate::flow::Flow;
 use crate::marks::{Mark, Origin};
-use std::alloc::{AllocError, Global};
 use spa::Worth;
+use std::alloc::{AllocError, Global};
 
 /// What an admission came to.
 #[derive(Clone, Copy, Debug, PartialEq, Eq)]
@@ -31,7 +31,11 @@ pub fn blank_marks<G: Worth>(alloc: Global, nodes: usize) -> Result<Vec<Mark<G>>
 {
     let mut marks = Vec::with_capacity(alloc, nodes)?;
     for _node in 0..nodes {
-        marks.push(Mark { label: G::zero(), origin: Origin::Unseen, rank: None })?;
+        marks.push(Mark {
+            label: G::zero(),
+            origin: Origin::Unseen,
+            rank: None,
+        })?;
     }
     Ok(marks)
 }
@@ -101,5 +105,8 @@ pub fn enter<G: Worth>(flow: &mut Flow<G>, row: Vec<(usize, G)>, marks: &mut [Ma
     let mut relaxations = 0;
     place_new(flow, student, marks, &mut relaxations);
     let placed = has_place(flow, student);
-    Admitted { placed, relaxations }
+    Admitted {
+        placed,
+        relaxations,
+    }
 }

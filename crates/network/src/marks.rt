@@ -4,7 +4,6 @@ ghost use Rattle.std.specs.Prelude.{◌≡◌, ℕ, ◌+◌, ◌<◌, ◌≤◌,
 ghost use Rattle.spa.specs.Laws.{AtMost};
 
 use spa::Worth;
-
 use std::cmp::Ordering;
 
 /// Along which residual arc a node was reached.
@@ -31,4 +30,5 @@ pub struct Mark<G> {
 }
 
 mod steps;
-pub use steps::{best_open, relax, is_open};
+
+pub use steps::{best_open, is_open, relax};

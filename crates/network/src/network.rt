@@ -39,7 +39,11 @@ fn flat<G: Worth>(alloc: Global, n: usize) -> Result<Vec<G>, AllocError>
 }
 
 /// A flow with no students.
-fn start_flow<G: Worth>(alloc: Global, supervisors: &[u32], projects: &[(usize, u32)]) -> Result<Flow<G>, AllocError>
+fn start_flow<G: Worth>(
+    alloc: Global,
+    supervisors: &[u32],
+    projects: &[(usize, u32)],
+) -> Result<Flow<G>, AllocError>
     requires few_supervisors { length supervisors.now ≤ MOST_SUPERVISORS }
     requires few_projects { length projects.now ≤ MOST_PROJECTS }
     requires offered { All (λ p. p.0 < length supervisors.now) projects.now }
@@ -68,7 +72,12 @@ fn start_flow<G: Worth>(alloc: Global, supervisors: &[u32], projects: &[(usize, 
 }
 
 /// One student is admitted; where memory is refused nothing changes.
-fn admit_to<G: Worth>(flow: &mut Flow<G>, steps: &mut u64, alloc: Global, list: &[(usize, G)]) -> Result<Admitted, AllocError>
+fn admit_to<G: Worth>(
+    flow: &mut Flow<G>,
+    steps: &mut u64,
+    alloc: Global,
+    list: &[(usize, G)],
+) -> Result<Admitted, AllocError>
     requires ready { IsReady G.ops flow.old steps.old }
     requires few { length flow.old.lists.items < MOST_STUDENTS }
     requires short { length list.now ≤ RANKS }
@@ -116,7 +125,11 @@ impl<G: Worth> Model for Network<G> {
 impl<G: Worth> Network<G> {
     /// The network of supervisors with their quotas, and of projects with supervisor, by position, and quota. Nobody is
     /// admitted yet.
-    pub fn start(alloc: Global, supervisors: &[u32], projects: &[(usize, u32)]) -> Result<Network<G>, AllocError>
+    pub fn start(
+        alloc: Global,
+        supervisors: &[u32],
+        projects: &[(usize, u32)],
+    ) -> Result<Network<G>, AllocError>
         requires few_supervisors { length supervisors.now ≤ MOST_SUPERVISORS }
         requires few_projects { length projects.now ≤ MOST_PROJECTS }
         requires offered { All (λ p. p.0 < length supervisors.now) projects.now }

@@ -10,8 +10,8 @@ ghost use Rattle.network.specs.Prices.{student_price, project_price, supervisor_
 
 use crate::flow::{Flow, place_of};
 use crate::relaxes::{entry, project, supervisor_node};
-use std::alloc::{AllocError, Global};
 use spa::Worth;
+use std::alloc::{AllocError, Global};
 
 /// The potential of a node.
 fn potential_of<G: Worth>(flow: &Flow<G>, node: usize) -> G
@@ -101,7 +101,11 @@ pub fn supervisor_prices<G: Worth>(flow: &Flow<G>, alloc: Global) -> Result<Vec<
 }
 
 /// All prices.
-pub fn all_prices<G: Worth>(flow: &Flow<G>, steps: u64, alloc: Global) -> Result<(Vec<G>, Vec<G>, Vec<G>), AllocError>
+pub fn all_prices<G: Worth>(
+    flow: &Flow<G>,
+    steps: u64,
+    alloc: Global,
+) -> Result<(Vec<G>, Vec<G>, Vec<G>), AllocError>
     requires { IsReady G.ops flow.now steps }
     ensures { IfOk result (λ r. ArePrices G.ops (seen flow.now steps) r.0.items r.1.items r.2.items) }
 {

@@ -2,7 +2,6 @@
 
 ghost use Rattle.std.specs.Prelude.{◌≡◌, ℕ, ◌+◌, ◌-◌, ◌*◌, ◌<◌, ◌≤◌, ◌^◌, length, slice_get, slice_index, slice_set, Some, None, IfSome, IfNone, true};
 ghost use Rattle.network.specs.declared.marks.Origin.TheVariants.{Entry, Leave, Offer, Swap, Room};
-
 ghost use Rattle.network.specs.Marks.{mark_at, is_seen};
 ghost use Rattle.network.specs.Search.{rank_or};
 ghost use Rattle.network.specs.Arcs.{HasEntry, sink_of, project_count, IsFormed};
@@ -61,7 +60,15 @@ fn origin_of<G: Worth>(marks: &[Mark<G>], node: usize) -> Origin
 }
 
 /// The hole at a project that an entry led to.
-fn push_entry<G: Worth>(flow: &mut Flow<G>, marks: &[Mark<G>], fresh: usize, top: G, hole: usize, student: usize, place: usize) -> Option<usize>
+fn push_entry<G: Worth>(
+    flow: &mut Flow<G>,
+    marks: &[Mark<G>],
+    fresh: usize,
+    top: G,
+    hole: usize,
+    student: usize,
+    place: usize,
+) -> Option<usize>
     requires pushing { IsPushing G.ops flow.old marks.now fresh top hole }
     requires origin { (mark_at G.ops marks.now hole).origin ≡ Entry student place }
     requires student { student < length flow.old.places.items }
@@ -83,7 +90,14 @@ fn push_entry<G: Worth>(flow: &mut Flow<G>, marks: &[Mark<G>], fresh: usize, top
 }
 
 /// The hole at the sink that a student's place led to.
-fn push_leave<G: Worth>(flow: &mut Flow<G>, marks: &[Mark<G>], fresh: usize, top: G, hole: usize, student: usize) -> Option<usize>
+fn push_leave<G: Worth>(
+    flow: &mut Flow<G>,
+    marks: &[Mark<G>],
+    fresh: usize,
+    top: G,
+    hole: usize,
+    student: usize,
+) -> Option<usize>
     requires pushing { IsPushing G.ops flow.old marks.now fresh top hole }
     requires origin { (mark_at G.ops marks.now hole).origin ≡ Leave student }
     requires student { student < length flow.old.places.items }
@@ -102,7 +116,14 @@ fn push_leave<G: Worth>(flow: &mut Flow<G>, marks: &[Mark<G>], fresh: usize, top
 }
 
 /// The hole at a supervisor that a project led to.
-fn push_offer<G: Worth>(flow: &mut Flow<G>, marks: &[Mark<G>], fresh: usize, top: G, hole: usize, project: usize)
+fn push_offer<G: Worth>(
+    flow: &mut Flow<G>,
+    marks: &[Mark<G>],
+    fresh: usize,
+    top: G,
+    hole: usize,
+    project: usize,
+)
     requires pushing { IsPushing G.ops flow.old marks.now fresh top hole }
     requires origin { (mark_at G.ops marks.now hole).origin ≡ Offer project }
     requires project { project < length flow.old.filled.items }
@@ -114,7 +135,14 @@ fn push_offer<G: Worth>(flow: &mut Flow<G>, marks: &[Mark<G>], fresh: usize, top
 }
 
 /// The hole at a project that its supervisor led to.
-fn push_swap<G: Worth>(flow: &mut Flow<G>, marks: &[Mark<G>], fresh: usize, top: G, hole: usize, supervisor: usize)
+fn push_swap<G: Worth>(
+    flow: &mut Flow<G>,
+    marks: &[Mark<G>],
+    fresh: usize,
+    top: G,
+    hole: usize,
+    supervisor: usize,
+)
     requires pushing { IsPushing G.ops flow.old marks.now fresh top hole }
     requires origin { (mark_at G.ops marks.now hole).origin ≡ Swap supervisor }
     requires hole { hole < length flow.old.filled.items }
@@ -126,7 +154,14 @@ fn push_swap<G: Worth>(flow: &mut Flow<G>, marks: &[Mark<G>], fresh: usize, top:
 }
 
 /// The hole at the sink that a supervisor led to.
-fn push_room<G: Worth>(flow: &mut Flow<G>, marks: &[Mark<G>], fresh: usize, top: G, hole: usize, supervisor: usize)
+fn push_room<G: Worth>(
+    flow: &mut Flow<G>,
+    marks: &[Mark<G>],
+    fresh: usize,
+    top: G,
+    hole: usize,
+    supervisor: usize,
+)
     requires pushing { IsPushing G.ops flow.old marks.now fresh top hole }
     requires origin { (mark_at G.ops marks.now hole).origin ≡ Room supervisor }
     requires supervisor { supervisor < length flow.old.load.items }
@@ -138,7 +173,13 @@ fn push_room<G: Worth>(flow: &mut Flow<G>, marks: &[Mark<G>], fresh: usize, top:
 }
 
 /// One step: the hole moves to the node before, or the push is done.
-fn step<G: Worth>(flow: &mut Flow<G>, marks: &[Mark<G>], fresh: usize, top: G, hole: usize) -> Option<usize>
+fn step<G: Worth>(
+    flow: &mut Flow<G>,
+    marks: &[Mark<G>],
+    fresh: usize,
+    top: G,
+    hole: usize,
+) -> Option<usize>
     requires { IsPushing G.ops flow.old marks.now fresh top hole }
     ensures more { IfSome result (λ next. IsNext G.ops flow.new marks.now fresh top hole next) }
     ensures done { IfNone result (IsPushed G.ops flow.new) }

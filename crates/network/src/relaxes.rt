@@ -36,7 +36,14 @@ pub fn sink<G: Worth>(flow: &Flow<G>) -> usize
 }
 
 /// One entry of a student's list is offered what the label makes of it.
-fn relax_entry<G: Worth>(flow: &Flow<G>, student: usize, place: usize, label: G, marks: &mut [Mark<G>], count: &mut u64)
+fn relax_entry<G: Worth>(
+    flow: &Flow<G>,
+    student: usize,
+    place: usize,
+    label: G,
+    marks: &mut [Mark<G>],
+    count: &mut u64,
+)
     requires formed { IsFormed G.ops flow.now }
     requires marks { length marks.old ≡ length flow.now.potentials.items }
     requires student { student < length flow.now.lists.items }
@@ -47,11 +54,23 @@ fn relax_entry<G: Worth>(flow: &Flow<G>, student: usize, place: usize, label: G,
     ensures count { count.new ≡ count.old + 1 }
 {
     let (project, worth) = entry(flow, student, place);
-    relax(marks, project, label.plus(worth), Origin::Entry(student, place), count);
+    relax(
+        marks,
+        project,
+        label.plus(worth),
+        Origin::Entry(student, place),
+        count,
+    );
 }
 
 /// Each entry of a student's list, and the sink, is offered what the label makes of it.
-pub fn relax_entries<G: Worth>(flow: &Flow<G>, student: usize, label: G, marks: &mut [Mark<G>], count: &mut u64)
+pub fn relax_entries<G: Worth>(
+    flow: &Flow<G>,
+    student: usize,
+    label: G,
+    marks: &mut [Mark<G>],
+    count: &mut u64,
+)
     requires formed { IsFormed G.ops flow.now }
     requires marks { length marks.old ≡ length flow.now.potentials.items }
     requires student { student < length flow.now.lists.items }
@@ -85,7 +104,14 @@ fn held<G: Worth>(flow: &Flow<G>, student: usize, project: usize) -> Option<G>
 }
 
 /// The offers of one student, where placed at the project.
-fn relax_student<G: Worth>(flow: &Flow<G>, project: usize, student: usize, label: G, marks: &mut [Mark<G>], count: &mut u64)
+fn relax_student<G: Worth>(
+    flow: &Flow<G>,
+    project: usize,
+    student: usize,
+    label: G,
+    marks: &mut [Mark<G>],
+    count: &mut u64,
+)
     requires formed { IsFormed G.ops flow.now }
     requires marks { length marks.old ≡ length flow.now.potentials.items }
     requires student { student < length flow.now.lists.items }
@@ -102,7 +128,13 @@ fn relax_student<G: Worth>(flow: &Flow<G>, project: usize, student: usize, label
 }
 
 /// The offers of all students who are placed at the project.
-fn relax_students<G: Worth>(flow: &Flow<G>, project: usize, label: G, marks: &mut [Mark<G>], count: &mut u64)
+fn relax_students<G: Worth>(
+    flow: &Flow<G>,
+    project: usize,
+    label: G,
+    marks: &mut [Mark<G>],
+    count: &mut u64,
+)
     requires formed { IsFormed G.ops flow.now }
     requires marks { length marks.old ≡ length flow.now.potentials.items }
     requires label { G.ops.span label < 2 ^ 31 }
@@ -151,7 +183,13 @@ pub fn supervisor_node<G: Worth>(flow: &Flow<G>, supervisor: usize) -> usize
 }
 
 /// The arcs out of a project.
-pub fn relax_project<G: Worth>(flow: &Flow<G>, at: usize, label: G, marks: &mut [Mark<G>], count: &mut u64)
+pub fn relax_project<G: Worth>(
+    flow: &Flow<G>,
+    at: usize,
+    label: G,
+    marks: &mut [Mark<G>],
+    count: &mut u64,
+)
     requires formed { IsFormed G.ops flow.now }
     requires marks { length marks.old ≡ length flow.now.potentials.items }
     requires at { at < length flow.now.projects.items }
@@ -164,12 +202,25 @@ pub fn relax_project<G: Worth>(flow: &Flow<G>, at: usize, label: G, marks: &mut 
     relax_students(flow, at, label, marks, count);
     let (supervisor, quota) = project(flow, at);
     if project_has_room(flow, at, quota) {
-        relax(marks, supervisor_node(flow, supervisor), label, Origin::Offer(at), count);
+        relax(
+            marks,
+            supervisor_node(flow, supervisor),
+            label,
+            Origin::Offer(at),
+            count,
+        );
     }
 }
 
 /// A supervisor's offer to one project.
-fn relax_swap<G: Worth>(flow: &Flow<G>, supervisor: usize, at: usize, label: G, marks: &mut [Mark<G>], count: &mut u64)
+fn relax_swap<G: Worth>(
+    flow: &Flow<G>,
+    supervisor: usize,
+    at: usize,
+    label: G,
+    marks: &mut [Mark<G>],
+    count: &mut u64,
+)
     requires formed { IsFormed G.ops flow.now }
     requires marks { length marks.old ≡ length flow.now.potentials.items }
     requires at { at < length flow.now.projects.items }
@@ -184,7 +235,13 @@ fn relax_swap<G: Worth>(flow: &Flow<G>, supervisor: usize, at: usize, label: G, 
 }
 
 /// A supervisor's offers to all projects.
-fn relax_swaps<G: Worth>(flow: &Flow<G>, supervisor: usize, label: G, marks: &mut [Mark<G>], count: &mut u64)
+fn relax_swaps<G: Worth>(
+    flow: &Flow<G>,
+    supervisor: usize,
+    label: G,
+    marks: &mut [Mark<G>],
+    count: &mut u64,
+)
     requires formed { IsFormed G.ops flow.now }
     requires marks { length marks.old ≡ length flow.now.potentials.items }
     requires count { count.old < 2 ^ 31 }
@@ -197,7 +254,13 @@ fn relax_swaps<G: Worth>(flow: &Flow<G>, supervisor: usize, label: G, marks: &mu
 }
 
 /// The arcs out of a supervisor.
-pub fn relax_supervisor<G: Worth>(flow: &Flow<G>, supervisor: usize, label: G, marks: &mut [Mark<G>], count: &mut u64)
+pub fn relax_supervisor<G: Worth>(
+    flow: &Flow<G>,
+    supervisor: usize,
+    label: G,
+    marks: &mut [Mark<G>],
+    count: &mut u64,
+)
     requires formed { IsFormed G.ops flow.now }
     requires marks { length marks.old ≡ length flow.now.potentials.items }
     requires supervisor { supervisor < length flow.now.supervisors.items }

@@ -33,7 +33,13 @@ pub fn label_of<G: Worth>(marks: &[Mark<G>], node: usize) -> G
 }
 
 /// The arcs out of a node.
-fn relax_node<G: Worth>(flow: &Flow<G>, node: usize, label: G, marks: &mut [Mark<G>], count: &mut u64)
+fn relax_node<G: Worth>(
+    flow: &Flow<G>,
+    node: usize,
+    label: G,
+    marks: &mut [Mark<G>],
+    count: &mut u64,
+)
     requires formed { IsFormed G.ops flow.now }
     requires marks { length marks.old ≡ length flow.now.potentials.items }
     requires node { node < sink_of flow.now }
@@ -52,7 +58,13 @@ fn relax_node<G: Worth>(flow: &Flow<G>, node: usize, label: G, marks: &mut [Mark
 }
 
 /// The node is settled, and its arcs are relaxed.
-fn expand<G: Worth>(flow: &Flow<G>, node: usize, rank: usize, marks: &mut [Mark<G>], count: &mut u64)
+fn expand<G: Worth>(
+    flow: &Flow<G>,
+    node: usize,
+    rank: usize,
+    marks: &mut [Mark<G>],
+    count: &mut u64,
+)
     requires formed { IsFormed G.ops flow.now }
     requires marks { length marks.old ≡ length flow.now.potentials.items }
     requires node { node < sink_of flow.now }
@@ -81,7 +93,14 @@ fn choose<G: Worth>(flow: &Flow<G>, marks: &[Mark<G>]) -> usize
 }
 
 /// The node is settled, its arcs are relaxed, and the next node is chosen.
-fn advance<G: Worth>(flow: &Flow<G>, student: usize, node: usize, rank: usize, marks: &mut [Mark<G>], count: &mut u64) -> usize
+fn advance<G: Worth>(
+    flow: &Flow<G>,
+    student: usize,
+    node: usize,
+    rank: usize,
+    marks: &mut [Mark<G>],
+    count: &mut u64,
+) -> usize
     requires formed { IsFormed G.ops flow.now }
     requires running { IsRunning G.ops (OfStudent G.ops flow.now student G.ops.zero) (Arc G.ops flow.now) flow.now.potentials.items (sink_of flow.now) marks.old rank node }
     requires feasible { Feasible G.ops (Arc G.ops flow.now) flow.now.potentials.items }

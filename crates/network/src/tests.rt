@@ -1,14 +1,12 @@
 //! What no clause says: worked admissions, and that each comparison is counted.
 #![tactic(auto)]
 
-ghost use Rattle.std.specs.Prelude.{◌≡◌, ◌+◌, ◌<◌, ◌≤◌, ◌×◌, length, IsTrue, All};
+ghost use Rattle.std.specs.Prelude.{◌≡◌, ◌+◌, ◌<◌, ◌≤◌, length, IsTrue, All};
 ghost use Rattle.spa.specs.Places.{lex_ops};
 ghost use Rattle.spa.specs.declared.TheConstants.{MOST_SUPERVISORS, MOST_PROJECTS, MOST_PLACES, PLACES};
 
 use crate::{Admitted, Network};
-use spa::{
-    Lex, MOST_PLACES, MOST_PROJECTS, MOST_STUDENTS, MOST_SUPERVISORS, PLACES, RANKS, Worth,
-};
+use spa::{Lex, MOST_PLACES, MOST_PROJECTS, MOST_STUDENTS, MOST_SUPERVISORS, PLACES, RANKS, Worth};
 use std::alloc::Global;
 use std::marker::Model;
 use std::process::Abort;
@@ -124,7 +122,9 @@ impl Trial {
         projects: &[usize],
     ) -> Result<Admitted, Fail> {
         let list = ranked(alloc, projects)?;
-        assert!(rt; self.students < MOST_STUDENTS && list.len() <= RANKS && is_list(&list, self.projects));
+        assert!(rt;
+            self.students < MOST_STUDENTS && list.len() <= RANKS && is_list(&list, self.projects)
+        );
         let admitted = self.network.admit(&list)?;
         self.students += 1;
         Ok(admitted)
@@ -163,7 +163,10 @@ fn admissions_are_counted(rt: HostRuntime) -> Result<(), Fail> {
     let second = trial.admit(&rt, alloc, &[2, 0])?;
     assert!(rt; second.placed && 0 < second.relaxations && second.relaxations <= 112);
     assert!(rt; first.relaxations < trial.network.steps());
-    assert_eq!(rt; trial.network.steps() - first.relaxations, second.relaxations);
+    assert_eq!(rt;
+        trial.network.steps() - first.relaxations,
+        second.relaxations
+    );
     assert_eq!(rt; trial.rank_of(&rt, 0), 2);
     assert_eq!(rt; trial.rank_of(&rt, 1), 2);
     Ok(())
@@ -194,7 +197,11 @@ fn quotas_are_kept(rt: HostRuntime) -> Result<(), Fail> {
         let rank_b = trial.rank_of(&rt, 1);
         assert_eq!(rt; first.placed, quota > 0);
         assert_eq!(rt; second.placed, rank_b > 0);
-        assert_eq!(rt; rank_a.min(1).saturating_add(rank_b.min(1)), placed, "{quota} {p} {q}");
+        assert_eq!(rt;
+            rank_a.min(1).saturating_add(rank_b.min(1)),
+            placed,
+            "{quota} {p} {q}"
+        );
         assert_eq!(rt; rank_a.saturating_add(rank_b), ranks, "{quota} {p} {q}");
     }
     Ok(())
@@ -233,7 +240,10 @@ fn prices_pay_for_the_places(rt: HostRuntime) -> Result<(), Fail> {
     trial.admit(&rt, alloc, &[0, 1])?;
     trial.admit(&rt, alloc, &[2, 0])?;
     let (students, projects, supervisors) = trial.network.prices()?;
-    assert_eq!(rt; (students.len(), projects.len(), supervisors.len()), (2, 3, 1));
+    assert_eq!(rt;
+        (students.len(), projects.len(), supervisors.len()),
+        (2, 3, 1)
+    );
     let sum = paid(&students, &[1, 1])
         .wrapping_add(paid(&projects, &[1, 1, 0]))
         .wrapping_add(paid(&supervisors, &[5]));

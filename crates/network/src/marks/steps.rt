@@ -8,7 +8,6 @@ ghost use Rattle.network.specs.Marks.{mark_at, potential_at, key_at, relaxed, is
 
 use super::{Mark, Origin};
 use spa::Worth;
-
 use std::cmp::Ordering;
 
 /// Is one worth above the other?
@@ -35,7 +34,13 @@ pub fn is_open<G: Worth>(mark: &Mark<G>) -> bool
 }
 
 /// One relaxation: a node's label is compared with one across an arc.
-pub fn relax<G: Worth>(marks: &mut [Mark<G>], node: usize, label: G, origin: Origin, count: &mut u64)
+pub fn relax<G: Worth>(
+    marks: &mut [Mark<G>],
+    node: usize,
+    label: G,
+    origin: Origin,
+    count: &mut u64,
+)
     requires node { node < length marks.old }
     requires origin { is_seen origin ≡ true }
     requires count { count.old + 1 < 2 ^ 64 }
@@ -58,7 +63,11 @@ fn compare<G: Worth>(marks: &mut [Mark<G>], node: usize, label: G, origin: Origi
             _ => exceeds(label, mark.label),
         };
         if better {
-            marks[node] = Mark { label, origin, rank: None };
+            marks[node] = Mark {
+                label,
+                origin,
+                rank: None,
+            };
         }
     }
 }

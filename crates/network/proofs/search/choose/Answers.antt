@@ -20,4 +20,4 @@ pub returns-clause-best : goal.returns-clause-best
 returns-clause-best g c =
     let o = g.G.Worth.ops in
     best_of_all g.met.G.Worth.laws c.args.marks.now (λ b. AtMost o (key_at o c.args.marks.now c.args.flow.now.potentials.items b) (key_at o c.args.marks.now c.args.flow.now.potentials.items c.best_open.result))
-      (rw c.as_slice.ensures.value at c.best_open.ensures.best)
+    (rw c.as_slice.ensures.value at c.best_open.ensures.best)
