@@ -117,8 +117,8 @@ module _ (law : IsLexicographic PLACES) (order : IsSettled greedy) where
         λ t h. row-places_of PLACES (λ t. pos (weight (k + 1) t)) t h ∙ ap (λ (r : ℕ). pos (weight r t)) (sym (rank s k c.1) ∙ ap (rank_in xs) here) in
         let pays : (t : ℕ) → t < PLACES → row PLACES (o.plus u (o.plus y z)) t ≡ paid i p s q t =
         λ t _. let e = law.plus u (o.plus y z) t in let f = law.plus y z t in
-            let us = of.student_rows.same s t in let ys = of.project_rows.same q t in let zs = of.supervisor_rows.same l t in
-            e ∙ ap (λ (x : ℤ). row PLACES u t +ℤ x) f ∙ ap (λ (x : ℤ). x +ℤ (row PLACES y t +ℤ row PLACES z t)) (sym us) ∙ ap (λ (x : ℤ). price p.students.items s t +ℤ (x +ℤ row PLACES z t)) (sym ys) ∙ ap (λ (x : ℤ). price p.students.items s t +ℤ (price p.projects.items q t +ℤ x)) (sym zs) in
+        let us = of.student_rows.same s t in let ys = of.project_rows.same q t in let zs = of.supervisor_rows.same l t in
+        e ∙ ap (λ (x : ℤ). row PLACES u t +ℤ x) f ∙ ap (λ (x : ℤ). x +ℤ (row PLACES y t +ℤ row PLACES z t)) (sym us) ∙ ap (λ (x : ℤ). price p.students.items s t +ℤ (x +ℤ row PLACES z t)) (sym ys) ∙ ap (λ (x : ℤ). price p.students.items s t +ℤ (price p.projects.items q t +ℤ x)) (sym zs) in
         order.same (row PLACES (worth_of k)) (λ t. pos (weight (rank_in xs q) t)) (row PLACES (o.plus u (o.plus y z))) (paid i p s q) weighs pays ((law.at_most (worth_of k) (o.plus u (o.plus y z))).0 a)
 
     -- the prices add up to what the places weigh

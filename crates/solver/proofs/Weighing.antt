@@ -39,6 +39,6 @@ entry-weighed_from n (suc k) (x ∷ xs) d h =
 pub all-weighed : (P : ℕ × Places PLACES → Type 0) (list : List ℕ) → ((k d : ℕ) → k < length list → P (get_or list k d, worth_of k)) → All P (weighed list)
 all-weighed P list each =
     λ k d h.
-        let known : k < length list = subst (λ (n : ℕ). k < n) (length-weighed_from 0 list) h in
-        let here : get_or (weighed list) k d ≡ (get_or list k d.0, worth_of k) = entry-weighed_from 0 k list d known ∙ ap (λ (m : ℕ). (get_or list k d.0, worth_of m)) (omega arith) in
-        subst P (sym here) (each k d.0 known)
+    let known : k < length list = subst (λ (n : ℕ). k < n) (length-weighed_from 0 list) h in
+    let here : get_or (weighed list) k d ≡ (get_or list k d.0, worth_of k) = entry-weighed_from 0 k list d known ∙ ap (λ (m : ℕ). (get_or list k d.0, worth_of m)) (omega arith) in
+    subst P (sym here) (each k d.0 known)

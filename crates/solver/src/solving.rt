@@ -48,7 +48,11 @@ fn narrow(place: Option<usize>) -> Option<u8>
 }
 
 /// The places of the students admitted, as a matching.
-fn matching_of(alloc: Global, network: &Network<Lex>, students: usize) -> Result<Matching, AllocError>
+fn matching_of(
+    alloc: Global,
+    network: &Network<Lex>,
+    students: usize,
+) -> Result<Matching, AllocError>
     requires students { length network.now.lists ≡ students }
     requires places { length network.now.places ≡ students }
     requires small { (s k : ℕ) → slice_get network.now.places s ≡ Some (Some k) → k < 256 }
