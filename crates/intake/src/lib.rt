@@ -9,20 +9,20 @@
 //! stand in it in `specs/Parts.antt`, and the first bad line in `specs/Reading.antt`; begin there.
 #![tactic(auto)]
 
-//mod draft;
-//mod fields;
+mod draft;
+mod fields;
 mod lines;
-//mod lookup;
-//mod read;
+mod lookup;
+mod read;
 mod round;
 mod write;
 
-//pub use read::read_round;
+pub use read::read_round;
 pub use round::{RoundFault, RoundParts};
 pub use write::write_round;
 
 /// The longest round text that is read, in bytes.
 pub const MOST_BYTES: usize = 262_144;
 
-//#[cfg(test)]
-//mod tests;
+#[cfg(test)]
+mod tests;

@@ -1,7 +1,7 @@
 //! What is read of a round text, and why a text is none.
 #![tactic(auto)]
 
-use spa::{Instance, Matching};
+use spa::{Instance, Matching, TextFault};
 use std::alloc::{AllocError, AllocFailed};
 use thiserror::Error;
 use verdict::Prices;
@@ -50,6 +50,17 @@ impl<T: Drop> From<AllocFailed<T>> for RoundFault {
     ghost from_gives = { λ _ e. e ≡ Memory };
 
     fn from(_: AllocFailed<T>) -> RoundFault {
+        RoundFault::Memory
+    }
+}
+
+impl From<TextFault> for RoundFault {
+    ghost use Rattle.std.specs.Prelude.{◌≡◌};
+    ghost use Rattle.intake.specs.declared.round.RoundFault.TheVariants.{Memory};
+
+    ghost from_gives = { λ _ e. e ≡ Memory };
+
+    fn from(_: TextFault) -> RoundFault {
         RoundFault::Memory
     }
 }
