@@ -1,2 +1,3 @@
 mod Found
+mod Numbers
 mod Writing

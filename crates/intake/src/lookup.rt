@@ -1,7 +1,9 @@
 //! Codes in rolls that rise, and in lists.
 #![tactic(auto)]
 
-ghost use Rattle.std.specs.Prelude.{◌≡◌, ℕ, List};
+ghost use Rattle.std.specs.Prelude.{◌≡◌, ◌↔◌, ℕ, List, [], ◌∷◌, ◌++◌, map, length, IsTrue};
+ghost use Rattle.spa.specs.Codes.{Finds};
+ghost use Rattle.intake.specs.Parts.{Rise};
 
 use spa::Code;
 use std::cmp::Ordering;
@@ -40,7 +42,10 @@ impl Coded for (Code, Vec<Code>) {
 }
 
 /// Where a code stands in a roll.
-pub(crate) fn position_of<E: Coded>(roll: &[E], code: &str) -> Option<usize> {
+pub(crate) fn position_of<E: Coded>(roll: &[E], code: &str) -> Option<usize>
+    requires { Rise (map E.key roll.now) }
+    ensures { Finds (map E.key roll.now) (length roll.now) code.now result }
+{
     let mut low = 0;
     let mut high = roll.len();
     while low < high {
@@ -55,7 +60,10 @@ pub(crate) fn position_of<E: Coded>(roll: &[E], code: &str) -> Option<usize> {
 }
 
 /// Whether a code comes after all of a roll.
-pub(crate) fn is_next<E: Coded>(roll: &[E], code: &str) -> bool {
+pub(crate) fn is_next<E: Coded>(roll: &[E], code: &str) -> bool
+    requires { Rise (map E.key roll.now) }
+    ensures { IsTrue result ↔ Rise (map E.key roll.now ++ code.now ∷ []) }
+{
     match roll.last() {
         Some(entry) => entry.code().cmp(code) == Ordering::Less,
         None => true,
@@ -63,7 +71,9 @@ pub(crate) fn is_next<E: Coded>(roll: &[E], code: &str) -> bool {
 }
 
 /// The place of a code in a list.
-pub(crate) fn place_of(list: &[Code], code: &str) -> Option<usize> {
+pub(crate) fn place_of(list: &[Code], code: &str) -> Option<usize>
+    ensures { Finds list.now (length list.now) code.now result }
+{
     for place in 0..list.len() {
         if list[place].as_str() == code {
             return Some(place);
