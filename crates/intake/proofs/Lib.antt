@@ -1,3 +1,4 @@
 mod Found
 mod Numbers
+mod Order
 mod Writing

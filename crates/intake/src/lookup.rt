@@ -64,10 +64,10 @@ pub(crate) fn is_next<E: Coded>(roll: &[E], code: &str) -> bool
     requires { Rise (map E.key roll.now) }
     ensures { IsTrue result ↔ Rise (map E.key roll.now ++ code.now ∷ []) }
 {
-    match roll.last() {
-        Some(entry) => entry.code().cmp(code) == Ordering::Less,
-        None => true,
-    }
+    let Some(last) = roll.last() else {
+        return true;
+    };
+    last.code().cmp(code).is_lt()
 }
 
 /// The place of a code in a list.
