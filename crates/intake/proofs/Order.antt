@@ -154,3 +154,7 @@ is_next_of key es e code at o r rise last is compared test =
     some_length : {E : Type 0} (es : List E) (m : ℕ) (e : E) → Some e ≡ slice_get es m → 0 < length es
     some_length [] m e h = cc
     some_length (x ∷ es) m e h = omega arith
+
+-- the code of an entry that was read
+pub key_at : {E : Type 0} (key : E → List ℕ) (es : List E) (m : ℕ) (e : E) → m < length es → e ≡ get_or es m e → get_or (map key es) m [] ≡ key e
+key_at key es m e h read = get_found (map key es) m (key e) [] (key_read key es m e h read)

@@ -1,5 +1,5 @@
 -- The parts of a round text as far as it was read, and what a line may add to them.
-use Rattle.std.specs.Prelude.{◌≡◌, ℕ, ◌<◌, ◌≤◌, ◌⊎◌, ℤ, List, [], ◌∷◌, ◌++◌, length, map, take, slice_get, Option, Some, None, IsSome, IsTrue, All, Contains, ⊤}
+use Rattle.std.specs.Prelude.{◌≡◌, Bool, true, false, replicate, ◌-◌, ℕ, ◌<◌, ◌≤◌, ◌⊎◌, ℤ, List, [], ◌∷◌, ◌++◌, length, map, take, slice_get, Option, Some, None, IsSome, IsTrue, All, Contains, ⊤}
 use Rattle.std.specs.Fmt.{signed_decimal}
 use Rattle.spa.specs.declared.TheConstants.{MOST_SUPERVISORS, MOST_PROJECTS, MOST_STUDENTS, MOST_PLACES}
 use Rattle.spa.specs.Text.{is_code}
@@ -108,3 +108,44 @@ pub record TakesPrice (codes : List (List ℕ)) (prices : List (List ℤ)) (row 
   pub few : length prices < length codes
   pub is : row ≡ code_at codes (length prices) ∷ map signed_decimal v
   pub price : IsPrice v
+
+-- one supervisor more
+abbrev pub with_supervisor : Parts → Supervisor → Parts
+with_supervisor p e = record p { instance = record p.instance { supervisors = p.instance.supervisors ++ e ∷ [] } }
+
+-- one project more
+abbrev pub with_project : Parts → Project → Parts
+with_project p e = record p { instance = record p.instance { projects = p.instance.projects ++ e ∷ [] } }
+
+-- one student more
+abbrev pub with_student : Parts → Student → Parts
+with_student p e = record p { instance = record p.instance { students = p.instance.students ++ e ∷ [] } }
+
+-- one pair more: the students between the last pair and this one have no place
+abbrev pub with_pair : Parts → ℕ → ℕ → Parts
+with_pair p s k = record p { places = p.places ++ replicate (s - length p.places) None ++ Some k ∷ [] }
+
+-- a supervisor was added, or none could be
+abbrev pub AddsSupervisor : Parts → Row → Parts → Bool → Type 0
+AddsSupervisor old row new true = (e : Supervisor) × TakesSupervisor old row e × (new ≡ with_supervisor old e)
+AddsSupervisor old row new false = (e : Supervisor) → ¬ TakesSupervisor old row e
+
+-- the same of a project
+abbrev pub AddsProject : Parts → Row → Parts → Bool → Type 0
+AddsProject old row new true = (e : Project) × TakesProject old row e × (new ≡ with_project old e)
+AddsProject old row new false = (e : Project) → ¬ TakesProject old row e
+
+-- the same of a student
+abbrev pub AddsStudent : Parts → Row → Parts → Bool → Type 0
+AddsStudent old row new true = (e : Student) × TakesStudent old row e × (new ≡ with_student old e)
+AddsStudent old row new false = (e : Student) → ¬ TakesStudent old row e
+
+-- the same of a pair
+abbrev pub AddsPair : Parts → Row → Parts → Bool → Type 0
+AddsPair old row new true = (s k : ℕ) × TakesPair old row s k × (new ≡ with_pair old s k)
+AddsPair old row new false = (s k : ℕ) → ¬ TakesPair old row s k
+
+-- the same of a price
+abbrev pub AddsPrice : List (List ℕ) → List (List ℤ) → Row → List (List ℤ) → Bool → Type 0
+AddsPrice codes old row new true = (v : List ℤ) × TakesPrice codes old row v × (new ≡ old ++ v ∷ [])
+AddsPrice codes old row new false = (v : List ℤ) → ¬ TakesPrice codes old row v

@@ -1,6 +1,11 @@
 //! The parts of a round text as far as it was read.
 #![tactic(auto)]
 
+ghost use Rattle.std.specs.Prelude.{◌≡◌, ◌-◌, ◌++◌, ◌↔◌, ◌≤◌, ℕ, ℤ, List, [], map, length, replicate, IfOk, OnOk, MatchOption, IsTrue, None};
+ghost use Rattle.spa.specs.Made.{IsSoundList};
+ghost use Rattle.intake.specs.Parts.{Rise, IsRoll};
+ghost use Rattle.intake.specs.Draft.{draft_of, IsDraft, HasNoPrices, NoneOrAll, AddsSupervisor, AddsProject, AddsStudent, AddsPair, AddsPrice};
+
 use crate::fields::{pieces, read_code, read_price, read_quota};
 use crate::lookup::{Coded, is_next, place_of, position_of};
 use crate::round::{RoundFault, RoundParts};
@@ -27,7 +32,10 @@ fn read_list(
     alloc: Global,
     projects: &[(Code, Code, u32)],
     fields: &[&[u8]],
-) -> Result<Option<Vec<Code>>, RoundFault> {
+) -> Result<Option<Vec<Code>>, RoundFault>
+    requires { IsRoll (map (λ e. e.0) projects.now) }
+    ensures { IfOk result (λ o. MatchOption o (¬ IsSoundList (map (λ e. e.0) projects.now) (map (λ f. f.now) fields.now)) (λ l. (l.items ≡ map (λ f. f.now) fields.now) × IsSoundList (map (λ e. e.0) projects.now) (map (λ f. f.now) fields.now))) }
+{
     if fields.is_empty() || fields.len() > RANKS {
         return Ok(None);
     }
@@ -52,12 +60,17 @@ fn add_price<E: Coded>(
     prices: &mut Vec<[i64; PLACES]>,
     roll: &[E],
     fields: &[&[u8]],
-) -> Result<bool, RoundFault> {
+) -> Result<bool, RoundFault>
+    ensures { IfOk result (λ b. AddsPrice (map E.key roll.now) prices.old.items (map (λ f. f.now) fields.now) prices.new.items b) }
+{
     let Some((code, numbers)) = fields.split_first() else {
         return Ok(false);
     };
     let next = prices.len();
-    if next >= roll.len() || roll[next].code().as_bytes() != *code {
+    if next >= roll.len() {
+        return Ok(false);
+    }
+    if roll[next].code().as_bytes() != *code {
         return Ok(false);
     }
     let Some(price) = read_price(numbers) else {
@@ -68,7 +81,10 @@ fn add_price<E: Coded>(
 }
 
 /// Fills places with none up to a length.
-fn fill(places: &mut Vec<Option<u8>>, len: usize) -> Result<(), RoundFault> {
+fn fill(places: &mut Vec<Option<u8>>, len: usize) -> Result<(), RoundFault>
+    requires { length places.old.items ≤ len }
+    ensures { OnOk result (places.new.items ≡ places.old.items ++ replicate (len - length places.old.items) None) }
+{
     for _ in places.len()..len {
         places.push(None)?;
     }
@@ -76,7 +92,9 @@ fn fill(places: &mut Vec<Option<u8>>, len: usize) -> Result<(), RoundFault> {
 }
 
 /// Whether there is no price, or one for each entry.
-fn is_none_or_all(prices: &[[i64; PLACES]], entries: usize) -> bool {
+fn is_none_or_all(prices: &[[i64; PLACES]], entries: usize) -> bool
+    ensures { IsTrue result ↔ NoneOrAll entries prices.now }
+{
     prices.is_empty() || prices.len() == entries
 }
 
@@ -96,16 +114,21 @@ impl Draft {
         }
     }
 
-    /// Whether a price was read.
-    fn has_prices(&self) -> bool {
-        !self.prices.students.is_empty()
-            || !self.prices.projects.is_empty()
-            || !self.prices.supervisors.is_empty()
+    /// Whether no price was read.
+    fn has_no_prices(&self) -> bool
+        ensures { IsTrue result ↔ HasNoPrices (draft_of self.now) }
+    {
+        self.prices.students.is_empty()
+            && self.prices.projects.is_empty()
+            && self.prices.supervisors.is_empty()
     }
 
     /// Adds a supervisor, if one may come here.
-    fn add_supervisor(&mut self, alloc: Global, fields: &[&[u8]]) -> Result<bool, RoundFault> {
-        if !self.projects.is_empty() || self.has_prices() {
+    fn add_supervisor(&mut self, alloc: Global, fields: &[&[u8]]) -> Result<bool, RoundFault>
+        requires { IsDraft (draft_of self.old) }
+        ensures { IfOk result (λ b. AddsSupervisor (draft_of self.old) (map (λ f. f.now) fields.now) (draft_of self.new) b) }
+    {
+        if !self.projects.is_empty() || !self.has_no_prices() {
             return Ok(false);
         }
         let [code, quota] = fields else {
@@ -117,9 +140,10 @@ impl Draft {
         let Some(quota) = read_quota(quota) else {
             return Ok(false);
         };
-        if self.supervisors.len() >= MOST_SUPERVISORS
-            || !is_next(&self.supervisors, code.as_str())
-        {
+        if self.supervisors.len() >= MOST_SUPERVISORS {
+            return Ok(false);
+        }
+        if !is_next(&self.supervisors, code.as_str()) {
             return Ok(false);
         }
         self.supervisors.push((code, quota))?;
@@ -127,8 +151,11 @@ impl Draft {
     }
 
     /// Adds a project, if one may come here.
-    fn add_project(&mut self, alloc: Global, fields: &[&[u8]]) -> Result<bool, RoundFault> {
-        if !self.students.is_empty() || self.has_prices() {
+    fn add_project(&mut self, alloc: Global, fields: &[&[u8]]) -> Result<bool, RoundFault>
+        requires { IsDraft (draft_of self.old) }
+        ensures { IfOk result (λ b. AddsProject (draft_of self.old) (map (λ f. f.now) fields.now) (draft_of self.new) b) }
+    {
+        if !self.students.is_empty() || !self.has_no_prices() {
             return Ok(false);
         }
         let [code, supervisor, quota] = fields else {
@@ -143,7 +170,10 @@ impl Draft {
         let Some(quota) = read_quota(quota) else {
             return Ok(false);
         };
-        if self.projects.len() >= MOST_PROJECTS || !is_next(&self.projects, code.as_str()) {
+        if self.projects.len() >= MOST_PROJECTS {
+            return Ok(false);
+        }
+        if !is_next(&self.projects, code.as_str()) {
             return Ok(false);
         }
         if position_of(&self.supervisors, supervisor.as_str()).is_none() {
@@ -154,8 +184,11 @@ impl Draft {
     }
 
     /// Adds a student, if one may come here.
-    fn add_student(&mut self, alloc: Global, fields: &[&[u8]]) -> Result<bool, RoundFault> {
-        if !self.places.is_empty() || self.has_prices() {
+    fn add_student(&mut self, alloc: Global, fields: &[&[u8]]) -> Result<bool, RoundFault>
+        requires { IsDraft (draft_of self.old) }
+        ensures { IfOk result (λ b. AddsStudent (draft_of self.old) (map (λ f. f.now) fields.now) (draft_of self.new) b) }
+    {
+        if !self.places.is_empty() || !self.has_no_prices() {
             return Ok(false);
         }
         let Some((code, list)) = fields.split_first() else {
@@ -164,7 +197,10 @@ impl Draft {
         let Some(code) = read_code(alloc, code)? else {
             return Ok(false);
         };
-        if self.students.len() >= MOST_STUDENTS || !is_next(&self.students, code.as_str()) {
+        if self.students.len() >= MOST_STUDENTS {
+            return Ok(false);
+        }
+        if !is_next(&self.students, code.as_str()) {
             return Ok(false);
         }
         let Some(list) = read_list(alloc, &self.projects, list)? else {
@@ -175,8 +211,11 @@ impl Draft {
     }
 
     /// Adds a pair, if one may come here.
-    fn add_pair(&mut self, alloc: Global, fields: &[&[u8]]) -> Result<bool, RoundFault> {
-        if self.has_prices() {
+    fn add_pair(&mut self, alloc: Global, fields: &[&[u8]]) -> Result<bool, RoundFault>
+        requires { IsDraft (draft_of self.old) }
+        ensures { IfOk result (λ b. AddsPair (draft_of self.old) (map (λ f. f.now) fields.now) (draft_of self.new) b) }
+    {
+        if !self.has_no_prices() {
             return Ok(false);
         }
         let [student, project] = fields else {
