@@ -3,5 +3,6 @@ mod Found
 mod Lists
 mod Numbers
 mod Order
+mod Pairing
 mod Rolls
 mod Writing

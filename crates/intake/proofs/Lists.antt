@@ -92,3 +92,7 @@ agrees a b h = (bytes_eq-Decides a b).0 (flip (bytes_eq a b) h)
 -- the first fields of two rows that are the same
 pub first_field : (a b : List ℕ) (xs ys : List (List ℕ)) → a ∷ xs ≡ b ∷ ys → a ≡ b
 first_field a b xs ys e = cc
+
+-- the other fields of two rows that are the same
+pub other_fields : (a b : List ℕ) (xs ys : List (List ℕ)) → a ∷ xs ≡ b ∷ ys → xs ≡ ys
+other_fields a b xs ys e = cc

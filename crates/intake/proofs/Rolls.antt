@@ -5,7 +5,7 @@ use Rattle.std.proofs.lemmas.List.{map_push, length-map}
 use Rattle.spa.specs.declared.code.Code.{Code}
 use Rattle.spa.specs.Instance.{Supervisor, Project, Student, supervisors_of, projects_of, students_of}
 use Rattle.spa.specs.Codes.{AreApart, Finds}
-use Rattle.spa.specs.Made.{AreKnown}
+use Rattle.spa.specs.Made.{AreKnown, IsSoundList}
 use Rattle.intake.specs.Parts.{Rise}
 use Rattle.intake.proofs.Found.{slice_get_at}
 use Rattle.intake.proofs.Order.{get_found}
@@ -56,3 +56,12 @@ standing codes code h = (h.0, h.1, slice_get_at codes h.0 code code h.1 h.2)
 -- one code more that rises, said of the same codes
 pub rise_moved : (a b : List (List ℕ)) (x y : List ℕ) → a ≡ b → x ≡ y → Rise (a ++ x ∷ []) → Rise (b ++ y ∷ [])
 rise_moved a b x y e f rise = subst (λ (l : List (List ℕ)). Rise (l ++ y ∷ [])) e (subst (λ (z : List ℕ). Rise (a ++ z ∷ [])) f rise)
+
+-- students by codes are as many
+pub student_count : (es : List (List ℕ × Vec Code Global)) → length (students_of (map (λ e. (e.0, e.1.items)) es)) ≡ length es
+student_count [] = refl
+student_count (e ∷ es) = ap suc (student_count es)
+
+-- a sound list, said of the same codes
+pub sound_moved : (a b x y : List (List ℕ)) → a ≡ b → x ≡ y → IsSoundList a x → IsSoundList b y
+sound_moved a b x y e f sound = subst (λ (l : List (List ℕ)). IsSoundList l y) e (subst (λ (l : List (List ℕ)). IsSoundList a l) f sound)
