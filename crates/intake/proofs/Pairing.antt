@@ -73,3 +73,20 @@ refers p row s k a b d t e =
 -- a code that was found nowhere
 pub nowhere : (codes : List (List ℕ)) (n m : ℕ) (code other : List ℕ) → n ≡ length codes → code ≡ other → Finds codes n code None → slice_get codes m ≡ Some other → ⊥
 nowhere codes n m code other e same none found = none m (omega (arith, within_get codes m other found)) (found ∙ ap Some (sym same))
+
+-- the list of the student that was looked up
+pub listed_at : (es : List (List ℕ × Vec Code Global)) (n m : ℕ) (e : List ℕ × Vec Code Global) (st : Student) → n < length es → e ≡ get_or es n e → n ≡ m → slice_get (students_of (map (λ e. (e.0, e.1.items)) es)) m ≡ Some st → st.list ≡ e.1.items
+listed_at es n m e st h r same found =
+    let at : Some (let s : Student = record { code = e.0; list = e.1.items } in s) ≡ Some st = sym (student_at es n e h r) ∙ ap (slice_get (students_of (map (λ e. (e.0, e.1.items)) es))) same ∙ found in
+    let s : (let s : Student = record { code = e.0; list = e.1.items } in s) ≡ st = cc in
+    ap (λ (s : Student). s.list) (sym s)
+
+-- a place in the list of a student is small
+pub small_place : (p : Parts) (s k : ℕ) (e : Student) → IsDraft p → slice_get p.instance.students s ≡ Some e → k < length e.list → k < 8
+small_place p s k e d here h =
+    let sound : IsSoundList (project_codes p.instance) e.list = all_found (λ (x : Student). IsSoundList (project_codes p.instance) x.list) p.instance.students s e d.listed here in
+    omega (arith, sound.0.1)
+
+-- what is found at a position is one
+pub same_found : (codes : List (List ℕ)) (n : ℕ) (a b : List ℕ) → slice_get codes n ≡ Some a → slice_get codes n ≡ Some b → a ≡ b
+same_found codes n a b e f = (let s : Some a ≡ Some b = sym e ∙ f in cc)
