@@ -1,0 +1,98 @@
+-- Codes and numbers have texts of ASCII, and are read from them.
+use Rattle.std.proofs.Common.{◌≡◌, ℕ, zero, suc, ◌<◌, ◌≤◌, ◌^◌, Bool, true, false, ◌&&◌, ◌||◌, nat_le, ◌==◌, ◌≢◌, ◌+◌, ℤ, pos, negsuc, List, [], ◌∷◌, length, map, set, get_or, Result, Ok, decimal, refl, sym, ap, ◌∙◌, arith, below_more, length-set, get_or-set_other, get_or-set_same, to_z, of_z}
+use denote.Ref.{Bor}
+use Rattle.std.proofs.lemmas.List.{get_or_default}
+use Rattle.spa.specs.declared.TheConstants.{PLACES}
+use Rattle.std.specs.Fmt.{signed_decimal}
+use Rattle.std.specs.List.{list_all}
+use Rattle.std.specs.Int.RustNames.{FitsSigned}
+use Rattle.std.specs.Cmp.{first_so, second_so}
+use Rattle.std.specs.Str.{IsUtf8, IsAscii}
+use Rattle.std.specs.Str.Parse.{ParsesUnsigned, ParsesSigned}
+use Rattle.std.proofs.lemmas.Bool.Decides.{nat_tests}
+use Rattle.std.proofs.lemmas.Fmt.{parse-decimal, parse-signed_decimal, IsAscii-decimal, IsAscii-signed}
+use Rattle.std.proofs.lemmas.Str.{IsUtf8-from_ascii}
+use Rattle.std.proofs.lemmas.Int.{ints, to_z-of_z}
+use Rattle.spa.specs.Text.{is_code, is_code_byte}
+use Rattle.verdict.specs.Rows.{InRange}
+use lib.Signed.{mag}
+use mir.Syntax.{Width, w64}
+
+-- a quota is text
+pub quota_utf8 : (n : ℕ) → n ≤ 500 → IsUtf8 (decimal n)
+quota_utf8 n h = IsUtf8-from_ascii (decimal n) (IsAscii-decimal n (omega arith))
+
+-- the text of a quota is read as it
+pub quota_parsed : {E : Type 0} (n : ℕ) (bs : List ℕ) (r : Result ℕ E) → n ≤ 500 → bs ≡ decimal n → ParsesUnsigned 32 10 bs r → r ≡ Ok n
+quota_parsed n bs r h e p = parse-decimal 32 n bs r (omega arith) (omega arith) e p
+
+-- a number of a price is small
+pub small : (n : ℤ) → InRange n → mag n < 2 ^ 63
+small (pos n) h = omega (arith, ints)
+small (negsuc n) h = omega (arith, ints)
+
+-- a number of a price is text
+pub number_utf8 : (n : ℤ) → InRange n → IsUtf8 (signed_decimal n)
+number_utf8 n h = IsUtf8-from_ascii (signed_decimal n) (IsAscii-signed n (small n h))
+
+-- the text of such a number is read as it
+pub number_parsed : {E : Type 0} (n : ℤ) (bs : List ℕ) (r : Result ℤ E) → InRange n → bs ≡ signed_decimal n → ParsesSigned w64 10 bs r → r ≡ Ok n
+number_parsed n bs r h e p = parse-signed_decimal w64 n bs r (record { sfits = small n h }) (small n h) e p
+
+-- a byte of a code is ASCII
+code_byte_ascii : (b : ℕ) → is_code_byte b ≡ true → b < 128
+code_byte_ascii b h = grind (arith, nat_tests)
+
+-- bytes of codes are ASCII
+code_bytes_ascii : (bs : List ℕ) → list_all is_code_byte bs ≡ true → IsAscii bs
+code_bytes_ascii [] h i = omega arith
+code_bytes_ascii (b ∷ bs) h zero = code_byte_ascii b (first_so (is_code_byte b) (list_all is_code_byte bs) h)
+code_bytes_ascii (b ∷ bs) h (suc i) = code_bytes_ascii bs (second_so (is_code_byte b) (list_all is_code_byte bs) h) i
+
+-- the bytes of a code are bytes of codes
+pub code_bytes : (bs : List ℕ) → is_code bs ≡ true → list_all is_code_byte bs ≡ true
+code_bytes bs h = second_so _ (list_all is_code_byte bs) h
+
+-- a code is text
+pub code_utf8 : (bs : List ℕ) → is_code bs ≡ true → IsUtf8 bs
+code_utf8 bs h = IsUtf8-from_ascii bs (code_bytes_ascii bs (code_bytes bs h))
+
+-- such a number is kept in 64 bits
+pub number_kept : (n : ℤ) → InRange n → to_z w64 (of_z w64 n) ≡ n
+number_kept n h = to_z-of_z w64 n (record { sfits = small n h })
+
+-- the field at t, where the fields are the texts of numbers
+pub field_is : (fs : List (Bor (List ℕ))) (v : List ℤ) (t : ℕ) (f : Bor (List ℕ)) → map (λ f. f.now) fs ≡ map signed_decimal v → t < length v → (get_or fs t f).now ≡ signed_decimal (get_or v t (pos 0))
+field_is fs [] t f e h = absurd (omega arith)
+field_is [] (x ∷ v) t f e h = cc
+field_is (g ∷ fs) (x ∷ v) zero f e h = cc
+field_is (g ∷ fs) (x ∷ v) (suc t) f e h = let rest : map (λ (f : Bor (List ℕ)). f.now) fs ≡ map signed_decimal v = cc in field_is fs v t f rest (omega arith)
+
+-- fields of which each is the text of its number
+pub fields_are : (fs : List (Bor (List ℕ))) (v : List ℤ) → length fs ≡ length v → ((k : ℕ) (f : Bor (List ℕ)) → k < length v → (get_or fs k f).now ≡ signed_decimal (get_or v k (pos 0))) → map (λ f. f.now) fs ≡ map signed_decimal v
+fields_are [] [] n h = refl
+fields_are [] (x ∷ v) n h = absurd (omega arith)
+fields_are (g ∷ fs) [] n h = absurd (omega arith)
+fields_are (g ∷ fs) (x ∷ v) n h =
+    let first : g.now ≡ signed_decimal x = h 0 g (omega arith) in
+    let rest : map (λ (f : Bor (List ℕ)). f.now) fs ≡ map signed_decimal v = fields_are fs v (omega arith) (λ k f l. h (suc k) f (omega arith)) in
+    cc
+
+-- what the first t fields were read as
+pub record AreRead (fs : List (Bor (List ℕ))) (v : List ℤ) (t : ℕ) : Type 0 where
+  pub numbers : length v ≡ PLACES
+  pub range : (k : ℕ) → k < t → InRange (get_or v k (pos 0))
+  pub texts : (k : ℕ) (f : Bor (List ℕ)) → k < t → (get_or fs k f).now ≡ signed_decimal (get_or v k (pos 0))
+
+-- one field more
+pub read_more : (fs : List (Bor (List ℕ))) (v : List ℤ) (t : ℕ) (n : ℤ) (d : Bor (List ℕ)) → t < PLACES → t < length fs → AreRead fs v t → InRange n → (get_or fs t d).now ≡ signed_decimal n
+    → AreRead fs (set v t (to_z w64 (of_z w64 n))) (t + 1)
+read_more fs v t n d h l r range is =
+    let within : t < length v = omega (arith, r.numbers) in
+    rw (number_kept n range) (record {
+      numbers = length-set v t n ∙ r.numbers;
+      range = below_more (λ k. InRange (get_or (set v t n) k (pos 0))) t (λ k i. let ne : k ≢ t = omega arith in rw get_or-set_other (r.range k i)) (rw get_or-set_same range);
+      texts = λ k f i. below_more (λ k. (get_or fs k f).now ≡ signed_decimal (get_or (set v t n) k (pos 0))) t
+          (λ k i. let ne : k ≢ t = omega arith in rw get_or-set_other (r.texts k f i))
+          (rw get_or-set_same (ap (λ (b : Bor (List ℕ)). b.now) (get_or_default fs t f d l) ∙ is)) k i;
+    })

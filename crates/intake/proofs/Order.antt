@@ -1,0 +1,160 @@
+-- The order of codes, and a search in codes that rise.
+use Rattle.std.proofs.Common.{◌≡◌, ◌≢◌, ℕ, zero, suc, ◌+◌, ◌-◌, ◌<◌, ◌≤◌, length-append, List, [], ◌∷◌, ◌++◌, length, map, get_or, slice_get, Option, Some, None, refl, sym, ap, ◌∙◌, subst, inl, inr, arith}
+use Rattle.std.specs.declared.cmp.Ordering.{Ordering}
+use Rattle.std.specs.declared.cmp.Ordering.TheVariants.{Less, Equal, Greater}
+use Rattle.std.specs.FinMap.{slice_cmp-IsAntisymmetric, nat_cmp-IsAntisymmetric}
+use Rattle.std.specs.Ordering.{nat_cmp, ordering_reverse, is_lt}
+use Rattle.std.specs.Prelude.{Bool, true, IsTrue}
+use Rattle.std.specs.Cmp.Lexicographic.{slice_cmp}
+use Rattle.std.proofs.lemmas.Cmp.{nat_list_cmp_total, tied_itself}
+use Rattle.std.proofs.lemmas.Bool.{cases_lt}
+use Rattle.std.proofs.lemmas.List.{get_or_default, get_or_append_left, get_or_at, length-map}
+use Rattle.std.proofs.lemmas.List.Quantifiers.{all_pairs_push}
+use Rattle.spa.specs.Codes.{Finds}
+use Rattle.intake.specs.Parts.{code_cmp, Rise}
+
+-- codes that compare as equal are the same
+pub cmp_same : (a b : List ℕ) → code_cmp a b ≡ Equal → a ≡ b
+cmp_same a b e = slice_cmp-IsAntisymmetric nat_cmp-IsAntisymmetric a b e
+
+-- a code is the same as itself
+pub cmp_itself : (a : List ℕ) → code_cmp a a ≡ Equal
+cmp_itself a = tied_itself nat_list_cmp_total a
+
+-- the order, read the other way round
+pub cmp_back : (a b : List ℕ) → code_cmp a b ≡ Greater → code_cmp b a ≡ Less
+cmp_back a b e = nat_list_cmp_total.antisymm b a ∙ ap ordering_reverse e
+
+-- the order of three
+pub cmp_trans : (a b d : List ℕ) → code_cmp a b ≡ Less → code_cmp b d ≡ Less → code_cmp a d ≡ Less
+cmp_trans a b d e f = nat_list_cmp_total.trans a b d e f
+
+-- a code is not before itself
+pub cmp_apart : (a b : List ℕ) → code_cmp a b ≡ Less → a ≢ b
+cmp_apart a b e same = let itself = cmp_itself b in let f : code_cmp b b ≡ Less = subst (λ (x : List ℕ). code_cmp x b ≡ Less) same e in cc
+
+-- a look-up that finds a code reads it
+pub get_found : (keys : List (List ℕ)) (p : ℕ) (code d : List ℕ) → slice_get keys p ≡ Some code → get_or keys p d ≡ code
+get_found [] p code d e = cc
+get_found (k ∷ keys) zero code d e = cc
+get_found (k ∷ keys) (suc p) code d e = get_found keys p code d e
+
+-- the codes before low come before the code, and those from high on after it
+pub record Searched (keys : List (List ℕ)) (code : List ℕ) (low high : ℕ) : Type 0 where
+  pub within : high ≤ length keys
+  pub before : (p : ℕ) (d : List ℕ) → p < low → code_cmp (get_or keys p d) code ≡ Less
+  pub after : (p : ℕ) (d : List ℕ) → high ≤ p → p < length keys → code_cmp code (get_or keys p d) ≡ Less
+
+-- nothing is searched yet
+pub searched_none : (keys : List (List ℕ)) (code : List ℕ) (n : ℕ) → n ≡ length keys → Searched keys code 0 n
+searched_none keys code n e = record { within = omega arith; before = λ p d h. absurd (omega arith); after = λ p d h l. absurd (omega arith) }
+
+-- the code comes before the one at m
+pub searched_less : (keys : List (List ℕ)) (code : List ℕ) (low high m : ℕ) (d : List ℕ) → Rise keys → m < high → Searched keys code low high → code_cmp code (get_or keys m d) ≡ Less → Searched keys code low m
+searched_less keys code low high m d rise h s e =
+    let w = s.within in
+    record {
+      within = omega arith;
+      before = s.before;
+      after = λ p f l k. elim (cases_lt m p) [
+        | inl less ↦ cmp_trans code (get_or keys m f) (get_or keys p f) (subst (λ (x : List ℕ). code_cmp code x ≡ Less) (get_or_default keys m d f (omega arith)) e) (rise m p f less k)
+        | inr more ↦ let same : m ≡ p = omega arith in subst (λ (q : ℕ). code_cmp code (get_or keys q f) ≡ Less) same (subst (λ (x : List ℕ). code_cmp code x ≡ Less) (get_or_default keys m d f (omega arith)) e)
+      ];
+    }
+
+-- the code comes after the one at m
+pub searched_greater : (keys : List (List ℕ)) (code : List ℕ) (low high m : ℕ) (d : List ℕ) → Rise keys → m < high → Searched keys code low high → code_cmp code (get_or keys m d) ≡ Greater → Searched keys code (m + 1) high
+searched_greater keys code low high m d rise h s e =
+    let w = s.within in
+    record {
+      within = s.within;
+      before = λ p f l. elim (cases_lt p m) [
+        | inl less ↦ cmp_trans (get_or keys p f) (get_or keys m f) code (rise p m f less (omega arith)) (subst (λ (x : List ℕ). code_cmp x code ≡ Less) (get_or_default keys m d f (omega arith)) (cmp_back code (get_or keys m d) e))
+        | inr more ↦ let same : m ≡ p = omega arith in subst (λ (q : ℕ). code_cmp (get_or keys q f) code ≡ Less) same (subst (λ (x : List ℕ). code_cmp x code ≡ Less) (get_or_default keys m d f (omega arith)) (cmp_back code (get_or keys m d) e))
+      ];
+      after = s.after;
+    }
+
+-- nothing is left to search
+pub searched_all : (keys : List (List ℕ)) (code : List ℕ) (low high n : ℕ) → high ≤ low → Searched keys code low high → n ≡ length keys → Finds keys n code None
+searched_all keys code low high n h s e p l same =
+    let is : get_or keys p [] ≡ code = get_found keys p code [] same in
+    elim (cases_lt p low) [
+      | inl less ↦ cmp_apart (get_or keys p []) code (s.before p [] less) is
+      | inr more ↦ cmp_apart code (get_or keys p []) (s.after p [] (omega arith) (omega arith)) (sym is)
+    ]
+
+-- the code at m, of entries that have codes
+pub key_read : {E : Type 0} (key : E → List ℕ) (es : List E) (m : ℕ) (e : E) → m < length es → e ≡ get_or es m e → slice_get (map key es) m ≡ Some (key e)
+key_read key [] m e h r = absurd (omega arith)
+key_read key (x ∷ es) zero e h r = ap (λ y. Some (key y)) (sym r)
+key_read key (x ∷ es) (suc m) e h r = key_read key es m e (omega arith) r
+
+-- entries and their codes are as many
+pub key_count : {E : Type 0} (key : E → List ℕ) (es : List E) → length es ≡ length (map key es)
+key_count key es = sym (length-map es key)
+
+-- the code of the last entry
+pub last_key : {E : Type 0} (key : E → List ℕ) (es : List E) (e : E) → Some e ≡ slice_get es (length es - 1) → (d : List ℕ) → get_or (map key es) (length (map key es) - 1) d ≡ key e
+last_key key es e r d = ap (λ n. get_or (map key es) (n - 1) d) (length-map es key) ∙ found key es (length es - 1) e r d
+  where
+    found : {E : Type 0} (key : E → List ℕ) (es : List E) (m : ℕ) (e : E) → Some e ≡ slice_get es m → (d : List ℕ) → get_or (map key es) m d ≡ key e
+    found key [] m e r d = cc
+    found key (x ∷ es) zero e r d = cc
+    found key (x ∷ es) (suc m) e r d = found key es m e r d
+
+-- nothing stands before the first code
+pub rise_first : (keys : List (List ℕ)) (code : List ℕ) → length keys ≡ 0 → Rise (keys ++ code ∷ [])
+rise_first [] code h = λ i j d l k. absurd (omega arith)
+rise_first (x ∷ keys) code h = absurd (omega arith)
+
+-- a code after the last goes on
+pub rise_next : (keys : List (List ℕ)) (code : List ℕ) (d : List ℕ) → Rise keys → code_cmp (get_or keys (length keys - 1) d) code ≡ Less → Rise (keys ++ code ∷ [])
+rise_next keys code d rise e =
+    all_pairs_push (λ a b. code_cmp a b ≡ Less) keys code rise
+    (λ k f h. let last : code_cmp (get_or keys (length keys - 1) f) code ≡ Less = subst (λ (x : List ℕ). code_cmp x code ≡ Less) (get_or_default keys (length keys - 1) d f (omega arith)) e in
+      elim (cases_lt k (length keys - 1)) [
+        | inl less ↦ cmp_trans (get_or keys k f) (get_or keys (length keys - 1) f) code (rise k (length keys - 1) f less (omega arith)) last
+        | inr more ↦ let same : length keys - 1 ≡ k = omega arith in subst (λ (n : ℕ). code_cmp (get_or keys n f) code ≡ Less) same last
+      ])
+
+-- and only such a code does
+pub rise_back : (keys : List (List ℕ)) (code : List ℕ) (d : List ℕ) → 0 < length keys → Rise (keys ++ code ∷ []) → code_cmp (get_or keys (length keys - 1) d) code ≡ Less
+rise_back keys code d h rise =
+    let e : code_cmp (get_or (keys ++ code ∷ []) (length keys - 1) d) (get_or (keys ++ code ∷ []) (length keys) d) ≡ Less = rise (length keys - 1) (length keys) d (omega arith) (omega (arith, length-append keys (code ∷ []))) in
+    rw (get_or_append_left keys (code ∷ []) d (length keys - 1) (omega arith), get_or_at keys code [] d (length keys) refl) at e
+
+-- what a comparison with the code of an entry says
+pub key_compared : {E : Type 0} (key : E → List ℕ) (es : List E) (m : ℕ) (e : E) (code at : List ℕ) (r o : Ordering) → m < length es → e ≡ get_or es m e → at ≡ key e → r ≡ code_cmp code at → r ≡ o
+    → code_cmp code (get_or (map key es) m code) ≡ o
+key_compared key es m e code at r o h read is compared found =
+    ap (code_cmp code) (get_found (map key es) m (key e) code (key_read key es m e h read) ∙ sym is) ∙ sym compared ∙ found
+
+-- a code that compares as equal is the one of the entry
+pub key_equal : {E : Type 0} (key : E → List ℕ) (es : List E) (m : ℕ) (e : E) (code at : List ℕ) (r : Ordering) → m < length es → e ≡ get_or es m e → at ≡ key e → r ≡ code_cmp code at → r ≡ Equal
+    → slice_get (map key es) m ≡ Some code
+key_equal key es m e code at r h read is compared found = key_read key es m e h read ∙ ap Some (sym is ∙ sym (cmp_same code at (sym compared ∙ found)))
+
+-- a comparison that tests as less is
+less_of : (o : Ordering) → is_lt o ≡ true → o ≡ Less
+less_of Less h = refl
+less_of Equal h = cc
+less_of Greater h = cc
+
+-- whether a code comes after the last of a roll
+pub is_next_of : {E : Type 0} (key : E → List ℕ) (es : List E) (e : E) (code at : List ℕ) (o : Ordering) (r : Bool) → Rise (map key es) → Some e ≡ slice_get es (length es - 1) → at ≡ key e → o ≡ code_cmp at code → r ≡ is_lt o
+    → (IsTrue r → Rise (map key es ++ code ∷ [])) × (Rise (map key es ++ code ∷ []) → IsTrue r)
+is_next_of key es e code at o r rise last is compared test =
+    let at_last : get_or (map key es) (length (map key es) - 1) code ≡ at = last_key key es e last code ∙ sym is in
+    let many : 0 < length (map key es) = omega (arith, length-map es key, some_length es (length es - 1) e last) in (
+      λ t. rise_next (map key es) code code rise (ap (λ (k : List ℕ). code_cmp k code) at_last ∙ sym compared ∙ less_of o (sym test ∙ t)),
+      λ more. test ∙ ap is_lt (compared ∙ ap (λ (k : List ℕ). code_cmp k code) (sym at_last) ∙ rise_back (map key es) code code many more),
+    )
+  where
+    some_length : {E : Type 0} (es : List E) (m : ℕ) (e : E) → Some e ≡ slice_get es m → 0 < length es
+    some_length [] m e h = cc
+    some_length (x ∷ es) m e h = omega arith
+
+-- the code of an entry that was read
+pub key_at : {E : Type 0} (key : E → List ℕ) (es : List E) (m : ℕ) (e : E) → m < length es → e ≡ get_or es m e → get_or (map key es) m [] ≡ key e
+key_at key es m e h read = get_found (map key es) m (key e) [] (key_read key es m e h read)

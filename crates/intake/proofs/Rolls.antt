@@ -1,0 +1,67 @@
+-- Rolls of entries with codes, as the code keeps them and by codes.
+use Rattle.std.proofs.Common.{◌≡◌, ◌≢◌, ℕ, zero, suc, ◌+◌, ◌<◌, List, [], ◌∷◌, ◌++◌, length, map, slice_get, Some, None, Option, Vec, Global, Contains, refl, sym, ap, ◌∙◌, subst, inl, inr, arith, below_more}
+use Rattle.std.proofs.lemmas.Bool.{cases_lt}
+use Rattle.std.proofs.lemmas.List.{map_push, length-map}
+use Rattle.spa.specs.declared.code.Code.{Code}
+use Rattle.spa.specs.Instance.{Supervisor, Project, Student, supervisors_of, projects_of, students_of}
+use Rattle.spa.specs.Codes.{AreApart, Finds}
+use Rattle.spa.specs.Made.{AreKnown, IsSoundList}
+use Rattle.intake.specs.Parts.{Rise}
+use Rattle.intake.proofs.Found.{slice_get_at}
+use Rattle.intake.proofs.Order.{get_found}
+
+-- the codes of supervisors
+pub supervisor_keys : (es : List (List ℕ × ℕ)) → map (λ e. e.code) (supervisors_of es) ≡ map (λ e. e.0) es
+supervisor_keys [] = refl
+supervisor_keys (e ∷ es) = ap (λ (rest : List (List ℕ)). e.0 ∷ rest) (supervisor_keys es)
+
+-- the codes of projects
+pub project_keys : (es : List (List ℕ × List ℕ × ℕ)) → map (λ e. e.code) (projects_of es) ≡ map (λ e. e.0) es
+project_keys [] = refl
+project_keys (e ∷ es) = ap (λ (rest : List (List ℕ)). e.0 ∷ rest) (project_keys es)
+
+-- the codes of students
+pub student_keys : (es : List (List ℕ × Vec Code Global)) → map (λ e. e.code) (students_of (map (λ e. (e.0, e.1.items)) es)) ≡ map (λ e. e.0) es
+student_keys [] = refl
+student_keys (e ∷ es) = ap (λ (rest : List (List ℕ)). e.0 ∷ rest) (student_keys es)
+
+-- one code more that is known
+pub known_more : (known codes : List (List ℕ)) (n : ℕ) (code : List ℕ) → AreKnown known codes n → slice_get codes n ≡ Some code → Contains known code → AreKnown known codes (n + 1)
+known_more known codes n code so_far here has p other h e =
+    below_more (λ p. (other : List ℕ) → slice_get codes p ≡ Some other → Contains known other) n (λ p h other e. so_far p other h e)
+    (λ other e. let same : code ≡ other = (let s : Some code ≡ Some other = sym here ∙ e in cc) in subst (λ (c : List ℕ). Contains known c) same has) p h other e
+
+-- a code that stands nowhere among the first n is apart from them
+pub apart_more : (codes : List (List ℕ)) (n : ℕ) (code : List ℕ) → slice_get codes n ≡ Some code → AreApart codes n → Finds codes n code None → AreApart codes (n + 1)
+apart_more codes n code here apart new p q h l =
+    elim (cases_lt q n) [
+      | inl k ↦ apart p q h k
+      | inr k ↦ λ e. new p (omega arith) (e ∙ ap (slice_get codes) (omega arith) ∙ here)
+    ]
+
+-- what a look-up finds is within the list
+pub within_get : {X : Type 0} (xs : List X) (i : ℕ) (x : X) → slice_get xs i ≡ Some x → i < length xs
+within_get [] i x e = cc
+within_get (y ∷ xs) zero x e = omega arith
+within_get (y ∷ xs) (suc i) x e = let r = within_get xs i x e in omega (arith, r)
+
+-- a code that stands somewhere is contained
+pub contained : (codes : List (List ℕ)) (p : ℕ) (code : List ℕ) → slice_get codes p ≡ Some code → Contains codes code
+contained codes p code e = (p, within_get codes p code e, get_found codes p code code e)
+
+-- a code that is contained stands somewhere
+pub standing : (codes : List (List ℕ)) (code : List ℕ) → Contains codes code → (p : ℕ) × (p < length codes) × (slice_get codes p ≡ Some code)
+standing codes code h = (h.0, h.1, slice_get_at codes h.0 code code h.1 h.2)
+
+-- one code more that rises, said of the same codes
+pub rise_moved : (a b : List (List ℕ)) (x y : List ℕ) → a ≡ b → x ≡ y → Rise (a ++ x ∷ []) → Rise (b ++ y ∷ [])
+rise_moved a b x y e f rise = subst (λ (l : List (List ℕ)). Rise (l ++ y ∷ [])) e (subst (λ (z : List ℕ). Rise (a ++ z ∷ [])) f rise)
+
+-- students by codes are as many
+pub student_count : (es : List (List ℕ × Vec Code Global)) → length (students_of (map (λ e. (e.0, e.1.items)) es)) ≡ length es
+student_count [] = refl
+student_count (e ∷ es) = ap suc (student_count es)
+
+-- a sound list, said of the same codes
+pub sound_moved : (a b x y : List (List ℕ)) → a ≡ b → x ≡ y → IsSoundList a x → IsSoundList b y
+sound_moved a b x y e f sound = subst (λ (l : List (List ℕ)). IsSoundList l y) e (subst (λ (l : List (List ℕ)). IsSoundList a l) f sound)

@@ -1,0 +1,146 @@
+-- What is left to write.
+use Rattle.std.proofs.Common.{◌≡◌, ℕ, ◌+◌, ◌<◌, ℤ, List, [], ◌∷◌, ◌++◌, length, get_or, map, take, drop, codes, Option, Some, None, flat_map, refl, sym, ap, ◌∙◌, arith, append_assoc, append-nil, add-one, drop-cons}
+use Rattle.std.proofs.lemmas.List.{get_or-map}
+use Rattle.spa.specs.Codes.{code_at}
+use Rattle.std.proofs.lemmas.List.Concat.{flat_map-append}
+use Rattle.spa.specs.Instance.{Student, supervisor_codes, project_codes, student_codes}
+use Rattle.spa.specs.Named.{Named, IsFit, instance_of, supervisors_named, projects_named, students_named}
+use Rattle.verdict.specs.declared.prices.Prices.{Prices}
+use Rattle.intake.specs.View.{alone, proved}
+use Rattle.intake.specs.Lines.{Row, sections, round_text, line, ended, section_lines, supervisor_row, project_row, student_row, pair_rows, price_rows}
+
+-- a line x is written, and the rest is left
+pub next : (out new x rest whole : List ℕ) → new ≡ out ++ (x ++ []) → out ++ (x ++ rest) ≡ whole → new ++ rest ≡ whole
+next out new x rest whole e h = ap (λ n. n ++ rest) (e ∙ ap (λ y. out ++ y) (append-nil x)) ∙ append_assoc out x rest ∙ h
+
+-- the lines of some supervisors
+abbrev pub supervisor_text : List (List ℕ) → List ℕ → List ℕ
+supervisor_text cs qs = ended (section_lines (record { letter = codes "S"; rows = map supervisor_row (supervisors_named cs qs) }))
+
+-- the lines of some projects, where the first list has the supervisors' codes
+abbrev pub project_text : List (List ℕ) → List (List ℕ) → List (ℕ × ℕ) → List ℕ
+project_text supervisors cs ps = ended (section_lines (record { letter = codes "P"; rows = map project_row (projects_named supervisors cs ps) }))
+
+-- the lines of some students, where the first list has the projects' codes
+abbrev pub student_text : List (List ℕ) → List (List ℕ) → List (List ℕ) → List ℕ
+student_text projects cs lists = ended (section_lines (record { letter = codes "C"; rows = map student_row (students_named projects cs lists) }))
+
+-- the lines of the pairs of some students
+abbrev pub pair_text : List (List ℕ) → List (List ℕ) → List (List ℕ) → List (Option ℕ) → List ℕ
+pair_text projects cs lists places = ended (section_lines (record { letter = codes "M"; rows = pair_rows (students_named projects cs lists) places }))
+
+-- the lines of some prices
+abbrev pub price_text : List ℕ → List (List ℕ) → List (List ℤ) → List ℕ
+price_text letter cs vs = ended (section_lines (record { letter = letter; rows = price_rows cs vs }))
+
+-- four sections that were written in turn
+four_joined : (out : List ℕ) (a b c d : List (List ℕ)) → (((out ++ ended a) ++ ended b) ++ ended c) ++ ended d ≡ out ++ ended (a ++ (b ++ (c ++ (d ++ []))))
+four_joined out a b c d = simp (flat_map-append, append_assoc, append-nil)
+
+-- the same, by what was there after each
+four : (out p q r s : List ℕ) (a b c d : List (List ℕ)) → p ≡ out ++ ended a → q ≡ p ++ ended b → r ≡ q ++ ended c → s ≡ r ++ ended d → s ≡ out ++ ended (a ++ (b ++ (c ++ (d ++ []))))
+four out p q r s a b c d ep eq er es =
+    es ∙ ap (λ (o : List ℕ). o ++ ended d) (er ∙ ap (λ (o : List ℕ). o ++ ended c) (eq ∙ ap (λ (o : List ℕ). o ++ ended b) ep)) ∙ four_joined out a b c d
+
+-- all seven of them
+pub seven : (a b c d e f g : List (List ℕ)) → ended (a ++ (b ++ (c ++ []))) ++ ended (d ++ (e ++ (f ++ (g ++ [])))) ≡ ended (a ++ (b ++ (c ++ (d ++ (e ++ (f ++ (g ++ [])))))))
+seven a b c d e f g = simp (flat_map-append, append_assoc, append-nil)
+
+-- nobody has a place
+pub no_pairs : {X : Type 0} (es : List Student) (xs : List X) → pair_rows es (map (λ x. None) xs) ≡ []
+no_pairs [] [] = refl
+no_pairs [] (x ∷ xs) = refl
+no_pairs (e ∷ es) [] = refl
+no_pairs (e ∷ es) (x ∷ xs) = no_pairs es xs
+
+-- there are no prices
+pub no_prices : (cs : List (List ℕ)) → price_rows cs [] ≡ []
+no_prices [] = refl
+no_prices (c ∷ cs) = refl
+
+-- sections without lines write nothing
+no_lines : (a b c : List (List ℕ)) (m u y z : List Row) → m ≡ [] → u ≡ [] → y ≡ [] → z ≡ []
+    → ended (a ++ (b ++ (c ++ []))) ≡ ended (a ++ (b ++ (c ++ (map (line (codes "M")) m ++ (map (line (codes "U")) u ++ (map (line (codes "Y")) y ++ (map (line (codes "Z")) z ++ [])))))))
+no_lines a b c m u y z hm hu hy hz = rw (hm, hu, hy, hz) refl
+
+-- the sections of an instance alone
+pub instance_alone : (i : Named) → ended (flat_map section_lines (take 3 (sections (alone i)))) ≡ round_text (alone i)
+instance_alone i =
+    no_lines (map (line (codes "S")) (map supervisor_row (supervisors_named i.supervisor_codes i.shape.supervisors)))
+    (map (line (codes "P")) (map project_row (projects_named i.supervisor_codes i.project_codes i.shape.projects)))
+    (map (line (codes "C")) (map student_row (students_named i.project_codes i.student_codes i.shape.students)))
+    (pair_rows (students_named i.project_codes i.student_codes i.shape.students) (map (λ e. None) i.shape.students))
+    (price_rows (student_codes (instance_of i)) []) (price_rows (project_codes (instance_of i)) []) (price_rows (supervisor_codes (instance_of i)) [])
+    (no_pairs (students_named i.project_codes i.student_codes i.shape.students) i.shape.students)
+    (no_prices (student_codes (instance_of i))) (no_prices (project_codes (instance_of i))) (no_prices (supervisor_codes (instance_of i)))
+
+-- an option that is no value
+pub is_none : (o : Option ℕ) → ((x : ℕ) → o ≡ Some x → ⊥) → o ≡ None
+is_none None h = refl
+is_none (Some x) h = absurd (h x refl)
+
+-- a student without a place
+pub pairs_none : (p cs ls : List (List ℕ)) (ks : List (Option ℕ)) (s : ℕ) → s < length cs → s < length ls → s < length ks → get_or ks s None ≡ None
+    → pair_text p (drop s cs) (drop s ls) (drop s ks) ≡ pair_text p (drop (s + 1) cs) (drop (s + 1) ls) (drop (s + 1) ks)
+pairs_none p cs ls ks s h i j e = rw (drop-cons cs s [], drop-cons ls s [], drop-cons ks s None, e) (simp add-one)
+
+-- a student with a place
+pub pairs_some : (p cs ls : List (List ℕ)) (ks : List (Option ℕ)) (s k q : ℕ) (student project : List ℕ) → s < length cs → s < length ls → s < length ks → get_or ks s None ≡ Some k
+    → k < length (get_or ls s []) → get_or (get_or ls s []) k 0 ≡ q → get_or cs s [] ≡ student → get_or p q [] ≡ project
+    → pair_text p (drop s cs) (drop s ls) (drop s ks) ≡ (line (codes "M") (student ∷ project ∷ []) ++ 10 ∷ []) ++ pair_text p (drop (s + 1) cs) (drop (s + 1) ls) (drop (s + 1) ks)
+pairs_some p cs ls ks s k q student project h i j e known listed student_is project_is =
+    let listed_code : get_or (map (code_at p) (get_or ls s [])) k [] ≡ project = get_or-map (code_at p) (get_or ls s []) k 0 [] known ∙ ap (code_at p) listed ∙ project_is in
+    rw (drop-cons cs s [], drop-cons ls s [], drop-cons ks s None, e, listed_code, student_is) (simp add-one)
+
+-- the instance's sections, and then those of a matching and prices
+pub joined : (i : Named) (places : List (Option ℕ)) (prices : Prices) (out new : List ℕ) → out ≡ ended (flat_map section_lines (take 3 (sections (alone i))))
+    → new ≡ out ++ ended (flat_map section_lines (drop 3 (sections (proved i places prices)))) → new ≡ round_text (proved i places prices)
+joined i places prices out new e f =
+    f ∙ ap (λ (o : List ℕ). o ++ ended (flat_map section_lines (drop 3 (sections (proved i places prices))))) e
+    ∙ seven (map (line (codes "S")) (map supervisor_row (supervisors_named i.supervisor_codes i.shape.supervisors)))
+    (map (line (codes "P")) (map project_row (projects_named i.supervisor_codes i.project_codes i.shape.projects)))
+    (map (line (codes "C")) (map student_row (students_named i.project_codes i.student_codes i.shape.students)))
+    (map (line (codes "M")) (pair_rows (students_named i.project_codes i.student_codes i.shape.students) places))
+    (map (line (codes "U")) (price_rows (student_codes (instance_of i)) prices.students.items))
+    (map (line (codes "Y")) (price_rows (project_codes (instance_of i)) prices.projects.items))
+    (map (line (codes "Z")) (price_rows (supervisor_codes (instance_of i)) prices.supervisors.items))
+
+-- the codes of supervisors by codes are those that name them
+pub named_supervisors : (cs : List (List ℕ)) (qs : List ℕ) → length cs ≡ length qs → map (λ e. e.code) (supervisors_named cs qs) ≡ cs
+named_supervisors [] qs h = refl
+named_supervisors (c ∷ cs) [] h = absurd (omega arith)
+named_supervisors (c ∷ cs) (q ∷ qs) h = ap (λ (rest : List (List ℕ)). c ∷ rest) (named_supervisors cs qs (omega arith))
+
+-- the same of projects
+pub named_projects : (supervisors cs : List (List ℕ)) (ps : List (ℕ × ℕ)) → length cs ≡ length ps → map (λ e. e.code) (projects_named supervisors cs ps) ≡ cs
+named_projects supervisors [] ps h = refl
+named_projects supervisors (c ∷ cs) [] h = absurd (omega arith)
+named_projects supervisors (c ∷ cs) (p ∷ ps) h = ap (λ (rest : List (List ℕ)). c ∷ rest) (named_projects supervisors cs ps (omega arith))
+
+-- the same of students
+pub named_students : (projects cs ls : List (List ℕ)) → length cs ≡ length ls → map (λ e. e.code) (students_named projects cs ls) ≡ cs
+named_students projects [] ls h = refl
+named_students projects (c ∷ cs) [] h = absurd (omega arith)
+named_students projects (c ∷ cs) (l ∷ ls) h = ap (λ (rest : List (List ℕ)). c ∷ rest) (named_students projects cs ls (omega arith))
+
+-- the lines of prices, where the codes are those of a roll
+abbrev pub prices_of : List ℕ → List (List ℕ) → List (List ℤ) → List (List ℕ)
+prices_of letter cs vs = section_lines (record { letter = letter; rows = price_rows cs vs })
+
+-- the lines of a matching and of prices that were written in turn
+pub four_written : (i : Named) (places : List (Option ℕ)) (prices : Prices) (out a b d e : List ℕ) → IsFit i
+    → a ≡ out ++ ended (section_lines (record { letter = codes "M"; rows = pair_rows (students_named i.project_codes i.student_codes i.shape.students) places }))
+    → b ≡ a ++ ended (prices_of (codes "U") i.student_codes prices.students.items)
+    → d ≡ b ++ ended (prices_of (codes "Y") i.project_codes prices.projects.items)
+    → e ≡ d ++ ended (prices_of (codes "Z") i.supervisor_codes prices.supervisors.items)
+    → e ≡ out ++ ended (flat_map section_lines (drop 3 (sections (proved i places prices))))
+four_written i places prices out a b d e fit ea eb ed ee =
+    four out a b d e (section_lines (record { letter = codes "M"; rows = pair_rows (students_named i.project_codes i.student_codes i.shape.students) places }))
+    (prices_of (codes "U") i.student_codes prices.students.items) (prices_of (codes "Y") i.project_codes prices.projects.items) (prices_of (codes "Z") i.supervisor_codes prices.supervisors.items)
+    ea eb ed ee
+    ∙ ap (λ (cs : List (List ℕ)). out ++ ended (section_lines (record { letter = codes "M"; rows = pair_rows (students_named i.project_codes i.student_codes i.shape.students) places }) ++ (prices_of (codes "U") cs prices.students.items ++ (prices_of (codes "Y") i.project_codes prices.projects.items ++ (prices_of (codes "Z") i.supervisor_codes prices.supervisors.items ++ [])))))
+    (sym (named_students i.project_codes i.student_codes i.shape.students fit.students.one_each))
+    ∙ ap (λ (cs : List (List ℕ)). out ++ ended (section_lines (record { letter = codes "M"; rows = pair_rows (students_named i.project_codes i.student_codes i.shape.students) places }) ++ (prices_of (codes "U") (student_codes (instance_of i)) prices.students.items ++ (prices_of (codes "Y") cs prices.projects.items ++ (prices_of (codes "Z") i.supervisor_codes prices.supervisors.items ++ [])))))
+    (sym (named_projects i.supervisor_codes i.project_codes i.shape.projects fit.projects.one_each))
+    ∙ ap (λ (cs : List (List ℕ)). out ++ ended (section_lines (record { letter = codes "M"; rows = pair_rows (students_named i.project_codes i.student_codes i.shape.students) places }) ++ (prices_of (codes "U") (student_codes (instance_of i)) prices.students.items ++ (prices_of (codes "Y") (project_codes (instance_of i)) prices.projects.items ++ (prices_of (codes "Z") cs prices.supervisors.items ++ [])))))
+    (sym (named_supervisors i.supervisor_codes i.shape.supervisors fit.supervisors.one_each))

@@ -1,0 +1,95 @@
+use Rattle.std.proofs.Common.{◌≡◌, ℕ, ◌<◌, ◌+◌, ◌≤◌, List, [], ◌∷◌, ◌++◌, length, map, get_or, slice_get, Option, Some, None, true, false, refl, sym, ap, subst, ◌∙◌, arith, rules}
+use denote.Ref.{Bor}
+use Rattle.std.proofs.lemmas.List.{length-map}
+use Rattle.spa.specs.Codes.{code_at}
+use Rattle.intake.proofs.Order.{get_found}
+use Rattle.spa.specs.Instance.{Student}
+use Rattle.intake.specs.Parts.{Rise}
+use Rattle.intake.proofs.Adding.{two_fields, parts}
+use Rattle.intake.proofs.Lists.{blank}
+use Rattle.intake.proofs.Rolls.{student_keys, student_count}
+use Rattle.intake.proofs.Pairing.{Refers, refers, nowhere, one_place, student_at, listed_at, small_place, get_mapped, same_found}
+use Rattle.intake.proofs.draft.Draft.add_pair.Goals as goal
+
+pub returns-in_default-2 : goal.returns-in_default-2
+returns-in_default-2 c = λ s k t.
+    let r = refers _ _ s k _ _ c.requires t (two_fields c.args.fields.now c.in-len2.len_at_least c.in-len2.len_below) in
+    let other = rw c.in_default-2.is at c.in_ok-student.ensures in
+    let form = r.student_form in
+    cc
+
+pub returns-in_default-3 : goal.returns-in_default-3
+returns-in_default-3 c = λ s k t.
+    let r = refers _ _ s k _ _ c.requires t (two_fields c.args.fields.now c.in-len2.len_at_least c.in-len2.len_below) in
+    let other = rw c.in_default-3.is at c.in_ok-project.ensures in
+    let form = r.project_form in
+    cc
+
+pub position_of-requires : goal.position_of-requires
+position_of-requires c = subst Rise (student_keys c.args.self.now.students.items ∙ ap (map (λ e. e.0)) (sym c.deref.ensures.value)) c.requires.students.rise
+
+pub returns-in_default-position_of : goal.returns-in_default-position_of
+returns-in_default-position_of c = λ s k t.
+    let r = refers _ _ s k _ _ c.requires t (two_fields c.args.fields.now c.in-len2.len_at_least c.in-len2.len_below) in
+    let text = (rw c.in-Some.is at c.in_ok-student.ensures).0 in
+    let keys = student_keys c.args.self.now.students.items ∙ ap (map (λ e. e.0)) (sym c.deref.ensures.value) in
+    nowhere (map (λ e. e.0) c.deref.result.now) (length c.deref.result.now) s c.as_str.result.now _ (sym (length-map c.deref.result.now (λ e. e.0))) (c.as_str.ensures.value ∙ text)
+      c.in_default-position_of.ensures (ap (λ (l : List (List ℕ)). slice_get l s) (sym keys) ∙ r.code)
+
+pub returns-then-position-len : goal.returns-then-position-len
+returns-then-position-len c = λ s k t.
+    let r = refers _ _ s k _ _ c.requires t (two_fields c.args.fields.now c.in-len2.len_at_least c.in-len2.len_below) in
+    let text = (rw c.in-Some.is at c.in_ok-student.ensures).0 in
+    let keys = student_keys c.args.self.now.students.items ∙ ap (map (λ e. e.0)) (sym c.deref.ensures.value) in
+    let same : c.in-Some-position_of.position ≡ s = one_place _ c.in-Some-position_of.position s _ c.requires.students.rise
+      (ap (λ (l : List (List ℕ)). slice_get l c.in-Some-position_of.position) keys ∙ c.in-Some-position_of.ensures.1 ∙ ap Some (c.as_str.ensures.value ∙ text)) r.code in
+    let many : c.len.result ≡ length c.args.self.now.places.items = search (rules) in
+    omega (arith, t.later, c.if-position-len.true)
+
+pub returns-in_default-place_of : goal.returns-in_default-place_of
+returns-in_default-place_of c = λ s k t.
+    let r = refers _ _ s k _ _ c.requires t (two_fields c.args.fields.now c.in-len2.len_at_least c.in-len2.len_below) in
+    let text = (rw c.in-Some.is at c.in_ok-student.ensures).0 in
+    let text2 = (rw c.in-Some-2.is at c.in_ok-project.ensures).0 in
+    let keys = student_keys c.args.self.now.students.items ∙ ap (map (λ e. e.0)) (sym c.deref.ensures.value) in
+    let same : c.in-Some-position_of.position ≡ s = one_place _ c.in-Some-position_of.position s _ c.requires.students.rise
+      (ap (λ (l : List (List ℕ)). slice_get l c.in-Some-position_of.position) keys ∙ c.in-Some-position_of.ensures.1 ∙ ap Some (c.as_str.ensures.value ∙ text)) r.code in
+    let within : c.in-Some-position_of.position < length c.args.self.now.students.items = omega (arith, c.in-Some-position_of.ensures.0, ap length c.deref.ensures.value) in
+    let list = listed_at c.args.self.now.students.items c.in-Some-position_of.position s c.index.result.now t.student within c.index.ensures same t.here in
+    nowhere c.deref-2.result.now (length c.deref-2.result.now) k c.as_str-2.result.now _ refl (c.as_str-2.ensures.value ∙ text2)
+      c.in_default-place_of.ensures (ap (λ (l : List (List ℕ)). slice_get l k) (c.deref-2.ensures.value ∙ sym list) ∙ r.place)
+
+pub overflow_cast-place : goal.overflow_cast-place
+overflow_cast-place c =
+    let within : c.in-Some-position_of.position < length c.args.self.now.students.items = omega (arith, c.in-Some-position_of.ensures.0, ap length c.deref.ensures.value) in
+    let here = student_at c.args.self.now.students.items c.in-Some-position_of.position c.index.result.now within c.index.ensures in
+    let few = small_place _ c.in-Some-position_of.position c.in-Some-place_of.place _ c.requires here (omega (arith, c.in-Some-place_of.ensures.0, ap length c.deref-2.ensures.value)) in
+    omega (arith, few)
+
+pub returns : goal.returns
+returns c =
+    let s : ℕ = c.in-Some-position_of.position in
+    let k : ℕ = c.in-Some-place_of.place in
+    let text = (rw c.in-Some.is at c.in_ok-student.ensures).0 in
+    let text2 = (rw c.in-Some-2.is at c.in_ok-project.ensures).0 in
+    let within : s < length c.args.self.now.students.items = omega (arith, c.in-Some-position_of.ensures.0, ap length c.deref.ensures.value) in
+    let keys = student_keys c.args.self.now.students.items ∙ ap (map (λ e. e.0)) (sym c.deref.ensures.value) in
+    let here = student_at c.args.self.now.students.items s c.index.result.now within c.index.ensures in
+    let many : c.len.result ≡ length c.args.self.now.places.items = search (rules) in
+    let first : c.index.result.now.0 ≡ (get_or c.args.fields.now 0 blank).now = same_found _ s _ _ (get_mapped (λ (x : Student). x.code) _ s _ here)
+      (ap (λ (l : List (List ℕ)). slice_get l s) keys ∙ c.in-Some-position_of.ensures.1 ∙ ap Some (c.as_str.ensures.value ∙ text)) in
+    let second : (get_or c.args.fields.now 1 blank).now ≡ code_at c.index.result.now.1.items k = sym (c.as_str-2.ensures.value ∙ text2) ∙ sym (get_found c.deref-2.result.now k c.as_str-2.result.now [] c.in-Some-place_of.ensures.1) ∙ ap (λ (l : List (List ℕ)). code_at l k) c.deref-2.ensures.value in
+    (
+      s,
+      k,
+      record {
+        prices = c.has_no_prices.ensures.0 c.if-not-has_no_prices.false;
+        student = record { code = c.index.result.now.0; list = c.index.result.now.1.items };
+        here = here;
+        later = omega (arith, c.if-position-len.false, many);
+        place = omega (arith, c.in-Some-place_of.ensures.0, ap length c.deref-2.ensures.value);
+        is = two_fields c.args.fields.now c.in-len2.len_at_least c.in-len2.len_below ∙ ap (λ (x : List ℕ). x ∷ (get_or c.args.fields.now 1 blank).now ∷ []) (sym first) ∙ ap (λ (x : List ℕ). c.index.result.now.0 ∷ x ∷ []) second;
+      },
+      ap (λ (l : List (Option ℕ)). parts c.args.self.now.supervisors.items c.args.self.now.projects.items (map (λ e. (e.0, e.1.items)) c.args.self.now.students.items) l c.args.self.now.prices.students.items c.args.self.now.prices.projects.items c.args.self.now.prices.supervisors.items)
+        (c.in_ok-push.ensures.items ∙ ap (λ (l : List (Option ℕ)). l ++ Some k ∷ []) c.in_ok-fill.ensures),
+    )

@@ -1,0 +1,5 @@
+pub mod Parts
+pub mod Lines
+pub mod Reading
+pub mod View
+pub mod Draft

@@ -1,0 +1,316 @@
+//! The parts of a round text as far as it was read.
+#![tactic(auto)]
+
+ghost use Rattle.std.specs.Prelude.{◌≡◌, ◌-◌, ◌++◌, ◌↔◌, ◌≤◌, ℕ, ℤ, List, [], map, length, replicate, IfOk, OnOk, MatchOption, IsTrue, None};
+ghost use Rattle.spa.specs.Made.{IsSoundList};
+ghost use Rattle.intake.specs.Parts.{Rise, IsRoll};
+ghost use Rattle.intake.specs.Draft.{draft_of, IsDraft, HasNoPrices, NoneOrAll, AddsSupervisor, AddsProject, AddsStudent, AddsPair, AddsPrice};
+
+use crate::fields::{pieces, read_code, read_price, read_quota};
+use crate::lookup::{Coded, is_next, place_of, position_of};
+use crate::round::{RoundFault, RoundParts};
+use spa::{
+    Code, Instance, InstanceFault, MOST_PROJECTS, MOST_STUDENTS, MOST_SUPERVISORS, Matching,
+    PLACES, RANKS,
+};
+use std::alloc::Global;
+use verdict::Prices;
+
+/// The parts so far. There is a place or none for each student up to the last that has a pair, and a price for the first
+/// entries of a roll.
+#[derive(Drop)]
+pub(crate) struct Draft {
+    supervisors: Vec<(Code, u32)>,
+    projects: Vec<(Code, Code, u32)>,
+    students: Vec<(Code, Vec<Code>)>,
+    places: Vec<Option<u8>>,
+    prices: Prices,
+}
+
+/// Reads a list of projects, each of them known and none twice.
+fn read_list(
+    alloc: Global,
+    projects: &[(Code, Code, u32)],
+    fields: &[&[u8]],
+) -> Result<Option<Vec<Code>>, RoundFault>
+    requires { IsRoll (map (λ e. e.0) projects.now) }
+    ensures { IfOk result (λ o. MatchOption o (¬ IsSoundList (map (λ e. e.0) projects.now) (map (λ f. f.now) fields.now)) (λ l. (l.items ≡ map (λ f. f.now) fields.now) × IsSoundList (map (λ e. e.0) projects.now) (map (λ f. f.now) fields.now))) }
+{
+    if fields.is_empty() || fields.len() > RANKS {
+        return Ok(None);
+    }
+    let mut list = Vec::new(alloc);
+    for field in fields {
+        let Some(code) = read_code(alloc, field)? else {
+            return Ok(None);
+        };
+        if position_of(projects, code.as_str()).is_none() {
+            return Ok(None);
+        }
+        if place_of(&list, code.as_str()).is_some() {
+            return Ok(None);
+        }
+        list.push(code)?;
+    }
+    Ok(Some(list))
+}
+
+/// Adds the price of the next entry of a roll.
+fn add_price<E: Coded>(
+    prices: &mut Vec<[i64; PLACES]>,
+    roll: &[E],
+    fields: &[&[u8]],
+) -> Result<bool, RoundFault>
+    ensures { IfOk result (λ b. AddsPrice (map E.key roll.now) prices.old.items (map (λ f. f.now) fields.now) prices.new.items b) }
+{
+    let Some((code, numbers)) = fields.split_first() else {
+        return Ok(false);
+    };
+    let next = prices.len();
+    if next >= roll.len() {
+        return Ok(false);
+    }
+    if roll[next].code().as_bytes() != *code {
+        return Ok(false);
+    }
+    let Some(price) = read_price(numbers) else {
+        return Ok(false);
+    };
+    prices.push(price)?;
+    Ok(true)
+}
+
+/// Fills places with none up to a length.
+fn fill(places: &mut Vec<Option<u8>>, len: usize) -> Result<(), RoundFault>
+    requires { length places.old.items ≤ len }
+    ensures { OnOk result (places.new.items ≡ places.old.items ++ replicate (len - length places.old.items) None) }
+{
+    for _ in places.len()..len {
+        places.push(None)?;
+    }
+    Ok(())
+}
+
+/// Whether there is no price, or one for each entry.
+fn is_none_or_all(prices: &[[i64; PLACES]], entries: usize) -> bool
+    ensures { IsTrue result ↔ NoneOrAll entries prices.now }
+{
+    prices.is_empty() || prices.len() == entries
+}
+
+impl Draft {
+    /// No line was read.
+    pub(crate) fn new(alloc: Global) -> Self {
+        Draft {
+            supervisors: Vec::new(alloc),
+            projects: Vec::new(alloc),
+            students: Vec::new(alloc),
+            places: Vec::new(alloc),
+            prices: Prices {
+                students: Vec::new(alloc),
+                projects: Vec::new(alloc),
+                supervisors: Vec::new(alloc),
+            },
+        }
+    }
+
+    /// Whether no price was read.
+    fn has_no_prices(&self) -> bool
+        ensures { IsTrue result ↔ HasNoPrices (draft_of self.now) }
+    {
+        self.prices.students.is_empty()
+            && self.prices.projects.is_empty()
+            && self.prices.supervisors.is_empty()
+    }
+
+    /// Adds a supervisor, if one may come here.
+    fn add_supervisor(&mut self, alloc: Global, fields: &[&[u8]]) -> Result<bool, RoundFault>
+        requires { IsDraft (draft_of self.old) }
+        ensures { IfOk result (λ b. AddsSupervisor (draft_of self.old) (map (λ f. f.now) fields.now) (draft_of self.new) b) }
+    {
+        if !self.projects.is_empty() || !self.has_no_prices() {
+            return Ok(false);
+        }
+        let [code, quota] = fields else {
+            return Ok(false);
+        };
+        let Some(code) = read_code(alloc, code)? else {
+            return Ok(false);
+        };
+        let Some(quota) = read_quota(quota) else {
+            return Ok(false);
+        };
+        if self.supervisors.len() >= MOST_SUPERVISORS {
+            return Ok(false);
+        }
+        if !is_next(&self.supervisors, code.as_str()) {
+            return Ok(false);
+        }
+        self.supervisors.push((code, quota))?;
+        Ok(true)
+    }
+
+    /// Adds a project, if one may come here.
+    fn add_project(&mut self, alloc: Global, fields: &[&[u8]]) -> Result<bool, RoundFault>
+        requires { IsDraft (draft_of self.old) }
+        ensures { IfOk result (λ b. AddsProject (draft_of self.old) (map (λ f. f.now) fields.now) (draft_of self.new) b) }
+    {
+        if !self.students.is_empty() || !self.has_no_prices() {
+            return Ok(false);
+        }
+        let [code, supervisor, quota] = fields else {
+            return Ok(false);
+        };
+        let Some(code) = read_code(alloc, code)? else {
+            return Ok(false);
+        };
+        let Some(supervisor) = read_code(alloc, supervisor)? else {
+            return Ok(false);
+        };
+        let Some(quota) = read_quota(quota) else {
+            return Ok(false);
+        };
+        if self.projects.len() >= MOST_PROJECTS {
+            return Ok(false);
+        }
+        if !is_next(&self.projects, code.as_str()) {
+            return Ok(false);
+        }
+        if position_of(&self.supervisors, supervisor.as_str()).is_none() {
+            return Ok(false);
+        }
+        self.projects.push((code, supervisor, quota))?;
+        Ok(true)
+    }
+
+    /// Adds a student, if one may come here.
+    fn add_student(&mut self, alloc: Global, fields: &[&[u8]]) -> Result<bool, RoundFault>
+        requires { IsDraft (draft_of self.old) }
+        ensures { IfOk result (λ b. AddsStudent (draft_of self.old) (map (λ f. f.now) fields.now) (draft_of self.new) b) }
+    {
+        if !self.places.is_empty() || !self.has_no_prices() {
+            return Ok(false);
+        }
+        let Some((code, list)) = fields.split_first() else {
+            return Ok(false);
+        };
+        let Some(code) = read_code(alloc, code)? else {
+            return Ok(false);
+        };
+        if self.students.len() >= MOST_STUDENTS {
+            return Ok(false);
+        }
+        if !is_next(&self.students, code.as_str()) {
+            return Ok(false);
+        }
+        let Some(list) = read_list(alloc, &self.projects, list)? else {
+            return Ok(false);
+        };
+        self.students.push((code, list))?;
+        Ok(true)
+    }
+
+    /// Adds a pair, if one may come here.
+    fn add_pair(&mut self, alloc: Global, fields: &[&[u8]]) -> Result<bool, RoundFault>
+        requires { IsDraft (draft_of self.old) }
+        ensures { IfOk result (λ b. AddsPair (draft_of self.old) (map (λ f. f.now) fields.now) (draft_of self.new) b) }
+    {
+        if !self.has_no_prices() {
+            return Ok(false);
+        }
+        let [student, project] = fields else {
+            return Ok(false);
+        };
+        let Some(student) = read_code(alloc, student)? else {
+            return Ok(false);
+        };
+        let Some(project) = read_code(alloc, project)? else {
+            return Ok(false);
+        };
+        let Some(position) = position_of(&self.students, student.as_str()) else {
+            return Ok(false);
+        };
+        if position < self.places.len() {
+            return Ok(false);
+        }
+        let Some(place) = place_of(&self.students[position].1, project.as_str()) else {
+            return Ok(false);
+        };
+        fill(&mut self.places, position)?;
+        self.places.push(Some(place as u8))?;
+        Ok(true)
+    }
+
+    /// Adds a student's price, if one may come here.
+    fn add_student_price(&mut self, fields: &[&[u8]]) -> Result<bool, RoundFault> {
+        if !self.prices.projects.is_empty() || !self.prices.supervisors.is_empty() {
+            return Ok(false);
+        }
+        add_price(&mut self.prices.students, &self.students, fields)
+    }
+
+    /// Adds a project's price, if one may come here.
+    fn add_project_price(&mut self, fields: &[&[u8]]) -> Result<bool, RoundFault> {
+        if !self.prices.supervisors.is_empty()
+            || !is_none_or_all(&self.prices.students, self.students.len())
+        {
+            return Ok(false);
+        }
+        add_price(&mut self.prices.projects, &self.projects, fields)
+    }
+
+    /// Adds a supervisor's price, if one may come here.
+    fn add_supervisor_price(&mut self, fields: &[&[u8]]) -> Result<bool, RoundFault> {
+        if !is_none_or_all(&self.prices.students, self.students.len())
+            || !is_none_or_all(&self.prices.projects, self.projects.len())
+        {
+            return Ok(false);
+        }
+        add_price(&mut self.prices.supervisors, &self.supervisors, fields)
+    }
+
+    /// Adds what a line's fields stand for, if they may come here.
+    fn add(&mut self, alloc: Global, fields: &[&[u8]]) -> Result<bool, RoundFault> {
+        let Some((letter, row)) = fields.split_first() else {
+            return Ok(false);
+        };
+        match *letter {
+            b"S" => self.add_supervisor(alloc, row),
+            b"P" => self.add_project(alloc, row),
+            b"C" => self.add_student(alloc, row),
+            b"M" => self.add_pair(alloc, row),
+            b"U" => self.add_student_price(row),
+            b"Y" => self.add_project_price(row),
+            b"Z" => self.add_supervisor_price(row),
+            _ => Ok(false),
+        }
+    }
+
+    /// Adds what a line stands for, if it may come here.
+    pub(crate) fn add_line(&mut self, alloc: Global, line: &[u8]) -> Result<bool, RoundFault> {
+        let fields = pieces(alloc, line, b',')?;
+        self.add(alloc, &fields)
+    }
+
+    /// Whether the text may end here.
+    pub(crate) fn is_whole(&self) -> bool {
+        is_none_or_all(&self.prices.students, self.students.len())
+            && is_none_or_all(&self.prices.projects, self.projects.len())
+            && is_none_or_all(&self.prices.supervisors, self.supervisors.len())
+    }
+
+    /// The parts that were read.
+    pub(crate) fn finish(self, alloc: Global) -> Result<RoundParts, RoundFault> {
+        let mut places = self.places;
+        fill(&mut places, self.students.len())?;
+        match Instance::new(alloc, self.supervisors, self.projects, self.students) {
+            Ok(instance) => Ok(RoundParts {
+                instance,
+                matching: Matching { places },
+                prices: self.prices,
+            }),
+            Err(InstanceFault::Memory) => Err(RoundFault::Memory),
+            Err(_) => unreachable!(),
+        }
+    }
+}

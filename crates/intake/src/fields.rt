@@ -1,0 +1,117 @@
+//! The pieces of a text: lines, their fields, and the codes and numbers that fields stand for.
+#![tactic(auto)]
+
+ghost use Rattle.std.specs.Prelude.{◌≡◌, ◌≤◌, ◌==◌, ℕ, ℤ, List, map, length, IfOk, MatchOption, IsTrue, ◌↔◌, false, decimal};
+ghost use Rattle.std.specs.Fmt.{signed_decimal};
+ghost use Rattle.std.specs.List.{slice_split};
+ghost use Rattle.spa.specs.Text.{is_code};
+ghost use Rattle.verdict.specs.Rows.{InRange};
+ghost use Rattle.intake.specs.Parts.{IsPrice};
+
+use spa::{Code, MOST_PLACES, PLACES, TextFault};
+use std::alloc::{AllocError, Global};
+use std::str;
+use verdict::LIMIT;
+
+/// The pieces of a text between its bytes of a kind.
+pub(crate) fn pieces<'a>(
+    alloc: Global,
+    text: &'a [u8],
+    end: u8,
+) -> Result<Vec<&'a [u8]>, AllocError>
+    ensures { IfOk result (λ v. map (λ p. p.now) v.items ≡ slice_split (λ b. b == end) text.now) }
+{
+    text.split(|byte| *byte == end).collect(alloc)
+}
+
+/// The code that a field is.
+pub(crate) fn read_code(alloc: Global, field: &[u8]) -> Result<Option<Code>, TextFault>
+    ensures { IfOk result (λ o. MatchOption o (is_code field.now ≡ false) (λ c. (c ≡ field.now) × IsTrue (is_code field.now))) }
+{
+    let Ok(text) = str::from_utf8(field) else {
+        return Ok(None);
+    };
+    match Code::read(alloc, text) {
+        Ok(code) => Ok(Some(code)),
+        Err(TextFault::Form) => Ok(None),
+        Err(TextFault::Memory) => Err(TextFault::Memory),
+    }
+}
+
+/// Whether a field is the one text of a number: no sign, and no zero before it.
+fn is_decimal(field: &[u8], number: u32) -> bool
+    ensures { IsTrue result ↔ (field.now ≡ decimal number) }
+{
+    let mut buffer = itoa::Buffer::new();
+    buffer.format(number).as_bytes() == field
+}
+
+/// The quota that a field is.
+pub(crate) fn read_quota(field: &[u8]) -> Option<u32>
+    ensures { MatchOption result ((n : ℕ) → n ≤ MOST_PLACES → ¬ (field.now ≡ decimal n)) (λ n. (n ≤ MOST_PLACES) × (field.now ≡ decimal n)) }
+{
+    let Ok(text) = str::from_utf8(field) else {
+        return None;
+    };
+    let Ok(quota) = text.parse::<u32>() else {
+        return None;
+    };
+    if quota > MOST_PLACES {
+        return None;
+    }
+    if !is_decimal(field, quota) {
+        return None;
+    }
+    Some(quota)
+}
+
+/// Whether a field is the one text of a signed number: no plus, and no zero before it.
+fn is_signed_decimal(field: &[u8], number: i64) -> bool
+    ensures { IsTrue result ↔ (field.now ≡ signed_decimal number) }
+{
+    let mut buffer = itoa::Buffer::new();
+    buffer.format(number).as_bytes() == field
+}
+
+/// Whether a price may have this number.
+fn is_in_range(number: i64) -> bool
+    ensures { IsTrue result ↔ InRange number }
+{
+    number >= -LIMIT && number <= LIMIT
+}
+
+/// The number of a price that a field is.
+fn read_number(field: &[u8]) -> Option<i64>
+    ensures { MatchOption result ((n : ℤ) → InRange n → ¬ (field.now ≡ signed_decimal n)) (λ n. InRange n × (field.now ≡ signed_decimal n)) }
+{
+    let Ok(text) = str::from_utf8(field) else {
+        return None;
+    };
+    let Ok(number) = text.parse::<i64>() else {
+        return None;
+    };
+    if !is_in_range(number) {
+        return None;
+    }
+    if !is_signed_decimal(field, number) {
+        return None;
+    }
+    Some(number)
+}
+
+/// The price that fields are.
+pub(crate) fn read_price(fields: &[&[u8]]) -> Option<[i64; PLACES]>
+    ensures { MatchOption result ((v : List ℤ) → IsPrice v → ¬ (map (λ f. f.now) fields.now ≡ map signed_decimal v)) (λ v. IsPrice v × (map (λ f. f.now) fields.now ≡ map signed_decimal v)) }
+{
+    if fields.len() != PLACES {
+        return None;
+    }
+    let mut price = [0; PLACES];
+    for t in 0..PLACES {
+        let Some(number) = read_number(fields[t]) else {
+            return None;
+        };
+        price[t] = number;
+    }
+    Some(price)
+}

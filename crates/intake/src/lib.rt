@@ -1,0 +1,28 @@
+//! Texts that come from outside and go there: round texts.
+//!
+//! A round text is an instance by codes, and with it a matching and prices, in lines that people and other programs can
+//! read. Nothing here judges whether the matching is one of the instance or whether the prices prove it best: `verdict`
+//! does.
+//!
+//! Promised: `write_round` writes the one text of its parts. `read_round` gives the parts of a text that has the form,
+//! and else names the first line up to which the lines begin no such text. The form is in `specs/Lines.antt`, what may
+//! stand in it in `specs/Parts.antt`, and the first bad line in `specs/Reading.antt`; begin there.
+#![tactic(auto)]
+
+mod draft;
+mod fields;
+mod lines;
+mod lookup;
+mod read;
+mod round;
+mod write;
+
+pub use read::read_round;
+pub use round::{RoundFault, RoundParts};
+pub use write::write_round;
+
+/// The longest round text that is read, in bytes.
+pub const MOST_BYTES: usize = 262_144;
+
+#[cfg(test)]
+mod tests;

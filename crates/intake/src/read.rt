@@ -1,0 +1,31 @@
+//! Round texts, read.
+#![tactic(auto)]
+
+ghost use Rattle.intake.specs.Reading.{IsReading};
+
+use crate::MOST_BYTES;
+use crate::draft::Draft;
+use crate::fields::pieces;
+use crate::round::{RoundFault, RoundParts};
+use std::alloc::Global;
+
+/// Reads a round text, or names the first line that is wrong.
+pub fn read_round(alloc: Global, text: &[u8]) -> Result<RoundParts, RoundFault>
+    ensures reading { IsReading text.now result }
+{
+    if text.len() > MOST_BYTES {
+        return Err(RoundFault::TooLarge);
+    }
+    let lines = pieces(alloc, text, b'\n')?;
+    let whole = lines.len() - 1;
+    let mut draft = Draft::new(alloc);
+    for n in 0..whole {
+        if !draft.add_line(alloc, lines[n])? {
+            return Err(RoundFault::Line(n + 1));
+        }
+    }
+    if !lines[whole].is_empty() || !draft.is_whole() {
+        return Err(RoundFault::Line(lines.len()));
+    }
+    draft.finish(alloc)
+}

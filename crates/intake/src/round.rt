@@ -1,0 +1,66 @@
+//! What is read of a round text, and why a text is none.
+#![tactic(auto)]
+
+use spa::{Instance, Matching, TextFault};
+use std::alloc::{AllocError, AllocFailed};
+use thiserror::Error;
+use verdict::Prices;
+
+/// The parts of a round text. A text without prices gives empty ones, and a student without a pair has no place.
+#[derive(Drop)]
+pub struct RoundParts {
+    /// The instance, each roll by codes.
+    pub instance: Instance,
+    /// The pairs, by each student's place in the list. They need not keep the quotas.
+    pub matching: Matching,
+    /// The prices: of each roll one for each entry, or none.
+    pub prices: Prices,
+}
+
+/// Why a text was not read as a round text.
+#[derive(Clone, Copy, Debug, PartialEq, Eq, Drop, Error)]
+pub enum RoundFault {
+    /// A growth of memory was refused.
+    #[error("no memory for the round text")]
+    Memory,
+    /// The text has more than 262,144 bytes. This is judged before any line.
+    #[error("the round text is too large")]
+    TooLarge,
+    /// The first line, from 1, up to which the lines begin no round text; one more than the number of lines where the text
+    /// ends too early.
+    #[error("bad line {0}")]
+    Line(usize),
+}
+
+impl From<AllocError> for RoundFault {
+    ghost use Rattle.std.specs.Prelude.{◌≡◌};
+    ghost use Rattle.intake.specs.declared.round.RoundFault.TheVariants.{Memory};
+
+    ghost from_gives = { λ _ e. e ≡ Memory };
+
+    fn from(_: AllocError) -> RoundFault {
+        RoundFault::Memory
+    }
+}
+
+impl<T: Drop> From<AllocFailed<T>> for RoundFault {
+    ghost use Rattle.std.specs.Prelude.{◌≡◌};
+    ghost use Rattle.intake.specs.declared.round.RoundFault.TheVariants.{Memory};
+
+    ghost from_gives = { λ _ e. e ≡ Memory };
+
+    fn from(_: AllocFailed<T>) -> RoundFault {
+        RoundFault::Memory
+    }
+}
+
+impl From<TextFault> for RoundFault {
+    ghost use Rattle.std.specs.Prelude.{◌≡◌};
+    ghost use Rattle.intake.specs.declared.round.RoundFault.TheVariants.{Memory};
+
+    ghost from_gives = { λ _ e. e ≡ Memory };
+
+    fn from(_: TextFault) -> RoundFault {
+        RoundFault::Memory
+    }
+}

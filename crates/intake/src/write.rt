@@ -1,0 +1,149 @@
+//! Round texts, written.
+#![tactic(auto)]
+
+ghost use Rattle.std.specs.Prelude.{◌≡◌, ◌++◌, map, flat_map, take, drop, codes, IfOk, IfSome, OnOk, string_bytes, length};
+ghost use Rattle.spa.specs.Instance.{supervisor_codes, project_codes, student_codes};
+ghost use Rattle.spa.specs.Named.{Named, instance_of};
+ghost use Rattle.spa.specs.Matched.{IsMatched, HasPlaces};
+ghost use Rattle.verdict.specs.Verdict.{HasShape};
+ghost use Rattle.intake.specs.Parts.{Rise};
+ghost use Rattle.intake.specs.Lines.{Section, supervisor_row, project_row, student_row, pair_rows, price_rows, sections, section_lines, ended, round_text};
+ghost use Rattle.intake.specs.View.{alone, proved, written};
+
+use crate::lines::{push_pair, push_price, push_project, push_student, push_supervisor};
+use spa::{Code, Instance, Matching, PLACES};
+use std::alloc::{AllocError, Global};
+use verdict::Prices;
+
+/// Appends the supervisors' lines.
+fn write_supervisors(out: &mut String, instance: &Instance) -> Result<(), AllocError>
+    ensures { OnOk result (string_bytes out.new ≡ string_bytes out.old ++ ended (section_lines (record { letter = codes "S"; rows = map supervisor_row (instance_of instance.now).supervisors }))) }
+{
+    instance.fit();
+    let codes = instance.supervisor_codes();
+    for l in 0..codes.len() {
+        push_supervisor(out, codes[l].as_str(), instance.supervisor_quota(l))?;
+    }
+    Ok(())
+}
+
+/// Appends the projects' lines.
+fn write_projects(out: &mut String, instance: &Instance) -> Result<(), AllocError>
+    ensures { OnOk result (string_bytes out.new ≡ string_bytes out.old ++ ended (section_lines (record { letter = codes "P"; rows = map project_row (instance_of instance.now).projects }))) }
+{
+    instance.fit();
+    let codes = instance.project_codes();
+    let supervisors = instance.supervisor_codes();
+    for p in 0..codes.len() {
+        let supervisor = supervisors[instance.supervisor_of(p)].as_str();
+        push_project(
+            out,
+            codes[p].as_str(),
+            supervisor,
+            instance.project_quota(p),
+        )?;
+    }
+    Ok(())
+}
+
+/// Appends the students' lines.
+fn write_students(out: &mut String, instance: &Instance) -> Result<(), AllocError>
+    ensures { OnOk result (string_bytes out.new ≡ string_bytes out.old ++ ended (section_lines (record { letter = codes "C"; rows = map student_row (instance_of instance.now).students }))) }
+{
+    instance.fit();
+    let codes = instance.student_codes();
+    let projects = instance.project_codes();
+    for s in 0..codes.len() {
+        push_student(out, codes[s].as_str(), projects, instance.list(s))?;
+    }
+    Ok(())
+}
+
+/// Appends the lines of the pairs.
+fn write_pairs(
+    out: &mut String,
+    instance: &Instance,
+    places: &[Option<u8>],
+) -> Result<(), AllocError>
+    requires { HasPlaces instance.now.shape places.now }
+    ensures { OnOk result (string_bytes out.new ≡ string_bytes out.old ++ ended (section_lines (record { letter = codes "M"; rows = pair_rows (instance_of instance.now).students places.now }))) }
+{
+    instance.fit();
+    let codes = instance.student_codes();
+    let projects = instance.project_codes();
+    for s in 0..places.len() {
+        if let Some(place) = places[s] {
+            let project = instance.list(s)[place as usize];
+            push_pair(out, codes[s].as_str(), projects[project].as_str())?;
+        }
+    }
+    Ok(())
+}
+
+/// Appends the lines of the prices of a roll.
+fn write_prices(
+    out: &mut String,
+    letter: &str,
+    roll: &[Code],
+    prices: &[[i64; PLACES]],
+) -> Result<(), AllocError>
+    requires { length prices.now ≡ length roll.now }
+    ensures { OnOk result (string_bytes out.new ≡ string_bytes out.old ++ ended (section_lines (record { letter = letter.now; rows = price_rows roll.now prices.now }))) }
+{
+    for n in 0..prices.len() {
+        push_price(out, letter, roll[n].as_str(), &prices[n])?;
+    }
+    Ok(())
+}
+
+/// Appends the lines of an instance.
+fn write_instance(out: &mut String, instance: &Instance) -> Result<(), AllocError>
+    ensures { OnOk result (string_bytes out.new ≡ string_bytes out.old ++ ended (flat_map section_lines (take 3 (sections (alone instance.now))))) }
+{
+    write_supervisors(out, instance)?;
+    write_projects(out, instance)?;
+    write_students(out, instance)
+}
+
+/// Appends the lines of a matching and of prices.
+fn write_proof(
+    out: &mut String,
+    instance: &Instance,
+    matching: &Matching,
+    prices: &Prices,
+) -> Result<(), AllocError>
+    requires places { HasPlaces instance.now.shape matching.now.places.items }
+    requires shape { HasShape instance.now.shape prices.now }
+    ensures { OnOk result (string_bytes out.new ≡ string_bytes out.old ++ ended (flat_map section_lines (drop 3 (sections (proved instance.now matching.now.places.items prices.now))))) }
+{
+    instance.fit();
+    write_pairs(out, instance, &matching.places)?;
+    write_prices(out, "U", instance.student_codes(), &prices.students)?;
+    write_prices(out, "Y", instance.project_codes(), &prices.projects)?;
+    write_prices(out, "Z", instance.supervisor_codes(), &prices.supervisors)?;
+    Ok(())
+}
+
+/// Writes an instance, alone or with a matching and prices. Codes rise in each roll.
+pub fn write_round(
+    alloc: Global,
+    instance: &Instance,
+    proof: Option<(&Matching, &Prices)>,
+) -> Result<String, AllocError>
+    requires supervisors { Rise instance.now.supervisor_codes }
+    requires projects { Rise instance.now.project_codes }
+    requires students { Rise instance.now.student_codes }
+
+    // The first two faults of a check don't apply.
+    requires matching { IfSome proof (λ p. IsMatched instance.now.shape p.0.now.places.items) }
+    requires shape { IfSome proof (λ p. HasShape instance.now.shape p.1.now) }
+
+    ensures text { IfOk result (λ text. string_bytes text ≡ round_text (written instance.now proof.entry)) }
+{
+    let mut out = String::new(alloc);
+    write_instance(&mut out, instance)?;
+    if let Some((matching, prices)) = proof {
+        write_proof(&mut out, instance, matching, prices)?;
+    }
+    Ok(out)
+}
