@@ -1,11 +1,20 @@
-//! The program: it serves standard input to standard output over a new database in memory.
+//! The program: it serves standard input to standard output over a new database in memory, or does one line.
 //!
-//! It prints nothing but the answers, and ends with status 0, or with 1 where the stream broke off. The
-//! work is `web`'s and `desk`'s: here standard input, standard output and a database are handed to them.
+//! Without words it prints nothing but the answers, and ends with status 0, or with 1 where the stream broke off. With
+//! words it does what they say: `solve FILE` and `check FILE`. The work is done by the crates below: here standard input,
+//! standard output, files and a database are handed to them.
 #![tactic(auto)]
 
+mod files;
+mod line;
+mod rounds;
+mod words;
+
 use desk::Desk;
+use line::line;
 use sqlite::Connection;
+use std::env;
+use std::io;
 use std::process::ExitCode;
 use std::rt::HostRuntime;
 use web::{Watched, serve_stream};
@@ -24,10 +33,19 @@ fn serve(rt: &HostRuntime) -> bool {
     serve_stream(alloc, &mut desk, &mut reader, &mut writer).is_ok()
 }
 
+/// The words of the command line, the program's name first.
+fn given(rt: &HostRuntime) -> io::Result<Vec<String>> {
+    Ok(env::args(rt)?.collect(rt.alloc())?)
+}
+
 fn main(rt: HostRuntime) -> ExitCode {
-    if serve(&rt) {
-        ExitCode::SUCCESS
-    } else {
-        ExitCode::FAILURE
+    match given(&rt) {
+        Ok(words) if words.len() > 1 => ExitCode::from(line(&rt, words, rt.stdout(), rt.stderr())),
+        Ok(_) if serve(&rt) => ExitCode::SUCCESS,
+        _ => ExitCode::FAILURE,
     }
 }
+
+
+#[cfg(test)]
+mod tests;
