@@ -1,1 +1,2 @@
 pub mod Subcommands
+pub mod Codes

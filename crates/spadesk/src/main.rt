@@ -6,17 +6,16 @@
 #![tactic(auto)]
 
 mod files;
-mod line;
 mod rounds;
+mod run;
 mod words;
 
+use crate::run::line;
 use desk::Desk;
-use line::line;
 use sqlite::Connection;
-use std::env;
-use std::io;
 use std::process::ExitCode;
 use std::rt::HostRuntime;
+use std::{env, io};
 use web::{Watched, serve_stream};
 
 /// Serves standard input to standard output, and tells whether the stream was served to its end.
@@ -45,7 +44,6 @@ fn main(rt: HostRuntime) -> ExitCode {
         _ => ExitCode::FAILURE,
     }
 }
-
 
 #[cfg(test)]
 mod tests;

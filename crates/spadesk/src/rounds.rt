@@ -1,14 +1,19 @@
 //! What the lines on round files print.
 #![tactic(auto)]
 
+ghost use Rattle.std.specs.Prelude.{IfOk, string_bytes};
+ghost use Rattle.spa.specs.Order.{greedy};
+ghost use Rattle.spa.specs.Matched.{HasPlaces};
+ghost use Rattle.verdict.specs.Verdict.{IsFirstFailure};
+ghost use Rattle.spadesk.specs.Rounds.{IsSolution};
+
 use intake::{RoundFault, RoundParts, read_round, write_round};
 use rolls::Refusal;
 use solver::solve;
 use spa::profile;
 use std::alloc::{AllocError, Global};
-use std::fmt;
 use std::fmt::Write;
-use std::io;
+use std::{fmt, io};
 use verdict::{CheckFault, check};
 
 /// Why a line prints no result.
@@ -55,8 +60,11 @@ impl From<RoundFault> for Trouble {
 }
 
 /// The round of a text with a greedy maximum matching and prices that prove it.
-pub(crate) fn solved(alloc: Global, text: &[u8]) -> Result<String, Trouble> {
+pub(crate) fn solved(alloc: Global, text: &[u8]) -> Result<String, Trouble>
+    ensures { IfOk result (λ out. IsSolution text.now (string_bytes out)) }
+{
     let parts = read_round(alloc, text)?;
+    parts.instance.fit();
     let solved = solve(alloc, &parts.instance)?;
     Ok(write_round(
         alloc,
@@ -75,9 +83,15 @@ pub(crate) fn checked(alloc: Global, text: &[u8]) -> Result<String, Trouble> {
 }
 
 /// What is printed of a best matching.
-fn best(alloc: Global, parts: &RoundParts) -> Result<String, Trouble> {
+fn best(alloc: Global, parts: &RoundParts) -> Result<String, Trouble>
+    requires { HasPlaces parts.now.instance.shape parts.now.matching.places.items }
+{
     let mut text = String::new(alloc);
-    write!(text, "best size {} profile", parts.matching.size(&parts.instance))?;
+    write!(
+        text,
+        "best size {} profile",
+        parts.matching.size(&parts.instance)
+    )?;
     for count in profile(&parts.instance, &parts.matching) {
         write!(text, " {count}")?;
     }
@@ -86,7 +100,10 @@ fn best(alloc: Global, parts: &RoundParts) -> Result<String, Trouble> {
 }
 
 /// What is printed of a check that failed: the number of the condition, and the first uncovered student and place.
-fn failed(alloc: Global, parts: &RoundParts, fault: CheckFault) -> Result<String, Trouble> {
+fn failed(alloc: Global, parts: &RoundParts, fault: CheckFault) -> Result<String, Trouble>
+    requires { IsFirstFailure greedy parts.now.instance.shape parts.now.matching.places.items parts.now.prices fault }
+{
+    parts.instance.fit();
     let mut text = String::new(alloc);
     match fault {
         CheckFault::NotMatching => text.push_str("fault 1\n")?,

@@ -1,14 +1,15 @@
 //! The lines of the program: what they print, and their statuses.
 #![tactic(auto)]
 
-use crate::line::line;
+use crate::run::line;
 use std::fs;
 use std::process::Abort;
 use std::rt::HostRuntime;
 use std::test::Fail;
 
 /// A round: the instance, a greedy maximum matching of it, and prices that prove it.
-const ROUND: &str = "S,L,5\nP,P,L,1\nP,Q,L,1\nP,Z,L,0\nC,A,P,Q\nC,C,Z,P\nM,A,Q\nM,C,P\nU,A,1,0,1,0,0,0,0,0,0\nU,C,1,-1,2,0,0,0,0,0,0\nY,P,0,1,-1,0,0,0,0,0,0\nY,Q,0,0,0,0,0,0,0,0,0\nY,Z,0,2,-2,0,0,0,0,0,0\nZ,L,0,0,0,0,0,0,0,0,0\n";
+const ROUND: &str =
+    "S,L,5\nP,P,L,1\nP,Q,L,1\nP,Z,L,0\nC,A,P,Q\nC,C,Z,P\nM,A,Q\nM,C,P\nU,A,1,0,1,0,0,0,0,0,0\nU,C,1,-1,2,0,0,0,0,0,0\nY,P,0,1,-1,0,0,0,0,0,0\nY,Q,0,0,0,0,0,0,0,0,0\nY,Z,0,2,-2,0,0,0,0,0,0\nZ,L,0,0,0,0,0,0,0,0,0\n";
 
 /// What a line printed on standard output and on standard error, and its status.
 #[derive(Drop)]
@@ -74,9 +75,18 @@ fn what_solve_prints_is_accepted(rt: HostRuntime) -> Result<(), Fail> {
     let solved = done(&rt, "spadesk solve round.txt", ALONE)?;
     assert_eq!(rt; (solved.err.len(), solved.status), (0, 0));
     let text = std::str::from_utf8(&solved.out)?;
-    assert!(rt; text.starts_with(ALONE) && text.contains("\nM,A,Q\nM,C,P\nU,A,"), "{text}");
+    assert!(rt;
+        text.starts_with(ALONE) && text.contains("\nM,A,Q\nM,C,P\nU,A,"),
+        "{text}"
+    );
     let checked = done(&rt, "spadesk check round.txt", text)?;
-    prints(&rt, &checked, "best size 2 profile 0 2 0 0 0 0 0 0\n", "", 0);
+    prints(
+        &rt,
+        &checked,
+        "best size 2 profile 0 2 0 0 0 0 0 0\n",
+        "",
+        0,
+    );
     Ok(())
 }
 
@@ -131,7 +141,11 @@ fn words_of_no_line() -> [(&'static str, bool); 6] {
 fn help_and_faults_of_the_line_are_told_apart(rt: HostRuntime) -> Result<(), Fail> {
     for (words, is_help) in words_of_no_line().as_slice() {
         let printed = done(&rt, words, "")?;
-        assert_eq!(rt; (printed.out.is_empty(), printed.err.is_empty()), (!*is_help, *is_help), "{words}");
+        assert_eq!(rt;
+            (printed.out.is_empty(), printed.err.is_empty()),
+            (!*is_help, *is_help),
+            "{words}"
+        );
         assert_eq!(rt; printed.status, if *is_help { 0 } else { 2 }, "{words}");
     }
     Ok(())

@@ -1,6 +1,8 @@
 //! A whole line: its words, what it prints, and its status.
 #![tactic(auto)]
 
+ghost use Rattle.std.specs.Prelude.{◌≤◌};
+
 use crate::files::read_file;
 use crate::rounds::{Trouble, checked, solved};
 use crate::words::{Line, LineFault, command};
@@ -9,7 +11,10 @@ use std::io::Write;
 use std::rt::HostRuntime;
 
 /// Writes a text in one piece, and gives the status, or 1 where it could not be written.
-fn print<W: Write>(out: &mut W, text: &str, status: u8) -> u8 {
+fn print<W: Write>(out: &mut W, text: &str, status: u8) -> u8
+    requires { status ≤ 2 }
+    ensures { result ≤ 2 }
+{
     match out.write_all(text.as_bytes()) {
         Ok(()) => status,
         Err(_) => 1,
@@ -29,7 +34,14 @@ fn result_of(rt: &HostRuntime, line: &Line) -> Result<String, Trouble> {
 /// The result goes to `out` with status 0; a check that failed goes to `out` with status 1. A refusal or a bad line of a
 /// file goes to `err` with status 1, a fault of the line to `err` with status 2, and help to `out` with status 0. Where
 /// `out` or `err` fails, the status is 1.
-pub fn line<O: Write + Drop, E: Write + Drop>(rt: &HostRuntime, words: Vec<String>, mut out: O, mut err: E) -> u8 {
+pub fn line<O: Write + Drop, E: Write + Drop>(
+    rt: &HostRuntime,
+    words: Vec<String>,
+    mut out: O,
+    mut err: E,
+) -> u8
+    ensures { result ≤ 2 }
+{
     let line = match command(rt.alloc(), &words) {
         Ok(line) => line,
         Err(LineFault::Memory) => return refuse(&mut err, Refusal::Memory),
@@ -47,7 +59,9 @@ pub fn line<O: Write + Drop, E: Write + Drop>(rt: &HostRuntime, words: Vec<Strin
 }
 
 /// Prints a refusal, and gives its status.
-fn refuse<W: Write>(err: &mut W, refusal: Refusal) -> u8 {
+fn refuse<W: Write>(err: &mut W, refusal: Refusal) -> u8
+    ensures { result ≤ 2 }
+{
     match writeln!(err, "refused {}: {refusal:?}", refusal.number()) {
         _ => 1,
     }
