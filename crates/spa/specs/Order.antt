@@ -17,6 +17,11 @@ pub record Precedes (n : ℕ) (v w : ℕ → ℤ) : Type 0 where
 abbrev pub greedy : RowOrder
 greedy = Precedes PLACES
 
+-- the first places alone decide an order, and not to come before goes on
+pub record IsSettled (order : RowOrder) : Type 0 where
+  pub same : (v w x y : ℕ → ℤ) → ((t : ℕ) → t < PLACES → v t ≡ w t) → ((t : ℕ) → t < PLACES → x t ≡ y t) → ¬ order x v → ¬ order y w
+  pub goes_on : (u v w : ℕ → ℤ) → ¬ order v u → ¬ order w v → ¬ order w u
+
 -- by place: nothing
 abbrev pub none : ℕ → ℤ
 none k = pos 0

@@ -1,10 +1,11 @@
 //! Laws of instances that the crates above rest on: functions with nothing to do, whose contracts are the laws.
 #![tactic(auto)]
 
-ghost use Rattle.std.specs.Prelude.{◌≡◌, ℕ, ℤ, ◌+◌, ◌<◌, ◌↔◌, List, length, slice_index, Contains};
-ghost use Rattle.spa.specs.Order.{greedy};
-ghost use Rattle.spa.specs.Shape.{list_of};
+ghost use Rattle.std.specs.Prelude.{◌≡◌, ℕ, ℤ, ◌+◌, ◌<◌, ◌≤◌, ◌↔◌, List, Option, length, slice_index, Contains};
+ghost use Rattle.spa.specs.Order.{greedy, IsSettled};
+ghost use Rattle.spa.specs.Shape.{list_of, project_quota, supervisor_quota};
 ghost use Rattle.spa.specs.Matching.{Pair, IsBest, IsGreedyMaximum, rank_in};
+ghost use Rattle.spa.specs.Matched.{HasPlaces, IsMatched, in_project, with_supervisor};
 ghost use Rattle.spa.specs.Prices.{ProveBest};
 ghost use Rattle.spa.specs.Coded.{SaysTheSame};
 
@@ -18,6 +19,18 @@ pub fn list_law(instance: &Instance)
 {
     instance.fit();
 }
+
+/// Places in the lists, with no more pairs than the quotas of the known projects and supervisors, stand for a matching.
+pub fn place_law(instance: &Instance)
+    ensures { (ks : List (Option ℕ)) → HasPlaces instance.now.shape ks → ((p : ℕ) → p < length instance.now.shape.projects → in_project instance.now.shape ks p ≤ project_quota instance.now.shape p) → ((l : ℕ) → l < length instance.now.shape.supervisors → with_supervisor instance.now.shape ks l ≤ supervisor_quota instance.now.shape l) → IsMatched instance.now.shape ks }
+{
+    instance.fit();
+}
+
+/// The greedy order is settled by the places of a worth, and what it does not put before goes on.
+pub fn order_law()
+    ensures { IsSettled greedy }
+{}
 
 /// A matching is greedy maximum exactly where no matching has a total weight that comes after its own.
 pub fn greedy_law(instance: &Instance)

@@ -1,11 +1,12 @@
 //! The five conditions, in their order.
 #![tactic(auto)]
 
-ghost use Rattle.std.specs.Prelude.{◌↔◌, IsOk, OnOk, IfErr};
+ghost use Rattle.std.specs.Prelude.{◌↔◌, ℕ, List, Option, IsOk, OnOk, IfErr};
 ghost use Rattle.spa.specs.Order.{greedy};
 ghost use Rattle.spa.specs.Matching.{IsGreedyMaximum};
 ghost use Rattle.spa.specs.Matched.{pairs};
 ghost use Rattle.verdict.specs.Verdict.{IsProvedBest, IsFirstFailure};
+ghost use Rattle.verdict.specs.declared.prices.Prices.{Prices};
 
 use crate::cover::first_uncovered;
 use crate::prices::{Prices, has_shape, is_above};
@@ -56,4 +57,12 @@ pub fn check(instance: &Instance, matching: &Matching, prices: &Prices) -> Resul
         return Err(CheckFault::Unequal);
     }
     Ok(())
+}
+
+/// Prices that meet the five conditions prove a matching greedy maximum.
+pub fn verdict_law(instance: &Instance)
+    ensures { (ks : List (Option ℕ)) (p : Prices) → IsProvedBest greedy instance.now.shape ks p → IsGreedyMaximum instance.now.shape (pairs instance.now.shape ks) }
+{
+    greedy_law(instance);
+    price_law(instance);
 }

@@ -12,7 +12,7 @@ mod cover;
 mod prices;
 mod totals;
 
-pub use conditions::{CheckFault, check};
+pub use conditions::{CheckFault, check, verdict_law};
 pub use prices::{LIMIT, Prices};
 
 #[cfg(test)]

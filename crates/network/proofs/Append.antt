@@ -1,0 +1,153 @@
+-- a student without a place is added to a pushed flow
+use Rattle.std.proofs.Common.{◌≡◌, ◌≢◌, ℕ, ◌+◌, ◌*◌, ◌<◌, ◌≤◌, ◌⊎◌, inl, inr, zero, suc, List, [], ◌∷◌, ◌++◌, length, Option, Some, None, slice_get, refl, arith, sym, ◌∙◌, ap, subst}
+use Rattle.std.specs.Prelude.{slice_index, nat_eq}
+use Rattle.std.specs.declared.vec.Vec.{Vec}
+use Rattle.std.specs.declared.alloc.Global.{Global}
+use Rattle.std.proofs.lemmas.List.{length-append}
+use Rattle.std.proofs.lemmas.Option.{slice_get_within, same_Some}
+use Rattle.spa.specs.Laws.{Ops, IsWorth, AtMost}
+use Rattle.network.specs.Arcs.{HasEntry, Holds, sink_of, project_count, IsFormed}
+use Rattle.network.specs.Fair.{potential, IsFair, IsFairBut}
+use Rattle.network.specs.Push.{sum_to, one_if, place_at, seat, seats, seats_of, IsCounted, IsPushed}
+use Rattle.network.proofs.Sums.{sum_to_same}
+use Rattle.network.specs.declared.flow.Flow.{Flow}
+
+-- an element of a list with one more at its end
+pub slice_get-last : {X : Type 0} (xs : List X) (y : X) → slice_get (xs ++ y ∷ []) (length xs) ≡ Some y
+slice_get-last [] y = refl
+slice_get-last (x ∷ xs) y = slice_get-last xs y
+
+pub slice_get-before : {X : Type 0} (xs : List X) (y : X) (i : ℕ) → i < length xs → slice_get (xs ++ y ∷ []) i ≡ slice_get xs i
+slice_get-before [] y i lt = absurd (omega (arith, lt))
+slice_get-before (x ∷ xs) y zero lt = refl
+slice_get-before (x ∷ xs) y (suc i) lt = slice_get-before xs y i (omega (arith, lt))
+
+pub slice_get-either : {X : Type 0} (xs : List X) (y z : X) (i : ℕ) → slice_get (xs ++ y ∷ []) i ≡ Some z → (slice_get xs i ≡ Some z) ⊎ ((i ≡ length xs) × (y ≡ z))
+slice_get-either [] y z zero e = inr (refl, same_Some _ _ e)
+slice_get-either [] y z (suc i) e = cc
+slice_get-either (x ∷ xs) y z zero e = inl e
+slice_get-either (x ∷ xs) y z (suc i) e = elim (slice_get-either xs y z i e) [
+  | inl h ↦ inl h
+  | inr h ↦ inr (ap suc h.0, h.1)
+]
+
+module _ {G : Type 0} {o : Ops G} (f : Flow G) (pushed : IsPushed o f)
+    (L : Vec (Vec (ℕ × G) Global) Global) (P : Vec (Option ℕ) Global) (row : Vec (ℕ × G) Global)
+    (lists_are : L.items ≡ f.lists.items ++ row ∷ []) (places_are : P.items ≡ f.places.items ++ None ∷ [])
+    (few : length f.lists.items < 500) (short : length row.items ≤ 12)
+    (known : (k p : ℕ) (w : G) → slice_get row.items k ≡ Some (p, w) → (p < project_count f) × (o.span w ≤ 1)) where
+  abbrev pub A : Flow G
+  A = record f { lists = L; places = P }
+
+  abbrev pub last : ℕ
+  last = length f.lists.items
+
+  lists_long : length L.items ≡ last + 1
+  lists_long = ap length lists_are ∙ length-append f.lists.items (row ∷ [])
+
+  places_long : length P.items ≡ length f.places.items + 1
+  places_long = ap length places_are ∙ length-append f.places.items (None ∷ [])
+
+  pub no_place_yet : slice_get P.items last ≡ Some None
+  no_place_yet = rw (places_are, pushed.formed.students) (slice_get-last f.places.items None)
+
+  pub last_row : slice_get L.items last ≡ Some row
+  last_row = rw lists_are (slice_get-last f.lists.items row)
+
+  place_old : (s k : ℕ) → slice_get P.items s ≡ Some (Some k) → slice_get f.places.items s ≡ Some (Some k)
+  place_old s k e = elim (slice_get-either f.places.items None (Some k) s (subst (λ z. slice_get z s ≡ Some (Some k)) places_are e)) [
+    | inl h ↦ h
+    | inr h ↦ absurd (let q = h.1 in cc)
+  ]
+
+  none_old : (s : ℕ) → (s ≡ last → ⊥) → slice_get P.items s ≡ Some None → slice_get f.places.items s ≡ Some None
+  none_old s ne e = elim (slice_get-either f.places.items None None s (subst (λ z. slice_get z s ≡ Some None) places_are e)) [
+    | inl h ↦ h
+    | inr h ↦ absurd (ne (h.0 ∙ sym pushed.formed.students))
+  ]
+
+  row_old : (s : ℕ) (r : Vec (ℕ × G) Global) → (s ≡ last → ⊥) → slice_get L.items s ≡ Some r → slice_get f.lists.items s ≡ Some r
+  row_old s r ne e = elim (slice_get-either f.lists.items row r s (subst (λ z. slice_get z s ≡ Some r) lists_are e)) [
+    | inl h ↦ h
+    | inr h ↦ absurd (ne h.0)
+  ]
+
+  entry_old : (s k p : ℕ) (w : G) → (s ≡ last → ⊥) → HasEntry L.items s k p w → HasEntry f.lists.items s k p w
+  entry_old s k p w ne e = record { row = e.row; student = row_old s e.row ne e.student; place = e.place }
+
+  not_last : (s k : ℕ) → slice_get P.items s ≡ Some (Some k) → s ≡ last → ⊥
+  not_last s k e q = let h = slice_get_within f.places.items s _ (place_old s k e) in omega (arith, h, q, pushed.formed.students)
+
+  holds_old : (s a : ℕ) → Holds A s a → Holds f s a
+  holds_old s a h = record {
+    place = h.place;
+    worth = h.worth;
+    placed = place_old s h.place h.placed;
+    entry = entry_old s h.place a h.worth (not_last s h.place h.placed) h.entry;
+  }
+
+  pub appended_fair : IsFairBut o A last
+  unfolding holds_old
+  appended_fair = record {
+    placed = λ s a k p w h e. pushed.fair.placed s a k p w (holds_old s a h) (entry_old s k p w (not_last s h.place h.placed) e);
+    placed_least = λ s a h. pushed.fair.placed_least s a (holds_old s a h);
+    unplaced = λ s k p w ne none e. pushed.fair.unplaced s k p w ne (none_old s ne none) (entry_old s k p w ne e);
+    project = pushed.fair.project;
+    project_room = pushed.fair.project_room;
+    supervisor = pushed.fair.supervisor;
+    supervisor_room = pushed.fair.supervisor_room;
+    sink = pushed.fair.sink;
+  }
+
+  row_cases : (s : ℕ) (r : Vec (ℕ × G) Global) → slice_get L.items s ≡ Some r → (slice_get f.lists.items s ≡ Some r) ⊎ (row ≡ r)
+  row_cases s r e = elim (slice_get-either f.lists.items row r s (subst (λ z. slice_get z s ≡ Some r) lists_are e)) [
+    | inl h ↦ inl h
+    | inr h ↦ inr h.1
+  ]
+
+  pub appended_formed : IsFormed o A
+  appended_formed = record {
+    students = omega (arith, lists_long, places_long, pushed.formed.students);
+    filled = pushed.formed.filled;
+    load = pushed.formed.load;
+    potentials = pushed.formed.potentials;
+    entries = λ s k p w e. elim (row_cases s e.row e.student) [
+      | inl h ↦ pushed.formed.entries s k p w (record { row = e.row; student = h; place = e.place })
+      | inr h ↦ known k p w (ap (λ (r : Vec (ℕ × G) Global). slice_get r.items k) h ∙ e.place)
+    ];
+    placed = λ s k e.
+        let h = pushed.formed.placed s k (place_old s k e) in
+        let lt = slice_get_within f.lists.items s _ h.2.student in
+        (h.0, h.1, record { row = h.2.row; student = ap (λ z. slice_get z s) lists_are ∙ slice_get-before f.lists.items row s lt ∙ h.2.student; place = h.2.place });
+    projects = pushed.formed.projects;
+    quotas = pushed.formed.quotas;
+    loads = pushed.formed.loads;
+    few_students = omega (arith, lists_long, few);
+    few_projects = pushed.formed.few_projects;
+    few_supervisors = pushed.formed.few_supervisors;
+    short = λ s r e. elim (row_cases s r e) [
+      | inl h ↦ pushed.formed.short s r h
+      | inr h ↦ subst (λ (z : Vec (ℕ × G) Global). length z.items ≤ 12) h short
+    ];
+  }
+
+  seat_same : (p s : ℕ) → s < last → seat f p s ≡ seat A p s
+  seat_same p s lt =
+      let a : slice_get P.items s ≡ slice_get f.places.items s = ap (λ z. slice_get z s) places_are ∙ slice_get-before f.places.items None s (omega (arith, lt, pushed.formed.students)) in
+      let b : slice_get L.items s ≡ slice_get f.lists.items s = ap (λ z. slice_get z s) lists_are ∙ slice_get-before f.lists.items row s lt in
+      sym (ap (λ z. place_at z (slice_get L.items s) p) a ∙ ap (λ z. place_at (slice_get f.places.items s) z p) b)
+
+  seats_same : (p : ℕ) → seats f p ≡ seats A p
+  seats_same p =
+      let long : length L.items ≡ suc last = omega (arith, lists_long) in
+      let e : sum_to (length L.items) (seat A p) ≡ sum_to last (seat A p) + seat A p last = ap (λ z. sum_to z (seat A p)) long in
+      let z : seat A p last ≡ 0 = ap (λ z. place_at z (slice_get L.items last) p) no_place_yet in
+      omega (arith, e, z, sum_to_same last (seat f p) (seat A p) (seat_same p))
+
+  pub appended_counted : IsCounted A (sink_of A)
+  appended_counted = record {
+    project = λ p lt. let s = seats_same p in omega (arith, s, pushed.counted.project p lt);
+    project_within = pushed.counted.project_within;
+    supervisor = pushed.counted.supervisor;
+    supervisor_within = pushed.counted.supervisor_within;
+  }

@@ -1,0 +1,238 @@
+-- The places of a pushed flow are a matching.
+use Rattle.std.proofs.Common.{◌≡◌, ℕ, zero, suc, ◌+◌, ◌*◌, ◌<◌, ◌≤◌, ◌==◌, inl, inr, true, false, Bool, cond, List, [], ◌∷◌, length, map, get_or, Contains, count_by, Option, Some, None, refl, sym, ap, ◌∙◌, subst, arith, option_map, slice_get, slice_index, eq-eqb, ne_eqb, eqb}
+use Rattle.std.specs.declared.vec.Vec.{Vec}
+use Rattle.std.specs.declared.alloc.Global.{Global}
+use Rattle.std.specs.List.{AllByRecursion}
+use Rattle.std.proofs.lemmas.Bool.{cases_lt, cases_eq}
+use Rattle.std.proofs.lemmas.List.{length-map, get_or-map}
+use Rattle.std.proofs.lemmas.List.Sums.{sum_by-cons}
+use Rattle.std.proofs.lemmas.List.Elements.{All-from_recursion}
+use Rattle.std.proofs.lemmas.Option.{slice_get_within, slice_get-get_or, get_or_from_slice_get, slice_get-map, same_Some}
+use Rattle.spa.specs.Laws.{Ops}
+use Rattle.spa.specs.Shape.{Shape, list_of, supervisor_of, project_quota, supervisor_quota}
+use Rattle.spa.specs.Matching.{Pair, pairs_from}
+use Rattle.spa.specs.Matched.{pairs, HasPlaces, IsMatched}
+use Rattle.network.specs.Arcs.{HasEntry, sink_of, project_count}
+use Rattle.network.specs.Push.{sum_to, one_if, entry_at, row_at, place_at, seat, seats, owner_at, seats_of, IsPushed}
+use Rattle.network.specs.Seen.{shape_of}
+use Rattle.network.specs.View.{row_of, seen}
+use Rattle.network.proofs.Sums.{sum_to_same, sum_to_change, sum_to_zero, sum_to_front}
+use Rattle.network.proofs.Ends.{not_sink, node_not_sink}
+use Rattle.network.specs.declared.flow.Flow.{Flow}
+
+-- each pair is a student from n on and a project of the student's list
+listed_from : (n : ℕ) (xss : List (List ℕ)) (ks : List (Option ℕ)) (lists : ℕ → List ℕ)
+    → ((j : ℕ) → j < length xss → lists (n + j) ≡ get_or xss j [])
+    → ((j k : ℕ) → slice_get ks j ≡ Some (Some k) → k < length (lists (n + j)))
+    → AllByRecursion (λ e. Contains (lists e.student) e.project) (pairs_from n xss ks)
+listed_from n [] ks lists same within = tt
+listed_from n (xs ∷ xss) [] lists same within = tt
+listed_from n (xs ∷ xss) (None ∷ ks) lists same within =
+    listed_from (suc n) xss ks lists
+    (λ j h. ap lists (omega arith) ∙ same (suc j) (omega arith))
+    (λ j k e. subst (λ (m : ℕ). k < length (lists m)) (omega arith) (within (suc j) k e))
+listed_from n (xs ∷ xss) (Some k ∷ ks) lists same within =
+    let here : lists n ≡ xs = ap lists (omega arith) ∙ same 0 (omega arith) in
+    let small : k < length (lists n) = subst (λ (m : ℕ). k < length (lists m)) (omega arith) (within 0 k refl) in (
+      (k, small, contained (lists n) xs k here small),
+      listed_from (suc n) xss ks lists
+          (λ j h. ap lists (omega arith) ∙ same (suc j) (omega arith))
+          (λ j k e. subst (λ (m : ℕ). k < length (lists m)) (omega arith) (within (suc j) k e)),
+    )
+  where
+    inside : (ys : List ℕ) (k a b : ℕ) → k < length ys → get_or ys k a ≡ get_or ys k b
+    inside [] k a b h = absurd (omega arith)
+    inside (y ∷ ys) zero a b h = refl
+    inside (y ∷ ys) (suc k) a b h = inside ys k a b (omega arith)
+
+    contained : (ys xs : List ℕ) (k : ℕ) → ys ≡ xs → k < length ys → get_or ys k (slice_index xs k) ≡ slice_index xs k
+    contained ys xs k e h = inside ys k (slice_index xs k) 0 h ∙ ap (λ (zs : List ℕ). get_or zs k 0) e
+
+-- a student before n is in none of the pairs
+none_before : (s n : ℕ) (xss : List (List ℕ)) (ks : List (Option ℕ)) → s < n → count_by (λ e. e.student == s) (pairs_from n xss ks) ≡ 0
+none_before s n [] ks h = refl
+none_before s n (xs ∷ xss) [] h = refl
+none_before s n (xs ∷ xss) (None ∷ ks) h = none_before s (suc n) xss ks (omega arith)
+none_before s n (xs ∷ xss) (Some k ∷ ks) h =
+    let r = none_before s (suc n) xss ks (omega arith) in
+    let e : eqb n s ≡ false = ne_eqb n s (λ x. absurd (omega arith)) in
+    simp (sum_by-cons, e, r)
+
+-- each student is in one pair at most
+one_at_most : (s n : ℕ) (xss : List (List ℕ)) (ks : List (Option ℕ)) → count_by (λ e. e.student == s) (pairs_from n xss ks) ≤ 1
+one_at_most s n [] ks = omega arith
+one_at_most s n (xs ∷ xss) [] = omega arith
+one_at_most s n (xs ∷ xss) (None ∷ ks) = one_at_most s (suc n) xss ks
+one_at_most s n (xs ∷ xss) (Some k ∷ ks) =
+    elim (cases_eq n s) [
+      | inl same ↦
+          let r = none_before s (suc n) xss ks (omega arith) in
+          let e : eqb n s ≡ true = eq-eqb n s same in
+          simp (sum_by-cons, e) (omega (arith, r))
+      | inr other ↦
+          let r = one_at_most s (suc n) xss ks in
+          let e : eqb n s ≡ false = ne_eqb n s other in
+          simp (sum_by-cons, e) (omega (arith, r))
+    ]
+
+-- what no pair has is counted nowhere
+none_past : (key : Pair → ℕ) (m k : ℕ) (M : List Pair) → AllByRecursion (λ e. key e < m) M → m ≤ k → count_by (λ e. key e == k) M ≡ 0
+none_past key m k [] a h = refl
+none_past key m k (e ∷ M) a h =
+    let r = none_past key m k M a.1 h in
+    let small : key e < m = a.0 in
+    let f : eqb (key e) k ≡ false = ne_eqb (key e) k (λ x. absurd (omega arith)) in
+    simp (sum_by-cons, f, r)
+
+-- where each quota that is known is kept, all are
+within_all : (key : Pair → ℕ) (m : ℕ) (quota : ℕ → ℕ) (M : List Pair) → AllByRecursion (λ e. key e < m) M → ((k : ℕ) → k < m → count_by (λ e. key e == k) M ≤ quota k) → (k : ℕ) → count_by (λ e. key e == k) M ≤ quota k
+within_all key m quota M a within k =
+    elim (cases_lt k m) [ inl h ↦ within k h | inr h ↦ let z = none_past key m k M a h in omega (arith, z) ]
+
+-- what holds of each element goes on
+each_from : {X : Type 0} (P Q : X → Type 0) → ((x : X) → P x → Q x) → (xs : List X) → AllByRecursion P xs → AllByRecursion Q xs
+each_from P Q f [] a = tt
+each_from P Q f (x ∷ xs) a = (f x a.0, each_from P Q f xs a.1)
+
+cond_one : (b : Bool) → cond b 1 0 ≡ one_if b
+cond_one true = refl
+cond_one false = refl
+
+-- the pairs of a supervisor are those of the supervisor's projects
+by_project : (owns : ℕ → Bool) (n : ℕ) (M : List Pair) → AllByRecursion (λ e. e.project < n) M
+    → count_by (λ e. owns e.project) M ≡ sum_to n (λ p. one_if (owns p) * count_by (λ e. e.project == p) M)
+by_project owns n [] a = sym (sum_to_zero n (λ p. one_if (owns p) * 0) (λ p. omega arith))
+by_project owns n (e ∷ M) a =
+    let rest = by_project owns n M a.1 in
+    let other : (j : ℕ) → (j ≡ e.project → ⊥) → one_if (owns j) * count_by (λ (x : Pair). x.project == j) M ≡ one_if (owns j) * count_by (λ (x : Pair). x.project == j) (e ∷ M) = λ j ne.
+    ap (λ z. one_if (owns j) * z) (
+    let f : one_if (eqb e.project j) ≡ 0 = ap one_if (ne_eqb e.project j (λ x. ne (sym x))) in
+    let c = sum_by-cons (λ (x : Pair). cond (x.project == j) 1 0) e M in
+    omega (arith, c, f, cond_one (eqb e.project j))) in
+    let change = sum_to_change n e.project (λ p. one_if (owns p) * count_by (λ (x : Pair). x.project == p) M) (λ p. one_if (owns p) * count_by (λ (x : Pair). x.project == p) (e ∷ M)) a.0 other in
+    let one : count_by (λ (x : Pair). x.project == e.project) (e ∷ M) ≡ 1 + count_by (λ (x : Pair). x.project == e.project) M = (
+    let f : one_if (eqb e.project e.project) ≡ 1 = ap one_if (eq-eqb e.project e.project refl) in
+    let c = sum_by-cons (λ (x : Pair). cond (x.project == e.project) 1 0) e M in
+    omega (arith, c, f, cond_one (eqb e.project e.project))) in
+    let here : one_if (owns e.project) * count_by (λ (x : Pair). x.project == e.project) (e ∷ M) ≡ one_if (owns e.project) + one_if (owns e.project) * count_by (λ (x : Pair). x.project == e.project) M =
+    ap (λ z. one_if (owns e.project) * z) one ∙ omega arith in
+    let head = sum_by-cons (λ (x : Pair). cond (owns x.project) 1 0) e M in
+    omega (arith, rest, change, here, head, cond_one (owns e.project))
+
+-- the projects of each list
+abbrev choices : {G : Type 0} → List (Vec (ℕ × G) Global) → List (List ℕ)
+choices rows = map (map (λ e. e.0)) (map row_of rows)
+
+-- each place is one of its list
+abbrev AreInLists : {G : Type 0} → List (Vec (ℕ × G) Global) → List (Option ℕ) → Type 0
+AreInLists {G} rows ks = (s k : ℕ) → slice_get ks s ≡ Some (Some k) → (p : ℕ) × (w : G) × HasEntry rows s k p w
+
+rest_in : {G : Type 0} (r : Vec (ℕ × G) Global) (rows : List (Vec (ℕ × G) Global)) (x : Option ℕ) (ks : List (Option ℕ)) → AreInLists (r ∷ rows) (x ∷ ks) → AreInLists rows ks
+rest_in r rows x ks a s k e = let h = a (suc s) k e in (h.0, h.1, record { row = h.2.row; student = h.2.student; place = h.2.place })
+
+-- the project of the first student's place
+first_project : {G : Type 0} (r : Vec (ℕ × G) Global) (rows : List (Vec (ℕ × G) Global)) (k p : ℕ) (w : G) → HasEntry (r ∷ rows) 0 k p w
+    → (slice_get r.items k ≡ Some (p, w)) × (slice_index (map (λ e. e.0) r.items) k ≡ p)
+first_project r rows k p w h =
+    let same : r ≡ h.row = same_Some _ _ h.student in
+    let at : slice_get r.items k ≡ Some (p, w) = ap (λ (q : Vec (ℕ × _) Global). slice_get q.items k) same ∙ h.place in
+    (at, get_or-map (λ e. e.0) r.items k (p, w) 0 (slice_get_within r.items k (p, w) at) ∙ ap (λ (e : ℕ × _). e.0) (get_or_from_slice_get r.items k (p, w) (p, w) at))
+
+-- as many pairs have a project as students are placed there
+seats_from : {G : Type 0} (n : ℕ) (rows : List (Vec (ℕ × G) Global)) (ks : List (Option ℕ)) (p : ℕ) → AreInLists rows ks
+    → count_by (λ e. e.project == p) (pairs_from n (choices rows) ks) ≡ sum_to (length rows) (λ s. place_at (slice_get ks s) (slice_get rows s) p)
+seats_from n [] ks p a = refl
+seats_from n (r ∷ rows) [] p a = sym (sum_to_zero (length (r ∷ rows)) (λ s. 0) (λ i. refl))
+seats_from n (r ∷ rows) (None ∷ ks) p a =
+    let rest = seats_from (suc n) rows ks p (rest_in r rows None ks a) in
+    let move = sum_to_front (length rows) (λ s. place_at (slice_get (None ∷ ks) s) (slice_get (r ∷ rows) s) p) in
+    omega (arith, rest, move)
+seats_from n (r ∷ rows) (Some k ∷ ks) p a =
+    let h = a 0 k refl in
+    let f = first_project r rows k h.0 h.1 h.2 in
+    let rest = seats_from (suc n) rows ks p (rest_in r rows (Some k) ks a) in
+    let move = sum_to_front (length rows) (λ s. place_at (slice_get (Some k ∷ ks) s) (slice_get (r ∷ rows) s) p) in
+    let there : row_at (Some r) k p ≡ one_if (eqb h.0 p) = ap (λ z. entry_at z p) f.0 in
+    let head = sum_by-cons (λ (e : Pair). cond (e.project == p) 1 0) (record { student = n; project = slice_index (map (λ e. e.0) r.items) k }) (pairs_from (suc n) (choices rows) ks) in
+    let here : cond (eqb (slice_index (map (λ e. e.0) r.items) k) p) 1 0 ≡ one_if (eqb h.0 p) = ap (λ z. cond (eqb z p) 1 0) f.1 ∙ cond_one (eqb h.0 p) in
+    omega (arith, rest, move, there, head, here)
+
+-- the projects of all pairs are known
+known_from : {G : Type 0} (n m : ℕ) (rows : List (Vec (ℕ × G) Global)) (ks : List (Option ℕ)) → AreInLists rows ks
+    → ((s k p : ℕ) (w : G) → HasEntry rows s k p w → p < m) → AllByRecursion (λ e. e.project < m) (pairs_from n (choices rows) ks)
+known_from n m [] ks a known = tt
+known_from n m (r ∷ rows) [] a known = tt
+known_from n m (r ∷ rows) (None ∷ ks) a known =
+    known_from (suc n) m rows ks (rest_in r rows None ks a) (λ s k p w h. known (suc s) k p w (record { row = h.row; student = h.student; place = h.place }))
+known_from n m (r ∷ rows) (Some k ∷ ks) a known =
+    let h = a 0 k refl in (
+      rw (first_project r rows k h.0 h.1 h.2).1 (known 0 k h.0 h.1 h.2),
+      known_from (suc n) m rows ks (rest_in r rows (Some k) ks a) (λ s k p w h. known (suc s) k p w (record { row = h.row; student = h.student; place = h.place })),
+    )
+
+module _ {G : Type 0} {o : Ops G} (f : Flow G) (steps : ℕ) (pushed : IsPushed o f) where
+  abbrev i : Shape
+  i = shape_of (seen f steps)
+
+  abbrev ks : List (Option ℕ)
+  ks = f.places.items
+
+  -- a student's list, as callers see it
+  list_seen : (s : ℕ) (r : Vec (ℕ × G) Global) → slice_get f.lists.items s ≡ Some r → list_of i s ≡ map (λ e. e.0) r.items
+  list_seen s r e =
+      let a : slice_get (map row_of f.lists.items) s ≡ Some r.items = slice_get-map row_of f.lists.items s ∙ ap (λ z. option_map row_of z) e in
+      let b : slice_get (choices f.lists.items) s ≡ Some (map (λ e. e.0) r.items) = slice_get-map (map (λ e. e.0)) (map row_of f.lists.items) s ∙ ap (λ z. option_map (map (λ e. e.0)) z) a in
+      get_or_from_slice_get (choices f.lists.items) s _ [] b
+
+  pub students_seen : length (choices f.lists.items) ≡ length f.lists.items
+  students_seen = length-map (map row_of f.lists.items) (map (λ e. e.0)) ∙ length-map f.lists.items row_of
+
+  has_places : HasPlaces i ks
+  has_places = record {
+    one_each = sym (students_seen ∙ pushed.formed.students);
+    in_list = λ s k e.
+        let h = pushed.formed.placed s k e in
+        let at = slice_get_within h.2.row.items k _ h.2.place in
+        rw (list_seen s h.2.row h.2.student, length-map h.2.row.items (λ (e : ℕ × G). e.0)) at;
+  }
+
+  abbrev M : List Pair
+  M = pairs i ks
+
+  listed : AllByRecursion (λ e. Contains (list_of i e.student) e.project) M
+  listed = listed_from 0 i.students ks (list_of i) (λ j h. ap (list_of i) (omega arith)) (λ j k e. subst (λ (m : ℕ). k < length (list_of i m)) (omega arith) (has_places.in_list j k e))
+
+  projects : AllByRecursion (λ e. e.project < length f.projects.items) M
+  projects = known_from 0 (length f.projects.items) f.lists.items ks pushed.formed.placed (λ s k p w h. (pushed.formed.entries s k p w h).0)
+
+  -- the project and the supervisor at a position
+  project_seen : (p : ℕ) → p < length f.projects.items → slice_get f.projects.items p ≡ Some (supervisor_of i p, project_quota i p)
+  project_seen p lt = slice_get-get_or f.projects.items p (0, 0) lt
+
+  supervisors : AllByRecursion (λ e. supervisor_of i e.project < length f.supervisors.items) M
+  supervisors = each_from (λ (e : Pair). e.project < length f.projects.items) (λ e. supervisor_of i e.project < length f.supervisors.items) (λ e h. pushed.formed.projects e.project _ _ (project_seen e.project h)) M projects
+
+  filled_by : (p : ℕ) → p < length f.projects.items → slice_index f.filled.items p ≡ count_by (λ e. e.project == p) M
+  filled_by p lt = let s = seats_from 0 f.lists.items ks p pushed.formed.placed in omega (arith, s, pushed.counted.project p lt, not_sink f p lt)
+
+  owned : (l p : ℕ) → p < length f.projects.items → owner_at (slice_get f.projects.items p) l * slice_index f.filled.items p ≡ one_if (supervisor_of i p == l) * count_by (λ e. e.project == p) M
+  owned l p lt = ap (λ z. owner_at z l * slice_index f.filled.items p) (project_seen p lt) ∙ ap (λ z. one_if (supervisor_of i p == l) * z) (filled_by p lt)
+
+  loaded_by : (l : ℕ) → l < length f.supervisors.items → slice_index f.load.items l ≡ count_by (λ e. supervisor_of i e.project == l) M
+  loaded_by l lt =
+      let s = by_project (λ p. supervisor_of i p == l) (length f.projects.items) M projects in
+      let t = sum_to_same (length f.projects.items) (λ p. owner_at (slice_get f.projects.items p) l * slice_index f.filled.items p) (λ p. one_if (supervisor_of i p == l) * count_by (λ e. e.project == p) M) (owned l) in
+      omega (arith, s, t, pushed.counted.supervisor l lt, node_not_sink f l lt)
+
+  pub matched : IsMatched i ks
+  matched = record {
+    places = has_places;
+    matching = record {
+      listed = All-from_recursion (λ e. Contains (list_of i e.student) e.project) M listed;
+      student_once = λ s. one_at_most s 0 i.students ks;
+      project_within = within_all (λ e. e.project) (length f.projects.items) (project_quota i) M projects
+          (λ p lt. let w = pushed.counted.project_within p _ _ (project_seen p lt) in omega (arith, w, filled_by p lt));
+      supervisor_within = within_all (λ e. supervisor_of i e.project) (length f.supervisors.items) (supervisor_quota i) M supervisors
+          (λ l lt. omega (arith, pushed.counted.supervisor_within l lt, loaded_by l lt));
+    };
+  }

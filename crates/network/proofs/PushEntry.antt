@@ -1,0 +1,101 @@
+-- the hole at a project that a list's entry led to
+use Rattle.std.proofs.Common.{◌≡◌, ◌≢◌, ℕ, ◌+◌, ◌*◌, ◌<◌, ◌≤◌, ◌⊎◌, inl, inr, zero, suc, List, [], ◌∷◌, length, get_or, set, Option, Some, None, slice_get, refl, arith, sym, ◌∙◌, ap, subst, eqb, true, false, Bool, length-set, get_or-set_same, get_or-set_other}
+use Rattle.std.specs.Prelude.{slice_index, nat_eq}
+use Rattle.std.specs.declared.vec.Vec.{Vec}
+use Rattle.std.specs.declared.alloc.Global.{Global}
+use Rattle.std.proofs.lemmas.Bool.{cases_eq, eq-eqb, ne_eqb}
+use Rattle.std.proofs.lemmas.Option.{slice_get_within, some_pair_parts, same_Some}
+use Rattle.spa.specs.Laws.{Ops, IsWorth, AtMost}
+use Rattle.network.specs.Marks.{mark_at, is_seen}
+use Rattle.network.specs.Search.{rank_or}
+use Rattle.network.specs.Arcs.{HasEntry, Holds, EntryArc, LeaveArc, OfferArc, SwapArc, RoomArc, Arc, OfStudent, sink_of, project_count, IsFormed}
+use Rattle.network.specs.Fair.{potential, IsFair}
+use Rattle.network.specs.Push.{sum_to, one_if, entry_at, row_at, place_at, seat, seats, seats_of, IsCounted, IsStep, IsFirst, HasSteps, IsPushing, IsPushed, IsNext}
+use Rattle.network.proofs.Ends.{place_quiet, place_counted}
+use Rattle.network.proofs.Entries.{entry_same}
+use Rattle.network.proofs.Students.{holds_same, holds_along}
+use Rattle.network.proofs.Transfer.{transfer_fair, transfer_counted, moved_steps, slice_get-set_same, slice_get-set_other, place_other, holds_before, holds_after, seat_held, same_either}
+use Rattle.network.proofs.Group.{at_most_refl, zero_left, moved_same}
+use Rattle.network.proofs.Sums.{sum_to_change, sum_to_same}
+use Rattle.network.specs.declared.flow.Flow.{Flow}
+use Rattle.network.specs.declared.marks.Origin.{Origin}
+use Rattle.network.specs.declared.marks.Origin.TheVariants.{Unseen, Entry, Leave, Offer, Swap, Room}
+use Rattle.network.specs.declared.marks.Mark.{Mark}
+
+module _ {G : Type 0} {o : Ops G} (laws : IsWorth o) (f : Flow G) (formed : IsFormed o f) (P : Vec (Option ℕ) Global) (s : ℕ) (x : Option ℕ)
+    (set_is : P.items ≡ set f.places.items s x) (within : s < length f.places.items) where
+  abbrev pub N : Flow G
+  N = record f { places = P }
+
+  -- the parts still belong together
+  pub placed_formed : ((k : ℕ) → x ≡ Some k → (p : ℕ) × (w : G) × HasEntry f.lists.items s k p w) → IsFormed o N
+  placed_formed known = record {
+    students = formed.students ∙ sym (ap length set_is ∙ length-set f.places.items s x);
+    filled = formed.filled;
+    load = formed.load;
+    potentials = formed.potentials;
+    entries = formed.entries;
+    placed = λ t k e. elim (cases_eq t s) [
+      | inl q ↦ (let z : Some x ≡ Some (Some k) = sym (rw set_is (slice_get-set_same f.places.items s x within)) ∙ (rw q at e) in
+          let kn = known k (same_Some _ _ z) in rw q kn)
+      | inr ne ↦ formed.placed t k (sym (place_other laws f formed P s x set_is t ne) ∙ e)
+    ];
+    projects = formed.projects;
+    quotas = formed.quotas;
+    loads = formed.loads;
+    few_students = formed.few_students;
+    few_projects = formed.few_projects;
+    few_supervisors = formed.few_supervisors;
+    short = formed.short;
+  }
+
+module _ {G : Type 0} {o : Ops G} (laws : IsWorth o) (f : Flow G) (marks : List (Mark G)) (fresh : ℕ) (top : G) (hole s k : ℕ) (pushing : IsPushing o f marks fresh top hole)
+    (origin : (mark_at o marks hole).origin ≡ Entry s k) (P : Vec (Option ℕ) Global) (set_is : P.items ≡ set f.places.items s (Some k)) where
+  abbrev pub Placed : Flow G
+  Placed = record f { places = P }
+
+  step_here : IsFirst o f marks fresh top hole ⊎ IsStep o f marks (length marks) hole
+  step_here = pushing.steps hole pushing.seen (inl refl)
+
+  -- the student had a place: the hole moves to that place's project
+  pub entry_next : (old from : ℕ) (v : G) → slice_get f.places.items s ≡ Some (Some old) → HasEntry f.lists.items s old from v → IsNext o Placed marks fresh top hole from
+  entry_next old from v placed held = go step_here where
+    fresh_other : s ≡ fresh → ⊥
+    fresh_other e = let z = pushing.waiting in let y : slice_get f.places.items fresh ≡ Some (Some old) = rw e at placed in cc
+
+    go : IsFirst o f marks fresh top hole ⊎ IsStep o f marks (length marks) hole → IsNext o Placed marks fresh top hole from
+    go (inl h) = let off : OfStudent o f fresh o.zero (Entry s k) (mark_at o marks hole).label hole = rw origin at h.offered in absurd (fresh_other off.0)
+    go (inr h) =
+        let arc : EntryArc o f h.before s k h.worth hole = rw origin at h.along in
+        let same = holds_same placed held arc.holds in
+        let tight : o.plus arc.worth (potential o f hole) ≡ o.plus arc.holds.worth (potential o f h.before) =
+        moved_same laws arc.worth arc.holds.worth _ _ (ap (λ z. o.plus z (potential o f hole)) (sym arc.is) ∙ h.tight) in
+        let below_a = (pushing.formed.entries _ _ _ _ arc.holds.entry).0 in
+        let below_b = (pushing.formed.entries _ _ _ _ arc.entry).0 in
+        rw same.0 (record {
+          pushing = record {
+            formed = placed_formed laws f pushing.formed P s (Some k) set_is (slice_get_within f.places.items s _ placed) (λ i e. (hole, arc.worth, rw (← same_Some k i e) arc.entry));
+            fair = transfer_fair laws f pushing.formed P s (Some k) set_is h.before hole k arc.worth arc.holds arc.entry refl tight fresh top fresh_other pushing.fair;
+            counted = transfer_counted laws f pushing.formed P s (Some k) set_is h.before hole k arc.worth arc.holds arc.entry refl tight below_a below_b pushing.counted;
+            steps = moved_steps laws f pushing.formed P s (Some k) set_is h.before arc.holds marks fresh top (length marks) hole h.rank h.settled h.earlier pushing.steps;
+            waiting = place_other laws f pushing.formed P s (Some k) set_is fresh (λ e. fresh_other (sym e)) ∙ pushing.waiting;
+            seen = (pushing.ranked h.before h.rank h.settled).1;
+            ranked = pushing.ranked;
+          };
+          falls = rw h.settled h.earlier;
+        })
+
+  -- the student had none: the push is done
+  pub entry_last : slice_get f.places.items s ≡ Some None → IsPushed o Placed
+  entry_last none = go step_here where
+    go : IsFirst o f marks fresh top hole ⊎ IsStep o f marks (length marks) hole → IsPushed o Placed
+    go (inr h) = let arc : EntryArc o f h.before s k h.worth hole = rw origin at h.along in absurd (let z = arc.holds.placed in cc)
+    go (inl h) =
+        let off : OfStudent o f fresh o.zero (Entry s k) (mark_at o marks hole).label hole = rw origin at h.offered in
+        let tight : o.plus off.1 (potential o f hole) ≡ top = ap (λ z. o.plus z (potential o f hole)) (sym (zero_left laws off.1) ∙ sym off.3) ∙ h.tight in
+        let fair : IsFair o f s top = rw off.0 pushing.fair in
+        record {
+          formed = placed_formed laws f pushing.formed P s (Some k) set_is (slice_get_within f.places.items s _ none) (λ i e. (hole, off.1, rw (← same_Some k i e) off.2));
+          fair = place_quiet laws f pushing.formed P s (Some k) set_is top hole k off.1 none off.2 refl tight fair;
+          counted = place_counted laws f pushing.formed P s (Some k) set_is top hole k off.1 none off.2 refl tight (pushing.formed.entries _ _ _ _ off.2).0 pushing.counted;
+        }

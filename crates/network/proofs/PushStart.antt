@@ -1,0 +1,152 @@
+-- from a search to a push
+use Rattle.std.proofs.Common.{◌≡◌, ◌≢◌, ℕ, ◌+◌, ◌-◌, ◌*◌, ◌<◌, ◌≤◌, ◌⊎◌, inl, inr, List, length, Option, Some, None, slice_get, refl, arith, sym, ◌∙◌, ap, subst, true, false, Bool}
+use Rattle.std.specs.Prelude.{slice_index}
+use Rattle.std.specs.declared.vec.Vec.{Vec}
+use Rattle.std.specs.declared.alloc.Global.{Global}
+use Rattle.spa.specs.Laws.{Ops, IsWorth, AtMost}
+use Rattle.network.proofs.Group.{at_most_refl, at_most_trans, at_most_shift, moved_back, zero_left}
+use Rattle.network.specs.Marks.{mark_at, potential_at, key_at, is_seen, is_settled, is_open_mark}
+use Rattle.network.specs.Search.{rank_or, FromNode, IsSearch, IsFound, Feasible, lowered}
+use Rattle.network.specs.Arcs.{HasEntry, Holds, EntryArc, LeaveArc, OfferArc, SwapArc, RoomArc, Arc, OfStudent, sink_of, project_count, IsFormed}
+use Rattle.network.specs.Fair.{potential, IsFair, IsFairBut}
+use Rattle.network.specs.Push.{IsCounted, IsStep, IsFirst, HasSteps, IsPushing}
+use Rattle.network.proofs.Settle.{open_rank}
+use Rattle.network.proofs.Lower.{falls, stays_feasible, first_covered, tight_arc, tight_first}
+use Rattle.network.proofs.Fair.{fair_placed, fair_placed_least, fair_waiting, fair_waiting_least, fair_room, fair_project, fair_supervisor_room}
+use Rattle.network.specs.declared.flow.Flow.{Flow}
+use Rattle.network.specs.declared.marks.Origin.{Origin}
+use Rattle.network.specs.declared.marks.Origin.TheVariants.{Unseen, Entry, Leave, Offer, Swap, Room}
+use Rattle.network.specs.declared.marks.Mark.{Mark}
+
+module _ {G : Type 0} {o : Ops G} (laws : IsWorth o) (f : Flow G) (fresh : ℕ) (fair : IsFairBut o f fresh) where
+  pub but_feasible : Feasible o (Arc o f) f.potentials.items
+  but_feasible a Unseen c b d = absurd d
+  but_feasible a (Entry s k) c b d = rw d.is (moved_back laws d.worth d.holds.worth _ _ (fair.placed s a k b d.worth d.holds d.entry))
+  but_feasible a (Leave s) c b d =
+      rw (d.is, d.to_sink, fair.sink) (moved_back laws o.zero d.holds.worth o.zero _ (rw (laws.unit o.zero) (fair.placed_least s a d.holds)))
+  but_feasible a (Offer p) c b d =
+      rw (d.is, zero_left laws, d.to_supervisor, d.from_project) (fair.project_room p d.supervisor d.quota d.project d.room)
+  but_feasible a (Swap l) c b d =
+      rw (d.is, zero_left laws, d.from_supervisor) (fair.project b l d.quota d.project)
+  but_feasible a (Room l) c b d =
+      rw (d.is, zero_left laws, d.to_sink, fair.sink, d.from_supervisor) (fair.supervisor_room l d.known d.room)
+
+  module _ (formed : IsFormed o f) (marks : List (Mark G)) (len : length marks ≡ length f.potentials.items)
+      (found : IsFound o (OfStudent o f fresh o.zero) (Arc o f) f.potentials.items marks (sink_of f))
+      (none : slice_get f.places.items fresh ≡ Some None) (counted : IsCounted f (sink_of f))
+      (H : Vec G Global) (long : length H.items ≡ length f.potentials.items)
+      (low_is : (v : ℕ) → potential_at o H.items v ≡ lowered o marks f.potentials.items (mark_at o marks (sink_of f)).label v) where
+    abbrev pub N : Flow G
+    N = record f { potentials = H }
+
+    abbrev top : G
+    top = (mark_at o marks (sink_of f)).label
+
+    abbrev low : ℕ → G
+    low v = lowered o marks f.potentials.items top v
+
+    low_sink : low (sink_of f) ≡ o.zero
+    low_sink = let e : is_settled (mark_at o marks (sink_of f)).rank ≡ false = ap is_settled (open_rank (mark_at o marks (sink_of f)) found.opened).1 in
+        rw e fair.sink
+
+    down : (v : ℕ) → AtMost o (low v) (potential o f v)
+    down = falls laws (OfStudent o f fresh o.zero) (Arc o f) f.potentials.items marks (sink_of f) found.settled found.search found.opened found.best fair.sink
+
+    arcs : (a : ℕ) (w : Origin) (c : G) (b : ℕ) → Arc o f a w c b → AtMost o (o.plus c (low b)) (low a)
+    arcs = stays_feasible laws (OfStudent o f fresh o.zero) (Arc o f) f.potentials.items marks (sink_of f) found.settled found.search found.opened found.best fair.sink but_feasible
+
+    begun : (w : Origin) (x : G) (b : ℕ) → OfStudent o f fresh o.zero w x b → AtMost o (o.plus x (low b)) top
+    begun = first_covered laws (OfStudent o f fresh o.zero) (Arc o f) f.potentials.items marks (sink_of f) found.settled found.search found.opened found.best fair.sink
+
+    -- an inequality of the lowered potentials, of the new flow's
+    holds_of : (s a : ℕ) → Holds N s a → Holds f s a
+    holds_of s a h = record { place = h.place; worth = h.worth; placed = h.placed; entry = h.entry }
+
+    pub fair_now : IsFair o N fresh top
+    unfolding holds_of
+    fair_now = record {
+      placed = λ s a k p w h e. rw (low_is p, low_is a) (fair_placed laws f f formed fresh top refl refl refl refl refl refl low down arcs begun low_sink s a k p w (holds_of s a h) e);
+      placed_least = λ s a h. rw (low_is a) (fair_placed_least laws f f formed fresh top refl refl refl refl refl refl low down arcs begun low_sink s a (holds_of s a h));
+      unplaced = λ s k p w ne no_place e. rw (low_is p, laws.comm w (low p)) (at_most_trans laws _ _ _ (at_most_shift laws (low p) (potential o f p) w (down p)) (rw (laws.comm (potential o f p) w) (fair.unplaced s k p w ne no_place e)));
+      waiting = λ k p w e. rw (low_is p) (fair_waiting laws f f formed fresh top refl refl refl refl refl refl low down arcs begun low_sink k p w e);
+      waiting_least = fair_waiting_least laws f f formed fresh top refl refl refl refl refl refl low down arcs begun low_sink;
+      project = λ p l q e. rw (low_is p, low_is (project_count f + l)) (fair_project laws f f formed fresh top refl refl refl refl refl refl low down arcs begun low_sink p l q e);
+      project_room = λ p l q e lt. rw (low_is p, low_is (project_count f + l)) (fair_room laws f f formed fresh top refl refl refl refl refl refl low down arcs begun low_sink p l q e lt);
+      supervisor = λ l lt. rw (low_is (project_count f + l)) (at_most_trans laws _ _ _ (down (project_count f + l)) (fair.supervisor l lt));
+      supervisor_room = λ l lt room. rw (low_is (project_count f + l)) (fair_supervisor_room laws f f formed fresh top refl refl refl refl refl refl low down arcs begun low_sink l lt room);
+      sink = rw (low_is (sink_of f)) low_sink;
+    }
+
+    same_arc : (a : ℕ) (w : Origin) (c : G) (b : ℕ) → Arc o f a w c b → Arc o N a w c b
+    same_arc a Unseen c b d = d
+    same_arc a (Entry s k) c b d = record { holds = record { place = d.holds.place; worth = d.holds.worth; placed = d.holds.placed; entry = d.holds.entry }; worth = d.worth; entry = d.entry; is = d.is }
+    same_arc a (Leave s) c b d = record { holds = record { place = d.holds.place; worth = d.holds.worth; placed = d.holds.placed; entry = d.holds.entry }; is = d.is; to_sink = d.to_sink }
+    same_arc a (Offer p) c b d = record { supervisor = d.supervisor; quota = d.quota; from_project = d.from_project; project = d.project; room = d.room; to_supervisor = d.to_supervisor; is = d.is }
+    same_arc a (Swap l) c b d = record { quota = d.quota; from_supervisor = d.from_supervisor; project = d.project; is = d.is }
+    same_arc a (Room l) c b d = record { from_supervisor = d.from_supervisor; known = d.known; room = d.room; to_sink = d.to_sink; is = d.is }
+
+    same_first : (w : Origin) (x : G) (b : ℕ) → OfStudent o f fresh o.zero w x b → OfStudent o N fresh o.zero w x b
+    same_first Unseen x b d = d
+    same_first (Entry s k) x b d = d
+    same_first (Leave s) x b d = d
+    same_first (Offer p) x b d = d
+    same_first (Swap l) x b d = d
+    same_first (Room l) x b d = d
+
+    rank_wider : (r : ℕ) (q : Option ℕ) → r < rank_or found.settled q → r < rank_or (length marks) q
+    rank_wider r None lt = omega (arith, lt, found.few, len)
+    rank_wider r (Some k) lt = lt
+
+    settled_or_sink : (v : ℕ) → (v ≡ sink_of f) ⊎ (rank_or (length marks) (mark_at o marks v).rank < rank_or (length marks) (mark_at o marks (sink_of f)).rank)
+        → (v ≡ sink_of f) ⊎ (is_settled (mark_at o marks v).rank ≡ true)
+    settled_or_sink v (inl e) = inl e
+    settled_or_sink v (inr lt) = inr (go (mark_at o marks v).rank (subst (λ z. rank_or (length marks) (mark_at o marks v).rank < rank_or (length marks) z) (open_rank (mark_at o marks (sink_of f)) found.opened).1 lt)) where
+      go : (q : Option ℕ) → rank_or (length marks) q < length marks → is_settled q ≡ true
+      go None h = absurd (omega (arith, h))
+      go (Some r) h = refl
+
+    pub steps_now : HasSteps o N marks fresh top (length marks) (sink_of f)
+    steps_now v seen before = go (found.search.from v seen) where
+      here : (v ≡ sink_of f) ⊎ (is_settled (mark_at o marks v).rank ≡ true)
+      here = settled_or_sink v before
+
+      go : OfStudent o f fresh o.zero (mark_at o marks v).origin (mark_at o marks v).label v ⊎ FromNode o (Arc o f) marks found.settled v → IsFirst o N marks fresh top v ⊎ IsStep o N marks (length marks) v
+      go (inl h) = inl (record {
+        offered = same_first _ _ v h;
+        tight = rw (low_is v) (tight_first laws (OfStudent o f fresh o.zero) (Arc o f) f.potentials.items marks (sink_of f) found.settled found.search found.opened found.best fair.sink v here);
+      })
+      go (inr h) = inr (record {
+        before = h.before;
+        rank = h.rank;
+        worth = h.worth;
+        settled = h.settled;
+        earlier = rank_wider h.rank (mark_at o marks v).rank h.earlier;
+        along = same_arc h.before (mark_at o marks v).origin h.worth v h.along;
+        tight = rw (low_is v, low_is h.before) (tight_arc laws (OfStudent o f fresh o.zero) (Arc o f) f.potentials.items marks (sink_of f) found.settled found.search found.opened found.best fair.sink v here h);
+      })
+
+    -- a found walk and the lowered potentials are where a push starts
+    pub push_starts : IsPushing o N marks fresh top (sink_of N)
+    push_starts = record {
+      formed = record {
+        students = formed.students;
+        filled = formed.filled;
+        load = formed.load;
+        potentials = long ∙ formed.potentials;
+        entries = formed.entries;
+        placed = formed.placed;
+        projects = formed.projects;
+        quotas = formed.quotas;
+        loads = formed.loads;
+        few_students = formed.few_students;
+        few_projects = formed.few_projects;
+        few_supervisors = formed.few_supervisors;
+        short = formed.short;
+      };
+      fair = fair_now;
+      counted = record { project = counted.project; project_within = counted.project_within; supervisor = counted.supervisor; supervisor_within = counted.supervisor_within };
+      steps = steps_now;
+      waiting = none;
+      seen = (open_rank (mark_at o marks (sink_of f)) found.opened).0;
+      ranked = λ b r e. let h = found.search.ranks b r e in (omega (arith, h.0, found.few, len), h.1);
+    }

@@ -1,0 +1,83 @@
+-- what is known of a pushed flow stays where its lists are held in other memory
+use Rattle.std.proofs.Common.{◌≡◌, ◌≢◌, ℕ, ◌+◌, ◌*◌, ◌^◌, ◌<◌, ◌≤◌, ◌⊎◌, inl, inr, List, length, Option, Some, None, slice_get, refl, arith, sym, ◌∙◌, ap, subst}
+use Rattle.std.specs.Prelude.{slice_index, nat_eq}
+use Rattle.std.specs.declared.vec.Vec.{Vec}
+use Rattle.std.specs.declared.alloc.Global.{Global}
+use Rattle.spa.specs.Laws.{Ops, IsWorth, AtMost}
+use Rattle.network.specs.Arcs.{HasEntry, Holds, sink_of, project_count, IsFormed}
+use Rattle.network.specs.Fair.{potential, IsFair}
+use Rattle.network.specs.Push.{sum_to, one_if, place_at, seat, seats, seats_of, IsCounted, IsPushed}
+use Rattle.network.specs.View.{IsReady}
+use Rattle.network.proofs.Sums.{sum_to_same}
+use Rattle.network.specs.declared.flow.Flow.{Flow}
+
+module _ {G : Type 0} {o : Ops G} (f : Flow G) (pushed : IsPushed o f)
+    (L : Vec (Vec (ℕ × G) Global) Global) (P : Vec (Option ℕ) Global)
+    (lists_are : L.items ≡ f.lists.items) (places_are : P.items ≡ f.places.items) where
+  abbrev pub R : Flow G
+  R = record f { lists = L; places = P }
+
+  entry_old : (s k p : ℕ) (w : G) → HasEntry L.items s k p w → HasEntry f.lists.items s k p w
+  entry_old s k p w e = record { row = e.row; student = sym (ap (λ z. slice_get z s) lists_are) ∙ e.student; place = e.place }
+
+  entry_new : (s k p : ℕ) (w : G) → HasEntry f.lists.items s k p w → HasEntry L.items s k p w
+  entry_new s k p w e = record { row = e.row; student = ap (λ z. slice_get z s) lists_are ∙ e.student; place = e.place }
+
+  place_old : (s : ℕ) (x : Option ℕ) → slice_get P.items s ≡ Some x → slice_get f.places.items s ≡ Some x
+  place_old s x e = sym (ap (λ z. slice_get z s) places_are) ∙ e
+
+  holds_old : (s a : ℕ) → Holds R s a → Holds f s a
+  holds_old s a h = record { place = h.place; worth = h.worth; placed = place_old s (Some h.place) h.placed; entry = entry_old s h.place a h.worth h.entry }
+
+  long : length L.items ≡ length f.lists.items
+  long = ap length lists_are
+
+  regrown_fair : IsFair o R (length L.items) o.zero
+  unfolding holds_old
+  regrown_fair = record {
+    placed = λ s a k p w h e. pushed.fair.placed s a k p w (holds_old s a h) (entry_old s k p w e);
+    placed_least = λ s a h. pushed.fair.placed_least s a (holds_old s a h);
+    unplaced = λ s k p w ne none e. pushed.fair.unplaced s k p w (λ q. ne (q ∙ sym long)) (place_old s None none) (entry_old s k p w e);
+    waiting = λ k p w e. pushed.fair.waiting k p w (let e' : HasEntry f.lists.items (length L.items) k p w = entry_old (length L.items) k p w e in subst (λ z. HasEntry f.lists.items z k p w) long e');
+    waiting_least = pushed.fair.waiting_least;
+    project = pushed.fair.project;
+    project_room = pushed.fair.project_room;
+    supervisor = pushed.fair.supervisor;
+    supervisor_room = pushed.fair.supervisor_room;
+    sink = pushed.fair.sink;
+  }
+
+  seat_same : (p s : ℕ) → seat f p s ≡ seat R p s
+  seat_same p s = sym (ap (λ z. place_at (slice_get z s) (slice_get L.items s) p) places_are ∙ ap (λ z. place_at (slice_get f.places.items s) (slice_get z s) p) lists_are)
+
+  seats_same : (p : ℕ) → seats f p ≡ seats R p
+  seats_same p = sum_to_same (length f.lists.items) (seat f p) (seat R p) (λ s lt. seat_same p s) ∙ sym (ap (λ z. sum_to z (seat R p)) long)
+
+  pub regrown : IsPushed o R
+  regrown = record {
+    formed = record {
+      students = omega (arith, long, pushed.formed.students, ap length places_are);
+      filled = pushed.formed.filled;
+      load = pushed.formed.load;
+      potentials = pushed.formed.potentials;
+      entries = λ s k p w e. pushed.formed.entries s k p w (entry_old s k p w e);
+      placed = λ s k e. let h = pushed.formed.placed s k (place_old s (Some k) e) in (h.0, h.1, entry_new s k h.0 h.1 h.2);
+      projects = pushed.formed.projects;
+      quotas = pushed.formed.quotas;
+      loads = pushed.formed.loads;
+      few_students = omega (arith, long, pushed.formed.few_students);
+      few_projects = pushed.formed.few_projects;
+      few_supervisors = pushed.formed.few_supervisors;
+      short = λ s r e. pushed.formed.short s r (sym (ap (λ z. slice_get z s) lists_are) ∙ e);
+    };
+    fair = regrown_fair;
+    counted = record {
+      project = λ p lt. let s = seats_same p in omega (arith, s, pushed.counted.project p lt);
+      project_within = pushed.counted.project_within;
+      supervisor = pushed.counted.supervisor;
+      supervisor_within = pushed.counted.supervisor_within;
+    };
+  }
+
+  pub regrown_ready : (steps : ℕ) → IsReady o f steps → IsReady o R steps
+  regrown_ready steps ready = record { pushed = regrown; low = ready.low; counted = omega (arith, ready.counted, long) }

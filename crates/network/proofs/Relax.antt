@@ -1,0 +1,98 @@
+-- relaxations one after another
+use Rattle.std.proofs.Common.{◌≡◌, ◌≢◌, ℕ, ◌+◌, ◌<◌, ◌≤◌, ◌⊎◌, inl, inr, List, length, set, get_or, Bool, true, false, cond, Option, Some, None, refl, arith, sym, ◌∙◌, ap, subst, get_or-set_same, get_or-set_other, length-set}
+use Rattle.std.proofs.lemmas.Bool.{cases_eq, cases_Bool, cond-true, cond-false}
+use Rattle.std.specs.Ordering.{is_gt}
+use Rattle.spa.specs.Laws.{Ops, IsWorth, AtMost}
+use Rattle.network.proofs.Group.{at_most_refl, at_most_trans, at_most_rev}
+use Rattle.network.specs.Marks.{is_seen, is_settled, is_open_mark, blank, mark_at, potential_at, key_at, relaxed}
+use Rattle.network.specs.Search.{Replaced, Reaches, Taken, Relaxes, OneOffer}
+use Rattle.network.specs.declared.marks.Origin.{Origin}
+use Rattle.network.specs.declared.marks.Mark.{Mark}
+
+not_settled : (r : Option ℕ) → is_settled r ≡ false → r ≡ None
+not_settled None e = refl
+not_settled (Some r) e = cc
+
+module _ {G : Type 0} {o : Ops G} (laws : IsWorth o) where
+  relaxed_moves : (m : Mark G) (label : G) (origin : Origin) (node : ℕ) → is_seen origin ≡ true
+      → (s t u : Bool) → is_settled m.rank ≡ s → is_seen m.origin ≡ t → is_gt (o.cmp label m.label) ≡ u
+      → let n : Mark G = cond s m (cond t (cond u (record { label = label; origin = origin; rank = None }) m) (record { label = label; origin = origin; rank = None })) in
+      (n ≡ m) ⊎ Replaced o (OneOffer origin label node) node m n
+  relaxed_moves m label origin node e true t u es et eu = inl refl
+  relaxed_moves m label origin node e false false u es et eu =
+      inr (record { was_open = not_settled m.rank es; is_open = refl; seen = e; offered = (refl, refl, refl); grows = λ h. absurd (cc) })
+  relaxed_moves m label origin node e false true false es et eu = inl refl
+  relaxed_moves m label origin node e false true true es et eu =
+      inr (record { was_open = not_settled m.rank es; is_open = refl; seen = e; offered = (refl, refl, refl); grows = λ h. at_most_rev laws label m.label eu })
+
+  relaxed_taken : (m : Mark G) (label : G) (origin : Origin) → is_seen origin ≡ true
+      → (s t u : Bool) → is_settled m.rank ≡ s → is_seen m.origin ≡ t → is_gt (o.cmp label m.label) ≡ u
+      → let n : Mark G = cond s m (cond t (cond u (record { label = label; origin = origin; rank = None }) m) (record { label = label; origin = origin; rank = None })) in
+      (is_settled n.rank ≡ true) ⊎ ((is_seen n.origin ≡ true) × AtMost o label n.label)
+  relaxed_taken m label origin e true t u es et eu = inl es
+  relaxed_taken m label origin e false false u es et eu = inr (e, at_most_refl laws label)
+  relaxed_taken m label origin e false true false es et eu = inr (et, eu)
+  relaxed_taken m label origin e false true true es et eu = inr (e, at_most_refl laws label)
+
+  -- one relaxation
+  pub relaxes_one : (marks new : List (Mark G)) (node : ℕ) (label : G) (origin : Origin) → is_seen origin ≡ true → node < length marks
+      → new ≡ set marks node (relaxed o (mark_at o marks node) label origin)
+      → Relaxes o (OneOffer origin label node) marks new
+  relaxes_one marks new node label origin e lt is =
+      let m : Mark G = mark_at o marks node in
+      let here : mark_at o new node ≡ relaxed o m label origin = rw is (get_or-set_same marks node _ (blank o) lt) in
+      record {
+        len = rw is (simp length-set);
+        moves = λ b. elim (cases_eq b node) [
+          | inl q ↦ rw (q, here) (relaxed_moves m label origin node e _ _ _ refl refl refl)
+          | inr q ↦ inl (rw is (get_or-set_other marks node b _ (blank o) q))
+        ];
+        taken = λ w x b f. rw (f.1, f.2) (elim (relaxed_taken m label origin e _ _ _ refl refl refl) [
+          | inl s ↦ inl (rw here s)
+          | inr s ↦ inr (record { seen = rw here s.0; enough = rw here s.1 })
+        ]);
+      }
+
+  replaced_then : (p q : Origin → G → ℕ → Type 0) (b : ℕ) (l m n : Mark G)
+      → (m ≡ l) ⊎ Replaced o p b l m → (n ≡ m) ⊎ Replaced o q b m n
+      → (n ≡ l) ⊎ Replaced o (λ w x c. p w x c ⊎ q w x c) b l n
+  replaced_then p q b l m n (inl e) (inl f) = inl (f ∙ e)
+  replaced_then p q b l m n (inl e) (inr f) =
+      inr (record { was_open = ap (λ (z : Mark G). z.rank) (sym e) ∙ f.was_open; is_open = f.is_open; seen = f.seen; offered = inr f.offered; grows = rw e at f.grows })
+  replaced_then p q b l m n (inr e) (inl f) =
+      rw f (inr (record { was_open = e.was_open; is_open = e.is_open; seen = e.seen; offered = inl e.offered; grows = e.grows }))
+  replaced_then p q b l m n (inr e) (inr f) =
+      inr (record {
+        was_open = e.was_open;
+        is_open = f.is_open;
+        seen = f.seen;
+        offered = inr f.offered;
+        grows = λ h. at_most_trans laws l.label m.label n.label (e.grows h) (f.grows e.seen);
+      })
+
+  -- what was taken stays taken
+  pub taken_stays : (q : Origin → G → ℕ → Type 0) (old new : List (Mark G)) (b : ℕ) (x : G) → Relaxes o q old new → Taken o old b x → Taken o new b x
+  taken_stays q old new b x r t = go (r.moves b) t where
+    go : (mark_at o new b ≡ mark_at o old b) ⊎ Replaced o q b (mark_at o old b) (mark_at o new b) → Taken o old b x → Taken o new b x
+    go (inl e) (inl s) = inl (rw e s)
+    go (inl e) (inr s) = inr (record { seen = rw e s.seen; enough = rw e s.enough })
+    go (inr f) (inl s) = absurd (let h = f.was_open in cc)
+    go (inr f) (inr s) = inr (record { seen = f.seen; enough = at_most_trans laws x _ _ s.enough (f.grows s.seen) })
+
+  pub relaxes_none : (marks : List (Mark G)) → Relaxes o (λ w x b. ⊥) marks marks
+  relaxes_none marks = record { len = refl; moves = λ b. inl refl; taken = λ w x b h. absurd h }
+
+  pub relaxes_then : (p q : Origin → G → ℕ → Type 0) (l m n : List (Mark G)) → Relaxes o p l m → Relaxes o q m n → Relaxes o (λ w x b. p w x b ⊎ q w x b) l n
+  relaxes_then p q l m n e f = record {
+    len = f.len ∙ e.len;
+    moves = λ b. replaced_then p q b _ _ _ (e.moves b) (f.moves b);
+    taken = λ w x b. elim [ inl h ↦ taken_stays q m n b x f (e.taken w x b h) | inr h ↦ f.taken w x b h ];
+  }
+
+  pub relaxes_as : (p q : Origin → G → ℕ → Type 0) (l m : List (Mark G)) → ((w : Origin) (x : G) (b : ℕ) → p w x b → q w x b)
+      → ((w : Origin) (x : G) (b : ℕ) → q w x b → p w x b) → Relaxes o p l m → Relaxes o q l m
+  relaxes_as p q l m to back e = record {
+    len = e.len;
+    moves = λ b. elim (e.moves b) [ inl h ↦ inl h | inr h ↦ inr (record { was_open = h.was_open; is_open = h.is_open; seen = h.seen; offered = to _ _ b h.offered; grows = h.grows }) ];
+    taken = λ w x b h. e.taken w x b (back w x b h);
+  }

@@ -1,0 +1,178 @@
+-- the counts of a project and of a supervisor change
+use Rattle.std.proofs.Common.{◌≡◌, ◌≢◌, ℕ, ◌+◌, ◌-◌, ◌*◌, ◌<◌, ◌≤◌, ◌⊎◌, inl, inr, zero, suc, List, [], ◌∷◌, length, get_or, set, Option, Some, None, slice_get, refl, arith, sym, ◌∙◌, ap, subst, eqb, true, false, Bool, length-set, get_or-set_same, get_or-set_other}
+use Rattle.std.specs.Prelude.{slice_index, nat_eq}
+use Rattle.std.specs.declared.vec.Vec.{Vec}
+use Rattle.std.specs.declared.alloc.Global.{Global}
+use Rattle.std.proofs.lemmas.Bool.{cases_eq, eq-eqb, ne_eqb}
+use Rattle.std.proofs.lemmas.Option.{slice_get_within, some_pair_parts, same_Some}
+use Rattle.spa.specs.Laws.{Ops, IsWorth, AtMost}
+use Rattle.network.proofs.Group.{at_most_refl, zero_left}
+use Rattle.network.specs.Marks.{mark_at, is_seen}
+use Rattle.network.specs.Search.{rank_or}
+use Rattle.network.specs.Arcs.{HasEntry, Holds, EntryArc, LeaveArc, OfferArc, SwapArc, RoomArc, Arc, OfStudent, sink_of, project_count, IsFormed}
+use Rattle.network.specs.Fair.{potential, IsFair}
+use Rattle.network.specs.Push.{sum_to, one_if, owner_at, seat, seats, seats_of, IsCounted, IsStep, IsFirst, HasSteps}
+use Rattle.network.proofs.Sums.{sum_to_change, sum_to_same}
+use Rattle.network.specs.declared.flow.Flow.{Flow}
+use Rattle.network.specs.declared.marks.Origin.{Origin}
+use Rattle.network.specs.declared.marks.Origin.TheVariants.{Unseen, Entry, Leave, Offer, Swap, Room}
+use Rattle.network.specs.declared.marks.Mark.{Mark}
+
+module _ {G : Type 0} {o : Ops G} (laws : IsWorth o) (f : Flow G) (formed : IsFormed o f) (F : Vec ℕ Global) (p l q y : ℕ)
+    (set_is : F.items ≡ set f.filled.items p y) (project : slice_get f.projects.items p ≡ Some (l, q)) where
+  abbrev pub N : Flow G
+  N = record f { filled = F }
+
+  abbrev was : ℕ → ℕ
+  was i = slice_index f.filled.items i
+
+  abbrev now : ℕ → ℕ
+  now i = slice_index F.items i
+
+  p_within : p < project_count f
+  p_within = slice_get_within f.projects.items p _ project
+
+  pub now_here : now p ≡ y
+  now_here = rw set_is (get_or-set_same f.filled.items p y 0 (omega (arith, p_within, formed.filled)))
+
+  now_other : (i : ℕ) → (i ≡ p → ⊥) → now i ≡ was i
+  now_other i ne = rw set_is (get_or-set_other f.filled.items p i y 0 ne)
+
+  abbrev pub before_holds : (t c : ℕ) → Holds N t c → Holds f t c
+  before_holds t c h = record { place = h.place; worth = h.worth; placed = h.placed; entry = h.entry }
+
+  abbrev pub after_holds : (t c : ℕ) → Holds f t c → Holds N t c
+  after_holds t c h = record { place = h.place; worth = h.worth; placed = h.placed; entry = h.entry }
+
+  -- fair, as long as room at p was room before or the potentials meet
+  pub filled_fair : (pending : ℕ) (top : G) → (now p < q → AtMost o (potential o f (project_count f + l)) (potential o f p)) → IsFair o f pending top → IsFair o N pending top
+  filled_fair pending top here fair = record {
+    placed = λ t c i r v h e. fair.placed t c i r v (before_holds t c h) e;
+    placed_least = λ t c h. fair.placed_least t c (before_holds t c h);
+    unplaced = fair.unplaced;
+    waiting = fair.waiting;
+    waiting_least = fair.waiting_least;
+    project = fair.project;
+    project_room = λ r m z e lt. elim (cases_eq r p) [
+      | inl eq ↦ (let s = some_pair_parts _ _ _ _ (sym (rw eq at e) ∙ project) in
+          let room : now p < q = (let z' : now r ≡ now p = ap now eq in omega (arith, lt, s.1, z')) in
+          rw (s.0, eq) (here room))
+      | inr ne ↦ fair.project_room r m z e (rw (sym (now_other r ne)) lt)
+    ];
+    supervisor = fair.supervisor;
+    supervisor_room = fair.supervisor_room;
+    sink = fair.sink;
+  }
+
+  owner_here : (m : ℕ) → owner_at (slice_get f.projects.items p) m ≡ one_if (nat_eq l m)
+  owner_here m = rw project refl
+
+  seats_of_moved : (m : ℕ) → seats_of N m + one_if (nat_eq l m) * was p ≡ seats_of f m + one_if (nat_eq l m) * y
+  seats_of_moved m =
+      let change = sum_to_change (length f.projects.items) p (λ i. owner_at (slice_get f.projects.items i) m * was i) (λ i. owner_at (slice_get f.projects.items i) m * now i) p_within
+      (λ i ne. ap (λ z. owner_at (slice_get f.projects.items i) m * z) (sym (now_other i ne))) in
+      let a = ap (λ z. z * was p) (owner_here m) in
+      let b = ap (λ z. z * now p) (owner_here m) in
+      let c = ap (λ z. one_if (nat_eq l m) * z) now_here in
+      omega (arith, change, a, b, c)
+
+  not_project : (m r : ℕ) → r < project_count f → one_if (nat_eq (project_count f + m) r) ≡ 0
+  not_project m r lt = ap one_if (ne_eqb (project_count f + m) r (λ e. omega (arith, e, lt)))
+
+  not_node : (m r : ℕ) → r < project_count f → one_if (nat_eq r (project_count f + m)) ≡ 0
+  not_node m r lt = ap one_if (ne_eqb r (project_count f + m) (λ e. omega (arith, e, lt)))
+
+  node_is : (m : ℕ) → one_if (nat_eq (project_count f + m) (project_count f + l)) ≡ one_if (nat_eq l m)
+  node_is m = elim (cases_eq l m) [
+    | inl e ↦ ap one_if (eq-eqb _ _ (ap (λ z. project_count f + z) (sym e)) ∙ sym (eq-eqb l m e))
+    | inr ne ↦ ap one_if (ne_eqb (project_count f + m) (project_count f + l) (λ e. ne (omega (arith, e))) ∙ sym (ne_eqb l m ne))
+  ]
+
+  itself : (r : ℕ) → one_if (nat_eq r r) ≡ 1
+  itself r = ap one_if (eq-eqb r r refl)
+
+  -- the hole moves from the supervisor to the project, which counts one more
+  pub more_counted : y ≡ was p + 1 → was p < q → IsCounted f (project_count f + l) → IsCounted N p
+  more_counted more room c = record {
+    project = λ r lt. elim (cases_eq r p) [
+      | inl e ↦ (let a = c.project r lt in let b = not_node l r lt in let z : now r ≡ y = ap now e ∙ now_here in let v : was r ≡ was p = ap was e in
+          let i : one_if (nat_eq r p) ≡ 1 = ap one_if (eq-eqb r p e) in omega (arith, a, b, z, v, more, i))
+      | inr ne ↦ (let a = c.project r lt in let b = not_node l r lt in let z = now_other r ne in
+          let i : one_if (nat_eq r p) ≡ 0 = ap one_if (ne_eqb r p ne) in omega (arith, a, b, z, i))
+    ];
+    project_within = λ r m z e. elim (cases_eq r p) [
+      | inl eq ↦ (let s = some_pair_parts _ _ _ _ (sym (rw eq at e) ∙ project) in let v : now r ≡ y = ap now eq ∙ now_here in omega (arith, s.1, v, more, room))
+      | inr ne ↦ omega (arith, c.project_within r m z e, now_other r ne)
+    ];
+    supervisor = λ m lt.
+        let a = c.supervisor m lt in let b = node_is m in let d = not_project m p p_within in let s = seats_of_moved m in
+        let t : one_if (nat_eq l m) * y ≡ one_if (nat_eq l m) * was p + one_if (nat_eq l m) = ap (λ z. one_if (nat_eq l m) * z) more ∙ omega arith in
+        omega (arith, a, b, d, s, t);
+    supervisor_within = c.supervisor_within;
+  }
+
+  -- the hole moves from the project, which counts one less, to its supervisor
+  pub less_counted : y + 1 ≡ was p → IsCounted f p → IsCounted N (project_count f + l)
+  less_counted less c = record {
+    project = λ r lt. elim (cases_eq r p) [
+      | inl e ↦ (let a = c.project r lt in let b = not_node l r lt in let z : now r ≡ y = ap now e ∙ now_here in let v : was r ≡ was p = ap was e in
+          let i : one_if (nat_eq r p) ≡ 1 = ap one_if (eq-eqb r p e) in omega (arith, a, b, z, v, less, i))
+      | inr ne ↦ (let a = c.project r lt in let b = not_node l r lt in let z = now_other r ne in
+          let i : one_if (nat_eq r p) ≡ 0 = ap one_if (ne_eqb r p ne) in omega (arith, a, b, z, i))
+    ];
+    project_within = λ r m z e. elim (cases_eq r p) [
+      | inl eq ↦ (let v : now r ≡ y = ap now eq ∙ now_here in let u : was r ≡ was p = ap was eq in omega (arith, c.project_within r m z e, v, u, less))
+      | inr ne ↦ omega (arith, c.project_within r m z e, now_other r ne)
+    ];
+    supervisor = λ m lt.
+        let a = c.supervisor m lt in let b = node_is m in let d = not_project m p p_within in let s = seats_of_moved m in
+        let t : one_if (nat_eq l m) * was p ≡ one_if (nat_eq l m) * y + one_if (nat_eq l m) = ap (λ z. one_if (nat_eq l m) * z) (sym less) ∙ omega arith in
+        omega (arith, a, b, d, s, t);
+    supervisor_within = c.supervisor_within;
+  }
+
+  -- the steps to nodes settled before stay
+  pub filled_steps : (marks : List (Mark G)) (fresh : ℕ) (top : G) (K hole next rn : ℕ) → (mark_at o marks next).rank ≡ Some rn → rn < rank_or K (mark_at o marks hole).rank
+      → ((now p ≤ was p) ⊎ (next ≡ p)) → HasSteps o f marks fresh top K hole → HasSteps o N marks fresh top K next
+  filled_steps marks fresh top K hole next rn settled lower kind steps v seen before =
+      elim (steps v seen (inr below)) [
+        | inl h ↦ inl (record { offered = h.offered; tight = h.tight })
+        | inr h ↦ inr (record {
+          before = h.before;
+          rank = h.rank;
+          worth = h.worth;
+          settled = h.settled;
+          earlier = h.earlier;
+          along = still (mark_at o marks v).origin h.before h.worth (λ e. let z = ap (λ z. (mark_at o marks z).rank) e in let r : Some h.rank ≡ Some rn = sym h.settled ∙ z ∙ settled in
+              let rr = same_Some h.rank rn r in omega (arith, h.earlier, at_most, rr)) h.along;
+          tight = h.tight;
+        })
+      ] where
+        rank_next : rank_or K (mark_at o marks next).rank ≡ rn
+        rank_next = ap (rank_or K) settled
+
+        at_most : rank_or K (mark_at o marks v).rank ≤ rn
+        at_most = elim before [
+          | inl e ↦ (let z : rank_or K (mark_at o marks v).rank ≡ rn = ap (λ z. rank_or K (mark_at o marks z).rank) e ∙ rank_next in omega (arith, z))
+          | inr l ↦ omega (arith, l, rank_next)
+        ]
+
+        below : rank_or K (mark_at o marks v).rank < rank_or K (mark_at o marks hole).rank
+        below = omega (arith, at_most, lower)
+
+        room : (c i z : ℕ) → (c ≡ next → ⊥) → c ≡ i → was i < z → now i < z
+        room c i z ne e lt = elim (cases_eq i p) [
+          | inl eq ↦ elim kind [
+            | inl k ↦ (let a : now i ≡ now p = ap now eq in let b : was i ≡ was p = ap was eq in omega (arith, a, b, k, lt))
+            | inr k ↦ absurd (ne (e ∙ eq ∙ sym k))
+          ]
+          | inr no_p ↦ omega (arith, now_other i no_p, lt)
+        ]
+
+        still : (w : Origin) (c : ℕ) (x : G) → (c ≡ next → ⊥) → Arc o f c w x v → Arc o N c w x v
+        still Unseen c x ne d = d
+        still (Entry t i) c x ne d = record { holds = after_holds t c d.holds; worth = d.worth; entry = d.entry; is = d.is }
+        still (Leave t) c x ne d = record { holds = after_holds t c d.holds; is = d.is; to_sink = d.to_sink }
+        still (Offer i) c x ne d = record { supervisor = d.supervisor; quota = d.quota; from_project = d.from_project; project = d.project; room = room c i d.quota ne d.from_project d.room; to_supervisor = d.to_supervisor; is = d.is }
+        still (Swap i) c x ne d = record { quota = d.quota; from_supervisor = d.from_supervisor; project = d.project; is = d.is }
+        still (Room i) c x ne d = record { from_supervisor = d.from_supervisor; known = d.known; room = d.room; to_sink = d.to_sink; is = d.is }

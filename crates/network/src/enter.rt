@@ -1,0 +1,112 @@
+//! One more student enters the flow.
+
+ghost use Rattle.std.specs.Prelude.{◌≡◌, ℕ, ◌+◌, ◌-◌, ◌*◌, ◌<◌, ◌≤◌, ◌^◌, [], ◌∷◌, ◌++◌, length, slice_get, Some, None, IfOk, OnOk};
+ghost use Rattle.std.specs.Vec.{vec_len, vec_capacity};
+ghost use Rattle.network.specs.Marks.{mark_at, blank};
+ghost use Rattle.network.specs.Arcs.{project_count, sink_of, flow_arcs};
+ghost use Rattle.network.specs.Fair.{IsLow};
+ghost use Rattle.network.specs.Push.{IsPushed};
+ghost use Rattle.network.specs.Seen.{is_place};
+ghost use Rattle.network.specs.View.{IsKnownList};
+
+use crate::admit::place_new;
+use crate::flow::Flow;
+use crate::marks::{Mark, Origin};
+use spa::Worth;
+use std::alloc::{AllocError, Global};
+
+/// What an admission came to.
+#[derive(Clone, Copy, Debug, PartialEq, Eq)]
+pub struct Admitted {
+    /// Whether the new student has a place.
+    pub placed: bool,
+    /// The labels that were compared across a residual arc.
+    pub relaxations: u64,
+}
+
+/// Marks of nodes that no walk has reached.
+pub fn blank_marks<G: Worth>(alloc: Global, nodes: usize) -> Result<Vec<Mark<G>>, AllocError>
+    ensures len { IfOk result (λ marks. length marks.items ≡ nodes) }
+    ensures blank { IfOk result (λ marks. (b : ℕ) → mark_at G.ops marks.items b ≡ blank G.ops) }
+{
+    let mut marks = Vec::with_capacity(alloc, nodes)?;
+    for _node in 0..nodes {
+        marks.push(Mark {
+            label: G::zero(),
+            origin: Origin::Unseen,
+            rank: None,
+        })?;
+    }
+    Ok(marks)
+}
+
+/// Room for one more student.
+pub fn grow<G: Worth>(flow: &mut Flow<G>) -> Result<(), AllocError>
+    ensures lists { flow.new.lists.items ≡ flow.old.lists.items }
+    ensures places { flow.new.places.items ≡ flow.old.places.items }
+    ensures rest { flow.new ≡ record flow.old { lists = flow.new.lists; places = flow.new.places } }
+    ensures list_room { OnOk result (vec_len flow.new.lists < vec_capacity flow.new.lists) }
+    ensures place_room { OnOk result (vec_len flow.new.places < vec_capacity flow.new.places) }
+{
+    flow.lists.reserve(1)?;
+    flow.places.reserve(1)
+}
+
+/// A student without a place.
+fn append<G: Worth>(flow: &mut Flow<G>, row: Vec<(usize, G)>)
+    requires list_room { vec_len flow.old.lists < vec_capacity flow.old.lists }
+    requires place_room { vec_len flow.old.places < vec_capacity flow.old.places }
+    ensures lists { flow.new.lists.items ≡ flow.old.lists.items ++ row ∷ [] }
+    ensures places { flow.new.places.items ≡ flow.old.places.items ++ None ∷ [] }
+    ensures rest { flow.new ≡ record flow.old { lists = flow.new.lists; places = flow.new.places } }
+{
+    match flow.lists.push(row) {
+        Ok(()) => {}
+        Err(_) => unreachable!(),
+    }
+    match flow.places.push(None) {
+        Ok(()) => {}
+        Err(_) => unreachable!(),
+    }
+}
+
+/// Whether a student has a place.
+fn has_place<G: Worth>(flow: &Flow<G>, student: usize) -> bool
+    requires { student < length flow.now.places.items }
+    ensures { result ≡ is_place (slice_get flow.now.places.items student) }
+{
+    match flow.places[student] {
+        None => false,
+        Some(_) => true,
+    }
+}
+
+/// The student is added and finds a place, or none.
+pub fn enter<G: Worth>(flow: &mut Flow<G>, row: Vec<(usize, G)>, marks: &mut [Mark<G>]) -> Admitted
+    requires pushed { IsPushed G.ops flow.old }
+    requires low { IsLow G.ops flow.old }
+    requires few { length flow.old.lists.items < 500 }
+    requires short { length row.items ≤ 12 }
+    requires known { IsKnownList G.ops (project_count flow.old) row.items }
+    requires list_room { vec_len flow.old.lists < vec_capacity flow.old.lists }
+    requires place_room { vec_len flow.old.places < vec_capacity flow.old.places }
+    requires marks { length marks.old ≡ length flow.old.potentials.items }
+    requires blank { (b : ℕ) → mark_at G.ops marks.old b ≡ blank G.ops }
+    ensures pushed { IsPushed G.ops flow.new }
+    ensures low { IsLow G.ops flow.new }
+    ensures lists { flow.new.lists.items ≡ flow.old.lists.items ++ row ∷ [] }
+    ensures projects { flow.new.projects ≡ flow.old.projects }
+    ensures supervisors { flow.new.supervisors ≡ flow.old.supervisors }
+    ensures placed { result.placed ≡ is_place (slice_get flow.new.places.items (length flow.old.lists.items)) }
+    ensures cost { result.relaxations ≤ length row.items + 1 + sink_of flow.new * flow_arcs flow.new }
+{
+    let student = flow.lists.len();
+    append(flow, row);
+    let mut relaxations = 0;
+    place_new(flow, student, marks, &mut relaxations);
+    let placed = has_place(flow, student);
+    Admitted {
+        placed,
+        relaxations,
+    }
+}

@@ -1,0 +1,33 @@
+//! A residual network of students, projects and supervisors, over any worth that keeps the laws.
+//!
+//! Students are admitted one by one. Each admission searches one best augmenting walk by Dijkstra's algorithm over
+//! potentials, and pushes along it where it is worth more than nothing. Nothing here knows of ranks or of an office:
+//! a list is a list of projects with the worth of each pair.
+//!
+//! Promised: after `start` and after each `admit` the places are a matching of the lists admitted so far, and there are
+//! prices that show it to be a best one; `prices` answers such. An admission takes no more relaxations than a round over
+//! all arcs for each node, and `steps` adds them up. Where memory is refused, nobody was admitted.
+//!
+//! Read on in `specs/Seen.antt`, which says all of this in lists alone, then in `specs/Fair.antt` (what the potentials
+//! keep), `specs/Search.antt` and `specs/Push.antt`.
+#![tactic(auto)]
+
+mod admit;
+mod descend;
+mod enter;
+mod flow;
+mod marks;
+mod network;
+mod prices;
+mod push;
+mod relaxes;
+mod search;
+
+pub use enter::Admitted;
+pub use network::Network;
+
+/// The greatest span of a price.
+pub const LARGEST_PRICE: u64 = 4012;
+
+#[cfg(test)]
+mod tests;

@@ -1,0 +1,217 @@
+//! A push along the walk that a search found, from the sink back to the new student.
+
+ghost use Rattle.std.specs.Prelude.{◌≡◌, ℕ, ◌+◌, ◌-◌, ◌*◌, ◌<◌, ◌≤◌, ◌^◌, length, slice_get, slice_index, slice_set, Some, None, IfSome, IfNone, true};
+ghost use Rattle.network.specs.declared.marks.Origin.TheVariants.{Entry, Leave, Offer, Swap, Room};
+ghost use Rattle.network.specs.Marks.{mark_at, is_seen};
+ghost use Rattle.network.specs.Search.{rank_or};
+ghost use Rattle.network.specs.Arcs.{HasEntry, sink_of, project_count, IsFormed};
+ghost use Rattle.network.specs.Push.{IsPushing, IsPushed, IsNext};
+
+use crate::flow::{Flow, place_of};
+use crate::marks::{Mark, Origin};
+use crate::relaxes::{entry, sink, supervisor_node};
+use spa::Worth;
+
+/// Writes a student's place.
+fn set_place<G>(flow: &mut Flow<G>, student: usize, place: Option<usize>)
+    requires { student < length flow.old.places.items }
+    ensures places { flow.new.places.items ≡ slice_set flow.old.places.items student place }
+    ensures rest { flow.new ≡ record flow.old { places = flow.new.places } }
+{
+    flow.places[student] = place;
+}
+
+/// A project counts one more.
+fn count_up<G>(flow: &mut Flow<G>, project: usize)
+    requires project { project < length flow.old.filled.items }
+    requires room { slice_index flow.old.filled.items project < 500 }
+    ensures filled { flow.new.filled.items ≡ slice_set flow.old.filled.items project (slice_index flow.old.filled.items project + 1) }
+    ensures rest { flow.new ≡ record flow.old { filled = flow.new.filled } }
+{
+    flow.filled[project] += 1;
+}
+
+/// A project counts one less.
+fn count_down<G>(flow: &mut Flow<G>, project: usize)
+    requires project { project < length flow.old.filled.items }
+    requires some { 0 < slice_index flow.old.filled.items project }
+    ensures filled { flow.new.filled.items ≡ slice_set flow.old.filled.items project (slice_index flow.old.filled.items project - 1) }
+    ensures rest { flow.new ≡ record flow.old { filled = flow.new.filled } }
+{
+    flow.filled[project] -= 1;
+}
+
+/// A supervisor counts one more.
+fn load_up<G>(flow: &mut Flow<G>, supervisor: usize)
+    requires supervisor { supervisor < length flow.old.load.items }
+    requires room { slice_index flow.old.load.items supervisor < 500 }
+    ensures load { flow.new.load.items ≡ slice_set flow.old.load.items supervisor (slice_index flow.old.load.items supervisor + 1) }
+    ensures rest { flow.new ≡ record flow.old { load = flow.new.load } }
+{
+    flow.load[supervisor] += 1;
+}
+
+/// How a node was reached.
+fn origin_of<G: Worth>(marks: &[Mark<G>], node: usize) -> Origin
+    requires { node < length marks.now }
+    ensures { result ≡ (mark_at G.ops marks.now node).origin }
+{
+    marks[node].origin
+}
+
+/// The hole at a project that an entry led to.
+fn push_entry<G: Worth>(
+    flow: &mut Flow<G>,
+    marks: &[Mark<G>],
+    fresh: usize,
+    top: G,
+    hole: usize,
+    student: usize,
+    place: usize,
+) -> Option<usize>
+    requires pushing { IsPushing G.ops flow.old marks.now fresh top hole }
+    requires origin { (mark_at G.ops marks.now hole).origin ≡ Entry student place }
+    requires student { student < length flow.old.places.items }
+    ensures more { IfSome result (λ next. IsNext G.ops flow.new marks.now fresh top hole next) }
+    ensures done { IfNone result (IsPushed G.ops flow.new) }
+    ensures rest { flow.new ≡ record flow.old { places = flow.new.places; filled = flow.new.filled; load = flow.new.load } }
+{
+    match place_of(flow, student) {
+        None => {
+            set_place(flow, student, Some(place));
+            None
+        }
+        Some(old) => {
+            let (from, _) = entry(flow, student, old);
+            set_place(flow, student, Some(place));
+            Some(from)
+        }
+    }
+}
+
+/// The hole at the sink that a student's place led to.
+fn push_leave<G: Worth>(
+    flow: &mut Flow<G>,
+    marks: &[Mark<G>],
+    fresh: usize,
+    top: G,
+    hole: usize,
+    student: usize,
+) -> Option<usize>
+    requires pushing { IsPushing G.ops flow.old marks.now fresh top hole }
+    requires origin { (mark_at G.ops marks.now hole).origin ≡ Leave student }
+    requires student { student < length flow.old.places.items }
+    ensures more { IfSome result (λ next. IsNext G.ops flow.new marks.now fresh top hole next) }
+    ensures done { IfNone result (IsPushed G.ops flow.new) }
+    ensures rest { flow.new ≡ record flow.old { places = flow.new.places; filled = flow.new.filled; load = flow.new.load } }
+{
+    match place_of(flow, student) {
+        None => None,
+        Some(old) => {
+            let (from, _) = entry(flow, student, old);
+            set_place(flow, student, None);
+            Some(from)
+        }
+    }
+}
+
+/// The hole at a supervisor that a project led to.
+fn push_offer<G: Worth>(
+    flow: &mut Flow<G>,
+    marks: &[Mark<G>],
+    fresh: usize,
+    top: G,
+    hole: usize,
+    project: usize,
+)
+    requires pushing { IsPushing G.ops flow.old marks.now fresh top hole }
+    requires origin { (mark_at G.ops marks.now hole).origin ≡ Offer project }
+    requires project { project < length flow.old.filled.items }
+    requires room { slice_index flow.old.filled.items project < 500 }
+    ensures next { IsNext G.ops flow.new marks.now fresh top hole project }
+    ensures rest { flow.new ≡ record flow.old { places = flow.new.places; filled = flow.new.filled; load = flow.new.load } }
+{
+    count_up(flow, project);
+}
+
+/// The hole at a project that its supervisor led to.
+fn push_swap<G: Worth>(
+    flow: &mut Flow<G>,
+    marks: &[Mark<G>],
+    fresh: usize,
+    top: G,
+    hole: usize,
+    supervisor: usize,
+)
+    requires pushing { IsPushing G.ops flow.old marks.now fresh top hole }
+    requires origin { (mark_at G.ops marks.now hole).origin ≡ Swap supervisor }
+    requires hole { hole < length flow.old.filled.items }
+    requires some { 0 < slice_index flow.old.filled.items hole }
+    ensures next { IsNext G.ops flow.new marks.now fresh top hole (project_count flow.new + supervisor) }
+    ensures rest { flow.new ≡ record flow.old { places = flow.new.places; filled = flow.new.filled; load = flow.new.load } }
+{
+    count_down(flow, hole);
+}
+
+/// The hole at the sink that a supervisor led to.
+fn push_room<G: Worth>(
+    flow: &mut Flow<G>,
+    marks: &[Mark<G>],
+    fresh: usize,
+    top: G,
+    hole: usize,
+    supervisor: usize,
+)
+    requires pushing { IsPushing G.ops flow.old marks.now fresh top hole }
+    requires origin { (mark_at G.ops marks.now hole).origin ≡ Room supervisor }
+    requires supervisor { supervisor < length flow.old.load.items }
+    requires room { slice_index flow.old.load.items supervisor < 500 }
+    ensures next { IsNext G.ops flow.new marks.now fresh top hole (project_count flow.new + supervisor) }
+    ensures rest { flow.new ≡ record flow.old { places = flow.new.places; filled = flow.new.filled; load = flow.new.load } }
+{
+    load_up(flow, supervisor);
+}
+
+/// One step: the hole moves to the node before, or the push is done.
+fn step<G: Worth>(
+    flow: &mut Flow<G>,
+    marks: &[Mark<G>],
+    fresh: usize,
+    top: G,
+    hole: usize,
+) -> Option<usize>
+    requires { IsPushing G.ops flow.old marks.now fresh top hole }
+    ensures more { IfSome result (λ next. IsNext G.ops flow.new marks.now fresh top hole next) }
+    ensures done { IfNone result (IsPushed G.ops flow.new) }
+    ensures rest { flow.new ≡ record flow.old { places = flow.new.places; filled = flow.new.filled; load = flow.new.load } }
+{
+    match origin_of(marks, hole) {
+        Origin::Unseen => unreachable!(),
+        Origin::Entry(student, place) => push_entry(flow, marks, fresh, top, hole, student, place),
+        Origin::Leave(student) => push_leave(flow, marks, fresh, top, hole, student),
+        Origin::Offer(project) => {
+            push_offer(flow, marks, fresh, top, hole, project);
+            Some(project)
+        }
+        Origin::Swap(supervisor) => {
+            push_swap(flow, marks, fresh, top, hole, supervisor);
+            Some(supervisor_node(flow, supervisor))
+        }
+        Origin::Room(supervisor) => {
+            push_room(flow, marks, fresh, top, hole, supervisor);
+            Some(supervisor_node(flow, supervisor))
+        }
+    }
+}
+
+/// The push along the walk that the marks show.
+pub fn push<G: Worth>(flow: &mut Flow<G>, marks: &[Mark<G>], fresh: usize, top: G, from: usize)
+    requires { IsPushing G.ops flow.old marks.now fresh top from }
+    ensures pushed { IsPushed G.ops flow.new }
+    ensures rest { flow.new ≡ record flow.old { places = flow.new.places; filled = flow.new.filled; load = flow.new.load } }
+{
+    let mut hole = from;
+    while let Some(next) = step(flow, marks, fresh, top, hole) {
+        hole = next;
+    }
+}

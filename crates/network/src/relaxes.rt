@@ -1,0 +1,276 @@
+//! The relaxations of the arcs out of one node.
+
+ghost use Rattle.std.specs.Prelude.{◌≡◌, ℕ, ◌+◌, ◌-◌, ◌*◌, ◌<◌, ◌≤◌, ◌^◌, length, slice_get, slice_index, Some, IfSome, IfNone, sum_by, nat_lt};
+ghost use Rattle.network.specs.Search.{Relaxes, OffersOf};
+ghost use Rattle.network.specs.Arcs.{Arc, IsFormed, OfStudent, EntriesBelow, StudentsBelow, ProjectsBelow, HasEntry, Holds, sink_of, project_count};
+
+use crate::flow::Flow;
+use crate::marks::{Mark, Origin, relax};
+use spa::Worth;
+
+/// The entry at a place of a student's list.
+pub fn entry<G: Worth>(flow: &Flow<G>, student: usize, place: usize) -> (usize, G)
+    requires student { student < length flow.now.lists.items }
+    requires place { (row : _) → slice_get flow.now.lists.items student ≡ Some row → place < length row.items }
+    ensures { HasEntry flow.now.lists.items student place result.0 result.1 }
+{
+    flow.lists[student][place]
+}
+
+/// How many entries a student's list has.
+pub fn list_len<G: Worth>(flow: &Flow<G>, student: usize) -> usize
+    requires formed { IsFormed G.ops flow.now }
+    requires student { student < length flow.now.lists.items }
+    ensures row { (row : _) → slice_get flow.now.lists.items student ≡ Some row → result ≡ length row.items }
+    ensures short { result ≤ 12 }
+{
+    flow.lists[student].len()
+}
+
+/// The sink's node.
+pub fn sink<G: Worth>(flow: &Flow<G>) -> usize
+    requires formed { IsFormed G.ops flow.now }
+    ensures { result ≡ sink_of flow.now }
+{
+    flow.projects.len() + flow.supervisors.len()
+}
+
+/// One entry of a student's list is offered what the label makes of it.
+fn relax_entry<G: Worth>(
+    flow: &Flow<G>,
+    student: usize,
+    place: usize,
+    label: G,
+    marks: &mut [Mark<G>],
+    count: &mut u64,
+)
+    requires formed { IsFormed G.ops flow.now }
+    requires marks { length marks.old ≡ length flow.now.potentials.items }
+    requires student { student < length flow.now.lists.items }
+    requires place { (row : _) → slice_get flow.now.lists.items student ≡ Some row → place < length row.items }
+    requires label { G.ops.span label < 2 ^ 32 }
+    requires count { count.old < 2 ^ 40 }
+    ensures relaxes { (m : _) → Relaxes G.ops (EntriesBelow G.ops flow.now student label place) m marks.old → Relaxes G.ops (EntriesBelow G.ops flow.now student label (place + 1)) m marks.new }
+    ensures count { count.new ≡ count.old + 1 }
+{
+    let (project, worth) = entry(flow, student, place);
+    relax(
+        marks,
+        project,
+        label.plus(worth),
+        Origin::Entry(student, place),
+        count,
+    );
+}
+
+/// Each entry of a student's list, and the sink, is offered what the label makes of it.
+pub fn relax_entries<G: Worth>(
+    flow: &Flow<G>,
+    student: usize,
+    label: G,
+    marks: &mut [Mark<G>],
+    count: &mut u64,
+)
+    requires formed { IsFormed G.ops flow.now }
+    requires marks { length marks.old ≡ length flow.now.potentials.items }
+    requires student { student < length flow.now.lists.items }
+    requires label { G.ops.span label < 2 ^ 32 }
+    requires count { count.old < 2 ^ 32 }
+    ensures relaxes { Relaxes G.ops (OfStudent G.ops flow.now student label) marks.old marks.new }
+    ensures count { (row : _) → slice_get flow.now.lists.items student ≡ Some row → count.new ≡ count.old + length row.items + 1 }
+    ensures small { count.new ≤ count.old + 13 }
+{
+    let places = list_len(flow, student);
+    for k in 0..places {
+        relax_entry(flow, student, k, label, marks, count);
+    }
+    relax(marks, sink(flow), label, Origin::Leave(student), count);
+}
+
+/// The worth of the student's place, where that is at the project.
+fn held<G: Worth>(flow: &Flow<G>, student: usize, project: usize) -> Option<G>
+    requires formed { IsFormed G.ops flow.now }
+    requires student { student < length flow.now.lists.items }
+    ensures some { IfSome result (λ w. (h : Holds flow.now student project) × (h.worth ≡ w)) }
+    ensures none { IfNone result (Holds flow.now student project → ⊥) }
+{
+    match flow.places[student] {
+        None => None,
+        Some(place) => {
+            let (at, worth) = entry(flow, student, place);
+            if at == project { Some(worth) } else { None }
+        }
+    }
+}
+
+/// The offers of one student, where placed at the project.
+fn relax_student<G: Worth>(
+    flow: &Flow<G>,
+    project: usize,
+    student: usize,
+    label: G,
+    marks: &mut [Mark<G>],
+    count: &mut u64,
+)
+    requires formed { IsFormed G.ops flow.now }
+    requires marks { length marks.old ≡ length flow.now.potentials.items }
+    requires student { student < length flow.now.lists.items }
+    requires label { G.ops.span label < 2 ^ 31 }
+    requires count { count.old < 2 ^ 32 }
+    ensures relaxes { (m : _) → Relaxes G.ops (StudentsBelow G.ops flow.now project label student) m marks.old → Relaxes G.ops (StudentsBelow G.ops flow.now project label (student + 1)) m marks.new }
+    ensures cost { (row : _) → slice_get flow.now.lists.items student ≡ Some row → count.new ≤ count.old + (length row.items + 1) }
+    ensures small { count.new ≤ count.old + 13 }
+{
+    match held(flow, student, project) {
+        None => {}
+        Some(worth) => relax_entries(flow, student, label.minus(worth), marks, count),
+    }
+}
+
+/// The offers of all students who are placed at the project.
+fn relax_students<G: Worth>(
+    flow: &Flow<G>,
+    project: usize,
+    label: G,
+    marks: &mut [Mark<G>],
+    count: &mut u64,
+)
+    requires formed { IsFormed G.ops flow.now }
+    requires marks { length marks.old ≡ length flow.now.potentials.items }
+    requires label { G.ops.span label < 2 ^ 31 }
+    requires count { count.old < 2 ^ 31 }
+    ensures relaxes { Relaxes G.ops (StudentsBelow G.ops flow.now project label (length flow.now.lists.items)) marks.old marks.new }
+    ensures cost { count.new ≤ count.old + sum_by (λ row. length row.items + 1) flow.now.lists.items }
+    ensures small { count.new ≤ count.old + 13 * 500 }
+{
+    for student in 0..flow.lists.len() {
+        relax_student(flow, project, student, label, marks, count);
+    }
+}
+
+/// The supervisor and the quota of a project.
+pub fn project<G: Worth>(flow: &Flow<G>, at: usize) -> (usize, u32)
+    requires { at < length flow.now.projects.items }
+    ensures { slice_get flow.now.projects.items at ≡ Some result }
+{
+    flow.projects[at]
+}
+
+/// Is there room in the project?
+pub fn project_has_room<G: Worth>(flow: &Flow<G>, at: usize, quota: u32) -> bool
+    requires { at < length flow.now.filled.items }
+    ensures { result ≡ nat_lt (slice_index flow.now.filled.items at) quota }
+{
+    flow.filled[at] < quota
+}
+
+/// Has the supervisor room?
+pub fn supervisor_has_room<G: Worth>(flow: &Flow<G>, at: usize) -> bool
+    requires load { at < length flow.now.load.items }
+    requires quota { at < length flow.now.supervisors.items }
+    ensures { result ≡ nat_lt (slice_index flow.now.load.items at) (slice_index flow.now.supervisors.items at) }
+{
+    flow.load[at] < flow.supervisors[at]
+}
+
+/// The node of a supervisor.
+pub fn supervisor_node<G: Worth>(flow: &Flow<G>, supervisor: usize) -> usize
+    requires formed { IsFormed G.ops flow.now }
+    requires supervisor { supervisor < length flow.now.supervisors.items }
+    ensures { result ≡ project_count flow.now + supervisor }
+{
+    flow.projects.len() + supervisor
+}
+
+/// The arcs out of a project.
+pub fn relax_project<G: Worth>(
+    flow: &Flow<G>,
+    at: usize,
+    label: G,
+    marks: &mut [Mark<G>],
+    count: &mut u64,
+)
+    requires formed { IsFormed G.ops flow.now }
+    requires marks { length marks.old ≡ length flow.now.potentials.items }
+    requires at { at < length flow.now.projects.items }
+    requires label { G.ops.span label < 2 ^ 31 }
+    requires count { count.old < 2 ^ 31 }
+    ensures relaxes { Relaxes G.ops (OffersOf G.ops (Arc G.ops flow.now) at label) marks.old marks.new }
+    ensures cost { count.new ≤ count.old + sum_by (λ row. length row.items + 1) flow.now.lists.items + 1 }
+    ensures small { count.new ≤ count.old + 6501 }
+{
+    relax_students(flow, at, label, marks, count);
+    let (supervisor, quota) = project(flow, at);
+    if project_has_room(flow, at, quota) {
+        relax(
+            marks,
+            supervisor_node(flow, supervisor),
+            label,
+            Origin::Offer(at),
+            count,
+        );
+    }
+}
+
+/// A supervisor's offer to one project.
+fn relax_swap<G: Worth>(
+    flow: &Flow<G>,
+    supervisor: usize,
+    at: usize,
+    label: G,
+    marks: &mut [Mark<G>],
+    count: &mut u64,
+)
+    requires formed { IsFormed G.ops flow.now }
+    requires marks { length marks.old ≡ length flow.now.potentials.items }
+    requires at { at < length flow.now.projects.items }
+    requires count { count.old < 2 ^ 32 }
+    ensures relaxes { (m : _) → Relaxes G.ops (ProjectsBelow G.ops flow.now supervisor label at) m marks.old → Relaxes G.ops (ProjectsBelow G.ops flow.now supervisor label (at + 1)) m marks.new }
+    ensures cost { count.new ≤ count.old + 1 }
+{
+    let (holder, _) = project(flow, at);
+    if holder == supervisor {
+        relax(marks, at, label, Origin::Swap(supervisor), count);
+    }
+}
+
+/// A supervisor's offers to all projects.
+fn relax_swaps<G: Worth>(
+    flow: &Flow<G>,
+    supervisor: usize,
+    label: G,
+    marks: &mut [Mark<G>],
+    count: &mut u64,
+)
+    requires formed { IsFormed G.ops flow.now }
+    requires marks { length marks.old ≡ length flow.now.potentials.items }
+    requires count { count.old < 2 ^ 31 }
+    ensures relaxes { Relaxes G.ops (ProjectsBelow G.ops flow.now supervisor label (length flow.now.projects.items)) marks.old marks.new }
+    ensures cost { count.new ≤ count.old + length flow.now.projects.items }
+{
+    for at in 0..flow.projects.len() {
+        relax_swap(flow, supervisor, at, label, marks, count);
+    }
+}
+
+/// The arcs out of a supervisor.
+pub fn relax_supervisor<G: Worth>(
+    flow: &Flow<G>,
+    supervisor: usize,
+    label: G,
+    marks: &mut [Mark<G>],
+    count: &mut u64,
+)
+    requires formed { IsFormed G.ops flow.now }
+    requires marks { length marks.old ≡ length flow.now.potentials.items }
+    requires supervisor { supervisor < length flow.now.supervisors.items }
+    requires label { G.ops.span label < 2 ^ 31 }
+    requires count { count.old < 2 ^ 31 }
+    ensures relaxes { Relaxes G.ops (OffersOf G.ops (Arc G.ops flow.now) (length flow.now.projects.items + supervisor) label) marks.old marks.new }
+    ensures cost { count.new ≤ count.old + length flow.now.projects.items + 1 }
+{
+    relax_swaps(flow, supervisor, label, marks, count);
+    if supervisor_has_room(flow, supervisor) {
+        relax(marks, sink(flow), label, Origin::Room(supervisor), count);
+    }
+}

@@ -1,0 +1,5 @@
+pub mod Weighing
+pub mod Totals
+pub mod Reading
+pub mod Proved
+pub mod Better

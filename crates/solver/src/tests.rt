@@ -1,0 +1,260 @@
+//! What no clause says: worked rounds, audits, and a search through all matchings of small instances.
+#![tactic(auto)]
+
+use crate::{Audit, audit, solve};
+use spa::{Code, Instance, Matching, RANKS, profile};
+use std::alloc::Global;
+use std::fmt::Write;
+use std::process::Abort;
+use std::rt::HostRuntime;
+use std::test::Fail;
+use verdict::check;
+
+/// The instance of rolls such as `L:5`, `P:L:1` and `A:P:Q`: a code, what it refers to, and a quota, by colons.
+fn instance(
+    alloc: Global,
+    supervisors: &str,
+    projects: &str,
+    students: &str,
+) -> Result<Instance, Fail> {
+    let mut supervisor_roll = Vec::new(alloc);
+    for entry in supervisors.split_whitespace() {
+        let mut fields = entry.split(':');
+        let code = Code::read(alloc, fields.next().unwrap_or(""))?;
+        supervisor_roll.push((code, fields.next().unwrap_or("").parse()?))?;
+    }
+    let mut project_roll = Vec::new(alloc);
+    for entry in projects.split_whitespace() {
+        let mut fields = entry.split(':');
+        let code = Code::read(alloc, fields.next().unwrap_or(""))?;
+        let supervisor = Code::read(alloc, fields.next().unwrap_or(""))?;
+        project_roll.push((code, supervisor, fields.next().unwrap_or("").parse()?))?;
+    }
+    Ok(Instance::new(
+        alloc,
+        supervisor_roll,
+        project_roll,
+        students_of(alloc, students)?,
+    )?)
+}
+
+/// The students of `A:P:Q C:Z:P`.
+fn students_of(alloc: Global, students: &str) -> Result<Vec<(Code, Vec<Code>)>, Fail> {
+    let mut roll = Vec::new(alloc);
+    for entry in students.split_whitespace() {
+        let mut fields = entry.split(':');
+        let code = Code::read(alloc, fields.next().unwrap_or(""))?;
+        let mut list = Vec::new(alloc);
+        for field in fields {
+            list.push(Code::read(alloc, field)?)?;
+        }
+        roll.push((code, list))?;
+    }
+    Ok(roll)
+}
+
+/// The places of `0-2`, where `-` is none.
+fn places(alloc: Global, text: &str) -> Result<Matching, Fail> {
+    let mut places = Vec::new(alloc);
+    for byte in text.as_bytes() {
+        if *byte == b'-' {
+            places.push(None)?;
+        } else {
+            places.push(Some(byte.wrapping_sub(b'0')))?;
+        }
+    }
+    Ok(Matching { places })
+}
+
+/// The profile of a matching, which is one of the instance.
+fn profile_of(rt: &impl Abort, instance: &Instance, matching: &Matching) -> [u32; RANKS] {
+    assert!(rt; matching.fault(instance).is_none());
+    profile(instance, matching)
+}
+
+// Supervisors, projects and students; then the places of the one best matching, and its profile, worked out by hand.
+#[rattlefmt::skip]
+const ROUNDS: [(&str, &str, &str, &str, [u32; RANKS]); 6] = [
+    ("L:5",     "P:L:1 Q:L:1 Z:L:0",                 "A:P:Q C:Z:P",       "11", [0, 2, 0, 0, 0, 0, 0, 0]),
+    ("L:5",     "P:L:1 Q:L:1",                       "A:P:Q B:Q:P",       "00", [2, 0, 0, 0, 0, 0, 0, 0]),
+    ("L:5",     "U:L:1 V:L:1 X:L:1 Y:L:0 Z:L:0",     "A:X:V C:Z:X:Y:U",   "03", [1, 0, 0, 1, 0, 0, 0, 0]),
+    ("K:1 L:1", "P:L:1 Q:L:1 R:K:1",                 "A:P B:Q:R",         "01", [1, 1, 0, 0, 0, 0, 0, 0]),
+    ("L:5",     "P:L:1",                             "",                  "",   [0, 0, 0, 0, 0, 0, 0, 0]),
+    ("L:0",     "P:L:1",                             "A:P",               "-",  [0, 0, 0, 0, 0, 0, 0, 0]),
+];
+
+#[test]
+fn worked_rounds_are_solved(rt: HostRuntime) -> Result<(), Fail> {
+    let alloc = rt.alloc();
+    for (supervisors, projects, students, want, counts) in ROUNDS {
+        let instance = instance(alloc, supervisors, projects, students)?;
+        let solved = solve(alloc, &instance)?;
+        let want = places(alloc, want)?;
+        assert_eq!(rt; solved.matching.places, want.places, "{students}");
+        assert_eq!(rt;
+            profile_of(&rt, &instance, &solved.matching),
+            counts,
+            "{students}"
+        );
+        assert_eq!(rt;
+            check(&instance, &solved.matching, &solved.prices),
+            Ok(()),
+            "{students}"
+        );
+    }
+    Ok(())
+}
+
+/// What an audit says of a matching of the instance.
+fn audited(
+    rt: &impl Abort,
+    alloc: Global,
+    instance: &Instance,
+    matching: &Matching,
+) -> Result<Audit, Fail> {
+    assert!(rt; matching.fault(instance).is_none());
+    Ok(audit(alloc, instance, matching)?)
+}
+
+#[test]
+fn an_audit_shows_a_better_matching(rt: HostRuntime) -> Result<(), Fail> {
+    let alloc = rt.alloc();
+    let instance = instance(alloc, "L:5", "P:L:1 Q:L:1", "A:P:Q B:Q:P")?;
+    let worse = places(alloc, "11")?;
+    let best = places(alloc, "00")?;
+    match audited(&rt, alloc, &instance, &worse)? {
+        Audit::Better(better) => assert_eq!(rt; better.places, best.places),
+        Audit::Best => assert!(rt; false, "a worse matching is no best one"),
+    }
+    match audited(&rt, alloc, &instance, &best)? {
+        Audit::Better(better) => assert_eq!(rt; better.places, worse.places, "nothing is better"),
+        Audit::Best => {}
+    }
+    Ok(())
+}
+
+// A chain in which each admission moves all students before it: the i-th lists the next project, then the own one.
+#[test]
+fn a_chain_of_sixty_is_solved(rt: HostRuntime) -> Result<(), Fail> {
+    let alloc = rt.alloc();
+    let mut projects = String::new(alloc);
+    let mut students = String::new(alloc);
+    for i in 1..60u32 {
+        write!(projects, "P{i}:L:1 ")?;
+        write!(students, "S{i}:P{}:P{i} ", i.wrapping_add(1))?;
+    }
+    write!(projects, "P60:L:1")?;
+    write!(students, "S60:P60")?;
+    let instance = instance(alloc, "L:60", &projects, &students)?;
+    let solved = solve(alloc, &instance)?;
+    assert_eq!(rt;
+        profile_of(&rt, &instance, &solved.matching),
+        [1, 59, 0, 0, 0, 0, 0, 0]
+    );
+    Ok(())
+}
+
+// Twenty copies of a pair of students of whom one takes the fourth choice.
+#[test]
+fn twenty_copies_are_solved(rt: HostRuntime) -> Result<(), Fail> {
+    let alloc = rt.alloc();
+    let mut projects = String::new(alloc);
+    let mut students = String::new(alloc);
+    write!(projects, "Y:L:0 Z:L:0")?;
+    for k in 1..21u32 {
+        write!(projects, " X{k}:L:1 V{k}:L:1 U{k}:L:1")?;
+        write!(students, "A{k}:X{k}:V{k} C{k}:Z:X{k}:Y:U{k} ")?;
+    }
+    let instance = instance(alloc, "L:500", &projects, &students)?;
+    let solved = solve(alloc, &instance)?;
+    assert_eq!(rt;
+        profile_of(&rt, &instance, &solved.matching),
+        [20, 0, 0, 20, 0, 0, 0, 0]
+    );
+    Ok(())
+}
+
+/// Numbers that look random, of a linear congruence.
+#[derive(Drop)]
+struct Random(u32);
+
+impl Random {
+    fn below(&mut self, n: u32) -> u32 {
+        self.0 = self.0.wrapping_mul(1_664_525).wrapping_add(1_013_904_223);
+        (self.0 / 65_536) % n.max(1)
+    }
+}
+
+/// Writes rolls of two supervisors, four projects and four students with up to three choices.
+fn small_rolls(alloc: Global, random: &mut Random) -> Result<(String, String, String), Fail> {
+    let mut supervisors = String::new(alloc);
+    let mut projects = String::new(alloc);
+    let mut students = String::new(alloc);
+    write!(supervisors, "L0:{} L1:{}", random.below(4), random.below(4))?;
+    for p in 0..4u32 {
+        write!(projects, "P{p}:L{}:{} ", random.below(2), random.below(3))?;
+    }
+    for s in 0..4u32 {
+        let first = random.below(4);
+        write!(students, "S{s}:P{first}")?;
+        for place in 0..random.below(3) {
+            write!(
+                students,
+                ":P{}",
+                first.wrapping_add(place).wrapping_add(1) % 4
+            )?;
+        }
+        write!(students, " ")?;
+    }
+    Ok((supervisors, projects, students))
+}
+
+/// The best size and profile of all matchings, each tried in turn.
+fn searched(alloc: Global, instance: &Instance) -> Result<(u32, [u32; RANKS]), Fail> {
+    let mut best = (0, [0; RANKS]);
+    for number in 0..256u32 {
+        let mut rest = number;
+        let mut places = Vec::new(alloc);
+        for _student in 0..4 {
+            let place = rest % 4;
+            places.push(if place == 3 { None } else { Some(place as u8) })?;
+            rest /= 4;
+        }
+        let matching = Matching { places };
+        if matching.fault(instance).is_none() {
+            let counts = profile(instance, &matching);
+            let found = (sum(&counts), counts);
+            if found > best {
+                best = found;
+            }
+        }
+    }
+    Ok(best)
+}
+
+/// All numbers added up.
+fn sum(counts: &[u32; RANKS]) -> u32 {
+    let mut sum: u32 = 0;
+    for count in counts {
+        sum = sum.wrapping_add(*count);
+    }
+    sum
+}
+
+#[test]
+fn a_search_through_all_matchings_finds_none_better(rt: HostRuntime) -> Result<(), Fail> {
+    let alloc = rt.alloc();
+    let mut random = Random(7);
+    for _round in 0..100 {
+        let (supervisors, projects, students) = small_rolls(alloc, &mut random)?;
+        let instance = instance(alloc, &supervisors, &projects, &students)?;
+        let solved = solve(alloc, &instance)?;
+        let counts = profile_of(&rt, &instance, &solved.matching);
+        assert_eq!(rt;
+            (sum(&counts), counts),
+            searched(alloc, &instance)?,
+            "{students}"
+        );
+    }
+    Ok(())
+}
