@@ -1,10 +1,7 @@
-use Rattle.std.proofs.Common.{rules, arith, refl, ◌≡◌, ◌<◌, ◌≤◌, ◌+◌, ◌-◌, ◌*◌, ◌^◌, ℕ, length, Some, sym, ◌∙◌, ap, true, length-set, set}
-use Rattle.std.specs.Prelude.{slice_get, slice_index}
-use Rattle.network.specs.Marks.{mark_at, potential_at, key_at, is_open_mark, settled_as, unsettled}
-use Rattle.network.specs.Search.{Relaxes, IsSearch, IsRunning, Feasible, OffersOf}
-use Rattle.network.specs.Arcs.{Arc, OfStudent, sink_of}
-use Rattle.network.proofs.Begin.{open_within, best_of_all, begins, left_at_begin, relaxed_unsettled, open_left}
-use Rattle.network.proofs.Advance.{arc_small, start_small, search_now, len_now, left_now, sink_now, few_now}
+use Rattle.std.proofs.Common.{arith, ◌≡◌, ◌-◌, length}
+use Rattle.network.specs.Marks.{key_at}
+use Rattle.network.specs.Arcs.{sink_of}
+use Rattle.network.proofs.Begin.{best_of_all}
 use Rattle.spa.specs.Laws.{AtMost}
 use Rattle.network.proofs.search.choose.Goals as goal
 

@@ -1,11 +1,6 @@
-use Rattle.std.proofs.Common.{rules, arith, refl, ◌≡◌, ◌<◌, ◌≤◌, ◌+◌, ◌-◌, ◌*◌, ◌^◌, ℕ, length, Some, sym, ◌∙◌, ap, true}
-use Rattle.std.specs.Prelude.{slice_get}
-use Rattle.std.specs.declared.vec.Vec.{Vec}
+use Rattle.std.proofs.Common.{arith, ◌≡◌, ◌≤◌, ◌*◌, ◌∙◌}
 use Rattle.std.proofs.Math.Nat.{mul-le-mul_right}
-use Rattle.spa.specs.Laws.{AtMost}
-use Rattle.network.specs.Marks.{mark_at, key_at, is_open_mark, unsettled}
-use Rattle.network.specs.Search.{IsRunning, IsFound}
-use Rattle.network.specs.Arcs.{Arc, OfStudent, sink_of, flow_arcs}
+use Rattle.network.specs.Arcs.{sink_of, flow_arcs}
 use Rattle.network.proofs.Begin.{open_left}
 use Rattle.network.proofs.search.search.Goals as goal
 
