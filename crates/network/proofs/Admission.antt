@@ -19,7 +19,7 @@ module _ {G : Type 0} {o : Ops G} (f n : Flow G) (steps x : ℕ) (placed : Bool)
     (ready : IsReady o f steps) (pushed : IsPushed o n) (low : IsLow o n)
     (lists : n.lists.items ≡ f.lists.items ++ row ∷ []) (projects : n.projects.items ≡ f.projects.items) (supervisors : n.supervisors.items ≡ f.supervisors.items)
     (placed_is : placed ≡ is_place (slice_get n.places.items (length f.lists.items)))
-    (cost : x ≤ length row.items + 1 + sink_of n * flow_arcs n) where
+    (cost : x ≤ 2 * length row.items + 1 + sink_of n * flow_arcs n) where
   -- one student more
   longer : length n.lists.items ≡ length f.lists.items + 1
   longer = ap length lists ∙ length-append f.lists.items (row ∷ [])
@@ -67,7 +67,7 @@ module _ {G : Type 0} {o : Ops G} (f n : Flow G) (steps x : ℕ) (placed : Bool)
         placed_is ∙ ap (λ z. is_place (slice_get n.places.items z)) (sym l);
     bound =
         let e : arc_count (seen n (steps + x)) ≡ flow_arcs n = (let d = entries_same n.lists.items in let c : length (map row_of n.lists.items) ≡ length n.lists.items = length-map n.lists.items row_of in omega (arith, d, c)) in
-        let s : sink_of n + 1 ≤ node_count (seen n (steps + x)) + 1 = omega arith in
+        let s : sink_of n + 2 ≤ node_count (seen n (steps + x)) + 1 = omega arith in
         let m = cost_within x (length row.items) (sink_of n) (flow_arcs n) (node_count (seen n (steps + x)) + 1) cost row_counted s in
         rw e m;
     counted = refl;

@@ -13,6 +13,7 @@ pub mod Sums
 pub mod Transfer
 pub mod Shift
 pub mod Ends
+pub mod Refused
 pub mod PushEntry
 pub mod PushOther
 pub mod PushReady

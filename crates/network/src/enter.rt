@@ -98,7 +98,7 @@ pub fn enter<G: Worth>(flow: &mut Flow<G>, row: Vec<(usize, G)>, marks: &mut [Ma
     ensures projects { flow.new.projects ≡ flow.old.projects }
     ensures supervisors { flow.new.supervisors ≡ flow.old.supervisors }
     ensures placed { result.placed ≡ is_place (slice_get flow.new.places.items (length flow.old.lists.items)) }
-    ensures cost { result.relaxations ≤ length row.items + 1 + sink_of flow.new * flow_arcs flow.new }
+    ensures cost { result.relaxations ≤ 2 * length row.items + 1 + sink_of flow.new * flow_arcs flow.new }
 {
     let student = flow.lists.len();
     append(flow, row);

@@ -31,4 +31,4 @@ pub struct Mark<G> {
 
 mod steps;
 
-pub use steps::{best_open, is_open, relax};
+pub use steps::{best_open, exceeds, relax};
