@@ -17,6 +17,7 @@ use Rattle.network.specs.Push.{sum_to, one_if, entry_at, row_at, place_at, owner
 use Rattle.network.specs.Seen.{shape_of}
 use Rattle.network.specs.View.{row_of, seen}
 use Rattle.network.proofs.Sums.{sum_to_same, sum_to_change, sum_to_zero, sum_to_front}
+use Rattle.network.proofs.Listed.{cond_one}
 use Rattle.network.proofs.Ends.{not_sink, node_not_sink}
 use Rattle.network.specs.declared.flow.Flow.{Flow}
 
@@ -93,11 +94,6 @@ within_all key m quota M a within k =
 each_from : {X : Type 0} (P Q : X → Type 0) → ((x : X) → P x → Q x) → (xs : List X) → AllByRecursion P xs → AllByRecursion Q xs
 each_from P Q f [] a = tt
 each_from P Q f (x ∷ xs) a = (f x a.0, each_from P Q f xs a.1)
-
--- 1 for yes, in two ways
-cond_one : (b : Bool) → cond b 1 0 ≡ one_if b
-cond_one true = refl
-cond_one false = refl
 
 -- the pairs of a supervisor are those of the supervisor's projects
 by_project : (owns : ℕ → Bool) (n : ℕ) (M : List Pair) → AllByRecursion (λ e. e.project < n) M

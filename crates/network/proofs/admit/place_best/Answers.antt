@@ -14,7 +14,7 @@ search-requires-clause-student g c =
 
 pub push-requires : goal.push-requires
 push-requires g c =
-    subst (λ z. IsPushing g.G.Worth.ops c.lower_flow.new.flow c.search.new.marks c.args.fresh c.label_of-top.result z) (c.lower_flow.ensures.sink ∙ sym c.sink-end.ensures) c.lower_flow.ensures.pushing
+    subst (λ z. IsPushing g.G.Worth.ops c.lower_flow.new.flow c.search.new.labels.marks.items c.args.fresh c.label_of-top.result z) (c.lower_flow.ensures.sink ∙ sym c.sink-end.ensures) c.lower_flow.ensures.pushing
 
 pub search-requires-clause-potentials : goal.search-requires-clause-potentials
 search-requires-clause-potentials g c = λ v. omega (arith, c.requires.low v)
