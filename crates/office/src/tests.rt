@@ -1,5 +1,6 @@
 use crate::{Office, RowsFault};
 use rolls::{Done, Plain, Refusal, Reply, Request, Row, Text};
+use std::alloc::Global;
 use std::process::Abort;
 use std::rt::HostRuntime;
 use std::test::Fail;
@@ -12,8 +13,8 @@ enum Put {
     Student(&'static str, &'static str),
 }
 
-fn plain(rt: &HostRuntime, put: Put) -> Result<Plain, Fail> {
-    let text = |text: &str| String::from_str(rt.alloc(), text);
+fn plain(alloc: Global, put: Put) -> Result<Plain, Fail> {
+    let text = |text: &str| String::from_str(alloc, text);
     Ok(match put {
         Put::Supervisor(code, label, quota) => Plain::PutSupervisor {
             code: text(code)?,
@@ -34,8 +35,8 @@ fn plain(rt: &HostRuntime, put: Put) -> Result<Plain, Fail> {
 }
 
 // The number of the refusal that the put gets, 0 for none.
-fn put_in(rt: &HostRuntime, office: &mut Office, put: Put) -> Result<u32, Fail> {
-    match office.apply(plain(rt, put)?) {
+fn put_in(alloc: Global, office: &mut Office, put: Put) -> Result<u32, Fail> {
+    match office.apply(plain(alloc, put)?) {
         Ok(_done) => Ok(0),
         Err(refusal) => Ok(refusal.number()),
     }
@@ -43,38 +44,72 @@ fn put_in(rt: &HostRuntime, office: &mut Office, put: Put) -> Result<u32, Fail> 
 
 // Puts in turn, each with the number of its refusal, 0 for none.
 #[rattlefmt::skip]
-const PUTS: [(&str, Put, u32); 17] = [
-    ("quota above the limit",        Put::Supervisor("L", "Lee", 501), 11),
-    ("project before supervisor",    Put::Project("P", "Pumps", 1, "L"), 13),
-    ("quota at the limit",           Put::Supervisor("L", "Lee", 500), 0),
-    ("no code",                      Put::Supervisor("-A", "Lee", 5), 9),
-    ("empty label",                  Put::Supervisor("L", "", 5), 10),
-    ("label before quota",           Put::Supervisor("L", "", 501), 10),
-    ("unknown supervisor",           Put::Project("P", "Pumps", 1, "K"), 13),
-    ("project",                      Put::Project("P", "Pumps", 1, "L"), 0),
-    ("known project, unknown other", Put::Project("P", "Pumps", 1, "K"), 13),
-    ("another supervisor",           Put::Supervisor("K", "Kim", 0), 0),
-    ("known project, known other",   Put::Project("P", "Pumps", 1, "K"), 16),
-    ("supervisor that is no code",   Put::Project("P", "", 501, "k"), 9),
-    ("project with an empty label",  Put::Project("Q", "", 501, "K"), 10),
-    ("project above the limit",      Put::Project("Q", "Quarks", 501, "N"), 11),
-    ("project again",                Put::Project("P", "Pipes", 0, "L"), 0),
-    ("student",                      Put::Student("S1", "Ann"), 0),
-    ("student without a name",       Put::Student("S2", ""), 10),
-];
+fn puts() -> [(&'static str, Put, u32); 17] {
+    [
+        ("quota above the limit",        Put::Supervisor("L", "Lee", 501), 11),
+        ("project before supervisor",    Put::Project("P", "Pumps", 1, "L"), 13),
+        ("quota at the limit",           Put::Supervisor("L", "Lee", 500), 0),
+        ("no code",                      Put::Supervisor("-A", "Lee", 5), 9),
+        ("empty label",                  Put::Supervisor("L", "", 5), 10),
+        ("label before quota",           Put::Supervisor("L", "", 501), 10),
+        ("unknown supervisor",           Put::Project("P", "Pumps", 1, "K"), 13),
+        ("project",                      Put::Project("P", "Pumps", 1, "L"), 0),
+        ("known project, unknown other", Put::Project("P", "Pumps", 1, "K"), 13),
+        ("another supervisor",           Put::Supervisor("K", "Kim", 0), 0),
+        ("known project, known other",   Put::Project("P", "Pumps", 1, "K"), 16),
+        ("supervisor that is no code",   Put::Project("P", "", 501, "k"), 9),
+        ("project with an empty label",  Put::Project("Q", "", 501, "K"), 10),
+        ("project above the limit",      Put::Project("Q", "Quarks", 501, "N"), 11),
+        ("project again",                Put::Project("P", "Pipes", 0, "L"), 0),
+        ("student",                      Put::Student("S1", "Ann"), 0),
+        ("student without a name",       Put::Student("S2", ""), 10),
+    ]
+}
+
+// Asks each put in turn, and compares the number of its refusal with the wanted one.
+fn ask_all(
+    alloc: Global,
+    rt: &impl Abort,
+    office: &mut Office,
+    puts: &[(&'static str, Put, u32)],
+) -> Result<(), Fail> {
+    for (name, put, number) in puts {
+        let answered = put_in(alloc, office, *put)?;
+        assert_eq!(rt; answered, *number, "{name}");
+    }
+    Ok(())
+}
+
+// The number of the refusal that is named before the put, 0 for none.
+fn named(alloc: Global, office: &Office, put: Put) -> Result<u32, Fail> {
+    Ok(
+        match office.refusal_of(&Request::Plain(plain(alloc, put)?)) {
+            Some(refusal) => refusal.number(),
+            None => 0,
+        },
+    )
+}
+
+// The same, and of the refusals that are named before each put.
+fn ask_named(
+    alloc: Global,
+    rt: &impl Abort,
+    office: &mut Office,
+    puts: &[(&'static str, Put, u32)],
+) -> Result<(), Fail> {
+    for (name, put, number) in puts {
+        let before = named(alloc, office, *put)?;
+        assert_eq!(rt; before, *number, "{name}");
+        let answered = put_in(alloc, office, *put)?;
+        assert_eq!(rt; answered, *number, "{name}");
+    }
+    Ok(())
+}
 
 #[test]
 fn puts_are_refused_in_their_order(rt: HostRuntime) -> Result<(), Fail> {
     let mut office = Office::new(rt.alloc());
-    for (name, put, number) in PUTS {
-        let named = match office.refusal_of(&Request::Plain(plain(&rt, put)?)) {
-            Some(refusal) => refusal.number(),
-            None => 0,
-        };
-        assert_eq!(rt; named, number, "{name}");
-        let answered = put_in(&rt, &mut office, put)?;
-        assert_eq!(rt; answered, number, "{name}");
-    }
+    ask_named(rt.alloc(), &rt, &mut office, puts().as_slice())?;
     assert_eq!(rt; office.supervisors().len(), 2);
     assert_eq!(rt; office.students().len(), 1);
     assert_eq!(rt; office.projects().len(), 1);
@@ -103,10 +138,7 @@ fn are_pipes(rt: &impl Abort, done: &Done) {
 #[test]
 fn entries_are_read_as_they_were_put(rt: HostRuntime) -> Result<(), Fail> {
     let mut office = Office::new(rt.alloc());
-    for (name, put, number) in PUTS {
-        let answered = put_in(&rt, &mut office, put)?;
-        assert_eq!(rt; answered, number, "{name}");
-    }
+    ask_all(rt.alloc(), &rt, &mut office, puts().as_slice())?;
     let mut copy = office.copy()?;
     let code = String::from_str(rt.alloc(), "P")?;
     match copy.apply(Plain::GetProject { code }) {
@@ -121,8 +153,8 @@ fn entries_are_read_as_they_were_put(rt: HostRuntime) -> Result<(), Fail> {
     Ok(())
 }
 
-fn row(rt: &HostRuntime, put: Put) -> Result<Row, Fail> {
-    let text = |text: &str| Text::of(rt.alloc(), text);
+fn row(alloc: Global, put: Put) -> Result<Row, Fail> {
+    let text = |text: &str| Text::of(alloc, text);
     Ok(match put {
         Put::Supervisor(code, label, quota) => Row::Supervisor {
             code: text(code)?,
@@ -144,30 +176,53 @@ fn row(rt: &HostRuntime, put: Put) -> Result<Row, Fail> {
 
 // Three rows each, and whether some office has them.
 #[rattlefmt::skip]
-const ROWS: [(&str, [Put; 3], bool); 6] = [
-    ("in any order",      [Put::Project("P", "Pumps", 1, "L"), Put::Student("S1", "Ann"), Put::Supervisor("L", "Lee", 5)], true),
-    ("no supervisor",     [Put::Project("P", "Pumps", 1, "K"), Put::Student("S1", "Ann"), Put::Supervisor("L", "Lee", 5)], false),
-    ("a quota of 501",    [Put::Project("P", "Pumps", 501, "L"), Put::Student("S1", "Ann"), Put::Supervisor("L", "Lee", 5)], false),
-    ("an empty label",    [Put::Student("S2", ""), Put::Student("S1", "Ann"), Put::Supervisor("L", "Lee", 5)], false),
-    ("the code -A",       [Put::Student("-A", "Al"), Put::Student("S1", "Ann"), Put::Supervisor("L", "Lee", 5)], false),
-    ("one student twice", [Put::Student("S1", "Ann"), Put::Student("S1", "Ann"), Put::Supervisor("L", "Lee", 5)], false),
-];
+fn rows() -> [(&'static str, [Put; 3], bool); 6] {
+    [
+        ("in any order",      [Put::Project("P", "Pumps", 1, "L"), Put::Student("S1", "Ann"), Put::Supervisor("L", "Lee", 5)], true),
+        ("no supervisor",     [Put::Project("P", "Pumps", 1, "K"), Put::Student("S1", "Ann"), Put::Supervisor("L", "Lee", 5)], false),
+        ("a quota of 501",    [Put::Project("P", "Pumps", 501, "L"), Put::Student("S1", "Ann"), Put::Supervisor("L", "Lee", 5)], false),
+        ("an empty label",    [Put::Student("S2", ""), Put::Student("S1", "Ann"), Put::Supervisor("L", "Lee", 5)], false),
+        ("the code -A",       [Put::Student("-A", "Al"), Put::Student("S1", "Ann"), Put::Supervisor("L", "Lee", 5)], false),
+        ("one student twice", [Put::Student("S1", "Ann"), Put::Student("S1", "Ann"), Put::Supervisor("L", "Lee", 5)], false),
+    ]
+}
+
+// Whether the rows make an office, as they should or should not.
+fn compare_office(
+    alloc: Global,
+    rt: &impl Abort,
+    name: &str,
+    puts: &[Put],
+    want: bool,
+) -> Result<(), Fail> {
+    let mut rows = Vec::new(alloc);
+    for put in puts {
+        rows.push(row(alloc, *put)?)?;
+    }
+    match Office::from_rows(alloc, rows) {
+        Ok(office) => {
+            assert!(rt; want, "{name}");
+            assert_eq!(rt; office.projects().len(), 1, "{name}");
+            assert_eq!(rt; office.students().len(), 1, "{name}");
+        }
+        Err(fault) => assert!(rt; !want && fault == RowsFault::Unfit, "{name}"),
+    }
+    Ok(())
+}
+
+// The same of each case.
+fn compare_all(
+    alloc: Global,
+    rt: &impl Abort,
+    rows: &[(&'static str, [Put; 3], bool)],
+) -> Result<(), Fail> {
+    for (name, puts, want) in rows {
+        compare_office(alloc, rt, name, puts.as_slice(), *want)?;
+    }
+    Ok(())
+}
 
 #[test]
 fn rows_make_an_office_where_one_has_them(rt: HostRuntime) -> Result<(), Fail> {
-    for (name, puts, want) in ROWS {
-        let mut rows = Vec::new(rt.alloc());
-        for put in puts {
-            rows.push(row(&rt, put)?)?;
-        }
-        match Office::from_rows(rt.alloc(), rows) {
-            Ok(office) => {
-                assert!(rt; want, "{name}");
-                assert_eq!(rt; office.projects().len(), 1, "{name}");
-                assert_eq!(rt; office.students().len(), 1, "{name}");
-            }
-            Err(fault) => assert!(rt; !want && fault == RowsFault::Unfit, "{name}"),
-        }
-    }
-    Ok(())
+    compare_all(rt.alloc(), &rt, rows().as_slice())
 }

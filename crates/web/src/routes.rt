@@ -1,5 +1,5 @@
 //! What the paths of messages name.
-ghost use Rattle.std.specs.Prelude.{◌≡◌, ℕ, List, ◌++◌, length, MatchOption, IfOk, false, option_map, codes};
+ghost use Rattle.std.specs.Prelude.{◌≡◌, ℕ, List, ◌++◌, length, MatchOption, IfOk, IfErr, false, option_map, codes};
 ghost use Rattle.matchit.specs.Seek.{has_slash};
 ghost use Rattle.web.specs.Paths.{place_of, front_of, all_routes, is_empty};
 
@@ -21,9 +21,10 @@ pub struct Place<'p> {
     pub code: &'p str,
 }
 
-/// The router of all paths.
+/// The router of all paths. It fails for want of memory alone.
 pub fn router(alloc: Global) -> Result<Router<Kind>, InsertError>
-    ensures { IfOk result (λ router. router ≡ all_routes) }
+    ensures routes { IfOk result (λ router. router ≡ all_routes) }
+    ensures memory { IfErr result (λ error. error ≡ InsertError.OutOfMemory) }
 {
     let mut router = Router::new(alloc);
     router.insert("/supervisors/{code}", Kind::Supervisor)?;
