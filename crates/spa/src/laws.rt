@@ -1,11 +1,10 @@
 //! Laws of instances that the crates above rest on: functions with nothing to do, whose contracts are the laws.
 #![tactic(auto)]
 
-ghost use Rattle.std.specs.Prelude.{◌≡◌, ℕ, ℤ, ◌+◌, ◌<◌, ◌≤◌, ◌↔◌, List, Option, length, slice_index, Contains};
+ghost use Rattle.std.specs.Prelude.{◌≡◌, ℕ, ℤ, ◌+◌, ◌<◌, ◌↔◌, List, length, slice_index, Contains};
 ghost use Rattle.spa.specs.Order.{greedy, IsSettled};
-ghost use Rattle.spa.specs.Shape.{list_of, project_quota, supervisor_quota};
+ghost use Rattle.spa.specs.Shape.{list_of};
 ghost use Rattle.spa.specs.Matching.{Pair, IsBest, IsGreedyMaximum, rank_in};
-ghost use Rattle.spa.specs.Matched.{HasPlaces, IsMatched, in_project, with_supervisor};
 ghost use Rattle.spa.specs.Prices.{ProveBest};
 ghost use Rattle.spa.specs.Coded.{SaysTheSame};
 
@@ -16,13 +15,6 @@ pub fn list_law(instance: &Instance)
     ensures student { (s p : ℕ) → Contains (list_of instance.now.shape s) p → s < length instance.now.shape.students }
     ensures project { (s p : ℕ) → Contains (list_of instance.now.shape s) p → p < length instance.now.shape.projects }
     ensures rank { (s k : ℕ) → k < length (list_of instance.now.shape s) → rank_in (list_of instance.now.shape s) (slice_index (list_of instance.now.shape s) k) ≡ k + 1 }
-{
-    instance.fit();
-}
-
-/// Places in the lists, with no more pairs than the quotas of the known projects and supervisors, stand for a matching.
-pub fn place_law(instance: &Instance)
-    ensures { (ks : List (Option ℕ)) → HasPlaces instance.now.shape ks → ((p : ℕ) → p < length instance.now.shape.projects → in_project instance.now.shape ks p ≤ project_quota instance.now.shape p) → ((l : ℕ) → l < length instance.now.shape.supervisors → with_supervisor instance.now.shape ks l ≤ supervisor_quota instance.now.shape l) → IsMatched instance.now.shape ks }
 {
     instance.fit();
 }
