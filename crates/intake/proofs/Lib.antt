@@ -5,4 +5,5 @@ mod Numbers
 mod Order
 mod Pairing
 mod Rolls
+mod Steps
 mod Writing

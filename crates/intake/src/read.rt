@@ -27,5 +27,5 @@ pub fn read_round(alloc: Global, text: &[u8]) -> Result<RoundParts, RoundFault>
     if !lines[whole].is_empty() || !draft.is_whole() {
         return Err(RoundFault::Line(lines.len()));
     }
-    draft.finish(alloc)
+    Ok(draft.finish(alloc)?)
 }
