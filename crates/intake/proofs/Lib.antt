@@ -1,4 +1,5 @@
 mod Adding
+mod Ends
 mod Found
 mod Lists
 mod Numbers
