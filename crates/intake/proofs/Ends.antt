@@ -1,15 +1,24 @@
 -- A draft may be completed, and a complete one is the parts of its text.
-use Rattle.std.proofs.Common.{◌≡◌, ℕ, zero, suc, ◌+◌, ◌-◌, ◌<◌, ◌≤◌, ◌⊎◌, inl, inr, ℤ, pos, List, [], ◌∷◌, ◌++◌, length, map, get_or, replicate, codes, Option, Some, None, All, refl, sym, ap, ◌∙◌, subst, arith, append_assoc, append-nil}
+use Rattle.std.proofs.Common.{◌≡◌, ℕ, zero, suc, ◌+◌, ◌-◌, ◌<◌, ◌≤◌, ◌⊎◌, inl, inr, ℤ, pos, List, [], ◌∷◌, ◌++◌, length, map, get_or, replicate, codes, Option, Some, None, All, Contains, slice_get, refl, sym, ap, ◌∙◌, subst, arith, append_assoc, append-nil}
 use Rattle.std.specs.List.{AllZip}
 use Rattle.std.proofs.lemmas.Bool.{cases_lt}
 use Rattle.std.proofs.lemmas.List.{map-append, length-append, length-replicate, length-map}
-use Rattle.std.proofs.lemmas.List.Elements.{All-append, All-replicate}
-use Rattle.spa.specs.Instance.{Supervisor, Project, Student, supervisor_codes, project_codes, student_codes}
-use Rattle.intake.specs.Parts.{Parts, IsPlace, IsPrice, ArePrices, IsRoundParts}
+use Rattle.std.proofs.lemmas.List.Elements.{All-append, All-replicate, All-map}
+use Rattle.spa.specs.Codes.{code_at}
+use Rattle.spa.specs.Instance.{Instance, Supervisor, Project, Student, supervisor_codes, project_codes, student_codes}
+use Rattle.spa.specs.declared.fault.Roll.TheVariants.{Supervisors, Projects, Students}
+use Rattle.spa.specs.declared.fault.InstanceFault.{InstanceFault}
+use Rattle.spa.specs.declared.fault.InstanceFault.TheVariants.{Memory, Limit, RepeatedCode, UnknownSupervisor, ListLength, UnknownProject, RepeatedProject}
+use Rattle.spa.specs.Codes.{IsFirstRepeated}
+use Rattle.spa.specs.Made.{IsSoundList, IsFirstUnknown, IsListFault, IsFirstListFault, IsFirstInstanceFault}
+use Rattle.intake.proofs.Found.{slice_get_at}
+use Rattle.intake.proofs.Pairing.{one_place, all_found}
+use Rattle.intake.proofs.Rolls.{within_get}
+use Rattle.intake.specs.Parts.{Parts, Rise, IsPlace, IsPrice, ArePrices, IsRoundParts}
 use Rattle.intake.specs.Lines.{Row, line, round_lines, pair_rows, price_rows}
 use Rattle.intake.specs.Reading.{Begins}
 use Rattle.intake.specs.Draft.{IsDraft, IsWhole, ArePlaces, ArePricesUpTo, NoneOrAll}
-use Rattle.intake.proofs.Steps.{seven, S, P, C, M, U, Y, Z, prices_none}
+use Rattle.intake.proofs.Steps.{seven, S, P, C, M, U, Y, Z}
 
 -- nobody of the rest has a place
 pub no_more_pairs : (es : List Student) (ks : List (Option ℕ)) (n : ℕ) → pair_rows es (ks ++ replicate n None) ≡ pair_rows es ks
@@ -21,7 +30,7 @@ no_more_pairs (e ∷ es) [] (suc n) = no_more_pairs es [] n ∙ none es
     none [] = refl
     none (x ∷ es) = refl
 no_more_pairs (e ∷ es) (None ∷ ks) n = no_more_pairs es ks n
-no_more_pairs (e ∷ es) (Some k ∷ ks) n = ap (λ (l : List Row). _ ∷ l) (no_more_pairs es ks n)
+no_more_pairs (e ∷ es) (Some k ∷ ks) n = ap (λ (l : List Row). (e.code ∷ code_at e.list k ∷ []) ∷ l) (no_more_pairs es ks n)
 
 -- there are no more places than students
 pub places_few : (es : List Student) (ks : List (Option ℕ)) → ArePlaces es ks → length ks ≤ length es
@@ -30,11 +39,13 @@ places_few [] (k ∷ ks) h = absurd h
 places_few (e ∷ es) (k ∷ ks) h = let r = places_few es ks h.1 in omega (arith, r)
 
 -- with none for the rest there is a place or none for each
-pub places_all : (es : List Student) (ks : List (Option ℕ)) → ArePlaces es ks → AllZip IsPlace es (ks ++ replicate (length es - length ks) None)
-places_all [] [] h = tt
-places_all [] (k ∷ ks) h = absurd h
-places_all (e ∷ es) [] h = (tt, places_all es [] tt)
-places_all (e ∷ es) (k ∷ ks) h = (h.0, places_all es ks h.1)
+places_all : (es : List Student) (ks : List (Option ℕ)) (n : ℕ) → length es ≡ length ks + n → ArePlaces es ks → AllZip IsPlace es (ks ++ replicate n None)
+places_all [] [] zero e h = tt
+places_all [] [] (suc n) e h = absurd (omega arith)
+places_all [] (k ∷ ks) n e h = absurd h
+places_all (x ∷ es) [] zero e h = absurd (omega arith)
+places_all (x ∷ es) [] (suc n) e h = (tt, places_all es [] n (omega arith) tt)
+places_all (x ∷ es) (k ∷ ks) n e h = (h.0, places_all es ks n (omega arith) h.1)
 
 -- parts with a place or none for each student
 abbrev pub placed : Parts → Parts
@@ -57,8 +68,58 @@ whole_parts p d w = record {
   students = d.students;
   offered = d.offered;
   listed = d.listed;
-  places = places_all p.instance.students p.places d.places;
+  places = places_all p.instance.students p.places (length p.instance.students - length p.places) (omega (arith, places_few p.instance.students p.places d.places)) d.places;
   student_prices = priced (length p.instance.students) p.student_prices d.student_prices w.students;
   project_prices = priced (length p.instance.projects) p.project_prices d.project_prices w.projects;
   supervisor_prices = priced (length p.instance.supervisors) p.supervisor_prices d.supervisor_prices w.supervisors;
 }
+
+-- codes that rise are apart
+apart : (codes : List (List ℕ)) → Rise codes → (m n : ℕ) → m < n → n < length codes → slice_get codes m ≡ slice_get codes n → ⊥
+apart codes rise m n h l same =
+    let code : List ℕ = get_or codes n [] in
+    let at : slice_get codes n ≡ Some code = slice_get_at codes n [] code l refl in
+    let twice : m ≡ n = one_place codes m n code rise (same ∙ at) at in
+    omega arith
+
+-- no code is the first that stands before it too
+not_repeated : (codes : List (List ℕ)) (n : ℕ) → Rise codes → IsFirstRepeated codes n → ⊥
+not_repeated codes n rise r = apart codes rise r.earlier n r.is_before r.known r.same
+
+-- of what all have no element is the first without
+not_unknown : (known names : List (List ℕ)) (n : ℕ) → All (λ c. Contains known c) names → IsFirstUnknown known names n → ⊥
+not_unknown known names n all u = u.unknown (all_found (λ c. Contains known c) names n u.code all u.here)
+
+-- the lists of a draft have no fault but want of memory
+list_fault : (p : Parts) (fault : InstanceFault) → IsDraft p → IsFirstListFault (project_codes p.instance) (map (λ e. e.list) p.instance.students) fault → fault ≡ Memory
+list_fault p fault d f =
+    let sound : IsSoundList (project_codes p.instance) f.list = all_found (IsSoundList (project_codes p.instance)) (map (λ e. e.list) p.instance.students) f.student f.list (All-map (IsSoundList (project_codes p.instance)) (λ e. e.list) p.instance.students d.listed) f.here in
+    go fault f.student f.list f.is_fault sound
+  where
+    go : (fault : InstanceFault) (s : ℕ) (list : List (List ℕ)) → IsListFault (project_codes p.instance) list s fault → IsSoundList (project_codes p.instance) list → fault ≡ Memory
+    go Memory s list h sound = refl
+    go Limit s list h sound = absurd h
+    go (RepeatedCode roll n) s list h sound = absurd h
+    go (UnknownSupervisor n) s list h sound = absurd h
+    go (ListLength n) s list h sound = absurd (h.1 sound.0)
+    go (UnknownProject n k) s list h sound = absurd (h.3.unknown (sound.1.known k h.3.code (within_get list k h.3.code h.3.here) h.3.here))
+    go (RepeatedProject n k) s list h sound = absurd (sound.1.apart h.3.earlier k h.3.is_before h.3.known h.3.same)
+
+-- the rolls of a draft have no fault but want of memory
+pub no_fault : (p : Parts) (fault : InstanceFault) → IsDraft p → IsFirstInstanceFault p.instance fault → fault ≡ Memory
+no_fault p Memory d h = refl
+no_fault p Limit d h = absurd (h d.within)
+no_fault p (RepeatedCode Supervisors n) d h = absurd (not_repeated (supervisor_codes p.instance) n d.supervisors.rise h.1)
+no_fault p (RepeatedCode Projects n) d h = absurd (not_repeated (project_codes p.instance) n d.projects.rise h.1.1)
+no_fault p (RepeatedCode Students n) d h = absurd (not_repeated (student_codes p.instance) n d.students.rise h.1.2)
+no_fault p (UnknownSupervisor n) d h = absurd (not_unknown (supervisor_codes p.instance) (map (λ e. e.supervisor) p.instance.projects) n (All-map (λ c. Contains (supervisor_codes p.instance) c) (λ e. e.supervisor) p.instance.projects d.offered) h.2)
+no_fault p (ListLength n) d h = list_fault p (ListLength n) d h.3
+no_fault p (UnknownProject n k) d h = list_fault p (UnknownProject n k) d h.3
+no_fault p (RepeatedProject n k) d h = list_fault p (RepeatedProject n k) d h.3
+
+-- parts of the same instance and places
+pub same_parts : (i j : Instance) (ks ls : List (Option ℕ)) (u y z : List (List ℤ)) → i ≡ j → ks ≡ ls
+    → (let p : Parts = record { instance = i; places = ks; student_prices = u; project_prices = y; supervisor_prices = z } in p) ≡ record { instance = j; places = ls; student_prices = u; project_prices = y; supervisor_prices = z }
+same_parts i j ks ls u y z e f =
+    ap (λ (i : Instance). let p : Parts = record { instance = i; places = ks; student_prices = u; project_prices = y; supervisor_prices = z } in p) e
+    ∙ ap (λ (ks : List (Option ℕ)). let p : Parts = record { instance = j; places = ks; student_prices = u; project_prices = y; supervisor_prices = z } in p) f

@@ -1,6 +1,7 @@
 mod Adding
 mod Ends
 mod Found
+mod Added
 mod Lists
 mod Numbers
 mod Order

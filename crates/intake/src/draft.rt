@@ -339,8 +339,10 @@ impl Draft {
                 matching: Matching { places },
                 prices: self.prices,
             }),
-            Err(InstanceFault::Memory) => Err(AllocError),
-            Err(_) => unreachable!(),
+            Err(fault) => match fault {
+                InstanceFault::Memory => Err(AllocError),
+                _ => unreachable!(),
+            },
         }
     }
 }
