@@ -1,7 +1,7 @@
 //! The parts of a round text as far as it was read.
 #![tactic(auto)]
 
-ghost use Rattle.std.specs.Prelude.{◌≡◌, ◌-◌, ◌++◌, ◌↔◌, ◌≤◌, ℕ, ℤ, List, [], map, length, replicate, All, IfOk, OnOk, MatchOption, IsTrue, None};
+ghost use Rattle.std.specs.Prelude.{◌≡◌, ◌-◌, ◌++◌, ◌↔◌, ◌≤◌, ℕ, ℤ, List, [], ◌∷◌, map, length, replicate, All, IfOk, OnOk, MatchOption, IsTrue, None};
 ghost use Rattle.spa.specs.Made.{IsSoundList};
 ghost use Rattle.intake.specs.Parts.{Rise, IsRoll, IsRoundParts};
 ghost use Rattle.intake.specs.Draft.{draft_of, IsDraft, HasNoPrices, NoneOrAll, AddsSupervisor, AddsProject, AddsStudent, AddsPair, AddsPrice, AddsStudentPrice, AddsProjectPrice, AddsSupervisorPrice, AddsLine, line_of, IsField, nothing, IsWhole};
@@ -98,6 +98,16 @@ fn is_none_or_all(prices: &[[i64; PLACES]], entries: usize) -> bool
     ensures { IsTrue result ↔ NoneOrAll entries prices.now }
 {
     prices.is_empty() || prices.len() == entries
+}
+
+/// Whether a field is this letter alone.
+fn is_letter(field: &[u8], letter: u8) -> bool
+    ensures { IsTrue result ↔ (field.now ≡ letter ∷ []) }
+{
+    let [only] = field else {
+        return false;
+    };
+    *only == letter
 }
 
 impl Draft {
@@ -294,16 +304,28 @@ impl Draft {
         let Some((letter, row)) = fields.split_first() else {
             return Ok(false);
         };
-        match *letter {
-            b"S" => self.add_supervisor(alloc, row),
-            b"P" => self.add_project(alloc, row),
-            b"C" => self.add_student(alloc, row),
-            b"M" => self.add_pair(alloc, row),
-            b"U" => self.add_student_price(row),
-            b"Y" => self.add_project_price(row),
-            b"Z" => self.add_supervisor_price(row),
-            _ => Ok(false),
+        if is_letter(letter, b'S') {
+            return self.add_supervisor(alloc, row);
         }
+        if is_letter(letter, b'P') {
+            return self.add_project(alloc, row);
+        }
+        if is_letter(letter, b'C') {
+            return self.add_student(alloc, row);
+        }
+        if is_letter(letter, b'M') {
+            return self.add_pair(alloc, row);
+        }
+        if is_letter(letter, b'U') {
+            return self.add_student_price(row);
+        }
+        if is_letter(letter, b'Y') {
+            return self.add_project_price(row);
+        }
+        if is_letter(letter, b'Z') {
+            return self.add_supervisor_price(row);
+        }
+        Ok(false)
     }
 
     /// Adds what a line stands for, if it may come here.
