@@ -2,10 +2,13 @@ mod Adding
 mod Ends
 mod Found
 mod Added
+mod Goes
 mod Lists
 mod Numbers
 mod Order
 mod Pairing
 mod Rolls
+mod Sections
 mod Steps
+mod Takes
 mod Writing
