@@ -8,7 +8,7 @@ use Rattle.std.specs.Str.{bytes_eq}
 use Rattle.std.proofs.lemmas.Bool.Decides.{not_from_Decides}
 use Rattle.std.proofs.lemmas.Slice.Eq.{bytes_eq-Decides}
 use Rattle.std.proofs.lemmas.List.Elements.{All-tail}
-use Rattle.intake.proofs.Takes.{project_only}
+use Rattle.intake.proofs.Takes.{next_pair}
 use Rattle.intake.proofs.Steps.{supervisor_step, project_step, student_step, pair_step, student_price_step, project_price_step, supervisor_price_step}
 
 -- a draft that was made, said of another that is the same

@@ -1,5 +1,5 @@
 -- The section that the next row is in says what the draft takes.
-use Rattle.std.proofs.Common.{◌≡◌, ℕ, zero, suc, ◌+◌, ◌-◌, ◌<◌, ◌≤◌, ◌⊎◌, inl, inr, ℤ, Bool, true, false, ◌||◌, List, [], ◌∷◌, ◌++◌, length, map, get_or, slice_get, codes, decimal, Option, Some, None, All, Contains, refl, sym, ap, ◌∙◌, subst, arith, append_assoc}
+use Rattle.std.proofs.Common.{◌≡◌, ℕ, zero, suc, ◌+◌, ◌-◌, ◌<◌, ◌≤◌, ◌⊎◌, inl, inr, ℤ, Bool, true, false, ◌||◌, List, [], ◌∷◌, ◌++◌, length, map, drop, get_or, slice_get, codes, decimal, Option, Some, None, All, Contains, refl, sym, ap, ◌∙◌, subst, arith, append_assoc}
 use Rattle.std.specs.Fmt.{signed_decimal}
 use Rattle.std.specs.List.{AllZip}
 use Rattle.std.specs.Prelude.{IsTrue}
@@ -15,7 +15,7 @@ use Rattle.spa.specs.Made.{IsSoundList}
 use Rattle.intake.specs.Parts.{Parts, Rise, IsRoll, IsPlace, IsPrice, IsRoundParts}
 use Rattle.intake.specs.Lines.{Row, Section, sections, supervisor_row, project_row, student_row, pair_rows, price_rows}
 use Rattle.intake.specs.Draft.{IsDraft, HasNoPrices, NoneOrAll, ArePlaces, EndsPlaced, TakesSupervisor, TakesProject, TakesStudent, TakesPair, TakesPrice, TakesStudentPrice, TakesProjectPrice, TakesSupervisorPrice}
-use Rattle.intake.proofs.Order.{cmp_apart}
+use Rattle.intake.proofs.Order.{cmp_apart, get_found}
 use Rattle.intake.proofs.Pairing.{all_found, get_mapped}
 use Rattle.intake.proofs.Rolls.{within_get}
 use Rattle.intake.proofs.Sections.{Next, NoRows, has_letter}
@@ -109,6 +109,14 @@ project_code x y e = cc
 student_code : (x y : Student) → student_row x ≡ student_row y → x.code ≡ y.code
 student_code x y e = cc
 
+-- a letter that is none of the sections'
+not_there : false ≡ true → ⊥
+not_there e = cc
+
+-- letters that are the same
+same : (a b : ℕ) → a ∷ [] ≡ b ∷ [] → a ≡ b
+same a b e = cc
+
 -- a supervisor's line goes on only where the draft takes it
 pub supervisor_only : (old : Parts) (r : Row) → IsDraft old → GoesOn old (codes "S") r → (e : Supervisor) × TakesSupervisor old r e
 supervisor_only old r d g =
@@ -127,12 +135,158 @@ supervisor_only old r d g =
             few = omega (arith, within, g.valid.within.supervisors);
             next = front_rises supervisor_row (λ (e : Supervisor). e.code) p.instance.supervisors old.instance.supervisors r f g.valid.supervisors.rise;
           })
-      | inr j ↦ absurd (not_there (next_letter _ _ (codes "S") r j.1))
+      | inr j ↦ absurd (not_there (next_letter (drop 1 (sections p)) (drop 1 (sections old)) (codes "S") r j.1))
     ]
-  where
-    not_there : false ≡ true → ⊥
-    not_there e = cc
 
 -- a project's line goes on only where the draft takes it
 pub project_only : (old : Parts) (r : Row) → IsDraft old → GoesOn old (codes "P") r → (e : Project) × TakesProject old r e
-project_only old r d g = ?
+project_only old r d g =
+    let p : Parts = g.parts in
+    elim g.next [
+      | inl i ↦ absurd (omega (arith, same 83 80 i.0))
+      | inr j ↦ elim j.1 [
+        | inl i ↦
+            let n : ℕ = length old.instance.projects in
+            let f = front project_row (λ (e : Project). e.code) project_code p.instance.projects old.instance.projects r i.1.0 i.1.1 in
+            let within = within_get p.instance.projects n f.e f.here in
+            let owner = all_found (λ (e : Project). Contains (supervisor_codes p.instance) e.supervisor) p.instance.projects n f.e g.valid.offered f.here in
+            (f.e, record {
+              turn = nothing_made student_row old.instance.students i.2.0;
+              prices = no_prices_of old d i.2.1.1.0 i.2.1.1.1.0 i.2.1.1.1.1.0;
+              is = f.is;
+              form = all_found (λ c. IsTrue (is_code c)) (project_codes p.instance) n f.e.code g.valid.projects.form (get_mapped (λ (e : Project). e.code) p.instance.projects n f.e f.here);
+              quota = all_found (λ q. q ≤ MOST_PLACES) (map (λ (e : Project). e.quota) p.instance.projects) n f.e.quota g.valid.within.project_quotas (get_mapped (λ (e : Project). e.quota) p.instance.projects n f.e f.here);
+              known = subst (λ (l : List (List ℕ)). Contains l f.e.supervisor) (same_codes supervisor_row (λ (e : Supervisor). e.code) supervisor_code p.instance.supervisors old.instance.supervisors j.0) owner;
+              few = omega (arith, within, g.valid.within.projects);
+              next = front_rises project_row (λ (e : Project). e.code) p.instance.projects old.instance.projects r f g.valid.projects.rise;
+            })
+        | inr k ↦ absurd (not_there (next_letter (drop 2 (sections p)) (drop 2 (sections old)) (codes "P") r k.1))
+      ]
+    ]
+
+-- there are no places without rows of pairs
+no_places : (es : List Student) (ks : List (Option ℕ)) → ArePlaces es ks → EndsPlaced ks → pair_rows es ks ≡ [] → ks ≡ []
+no_places es [] a e h = refl
+no_places [] (k ∷ ks) a e h = absurd a
+no_places (x ∷ es) (Some k ∷ ks) a e h = cc
+no_places (x ∷ es) (None ∷ []) a e h = cc
+no_places (x ∷ es) (None ∷ k ∷ ks) a e h = (let none : k ∷ ks ≡ [] = no_places es (k ∷ ks) a.1 e h in cc)
+
+-- a student's line goes on only where the draft takes it
+pub student_only : (old : Parts) (r : Row) → IsDraft old → GoesOn old (codes "C") r → (e : Student) × TakesStudent old r e
+student_only old r d g =
+    let p : Parts = g.parts in
+    elim g.next [
+      | inl i ↦ absurd (omega (arith, same 83 67 i.0))
+      | inr j ↦ elim j.1 [
+        | inl i ↦ absurd (omega (arith, same 80 67 i.0))
+        | inr k ↦ elim k.1 [
+          | inl i ↦
+              let n : ℕ = length old.instance.students in
+              let f = front student_row (λ (e : Student). e.code) student_code p.instance.students old.instance.students r i.1.0 i.1.1 in
+              let within = within_get p.instance.students n f.e f.here in
+              let listed = all_found (λ (e : Student). IsSoundList (project_codes p.instance) e.list) p.instance.students n f.e g.valid.listed f.here in
+              (f.e, record {
+                turn = no_places old.instance.students old.places d.places d.last_place i.2.0;
+                prices = no_prices_of old d i.2.1.0 i.2.1.1.0 i.2.1.1.1.0;
+                is = f.is;
+                form = all_found (λ c. IsTrue (is_code c)) (student_codes p.instance) n f.e.code g.valid.students.form (get_mapped (λ (e : Student). e.code) p.instance.students n f.e f.here);
+                list = subst (λ (l : List (List ℕ)). IsSoundList l f.e.list) (same_codes project_row (λ (e : Project). e.code) project_code p.instance.projects old.instance.projects k.0) listed;
+                few = omega (arith, within, g.valid.within.students);
+                next = front_rises student_row (λ (e : Student). e.code) p.instance.students old.instance.students r f g.valid.students.rise;
+              })
+          | inr m ↦ absurd (not_there (next_letter (drop 3 (sections p)) (drop 3 (sections old)) (codes "C") r m.1))
+        ]
+      ]
+    ]
+
+-- students with the same rows are the same
+same_students : (xs ys : List Student) → map student_row xs ≡ map student_row ys → xs ≡ ys
+same_students [] [] e = refl
+same_students [] (y ∷ ys) e = cc
+same_students (x ∷ xs) [] e = cc
+same_students (x ∷ xs) (y ∷ ys) e =
+    let code : x.code ≡ y.code = cc in
+    let list : x.list ≡ y.list = cc in
+    let rest : map student_row xs ≡ map student_row ys = cc in
+    ap (λ (c : List ℕ). (let s : Student = record { code = c; list = x.list } in s) ∷ xs) code
+    ∙ ap (λ (l : List (List ℕ)). (let s : Student = record { code = y.code; list = l } in s) ∷ xs) list
+    ∙ ap (λ (l : List Student). y ∷ l) (same_students xs ys rest)
+
+-- the pair that a row is of, after the first n students
+pub record PairAt (es : List Student) (ks : List (Option ℕ)) (n : ℕ) (r : Row) : Type 0 where
+  pub at : ℕ
+  pub place : ℕ
+  pub student : Student
+  pub here : slice_get es at ≡ Some student
+  pub placed : slice_get ks at ≡ Some (Some place)
+  pub later : n ≤ at
+  pub is : r ≡ student.code ∷ code_at student.list place ∷ []
+
+-- the same of one student more in front
+behind : (x : Student) (k : Option ℕ) (es : List Student) (ks : List (Option ℕ)) (m n : ℕ) (r : Row) → n ≤ suc m → PairAt es ks m r → PairAt (x ∷ es) (k ∷ ks) n r
+behind x k es ks m n r h a = (let l = a.later in record { at = suc a.at; place = a.place; student = a.student; here = a.here; placed = a.placed; later = omega arith; is = a.is })
+
+-- the first pair
+first_pair : (es : List Student) (ks : List (Option ℕ)) (r : Row) (more : List Row) → pair_rows es ks ≡ r ∷ more → PairAt es ks 0 r
+first_pair [] ks r more e = cc
+first_pair (x ∷ es) [] r more e = cc
+first_pair (x ∷ es) (None ∷ ks) r more e = behind x None es ks 0 0 r (omega arith) (first_pair es ks r more e)
+first_pair (x ∷ es) (Some k ∷ ks) r more e = record { at = 0; place = k; student = x; here = refl; placed = refl; later = omega arith; is = cc }
+
+-- places that end with one have a first pair
+some_pair : (es : List Student) (ks : List (Option ℕ)) → ArePlaces es ks → EndsPlaced ks → 0 < length ks → (r : Row) × (more : List Row) × (pair_rows es ks ≡ r ∷ more)
+some_pair es [] a e h = absurd (omega arith)
+some_pair [] (k ∷ ks) a e h = absurd a
+some_pair (x ∷ es) (Some k ∷ ks) a e h = (x.code ∷ code_at x.list k ∷ [], pair_rows es ks, refl)
+some_pair (x ∷ es) (None ∷ []) a e h = cc
+some_pair (x ∷ es) (None ∷ k ∷ ks) a e h = some_pair es (k ∷ ks) a.1 e (omega arith)
+
+-- a code stands before all others of a roll that rises
+before_others : (x : Student) (es : List Student) (n : ℕ) (y : Student) → Rise (map (λ (e : Student). e.code) (x ∷ es)) → slice_get es n ≡ Some y → x.code ≡ y.code → ⊥
+before_others x es n y rise here e =
+    let coded : slice_get (map (λ (e : Student). e.code) es) n ≡ Some y.code = get_mapped (λ (e : Student). e.code) es n y here in
+    let found : get_or (map (λ (e : Student). e.code) es) n [] ≡ y.code = get_found (map (λ (e : Student). e.code) es) n y.code [] coded in
+    cmp_apart x.code (get_or (map (λ (e : Student). e.code) es) n []) (rise 0 (suc n) [] (omega arith) (let w = within_get (map (λ (e : Student). e.code) es) n y.code coded in omega (arith, w))) (e ∙ sym found)
+
+-- the roll after its first entry rises
+rise_tail : (c : List ℕ) (cs : List (List ℕ)) → Rise (c ∷ cs) → Rise cs
+rise_tail c cs rise i j d h l = rise (suc i) (suc j) d (omega arith) (omega arith)
+
+-- what ends with a place does so after its first
+ends_tail : (k : Option ℕ) (ks : List (Option ℕ)) → EndsPlaced (k ∷ ks) → EndsPlaced ks
+ends_tail k [] e = tt
+ends_tail k (j ∷ ks) e = e
+
+-- nobody's place is not the last
+ends_none : (ks : List (Option ℕ)) → EndsPlaced (None ∷ ks) → 0 < length ks
+ends_none [] e = cc
+ends_none (j ∷ ks) e = omega arith
+
+-- the next pair
+pub next_pair : (es : List Student) (ks ls : List (Option ℕ)) (r : Row) (more : List Row) → Rise (map (λ e. e.code) es) → ArePlaces es ls → EndsPlaced ls → pair_rows es ks ≡ pair_rows es ls ++ r ∷ more → PairAt es ks (length ls) r
+next_pair [] ks [] r more rise a e h = cc
+next_pair [] ks (l ∷ ls) r more rise a e h = absurd a
+next_pair (x ∷ es) ks [] r more rise a e h = first_pair (x ∷ es) ks r more h
+next_pair (x ∷ es) [] (None ∷ ls) r more rise a e h =
+    let first = some_pair es ls a.1 (ends_tail None ls e) (ends_none ls e) in
+    let there : pair_rows es ls ++ r ∷ more ≡ first.0 ∷ (first.1 ++ r ∷ more) = ap (λ (l : List Row). l ++ r ∷ more) first.2 in
+    cc
+next_pair (x ∷ es) [] (Some l ∷ ls) r more rise a e h = cc
+next_pair (x ∷ es) (None ∷ ks) (None ∷ ls) r more rise a e h =
+    behind x None es ks (length ls) (suc (length ls)) r (omega arith) (next_pair es ks ls r more (rise_tail x.code (map (λ (e : Student). e.code) es) rise) a.1 (ends_tail None ls e) h)
+next_pair (x ∷ es) (Some k ∷ ks) (None ∷ ls) r more rise a e h =
+    let first = some_pair es ls a.1 (ends_tail None ls e) (ends_none ls e) in
+    let pair = first_pair es ls first.0 first.1 first.2 in
+    let is = pair.is in
+    let there : (x.code ∷ code_at x.list k ∷ []) ∷ pair_rows es ks ≡ first.0 ∷ (first.1 ++ r ∷ more) = h ∙ ap (λ (l : List Row). l ++ r ∷ more) first.2 in
+    let same : x.code ≡ pair.student.code = cc in
+    absurd (before_others x es pair.at pair.student rise pair.here same)
+next_pair (x ∷ es) (None ∷ ks) (Some l ∷ ls) r more rise a e h =
+    let first = first_pair es ks (x.code ∷ code_at x.list l ∷ []) (pair_rows es ls ++ r ∷ more) h in
+    let is = first.is in
+    let same : x.code ≡ first.student.code = cc in
+    absurd (before_others x es first.at first.student rise first.here same)
+next_pair (x ∷ es) (Some k ∷ ks) (Some l ∷ ls) r more rise a e h =
+    let rest : pair_rows es ks ≡ pair_rows es ls ++ r ∷ more = cc in
+    behind x (Some k) es ks (length ls) (suc (length ls)) r (omega arith) (next_pair es ks ls r more (rise_tail x.code (map (λ (e : Student). e.code) es) rise) a.1 (ends_tail (Some l) ls e) rest)
