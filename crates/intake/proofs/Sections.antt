@@ -9,7 +9,7 @@ use Rattle.std.proofs.lemmas.List.{map-append}
 use Rattle.std.proofs.lemmas.List.Elements.{All-head, All-tail}
 use Rattle.std.proofs.lemmas.List.Splits.{slice_split_none, slice_split_at}
 use Rattle.intake.specs.Lines.{Row, Section, line, section_lines}
-use Rattle.intake.specs.Draft.{IsField}
+use Rattle.intake.specs.Draft.{IsField, IsFree}
 
 -- the fields of a line
 abbrev pub fields_of : List ℕ → List (List ℕ)
@@ -25,10 +25,10 @@ abbrev pub full : List Section → List (List (List ℕ))
 full [] = []
 full (s ∷ ss) = map (λ r. s.letter ∷ r) s.rows ++ full ss
 
--- no field has a comma in it
-abbrev pub Plain : List Section → Type 0
-Plain [] = ⊤
-Plain (s ∷ ss) = All (λ r. All IsField (s.letter ∷ r)) s.rows × Plain ss
+-- the byte c stands in no field
+abbrev pub Plain : ℕ → List Section → Type 0
+Plain c [] = ⊤
+Plain c (s ∷ ss) = All (λ r. All (IsFree c) (s.letter ∷ r)) s.rows × Plain c ss
 
 -- the fields of the lines of a section
 section_back : (l : List ℕ) (rows : List Row) → All (λ r. All IsField (l ∷ r)) rows → map fields_of (map (line l) rows) ≡ map (λ r. l ∷ r) rows
@@ -38,7 +38,7 @@ section_back l (r ∷ rows) h =
     ∙ ap (λ (fs : List (List (List ℕ))). (l ∷ r) ∷ fs) (section_back l rows (All-tail (λ r. All IsField (l ∷ r)) r rows h))
 
 -- and of all sections
-pub sections_back : (ss : List Section) → Plain ss → map fields_of (flat_map section_lines ss) ≡ full ss
+pub sections_back : (ss : List Section) → Plain 44 ss → map fields_of (flat_map section_lines ss) ≡ full ss
 sections_back [] h = refl
 sections_back (s ∷ ss) h =
     map-append fields_of (section_lines s) (flat_map section_lines ss) ∙ ap (λ (l : List (List (List ℕ))). l ++ map fields_of (flat_map section_lines ss)) (section_back s.letter s.rows h.0)

@@ -290,3 +290,204 @@ next_pair (x ∷ es) (None ∷ ks) (Some l ∷ ls) r more rise a e h =
 next_pair (x ∷ es) (Some k ∷ ks) (Some l ∷ ls) r more rise a e h =
     let rest : pair_rows es ks ≡ pair_rows es ls ++ r ∷ more = cc in
     behind x (Some k) es ks (length ls) (suc (length ls)) r (omega arith) (next_pair es ks ls r more (rise_tail x.code (map (λ (e : Student). e.code) es) rise) a.1 (ends_tail (Some l) ls e) rest)
+
+-- a place of a student is one of the list
+zip_place : (es : List Student) (ks : List (Option ℕ)) (s k : ℕ) (e : Student) → AllZip IsPlace es ks → slice_get es s ≡ Some e → slice_get ks s ≡ Some (Some k) → k < length e.list
+zip_place [] ks s k e z h i = cc
+zip_place (x ∷ es) [] s k e z h i = absurd z
+zip_place (x ∷ es) (None ∷ ks) zero k e z h i = cc
+zip_place (x ∷ es) (Some j ∷ ks) zero k e z h i =
+    let student : x ≡ e = cc in
+    let place : j ≡ k = cc in
+    let l : j < length x.list = z.0 in
+    subst (λ (y : Student). k < length y.list) student (subst (λ (n : ℕ). n < length x.list) place l)
+zip_place (x ∷ es) (j ∷ ks) (suc s) k e z h i = zip_place es ks s k e z.1 h i
+
+-- a pair's line goes on only where the draft takes it
+pub pair_only : (old : Parts) (r : Row) → IsDraft old → GoesOn old (codes "M") r → (s k : ℕ) × TakesPair old r s k
+pair_only old r d g =
+    let p : Parts = g.parts in
+    elim g.next [
+      | inl i ↦ absurd (omega (arith, same 83 77 i.0))
+      | inr j ↦ elim j.1 [
+        | inl i ↦ absurd (omega (arith, same 80 77 i.0))
+        | inr k ↦ elim k.1 [
+          | inl i ↦ absurd (omega (arith, same 67 77 i.0))
+          | inr m ↦ elim m.1 [
+            | inl i ↦
+                let students : p.instance.students ≡ old.instance.students = same_students p.instance.students old.instance.students m.0 in
+                let rows : pair_rows old.instance.students p.places ≡ pair_rows old.instance.students old.places ++ r ∷ i.1.0 = ap (λ (l : List Student). pair_rows l p.places) (sym students) ∙ i.1.1 in
+                let a = next_pair old.instance.students p.places old.places r i.1.0 d.students.rise d.places d.last_place rows in
+                let zipped : AllZip IsPlace old.instance.students p.places = subst (λ (l : List Student). AllZip IsPlace l p.places) students g.valid.places in
+                (a.at, a.place, record {
+                  prices = no_prices_of old d i.2.0 i.2.1.0 i.2.1.1.0;
+                  student = a.student;
+                  here = a.here;
+                  later = a.later;
+                  place = zip_place old.instance.students p.places a.at a.place a.student zipped a.here a.placed;
+                  is = a.is;
+                })
+            | inr u ↦ absurd (not_there (next_letter (drop 4 (sections p)) (drop 4 (sections old)) (codes "M") r u.1))
+          ]
+        ]
+      ]
+    ]
+
+-- the price that a row is of
+pub record PriceAt (cs : List (List ℕ)) (us : List (List ℤ)) (n : ℕ) (r : Row) : Type 0 where
+  pub v : List ℤ
+  pub here : slice_get us n ≡ Some v
+  pub few : n < length cs
+  pub is : r ≡ code_at cs n ∷ map signed_decimal v
+
+-- the next price
+next_price : (cs : List (List ℕ)) (us vs : List (List ℤ)) (r : Row) (more : List Row) → length vs ≤ length cs → price_rows cs us ≡ price_rows cs vs ++ r ∷ more → PriceAt cs us (length vs) r
+next_price [] us [] r more h e = cc
+next_price [] us (v ∷ vs) r more h e = absurd (omega arith)
+next_price (c ∷ cs) [] [] r more h e = cc
+next_price (c ∷ cs) [] (v ∷ vs) r more h e = cc
+next_price (c ∷ cs) (u ∷ us) [] r more h e = record { v = u; here = refl; few = omega arith; is = cc }
+next_price (c ∷ cs) (u ∷ us) (v ∷ vs) r more h e =
+    let rest : price_rows cs us ≡ price_rows cs vs ++ r ∷ more = cc in
+    let a = next_price cs us vs r more (omega arith) rest in
+    let few = a.few in
+    record { v = a.v; here = a.here; few = omega arith; is = a.is }
+
+-- the price that goes on is one that may be taken
+takes_price : {X : Type 0} (code : X → List ℕ) (es : List X) (us vs : List (List ℤ)) (r : Row) (more : List Row) → length vs ≤ length es → All IsPrice us → price_rows (map code es) us ≡ price_rows (map code es) vs ++ r ∷ more → (v : List ℤ) × TakesPrice (map code es) vs r v
+takes_price code es us vs r more h all e =
+    let a = next_price (map code es) us vs r more (omega (arith, length-map es code)) e in
+    (a.v, record { few = a.few; is = a.is; price = all_found IsPrice us (length vs) a.v all a.here })
+
+-- as many prices as another text has, of as many entries
+none_or_all : {X : Type 0} (code : X → List ℕ) (new old : List X) (us vs : List (List ℤ)) → ((length us ≡ 0) ⊎ (length us ≡ length new)) → length vs ≤ length old → map code new ≡ map code old → price_rows (map code new) us ≡ price_rows (map code old) vs → NoneOrAll (length old) vs
+none_or_all code new old us vs w h same rows =
+    let many : length new ≡ length old = sym (length-map new code) ∙ ap length same ∙ length-map old code in
+    let few : length us ≤ length (map code new) = (elim w [ inl z ↦ omega arith | inr all ↦ omega (arith, length-map new code) ]) in
+    let count : length us ≡ length vs = sym (price_count (map code new) us few) ∙ ap length rows ∙ price_count (map code old) vs (omega (arith, length-map old code)) in
+    elim w [ inl z ↦ inl (omega arith) | inr all ↦ inr (omega arith) ]
+
+-- the line of a student's price goes on only where the draft takes it
+pub student_price_only : (old : Parts) (r : Row) → IsDraft old → GoesOn old (codes "U") r → (v : List ℤ) × TakesStudentPrice old r v
+student_price_only old r d g =
+    let p : Parts = g.parts in
+    elim g.next [
+      | inl i ↦ absurd (omega (arith, same 83 85 i.0))
+      | inr j ↦ elim j.1 [
+        | inl i ↦ absurd (omega (arith, same 80 85 i.0))
+        | inr k ↦ elim k.1 [
+          | inl i ↦ absurd (omega (arith, same 67 85 i.0))
+          | inr m ↦ elim m.1 [
+            | inl i ↦ absurd (omega (arith, same 77 85 i.0))
+            | inr u ↦ elim u.1 [
+              | inl i ↦
+                  let roll : student_codes p.instance ≡ student_codes old.instance = same_codes student_row (λ (e : Student). e.code) student_code p.instance.students old.instance.students m.0 in
+                  let rows : price_rows (student_codes old.instance) p.student_prices ≡ price_rows (student_codes old.instance) old.student_prices ++ r ∷ i.1.0 = ap (λ (l : List (List ℕ)). price_rows l p.student_prices) (sym roll) ∙ i.1.1 in
+                  let t = takes_price (λ (e : Student). e.code) old.instance.students p.student_prices old.student_prices r i.1.0 d.student_prices.few g.valid.student_prices.prices rows in
+                  (t.0, record {
+                    projects = no_prices (λ (e : Project). e.code) old.instance.projects old.project_prices d.project_prices.few i.2.0;
+                    supervisors = no_prices (λ (e : Supervisor). e.code) old.instance.supervisors old.supervisor_prices d.supervisor_prices.few i.2.1.0;
+                    price = t.1;
+                  })
+              | inr y ↦ absurd (not_there (next_letter (drop 5 (sections p)) (drop 5 (sections old)) (codes "U") r y.1))
+            ]
+          ]
+        ]
+      ]
+    ]
+
+-- the line of a project's price goes on only where the draft takes it
+pub project_price_only : (old : Parts) (r : Row) → IsDraft old → GoesOn old (codes "Y") r → (v : List ℤ) × TakesProjectPrice old r v
+project_price_only old r d g =
+    let p : Parts = g.parts in
+    elim g.next [
+      | inl i ↦ absurd (omega (arith, same 83 89 i.0))
+      | inr j ↦ elim j.1 [
+        | inl i ↦ absurd (omega (arith, same 80 89 i.0))
+        | inr k ↦ elim k.1 [
+          | inl i ↦ absurd (omega (arith, same 67 89 i.0))
+          | inr m ↦ elim m.1 [
+            | inl i ↦ absurd (omega (arith, same 77 89 i.0))
+            | inr u ↦ elim u.1 [
+              | inl i ↦ absurd (omega (arith, same 85 89 i.0))
+              | inr y ↦ elim y.1 [
+                | inl i ↦
+                    let students : student_codes p.instance ≡ student_codes old.instance = same_codes student_row (λ (e : Student). e.code) student_code p.instance.students old.instance.students m.0 in
+                    let roll : project_codes p.instance ≡ project_codes old.instance = same_codes project_row (λ (e : Project). e.code) project_code p.instance.projects old.instance.projects k.0 in
+                    let rows : price_rows (project_codes old.instance) p.project_prices ≡ price_rows (project_codes old.instance) old.project_prices ++ r ∷ i.1.0 = ap (λ (l : List (List ℕ)). price_rows l p.project_prices) (sym roll) ∙ i.1.1 in
+                    let t = takes_price (λ (e : Project). e.code) old.instance.projects p.project_prices old.project_prices r i.1.0 d.project_prices.few g.valid.project_prices.prices rows in
+                    (t.0, record {
+                      supervisors = no_prices (λ (e : Supervisor). e.code) old.instance.supervisors old.supervisor_prices d.supervisor_prices.few i.2.0;
+                      students = none_or_all (λ (e : Student). e.code) p.instance.students old.instance.students p.student_prices old.student_prices g.valid.student_prices.none_or_all d.student_prices.few students y.0;
+                      price = t.1;
+                    })
+                | inr z ↦ absurd (not_there (next_letter (drop 6 (sections p)) (drop 6 (sections old)) (codes "Y") r z.1))
+              ]
+            ]
+          ]
+        ]
+      ]
+    ]
+
+-- the line of a supervisor's price goes on only where the draft takes it
+pub supervisor_price_only : (old : Parts) (r : Row) → IsDraft old → GoesOn old (codes "Z") r → (v : List ℤ) × TakesSupervisorPrice old r v
+supervisor_price_only old r d g =
+    let p : Parts = g.parts in
+    elim g.next [
+      | inl i ↦ absurd (omega (arith, same 83 90 i.0))
+      | inr j ↦ elim j.1 [
+        | inl i ↦ absurd (omega (arith, same 80 90 i.0))
+        | inr k ↦ elim k.1 [
+          | inl i ↦ absurd (omega (arith, same 67 90 i.0))
+          | inr m ↦ elim m.1 [
+            | inl i ↦ absurd (omega (arith, same 77 90 i.0))
+            | inr u ↦ elim u.1 [
+              | inl i ↦ absurd (omega (arith, same 85 90 i.0))
+              | inr y ↦ elim y.1 [
+                | inl i ↦ absurd (omega (arith, same 89 90 i.0))
+                | inr z ↦ elim z.1 [
+                  | inl i ↦
+                      let students : student_codes p.instance ≡ student_codes old.instance = same_codes student_row (λ (e : Student). e.code) student_code p.instance.students old.instance.students m.0 in
+                      let projects : project_codes p.instance ≡ project_codes old.instance = same_codes project_row (λ (e : Project). e.code) project_code p.instance.projects old.instance.projects k.0 in
+                      let roll : supervisor_codes p.instance ≡ supervisor_codes old.instance = same_codes supervisor_row (λ (e : Supervisor). e.code) supervisor_code p.instance.supervisors old.instance.supervisors j.0 in
+                      let rows : price_rows (supervisor_codes old.instance) p.supervisor_prices ≡ price_rows (supervisor_codes old.instance) old.supervisor_prices ++ r ∷ i.1.0 = ap (λ (l : List (List ℕ)). price_rows l p.supervisor_prices) (sym roll) ∙ i.1.1 in
+                      let t = takes_price (λ (e : Supervisor). e.code) old.instance.supervisors p.supervisor_prices old.supervisor_prices r i.1.0 d.supervisor_prices.few g.valid.supervisor_prices.prices rows in
+                      (t.0, record {
+                        students = none_or_all (λ (e : Student). e.code) p.instance.students old.instance.students p.student_prices old.student_prices g.valid.student_prices.none_or_all d.student_prices.few students y.0;
+                        projects = none_or_all (λ (e : Project). e.code) p.instance.projects old.instance.projects p.project_prices old.project_prices g.valid.project_prices.none_or_all d.project_prices.few projects z.0;
+                        price = t.1;
+                      })
+                  | inr o ↦ absurd o.1
+                ]
+              ]
+            ]
+          ]
+        ]
+      ]
+    ]
+
+-- a line with another letter goes on nowhere
+pub other_only : (old : Parts) (l : List ℕ) (r : Row) → GoesOn old l r → (l ≡ codes "S" → ⊥) → (l ≡ codes "P" → ⊥) → (l ≡ codes "C" → ⊥) → (l ≡ codes "M" → ⊥) → (l ≡ codes "U" → ⊥) → (l ≡ codes "Y" → ⊥) → (l ≡ codes "Z" → ⊥) → ⊥
+other_only old l r g s p c m u y z =
+    elim g.next [
+      | inl i ↦ s (sym i.0)
+      | inr a ↦ elim a.1 [
+        | inl i ↦ p (sym i.0)
+        | inr a ↦ elim a.1 [
+          | inl i ↦ c (sym i.0)
+          | inr a ↦ elim a.1 [
+            | inl i ↦ m (sym i.0)
+            | inr a ↦ elim a.1 [
+              | inl i ↦ u (sym i.0)
+              | inr a ↦ elim a.1 [
+                | inl i ↦ y (sym i.0)
+                | inr a ↦ elim a.1 [
+                  | inl i ↦ z (sym i.0)
+                  | inr a ↦ a.1
+                ]
+              ]
+            ]
+          ]
+        ]
+      ]
+    ]

@@ -194,9 +194,13 @@ abbrev pub line_of : List (List ℕ) → List ℕ
 line_of [] = []
 line_of (letter ∷ row) = line letter row
 
+-- the byte c does not stand in a text
+abbrev pub IsFree : ℕ → List ℕ → Type 0
+IsFree c text = All (λ b. (b == c) ≡ false) text
+
 -- a field has no comma in it
 abbrev pub IsField : List ℕ → Type 0
-IsField f = All (λ b. (b == 44) ≡ false) f
+IsField f = IsFree 44 f
 
 -- nothing was read
 abbrev pub nothing : Parts

@@ -1,15 +1,27 @@
-use Rattle.std.proofs.Common.{◌≡◌, ℕ, Bool, List, map, ◌∷◌, [], codes, sym, ap, subst, ◌∙◌}
+use Rattle.std.proofs.Common.{◌≡◌, ℕ, Bool, List, length, arith, map, ◌∷◌, [], codes, sym, ap, subst, ◌∙◌}
 use denote.Ref.{Bor}
+use Rattle.std.proofs.lemmas.List.{length-map}
 use Rattle.std.proofs.lemmas.Result.{IfOk-weaker}
 use Rattle.intake.specs.Draft.{draft_of, AddsLine, line_of, AddsSupervisor, AddsProject, AddsStudent, AddsPair, AddsStudentPrice, AddsProjectPrice, AddsSupervisorPrice}
-use Rattle.intake.proofs.Added.{supervisor_line, project_line, student_line, pair_line, student_price_line, project_price_line, supervisor_price_line, moved_line, fields_after, other_letter}
+use Rattle.intake.proofs.Added.{supervisor_line, project_line, student_line, pair_line, student_price_line, project_price_line, supervisor_price_line, no_line, moved_line, fields_after, other_letter}
+use Rattle.intake.proofs.Lists.{first_field}
 use Rattle.intake.proofs.draft.Draft.add.Goals as goal
 
 pub returns-in_default : goal.returns-in_default
-returns-in_default c = ?
+returns-in_default c = no_line _ _ c.requires.draft c.requires.fields (λ l row e. absurd (omega (arith, ap length e, length-map c.args.fields.now (λ (f : Bor (List ℕ)). f.now), c.in_default.ensures.cases)))
 
 pub returns : goal.returns
-returns c = ?
+returns c = no_line _ _ c.requires.draft c.requires.fields (λ l row e.
+    let fields = ap (map (λ (f : Bor (List ℕ)). f.now)) c.in-Some.ensures.cases.0 in
+    let same : l ≡ c.in-Some.letter.now.now = first_field _ _ _ _ (sym e ∙ fields) in (
+      λ f. other_letter _ _ _ c.is_letter.ensures.1 c.if-is_letter.false (sym same ∙ f),
+      λ f. other_letter _ _ _ c.is_letter-2.ensures.1 c.if-is_letter-2.false (sym same ∙ f),
+      λ f. other_letter _ _ _ c.is_letter-3.ensures.1 c.if-is_letter-3.false (sym same ∙ f),
+      λ f. other_letter _ _ _ c.is_letter-4.ensures.1 c.if-is_letter-4.false (sym same ∙ f),
+      λ f. other_letter _ _ _ c.is_letter-5.ensures.1 c.if-is_letter-5.false (sym same ∙ f),
+      λ f. other_letter _ _ _ c.is_letter-6.ensures.1 c.if-is_letter-6.false (sym same ∙ f),
+      λ f. other_letter _ _ _ c.is_letter-7.ensures.1 c.if-is_letter-7.false (sym same ∙ f),
+    ))
 
 pub returns-then-is_letter : goal.returns-then-is_letter
 returns-then-is_letter c =
