@@ -21,7 +21,7 @@ use Rattle.intake.specs.Lines.{Row, Section, line, section_lines, sections, roun
 use Rattle.intake.specs.Reading.{Begins}
 use Rattle.intake.specs.Draft.{IsDraft, IsField, IsFree}
 use Rattle.intake.proofs.Numbers.{code_bytes, small}
-use Rattle.intake.proofs.Sections.{fields_of, fields_back, full, Plain, sections_back, Next, next_section}
+use Rattle.intake.proofs.Sections.{fields_of, fields_back, full, Plain, sections_back, Next, next_section, SameRows, same_rows}
 
 -- a byte of a code is at least a dash
 code_byte_high : (b : ℕ) → is_code_byte b ≡ true → 45 ≤ b
@@ -140,7 +140,7 @@ module _ (c : ℕ) (low : c < 45) where
       (prices_plain b cs vs l (All-tail (λ x. IsTrue (is_code x)) x cs f) (All-tail IsPrice v vs p))
 
   -- no field of a draft has a comma in it
-  draft_plain : (p : Parts) → IsDraft p → Plain c (sections p)
+  pub draft_plain : (p : Parts) → IsDraft p → Plain c (sections p)
   draft_plain p d = 
       (supervisors_plain p.instance.supervisors d.supervisors.form d.within.supervisor_quotas,
       (projects_plain (supervisor_codes p.instance) p.instance.projects d.supervisors d.projects.form d.within.project_quotas d.offered,
@@ -152,7 +152,7 @@ module _ (c : ℕ) (low : c < 45) where
       tt)))))))
 
   -- nor of the parts of a text
-  parts_plain : (p : Parts) → IsRoundParts p → Plain c (sections p)
+  pub parts_plain : (p : Parts) → IsRoundParts p → Plain c (sections p)
   parts_plain p d = 
       (supervisors_plain p.instance.supervisors d.supervisors.form d.within.supervisor_quotas,
       (projects_plain (supervisor_codes p.instance) p.instance.projects d.supervisors d.projects.form d.within.project_quotas d.offered,
@@ -184,3 +184,9 @@ goes_on old l r d f b =
       valid = b.2;
       next = next_section (sections p) (sections old) l r (map fields_of b.1) e (refl, (refl, (refl, (refl, (refl, (refl, (refl, tt))))))) refl refl;
     }
+
+-- parts whose lines are those of a draft have its rows
+pub rows_alike : (old p : Parts) → IsDraft old → IsRoundParts p → round_lines p ≡ round_lines old → SameRows (sections p) (sections old)
+rows_alike old p d v h =
+    same_rows (sections p) (sections old) (sym (sections_back (sections p) (parts_plain 44 (omega arith) p v)) ∙ ap (map fields_of) h ∙ sections_back (sections old) (draft_plain 44 (omega arith) old d))
+    (refl, (refl, (refl, (refl, (refl, (refl, (refl, tt))))))) refl refl

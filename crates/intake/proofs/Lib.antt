@@ -7,6 +7,7 @@ mod Lists
 mod Numbers
 mod Order
 mod Pairing
+mod Pieces
 mod Rolls
 mod Sections
 mod Steps

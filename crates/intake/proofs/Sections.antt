@@ -6,7 +6,7 @@ use Rattle.std.specs.Prelude.{◌==◌, ◌&&◌, ⊤}
 use Rattle.std.proofs.lemmas.Bool.Decides.{not_from_Decides}
 use Rattle.std.proofs.lemmas.Slice.Eq.{bytes_eq-Decides}
 use Rattle.std.proofs.lemmas.List.{map-append}
-use Rattle.std.proofs.lemmas.List.Elements.{All-head, All-tail}
+use Rattle.std.proofs.lemmas.List.Elements.{All-nil, All-cons, All-append, All-head, All-tail}
 use Rattle.std.proofs.lemmas.List.Splits.{slice_split_none, slice_split_at}
 use Rattle.intake.specs.Lines.{Row, Section, line, section_lines}
 use Rattle.intake.specs.Draft.{IsField, IsFree}
@@ -162,3 +162,49 @@ next_section (s ∷ ss) (d ∷ ds) l r rest h same a b =
       | inl i ↦ inl i
       | inr j ↦ inr (j.0, next_section ss ds l r rest j.1 same.1 sa.1 da.1)
     ]
+
+-- the rows of two texts, section by section
+abbrev pub SameRows : List Section → List Section → Type 0
+SameRows [] ds = ⊤
+SameRows (s ∷ ss) [] = ⊤
+SameRows (s ∷ ss) (d ∷ ds) = (s.rows ≡ d.rows) × SameRows ss ds
+
+-- sections with the same rows in all have the same rows in the first
+alike : (x : List ℕ) (xs ys : List Row) (ss ds : List Section) → map (λ r. x ∷ r) xs ++ full ss ≡ map (λ r. x ∷ r) ys ++ full ds → has_letter x ss ≡ false → has_letter x ds ≡ false → (xs ≡ ys) × (full ss ≡ full ds)
+alike x [] [] ss ds h p q = (refl, h)
+alike x [] (b ∷ ys) ss ds h p q = absurd (first_letter ss x b (map (λ r. x ∷ r) ys ++ full ds) h p)
+alike x (a ∷ xs) [] ss ds h p q = absurd (first_letter ds x a (map (λ r. x ∷ r) xs ++ full ss) (sym h) q)
+alike x (a ∷ xs) (b ∷ ys) ss ds h p q =
+    let same : a ≡ b = cc in
+    let tail : map (λ r. x ∷ r) xs ++ full ss ≡ map (λ r. x ∷ r) ys ++ full ds = cc in
+    let rest = alike x xs ys ss ds tail p q in
+    (ap (λ (l : List Row). a ∷ l) rest.0 ∙ ap (λ (y : Row). y ∷ ys) same, rest.1)
+
+-- and in each
+pub same_rows : (ss ds : List Section) → full ss ≡ full ds → SameLetters ss ds → are_apart ss ≡ true → are_apart ds ≡ true → SameRows ss ds
+same_rows [] ds h same a b = tt
+same_rows (s ∷ ss) [] h same a b = tt
+same_rows (s ∷ ss) (d ∷ ds) h same a b =
+    let sa = both (not (has_letter s.letter ss)) (are_apart ss) a in
+    let da = both (not (has_letter d.letter ds)) (are_apart ds) b in
+    let e : map (λ r. s.letter ∷ r) s.rows ++ full ss ≡ map (λ r. s.letter ∷ r) d.rows ++ full ds = h ∙ ap (λ (x : List ℕ). map (λ r. x ∷ r) d.rows ++ full ds) same.0 in
+    let here = alike s.letter s.rows d.rows ss ds e (told (has_letter s.letter ss) sa.0) (ap (λ (x : List ℕ). has_letter x ds) (sym same.0) ∙ told (has_letter d.letter ds) da.0) in
+    (here.0, same_rows ss ds here.1 same.1 sa.1 da.1)
+
+-- a line of fields in which c does not stand
+line_free : (c : ℕ) (l : List ℕ) (r : Row) → (44 == c) ≡ false → All (IsFree c) (l ∷ r) → IsFree c (line l r)
+line_free c l r h f = All-append (λ b. (b == c) ≡ false) l (flat_map (λ g. 44 ∷ g) r) (All-head (IsFree c) l r f) (go r (All-tail (IsFree c) l r f))
+  where
+    go : (r : Row) → All (IsFree c) r → IsFree c (flat_map (λ g. 44 ∷ g) r)
+    go [] f = All-nil (λ b. (b == c) ≡ false)
+    go (g ∷ r) f = All-cons (λ b. (b == c) ≡ false) 44 (g ++ flat_map (λ g. 44 ∷ g) r) h (All-append (λ b. (b == c) ≡ false) g (flat_map (λ g. 44 ∷ g) r) (All-head (IsFree c) g r f) (go r (All-tail (IsFree c) g r f)))
+
+-- the lines of a section in which c does not stand
+section_free : (c : ℕ) (l : List ℕ) (rows : List Row) → (44 == c) ≡ false → All (λ r. All (IsFree c) (l ∷ r)) rows → All (IsFree c) (map (line l) rows)
+section_free c l [] h f = All-nil (IsFree c)
+section_free c l (r ∷ rows) h f = All-cons (IsFree c) (line l r) (map (line l) rows) (line_free c l r h (All-head (λ r. All (IsFree c) (l ∷ r)) r rows f)) (section_free c l rows h (All-tail (λ r. All (IsFree c) (l ∷ r)) r rows f))
+
+-- and of all sections
+pub lines_free : (c : ℕ) (ss : List Section) → (44 == c) ≡ false → Plain c ss → All (IsFree c) (flat_map section_lines ss)
+lines_free c [] h f = All-nil (IsFree c)
+lines_free c (s ∷ ss) h f = All-append (IsFree c) (section_lines s) (flat_map section_lines ss) (section_free c s.letter s.rows h f.0) (lines_free c ss h f.1)

@@ -153,7 +153,7 @@ count_none : {X : Type 0} (xs : List X) → xs ≡ [] → length xs ≡ 0
 count_none xs e = ap length e
 
 -- there are no rows of prices
-prices_none : (l : List ℕ) (cs : List (List ℕ)) (vs : List (List ℤ)) → vs ≡ [] → map (line l) (price_rows cs vs) ≡ []
+pub prices_none : (l : List ℕ) (cs : List (List ℕ)) (vs : List (List ℤ)) → vs ≡ [] → map (line l) (price_rows cs vs) ≡ []
 prices_none l cs vs e = lines_none l (price_rows cs vs) (ap (price_rows cs) e ∙ no_price_rows cs)
 
 -- there are no rows of pairs

@@ -13,13 +13,13 @@ use Rattle.spa.specs.Codes.{code_at}
 use Rattle.spa.specs.Instance.{Instance, Supervisor, Project, Student, supervisor_codes, project_codes, student_codes}
 use Rattle.spa.specs.Made.{IsSoundList}
 use Rattle.intake.specs.Parts.{Parts, Rise, IsRoll, IsPlace, IsPrice, IsRoundParts}
-use Rattle.intake.specs.Lines.{Row, Section, sections, supervisor_row, project_row, student_row, pair_rows, price_rows}
-use Rattle.intake.specs.Draft.{IsDraft, HasNoPrices, NoneOrAll, ArePlaces, EndsPlaced, TakesSupervisor, TakesProject, TakesStudent, TakesPair, TakesPrice, TakesStudentPrice, TakesProjectPrice, TakesSupervisorPrice}
+use Rattle.intake.specs.Lines.{Row, Section, sections, round_lines, supervisor_row, project_row, student_row, pair_rows, price_rows}
+use Rattle.intake.specs.Draft.{IsDraft, IsWhole, HasNoPrices, NoneOrAll, ArePlaces, EndsPlaced, TakesSupervisor, TakesProject, TakesStudent, TakesPair, TakesPrice, TakesStudentPrice, TakesProjectPrice, TakesSupervisorPrice}
 use Rattle.intake.proofs.Order.{cmp_apart, get_found}
 use Rattle.intake.proofs.Pairing.{all_found, get_mapped}
 use Rattle.intake.proofs.Rolls.{within_get}
 use Rattle.intake.proofs.Sections.{Next, NoRows, has_letter}
-use Rattle.intake.proofs.Goes.{GoesOn}
+use Rattle.intake.proofs.Goes.{GoesOn, rows_alike}
 
 -- a row's letter is one of the sections'
 pub next_letter : (ss ds : List Section) (l : List ℕ) (r : Row) → Next ss ds l r → has_letter l ss ≡ true
@@ -491,3 +491,16 @@ other_only old l r g s p c m u y z =
         ]
       ]
     ]
+
+-- a draft with all lines of a text may end
+pub whole_only : (old p : Parts) → IsDraft old → IsRoundParts p → round_lines p ≡ round_lines old → IsWhole old
+whole_only old p d v h =
+    let s = rows_alike old p d v h in
+    let supervisors : supervisor_codes p.instance ≡ supervisor_codes old.instance = same_codes supervisor_row (λ (e : Supervisor). e.code) supervisor_code p.instance.supervisors old.instance.supervisors s.0 in
+    let projects : project_codes p.instance ≡ project_codes old.instance = same_codes project_row (λ (e : Project). e.code) project_code p.instance.projects old.instance.projects s.1.0 in
+    let students : student_codes p.instance ≡ student_codes old.instance = same_codes student_row (λ (e : Student). e.code) student_code p.instance.students old.instance.students s.1.1.0 in
+    record {
+      students = none_or_all (λ (e : Student). e.code) p.instance.students old.instance.students p.student_prices old.student_prices v.student_prices.none_or_all d.student_prices.few students s.1.1.1.1.0;
+      projects = none_or_all (λ (e : Project). e.code) p.instance.projects old.instance.projects p.project_prices old.project_prices v.project_prices.none_or_all d.project_prices.few projects s.1.1.1.1.1.0;
+      supervisors = none_or_all (λ (e : Supervisor). e.code) p.instance.supervisors old.instance.supervisors p.supervisor_prices old.supervisor_prices v.supervisor_prices.none_or_all d.supervisor_prices.few supervisors s.1.1.1.1.1.1.0;
+    }
