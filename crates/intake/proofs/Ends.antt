@@ -183,7 +183,14 @@ begins_z p d h =
     let more = price_more (supervisor_codes p.instance) p.supervisor_prices (replicate (n - length p.supervisor_prices) zeros) (omega (arith, d.supervisor_prices.few, length-map p.instance.supervisors (λ (e : Supervisor). e.code))) in
     begins_by p q (map (line (codes "Z")) more.0)
     (record {
-      within = d.within; supervisors = d.supervisors; projects = d.projects; students = d.students; offered = d.offered; listed = d.listed; places = d.places; last_place = d.last_place;
+      within = d.within;
+      supervisors = d.supervisors;
+      projects = d.projects;
+      students = d.students;
+      offered = d.offered;
+      listed = d.listed;
+      places = d.places;
+      last_place = d.last_place;
       student_prices = d.student_prices;
       project_prices = d.project_prices;
       supervisor_prices = filled_prices n p.supervisor_prices d.supervisor_prices;
@@ -201,7 +208,14 @@ begins_y p d z h =
     let more = price_more (project_codes p.instance) p.project_prices (replicate (n - length p.project_prices) zeros) (omega (arith, d.project_prices.few, length-map p.instance.projects (λ (e : Project). e.code))) in
     begins_by p q (map (line (codes "Y")) more.0)
     (record {
-      within = d.within; supervisors = d.supervisors; projects = d.projects; students = d.students; offered = d.offered; listed = d.listed; places = d.places; last_place = d.last_place;
+      within = d.within;
+      supervisors = d.supervisors;
+      projects = d.projects;
+      students = d.students;
+      offered = d.offered;
+      listed = d.listed;
+      places = d.places;
+      last_place = d.last_place;
       student_prices = d.student_prices;
       project_prices = filled_prices n p.project_prices d.project_prices;
       supervisor_prices = d.supervisor_prices;
@@ -219,7 +233,14 @@ begins_u p d z y =
     let more = price_more (student_codes p.instance) p.student_prices (replicate (n - length p.student_prices) zeros) (omega (arith, d.student_prices.few, length-map p.instance.students (λ (e : Student). e.code))) in
     begins_by p q (map (line (codes "U")) more.0)
     (record {
-      within = d.within; supervisors = d.supervisors; projects = d.projects; students = d.students; offered = d.offered; listed = d.listed; places = d.places; last_place = d.last_place;
+      within = d.within;
+      supervisors = d.supervisors;
+      projects = d.projects;
+      students = d.students;
+      offered = d.offered;
+      listed = d.listed;
+      places = d.places;
+      last_place = d.last_place;
       student_prices = filled_prices n p.student_prices d.student_prices;
       project_prices = d.project_prices;
       supervisor_prices = d.supervisor_prices;

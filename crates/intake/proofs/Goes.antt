@@ -96,7 +96,7 @@ module _ (c : ℕ) (low : c < 45) where
       let owner = All-contains (λ x. IsTrue (is_code x)) known e.supervisor roll.form (All-head (λ (e : Project). Contains known e.supervisor) e es o) in
       All-cons (PlainRow (codes "P")) (project_row e) (map project_row es)
       (All-cons (IsFree c) (codes "P") (project_row e) (letter_plain 80 (apart 80 (omega arith))) (All-cons (IsFree c) e.code (e.supervisor ∷ decimal e.quota ∷ []) (code_plain e.code (All-head (λ x. IsTrue (is_code x)) e.code (map (λ e. e.code) es) f))
-        (All-cons (IsFree c) e.supervisor (decimal e.quota ∷ []) (code_plain e.supervisor owner) (one (decimal e.quota) (number_plain e.quota (omega (arith, few)))))))
+      (All-cons (IsFree c) e.supervisor (decimal e.quota ∷ []) (code_plain e.supervisor owner) (one (decimal e.quota) (number_plain e.quota (omega (arith, few)))))))
       (projects_plain known es roll (All-tail (λ x. IsTrue (is_code x)) e.code (map (λ e. e.code) es) f) (All-tail (λ q. q ≤ MOST_PLACES) e.quota (map (λ e. e.quota) es) q) (All-tail (λ (e : Project). Contains known e.supervisor) e es o))
 
   -- the rows of students
@@ -121,7 +121,7 @@ module _ (c : ℕ) (low : c < 45) where
   pairs_plain known (e ∷ es) (Some k ∷ ks) roll f o =
       All-cons (PlainRow (codes "M")) (e.code ∷ code_at e.list k ∷ []) (pair_rows es ks)
       (All-cons (IsFree c) (codes "M") (e.code ∷ code_at e.list k ∷ []) (letter_plain 77 (apart 77 (omega arith))) (All-cons (IsFree c) e.code (code_at e.list k ∷ []) (code_plain e.code (All-head (λ x. IsTrue (is_code x)) e.code (map (λ e. e.code) es) f))
-        (one (code_at e.list k) (at_plain e.list k (list_plain known e.list roll (All-head (λ (e : Student). IsSoundList known e.list) e es o))))))
+      (one (code_at e.list k) (at_plain e.list k (list_plain known e.list roll (All-head (λ (e : Student). IsSoundList known e.list) e es o))))))
       (pairs_plain known es ks roll (All-tail (λ x. IsTrue (is_code x)) e.code (map (λ e. e.code) es) f) (All-tail (λ (e : Student). IsSoundList known e.list) e es o))
 
   -- the numbers of a price
@@ -141,27 +141,53 @@ module _ (c : ℕ) (low : c < 45) where
 
   -- no field of a draft has a comma in it
   pub draft_plain : (p : Parts) → IsDraft p → Plain c (sections p)
-  draft_plain p d = 
-      (supervisors_plain p.instance.supervisors d.supervisors.form d.within.supervisor_quotas,
-      (projects_plain (supervisor_codes p.instance) p.instance.projects d.supervisors d.projects.form d.within.project_quotas d.offered,
-      (students_plain (project_codes p.instance) p.instance.students d.projects d.students.form d.listed,
-      (pairs_plain (project_codes p.instance) p.instance.students p.places d.projects d.students.form d.listed,
-      (prices_plain 85 (student_codes p.instance) p.student_prices (apart 85 (omega arith)) d.students.form d.student_prices.prices,
-      (prices_plain 89 (project_codes p.instance) p.project_prices (apart 89 (omega arith)) d.projects.form d.project_prices.prices,
-      (prices_plain 90 (supervisor_codes p.instance) p.supervisor_prices (apart 90 (omega arith)) d.supervisors.form d.supervisor_prices.prices,
-      tt)))))))
+  draft_plain p d = (
+    supervisors_plain p.instance.supervisors d.supervisors.form d.within.supervisor_quotas,
+    (
+      projects_plain (supervisor_codes p.instance) p.instance.projects d.supervisors d.projects.form d.within.project_quotas d.offered,
+      (
+        students_plain (project_codes p.instance) p.instance.students d.projects d.students.form d.listed,
+        (
+          pairs_plain (project_codes p.instance) p.instance.students p.places d.projects d.students.form d.listed,
+          (
+            prices_plain 85 (student_codes p.instance) p.student_prices (apart 85 (omega arith)) d.students.form d.student_prices.prices,
+            (
+              prices_plain 89 (project_codes p.instance) p.project_prices (apart 89 (omega arith)) d.projects.form d.project_prices.prices,
+              (
+                prices_plain 90 (supervisor_codes p.instance) p.supervisor_prices (apart 90 (omega arith)) d.supervisors.form d.supervisor_prices.prices,
+                tt,
+              ),
+            ),
+          ),
+        ),
+      ),
+    ),
+  )
 
   -- nor of the parts of a text
   pub parts_plain : (p : Parts) → IsRoundParts p → Plain c (sections p)
-  parts_plain p d = 
-      (supervisors_plain p.instance.supervisors d.supervisors.form d.within.supervisor_quotas,
-      (projects_plain (supervisor_codes p.instance) p.instance.projects d.supervisors d.projects.form d.within.project_quotas d.offered,
-      (students_plain (project_codes p.instance) p.instance.students d.projects d.students.form d.listed,
-      (pairs_plain (project_codes p.instance) p.instance.students p.places d.projects d.students.form d.listed,
-      (prices_plain 85 (student_codes p.instance) p.student_prices (apart 85 (omega arith)) d.students.form d.student_prices.prices,
-      (prices_plain 89 (project_codes p.instance) p.project_prices (apart 89 (omega arith)) d.projects.form d.project_prices.prices,
-      (prices_plain 90 (supervisor_codes p.instance) p.supervisor_prices (apart 90 (omega arith)) d.supervisors.form d.supervisor_prices.prices,
-      tt)))))))
+  parts_plain p d = (
+    supervisors_plain p.instance.supervisors d.supervisors.form d.within.supervisor_quotas,
+    (
+      projects_plain (supervisor_codes p.instance) p.instance.projects d.supervisors d.projects.form d.within.project_quotas d.offered,
+      (
+        students_plain (project_codes p.instance) p.instance.students d.projects d.students.form d.listed,
+        (
+          pairs_plain (project_codes p.instance) p.instance.students p.places d.projects d.students.form d.listed,
+          (
+            prices_plain 85 (student_codes p.instance) p.student_prices (apart 85 (omega arith)) d.students.form d.student_prices.prices,
+            (
+              prices_plain 89 (project_codes p.instance) p.project_prices (apart 89 (omega arith)) d.projects.form d.project_prices.prices,
+              (
+                prices_plain 90 (supervisor_codes p.instance) p.supervisor_prices (apart 90 (omega arith)) d.supervisors.form d.supervisor_prices.prices,
+                tt,
+              ),
+            ),
+          ),
+        ),
+      ),
+    ),
+  )
 
 -- the parts whose lines go on, and the section that the next row is in
 pub record GoesOn (old : Parts) (l : List ℕ) (r : Row) : Type 0 where
@@ -174,11 +200,11 @@ pub goes_on : (old : Parts) (l : List ℕ) (r : Row) → IsDraft old → All IsF
 goes_on old l r d f b =
     let p : Parts = b.0 in
     let e : full (sections p) ≡ full (sections old) ++ (l ∷ r) ∷ map fields_of b.1 =
-        sym (sections_back (sections p) (parts_plain 44 (omega arith) p b.2))
-        ∙ ap (map fields_of) (b.3 ∙ append_assoc (round_lines old) (line l r ∷ []) b.1)
-        ∙ map-append fields_of (round_lines old) (line l r ∷ b.1)
-        ∙ ap (λ (fs : List (List (List ℕ))). fs ++ fields_of (line l r) ∷ map fields_of b.1) (sections_back (sections old) (draft_plain 44 (omega arith) old d))
-        ∙ ap (λ (fs : List (List ℕ)). full (sections old) ++ fs ∷ map fields_of b.1) (fields_back l r f) in
+    sym (sections_back (sections p) (parts_plain 44 (omega arith) p b.2))
+    ∙ ap (map fields_of) (b.3 ∙ append_assoc (round_lines old) (line l r ∷ []) b.1)
+    ∙ map-append fields_of (round_lines old) (line l r ∷ b.1)
+    ∙ ap (λ (fs : List (List (List ℕ))). fs ++ fields_of (line l r) ∷ map fields_of b.1) (sections_back (sections old) (draft_plain 44 (omega arith) old d))
+    ∙ ap (λ (fs : List (List ℕ)). full (sections old) ++ fs ∷ map fields_of b.1) (fields_back l r f) in
     record {
       parts = p;
       valid = b.2;

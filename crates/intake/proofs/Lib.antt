@@ -1,4 +1,5 @@
 mod Adding
+mod Bad
 mod Ends
 mod Found
 mod Added

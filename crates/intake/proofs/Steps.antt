@@ -165,8 +165,7 @@ pub supervisor_step : (p : Parts) (row : Row) (e : Supervisor) → IsDraft p →
 supervisor_step p row e d t =
     let students = no_students p d t.turn in
     let places = no_places p d students in
-    let codes_are : supervisor_codes (with_supervisor p e).instance ≡ supervisor_codes p.instance ++ e.code ∷ [] = map_push (λ (e : Supervisor). e.code) p.instance.supervisors e in
-    (
+    let codes_are : supervisor_codes (with_supervisor p e).instance ≡ supervisor_codes p.instance ++ e.code ∷ [] = map_push (λ (e : Supervisor). e.code) p.instance.supervisors e in (
       record {
         within = record {
           supervisors = omega (arith, length_push p.instance.supervisors e, t.few);
@@ -189,22 +188,21 @@ supervisor_step p row e d t =
         projects_priced = d.projects_priced;
       },
       grow1 (map (line (codes "S")) (map supervisor_row p.instance.supervisors)) _ _ _ _ _ _ (map (line (codes "Z")) (price_rows (supervisor_codes p.instance) p.supervisor_prices)) _ (line (codes "S") row)
-        (lines_push (codes "S") (map supervisor_row p.instance.supervisors) _ row (map_push supervisor_row p.instance.supervisors e ∙ ap (λ (r : Row). map supervisor_row p.instance.supervisors ++ r ∷ []) (sym t.is)))
-        (lines_none (codes "P") _ (rows_none project_row p.instance.projects t.turn))
-        (lines_none (codes "C") _ (rows_none student_row p.instance.students students))
-        (pairs_none p.instance.students p.places places)
-        (prices_none (codes "U") (student_codes p.instance) p.student_prices t.prices.students)
-        (prices_none (codes "Y") (project_codes p.instance) p.project_prices t.prices.projects)
-        (prices_none (codes "Z") (supervisor_codes p.instance) p.supervisor_prices t.prices.supervisors)
-        (prices_none (codes "Z") (supervisor_codes (with_supervisor p e).instance) p.supervisor_prices t.prices.supervisors),
+          (lines_push (codes "S") (map supervisor_row p.instance.supervisors) _ row (map_push supervisor_row p.instance.supervisors e ∙ ap (λ (r : Row). map supervisor_row p.instance.supervisors ++ r ∷ []) (sym t.is)))
+          (lines_none (codes "P") _ (rows_none project_row p.instance.projects t.turn))
+          (lines_none (codes "C") _ (rows_none student_row p.instance.students students))
+          (pairs_none p.instance.students p.places places)
+          (prices_none (codes "U") (student_codes p.instance) p.student_prices t.prices.students)
+          (prices_none (codes "Y") (project_codes p.instance) p.project_prices t.prices.projects)
+          (prices_none (codes "Z") (supervisor_codes p.instance) p.supervisor_prices t.prices.supervisors)
+          (prices_none (codes "Z") (supervisor_codes (with_supervisor p e).instance) p.supervisor_prices t.prices.supervisors),
     )
 
 -- a project more
 pub project_step : (p : Parts) (row : Row) (e : Project) → IsDraft p → TakesProject p row e → IsDraft (with_project p e) × (round_lines (with_project p e) ≡ round_lines p ++ line (codes "P") row ∷ [])
 project_step p row e d t =
     let places = no_places p d t.turn in
-    let codes_are : project_codes (with_project p e).instance ≡ project_codes p.instance ++ e.code ∷ [] = map_push (λ (e : Project). e.code) p.instance.projects e in
-    (
+    let codes_are : project_codes (with_project p e).instance ≡ project_codes p.instance ++ e.code ∷ [] = map_push (λ (e : Project). e.code) p.instance.projects e in (
       record {
         within = record {
           supervisors = d.within.supervisors;
@@ -227,20 +225,19 @@ project_step p row e d t =
         projects_priced = λ h. inl (count_none p.project_prices t.prices.projects);
       },
       grow2 _ (map (line (codes "P")) (map project_row p.instance.projects)) _ _ _ _ (map (line (codes "Y")) (price_rows (project_codes p.instance) p.project_prices)) _ _ (line (codes "P") row)
-        (lines_push (codes "P") (map project_row p.instance.projects) _ row (map_push project_row p.instance.projects e ∙ ap (λ (r : Row). map project_row p.instance.projects ++ r ∷ []) (sym t.is)))
-        (lines_none (codes "C") _ (rows_none student_row p.instance.students t.turn))
-        (pairs_none p.instance.students p.places places)
-        (prices_none (codes "U") (student_codes p.instance) p.student_prices t.prices.students)
-        (prices_none (codes "Y") (project_codes p.instance) p.project_prices t.prices.projects)
-        (prices_none (codes "Y") (project_codes (with_project p e).instance) p.project_prices t.prices.projects)
-        (prices_none (codes "Z") (supervisor_codes p.instance) p.supervisor_prices t.prices.supervisors),
+          (lines_push (codes "P") (map project_row p.instance.projects) _ row (map_push project_row p.instance.projects e ∙ ap (λ (r : Row). map project_row p.instance.projects ++ r ∷ []) (sym t.is)))
+          (lines_none (codes "C") _ (rows_none student_row p.instance.students t.turn))
+          (pairs_none p.instance.students p.places places)
+          (prices_none (codes "U") (student_codes p.instance) p.student_prices t.prices.students)
+          (prices_none (codes "Y") (project_codes p.instance) p.project_prices t.prices.projects)
+          (prices_none (codes "Y") (project_codes (with_project p e).instance) p.project_prices t.prices.projects)
+          (prices_none (codes "Z") (supervisor_codes p.instance) p.supervisor_prices t.prices.supervisors),
     )
 
 -- a student more
 pub student_step : (p : Parts) (row : Row) (e : Student) → IsDraft p → TakesStudent p row e → IsDraft (with_student p e) × (round_lines (with_student p e) ≡ round_lines p ++ line (codes "C") row ∷ [])
 student_step p row e d t =
-    let codes_are : student_codes (with_student p e).instance ≡ student_codes p.instance ++ e.code ∷ [] = map_push (λ (e : Student). e.code) p.instance.students e in
-    (
+    let codes_are : student_codes (with_student p e).instance ≡ student_codes p.instance ++ e.code ∷ [] = map_push (λ (e : Student). e.code) p.instance.students e in (
       record {
         within = record {
           supervisors = d.within.supervisors;
@@ -263,20 +260,19 @@ student_step p row e d t =
         projects_priced = d.projects_priced;
       },
       grow3 _ _ (map (line (codes "C")) (map student_row p.instance.students)) _ (map (line (codes "M")) (pair_rows p.instance.students p.places)) _ (map (line (codes "U")) (price_rows (student_codes p.instance) p.student_prices)) _ _ _ (line (codes "C") row)
-        (lines_push (codes "C") (map student_row p.instance.students) _ row (map_push student_row p.instance.students e ∙ ap (λ (r : Row). map student_row p.instance.students ++ r ∷ []) (sym t.is)))
-        (pairs_none p.instance.students p.places t.turn)
-        (pairs_none (with_student p e).instance.students p.places t.turn)
-        (prices_none (codes "U") (student_codes p.instance) p.student_prices t.prices.students)
-        (prices_none (codes "U") (student_codes (with_student p e).instance) p.student_prices t.prices.students)
-        (prices_none (codes "Y") (project_codes p.instance) p.project_prices t.prices.projects)
-        (prices_none (codes "Z") (supervisor_codes p.instance) p.supervisor_prices t.prices.supervisors),
+          (lines_push (codes "C") (map student_row p.instance.students) _ row (map_push student_row p.instance.students e ∙ ap (λ (r : Row). map student_row p.instance.students ++ r ∷ []) (sym t.is)))
+          (pairs_none p.instance.students p.places t.turn)
+          (pairs_none (with_student p e).instance.students p.places t.turn)
+          (prices_none (codes "U") (student_codes p.instance) p.student_prices t.prices.students)
+          (prices_none (codes "U") (student_codes (with_student p e).instance) p.student_prices t.prices.students)
+          (prices_none (codes "Y") (project_codes p.instance) p.project_prices t.prices.projects)
+          (prices_none (codes "Z") (supervisor_codes p.instance) p.supervisor_prices t.prices.supervisors),
     )
 
 -- a pair more
 pub pair_step : (p : Parts) (row : Row) (s k : ℕ) → IsDraft p → TakesPair p row s k → IsDraft (with_pair p s k) × (round_lines (with_pair p s k) ≡ round_lines p ++ line (codes "M") row ∷ [])
 pair_step p row s k d t =
-    let at : slice_get p.instance.students (s - length p.places + length p.places) ≡ Some t.student = (let e : s ≡ s - length p.places + length p.places = omega (arith, t.later) in subst (λ (n : ℕ). slice_get p.instance.students n ≡ Some t.student) e t.here) in
-    (
+    let at : slice_get p.instance.students (s - length p.places + length p.places) ≡ Some t.student = (let e : s ≡ s - length p.places + length p.places = omega (arith, t.later) in subst (λ (n : ℕ). slice_get p.instance.students n ≡ Some t.student) e t.here) in (
       record {
         within = d.within;
         supervisors = d.supervisors;
@@ -293,10 +289,10 @@ pair_step p row s k d t =
         projects_priced = d.projects_priced;
       },
       grow4 (S p) (P p) (C p) (M p) (M (with_pair p s k)) (U p) (Y p) (Z p) (line (codes "M") row)
-        (lines_push (codes "M") (pair_rows p.instance.students p.places) _ row (pair_rows_push p.instance.students p.places (s - length p.places) k t.student at ∙ ap (λ (r : Row). pair_rows p.instance.students p.places ++ r ∷ []) (sym t.is)))
-        (prices_none (codes "U") (student_codes p.instance) p.student_prices t.prices.students)
-        (prices_none (codes "Y") (project_codes p.instance) p.project_prices t.prices.projects)
-        (prices_none (codes "Z") (supervisor_codes p.instance) p.supervisor_prices t.prices.supervisors),
+          (lines_push (codes "M") (pair_rows p.instance.students p.places) _ row (pair_rows_push p.instance.students p.places (s - length p.places) k t.student at ∙ ap (λ (r : Row). pair_rows p.instance.students p.places ++ r ∷ []) (sym t.is)))
+          (prices_none (codes "U") (student_codes p.instance) p.student_prices t.prices.students)
+          (prices_none (codes "Y") (project_codes p.instance) p.project_prices t.prices.projects)
+          (prices_none (codes "Z") (supervisor_codes p.instance) p.supervisor_prices t.prices.supervisors),
     )
 
 -- one price more of the first of n entries
@@ -314,68 +310,68 @@ not_none xs e h = omega (arith, ap length e)
 -- a student's price more
 pub student_price_step : (p : Parts) (row : Row) (v : List ℤ) → IsDraft p → TakesStudentPrice p row v → (let q : Parts = record p { student_prices = p.student_prices ++ v ∷ [] } in IsDraft q × (round_lines q ≡ round_lines p ++ line (codes "U") row ∷ []))
 student_price_step p row v d t = (
-      record {
-        within = d.within;
-        supervisors = d.supervisors;
-        projects = d.projects;
-        students = d.students;
-        offered = d.offered;
-        listed = d.listed;
-        places = d.places;
-        last_place = d.last_place;
-        student_prices = prices_push (λ (e : Student). e.code) p.instance.students p.student_prices row v d.student_prices t.price;
-        project_prices = d.project_prices;
-        supervisor_prices = d.supervisor_prices;
-        students_priced = λ h. elim h [ inl i ↦ absurd (not_none p.project_prices t.projects i) | inr i ↦ absurd (not_none p.supervisor_prices t.supervisors i) ];
-        projects_priced = d.projects_priced;
-      },
-      grow5 (S p) (P p) (C p) (M p) (U p) _ (Y p) (Z p) (line (codes "U") row)
-        (lines_push (codes "U") (price_rows (student_codes p.instance) p.student_prices) _ row (rows_push (student_codes p.instance) p.student_prices row v t.price))
-        (prices_none (codes "Y") (project_codes p.instance) p.project_prices t.projects)
-        (prices_none (codes "Z") (supervisor_codes p.instance) p.supervisor_prices t.supervisors),
-    )
+  record {
+    within = d.within;
+    supervisors = d.supervisors;
+    projects = d.projects;
+    students = d.students;
+    offered = d.offered;
+    listed = d.listed;
+    places = d.places;
+    last_place = d.last_place;
+    student_prices = prices_push (λ (e : Student). e.code) p.instance.students p.student_prices row v d.student_prices t.price;
+    project_prices = d.project_prices;
+    supervisor_prices = d.supervisor_prices;
+    students_priced = λ h. elim h [ inl i ↦ absurd (not_none p.project_prices t.projects i) | inr i ↦ absurd (not_none p.supervisor_prices t.supervisors i) ];
+    projects_priced = d.projects_priced;
+  },
+  grow5 (S p) (P p) (C p) (M p) (U p) _ (Y p) (Z p) (line (codes "U") row)
+      (lines_push (codes "U") (price_rows (student_codes p.instance) p.student_prices) _ row (rows_push (student_codes p.instance) p.student_prices row v t.price))
+      (prices_none (codes "Y") (project_codes p.instance) p.project_prices t.projects)
+      (prices_none (codes "Z") (supervisor_codes p.instance) p.supervisor_prices t.supervisors),
+)
 
 -- a project's price more
 pub project_price_step : (p : Parts) (row : Row) (v : List ℤ) → IsDraft p → TakesProjectPrice p row v → (let q : Parts = record p { project_prices = p.project_prices ++ v ∷ [] } in IsDraft q × (round_lines q ≡ round_lines p ++ line (codes "Y") row ∷ []))
 project_price_step p row v d t = (
-      record {
-        within = d.within;
-        supervisors = d.supervisors;
-        projects = d.projects;
-        students = d.students;
-        offered = d.offered;
-        listed = d.listed;
-        places = d.places;
-        last_place = d.last_place;
-        student_prices = d.student_prices;
-        project_prices = prices_push (λ (e : Project). e.code) p.instance.projects p.project_prices row v d.project_prices t.price;
-        supervisor_prices = d.supervisor_prices;
-        students_priced = λ h. t.students;
-        projects_priced = λ h. absurd (not_none p.supervisor_prices t.supervisors h);
-      },
-      grow6 (S p) (P p) (C p) (M p) (U p) (Y p) _ (Z p) (line (codes "Y") row)
-        (lines_push (codes "Y") (price_rows (project_codes p.instance) p.project_prices) _ row (rows_push (project_codes p.instance) p.project_prices row v t.price))
-        (prices_none (codes "Z") (supervisor_codes p.instance) p.supervisor_prices t.supervisors),
-    )
+  record {
+    within = d.within;
+    supervisors = d.supervisors;
+    projects = d.projects;
+    students = d.students;
+    offered = d.offered;
+    listed = d.listed;
+    places = d.places;
+    last_place = d.last_place;
+    student_prices = d.student_prices;
+    project_prices = prices_push (λ (e : Project). e.code) p.instance.projects p.project_prices row v d.project_prices t.price;
+    supervisor_prices = d.supervisor_prices;
+    students_priced = λ h. t.students;
+    projects_priced = λ h. absurd (not_none p.supervisor_prices t.supervisors h);
+  },
+  grow6 (S p) (P p) (C p) (M p) (U p) (Y p) _ (Z p) (line (codes "Y") row)
+      (lines_push (codes "Y") (price_rows (project_codes p.instance) p.project_prices) _ row (rows_push (project_codes p.instance) p.project_prices row v t.price))
+      (prices_none (codes "Z") (supervisor_codes p.instance) p.supervisor_prices t.supervisors),
+)
 
 -- a supervisor's price more
 pub supervisor_price_step : (p : Parts) (row : Row) (v : List ℤ) → IsDraft p → TakesSupervisorPrice p row v → (let q : Parts = record p { supervisor_prices = p.supervisor_prices ++ v ∷ [] } in IsDraft q × (round_lines q ≡ round_lines p ++ line (codes "Z") row ∷ []))
 supervisor_price_step p row v d t = (
-      record {
-        within = d.within;
-        supervisors = d.supervisors;
-        projects = d.projects;
-        students = d.students;
-        offered = d.offered;
-        listed = d.listed;
-        places = d.places;
-        last_place = d.last_place;
-        student_prices = d.student_prices;
-        project_prices = d.project_prices;
-        supervisor_prices = prices_push (λ (e : Supervisor). e.code) p.instance.supervisors p.supervisor_prices row v d.supervisor_prices t.price;
-        students_priced = λ h. t.students;
-        projects_priced = λ h. t.projects;
-      },
-      grow7 (S p) (P p) (C p) (M p) (U p) (Y p) (Z p) _ (line (codes "Z") row)
-        (lines_push (codes "Z") (price_rows (supervisor_codes p.instance) p.supervisor_prices) _ row (rows_push (supervisor_codes p.instance) p.supervisor_prices row v t.price)),
-    )
+  record {
+    within = d.within;
+    supervisors = d.supervisors;
+    projects = d.projects;
+    students = d.students;
+    offered = d.offered;
+    listed = d.listed;
+    places = d.places;
+    last_place = d.last_place;
+    student_prices = d.student_prices;
+    project_prices = d.project_prices;
+    supervisor_prices = prices_push (λ (e : Supervisor). e.code) p.instance.supervisors p.supervisor_prices row v d.supervisor_prices t.price;
+    students_priced = λ h. t.students;
+    projects_priced = λ h. t.projects;
+  },
+  grow7 (S p) (P p) (C p) (M p) (U p) (Y p) (Z p) _ (line (codes "Z") row)
+      (lines_push (codes "Z") (price_rows (supervisor_codes p.instance) p.supervisor_prices) _ row (rows_push (supervisor_codes p.instance) p.supervisor_prices row v t.price)),
+)

@@ -125,16 +125,18 @@ supervisor_only old r d g =
       | inl i ↦
           let f = front supervisor_row (λ (e : Supervisor). e.code) supervisor_code p.instance.supervisors old.instance.supervisors r i.1.0 i.1.1 in
           let quota = all_found (λ q. q ≤ MOST_PLACES) (map (λ (e : Supervisor). e.quota) p.instance.supervisors) (length old.instance.supervisors) f.e.quota g.valid.within.supervisor_quotas (get_mapped (λ (e : Supervisor). e.quota) p.instance.supervisors (length old.instance.supervisors) f.e f.here) in
-          let within = within_get p.instance.supervisors (length old.instance.supervisors) f.e f.here in
-          (f.e, record {
-            turn = nothing_made project_row old.instance.projects i.2.0;
-            prices = no_prices_of old d i.2.1.1.1.0 i.2.1.1.1.1.0 i.2.1.1.1.1.1.0;
-            is = f.is;
-            form = all_found (λ c. IsTrue (is_code c)) (supervisor_codes p.instance) (length old.instance.supervisors) f.e.code g.valid.supervisors.form (get_mapped (λ (e : Supervisor). e.code) p.instance.supervisors (length old.instance.supervisors) f.e f.here);
-            quota = quota;
-            few = omega (arith, within, g.valid.within.supervisors);
-            next = front_rises supervisor_row (λ (e : Supervisor). e.code) p.instance.supervisors old.instance.supervisors r f g.valid.supervisors.rise;
-          })
+          let within = within_get p.instance.supervisors (length old.instance.supervisors) f.e f.here in (
+            f.e,
+            record {
+              turn = nothing_made project_row old.instance.projects i.2.0;
+              prices = no_prices_of old d i.2.1.1.1.0 i.2.1.1.1.1.0 i.2.1.1.1.1.1.0;
+              is = f.is;
+              form = all_found (λ c. IsTrue (is_code c)) (supervisor_codes p.instance) (length old.instance.supervisors) f.e.code g.valid.supervisors.form (get_mapped (λ (e : Supervisor). e.code) p.instance.supervisors (length old.instance.supervisors) f.e f.here);
+              quota = quota;
+              few = omega (arith, within, g.valid.within.supervisors);
+              next = front_rises supervisor_row (λ (e : Supervisor). e.code) p.instance.supervisors old.instance.supervisors r f g.valid.supervisors.rise;
+            },
+          )
       | inr j ↦ absurd (not_there (next_letter (drop 1 (sections p)) (drop 1 (sections old)) (codes "S") r j.1))
     ]
 
@@ -149,17 +151,19 @@ project_only old r d g =
             let n : ℕ = length old.instance.projects in
             let f = front project_row (λ (e : Project). e.code) project_code p.instance.projects old.instance.projects r i.1.0 i.1.1 in
             let within = within_get p.instance.projects n f.e f.here in
-            let owner = all_found (λ (e : Project). Contains (supervisor_codes p.instance) e.supervisor) p.instance.projects n f.e g.valid.offered f.here in
-            (f.e, record {
-              turn = nothing_made student_row old.instance.students i.2.0;
-              prices = no_prices_of old d i.2.1.1.0 i.2.1.1.1.0 i.2.1.1.1.1.0;
-              is = f.is;
-              form = all_found (λ c. IsTrue (is_code c)) (project_codes p.instance) n f.e.code g.valid.projects.form (get_mapped (λ (e : Project). e.code) p.instance.projects n f.e f.here);
-              quota = all_found (λ q. q ≤ MOST_PLACES) (map (λ (e : Project). e.quota) p.instance.projects) n f.e.quota g.valid.within.project_quotas (get_mapped (λ (e : Project). e.quota) p.instance.projects n f.e f.here);
-              known = subst (λ (l : List (List ℕ)). Contains l f.e.supervisor) (same_codes supervisor_row (λ (e : Supervisor). e.code) supervisor_code p.instance.supervisors old.instance.supervisors j.0) owner;
-              few = omega (arith, within, g.valid.within.projects);
-              next = front_rises project_row (λ (e : Project). e.code) p.instance.projects old.instance.projects r f g.valid.projects.rise;
-            })
+            let owner = all_found (λ (e : Project). Contains (supervisor_codes p.instance) e.supervisor) p.instance.projects n f.e g.valid.offered f.here in (
+              f.e,
+              record {
+                turn = nothing_made student_row old.instance.students i.2.0;
+                prices = no_prices_of old d i.2.1.1.0 i.2.1.1.1.0 i.2.1.1.1.1.0;
+                is = f.is;
+                form = all_found (λ c. IsTrue (is_code c)) (project_codes p.instance) n f.e.code g.valid.projects.form (get_mapped (λ (e : Project). e.code) p.instance.projects n f.e f.here);
+                quota = all_found (λ q. q ≤ MOST_PLACES) (map (λ (e : Project). e.quota) p.instance.projects) n f.e.quota g.valid.within.project_quotas (get_mapped (λ (e : Project). e.quota) p.instance.projects n f.e f.here);
+                known = subst (λ (l : List (List ℕ)). Contains l f.e.supervisor) (same_codes supervisor_row (λ (e : Supervisor). e.code) supervisor_code p.instance.supervisors old.instance.supervisors j.0) owner;
+                few = omega (arith, within, g.valid.within.projects);
+                next = front_rises project_row (λ (e : Project). e.code) p.instance.projects old.instance.projects r f g.valid.projects.rise;
+              },
+            )
         | inr k ↦ absurd (not_there (next_letter (drop 2 (sections p)) (drop 2 (sections old)) (codes "P") r k.1))
       ]
     ]
@@ -185,16 +189,18 @@ student_only old r d g =
               let n : ℕ = length old.instance.students in
               let f = front student_row (λ (e : Student). e.code) student_code p.instance.students old.instance.students r i.1.0 i.1.1 in
               let within = within_get p.instance.students n f.e f.here in
-              let listed = all_found (λ (e : Student). IsSoundList (project_codes p.instance) e.list) p.instance.students n f.e g.valid.listed f.here in
-              (f.e, record {
-                turn = no_places old.instance.students old.places d.places d.last_place i.2.0;
-                prices = no_prices_of old d i.2.1.0 i.2.1.1.0 i.2.1.1.1.0;
-                is = f.is;
-                form = all_found (λ c. IsTrue (is_code c)) (student_codes p.instance) n f.e.code g.valid.students.form (get_mapped (λ (e : Student). e.code) p.instance.students n f.e f.here);
-                list = subst (λ (l : List (List ℕ)). IsSoundList l f.e.list) (same_codes project_row (λ (e : Project). e.code) project_code p.instance.projects old.instance.projects k.0) listed;
-                few = omega (arith, within, g.valid.within.students);
-                next = front_rises student_row (λ (e : Student). e.code) p.instance.students old.instance.students r f g.valid.students.rise;
-              })
+              let listed = all_found (λ (e : Student). IsSoundList (project_codes p.instance) e.list) p.instance.students n f.e g.valid.listed f.here in (
+                f.e,
+                record {
+                  turn = no_places old.instance.students old.places d.places d.last_place i.2.0;
+                  prices = no_prices_of old d i.2.1.0 i.2.1.1.0 i.2.1.1.1.0;
+                  is = f.is;
+                  form = all_found (λ c. IsTrue (is_code c)) (student_codes p.instance) n f.e.code g.valid.students.form (get_mapped (λ (e : Student). e.code) p.instance.students n f.e f.here);
+                  list = subst (λ (l : List (List ℕ)). IsSoundList l f.e.list) (same_codes project_row (λ (e : Project). e.code) project_code p.instance.projects old.instance.projects k.0) listed;
+                  few = omega (arith, within, g.valid.within.students);
+                  next = front_rises student_row (λ (e : Student). e.code) p.instance.students old.instance.students r f g.valid.students.rise;
+                },
+              )
           | inr m ↦ absurd (not_there (next_letter (drop 3 (sections p)) (drop 3 (sections old)) (codes "C") r m.1))
         ]
       ]
@@ -318,15 +324,18 @@ pair_only old r d g =
                 let students : p.instance.students ≡ old.instance.students = same_students p.instance.students old.instance.students m.0 in
                 let rows : pair_rows old.instance.students p.places ≡ pair_rows old.instance.students old.places ++ r ∷ i.1.0 = ap (λ (l : List Student). pair_rows l p.places) (sym students) ∙ i.1.1 in
                 let a = next_pair old.instance.students p.places old.places r i.1.0 d.students.rise d.places d.last_place rows in
-                let zipped : AllZip IsPlace old.instance.students p.places = subst (λ (l : List Student). AllZip IsPlace l p.places) students g.valid.places in
-                (a.at, a.place, record {
-                  prices = no_prices_of old d i.2.0 i.2.1.0 i.2.1.1.0;
-                  student = a.student;
-                  here = a.here;
-                  later = a.later;
-                  place = zip_place old.instance.students p.places a.at a.place a.student zipped a.here a.placed;
-                  is = a.is;
-                })
+                let zipped : AllZip IsPlace old.instance.students p.places = subst (λ (l : List Student). AllZip IsPlace l p.places) students g.valid.places in (
+                  a.at,
+                  a.place,
+                  record {
+                    prices = no_prices_of old d i.2.0 i.2.1.0 i.2.1.1.0;
+                    student = a.student;
+                    here = a.here;
+                    later = a.later;
+                    place = zip_place old.instance.students p.places a.at a.place a.student zipped a.here a.placed;
+                    is = a.is;
+                  },
+                )
             | inr u ↦ absurd (not_there (next_letter (drop 4 (sections p)) (drop 4 (sections old)) (codes "M") r u.1))
           ]
         ]
@@ -383,12 +392,14 @@ student_price_only old r d g =
               | inl i ↦
                   let roll : student_codes p.instance ≡ student_codes old.instance = same_codes student_row (λ (e : Student). e.code) student_code p.instance.students old.instance.students m.0 in
                   let rows : price_rows (student_codes old.instance) p.student_prices ≡ price_rows (student_codes old.instance) old.student_prices ++ r ∷ i.1.0 = ap (λ (l : List (List ℕ)). price_rows l p.student_prices) (sym roll) ∙ i.1.1 in
-                  let t = takes_price (λ (e : Student). e.code) old.instance.students p.student_prices old.student_prices r i.1.0 d.student_prices.few g.valid.student_prices.prices rows in
-                  (t.0, record {
-                    projects = no_prices (λ (e : Project). e.code) old.instance.projects old.project_prices d.project_prices.few i.2.0;
-                    supervisors = no_prices (λ (e : Supervisor). e.code) old.instance.supervisors old.supervisor_prices d.supervisor_prices.few i.2.1.0;
-                    price = t.1;
-                  })
+                  let t = takes_price (λ (e : Student). e.code) old.instance.students p.student_prices old.student_prices r i.1.0 d.student_prices.few g.valid.student_prices.prices rows in (
+                    t.0,
+                    record {
+                      projects = no_prices (λ (e : Project). e.code) old.instance.projects old.project_prices d.project_prices.few i.2.0;
+                      supervisors = no_prices (λ (e : Supervisor). e.code) old.instance.supervisors old.supervisor_prices d.supervisor_prices.few i.2.1.0;
+                      price = t.1;
+                    },
+                  )
               | inr y ↦ absurd (not_there (next_letter (drop 5 (sections p)) (drop 5 (sections old)) (codes "U") r y.1))
             ]
           ]
@@ -415,12 +426,14 @@ project_price_only old r d g =
                     let students : student_codes p.instance ≡ student_codes old.instance = same_codes student_row (λ (e : Student). e.code) student_code p.instance.students old.instance.students m.0 in
                     let roll : project_codes p.instance ≡ project_codes old.instance = same_codes project_row (λ (e : Project). e.code) project_code p.instance.projects old.instance.projects k.0 in
                     let rows : price_rows (project_codes old.instance) p.project_prices ≡ price_rows (project_codes old.instance) old.project_prices ++ r ∷ i.1.0 = ap (λ (l : List (List ℕ)). price_rows l p.project_prices) (sym roll) ∙ i.1.1 in
-                    let t = takes_price (λ (e : Project). e.code) old.instance.projects p.project_prices old.project_prices r i.1.0 d.project_prices.few g.valid.project_prices.prices rows in
-                    (t.0, record {
-                      supervisors = no_prices (λ (e : Supervisor). e.code) old.instance.supervisors old.supervisor_prices d.supervisor_prices.few i.2.0;
-                      students = none_or_all (λ (e : Student). e.code) p.instance.students old.instance.students p.student_prices old.student_prices g.valid.student_prices.none_or_all d.student_prices.few students y.0;
-                      price = t.1;
-                    })
+                    let t = takes_price (λ (e : Project). e.code) old.instance.projects p.project_prices old.project_prices r i.1.0 d.project_prices.few g.valid.project_prices.prices rows in (
+                      t.0,
+                      record {
+                        supervisors = no_prices (λ (e : Supervisor). e.code) old.instance.supervisors old.supervisor_prices d.supervisor_prices.few i.2.0;
+                        students = none_or_all (λ (e : Student). e.code) p.instance.students old.instance.students p.student_prices old.student_prices g.valid.student_prices.none_or_all d.student_prices.few students y.0;
+                        price = t.1;
+                      },
+                    )
                 | inr z ↦ absurd (not_there (next_letter (drop 6 (sections p)) (drop 6 (sections old)) (codes "Y") r z.1))
               ]
             ]
@@ -451,12 +464,14 @@ supervisor_price_only old r d g =
                       let projects : project_codes p.instance ≡ project_codes old.instance = same_codes project_row (λ (e : Project). e.code) project_code p.instance.projects old.instance.projects k.0 in
                       let roll : supervisor_codes p.instance ≡ supervisor_codes old.instance = same_codes supervisor_row (λ (e : Supervisor). e.code) supervisor_code p.instance.supervisors old.instance.supervisors j.0 in
                       let rows : price_rows (supervisor_codes old.instance) p.supervisor_prices ≡ price_rows (supervisor_codes old.instance) old.supervisor_prices ++ r ∷ i.1.0 = ap (λ (l : List (List ℕ)). price_rows l p.supervisor_prices) (sym roll) ∙ i.1.1 in
-                      let t = takes_price (λ (e : Supervisor). e.code) old.instance.supervisors p.supervisor_prices old.supervisor_prices r i.1.0 d.supervisor_prices.few g.valid.supervisor_prices.prices rows in
-                      (t.0, record {
-                        students = none_or_all (λ (e : Student). e.code) p.instance.students old.instance.students p.student_prices old.student_prices g.valid.student_prices.none_or_all d.student_prices.few students y.0;
-                        projects = none_or_all (λ (e : Project). e.code) p.instance.projects old.instance.projects p.project_prices old.project_prices g.valid.project_prices.none_or_all d.project_prices.few projects z.0;
-                        price = t.1;
-                      })
+                      let t = takes_price (λ (e : Supervisor). e.code) old.instance.supervisors p.supervisor_prices old.supervisor_prices r i.1.0 d.supervisor_prices.few g.valid.supervisor_prices.prices rows in (
+                        t.0,
+                        record {
+                          students = none_or_all (λ (e : Student). e.code) p.instance.students old.instance.students p.student_prices old.student_prices g.valid.student_prices.none_or_all d.student_prices.few students y.0;
+                          projects = none_or_all (λ (e : Project). e.code) p.instance.projects old.instance.projects p.project_prices old.project_prices g.valid.project_prices.none_or_all d.project_prices.few projects z.0;
+                          price = t.1;
+                        },
+                      )
                   | inr o ↦ absurd o.1
                 ]
               ]
