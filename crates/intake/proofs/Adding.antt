@@ -1,10 +1,10 @@
 -- What a row adds to a draft.
-use Rattle.std.proofs.Common.{◌≡◌, ℕ, zero, suc, ◌+◌, ◌-◌, ◌<◌, ◌≤◌, ℤ, List, [], ◌∷◌, ◌++◌, length, map, get_or, replicate, Option, Some, None, refl, sym, ap, ◌∙◌, subst, arith}
+use Rattle.std.proofs.Common.{◌≡◌, ℕ, zero, suc, ◌+◌, ◌-◌, ◌<◌, ◌≤◌, ℤ, Bool, true, false, List, [], ◌∷◌, ◌++◌, length, map, get_or, replicate, Option, Some, None, refl, sym, ap, ◌∙◌, subst, arith}
 use denote.Ref.{Bor}
-use Rattle.std.proofs.lemmas.List.{map_push}
-use Rattle.spa.specs.Instance.{Instance, Supervisor, Project, Student, given, supervisors_of, projects_of, students_of}
+use Rattle.std.proofs.lemmas.List.{map_push, nil_from_length}
+use Rattle.spa.specs.Instance.{Instance, Supervisor, Project, Student, given, supervisor_codes, project_codes, student_codes, supervisors_of, projects_of, students_of}
 use Rattle.intake.specs.Parts.{Parts, Rise}
-use Rattle.intake.specs.Draft.{with_supervisor, with_project, with_student}
+use Rattle.intake.specs.Draft.{NoneOrAll, AddsPrice, AddsStudentPrice, AddsProjectPrice, AddsSupervisorPrice, with_supervisor, with_project, with_student}
 use Rattle.intake.proofs.Lists.{blank}
 
 -- two fields
@@ -46,3 +46,33 @@ pub student_added : (ss : List (List ℕ × ℕ)) (ps : List (List ℕ × List �
 student_added ss ps ts new ks u y z code list e =
     let f = λ (l : List Student). (let i : Instance = record { supervisors = supervisors_of ss; projects = projects_of ps; students = l } in let p : Parts = record { instance = i; places = ks; student_prices = u; project_prices = y; supervisor_prices = z } in p) in
     ap (λ (l : List (List ℕ × List (List ℕ))). parts ss ps l ks u y z) e ∙ ap f (map_push (λ (e : List ℕ × List (List ℕ)). let s : Student = record { code = e.0; list = e.1 } in s) ts (code, list))
+
+-- a list without elements
+pub empty_is : {X : Type 0} (xs : List X) → length xs ≡ 0 → xs ≡ []
+empty_is xs h = nil_from_length xs h
+
+-- a price that was added, said of the same codes
+pub price_moved : (a b : List (List ℕ)) (old : List (List ℤ)) (row : List (List ℕ)) (new : List (List ℤ)) (r : Bool) → a ≡ b → AddsPrice a old row new r → AddsPrice b old row new r
+price_moved a b old row new r e h = subst (λ (l : List (List ℕ)). AddsPrice l old row new r) e h
+
+-- a student's price was added
+pub student_price_adds : (p : Parts) (row : List (List ℕ)) (new : List (List ℤ)) (r : Bool) → p.project_prices ≡ [] → p.supervisor_prices ≡ [] → AddsPrice (student_codes p.instance) p.student_prices row new r
+    → AddsStudentPrice p row (record p { student_prices = new }) r
+student_price_adds p row new true e f h = (h.0, record { projects = e; supervisors = f; price = h.1 }, ap (λ (l : List (List ℤ)). record p { student_prices = l }) h.2)
+student_price_adds p row new false e f h = λ v t. h v t.price
+
+-- a project's price was added
+pub project_price_adds : (p : Parts) (row : List (List ℕ)) (new : List (List ℤ)) (r : Bool) → p.supervisor_prices ≡ [] → NoneOrAll (length p.instance.students) p.student_prices → AddsPrice (project_codes p.instance) p.project_prices row new r
+    → AddsProjectPrice p row (record p { project_prices = new }) r
+project_price_adds p row new true e f h = (h.0, record { supervisors = e; students = f; price = h.1 }, ap (λ (l : List (List ℤ)). record p { project_prices = l }) h.2)
+project_price_adds p row new false e f h = λ v t. h v t.price
+
+-- a supervisor's price was added
+pub supervisor_price_adds : (p : Parts) (row : List (List ℕ)) (new : List (List ℤ)) (r : Bool) → NoneOrAll (length p.instance.students) p.student_prices → NoneOrAll (length p.instance.projects) p.project_prices → AddsPrice (supervisor_codes p.instance) p.supervisor_prices row new r
+    → AddsSupervisorPrice p row (record p { supervisor_prices = new }) r
+supervisor_price_adds p row new true e f h = (h.0, record { students = e; projects = f; price = h.1 }, ap (λ (l : List (List ℤ)). record p { supervisor_prices = l }) h.2)
+supervisor_price_adds p row new false e f h = λ v t. h v t.price
+
+-- none or all, said of the same prices and number
+pub none_or_all_moved : (m n : ℕ) (a b : List (List ℤ)) → m ≡ n → a ≡ b → NoneOrAll m a → NoneOrAll n b
+none_or_all_moved m n a b e f h = subst (λ (k : ℕ). NoneOrAll k b) e (subst (λ (l : List (List ℤ)). NoneOrAll m l) f h)

@@ -1,8 +1,16 @@
 mod Adding
+mod Bad
+mod Ends
 mod Found
+mod Added
+mod Goes
 mod Lists
 mod Numbers
 mod Order
 mod Pairing
+mod Pieces
 mod Rolls
+mod Sections
+mod Steps
+mod Takes
 mod Writing

@@ -113,10 +113,10 @@ pub rise_next : (keys : List (List ℕ)) (code : List ℕ) (d : List ℕ) → Ri
 rise_next keys code d rise e =
     all_pairs_push (λ a b. code_cmp a b ≡ Less) keys code rise
     (λ k f h. let last : code_cmp (get_or keys (length keys - 1) f) code ≡ Less = subst (λ (x : List ℕ). code_cmp x code ≡ Less) (get_or_default keys (length keys - 1) d f (omega arith)) e in
-      elim (cases_lt k (length keys - 1)) [
-        | inl less ↦ cmp_trans (get_or keys k f) (get_or keys (length keys - 1) f) code (rise k (length keys - 1) f less (omega arith)) last
-        | inr more ↦ let same : length keys - 1 ≡ k = omega arith in subst (λ (n : ℕ). code_cmp (get_or keys n f) code ≡ Less) same last
-      ])
+    elim (cases_lt k (length keys - 1)) [
+      | inl less ↦ cmp_trans (get_or keys k f) (get_or keys (length keys - 1) f) code (rise k (length keys - 1) f less (omega arith)) last
+      | inr more ↦ let same : length keys - 1 ≡ k = omega arith in subst (λ (n : ℕ). code_cmp (get_or keys n f) code ≡ Less) same last
+    ])
 
 -- and only such a code does
 pub rise_back : (keys : List (List ℕ)) (code : List ℕ) (d : List ℕ) → 0 < length keys → Rise (keys ++ code ∷ []) → code_cmp (get_or keys (length keys - 1) d) code ≡ Less

@@ -65,3 +65,8 @@ student_count (e ∷ es) = ap suc (student_count es)
 -- a sound list, said of the same codes
 pub sound_moved : (a b x y : List (List ℕ)) → a ≡ b → x ≡ y → IsSoundList a x → IsSoundList b y
 sound_moved a b x y e f sound = subst (λ (l : List (List ℕ)). IsSoundList l y) e (subst (λ (l : List (List ℕ)). IsSoundList a l) f sound)
+
+-- projects by codes are as many
+pub project_count : (es : List (List ℕ × List ℕ × ℕ)) → length (projects_of es) ≡ length es
+project_count [] = refl
+project_count (e ∷ es) = ap suc (project_count es)

@@ -1,5 +1,5 @@
 -- The parts of a round text as far as it was read, and what a line may add to them.
-use Rattle.std.specs.Prelude.{◌≡◌, Bool, true, false, replicate, ◌-◌, ℕ, ◌<◌, ◌≤◌, ◌⊎◌, ℤ, List, [], ◌∷◌, ◌++◌, length, map, take, slice_get, Option, Some, None, IsSome, IsTrue, All, Contains, ⊤}
+use Rattle.std.specs.Prelude.{◌≡◌, Bool, true, false, replicate, ◌-◌, ◌==◌, ℕ, ◌<◌, ◌≤◌, ◌⊎◌, ℤ, List, [], ◌∷◌, ◌++◌, length, map, take, slice_get, Option, Some, None, IsSome, IsTrue, All, Contains, ⊤}
 use Rattle.std.specs.Fmt.{signed_decimal}
 use Rattle.spa.specs.declared.TheConstants.{MOST_SUPERVISORS, MOST_PROJECTS, MOST_STUDENTS, MOST_PLACES}
 use Rattle.spa.specs.Text.{is_code}
@@ -8,7 +8,8 @@ use Rattle.spa.specs.Instance.{Supervisor, Project, Student, given, supervisor_c
 use Rattle.spa.specs.Made.{IsWithin, IsSoundList}
 use Rattle.intake.specs.declared.draft.Draft.{Draft}
 use Rattle.intake.specs.Parts.{Parts, Rise, IsRoll, IsPlace, IsPrice}
-use Rattle.intake.specs.Lines.{Row, supervisor_row, project_row, student_row}
+use Rattle.intake.specs.Lines.{Row, line, round_lines, supervisor_row, project_row, student_row}
+use Rattle.intake.specs.Reading.{Begins}
 
 -- the parts that were read
 abbrev pub draft_of : Draft → Parts
@@ -109,6 +110,24 @@ pub record TakesPrice (codes : List (List ℕ)) (prices : List (List ℤ)) (row 
   pub is : row ≡ code_at codes (length prices) ∷ map signed_decimal v
   pub price : IsPrice v
 
+-- the row is that of the price of the next student: no other prices were read
+pub record TakesStudentPrice (p : Parts) (row : Row) (v : List ℤ) : Type 0 where
+  pub projects : p.project_prices ≡ []
+  pub supervisors : p.supervisor_prices ≡ []
+  pub price : TakesPrice (student_codes p.instance) p.student_prices row v
+
+-- the row is that of the price of the next project: the students' section is complete
+pub record TakesProjectPrice (p : Parts) (row : Row) (v : List ℤ) : Type 0 where
+  pub supervisors : p.supervisor_prices ≡ []
+  pub students : NoneOrAll (length p.instance.students) p.student_prices
+  pub price : TakesPrice (project_codes p.instance) p.project_prices row v
+
+-- the row is that of the price of the next supervisor: the sections before are complete
+pub record TakesSupervisorPrice (p : Parts) (row : Row) (v : List ℤ) : Type 0 where
+  pub students : NoneOrAll (length p.instance.students) p.student_prices
+  pub projects : NoneOrAll (length p.instance.projects) p.project_prices
+  pub price : TakesPrice (supervisor_codes p.instance) p.supervisor_prices row v
+
 -- one supervisor more
 abbrev pub with_supervisor : Parts → Supervisor → Parts
 with_supervisor p e = record p { instance = record p.instance { supervisors = p.instance.supervisors ++ e ∷ [] } }
@@ -149,3 +168,52 @@ AddsPair old row new false = (s k : ℕ) → ¬ TakesPair old row s k
 abbrev pub AddsPrice : List (List ℕ) → List (List ℤ) → Row → List (List ℤ) → Bool → Type 0
 AddsPrice codes old row new true = (v : List ℤ) × TakesPrice codes old row v × (new ≡ old ++ v ∷ [])
 AddsPrice codes old row new false = (v : List ℤ) → ¬ TakesPrice codes old row v
+
+-- the same of a student's price
+abbrev pub AddsStudentPrice : Parts → Row → Parts → Bool → Type 0
+AddsStudentPrice old row new true = (v : List ℤ) × TakesStudentPrice old row v × (new ≡ record old { student_prices = old.student_prices ++ v ∷ [] })
+AddsStudentPrice old row new false = (v : List ℤ) → ¬ TakesStudentPrice old row v
+
+-- the same of a project's price
+abbrev pub AddsProjectPrice : Parts → Row → Parts → Bool → Type 0
+AddsProjectPrice old row new true = (v : List ℤ) × TakesProjectPrice old row v × (new ≡ record old { project_prices = old.project_prices ++ v ∷ [] })
+AddsProjectPrice old row new false = (v : List ℤ) → ¬ TakesProjectPrice old row v
+
+-- the same of a supervisor's price
+abbrev pub AddsSupervisorPrice : Parts → Row → Parts → Bool → Type 0
+AddsSupervisorPrice old row new true = (v : List ℤ) × TakesSupervisorPrice old row v × (new ≡ record old { supervisor_prices = old.supervisor_prices ++ v ∷ [] })
+AddsSupervisorPrice old row new false = (v : List ℤ) → ¬ TakesSupervisorPrice old row v
+
+-- a line was added, or the lines with it begin no round text
+abbrev pub AddsLine : Parts → List ℕ → Parts → Bool → Type 0
+AddsLine old l new true = IsDraft new × (round_lines new ≡ round_lines old ++ l ∷ [])
+AddsLine old l new false = ¬ Begins (round_lines old ++ l ∷ [])
+
+-- the line of fields that begin with a letter
+abbrev pub line_of : List (List ℕ) → List ℕ
+line_of [] = []
+line_of (letter ∷ row) = line letter row
+
+-- the byte c does not stand in a text
+abbrev pub IsFree : ℕ → List ℕ → Type 0
+IsFree c text = All (λ b. (b == c) ≡ false) text
+
+-- a field has no comma in it
+abbrev pub IsField : List ℕ → Type 0
+IsField f = IsFree 44 f
+
+-- nothing was read
+abbrev pub nothing : Parts
+nothing = record {
+  instance = record { supervisors = []; projects = []; students = [] };
+  places = [];
+  student_prices = [];
+  project_prices = [];
+  supervisor_prices = [];
+}
+
+-- a text may end here
+pub record IsWhole (p : Parts) : Type 0 where
+  pub students : NoneOrAll (length p.instance.students) p.student_prices
+  pub projects : NoneOrAll (length p.instance.projects) p.project_prices
+  pub supervisors : NoneOrAll (length p.instance.supervisors) p.supervisor_prices

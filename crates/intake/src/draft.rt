@@ -1,19 +1,21 @@
 //! The parts of a round text as far as it was read.
 #![tactic(auto)]
 
-ghost use Rattle.std.specs.Prelude.{◌≡◌, ◌-◌, ◌++◌, ◌↔◌, ◌≤◌, ℕ, ℤ, List, [], map, length, replicate, IfOk, OnOk, MatchOption, IsTrue, None};
+ghost use Rattle.std.specs.Prelude.{◌≡◌, ◌-◌, ◌++◌, ◌↔◌, ◌≤◌, ℕ, ℤ, List, [], ◌∷◌, map, length, replicate, All, IfOk, OnOk, MatchOption, IsTrue, None};
 ghost use Rattle.spa.specs.Made.{IsSoundList};
-ghost use Rattle.intake.specs.Parts.{Rise, IsRoll};
-ghost use Rattle.intake.specs.Draft.{draft_of, IsDraft, HasNoPrices, NoneOrAll, AddsSupervisor, AddsProject, AddsStudent, AddsPair, AddsPrice};
+ghost use Rattle.intake.specs.Parts.{Rise, IsRoll, IsRoundParts};
+ghost use Rattle.intake.specs.Draft.{draft_of, IsDraft, HasNoPrices, NoneOrAll, AddsSupervisor, AddsProject, AddsStudent, AddsPair, AddsPrice, AddsStudentPrice, AddsProjectPrice, AddsSupervisorPrice, AddsLine, line_of, IsField, nothing, IsWhole};
+ghost use Rattle.intake.specs.Lines.{round_lines};
+ghost use Rattle.intake.specs.View.{parts_of};
 
 use crate::fields::{pieces, read_code, read_price, read_quota};
 use crate::lookup::{Coded, is_next, place_of, position_of};
-use crate::round::{RoundFault, RoundParts};
+use crate::round::RoundParts;
 use spa::{
     Code, Instance, InstanceFault, MOST_PROJECTS, MOST_STUDENTS, MOST_SUPERVISORS, Matching,
     PLACES, RANKS,
 };
-use std::alloc::Global;
+use std::alloc::{AllocError, Global};
 use verdict::Prices;
 
 /// The parts so far. There is a place or none for each student up to the last that has a pair, and a price for the first
@@ -32,7 +34,7 @@ fn read_list(
     alloc: Global,
     projects: &[(Code, Code, u32)],
     fields: &[&[u8]],
-) -> Result<Option<Vec<Code>>, RoundFault>
+) -> Result<Option<Vec<Code>>, AllocError>
     requires { IsRoll (map (λ e. e.0) projects.now) }
     ensures { IfOk result (λ o. MatchOption o (¬ IsSoundList (map (λ e. e.0) projects.now) (map (λ f. f.now) fields.now)) (λ l. (l.items ≡ map (λ f. f.now) fields.now) × IsSoundList (map (λ e. e.0) projects.now) (map (λ f. f.now) fields.now))) }
 {
@@ -60,7 +62,7 @@ fn add_price<E: Coded>(
     prices: &mut Vec<[i64; PLACES]>,
     roll: &[E],
     fields: &[&[u8]],
-) -> Result<bool, RoundFault>
+) -> Result<bool, AllocError>
     ensures { IfOk result (λ b. AddsPrice (map E.key roll.now) prices.old.items (map (λ f. f.now) fields.now) prices.new.items b) }
 {
     let Some((code, numbers)) = fields.split_first() else {
@@ -81,7 +83,7 @@ fn add_price<E: Coded>(
 }
 
 /// Fills places with none up to a length.
-fn fill(places: &mut Vec<Option<u8>>, len: usize) -> Result<(), RoundFault>
+fn fill(places: &mut Vec<Option<u8>>, len: usize) -> Result<(), AllocError>
     requires { length places.old.items ≤ len }
     ensures { OnOk result (places.new.items ≡ places.old.items ++ replicate (len - length places.old.items) None) }
 {
@@ -98,9 +100,21 @@ fn is_none_or_all(prices: &[[i64; PLACES]], entries: usize) -> bool
     prices.is_empty() || prices.len() == entries
 }
 
+/// Whether a field is this letter alone.
+fn is_letter(field: &[u8], letter: u8) -> bool
+    ensures { IsTrue result ↔ (field.now ≡ letter ∷ []) }
+{
+    let [only] = field else {
+        return false;
+    };
+    *only == letter
+}
+
 impl Draft {
     /// No line was read.
-    pub(crate) fn new(alloc: Global) -> Self {
+    pub(crate) fn new(alloc: Global) -> Self
+        ensures { draft_of result ≡ nothing }
+    {
         Draft {
             supervisors: Vec::new(alloc),
             projects: Vec::new(alloc),
@@ -124,7 +138,7 @@ impl Draft {
     }
 
     /// Adds a supervisor, if one may come here.
-    fn add_supervisor(&mut self, alloc: Global, fields: &[&[u8]]) -> Result<bool, RoundFault>
+    fn add_supervisor(&mut self, alloc: Global, fields: &[&[u8]]) -> Result<bool, AllocError>
         requires { IsDraft (draft_of self.old) }
         ensures { IfOk result (λ b. AddsSupervisor (draft_of self.old) (map (λ f. f.now) fields.now) (draft_of self.new) b) }
     {
@@ -151,7 +165,7 @@ impl Draft {
     }
 
     /// Adds a project, if one may come here.
-    fn add_project(&mut self, alloc: Global, fields: &[&[u8]]) -> Result<bool, RoundFault>
+    fn add_project(&mut self, alloc: Global, fields: &[&[u8]]) -> Result<bool, AllocError>
         requires { IsDraft (draft_of self.old) }
         ensures { IfOk result (λ b. AddsProject (draft_of self.old) (map (λ f. f.now) fields.now) (draft_of self.new) b) }
     {
@@ -184,7 +198,7 @@ impl Draft {
     }
 
     /// Adds a student, if one may come here.
-    fn add_student(&mut self, alloc: Global, fields: &[&[u8]]) -> Result<bool, RoundFault>
+    fn add_student(&mut self, alloc: Global, fields: &[&[u8]]) -> Result<bool, AllocError>
         requires { IsDraft (draft_of self.old) }
         ensures { IfOk result (λ b. AddsStudent (draft_of self.old) (map (λ f. f.now) fields.now) (draft_of self.new) b) }
     {
@@ -211,7 +225,7 @@ impl Draft {
     }
 
     /// Adds a pair, if one may come here.
-    fn add_pair(&mut self, alloc: Global, fields: &[&[u8]]) -> Result<bool, RoundFault>
+    fn add_pair(&mut self, alloc: Global, fields: &[&[u8]]) -> Result<bool, AllocError>
         requires { IsDraft (draft_of self.old) }
         ensures { IfOk result (λ b. AddsPair (draft_of self.old) (map (λ f. f.now) fields.now) (draft_of self.new) b) }
     {
@@ -242,65 +256,103 @@ impl Draft {
     }
 
     /// Adds a student's price, if one may come here.
-    fn add_student_price(&mut self, fields: &[&[u8]]) -> Result<bool, RoundFault> {
+    fn add_student_price(&mut self, fields: &[&[u8]]) -> Result<bool, AllocError>
+        requires { IsDraft (draft_of self.old) }
+        ensures { IfOk result (λ b. AddsStudentPrice (draft_of self.old) (map (λ f. f.now) fields.now) (draft_of self.new) b) }
+    {
         if !self.prices.projects.is_empty() || !self.prices.supervisors.is_empty() {
             return Ok(false);
         }
-        add_price(&mut self.prices.students, &self.students, fields)
+        let added = add_price(&mut self.prices.students, &self.students, fields)?;
+        Ok(added)
     }
 
     /// Adds a project's price, if one may come here.
-    fn add_project_price(&mut self, fields: &[&[u8]]) -> Result<bool, RoundFault> {
+    fn add_project_price(&mut self, fields: &[&[u8]]) -> Result<bool, AllocError>
+        requires { IsDraft (draft_of self.old) }
+        ensures { IfOk result (λ b. AddsProjectPrice (draft_of self.old) (map (λ f. f.now) fields.now) (draft_of self.new) b) }
+    {
         if !self.prices.supervisors.is_empty()
             || !is_none_or_all(&self.prices.students, self.students.len())
         {
             return Ok(false);
         }
-        add_price(&mut self.prices.projects, &self.projects, fields)
+        let added = add_price(&mut self.prices.projects, &self.projects, fields)?;
+        Ok(added)
     }
 
     /// Adds a supervisor's price, if one may come here.
-    fn add_supervisor_price(&mut self, fields: &[&[u8]]) -> Result<bool, RoundFault> {
+    fn add_supervisor_price(&mut self, fields: &[&[u8]]) -> Result<bool, AllocError>
+        requires { IsDraft (draft_of self.old) }
+        ensures { IfOk result (λ b. AddsSupervisorPrice (draft_of self.old) (map (λ f. f.now) fields.now) (draft_of self.new) b) }
+    {
         if !is_none_or_all(&self.prices.students, self.students.len())
             || !is_none_or_all(&self.prices.projects, self.projects.len())
         {
             return Ok(false);
         }
-        add_price(&mut self.prices.supervisors, &self.supervisors, fields)
+        let added = add_price(&mut self.prices.supervisors, &self.supervisors, fields)?;
+        Ok(added)
     }
 
     /// Adds what a line's fields stand for, if they may come here.
-    fn add(&mut self, alloc: Global, fields: &[&[u8]]) -> Result<bool, RoundFault> {
+    fn add(&mut self, alloc: Global, fields: &[&[u8]]) -> Result<bool, AllocError>
+        requires draft { IsDraft (draft_of self.old) }
+        requires fields { All IsField (map (λ f. f.now) fields.now) }
+        ensures { IfOk result (λ b. AddsLine (draft_of self.old) (line_of (map (λ f. f.now) fields.now)) (draft_of self.new) b) }
+    {
         let Some((letter, row)) = fields.split_first() else {
             return Ok(false);
         };
-        match *letter {
-            b"S" => self.add_supervisor(alloc, row),
-            b"P" => self.add_project(alloc, row),
-            b"C" => self.add_student(alloc, row),
-            b"M" => self.add_pair(alloc, row),
-            b"U" => self.add_student_price(row),
-            b"Y" => self.add_project_price(row),
-            b"Z" => self.add_supervisor_price(row),
-            _ => Ok(false),
+        if is_letter(letter, b'S') {
+            return self.add_supervisor(alloc, row);
         }
+        if is_letter(letter, b'P') {
+            return self.add_project(alloc, row);
+        }
+        if is_letter(letter, b'C') {
+            return self.add_student(alloc, row);
+        }
+        if is_letter(letter, b'M') {
+            return self.add_pair(alloc, row);
+        }
+        if is_letter(letter, b'U') {
+            return self.add_student_price(row);
+        }
+        if is_letter(letter, b'Y') {
+            return self.add_project_price(row);
+        }
+        if is_letter(letter, b'Z') {
+            return self.add_supervisor_price(row);
+        }
+        Ok(false)
     }
 
     /// Adds what a line stands for, if it may come here.
-    pub(crate) fn add_line(&mut self, alloc: Global, line: &[u8]) -> Result<bool, RoundFault> {
+    pub(crate) fn add_line(&mut self, alloc: Global, line: &[u8]) -> Result<bool, AllocError>
+        requires { IsDraft (draft_of self.old) }
+        ensures { IfOk result (λ b. AddsLine (draft_of self.old) line.now (draft_of self.new) b) }
+    {
         let fields = pieces(alloc, line, b',')?;
         self.add(alloc, &fields)
     }
 
     /// Whether the text may end here.
-    pub(crate) fn is_whole(&self) -> bool {
+    pub(crate) fn is_whole(&self) -> bool
+        ensures { IsTrue result ↔ IsWhole (draft_of self.now) }
+    {
         is_none_or_all(&self.prices.students, self.students.len())
             && is_none_or_all(&self.prices.projects, self.projects.len())
             && is_none_or_all(&self.prices.supervisors, self.supervisors.len())
     }
 
     /// The parts that were read.
-    pub(crate) fn finish(self, alloc: Global) -> Result<RoundParts, RoundFault> {
+    pub(crate) fn finish(self, alloc: Global) -> Result<RoundParts, AllocError>
+        requires draft { IsDraft (draft_of self) }
+        requires whole { IsWhole (draft_of self) }
+        ensures parts { IfOk result (λ r. IsRoundParts (parts_of r)) }
+        ensures lines { IfOk result (λ r. round_lines (parts_of r) ≡ round_lines (draft_of self)) }
+    {
         let mut places = self.places;
         fill(&mut places, self.students.len())?;
         match Instance::new(alloc, self.supervisors, self.projects, self.students) {
@@ -309,8 +361,10 @@ impl Draft {
                 matching: Matching { places },
                 prices: self.prices,
             }),
-            Err(InstanceFault::Memory) => Err(RoundFault::Memory),
-            Err(_) => unreachable!(),
+            Err(fault) => match fault {
+                InstanceFault::Memory => Err(AllocError),
+                _ => unreachable!(),
+            },
         }
     }
 }

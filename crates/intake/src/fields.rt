@@ -25,7 +25,7 @@ pub(crate) fn pieces<'a>(
 }
 
 /// The code that a field is.
-pub(crate) fn read_code(alloc: Global, field: &[u8]) -> Result<Option<Code>, TextFault>
+pub(crate) fn read_code(alloc: Global, field: &[u8]) -> Result<Option<Code>, AllocError>
     ensures { IfOk result (λ o. MatchOption o (is_code field.now ≡ false) (λ c. (c ≡ field.now) × IsTrue (is_code field.now))) }
 {
     let Ok(text) = str::from_utf8(field) else {
@@ -34,7 +34,7 @@ pub(crate) fn read_code(alloc: Global, field: &[u8]) -> Result<Option<Code>, Tex
     match Code::read(alloc, text) {
         Ok(code) => Ok(Some(code)),
         Err(TextFault::Form) => Ok(None),
-        Err(TextFault::Memory) => Err(TextFault::Memory),
+        Err(TextFault::Memory) => Err(AllocError),
     }
 }
 

@@ -24,8 +24,11 @@ pub fn read_round(alloc: Global, text: &[u8]) -> Result<RoundParts, RoundFault>
             return Err(RoundFault::Line(n + 1));
         }
     }
-    if !lines[whole].is_empty() || !draft.is_whole() {
+    if !lines[whole].is_empty() {
         return Err(RoundFault::Line(lines.len()));
     }
-    draft.finish(alloc)
+    if !draft.is_whole() {
+        return Err(RoundFault::Line(lines.len()));
+    }
+    Ok(draft.finish(alloc)?)
 }

@@ -1,8 +1,8 @@
 //! What is read of a round text, and why a text is none.
 #![tactic(auto)]
 
-use spa::{Instance, Matching, TextFault};
-use std::alloc::{AllocError, AllocFailed};
+use spa::{Instance, Matching};
+use std::alloc::AllocError;
 use thiserror::Error;
 use verdict::Prices;
 
@@ -39,28 +39,6 @@ impl From<AllocError> for RoundFault {
     ghost from_gives = { λ _ e. e ≡ Memory };
 
     fn from(_: AllocError) -> RoundFault {
-        RoundFault::Memory
-    }
-}
-
-impl<T: Drop> From<AllocFailed<T>> for RoundFault {
-    ghost use Rattle.std.specs.Prelude.{◌≡◌};
-    ghost use Rattle.intake.specs.declared.round.RoundFault.TheVariants.{Memory};
-
-    ghost from_gives = { λ _ e. e ≡ Memory };
-
-    fn from(_: AllocFailed<T>) -> RoundFault {
-        RoundFault::Memory
-    }
-}
-
-impl From<TextFault> for RoundFault {
-    ghost use Rattle.std.specs.Prelude.{◌≡◌};
-    ghost use Rattle.intake.specs.declared.round.RoundFault.TheVariants.{Memory};
-
-    ghost from_gives = { λ _ e. e ≡ Memory };
-
-    fn from(_: TextFault) -> RoundFault {
         RoundFault::Memory
     }
 }

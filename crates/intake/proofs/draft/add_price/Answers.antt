@@ -25,8 +25,7 @@ returns g c =
     let same = agrees c.as_bytes.result.now c.in-Some.code.now.now (sym c.if-ne.ensures) in
     let many : n ≡ length c.args.prices.now.items = search (rules) in
     let first : c.in-Some.code.now.now ≡ get_or (map g.E.Coded.key c.args.roll.now) (length c.args.prices.now.items) [] = sym same ∙ at ∙ ap (λ (k : ℕ). get_or (map g.E.Coded.key c.args.roll.now) k []) many in
-    let few : length c.args.prices.now.items < length (map g.E.Coded.key c.args.roll.now) = omega (arith, many, c.if-next-roll.false, length-map c.args.roll.now g.E.Coded.key) in
-    (
+    let few : length c.args.prices.now.items < length (map g.E.Coded.key c.args.roll.now) = omega (arith, many, c.if-next-roll.false, length-map c.args.roll.now g.E.Coded.key) in (
       c.in-Some-read_price.price,
       record {
         few = few;

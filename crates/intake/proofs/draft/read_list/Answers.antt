@@ -55,6 +55,6 @@ loop-field-preserved c =
     record {
       read = read_more fs c.deref.result.now c.push.new.self.items k code h here seen (c.in_ok-push.ensures.items ∙ ap (λ (l : List (List ℕ)). l ++ c.in-Some.code ∷ []) (sym c.deref.ensures.value) ∙ ap (λ (x : List ℕ). c.deref.result.now ++ x ∷ []) (sym c.as_str-in-loop-field.ensures.value));
       sound = sound_more codes fs c.deref.result.now (length c.args.projects.now) k known.0 code h here seen c.loop-field.invariant.sound
-        (subst (λ (x : List ℕ). Finds codes (length c.args.projects.now) x (Some known.0)) same (subst (λ (r : Option ℕ). Finds codes (length c.args.projects.now) c.as_str.result.now r) known.1 c.position_of.ensures))
-        (subst (λ (r : Option ℕ). Finds c.deref.result.now (length c.deref.result.now) code r) fresh c.place_of.ensures);
+          (subst (λ (x : List ℕ). Finds codes (length c.args.projects.now) x (Some known.0)) same (subst (λ (r : Option ℕ). Finds codes (length c.args.projects.now) c.as_str.result.now r) known.1 c.position_of.ensures))
+          (subst (λ (r : Option ℕ). Finds c.deref.result.now (length c.deref.result.now) code r) fresh c.place_of.ensures);
     }

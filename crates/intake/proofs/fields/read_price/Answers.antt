@@ -16,6 +16,7 @@ loop-t-preserved c = read_more c.args.fields.now c.loop-t.price c.loop-t.t c.in-
 
 pub returns : goal.returns
 returns c =
-    let r = c.loop-t.invariant in
-    (record { numbers = r.numbers; range = λ t h. r.range t (omega arith) },
-     fields_are c.args.fields.now c.loop-t.price (omega arith) (λ k f h. r.texts k f (omega arith)))
+    let r = c.loop-t.invariant in (
+      record { numbers = r.numbers; range = λ t h. r.range t (omega arith) },
+      fields_are c.args.fields.now c.loop-t.price (omega arith) (λ k f h. r.texts k f (omega arith)),
+    )

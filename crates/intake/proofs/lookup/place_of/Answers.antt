@@ -9,12 +9,14 @@ use Rattle.intake.proofs.lookup.place_of.Goals as goal
 
 pub returns-then-eq : goal.returns-then-eq
 returns-then-eq c =
-    let same : c.as_str.result.now ≡ c.args.code.now = (bytes_eq-Decides c.as_str.result.now c.args.code.now).0 (sym c.if-eq.ensures) in
-    (c.loop-place-test.true, slice_get_at c.args.list.now c.loop-place.place c.args.code.now c.args.code.now c.loop-place-test.true
-      (sym (get_or_read c.args.list.now c.loop-place.place c.index-list-place.result c.loop-place-test.true c.index-list-place.is c.args.code.now) ∙ sym c.as_str.ensures.value ∙ same))
+    let same : c.as_str.result.now ≡ c.args.code.now = (bytes_eq-Decides c.as_str.result.now c.args.code.now).0 (sym c.if-eq.ensures) in (
+      c.loop-place-test.true,
+      slice_get_at c.args.list.now c.loop-place.place c.args.code.now c.args.code.now c.loop-place-test.true
+          (sym (get_or_read c.args.list.now c.loop-place.place c.index-list-place.result c.loop-place-test.true c.index-list-place.is c.args.code.now) ∙ sym c.as_str.ensures.value ∙ same),
+    )
 
 pub loop-place-preserved : goal.loop-place-preserved
 loop-place-preserved c = below_more (λ p. slice_get c.args.list.now p ≡ Some c.args.code.now → ⊥) c.loop-place.place c.loop-place.invariant
     (λ e.
-      let read : c.index-list-place.result ≡ c.args.code.now = get_or_read c.args.list.now c.loop-place.place c.index-list-place.result c.loop-place-test.true c.index-list-place.is c.args.code.now ∙ get_found c.args.list.now c.loop-place.place c.args.code.now c.args.code.now e in
-      not_from_Decides (bytes_eq c.as_str.result.now c.args.code.now) (bytes_eq-Decides c.as_str.result.now c.args.code.now) (sym c.if-eq.ensures) (c.as_str.ensures.value ∙ read))
+    let read : c.index-list-place.result ≡ c.args.code.now = get_or_read c.args.list.now c.loop-place.place c.index-list-place.result c.loop-place-test.true c.index-list-place.is c.args.code.now ∙ get_found c.args.list.now c.loop-place.place c.args.code.now c.args.code.now e in
+    not_from_Decides (bytes_eq c.as_str.result.now c.args.code.now) (bytes_eq-Decides c.as_str.result.now c.args.code.now) (sym c.if-eq.ensures) (c.as_str.ensures.value ∙ read))

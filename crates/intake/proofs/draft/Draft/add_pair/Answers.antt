@@ -34,7 +34,7 @@ returns-in_default-position_of c = λ s k t.
     let text = (rw c.in-Some.is at c.in_ok-student.ensures).0 in
     let keys = student_keys c.args.self.now.students.items ∙ ap (map (λ e. e.0)) (sym c.deref.ensures.value) in
     nowhere (map (λ e. e.0) c.deref.result.now) (length c.deref.result.now) s c.as_str.result.now _ (sym (length-map c.deref.result.now (λ e. e.0))) (c.as_str.ensures.value ∙ text)
-      c.in_default-position_of.ensures (ap (λ (l : List (List ℕ)). slice_get l s) (sym keys) ∙ r.code)
+    c.in_default-position_of.ensures (ap (λ (l : List (List ℕ)). slice_get l s) (sym keys) ∙ r.code)
 
 pub returns-then-position-len : goal.returns-then-position-len
 returns-then-position-len c = λ s k t.
@@ -42,7 +42,7 @@ returns-then-position-len c = λ s k t.
     let text = (rw c.in-Some.is at c.in_ok-student.ensures).0 in
     let keys = student_keys c.args.self.now.students.items ∙ ap (map (λ e. e.0)) (sym c.deref.ensures.value) in
     let same : c.in-Some-position_of.position ≡ s = one_place _ c.in-Some-position_of.position s _ c.requires.students.rise
-      (ap (λ (l : List (List ℕ)). slice_get l c.in-Some-position_of.position) keys ∙ c.in-Some-position_of.ensures.1 ∙ ap Some (c.as_str.ensures.value ∙ text)) r.code in
+    (ap (λ (l : List (List ℕ)). slice_get l c.in-Some-position_of.position) keys ∙ c.in-Some-position_of.ensures.1 ∙ ap Some (c.as_str.ensures.value ∙ text)) r.code in
     let many : c.len.result ≡ length c.args.self.now.places.items = search (rules) in
     omega (arith, t.later, c.if-position-len.true)
 
@@ -53,11 +53,11 @@ returns-in_default-place_of c = λ s k t.
     let text2 = (rw c.in-Some-2.is at c.in_ok-project.ensures).0 in
     let keys = student_keys c.args.self.now.students.items ∙ ap (map (λ e. e.0)) (sym c.deref.ensures.value) in
     let same : c.in-Some-position_of.position ≡ s = one_place _ c.in-Some-position_of.position s _ c.requires.students.rise
-      (ap (λ (l : List (List ℕ)). slice_get l c.in-Some-position_of.position) keys ∙ c.in-Some-position_of.ensures.1 ∙ ap Some (c.as_str.ensures.value ∙ text)) r.code in
+    (ap (λ (l : List (List ℕ)). slice_get l c.in-Some-position_of.position) keys ∙ c.in-Some-position_of.ensures.1 ∙ ap Some (c.as_str.ensures.value ∙ text)) r.code in
     let within : c.in-Some-position_of.position < length c.args.self.now.students.items = omega (arith, c.in-Some-position_of.ensures.0, ap length c.deref.ensures.value) in
     let list = listed_at c.args.self.now.students.items c.in-Some-position_of.position s c.index.result.now t.student within c.index.ensures same t.here in
     nowhere c.deref-2.result.now (length c.deref-2.result.now) k c.as_str-2.result.now _ refl (c.as_str-2.ensures.value ∙ text2)
-      c.in_default-place_of.ensures (ap (λ (l : List (List ℕ)). slice_get l k) (c.deref-2.ensures.value ∙ sym list) ∙ r.place)
+    c.in_default-place_of.ensures (ap (λ (l : List (List ℕ)). slice_get l k) (c.deref-2.ensures.value ∙ sym list) ∙ r.place)
 
 pub overflow_cast-place : goal.overflow_cast-place
 overflow_cast-place c =
@@ -77,9 +77,8 @@ returns c =
     let here = student_at c.args.self.now.students.items s c.index.result.now within c.index.ensures in
     let many : c.len.result ≡ length c.args.self.now.places.items = search (rules) in
     let first : c.index.result.now.0 ≡ (get_or c.args.fields.now 0 blank).now = same_found _ s _ _ (get_mapped (λ (x : Student). x.code) _ s _ here)
-      (ap (λ (l : List (List ℕ)). slice_get l s) keys ∙ c.in-Some-position_of.ensures.1 ∙ ap Some (c.as_str.ensures.value ∙ text)) in
-    let second : (get_or c.args.fields.now 1 blank).now ≡ code_at c.index.result.now.1.items k = sym (c.as_str-2.ensures.value ∙ text2) ∙ sym (get_found c.deref-2.result.now k c.as_str-2.result.now [] c.in-Some-place_of.ensures.1) ∙ ap (λ (l : List (List ℕ)). code_at l k) c.deref-2.ensures.value in
-    (
+    (ap (λ (l : List (List ℕ)). slice_get l s) keys ∙ c.in-Some-position_of.ensures.1 ∙ ap Some (c.as_str.ensures.value ∙ text)) in
+    let second : (get_or c.args.fields.now 1 blank).now ≡ code_at c.index.result.now.1.items k = sym (c.as_str-2.ensures.value ∙ text2) ∙ sym (get_found c.deref-2.result.now k c.as_str-2.result.now [] c.in-Some-place_of.ensures.1) ∙ ap (λ (l : List (List ℕ)). code_at l k) c.deref-2.ensures.value in (
       s,
       k,
       record {
@@ -91,5 +90,5 @@ returns c =
         is = two_fields c.args.fields.now c.in-len2.len_at_least c.in-len2.len_below ∙ ap (λ (x : List ℕ). x ∷ (get_or c.args.fields.now 1 blank).now ∷ []) (sym first) ∙ ap (λ (x : List ℕ). c.index.result.now.0 ∷ x ∷ []) second;
       },
       ap (λ (l : List (Option ℕ)). parts c.args.self.now.supervisors.items c.args.self.now.projects.items (map (λ e. (e.0, e.1.items)) c.args.self.now.students.items) l c.args.self.now.prices.students.items c.args.self.now.prices.projects.items c.args.self.now.prices.supervisors.items)
-        (c.in_ok-push.ensures.items ∙ ap (λ (l : List (Option ℕ)). l ++ Some k ∷ []) c.in_ok-fill.ensures),
+          (c.in_ok-push.ensures.items ∙ ap (λ (l : List (Option ℕ)). l ++ Some k ∷ []) c.in_ok-fill.ensures),
     )

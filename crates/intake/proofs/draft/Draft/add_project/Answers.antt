@@ -37,8 +37,8 @@ returns-then-is_none c = λ e t.
     let keys = supervisor_keys c.args.self.now.supervisors.items ∙ ap (map (λ e. e.0)) (sym c.deref-2.ensures.value) in
     let at = standing (map (λ e. e.code) (supervisors_of c.args.self.now.supervisors.items)) e.supervisor t.known in
     nowhere (map (λ e. e.0) c.deref-2.result.now) (length c.deref-2.result.now) at.0 c.as_str-2.result.now e.supervisor (sym (length-map c.deref-2.result.now (λ e. e.0))) same
-      (subst (λ (r : Option ℕ). Finds (map (λ e. e.0) c.deref-2.result.now) (length c.deref-2.result.now) c.as_str-2.result.now r) none c.position_of.ensures)
-      (ap (λ (l : List (List ℕ)). slice_get l at.0) (sym keys) ∙ at.2)
+    (subst (λ (r : Option ℕ). Finds (map (λ e. e.0) c.deref-2.result.now) (length c.deref-2.result.now) c.as_str-2.result.now r) none c.position_of.ensures)
+    (ap (λ (l : List (List ℕ)). slice_get l at.0) (sym keys) ∙ at.2)
 
 pub returns : goal.returns
 returns c =
@@ -51,16 +51,15 @@ returns c =
     let keys = ap (map (λ e. e.0)) c.deref.ensures.value ∙ sym (project_keys c.args.self.now.projects.items) in
     let known = found_some c.position_of.result (c.is_none.ensures ∙ ap not c.if-is_none.false) in
     let at : slice_get (map (λ e. e.0) c.deref-2.result.now) known.0 ≡ Some c.as_str-2.result.now = (subst (λ (r : Option ℕ). Finds (map (λ e. e.0) c.deref-2.result.now) (length c.deref-2.result.now) c.as_str-2.result.now r) known.1 c.position_of.ensures).1 in
-    let owners = ap (map (λ e. e.0)) c.deref-2.ensures.value ∙ sym (supervisor_keys c.args.self.now.supervisors.items) in
-    (
+    let owners = ap (map (λ e. e.0)) c.deref-2.ensures.value ∙ sym (supervisor_keys c.args.self.now.supervisors.items) in (
       record { code = c.in-Some.code; supervisor = c.in-Some-2.supervisor; quota = c.in-Some-read_quota.quota },
       record {
         turn = ap (λ l. students_of (map (λ e. (e.0, e.1.items)) l)) (nil_from_length c.args.self.now.students.items none);
         prices = c.has_no_prices.ensures.0 c.if-not-has_no_prices.false;
         is = three_fields c.args.fields.now c.in-len3.len_at_least c.in-len3.len_below
-          ∙ ap (λ (x : List ℕ). x ∷ (get_or c.args.fields.now 1 blank).now ∷ (get_or c.args.fields.now 2 blank).now ∷ []) (sym code)
-          ∙ ap (λ (x : List ℕ). c.in-Some.code ∷ x ∷ (get_or c.args.fields.now 2 blank).now ∷ []) (sym supervisor)
-          ∙ ap (λ (x : List ℕ). c.in-Some.code ∷ c.in-Some-2.supervisor ∷ x ∷ []) c.in-Some-read_quota.ensures.1;
+            ∙ ap (λ (x : List ℕ). x ∷ (get_or c.args.fields.now 1 blank).now ∷ (get_or c.args.fields.now 2 blank).now ∷ []) (sym code)
+            ∙ ap (λ (x : List ℕ). c.in-Some.code ∷ x ∷ (get_or c.args.fields.now 2 blank).now ∷ []) (sym supervisor)
+            ∙ ap (λ (x : List ℕ). c.in-Some.code ∷ c.in-Some-2.supervisor ∷ x ∷ []) c.in-Some-read_quota.ensures.1;
         form = subst (λ (x : List ℕ). IsTrue (is_code x)) (sym code) text.1;
         quota = c.in-Some-read_quota.ensures.0;
         known = contained _ known.0 c.in-Some-2.supervisor (ap (λ (l : List (List ℕ)). slice_get l known.0) (sym owners) ∙ at ∙ ap Some c.as_str-2.ensures.value);

@@ -43,8 +43,7 @@ returns c =
     let many : c.len.result ≡ length c.args.self.now.students.items = search (rules) in
     let keys = ap (map (λ e. e.0)) c.deref.ensures.value ∙ sym (student_keys c.args.self.now.students.items) in
     let owners = ap (map (λ e. e.0)) c.deref-2.ensures.value ∙ sym (project_keys c.args.self.now.projects.items) in
-    let read = rw c.in-Some-3.is at c.in_ok-list.ensures in
-    (
+    let read = rw c.in-Some-3.is at c.in_ok-list.ensures in (
       record { code = c.in-Some-2.code; list = c.in-Some-3.list.items },
       record {
         turn = nil_from_length c.args.self.now.places.items none;
@@ -56,5 +55,5 @@ returns c =
         next = rise_moved _ _ _ _ keys c.as_str.ensures.value (c.is_next.ensures.0 c.if-not-is_next.false);
       },
       student_added c.args.self.now.supervisors.items c.args.self.now.projects.items (map (λ e. (e.0, e.1.items)) c.args.self.now.students.items) (map (λ e. (e.0, e.1.items)) c.push.new.self.items) c.args.self.now.places.items _ _ _ c.in-Some-2.code c.in-Some-3.list.items
-        (ap (map (λ e. (e.0, e.1.items))) c.in_ok-push.ensures.items ∙ map_push (λ e. (e.0, e.1.items)) c.args.self.now.students.items (c.in-Some-2.code, c.in-Some-3.list)),
+          (ap (map (λ e. (e.0, e.1.items))) c.in_ok-push.ensures.items ∙ map_push (λ e. (e.0, e.1.items)) c.args.self.now.students.items (c.in-Some-2.code, c.in-Some-3.list)),
     )

@@ -28,8 +28,7 @@ returns c =
     let code : c.in-Some.code ≡ (get_or c.args.fields.now 0 blank).now = text.0 in
     let none : length c.args.self.now.projects.items ≡ 0 = search (rules) in
     let many : c.len.result ≡ length c.args.self.now.supervisors.items = search (rules) in
-    let keys = ap (map (λ e. e.0)) c.deref.ensures.value ∙ sym (supervisor_keys c.args.self.now.supervisors.items) in
-    (
+    let keys = ap (map (λ e. e.0)) c.deref.ensures.value ∙ sym (supervisor_keys c.args.self.now.supervisors.items) in (
       record { code = c.in-Some.code; quota = c.in-Some-read_quota.quota },
       record {
         turn = ap projects_of (nil_from_length c.args.self.now.projects.items none);

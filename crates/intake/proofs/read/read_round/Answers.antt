@@ -1,0 +1,95 @@
+use Rattle.std.proofs.Common.{◌≡◌, ℕ, ◌+◌, ◌-◌, ◌<◌, ◌≤◌, Bool, true, false, List, [], length, map, take, sym, ap, subst, ◌∙◌, arith, rules}
+use denote.Ref.{Bor}
+use Rattle.std.proofs.lemmas.List.{length-map}
+use Rattle.intake.specs.Lines.{round_lines}
+use Rattle.intake.specs.Reading.{pieces}
+use Rattle.intake.specs.Draft.{draft_of, IsWhole, AddsLine}
+use Rattle.intake.proofs.Bad.{some_piece, piece_at, empty_piece, other_piece, line_more, bad_line, bad_end, good_text}
+use Rattle.intake.proofs.read.read_round.Goals as goal
+
+pub overflow_sub-whole : goal.overflow_sub-whole
+overflow_sub-whole c =
+    let len : c.len-whole.result ≡ length c.in_ok-lines.lines.items = search (rules) in
+    omega (arith, len, some_piece c.args.text.now, ap length c.in_ok-lines.ensures, length-map c.in_ok-lines.lines.items (λ (f : Bor (List ℕ)). f.now))
+
+pub index-requires-2 : goal.index-requires-2
+index-requires-2 c =
+    let len : c.len-whole.result ≡ length c.in_ok-lines.lines.items = search (rules) in
+    omega (arith, len, c.len-whole.ensures, some_piece c.args.text.now, ap length c.in_ok-lines.ensures, length-map c.in_ok-lines.lines.items (λ (f : Bor (List ℕ)). f.now))
+
+pub returns-then-not-branch : goal.returns-then-not-branch
+returns-then-not-branch c =
+    let n : ℕ = c.loop-n.n in
+    let len : c.len-whole.result ≡ length c.in_ok-lines.lines.items = search (rules) in
+    let h : n < length c.in_ok-lines.lines.items = omega (arith, len, c.loop-n-test.true) in
+    let many : length c.in_ok-lines.lines.items ≡ length (pieces c.args.text.now) = sym (length-map c.in_ok-lines.lines.items (λ (f : Bor (List ℕ)). f.now)) ∙ ap length c.in_ok-lines.ensures in
+    record {
+      reading = (
+        omega arith,
+        bad_line c.args.text.now n (draft_of c.loop-n.draft) c.index.result.now.now c.loop-n.invariant.draft c.loop-n.invariant.lines (omega (arith, many, len, c.loop-n-test.true))
+            (piece_at c.args.text.now c.in_ok-lines.lines.items n c.index.result.now c.in_ok-lines.ensures h c.index.ensures)
+            (subst (λ (b : Bool). AddsLine (draft_of c.loop-n.draft) c.index.result.now.now (draft_of c.add_line.new.self) b) c.if-not-branch.true c.in_ok-add_line.ensures),
+      );
+    }
+
+pub loop-n-preserved : goal.loop-n-preserved
+loop-n-preserved c =
+    let n : ℕ = c.loop-n.n in
+    let len : c.len-whole.result ≡ length c.in_ok-lines.lines.items = search (rules) in
+    let h : n < length c.in_ok-lines.lines.items = omega (arith, len, c.loop-n-test.true) in
+    let many : length c.in_ok-lines.lines.items ≡ length (pieces c.args.text.now) = sym (length-map c.in_ok-lines.lines.items (λ (f : Bor (List ℕ)). f.now)) ∙ ap length c.in_ok-lines.ensures in
+    let added = subst (λ (b : Bool). AddsLine (draft_of c.loop-n.draft) c.index.result.now.now (draft_of c.add_line.new.self) b) c.if-not-branch.false c.in_ok-add_line.ensures in
+    record {
+      draft = added.0;
+      lines = line_more c.args.text.now n (round_lines (draft_of c.loop-n.draft)) _ c.index.result.now.now (omega (arith, many))
+          (piece_at c.args.text.now c.in_ok-lines.lines.items n c.index.result.now c.in_ok-lines.ensures h c.index.ensures) c.loop-n.invariant.lines added.1;
+    }
+
+pub returns-then-not-is_empty : goal.returns-then-not-is_empty
+returns-then-not-is_empty c =
+    let w : ℕ = c.len-whole.result - 1 in
+    let len : c.len-whole.result ≡ length c.in_ok-lines.lines.items = search (rules) in
+    let again : c.len.result ≡ length c.in_ok-lines.lines.items = search (rules) in
+    let many : length c.in_ok-lines.lines.items ≡ length (pieces c.args.text.now) = sym (length-map c.in_ok-lines.lines.items (λ (f : Bor (List ℕ)). f.now)) ∙ ap length c.in_ok-lines.ensures in
+    let some = some_piece c.args.text.now in
+    let exit : c.loop-n.n ≡ w = omega (arith, c.loop-n-test.false, c.loop-n.auto.n-end) in
+    record {
+      reading = (
+        omega arith,
+        bad_end c.args.text.now c.len.result w (draft_of c.loop-n.draft) c.loop-n.invariant.draft (c.loop-n.invariant.lines ∙ ap (λ (n : ℕ). take n (pieces c.args.text.now)) exit) (omega (arith, many, len, some)) (omega (arith, again, many, len, some))
+            (λ e. absurd (other_piece c.index-2.result.now.now c.is_empty.result c.is_empty.ensures c.if-not-is_empty.true
+            (sym (piece_at c.args.text.now c.in_ok-lines.lines.items w c.index-2.result.now c.in_ok-lines.ensures (omega (arith, many, len, some)) c.index-2.ensures) ∙ e))),
+      );
+    }
+
+pub returns-then-not-is_whole : goal.returns-then-not-is_whole
+returns-then-not-is_whole c =
+    let w : ℕ = c.len-whole.result - 1 in
+    let len : c.len-whole.result ≡ length c.in_ok-lines.lines.items = search (rules) in
+    let again : c.len-then-not-is_whole.result ≡ length c.in_ok-lines.lines.items = search (rules) in
+    let many : length c.in_ok-lines.lines.items ≡ length (pieces c.args.text.now) = sym (length-map c.in_ok-lines.lines.items (λ (f : Bor (List ℕ)). f.now)) ∙ ap length c.in_ok-lines.ensures in
+    let some = some_piece c.args.text.now in
+    let exit : c.loop-n.n ≡ w = omega (arith, c.loop-n-test.false, c.loop-n.auto.n-end) in
+    record {
+      reading = (
+        omega arith,
+        bad_end c.args.text.now c.len-then-not-is_whole.result w (draft_of c.loop-n.draft) c.loop-n.invariant.draft (c.loop-n.invariant.lines ∙ ap (λ (n : ℕ). take n (pieces c.args.text.now)) exit) (omega (arith, many, len, some)) (omega (arith, again, many, len, some))
+            (λ e whole. let yes = c.is_whole.ensures.1 whole in let other = c.if-not-is_whole.true in cc),
+      );
+    }
+
+pub returns : goal.returns
+returns c =
+    let w : ℕ = c.len-whole.result - 1 in
+    let len : c.len-whole.result ≡ length c.in_ok-lines.lines.items = search (rules) in
+    let many : length c.in_ok-lines.lines.items ≡ length (pieces c.args.text.now) = sym (length-map c.in_ok-lines.lines.items (λ (f : Bor (List ℕ)). f.now)) ∙ ap length c.in_ok-lines.ensures in
+    let some = some_piece c.args.text.now in
+    let exit : c.loop-n.n ≡ w = omega (arith, c.loop-n-test.false, c.loop-n.auto.n-end) in
+    let last = piece_at c.args.text.now c.in_ok-lines.lines.items w c.index-2.result.now c.in_ok-lines.ensures (omega (arith, many, len, some)) c.index-2.ensures ∙ empty_piece c.index-2.result.now.now c.is_empty.result c.is_empty.ensures c.if-not-is_empty.false in
+    record {
+      reading = (
+        c.in_ok-finish.ensures.parts,
+        good_text c.args.text.now w _ (c.in_ok-finish.ensures.lines ∙ c.loop-n.invariant.lines ∙ ap (λ (n : ℕ). take n (pieces c.args.text.now)) exit) (omega (arith, many, len, some)) last,
+        omega arith,
+      );
+    }
