@@ -29,6 +29,3 @@ pub use network::Network;
 
 /// The greatest span of a price.
 pub const LARGEST_PRICE: u64 = 4012;
-
-#[cfg(test)]
-mod tests;

@@ -15,6 +15,3 @@ mod worths;
 pub use auditing::audit;
 pub use outcome::Audit;
 pub use solving::{Solved, solve};
-
-#[cfg(test)]
-mod tests;

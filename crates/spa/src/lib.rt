@@ -56,6 +56,3 @@ pub const RANKS: usize = 8;
 
 /// The places of a worth: the size, and one for each rank.
 pub const PLACES: usize = RANKS + 1;
-
-#[cfg(test)]
-mod tests;

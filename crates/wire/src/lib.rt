@@ -20,8 +20,6 @@ mod handling;
 mod laws;
 mod outcome;
 mod service;
-#[cfg(test)]
-mod tests;
 mod writing;
 
 pub use answers::{json, json_head, refused};

@@ -1,11 +1,10 @@
-//! What no clause says: worked admissions, and that each comparison is counted.
-#![tactic(auto)]
+//! Worked admissions to a network, and that each comparison is counted.
 
 ghost use Rattle.std.specs.Prelude.{◌≡◌, ◌+◌, ◌<◌, ◌≤◌, length, IsTrue, All};
 ghost use Rattle.spa.specs.Places.{lex_ops};
 ghost use Rattle.spa.specs.declared.TheConstants.{MOST_SUPERVISORS, MOST_PROJECTS, MOST_PLACES, PLACES};
 
-use crate::{Admitted, Network};
+use network::{Admitted, Network};
 use spa::{Lex, MOST_PLACES, MOST_PROJECTS, MOST_STUDENTS, MOST_SUPERVISORS, PLACES, RANKS, Worth};
 use std::alloc::Global;
 use std::marker::Model;
@@ -172,39 +171,47 @@ fn admissions_are_counted(rt: HostRuntime) -> Result<(), Fail> {
     Ok(())
 }
 
+type Pair = (u32, u32, u32, [usize; 2], [usize; 2], usize, usize);
+
 // The supervisor's quota, those of P and Q, and the lists of A and B; then by hand how many are placed, and the sum of
 // their ranks.
 #[rattlefmt::skip]
-const PAIRS: [(u32, u32, u32, [usize; 2], [usize; 2], usize, usize); 8] = [
-    (2, 1, 1, [0, 1], [1, 0], 2, 2),
-    (2, 1, 1, [0, 1], [0, 1], 2, 3),
-    (2, 2, 1, [0, 1], [0, 1], 2, 2),
-    (2, 1, 0, [0, 1], [0, 1], 1, 1),
-    (2, 0, 1, [0, 1], [0, 1], 1, 2),
-    (1, 1, 1, [0, 1], [1, 0], 1, 1),
-    (1, 2, 2, [1, 0], [1, 0], 1, 1),
-    (0, 1, 1, [0, 1], [1, 0], 0, 0),
-];
+fn pairs() -> [Pair; 8] {
+    [
+        (2, 1, 1, [0, 1], [1, 0], 2, 2),
+        (2, 1, 1, [0, 1], [0, 1], 2, 3),
+        (2, 2, 1, [0, 1], [0, 1], 2, 2),
+        (2, 1, 0, [0, 1], [0, 1], 1, 1),
+        (2, 0, 1, [0, 1], [0, 1], 1, 2),
+        (1, 1, 1, [0, 1], [1, 0], 1, 1),
+        (1, 2, 2, [1, 0], [1, 0], 1, 1),
+        (0, 1, 1, [0, 1], [1, 0], 0, 0),
+    ]
+}
 
-#[test]
-fn quotas_are_kept(rt: HostRuntime) -> Result<(), Fail> {
-    let alloc = rt.alloc();
-    for (quota, p, q, a, b, placed, ranks) in PAIRS {
-        let mut trial = Trial::start(&rt, alloc, &[quota], &[(0, p), (0, q)])?;
-        let first = trial.admit(&rt, alloc, &a)?;
-        let second = trial.admit(&rt, alloc, &b)?;
-        let rank_a = trial.rank_of(&rt, 0);
-        let rank_b = trial.rank_of(&rt, 1);
-        assert_eq!(rt; first.placed, quota > 0);
+/// Compares how many of each row are placed, and at which ranks.
+fn compare_pairs(alloc: Global, rt: &impl Abort, rows: &[Pair]) -> Result<(), Fail> {
+    for (quota, p, q, a, b, placed, ranks) in rows {
+        let mut trial = Trial::start(rt, alloc, &[*quota], &[(0, *p), (0, *q)])?;
+        let first = trial.admit(rt, alloc, a.as_slice())?;
+        let second = trial.admit(rt, alloc, b.as_slice())?;
+        let rank_a = trial.rank_of(rt, 0);
+        let rank_b = trial.rank_of(rt, 1);
+        assert_eq!(rt; first.placed, *quota > 0);
         assert_eq!(rt; second.placed, rank_b > 0);
         assert_eq!(rt;
             rank_a.min(1).saturating_add(rank_b.min(1)),
-            placed,
+            *placed,
             "{quota} {p} {q}"
         );
-        assert_eq!(rt; rank_a.saturating_add(rank_b), ranks, "{quota} {p} {q}");
+        assert_eq!(rt; rank_a.saturating_add(rank_b), *ranks, "{quota} {p} {q}");
     }
     Ok(())
+}
+
+#[test]
+fn quotas_are_kept(rt: HostRuntime) -> Result<(), Fail> {
+    compare_pairs(rt.alloc(), &rt, pairs().as_slice())
 }
 
 // L and M have quota 1; L offers P and Q, M offers R. A lists P, R; B lists Q alone, so A makes room at R.

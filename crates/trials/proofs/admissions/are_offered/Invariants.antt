@@ -1,6 +1,6 @@
 use Rattle.std.proofs.Common.{ℕ, ◌<◌, ◌≤◌}
 use Rattle.std.specs.Prelude.{slice_index_or}
-use Rattle.network.proofs.tests.are_offered.Given as goal
+use Rattle.trials.proofs.admissions.are_offered.Given as goal
 
 abbrev pub invariant-loop-i : goal.invariant-loop-i
 invariant-loop-i l = record {

@@ -2,7 +2,7 @@ use Rattle.std.proofs.Common.{ℕ, ◌<◌, ◌≤◌}
 use Rattle.std.specs.Prelude.{slice_index_or}
 use Rattle.spa.specs.Places.{Places, lex_ops}
 use Rattle.spa.specs.declared.TheConstants.{PLACES}
-use Rattle.network.proofs.tests.is_list.Given as goal
+use Rattle.trials.proofs.admissions.is_list.Given as goal
 
 abbrev pub invariant-loop-i : goal.invariant-loop-i
 invariant-loop-i l = record {

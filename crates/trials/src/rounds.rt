@@ -1,8 +1,8 @@
-//! What no clause says: worked rounds, audits, and a search through all matchings of small instances.
-#![tactic(auto)]
+//! Worked rounds, audits, and a search through all matchings of small instances.
 
-use crate::{Audit, audit, solve};
-use spa::{Code, Instance, Matching, RANKS, profile};
+use crate::rolls_of::{instance, places};
+use solver::{Audit, audit, solve};
+use spa::{Instance, Matching, RANKS, profile};
 use std::alloc::Global;
 use std::fmt::Write;
 use std::process::Abort;
@@ -10,90 +10,43 @@ use std::rt::HostRuntime;
 use std::test::Fail;
 use verdict::check;
 
-/// The instance of rolls such as `L:5`, `P:L:1` and `A:P:Q`: a code, what it refers to, and a quota, by colons.
-fn instance(
-    alloc: Global,
-    supervisors: &str,
-    projects: &str,
-    students: &str,
-) -> Result<Instance, Fail> {
-    let mut supervisor_roll = Vec::new(alloc);
-    for entry in supervisors.split_whitespace() {
-        let mut fields = entry.split(':');
-        let code = Code::read(alloc, fields.next().unwrap_or(""))?;
-        supervisor_roll.push((code, fields.next().unwrap_or("").parse()?))?;
-    }
-    let mut project_roll = Vec::new(alloc);
-    for entry in projects.split_whitespace() {
-        let mut fields = entry.split(':');
-        let code = Code::read(alloc, fields.next().unwrap_or(""))?;
-        let supervisor = Code::read(alloc, fields.next().unwrap_or(""))?;
-        project_roll.push((code, supervisor, fields.next().unwrap_or("").parse()?))?;
-    }
-    Ok(Instance::new(
-        alloc,
-        supervisor_roll,
-        project_roll,
-        students_of(alloc, students)?,
-    )?)
-}
-
-/// The students of `A:P:Q C:Z:P`.
-fn students_of(alloc: Global, students: &str) -> Result<Vec<(Code, Vec<Code>)>, Fail> {
-    let mut roll = Vec::new(alloc);
-    for entry in students.split_whitespace() {
-        let mut fields = entry.split(':');
-        let code = Code::read(alloc, fields.next().unwrap_or(""))?;
-        let mut list = Vec::new(alloc);
-        for field in fields {
-            list.push(Code::read(alloc, field)?)?;
-        }
-        roll.push((code, list))?;
-    }
-    Ok(roll)
-}
-
-/// The places of `0-2`, where `-` is none.
-fn places(alloc: Global, text: &str) -> Result<Matching, Fail> {
-    let mut places = Vec::new(alloc);
-    for byte in text.as_bytes() {
-        if *byte == b'-' {
-            places.push(None)?;
-        } else {
-            places.push(Some(byte.wrapping_sub(b'0')))?;
-        }
-    }
-    Ok(Matching { places })
-}
-
 /// The profile of a matching, which is one of the instance.
 fn profile_of(rt: &impl Abort, instance: &Instance, matching: &Matching) -> [u32; RANKS] {
     assert!(rt; matching.fault(instance).is_none());
     profile(instance, matching)
 }
 
+type Round = (
+    &'static str,
+    &'static str,
+    &'static str,
+    &'static str,
+    [u32; RANKS],
+);
+
 // Supervisors, projects and students; then the places of the one best matching, and its profile, worked out by hand.
 #[rattlefmt::skip]
-const ROUNDS: [(&str, &str, &str, &str, [u32; RANKS]); 6] = [
-    ("L:5",     "P:L:1 Q:L:1 Z:L:0",                 "A:P:Q C:Z:P",       "11", [0, 2, 0, 0, 0, 0, 0, 0]),
-    ("L:5",     "P:L:1 Q:L:1",                       "A:P:Q B:Q:P",       "00", [2, 0, 0, 0, 0, 0, 0, 0]),
-    ("L:5",     "U:L:1 V:L:1 X:L:1 Y:L:0 Z:L:0",     "A:X:V C:Z:X:Y:U",   "03", [1, 0, 0, 1, 0, 0, 0, 0]),
-    ("K:1 L:1", "P:L:1 Q:L:1 R:K:1",                 "A:P B:Q:R",         "01", [1, 1, 0, 0, 0, 0, 0, 0]),
-    ("L:5",     "P:L:1",                             "",                  "",   [0, 0, 0, 0, 0, 0, 0, 0]),
-    ("L:0",     "P:L:1",                             "A:P",               "-",  [0, 0, 0, 0, 0, 0, 0, 0]),
-];
+fn rounds() -> [Round; 6] {
+    [
+        ("L:5",     "P:L:1 Q:L:1 Z:L:0",                 "A:P:Q C:Z:P",       "11", [0, 2, 0, 0, 0, 0, 0, 0]),
+        ("L:5",     "P:L:1 Q:L:1",                       "A:P:Q B:Q:P",       "00", [2, 0, 0, 0, 0, 0, 0, 0]),
+        ("L:5",     "U:L:1 V:L:1 X:L:1 Y:L:0 Z:L:0",     "A:X:V C:Z:X:Y:U",   "03", [1, 0, 0, 1, 0, 0, 0, 0]),
+        ("K:1 L:1", "P:L:1 Q:L:1 R:K:1",                 "A:P B:Q:R",         "01", [1, 1, 0, 0, 0, 0, 0, 0]),
+        ("L:5",     "P:L:1",                             "",                  "",   [0, 0, 0, 0, 0, 0, 0, 0]),
+        ("L:0",     "P:L:1",                             "A:P",               "-",  [0, 0, 0, 0, 0, 0, 0, 0]),
+    ]
+}
 
-#[test]
-fn worked_rounds_are_solved(rt: HostRuntime) -> Result<(), Fail> {
-    let alloc = rt.alloc();
-    for (supervisors, projects, students, want, counts) in ROUNDS {
+/// Compares what is solved with each row, and checks it.
+fn compare_rounds(alloc: Global, rt: &impl Abort, rows: &[Round]) -> Result<(), Fail> {
+    for (supervisors, projects, students, want, counts) in rows {
         let instance = instance(alloc, supervisors, projects, students)?;
         let solved = solve(alloc, &instance)?;
         let want = places(alloc, want)?;
         assert_eq!(rt; solved.matching.places, want.places, "{students}");
         assert_eq!(rt;
-            profile_of(&rt, &instance, &solved.matching),
-            counts,
+            profile_of(rt, &instance, &solved.matching),
+            *counts,
             "{students}"
         );
         assert_eq!(rt;
@@ -103,6 +56,11 @@ fn worked_rounds_are_solved(rt: HostRuntime) -> Result<(), Fail> {
         );
     }
     Ok(())
+}
+
+#[test]
+fn worked_rounds_are_solved(rt: HostRuntime) -> Result<(), Fail> {
+    compare_rounds(rt.alloc(), &rt, rounds().as_slice())
 }
 
 /// What an audit says of a matching of the instance.

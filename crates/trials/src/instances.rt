@@ -1,0 +1,156 @@
+//! Instances, matchings and profiles, worked out by hand.
+
+use crate::rolls_of::{instance, places, projects, students, supervisors};
+use spa::{Instance, InstanceFault, MatchFault, RANKS, Roll, profile};
+use std::alloc::Global;
+use std::process::Abort;
+use std::rt::HostRuntime;
+use std::test::Fail;
+
+/// Rolls, and the first fault of them.
+#[rattlefmt::skip]
+fn faults() -> [(&'static str, &'static str, &'static str, InstanceFault); 14] {
+    [
+        ("L:501",     "",                  "",                      InstanceFault::Limit),
+        ("L:5 L:501", "P:N:1",             "A A",                   InstanceFault::Limit),
+        ("L:5",       "P:L:501",           "",                      InstanceFault::Limit),
+        ("L:5 K:1 L:1", "P:N:1",           "",                      InstanceFault::RepeatedCode(Roll::Supervisors, 2)),
+        ("L:5",       "P:L:1 P:N:1",       "A:P",                   InstanceFault::RepeatedCode(Roll::Projects, 1)),
+        ("L:5",       "P:N:1",             "A:P A:P",               InstanceFault::RepeatedCode(Roll::Students, 1)),
+        ("L:5",       "P:L:1 Q:N:1",       "A",                     InstanceFault::UnknownSupervisor(1)),
+        ("L:5",       "P:L:1",             "A:P B",                 InstanceFault::ListLength(1)),
+        ("L:5",       "P:L:1",             "A:P:P:P:P:P:P:P:P:P",   InstanceFault::ListLength(0)),
+        ("L:5",       "P:L:1",             "A:P:N",                 InstanceFault::UnknownProject(0, 1)),
+        ("L:5",       "P:L:1",             "A:P B:P:N:P",           InstanceFault::UnknownProject(1, 1)),
+        ("L:5",       "P:L:1",             "A:P:P",                 InstanceFault::RepeatedProject(0, 1)),
+        ("L:5",       "P:L:1 Q:L:1",       "A:P B:Q:P:Q C",         InstanceFault::RepeatedProject(1, 2)),
+        ("L:5",       "P:L:1",             "A:N B",                 InstanceFault::UnknownProject(0, 0)),
+    ]
+}
+
+/// Compares the fault that these rolls have with the wanted one.
+fn compare_fault(
+    alloc: Global,
+    rt: &impl Abort,
+    supervisor_roll: &str,
+    project_roll: &str,
+    student_roll: &str,
+    want: InstanceFault,
+) -> Result<(), Fail> {
+    let made = Instance::new(
+        alloc,
+        supervisors(alloc, supervisor_roll)?,
+        projects(alloc, project_roll)?,
+        students(alloc, student_roll)?,
+    );
+    match made {
+        Ok(_made) => assert!(rt;
+            false,
+            "{supervisor_roll} / {project_roll} / {student_roll}"
+        ),
+        Err(fault) => assert_eq!(rt;
+            fault,
+            want,
+            "{supervisor_roll} / {project_roll} / {student_roll}"
+        ),
+    }
+    Ok(())
+}
+
+/// The same of each row.
+fn compare_faults(
+    alloc: Global,
+    rt: &impl Abort,
+    rows: &[(&'static str, &'static str, &'static str, InstanceFault)],
+) -> Result<(), Fail> {
+    for (supervisor_roll, project_roll, student_roll, want) in rows {
+        compare_fault(
+            alloc,
+            rt,
+            supervisor_roll,
+            project_roll,
+            student_roll,
+            *want,
+        )?;
+    }
+    Ok(())
+}
+
+#[test]
+fn the_first_fault_of_rolls_is_named(rt: HostRuntime) -> Result<(), Fail> {
+    compare_faults(rt.alloc(), &rt, faults().as_slice())
+}
+
+#[test]
+fn an_instance_lends_its_rolls(rt: HostRuntime) -> Result<(), Fail> {
+    let alloc = rt.alloc();
+    let instance = instance(alloc, "L:5 K:1", "P:L:1 Q:K:2 Z:L:0", "A:P:Q C:Z:P")?;
+    assert_eq!(rt; instance.supervisor_count(), 2);
+    assert_eq!(rt; instance.project_count(), 3);
+    assert_eq!(rt; instance.student_count(), 2);
+    assert!(rt; instance.supervisors() == [5, 1].as_slice());
+    assert!(rt; instance.projects() == [(0, 1), (1, 2), (0, 0)].as_slice());
+    for (code, want) in instance.project_codes().iter().zip(["P", "Q", "Z"]) {
+        assert_eq!(rt; code.as_str(), want);
+    }
+    for (code, want) in instance.supervisor_codes().iter().zip(["L", "K"]) {
+        assert_eq!(rt; code.as_str(), want);
+    }
+    for (code, want) in instance.student_codes().iter().zip(["A", "C"]) {
+        assert_eq!(rt; code.as_str(), want);
+    }
+    for (list, want) in instance.students().iter().zip([[0, 1], [2, 0]]) {
+        assert!(rt; list.as_slice() == want.as_slice());
+    }
+    Ok(())
+}
+
+// A lists P; B lists R, P; C lists Z, P, R; D lists R, Q, P. P has quota 2, Q and R have 1, Z has 0; L, who offers P, Q
+// and Z, has 2, and K, who offers R, has 1. Places, their first fault, and without one their size and profile.
+#[rattlefmt::skip]
+fn matchings() -> [(&'static str, Option<MatchFault>, usize, [u32; RANKS]); 12] {
+    [
+        ("----", None,                                0, [0, 0, 0, 0, 0, 0, 0, 0]),
+        ("0---", None,                                1, [1, 0, 0, 0, 0, 0, 0, 0]),
+        ("01--", None,                                2, [1, 1, 0, 0, 0, 0, 0, 0]),
+        ("--2-", None,                                1, [0, 0, 1, 0, 0, 0, 0, 0]),
+        ("00-1", None,                                3, [2, 1, 0, 0, 0, 0, 0, 0]),
+        ("---",  Some(MatchFault::Length),            0, [0, 0, 0, 0, 0, 0, 0, 0]),
+        ("-2-3", Some(MatchFault::Place(1)),          0, [0, 0, 0, 0, 0, 0, 0, 0]),
+        ("--0-", Some(MatchFault::ProjectOver(3)),    0, [0, 0, 0, 0, 0, 0, 0, 0]),
+        ("010-", Some(MatchFault::ProjectOver(3)),    0, [0, 0, 0, 0, 0, 0, 0, 0]),
+        ("01-2", Some(MatchFault::ProjectOver(0)),    0, [0, 0, 0, 0, 0, 0, 0, 0]),
+        ("-0-0", Some(MatchFault::ProjectOver(2)),    0, [0, 0, 0, 0, 0, 0, 0, 0]),
+        ("01-1", Some(MatchFault::SupervisorOver(0)), 0, [0, 0, 0, 0, 0, 0, 0, 0]),
+    ]
+}
+
+/// Compares the fault of each row's places, and where they have none their size and profile.
+fn compare_matchings(
+    alloc: Global,
+    rt: &impl Abort,
+    instance: &Instance,
+    rows: &[(&'static str, Option<MatchFault>, usize, [u32; RANKS])],
+) -> Result<(), Fail> {
+    for (text, want, size, ranks) in rows {
+        let matching = places(alloc, text)?;
+        let fault = matching.fault(instance);
+        assert_eq!(rt; fault, *want, "{text}");
+        if fault.is_none() {
+            assert_eq!(rt; matching.size(instance), *size, "{text}");
+            assert_eq!(rt; profile(instance, &matching), *ranks, "{text}");
+        }
+    }
+    Ok(())
+}
+
+#[test]
+fn the_first_fault_of_a_matching_is_named(rt: HostRuntime) -> Result<(), Fail> {
+    let instance = instance(
+        rt.alloc(),
+        "L:2 K:1",
+        "P:L:2 Q:L:1 R:K:1 Z:L:0",
+        "A:P B:R:P C:Z:P:R D:R:Q:P",
+    )?;
+    compare_matchings(rt.alloc(), &rt, &instance, matchings().as_slice())
+}

@@ -1,0 +1,20 @@
+//! The tests of `spa`, `verdict`, `network`, `solver` and `wire`: worked examples of what no clause says, each through
+//! public calls alone.
+//!
+//! They stand in one crate above all others, so that none of those is proved once more for its tests.
+#![tactic(auto)]
+
+#[cfg(test)]
+mod admissions;
+#[cfg(test)]
+mod checks;
+#[cfg(test)]
+mod instances;
+#[cfg(test)]
+mod rolls_of;
+#[cfg(test)]
+mod rounds;
+#[cfg(test)]
+mod streams;
+#[cfg(test)]
+mod texts;
