@@ -1,9 +1,10 @@
 //! What no clause says: a worked text, its faulty variants, and each call on its happy path.
 #![tactic(auto)]
 
-use crate::{RoundFault, RoundParts, read_round, write_round};
+use crate::{RoundFault, read_round, write_round};
 use std::rt::HostRuntime;
 use std::test::Fail;
+use verdict::check;
 
 /// Supervisor L with quota 5 offers P and Q with quota 1 and Z with quota 0. A lists P, Q and has Q; C lists Z, P and has
 /// P. The prices prove it best.
@@ -70,21 +71,22 @@ const BAD: [(&str, &str, usize); 38] = [
 fn the_worked_text_is_read_and_written(rt: HostRuntime) -> Result<(), Fail> {
     let alloc = rt.alloc();
     let parts = read_round(alloc, WORKED.as_bytes())?;
-    let RoundParts {
-        instance,
-        matching,
-        prices,
-    } = parts;
+    let instance = &parts.instance;
     assert_eq!(rt; instance.supervisor_count(), 1);
     assert_eq!(rt; instance.project_count(), 3);
     assert_eq!(rt; instance.student_count(), 2);
-    let text = write_round(alloc, &instance, Some((&matching, &prices)))?;
-    assert_eq!(rt; text.as_str(), WORKED);
-    let alone = write_round(alloc, &instance, None)?;
+    let alone = write_round(alloc, instance, None)?;
     assert_eq!(rt;
         alone.as_str(),
         "S,L,5\nP,P,L,1\nP,Q,L,1\nP,Z,L,0\nC,A,P,Q\nC,C,Z,P\n"
     );
+    match check(instance, &parts.matching, &parts.prices) {
+        Ok(()) => {
+            let text = write_round(alloc, instance, Some((&parts.matching, &parts.prices)))?;
+            assert_eq!(rt; text.as_str(), WORKED);
+        }
+        Err(fault) => assert!(rt; false, "{fault:?}"),
+    }
     Ok(())
 }
 

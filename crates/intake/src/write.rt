@@ -130,9 +130,9 @@ pub fn write_round(
     instance: &Instance,
     proof: Option<(&Matching, &Prices)>,
 ) -> Result<String, AllocError>
-    requires supervisors { Rise instance.now.supervisor_codes }
-    requires projects { Rise instance.now.project_codes }
-    requires students { Rise instance.now.student_codes }
+    requires supervisors { Rise (supervisor_codes (instance_of instance.now)) }
+    requires projects { Rise (project_codes (instance_of instance.now)) }
+    requires students { Rise (student_codes (instance_of instance.now)) }
 
     // The first two faults of a check don't apply.
     requires matching { IfSome proof (λ p. IsMatched instance.now.shape p.0.now.places.items) }
