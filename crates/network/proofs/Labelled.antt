@@ -158,11 +158,11 @@ module _ {G : Type 0} {o : Ops G} where
         let undone : one_if (is_settled (M node).rank) ≡ 0 = ap (λ (z : Mark G). one_if (is_settled z.rank)) was in
         let one : one_if (eqb node node) ≡ 1 = ap one_if (eq-eqb node node refl) in
         labels_set n node m lt set_to seen
-          (λ b ne. let z : one_if (eqb node b) ≡ 0 = ap one_if (ne_eqb node b (λ e. ne (sym e))) in omega (arith, fronts b, z))
-          (omega (arith, fronts node, one, are.frontier node, closed, opened))
-          (λ b ne. ap (λ (z : Vec ℕ Global). count_of z.items b) dones)
-          (ap (λ (z : Vec ℕ Global). count_of z.items node) dones ∙ are.settled node ∙ undone)
-          room (ap vec_capacity dones)
+        (λ b ne. let z : one_if (eqb node b) ≡ 0 = ap one_if (ne_eqb node b (λ e. ne (sym e))) in omega (arith, fronts b, z))
+        (omega (arith, fronts node, one, are.frontier node, closed, opened))
+        (λ b ne. ap (λ (z : Vec ℕ Global). count_of z.items b) dones)
+        (ap (λ (z : Vec ℕ Global). count_of z.items node) dones ∙ are.settled node ∙ undone)
+        room (ap vec_capacity dones)
 
     -- a later label leaves it open or settled, as it was
     pub labels_kept : (n : Labels G) (node : ℕ) (label : G) (origin : Origin) → is_seen origin ≡ true → node < length l.marks.items → is_seen (M node).origin ≡ true
@@ -170,11 +170,11 @@ module _ {G : Type 0} {o : Ops G} where
     labels_kept n node label origin seen lt was set_is fronts dones =
         let r = relaxed_as (M node) label origin seen was (is_settled (M node).rank) (is_seen (M node).origin) (is_gt (o.cmp label (M node).label)) refl refl in
         labels_set n node (relaxed o (M node) label origin) lt set_is r.2
-          (λ b ne. ap (λ (z : Vec ℕ Global). count_of z.items b) fronts)
-          (ap (λ (z : Vec ℕ Global). count_of z.items node) fronts ∙ are.frontier node ∙ sym (ap one_if r.0))
-          (λ b ne. ap (λ (z : Vec ℕ Global). count_of z.items b) dones)
-          (ap (λ (z : Vec ℕ Global). count_of z.items node) dones ∙ are.settled node ∙ sym (ap one_if r.1))
-          (ap vec_capacity fronts) (ap vec_capacity dones)
+        (λ b ne. ap (λ (z : Vec ℕ Global). count_of z.items b) fronts)
+        (ap (λ (z : Vec ℕ Global). count_of z.items node) fronts ∙ are.frontier node ∙ sym (ap one_if r.0))
+        (λ b ne. ap (λ (z : Vec ℕ Global). count_of z.items b) dones)
+        (ap (λ (z : Vec ℕ Global). count_of z.items node) dones ∙ are.settled node ∙ sym (ap one_if r.1))
+        (ap vec_capacity fronts) (ap vec_capacity dones)
 
     -- a node is settled
     pub labels_settled : (n : Labels G) (node rank : ℕ) → is_open_mark (M node) ≡ true → node < length l.marks.items
@@ -189,11 +189,11 @@ module _ {G : Type 0} {o : Ops G} where
         let undone : one_if (is_settled (M node).rank) ≡ 0 = ap (λ z. one_if (is_settled z)) r.1 in
         let closed : one_if (is_open_mark (settled_as (M node) rank)) ≡ 0 = ap (λ z. one_if (z && false)) r.0 in
         labels_set n node (settled_as (M node) rank) lt set_is r.0
-          (λ b ne. let z : one_if (eqb node b) ≡ 0 = ap one_if (ne_eqb node b (λ e. ne (sym e))) in omega (arith, fronts b, z))
-          (omega (arith, fronts node, one, are.frontier node, was, closed))
-          (λ b ne. let z : one_if (eqb node b) ≡ 0 = ap one_if (ne_eqb node b (λ e. ne (sym e))) in omega (arith, dones b, z))
-          (omega (arith, dones node, one, are.settled node, undone))
-          frontier_room settled_room
+        (λ b ne. let z : one_if (eqb node b) ≡ 0 = ap one_if (ne_eqb node b (λ e. ne (sym e))) in omega (arith, fronts b, z))
+        (omega (arith, fronts node, one, are.frontier node, was, closed))
+        (λ b ne. let z : one_if (eqb node b) ≡ 0 = ap one_if (ne_eqb node b (λ e. ne (sym e))) in omega (arith, dones b, z))
+        (omega (arith, dones node, one, are.settled node, undone))
+        frontier_room settled_room
 
     -- where the nodes of both lists are blank, all are
     pub all_blank : (first second : List (Mark G))
