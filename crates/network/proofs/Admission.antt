@@ -1,5 +1,5 @@
 -- what an admission does, in the words of a caller
-use Rattle.std.proofs.Common.{◌≡◌, ℕ, ◌+◌, ◌*◌, ◌^◌, ◌<◌, ◌≤◌, List, [], ◌∷◌, ◌++◌, length, map, Option, Some, None, Bool, slice_get, refl, arith, sym, ◌∙◌, ap, subst, sum_by}
+use Rattle.std.proofs.Common.{◌≡◌, ℕ, ◌+◌, ◌*◌, ◌^◌, ◌<◌, ◌≤◌, List, [], ◌∷◌, ◌++◌, length, map, Some, Bool, slice_get, refl, arith, sym, ◌∙◌, ap, sum_by}
 use Rattle.std.specs.declared.vec.Vec.{Vec}
 use Rattle.std.specs.declared.alloc.Global.{Global}
 use Rattle.std.proofs.lemmas.List.{length-append, length-map, map-append}
@@ -8,7 +8,7 @@ use Rattle.spa.specs.Laws.{Ops, IsWorth}
 use Rattle.network.specs.Arcs.{sink_of, flow_arcs}
 use Rattle.network.specs.Fair.{IsLow}
 use Rattle.network.specs.Push.{IsPushed}
-use Rattle.network.specs.Seen.{Seen, is_place, is_placed, node_count, arc_count, IsAdmission}
+use Rattle.network.specs.Seen.{is_place, node_count, arc_count, IsAdmission}
 use Rattle.network.specs.View.{seen, row_of, IsReady}
 use Rattle.network.proofs.Priced.{priced}
 use Rattle.network.proofs.Append.{slice_get-last}
@@ -19,19 +19,24 @@ module _ {G : Type 0} {o : Ops G} (f n : Flow G) (steps x : ℕ) (placed : Bool)
     (ready : IsReady o f steps) (pushed : IsPushed o n) (low : IsLow o n)
     (lists : n.lists.items ≡ f.lists.items ++ row ∷ []) (projects : n.projects.items ≡ f.projects.items) (supervisors : n.supervisors.items ≡ f.supervisors.items)
     (placed_is : placed ≡ is_place (slice_get n.places.items (length f.lists.items)))
-    (cost : x ≤ length row.items + 1 + sink_of n * flow_arcs n) where
+    (cost : x ≤ 2 * length row.items + 1 + sink_of n * flow_arcs n) where
+  -- one student more
   longer : length n.lists.items ≡ length f.lists.items + 1
   longer = ap length lists ∙ length-append f.lists.items (row ∷ [])
 
+  -- the last student's list is the new one
   last_row : slice_get n.lists.items (length f.lists.items) ≡ Some row
   last_row = ap (λ z. slice_get z (length f.lists.items)) lists ∙ slice_get-last f.lists.items row
 
+  -- arcs are few at the limits
   few_arcs : flow_arcs n ≤ 7500
   few_arcs = omega (arith, entries_few n.lists.items pushed.formed.short, pushed.formed.few_students, pushed.formed.few_projects, pushed.formed.few_supervisors)
 
+  -- so are the relaxations of one admission
   pub small : x ≤ 2 ^ 22
   small = cost_small x (length row.items) (sink_of n) (flow_arcs n) cost (pushed.formed.short _ row last_row) (omega (arith, pushed.formed.few_projects, pushed.formed.few_supervisors)) few_arcs
 
+  -- what holds between two calls holds again
   pub admitted_ready : IsReady o n (steps + x)
   admitted_ready = record { pushed = pushed; low = low; counted = omega (arith, ready.counted, small, longer) }
 
@@ -39,15 +44,18 @@ module _ {G : Type 0} {o : Ops G} (f n : Flow G) (steps x : ℕ) (placed : Bool)
   pub steps_fit : length f.lists.items < 500 → steps + x < 2 ^ 32
   steps_fit few = omega (arith, ready.counted, small, few)
 
+  -- what a list counts among the arcs
   abbrev entry_count : Vec (ℕ × G) Global → ℕ
   entry_count r = length r.items + 1
 
+  -- the new list is among the arcs
   row_counted : length row.items + 1 ≤ flow_arcs n
   row_counted =
       let a : sum_by entry_count n.lists.items ≡ sum_by entry_count f.lists.items + sum_by entry_count (row ∷ []) = ap (sum_by entry_count) lists ∙ sum_by-append entry_count f.lists.items (row ∷ []) in
       let b = sum_by-cons entry_count row [] in
       omega (arith, a, b)
 
+  -- and callers see an admission
   pub is_admission : IsWorth o → IsAdmission o (seen f steps) (seen n (steps + x)) list placed x
   is_admission laws = record {
     lists = ap (map row_of) lists ∙ map-append row_of f.lists.items (row ∷ []) ∙ ap (λ z. map row_of f.lists.items ++ z ∷ []) row_is;
@@ -59,7 +67,7 @@ module _ {G : Type 0} {o : Ops G} (f n : Flow G) (steps x : ℕ) (placed : Bool)
         placed_is ∙ ap (λ z. is_place (slice_get n.places.items z)) (sym l);
     bound =
         let e : arc_count (seen n (steps + x)) ≡ flow_arcs n = (let d = entries_same n.lists.items in let c : length (map row_of n.lists.items) ≡ length n.lists.items = length-map n.lists.items row_of in omega (arith, d, c)) in
-        let s : sink_of n + 1 ≤ node_count (seen n (steps + x)) + 1 = omega arith in
+        let s : sink_of n + 2 ≤ node_count (seen n (steps + x)) + 1 = omega arith in
         let m = cost_within x (length row.items) (sink_of n) (flow_arcs n) (node_count (seen n (steps + x)) + 1) cost row_counted s in
         rw e m;
     counted = refl;

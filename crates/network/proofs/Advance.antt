@@ -1,11 +1,11 @@
 -- a search goes on by one node
-use Rattle.std.proofs.Common.{◌≡◌, ◌≢◌, ℕ, ◌+◌, ◌*◌, ◌^◌, ◌<◌, ◌≤◌, ◌⊎◌, inl, inr, List, length, set, get_or, Bool, true, false, Option, Some, None, refl, arith, sym, ◌∙◌, ap, subst, length-set, not, ◌&&◌}
+use Rattle.std.proofs.Common.{◌≡◌, ℕ, ◌+◌, ◌^◌, ◌<◌, ◌≤◌, List, length, set, true, Option, Some, None, refl, arith, sym, ◌∙◌, ap, length-set, not}
 use Rattle.std.proofs.lemmas.Bool.{and_from}
 use Rattle.spa.specs.Laws.{Ops, IsWorth, AtMost}
-use Rattle.network.specs.Marks.{is_seen, is_settled, is_open_mark, blank, mark_at, potential_at, key_at, settled_as, unsettled}
-use Rattle.network.specs.Search.{Replaced, Reaches, Taken, Relaxes, IsSearch, IsRunning, IsFound, Feasible, OffersOf}
-use Rattle.network.specs.Arcs.{HasEntry, Holds, EntryArc, LeaveArc, OfferArc, SwapArc, RoomArc, Arc, OfStudent, IsFormed, sink_of}
-use Rattle.network.proofs.Settle.{open_rank, Change, is_node, stayed, offered, change, settles}
+use Rattle.network.specs.Marks.{is_settled, is_open_mark, blank, mark_at, key_at, settled_as, unsettled}
+use Rattle.network.specs.Search.{Reaches, Relaxes, IsSearch, IsRunning, Feasible, OffersOf}
+use Rattle.network.specs.Arcs.{Arc, OfStudent, IsFormed, sink_of}
+use Rattle.network.proofs.Settle.{Change, is_node, stayed, offered, change, settles}
 use Rattle.network.proofs.Begin.{relaxed_unsettled, settled_one, open_left, open_within, begins, left_at_begin}
 use Rattle.network.specs.declared.flow.Flow.{Flow}
 use Rattle.network.specs.declared.marks.Origin.{Origin}
@@ -22,6 +22,7 @@ module _ {G : Type 0} {o : Ops G} (laws : IsWorth o) where
   arc_small f formed a (Swap p) c b d = rw d.is (omega (arith, laws.span_zero))
   arc_small f formed a (Room p) c b d = rw d.is (omega (arith, laws.span_zero))
 
+  -- what the start offers is small
   pub start_small : (f : Flow G) → IsFormed o f → (student : ℕ) (w : Origin) (x : G) (b : ℕ) → OfStudent o f student o.zero w x b → o.span x ≤ 1
   start_small f formed student Unseen x b d = absurd d
   start_small f formed student (Entry s k) x b d = rw d.3 (omega (arith, laws.span_plus o.zero d.1, laws.span_zero, (formed.entries _ _ _ _ d.2).1))
@@ -34,18 +35,23 @@ module _ {G : Type 0} {o : Ops G} (laws : IsWorth o) where
       (running : IsRunning o first arc potentials sink marks rank node) (middle_is : middle ≡ set marks node (settled_as (mark_at o marks node) rank))
       (relaxed : Relaxes o (OffersOf o arc node (mark_at o marks node).label) middle new)
       (feasible : Feasible o arc potentials) (small : (a : ℕ) (w : Origin) (c : G) (b : ℕ) → arc a w c b → o.span c ≤ 2) (other : node ≡ sink → ⊥) where
+    -- the node is one of the marks
     within : node < length marks
     within = open_within laws marks node running.chosen
 
+    -- each mark stays, or is settled or replaced by an offer
     changes : (b : ℕ) → Change o (OffersOf o arc node (mark_at o marks node).label) node rank b (mark_at o marks b) (mark_at o new b)
     changes = change laws first arc potentials marks middle new node rank within middle_is relaxed
 
+    -- one more node is settled
     pub search_now : IsSearch o first arc potentials new (rank + 1)
     search_now = settles laws first arc potentials marks middle new node rank running.search running.chosen running.best feasible small changes relaxed.taken
 
+    -- there are as many marks as before
     pub len_now : length new ≡ length potentials
     len_now = relaxed.len ∙ ap length middle_is ∙ simp length-set running.len
 
+    -- and one node less is left
     pub left_now : rank + 1 + unsettled new ≡ length potentials
     left_now =
         let e = relaxed_unsettled laws _ middle new relaxed in
@@ -53,6 +59,7 @@ module _ {G : Type 0} {o : Ops G} (laws : IsWorth o) where
         let m : unsettled middle ≡ unsettled (set marks node (settled_as (mark_at o marks node) rank)) = ap unsettled middle_is in
         omega (arith, e, s, m, running.left)
 
+    -- the sink is open still
     pub sink_now : is_open_mark (mark_at o new sink) ≡ true
     sink_now = go (changes sink) where
       go : Change o (OffersOf o arc node (mark_at o marks node).label) node rank sink (mark_at o marks sink) (mark_at o new sink) → is_open_mark (mark_at o new sink) ≡ true
@@ -60,6 +67,7 @@ module _ {G : Type 0} {o : Ops G} (laws : IsWorth o) where
       go (stayed q e) = rw e running.sink_open
       go (offered q f) = and_from _ _ f.seen (rw f.is_open refl)
 
+    -- so not all nodes are settled
     pub few_now : rank + 1 < length potentials
     few_now = let h = open_left laws new sink sink_now in omega (arith, left_now, h)
 
@@ -71,6 +79,7 @@ pub record IsReady {G : Type 0} (o : Ops G) (first : Origin → G → ℕ → Ty
   pub sink_open : is_open_mark (mark_at o marks sink) ≡ true
   pub few : rank < length potentials
 
+-- a search goes on
 pub ready_next : {G : Type 0} {o : Ops G} (laws : IsWorth o) (f : Flow G) → IsFormed o f → (student : ℕ) (marks new : List (Mark G)) (rank node : ℕ)
     → IsRunning o (OfStudent o f student o.zero) (Arc o f) f.potentials.items (sink_of f) marks rank node → node < sink_of f → Feasible o (Arc o f) f.potentials.items
     → Relaxes o (OffersOf o (Arc o f) node (mark_at o marks node).label) (set marks node (settled_as (mark_at o marks node) rank)) new
@@ -88,6 +97,7 @@ ready_next {G} {o} laws f formed student marks new rank node running lt feasible
       few = (let h = few_now laws first (Arc o f) f.potentials.items (sink_of f) marks middle new rank node running refl relaxed feasible small other in h);
     }
 
+-- a search begins
 pub ready_first : {G : Type 0} {o : Ops G} (laws : IsWorth o) (f : Flow G) → IsFormed o f → (student : ℕ) (marks new : List (Mark G))
     → length marks ≡ length f.potentials.items → ((b : ℕ) → mark_at o marks b ≡ blank o) → Relaxes o (OfStudent o f student o.zero) marks new
     → IsReady o (OfStudent o f student o.zero) (Arc o f) f.potentials.items (sink_of f) new 0
@@ -111,6 +121,7 @@ pub ready_labels : {G : Type 0} {o : Ops G} (f : Flow G) → IsFormed o f → (f
     → IsReady o first (Arc o f) f.potentials.items (sink_of f) marks rank → (v : ℕ) → o.span (mark_at o marks v).label ≤ 2 ^ 20
 ready_labels {G} {o} f formed first marks rank r v = omega (arith, r.search.spans v, r.few, formed.potentials, formed.few_projects, formed.few_supervisors)
 
+-- a search whose next node is the sink has found its walk
 pub ready_chosen : {G : Type 0} {o : Ops G} (f : Flow G) (first : Origin → G → ℕ → Type 0) (marks : List (Mark G)) (rank node : ℕ)
     → IsReady o first (Arc o f) f.potentials.items (sink_of f) marks rank → is_open_mark (mark_at o marks node) ≡ true
     → ((b : ℕ) → is_open_mark (mark_at o marks b) ≡ true → AtMost o (key_at o marks f.potentials.items b) (key_at o marks f.potentials.items node))

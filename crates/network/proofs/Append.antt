@@ -1,14 +1,13 @@
 -- a student without a place is added to a pushed flow
-use Rattle.std.proofs.Common.{◌≡◌, ◌≢◌, ℕ, ◌+◌, ◌*◌, ◌<◌, ◌≤◌, ◌⊎◌, inl, inr, zero, suc, List, [], ◌∷◌, ◌++◌, length, Option, Some, None, slice_get, refl, arith, sym, ◌∙◌, ap, subst}
-use Rattle.std.specs.Prelude.{slice_index, nat_eq}
+use Rattle.std.proofs.Common.{◌≡◌, ℕ, ◌+◌, ◌<◌, ◌≤◌, ◌⊎◌, inl, inr, zero, suc, List, [], ◌∷◌, ◌++◌, length, Option, Some, None, slice_get, refl, arith, sym, ◌∙◌, ap, subst}
 use Rattle.std.specs.declared.vec.Vec.{Vec}
 use Rattle.std.specs.declared.alloc.Global.{Global}
 use Rattle.std.proofs.lemmas.List.{length-append}
 use Rattle.std.proofs.lemmas.Option.{slice_get_within, same_Some}
-use Rattle.spa.specs.Laws.{Ops, IsWorth, AtMost}
+use Rattle.spa.specs.Laws.{Ops}
 use Rattle.network.specs.Arcs.{HasEntry, Holds, sink_of, project_count, IsFormed}
-use Rattle.network.specs.Fair.{potential, IsFair, IsFairBut}
-use Rattle.network.specs.Push.{sum_to, one_if, place_at, seat, seats, seats_of, IsCounted, IsPushed}
+use Rattle.network.specs.Fair.{IsFairBut}
+use Rattle.network.specs.Push.{sum_to, place_at, seat, seats, IsCounted, IsPushed}
 use Rattle.network.proofs.Sums.{sum_to_same}
 use Rattle.network.specs.declared.flow.Flow.{Flow}
 
@@ -17,11 +16,13 @@ pub slice_get-last : {X : Type 0} (xs : List X) (y : X) → slice_get (xs ++ y �
 slice_get-last [] y = refl
 slice_get-last (x ∷ xs) y = slice_get-last xs y
 
+-- an element before the end is the old one
 pub slice_get-before : {X : Type 0} (xs : List X) (y : X) (i : ℕ) → i < length xs → slice_get (xs ++ y ∷ []) i ≡ slice_get xs i
 slice_get-before [] y i lt = absurd (omega (arith, lt))
 slice_get-before (x ∷ xs) y zero lt = refl
 slice_get-before (x ∷ xs) y (suc i) lt = slice_get-before xs y i (omega (arith, lt))
 
+-- an element is an old one, or the last
 pub slice_get-either : {X : Type 0} (xs : List X) (y z : X) (i : ℕ) → slice_get (xs ++ y ∷ []) i ≡ Some z → (slice_get xs i ≡ Some z) ⊎ ((i ≡ length xs) × (y ≡ z))
 slice_get-either [] y z zero e = inr (refl, same_Some _ _ e)
 slice_get-either [] y z (suc i) e = cc
@@ -36,48 +37,60 @@ module _ {G : Type 0} {o : Ops G} (f : Flow G) (pushed : IsPushed o f)
     (lists_are : L.items ≡ f.lists.items ++ row ∷ []) (places_are : P.items ≡ f.places.items ++ None ∷ [])
     (few : length f.lists.items < 500) (short : length row.items ≤ 12)
     (known : (k p : ℕ) (w : G) → slice_get row.items k ≡ Some (p, w) → (p < project_count f) × (o.span w ≤ 1)) where
+  -- the flow with one more student
   abbrev pub A : Flow G
   A = record f { lists = L; places = P }
 
+  -- the new student
   abbrev pub last : ℕ
   last = length f.lists.items
 
+  -- one list more
   lists_long : length L.items ≡ last + 1
   lists_long = ap length lists_are ∙ length-append f.lists.items (row ∷ [])
 
+  -- one place more
   places_long : length P.items ≡ length f.places.items + 1
   places_long = ap length places_are ∙ length-append f.places.items (None ∷ [])
 
+  -- the new student has no place
   pub no_place_yet : slice_get P.items last ≡ Some None
   no_place_yet = rw (places_are, pushed.formed.students) (slice_get-last f.places.items None)
 
+  -- the new student has the new list
   pub last_row : slice_get L.items last ≡ Some row
   last_row = rw lists_are (slice_get-last f.lists.items row)
 
+  -- who has a place had it before
   place_old : (s k : ℕ) → slice_get P.items s ≡ Some (Some k) → slice_get f.places.items s ≡ Some (Some k)
   place_old s k e = elim (slice_get-either f.places.items None (Some k) s (subst (λ z. slice_get z s ≡ Some (Some k)) places_are e)) [
     | inl h ↦ h
     | inr h ↦ absurd (let q = h.1 in cc)
   ]
 
+  -- another student without a place had none before
   none_old : (s : ℕ) → (s ≡ last → ⊥) → slice_get P.items s ≡ Some None → slice_get f.places.items s ≡ Some None
   none_old s ne e = elim (slice_get-either f.places.items None None s (subst (λ z. slice_get z s ≡ Some None) places_are e)) [
     | inl h ↦ h
     | inr h ↦ absurd (ne (h.0 ∙ sym pushed.formed.students))
   ]
 
+  -- another student's list is the old one
   row_old : (s : ℕ) (r : Vec (ℕ × G) Global) → (s ≡ last → ⊥) → slice_get L.items s ≡ Some r → slice_get f.lists.items s ≡ Some r
   row_old s r ne e = elim (slice_get-either f.lists.items row r s (subst (λ z. slice_get z s ≡ Some r) lists_are e)) [
     | inl h ↦ h
     | inr h ↦ absurd (ne h.0)
   ]
 
+  -- and so is each entry of it
   entry_old : (s k p : ℕ) (w : G) → (s ≡ last → ⊥) → HasEntry L.items s k p w → HasEntry f.lists.items s k p w
   entry_old s k p w ne e = record { row = e.row; student = row_old s e.row ne e.student; place = e.place }
 
+  -- who has a place is not new
   not_last : (s k : ℕ) → slice_get P.items s ≡ Some (Some k) → s ≡ last → ⊥
   not_last s k e q = let h = slice_get_within f.places.items s _ (place_old s k e) in omega (arith, h, q, pushed.formed.students)
 
+  -- a place held is one held before
   holds_old : (s a : ℕ) → Holds A s a → Holds f s a
   holds_old s a h = record {
     place = h.place;
@@ -86,6 +99,7 @@ module _ {G : Type 0} {o : Ops G} (f : Flow G) (pushed : IsPushed o f)
     entry = entry_old s h.place a h.worth (not_last s h.place h.placed) h.entry;
   }
 
+  -- the potentials are fair to all but the new student
   pub appended_fair : IsFairBut o A last
   unfolding holds_old
   appended_fair = record {
@@ -99,12 +113,14 @@ module _ {G : Type 0} {o : Ops G} (f : Flow G) (pushed : IsPushed o f)
     sink = pushed.fair.sink;
   }
 
+  -- a list is an old one, or the new one
   row_cases : (s : ℕ) (r : Vec (ℕ × G) Global) → slice_get L.items s ≡ Some r → (slice_get f.lists.items s ≡ Some r) ⊎ (row ≡ r)
   row_cases s r e = elim (slice_get-either f.lists.items row r s (subst (λ z. slice_get z s ≡ Some r) lists_are e)) [
     | inl h ↦ inl h
     | inr h ↦ inr h.1
   ]
 
+  -- the flow is well formed
   pub appended_formed : IsFormed o A
   appended_formed = record {
     students = omega (arith, lists_long, places_long, pushed.formed.students);
@@ -131,12 +147,14 @@ module _ {G : Type 0} {o : Ops G} (f : Flow G) (pushed : IsPushed o f)
     ];
   }
 
+  -- the seats of the others are as before
   seat_same : (p s : ℕ) → s < last → seat f p s ≡ seat A p s
   seat_same p s lt =
       let a : slice_get P.items s ≡ slice_get f.places.items s = ap (λ z. slice_get z s) places_are ∙ slice_get-before f.places.items None s (omega (arith, lt, pushed.formed.students)) in
       let b : slice_get L.items s ≡ slice_get f.lists.items s = ap (λ z. slice_get z s) lists_are ∙ slice_get-before f.lists.items row s lt in
       sym (ap (λ z. place_at z (slice_get L.items s) p) a ∙ ap (λ z. place_at (slice_get f.places.items s) z p) b)
 
+  -- so each project has as many
   seats_same : (p : ℕ) → seats f p ≡ seats A p
   seats_same p =
       let long : length L.items ≡ suc last = omega (arith, lists_long) in
@@ -144,6 +162,7 @@ module _ {G : Type 0} {o : Ops G} (f : Flow G) (pushed : IsPushed o f)
       let z : seat A p last ≡ 0 = ap (λ z. place_at z (slice_get L.items last) p) no_place_yet in
       omega (arith, e, z, sum_to_same last (seat f p) (seat A p) (seat_same p))
 
+  -- and the counts are right
   pub appended_counted : IsCounted A (sink_of A)
   appended_counted = record {
     project = λ p lt. let s = seats_same p in omega (arith, s, pushed.counted.project p lt);

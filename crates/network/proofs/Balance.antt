@@ -1,5 +1,5 @@
 -- the prices together are the worth of all places together
-use Rattle.std.proofs.Common.{◌≡◌, ◌≢◌, ℕ, ◌+◌, ◌*◌, ◌<◌, ◌≤◌, ◌⊎◌, inl, inr, zero, suc, List, length, get_or, Option, Some, None, slice_get, refl, arith, sym, ◌∙◌, ap, subst, true, false, Bool}
+use Rattle.std.proofs.Common.{◌≡◌, ℕ, ◌+◌, ◌*◌, ◌<◌, ◌≤◌, ◌⊎◌, inl, inr, length, get_or, Option, Some, None, slice_get, refl, arith, sym, ◌∙◌, ap, false}
 use Rattle.std.specs.Prelude.{slice_index, nat_eq}
 use Rattle.std.specs.declared.vec.Vec.{Vec}
 use Rattle.std.specs.declared.alloc.Global.{Global}
@@ -10,20 +10,21 @@ use Rattle.std.proofs.lemmas.Bool.{cases_eq, eq-eqb, ne_eqb}
 use Rattle.std.proofs.lemmas.Option.{slice_get-get_or}
 use Rattle.spa.specs.Laws.{Ops, IsWorth, AtMost}
 use Rattle.network.proofs.Group.{cancel, zero_left}
-use Rattle.network.specs.Arcs.{HasEntry, sink_of, project_count, IsFormed}
-use Rattle.network.specs.Fair.{potential, IsFair}
-use Rattle.network.specs.Push.{sum_to, one_if, place_at, row_at, seat, seats, owner_at, seats_of, IsCounted, IsPushed}
+use Rattle.network.specs.Fair.{potential}
+use Rattle.network.specs.Push.{one_if, place_at, row_at, seat, seats, owner_at, seats_of, IsPushed}
 use Rattle.network.specs.Seen.{multiple, sum_of}
 use Rattle.network.specs.Prices.{at_entry, at_row, at_place, of_place, student_price, quota_at, project_price, supervisor_price, placed_worth, price_sum}
 use Rattle.network.proofs.Ends.{not_sink, node_not_sink}
 use Rattle.network.proofs.GroupSums.{sum_of_same, sum_of_zero, sum_of_plus, sum_of_exchange, sum_of_pick, sum_of_times, times_zero, times_plus}
 use Rattle.network.specs.declared.flow.Flow.{Flow}
 
+-- two comparisons that are not greater, each way, are of equals
 equal_of : (p q : Ordering) → q ≡ ordering_reverse p → is_gt p ≡ false → is_gt q ≡ false → p ≡ Equal
 equal_of Less q e h k = absurd (cc)
 equal_of Equal q e h k = refl
 equal_of Greater q e h k = absurd (cc)
 
+-- less or equal, apart
 or_more : (a b : ℕ) → a ≤ b → (a < b) ⊎ (a ≡ b)
 or_more a b le = elim (cases_eq a b) [
   | inl e ↦ inr e
@@ -31,9 +32,11 @@ or_more a b le = elim (cases_eq a b) [
 ]
 
 module _ {G : Type 0} {o : Ops G} (laws : IsWorth o) where
+  -- values that are at most each other are the same
   pub both_ways : (x y : G) → AtMost o x y → AtMost o y x → x ≡ y
   both_ways x y h k = laws.same x y (equal_of (o.cmp x y) (o.cmp y x) (laws.total.antisymm y x) h k)
 
+  -- nothing is left of a value less itself
   pub minus_self : (x : G) → o.minus x x ≡ o.zero
   minus_self x = cancel laws _ _ x (laws.undo x x ∙ sym (zero_left laws x))
 
@@ -56,32 +59,41 @@ module _ {G : Type 0} {o : Ops G} (laws : IsWorth o) where
   ]
 
   module _ (f : Flow G) (pushed : IsPushed o f) where
+    -- the potential of a node
     abbrev H : ℕ → G
     H v = potential o f v
 
+    -- how many students
     abbrev S : ℕ
     S = length f.lists.items
 
+    -- how many projects
     abbrev P : ℕ
     P = length f.projects.items
 
+    -- how many supervisors
     abbrev L : ℕ
     L = length f.supervisors.items
 
+    -- how many are placed at a project
     abbrev filled : ℕ → ℕ
     filled p = slice_index f.filled.items p
 
+    -- how many are placed with a supervisor
     abbrev load : ℕ → ℕ
     load l = slice_index f.load.items l
 
+    -- the value of an entry is its worth and the potential
     split_entry : (e : Option (ℕ × G)) → at_entry o (λ p w. o.plus w (H p)) e ≡ o.plus (at_entry o (λ p w. w) e) (at_entry o (λ p w. H p) e)
     split_entry None = sym (laws.unit o.zero)
     split_entry (Some e) = refl
 
+    -- the same of a list
     split_row : (r : Option (Vec (ℕ × G) Global)) (k : ℕ) → at_row o (λ p w. o.plus w (H p)) r k ≡ o.plus (at_row o (λ p w. w) r k) (at_row o (λ p w. H p) r k)
     split_row None k = sym (laws.unit o.zero)
     split_row (Some r) k = split_entry (slice_get r.items k)
 
+    -- the same of a student
     split_place : (x : Option (Option ℕ)) (r : Option (Vec (ℕ × G) Global)) → at_place o (λ p w. o.plus w (H p)) x r ≡ o.plus (at_place o (λ p w. w) x r) (at_place o (λ p w. H p) x r)
     split_place None r = sym (laws.unit o.zero)
     split_place (Some None) r = sym (laws.unit o.zero)
@@ -102,9 +114,11 @@ module _ {G : Type 0} {o : Ops G} (laws : IsWorth o) where
         left ∙ sym (sum_of_same laws P (λ p. multiple o (row_at (slice_get f.lists.items s) k p) (H p)) (λ p. multiple o (one_if (nat_eq h.0 p) * 1) (H p)) (λ j l. ap (λ n. multiple o n (H j)) (right j))
         ∙ one_counted P h.0 1 H lt ∙ zero_left laws (H h.0))
 
+    -- the seats of a project are its count
     seats_filled : (p : ℕ) → p < P → seats f p ≡ filled p
     seats_filled p lt = omega (arith, pushed.counted.project p lt, not_sink f p lt)
 
+    -- the potentials by student are those by project, as often as it is filled
     pub potentials_seated : sum_of o S (of_place o f (λ p w. H p)) ≡ sum_of o P (λ p. multiple o (filled p) (H p))
     potentials_seated =
         sum_of_same laws S (of_place o f (λ p w. H p)) (λ s. sum_of o P (λ p. multiple o (seat f p s) (H p))) (λ s lt. seated s (slice_get f.places.items s) refl)
@@ -128,15 +142,18 @@ module _ {G : Type 0} {o : Ops G} (laws : IsWorth o) where
         ap (o.plus (multiple o (filled p) (H p))) quota ∙ sym (times_plus laws (filled p) (H p) (o.minus (H (P + l)) (H p))) ∙ ap (multiple o (filled p)) back
         ∙ sym (ap (λ z. sum_of o L (λ m. multiple o (owner_at z m * filled p) (H (P + m)))) is ∙ one_counted L l (filled p) (λ m. H (P + m)) known)
 
+    -- the same of each project
     project_sums : (p : ℕ) → p < P
         → o.plus (multiple o (filled p) (H p)) (multiple o (quota_at (slice_get f.projects.items p)) (project_price o f p)) ≡ sum_of o L (λ m. multiple o (owner_at (slice_get f.projects.items p) m * filled p) (H (P + m)))
     project_sums p lt =
         let d = get_or f.projects.items p (0, 0) in
         project_sum p (slice_get f.projects.items p) d.0 d.1 lt refl (slice_get-get_or f.projects.items p (0, 0) lt)
 
+    -- the seats of a supervisor are the count
     loads_counted : (l : ℕ) → l < L → seats_of f l ≡ load l
     loads_counted l lt = omega (arith, pushed.counted.supervisor l lt, node_not_sink f l lt)
 
+    -- over projects as over supervisors
     pub projects_balanced : sum_of o P (λ p. o.plus (multiple o (filled p) (H p)) (multiple o (quota_at (slice_get f.projects.items p)) (project_price o f p))) ≡ sum_of o L (λ l. multiple o (load l) (H (P + l)))
     projects_balanced =
         sum_of_same laws P _ (λ p. sum_of o L (λ m. multiple o (owner_at (slice_get f.projects.items p) m * filled p) (H (P + m)))) project_sums
@@ -144,6 +161,7 @@ module _ {G : Type 0} {o : Ops G} (laws : IsWorth o) where
         ∙ sum_of_same laws L (λ m. sum_of o P (λ p. multiple o (owner_at (slice_get f.projects.items p) m * filled p) (H (P + m)))) (λ l. multiple o (load l) (H (P + l)))
         (λ l lt. sum_of_times laws P (λ p. owner_at (slice_get f.projects.items p) l * filled p) (H (P + l)) ∙ ap (λ n. multiple o n (H (P + l))) (loads_counted l lt))
 
+    -- a supervisor's price by the quota takes away the potential of the places
     supervisor_sum : (l : ℕ) → l < L → o.plus (multiple o (load l) (H (P + l))) (multiple o (slice_index f.supervisors.items l) (supervisor_price o f l)) ≡ o.zero
     supervisor_sum l lt =
         let free : load l < slice_index f.supervisors.items l → supervisor_price o f l ≡ o.zero = λ room.

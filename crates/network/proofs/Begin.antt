@@ -1,18 +1,20 @@
 -- a search begins, and how many nodes it has left
-use Rattle.std.proofs.Common.{◌≡◌, ◌≢◌, ℕ, ◌+◌, ◌*◌, ◌<◌, ◌≤◌, ◌⊎◌, inl, inr, List, [], ◌∷◌, length, set, get_or, zero, suc, Bool, true, false, cond, Option, Some, None, refl, arith, sym, ◌∙◌, ap, subst, get_or-set_same, get_or-set_other, length-set, sum_by, not, ◌&&◌}
-use Rattle.std.proofs.lemmas.Bool.{cases_eq, cases_Bool, cases_lt, cond-true, cond-false}
+use Rattle.std.proofs.Common.{◌≡◌, ℕ, ◌+◌, ◌*◌, ◌<◌, ◌≤◌, ◌⊎◌, inl, inr, List, [], ◌∷◌, length, set, get_or, suc, true, false, cond, Some, None, refl, arith, sym, ◌∙◌, ap, sum_by}
+use Rattle.std.proofs.lemmas.Bool.{cases_lt}
 use Rattle.std.proofs.lemmas.List.{get_or_past}
 use Rattle.std.proofs.lemmas.List.Sums.{sum_by-set, sum_by-cons, get_or-le-sum_by}
-use Rattle.spa.specs.Laws.{Ops, IsWorth, AtMost}
-use Rattle.network.specs.Marks.{is_seen, is_settled, is_open_mark, blank, mark_at, potential_at, key_at, settled_as, unsettled}
-use Rattle.network.specs.Search.{Replaced, Reaches, Taken, Relaxes, rank_or, FromNode, IsSearch, Feasible, OffersOf}
+use Rattle.spa.specs.Laws.{Ops, IsWorth}
+use Rattle.network.specs.Marks.{is_seen, is_settled, is_open_mark, blank, mark_at, settled_as, unsettled}
+use Rattle.network.specs.Search.{Replaced, Reaches, Taken, Relaxes, FromNode, IsSearch}
 use Rattle.network.proofs.Settle.{open_rank, settled_rank}
 use Rattle.network.specs.declared.marks.Origin.{Origin}
 use Rattle.network.specs.declared.marks.Mark.{Mark}
 
+-- 1 for a node that is not settled
 abbrev weight : {G : Type 0} → Mark G → ℕ
 weight m = cond (is_settled m.rank) 0 1
 
+-- sums of values that agree
 sum_same : {X : Type 0} (f : X → ℕ) (d : X) (xs ys : List X) → length xs ≡ length ys → ((k : ℕ) → f (get_or xs k d) ≡ f (get_or ys k d)) → sum_by f xs ≡ sum_by f ys
 sum_same f d [] [] e h = refl
 sum_same f d [] (y ∷ ys) e h = absurd (omega (arith, e))
@@ -24,6 +26,7 @@ sum_same f d (x ∷ xs) (y ∷ ys) e h =
     rw (sum_by-cons f x xs, sum_by-cons f y ys) (omega (arith, rest, first))
 
 module _ {G : Type 0} {o : Ops G} (laws : IsWorth o) where
+  -- no node past the end is open
   past_closed : (marks : List (Mark G)) (w : ℕ) → length marks ≤ w → is_open_mark (mark_at o marks w) ≡ true → ⊥
   past_closed marks w le e = let q : mark_at o marks w ≡ blank o = get_or_past marks w (blank o) le in let e' = rw q at e in cc
 
@@ -32,6 +35,7 @@ module _ {G : Type 0} {o : Ops G} (laws : IsWorth o) where
       → (w : ℕ) → is_open_mark (mark_at o marks w) ≡ true → P w
   best_of_all marks P h w e = elim (cases_lt w (length marks)) [ inl lt ↦ h w lt e | inr le ↦ absurd (past_closed marks w le e) ]
 
+  -- an open node is one of the marks
   pub open_within : (marks : List (Mark G)) (w : ℕ) → is_open_mark (mark_at o marks w) ≡ true → w < length marks
   open_within marks w e = elim (cases_lt w (length marks)) [ inl lt ↦ lt | inr le ↦ absurd (past_closed marks w le e) ]
 
@@ -49,12 +53,14 @@ module _ {G : Type 0} {o : Ops G} (laws : IsWorth o) where
       let w : weight (mark_at o m node) ≡ 1 = ap (λ z. cond (is_settled z) 0 1) (open_rank (mark_at o m node) e).1 in
       omega (arith, s, w)
 
+  -- an open node is left to settle
   pub open_left : (m : List (Mark G)) (node : ℕ) → is_open_mark (mark_at o m node) ≡ true → 0 < unsettled m
   open_left m node e =
       let s = get_or-le-sum_by weight m node (blank o) (open_within m node e) in
       let w : weight (mark_at o m node) ≡ 1 = ap (λ z. cond (is_settled z) 0 1) (open_rank (mark_at o m node) e).1 in
       omega (arith, s, w)
 
+  -- blank marks are all left to settle
   all_left : (m : List (Mark G)) → ((b : ℕ) → mark_at o m b ≡ blank o) → unsettled m ≡ length m
   all_left [] h = refl
   all_left (x ∷ xs) h =
@@ -62,6 +68,7 @@ module _ {G : Type 0} {o : Ops G} (laws : IsWorth o) where
       let first : weight x ≡ 1 = ap weight (h 0) in
       sum_by-cons weight x xs ∙ omega (arith, rest, first)
 
+  -- the same in the words of the search
   pub left_at_begin : (m : List (Mark G)) → ((b : ℕ) → mark_at o m b ≡ blank o) → unsettled m ≡ length m
   left_at_begin m h = all_left m h
 

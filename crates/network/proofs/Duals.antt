@@ -1,37 +1,41 @@
 -- the prices of a pushed flow meet the dual conditions
-use Rattle.std.proofs.Common.{◌≡◌, ◌≢◌, ℕ, ◌+◌, ◌*◌, ◌<◌, ◌≤◌, List, length, get_or, Option, Some, None, slice_get, refl, arith, sym, ◌∙◌, ap, subst}
-use Rattle.std.specs.declared.vec.Vec.{Vec}
-use Rattle.std.specs.declared.alloc.Global.{Global}
+use Rattle.std.proofs.Common.{◌≡◌, ℕ, ◌+◌, ◌≤◌, length, Option, Some, None, slice_get, refl, arith, sym, ◌∙◌, ap}
 use Rattle.std.proofs.lemmas.Option.{slice_get_within, slice_get-get_or}
 use Rattle.spa.specs.Laws.{Ops, IsWorth, AtMost}
 use Rattle.network.proofs.Group.{at_most_refl, at_most_back, zero_left, swapped}
-use Rattle.network.specs.Arcs.{HasEntry, Holds, project_count, IsFormed}
-use Rattle.network.specs.Fair.{potential, IsFair, IsLow}
+use Rattle.network.specs.Arcs.{HasEntry, project_count}
+use Rattle.network.specs.Fair.{potential, IsLow}
 use Rattle.network.specs.Push.{IsPushed}
-use Rattle.network.specs.Prices.{at_entry, at_row, at_place, of_place, student_price, project_price, project_price_at, supervisor_price, PotentialPrices}
+use Rattle.network.specs.Prices.{at_entry, at_row, at_place, student_price, project_price, project_price_at, PotentialPrices}
 use Rattle.network.proofs.Balance.{balanced}
 use Rattle.network.specs.declared.flow.Flow.{Flow}
 
 module _ {G : Type 0} {o : Ops G} (laws : IsWorth o) where
+  -- what is left of the greater is not below zero
   pub rest_least : (x y : G) → AtMost o y x → AtMost o o.zero (o.minus x y)
   rest_least x y h = at_most_back laws _ _ y (rw (zero_left laws, laws.undo x y) h)
 
+  -- three prices and the project's potential come to the student's price
   pub price_left : (u a b : G) → o.plus (o.plus (o.plus u (o.minus a b)) (o.minus o.zero a)) b ≡ u
   price_left u a b =
       let e : o.plus (o.plus (o.plus u (o.minus a b)) (o.minus o.zero a)) b ≡ o.plus u (o.plus (o.minus o.zero a) (o.plus (o.minus a b) b)) = simp (laws.assoc, laws.comm, swapped) in
       e ∙ ap (λ z. o.plus u (o.plus (o.minus o.zero a) z)) (laws.undo a b) ∙ ap (o.plus u) (laws.undo o.zero a) ∙ laws.unit u
 
   module _ (f : Flow G) (pushed : IsPushed o f) (low : IsLow o f) where
+    -- the potential of a node
     abbrev H : ℕ → G
     H v = potential o f v
 
+    -- the price of a student with a place
     held_price : (s a k : ℕ) (w : G) → slice_get f.places.items s ≡ Some (Some k) → HasEntry f.lists.items s k a w → student_price o f s ≡ o.plus w (H a)
     held_price s a k w e h =
         ap (λ z. at_place o (λ p v. o.plus v (H p)) z (slice_get f.lists.items s)) e ∙ ap (λ z. at_row o (λ p v. o.plus v (H p)) z k) h.student ∙ ap (at_entry o (λ p v. o.plus v (H p))) h.place
 
+    -- and without one
     free_price : (s : ℕ) (x : Option (Option ℕ)) → slice_get f.places.items s ≡ x → (x ≡ None → student_price o f s ≡ o.zero) × (x ≡ Some None → student_price o f s ≡ o.zero)
     free_price s x e = (λ n. ap (λ z. at_place o (λ p v. o.plus v (H p)) z (slice_get f.lists.items s)) (e ∙ n), λ n. ap (λ z. at_place o (λ p v. o.plus v (H p)) z (slice_get f.lists.items s)) (e ∙ n))
 
+    -- a student's price is not below zero
     student_least : (s : ℕ) (x : Option (Option ℕ)) → slice_get f.places.items s ≡ x → AtMost o o.zero (student_price o f s)
     student_least s None e = rw ((free_price s None e).0 refl) (at_most_refl laws o.zero)
     student_least s (Some None) e = rw ((free_price s (Some None) e).1 refl) (at_most_refl laws o.zero)
@@ -39,6 +43,7 @@ module _ {G : Type 0} {o : Ops G} (laws : IsWorth o) where
         let h = pushed.formed.placed s k e in
         rw (held_price s h.0 k h.1 e h.2) (pushed.fair.placed_least s h.0 (record { place = k; worth = h.1; placed = e; entry = h.2 }))
 
+    -- nor large
     student_span : (s : ℕ) (x : Option (Option ℕ)) → slice_get f.places.items s ≡ x → o.span (student_price o f s) ≤ 2007
     student_span s None e = rw ((free_price s None e).0 refl, laws.span_zero) (omega arith)
     student_span s (Some None) e = rw ((free_price s (Some None) e).1 refl, laws.span_zero) (omega arith)
@@ -59,14 +64,17 @@ module _ {G : Type 0} {o : Ops G} (laws : IsWorth o) where
         let g = pushed.formed.placed s j e in
         rw (held_price s g.0 j g.1 e g.2) (pushed.fair.placed s g.0 k p w (record { place = j; worth = g.1; placed = e; entry = g.2 }) h)
 
+    -- nor is a project's below zero
     project_least : (p : ℕ) (x : Option (ℕ × ℕ)) → slice_get f.projects.items p ≡ x → AtMost o o.zero (project_price_at o f p x)
     project_least p None e = at_most_refl laws o.zero
     project_least p (Some d) e = rest_least _ _ (pushed.fair.project p d.0 d.1 e)
 
+    -- or large
     project_span : (p : ℕ) (x : Option (ℕ × ℕ)) → o.span (project_price_at o f p x) ≤ 4012
     project_span p None = rw laws.span_zero (omega arith)
     project_span p (Some d) = omega (arith, laws.span_minus (H (project_count f + d.0)) (H p), low (project_count f + d.0), low p)
 
+    -- the prices of a pushed flow
     pub prices_hold : PotentialPrices o f
     prices_hold = record {
       students = λ s. student_least s (slice_get f.places.items s) refl;

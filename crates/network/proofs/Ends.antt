@@ -1,29 +1,25 @@
 -- a student gives a place up, the new student is placed, and a supervisor takes one more
-use Rattle.std.proofs.Common.{◌≡◌, ◌≢◌, ℕ, ◌+◌, ◌*◌, ◌<◌, ◌≤◌, ◌⊎◌, inl, inr, zero, suc, List, [], ◌∷◌, length, get_or, set, Option, Some, None, slice_get, refl, arith, sym, ◌∙◌, ap, subst, eqb, true, false, Bool, length-set, get_or-set_same, get_or-set_other}
+use Rattle.std.proofs.Common.{◌≡◌, ℕ, ◌+◌, ◌<◌, inl, inr, length, set, Option, Some, None, slice_get, arith, sym, ◌∙◌, ap, subst, get_or-set_same, get_or-set_other}
 use Rattle.std.specs.Prelude.{slice_index, nat_eq}
 use Rattle.std.specs.declared.vec.Vec.{Vec}
 use Rattle.std.specs.declared.alloc.Global.{Global}
 use Rattle.std.proofs.lemmas.Bool.{cases_eq, eq-eqb, ne_eqb}
-use Rattle.std.proofs.lemmas.Option.{slice_get_within, some_pair_parts, same_Some}
+use Rattle.std.proofs.lemmas.Option.{slice_get_within}
 use Rattle.spa.specs.Laws.{Ops, IsWorth, AtMost}
-use Rattle.network.specs.Marks.{mark_at, is_seen}
-use Rattle.network.specs.Search.{rank_or}
-use Rattle.network.specs.Arcs.{HasEntry, Holds, EntryArc, LeaveArc, OfferArc, SwapArc, RoomArc, Arc, OfStudent, sink_of, project_count, IsFormed}
+use Rattle.network.specs.Arcs.{HasEntry, Holds, sink_of, project_count, IsFormed}
 use Rattle.network.specs.Fair.{potential, IsFair}
-use Rattle.network.specs.Push.{sum_to, one_if, entry_at, row_at, place_at, seat, seats, seats_of, IsCounted, IsStep, IsFirst, HasSteps}
-use Rattle.network.proofs.Entries.{entry_same}
-use Rattle.network.proofs.Students.{holds_same, holds_along}
-use Rattle.network.proofs.Transfer.{slice_get-set_same, slice_get-set_other, place_other, holds_before, holds_after, seat_held, same_either}
-use Rattle.network.proofs.Group.{at_most_refl, zero_left}
-use Rattle.network.proofs.Sums.{sum_to_change, sum_to_same}
+use Rattle.network.specs.Push.{one_if, place_at, seat, IsCounted}
+use Rattle.network.proofs.Students.{holds_along}
+use Rattle.network.proofs.Transfer.{slice_get-set_same, place_other, seat_held, same_either}
+use Rattle.network.proofs.Group.{at_most_refl}
+use Rattle.network.proofs.Sums.{sum_to_change}
 use Rattle.network.specs.declared.flow.Flow.{Flow}
-use Rattle.network.specs.declared.marks.Origin.{Origin}
-use Rattle.network.specs.declared.marks.Origin.TheVariants.{Unseen, Entry, Leave, Offer, Swap, Room}
-use Rattle.network.specs.declared.marks.Mark.{Mark}
 
+-- a project is not the sink
 pub not_sink : {G : Type 0} (f : Flow G) (p : ℕ) → p < project_count f → one_if (nat_eq p (sink_of f)) ≡ 0
 not_sink f p lt = ap one_if (ne_eqb p (sink_of f) (λ e. omega (arith, e, lt)))
 
+-- nor is a supervisor
 pub node_not_sink : {G : Type 0} (f : Flow G) (l : ℕ) → l < length f.supervisors.items → one_if (nat_eq (project_count f + l) (sink_of f)) ≡ 0
 node_not_sink f l lt = ap one_if (ne_eqb (project_count f + l) (sink_of f) (λ e. omega (arith, e, lt)))
 
@@ -31,6 +27,7 @@ node_not_sink f l lt = ap one_if (ne_eqb (project_count f + l) (sink_of f) (λ e
 abbrev pub IsQuiet : {G : Type 0} → Ops G → Flow G → Type 0
 IsQuiet o f = IsFair o f (length f.lists.items) o.zero
 
+-- nobody past the end has a list
 past_entry : {G : Type 0} (f : Flow G) (k p : ℕ) (w : G) → HasEntry f.lists.items (length f.lists.items) k p w → ⊥
 past_entry f k p w e = let h = slice_get_within f.lists.items (length f.lists.items) e.row e.student in omega (arith, h)
 
@@ -54,6 +51,7 @@ module _ {G : Type 0} {o : Ops G} (laws : IsWorth o) (f : Flow G) (formed : IsFo
   }
 
   module _ (P : Vec (Option ℕ) Global) (s : ℕ) (x : Option ℕ) (set_is : P.items ≡ set f.places.items s x) where
+    -- the flow with this student's place gone
     abbrev pub N : Flow G
     N = record f { places = P }
 
@@ -154,15 +152,19 @@ module _ {G : Type 0} {o : Ops G} (laws : IsWorth o) (f : Flow G) (formed : IsFo
 
   -- a supervisor with room takes one more
   module _ (L : Vec ℕ Global) (l y : ℕ) (known : l < length f.supervisors.items) (set_is : L.items ≡ set f.load.items l y) (more : y ≡ slice_index f.load.items l + 1) where
+    -- the flow with one more at the supervisor
     abbrev pub M : Flow G
     M = record f { load = L }
 
+    -- the new count of the supervisor
     load_here : slice_index L.items l ≡ y
     load_here = rw set_is (get_or-set_same f.load.items l y 0 (omega (arith, known, formed.load)))
 
+    -- the count of another
     load_other : (m : ℕ) → (m ≡ l → ⊥) → slice_index L.items m ≡ slice_index f.load.items m
     load_other m ne = rw set_is (get_or-set_other f.load.items l m y 0 ne)
 
+    -- the potentials stay fair
     pub load_fair : (pending : ℕ) (top : G) → IsFair o f pending top → IsFair o M pending top
     load_fair pending top fair = record {
       placed = λ t c i p v h e. fair.placed t c i p v (record { place = h.place; worth = h.worth; placed = h.placed; entry = h.entry }) e;
@@ -180,6 +182,7 @@ module _ {G : Type 0} {o : Ops G} (laws : IsWorth o) (f : Flow G) (formed : IsFo
       sink = fair.sink;
     }
 
+    -- the hole moves to the supervisor
     pub load_counted : slice_index f.load.items l < slice_index f.supervisors.items l → IsCounted f (sink_of f) → IsCounted M (project_count f + l)
     load_counted room c = record {
       project = λ p lt.

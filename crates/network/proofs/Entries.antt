@@ -1,12 +1,12 @@
 -- the offers of a student
-use Rattle.std.proofs.Common.{◌≡◌, ◌≢◌, ℕ, ◌+◌, ◌*◌, ◌<◌, ◌≤◌, ◌⊎◌, inl, inr, List, length, Option, Some, None, slice_get, refl, arith, sym, ◌∙◌, ap, subst}
+use Rattle.std.proofs.Common.{◌≡◌, ℕ, ◌+◌, ◌⊎◌, inl, inr, List, length, Some, slice_get, refl, arith, sym, ◌∙◌, ap}
 use Rattle.std.proofs.lemmas.Bool.{cases_eq}
 use Rattle.std.proofs.lemmas.Option.{slice_get_within, some_pair_parts, same_Some}
 use Rattle.std.specs.declared.vec.Vec.{Vec}
 use Rattle.std.specs.declared.alloc.Global.{Global}
-use Rattle.spa.specs.Laws.{Ops, IsWorth, AtMost}
+use Rattle.spa.specs.Laws.{Ops, IsWorth}
 use Rattle.network.specs.Search.{Relaxes, OneOffer}
-use Rattle.network.specs.Arcs.{HasEntry, Holds, OfStudent, EntriesBelow, sink_of}
+use Rattle.network.specs.Arcs.{HasEntry, OfStudent, EntriesBelow, sink_of}
 use Rattle.network.proofs.Relax.{relaxes_none, relaxes_then, relaxes_as}
 use Rattle.network.specs.declared.flow.Flow.{Flow}
 use Rattle.network.specs.declared.marks.Origin.{Origin}
@@ -20,9 +20,11 @@ entry_same {G} {lists} {s} {k} {p} {q} {v} {w} e f =
     some_pair_parts p q v w (sym e.place ∙ ap (λ (z : Vec (ℕ × G) Global). slice_get z.items k) r ∙ f.place)
 
 module _ {G : Type 0} {o : Ops G} (laws : IsWorth o) (f : Flow G) (student : ℕ) (label : G) where
+  -- what the first entries offer
   abbrev pub Below : ℕ → Origin → G → ℕ → Type 0
   Below i w x b = EntriesBelow o f student label i w x b
 
+  -- no entry offers nothing
   pub entries_none : (m : List (Mark G)) → Relaxes o (Below 0) m m
   entries_none m = relaxes_as laws (λ w x b. ⊥) (Below 0) m m (λ w x b h. absurd h) back (relaxes_none laws m) where
     back : (w : Origin) (x : G) (b : ℕ) → Below 0 w x b → ⊥
@@ -33,6 +35,7 @@ module _ {G : Type 0} {o : Ops G} (laws : IsWorth o) (f : Flow G) (student : ℕ
     back (Swap l) x b h = h
     back (Room l) x b h = h
 
+  -- one entry more
   pub entries_more : (l m n : List (Mark G)) (i p : ℕ) (worth : G) → Relaxes o (Below i) l m → HasEntry f.lists.items student i p worth
       → Relaxes o (OneOffer (Entry student i) (o.plus label worth) p) m n → Relaxes o (Below (i + 1)) l n
   entries_more l m n i p worth e h r =
@@ -61,6 +64,7 @@ module _ {G : Type 0} {o : Ops G} (laws : IsWorth o) (f : Flow G) (student : ℕ
         back (Swap q) x b g = inl g
         back (Room q) x b g = inl g
 
+  -- all entries and the sink
   pub entries_all : (l m n : List (Mark G)) (i : ℕ) → ((row : Vec (ℕ × G) Global) → slice_get f.lists.items student ≡ Some row → i ≡ length row.items)
       → Relaxes o (Below i) l m → Relaxes o (OneOffer (Leave student) label (sink_of f)) m n → Relaxes o (OfStudent o f student label) l n
   entries_all l m n i len e r =

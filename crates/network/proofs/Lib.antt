@@ -10,9 +10,13 @@ pub mod Begin
 pub mod Advance
 pub mod Fair
 pub mod Sums
+pub mod Costs
+pub mod Listed
+pub mod Labelled
 pub mod Transfer
 pub mod Shift
 pub mod Ends
+pub mod Refused
 pub mod PushEntry
 pub mod PushOther
 pub mod PushReady
@@ -22,7 +26,6 @@ pub mod Append
 pub mod Regrow
 pub mod Lists
 pub mod Matched
-pub mod Costs
 pub mod Start
 pub mod Admission
 pub mod GroupSums

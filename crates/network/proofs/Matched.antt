@@ -12,11 +12,12 @@ use Rattle.spa.specs.Laws.{Ops}
 use Rattle.spa.specs.Shape.{Shape, list_of, supervisor_of, project_quota, supervisor_quota}
 use Rattle.spa.specs.Matching.{Pair, pairs_from}
 use Rattle.spa.specs.Matched.{pairs, HasPlaces, IsMatched}
-use Rattle.network.specs.Arcs.{HasEntry, sink_of, project_count}
-use Rattle.network.specs.Push.{sum_to, one_if, entry_at, row_at, place_at, seat, seats, owner_at, seats_of, IsPushed}
+use Rattle.network.specs.Arcs.{HasEntry}
+use Rattle.network.specs.Push.{sum_to, one_if, entry_at, row_at, place_at, owner_at, IsPushed}
 use Rattle.network.specs.Seen.{shape_of}
 use Rattle.network.specs.View.{row_of, seen}
 use Rattle.network.proofs.Sums.{sum_to_same, sum_to_change, sum_to_zero, sum_to_front}
+use Rattle.network.proofs.Listed.{cond_one}
 use Rattle.network.proofs.Ends.{not_sink, node_not_sink}
 use Rattle.network.specs.declared.flow.Flow.{Flow}
 
@@ -94,10 +95,6 @@ each_from : {X : Type 0} (P Q : X → Type 0) → ((x : X) → P x → Q x) → 
 each_from P Q f [] a = tt
 each_from P Q f (x ∷ xs) a = (f x a.0, each_from P Q f xs a.1)
 
-cond_one : (b : Bool) → cond b 1 0 ≡ one_if b
-cond_one true = refl
-cond_one false = refl
-
 -- the pairs of a supervisor are those of the supervisor's projects
 by_project : (owns : ℕ → Bool) (n : ℕ) (M : List Pair) → AllByRecursion (λ e. e.project < n) M
     → count_by (λ e. owns e.project) M ≡ sum_to n (λ p. one_if (owns p) * count_by (λ e. e.project == p) M)
@@ -127,6 +124,7 @@ choices rows = map (map (λ e. e.0)) (map row_of rows)
 abbrev AreInLists : {G : Type 0} → List (Vec (ℕ × G) Global) → List (Option ℕ) → Type 0
 AreInLists {G} rows ks = (s k : ℕ) → slice_get ks s ≡ Some (Some k) → (p : ℕ) × (w : G) × HasEntry rows s k p w
 
+-- the same of the other students
 rest_in : {G : Type 0} (r : Vec (ℕ × G) Global) (rows : List (Vec (ℕ × G) Global)) (x : Option ℕ) (ks : List (Option ℕ)) → AreInLists (r ∷ rows) (x ∷ ks) → AreInLists rows ks
 rest_in r rows x ks a s k e = let h = a (suc s) k e in (h.0, h.1, record { row = h.2.row; student = h.2.student; place = h.2.place })
 
@@ -171,9 +169,11 @@ known_from n m (r ∷ rows) (Some k ∷ ks) a known =
     )
 
 module _ {G : Type 0} {o : Ops G} (f : Flow G) (steps : ℕ) (pushed : IsPushed o f) where
+  -- the instance that callers see
   abbrev i : Shape
   i = shape_of (seen f steps)
 
+  -- the places
   abbrev ks : List (Option ℕ)
   ks = f.places.items
 
@@ -184,9 +184,11 @@ module _ {G : Type 0} {o : Ops G} (f : Flow G) (steps : ℕ) (pushed : IsPushed 
       let b : slice_get (choices f.lists.items) s ≡ Some (map (λ e. e.0) r.items) = slice_get-map (map (λ e. e.0)) (map row_of f.lists.items) s ∙ ap (λ z. option_map (map (λ e. e.0)) z) a in
       get_or_from_slice_get (choices f.lists.items) s _ [] b
 
+  -- as many lists as callers see
   pub students_seen : length (choices f.lists.items) ≡ length f.lists.items
   students_seen = length-map (map row_of f.lists.items) (map (λ e. e.0)) ∙ length-map f.lists.items row_of
 
+  -- each place is one of the list that callers see
   has_places : HasPlaces i ks
   has_places = record {
     one_each = sym (students_seen ∙ pushed.formed.students);
@@ -196,12 +198,15 @@ module _ {G : Type 0} {o : Ops G} (f : Flow G) (steps : ℕ) (pushed : IsPushed 
         rw (list_seen s h.2.row h.2.student, length-map h.2.row.items (λ (e : ℕ × G). e.0)) at;
   }
 
+  -- the pairs of the places
   abbrev M : List Pair
   M = pairs i ks
 
+  -- each pair is listed
   listed : AllByRecursion (λ e. Contains (list_of i e.student) e.project) M
   listed = listed_from 0 i.students ks (list_of i) (λ j h. ap (list_of i) (omega arith)) (λ j k e. subst (λ (m : ℕ). k < length (list_of i m)) (omega arith) (has_places.in_list j k e))
 
+  -- each pair's project is known
   projects : AllByRecursion (λ e. e.project < length f.projects.items) M
   projects = known_from 0 (length f.projects.items) f.lists.items ks pushed.formed.placed (λ s k p w h. (pushed.formed.entries s k p w h).0)
 
@@ -209,21 +214,26 @@ module _ {G : Type 0} {o : Ops G} (f : Flow G) (steps : ℕ) (pushed : IsPushed 
   project_seen : (p : ℕ) → p < length f.projects.items → slice_get f.projects.items p ≡ Some (supervisor_of i p, project_quota i p)
   project_seen p lt = slice_get-get_or f.projects.items p (0, 0) lt
 
+  -- and so is its supervisor
   supervisors : AllByRecursion (λ e. supervisor_of i e.project < length f.supervisors.items) M
   supervisors = each_from (λ (e : Pair). e.project < length f.projects.items) (λ e. supervisor_of i e.project < length f.supervisors.items) (λ e h. pushed.formed.projects e.project _ _ (project_seen e.project h)) M projects
 
+  -- a project's count is that of its pairs
   filled_by : (p : ℕ) → p < length f.projects.items → slice_index f.filled.items p ≡ count_by (λ e. e.project == p) M
   filled_by p lt = let s = seats_from 0 f.lists.items ks p pushed.formed.placed in omega (arith, s, pushed.counted.project p lt, not_sink f p lt)
 
+  -- counts of a supervisor's projects
   owned : (l p : ℕ) → p < length f.projects.items → owner_at (slice_get f.projects.items p) l * slice_index f.filled.items p ≡ one_if (supervisor_of i p == l) * count_by (λ e. e.project == p) M
   owned l p lt = ap (λ z. owner_at z l * slice_index f.filled.items p) (project_seen p lt) ∙ ap (λ z. one_if (supervisor_of i p == l) * z) (filled_by p lt)
 
+  -- a supervisor's count is that of the pairs
   loaded_by : (l : ℕ) → l < length f.supervisors.items → slice_index f.load.items l ≡ count_by (λ e. supervisor_of i e.project == l) M
   loaded_by l lt =
       let s = by_project (λ p. supervisor_of i p == l) (length f.projects.items) M projects in
       let t = sum_to_same (length f.projects.items) (λ p. owner_at (slice_get f.projects.items p) l * slice_index f.filled.items p) (λ p. one_if (supervisor_of i p == l) * count_by (λ e. e.project == p) M) (owned l) in
       omega (arith, s, t, pushed.counted.supervisor l lt, node_not_sink f l lt)
 
+  -- the places are a matching
   pub matched : IsMatched i ks
   matched = record {
     places = has_places;

@@ -1,5 +1,5 @@
 -- The prices of a flow in the words of callers.
-use Rattle.std.proofs.Common.{◌≡◌, ℕ, zero, suc, ◌+◌, ◌<◌, ◌≤◌, inl, inr, List, [], ◌∷◌, length, map, get_or, Option, Some, None, refl, sym, ap, ◌∙◌, subst, arith, slice_get, slice_index}
+use Rattle.std.proofs.Common.{◌≡◌, ℕ, zero, suc, ◌<◌, ◌≤◌, inl, inr, List, [], ◌∷◌, length, map, Option, Some, None, refl, sym, ap, ◌∙◌, subst, arith, slice_get, slice_index}
 use Rattle.std.specs.declared.vec.Vec.{Vec}
 use Rattle.std.specs.declared.alloc.Global.{Global}
 use Rattle.std.specs.List.{range_with_len}
@@ -12,9 +12,9 @@ use Rattle.spa.specs.Shape.{Shape, supervisor_of, project_quota, supervisor_quot
 use Rattle.network.specs.Arcs.{HasEntry}
 use Rattle.network.specs.Fair.{IsLow}
 use Rattle.network.specs.Push.{IsPushed}
-use Rattle.network.specs.Seen.{Seen, shape_of, price, multiple, sum_of, price_total, worth_at, total_worth, ArePrices, IsPriced}
+use Rattle.network.specs.Seen.{shape_of, price, multiple, sum_of, price_total, worth_at, total_worth, ArePrices, IsPriced}
 use Rattle.network.specs.View.{row_of, seen, IsReady}
-use Rattle.network.specs.Prices.{at_entry, at_place, student_price, project_price, supervisor_price, quota_at, placed_worth, price_sum, PotentialPrices}
+use Rattle.network.specs.Prices.{at_entry, at_place, student_price, project_price, supervisor_price, quota_at, PotentialPrices}
 use Rattle.network.proofs.Group.{at_most_refl, zero_left}
 use Rattle.network.proofs.GroupSums.{sum_of_same, sum_of_zero, sum_of_front}
 use Rattle.network.proofs.Duals.{prices_hold}
@@ -26,9 +26,11 @@ use Rattle.network.specs.declared.flow.Flow.{Flow}
 abbrev by_position : {G : Type 0} → ℕ → (ℕ → G) → List G
 by_position n g = map g (range_with_len 0 n)
 
+-- it has n values
 by_position_long : {G : Type 0} (n : ℕ) (g : ℕ → G) → length (by_position n g) ≡ n
 by_position_long n g = length-map (range_with_len 0 n) g ∙ length-range_with_len 0 n
 
+-- and g i at i
 by_position_at : {G : Type 0} (o : Ops G) (n : ℕ) (g : ℕ → G) (i : ℕ) → i < length (by_position n g) → price o (by_position n g) i ≡ g i
 by_position_at o n g i lt = get_or-map-range_with_len g 0 n i i o.zero (subst (λ z. i < z) (by_position_long n g) lt) (omega arith)
 
@@ -60,12 +62,15 @@ module _ {G : Type 0} {o : Ops G} (laws : IsWorth o) where
       ∙ ap (λ x. o.plus x (total_worth o (map row_of rows) ks)) (entry_worth r.items k)
 
   module _ (f : Flow G) (steps : ℕ) (pushed : IsPushed o f) (low : IsLow o f) where
+    -- the instance that callers see
     abbrev i : Shape
     i = shape_of (seen f steps)
 
+    -- the flow's prices
     hold : PotentialPrices o f
     hold = prices_hold laws f pushed low
 
+    -- the project at a position
     project_seen : (p : ℕ) → p < length f.projects.items → slice_get f.projects.items p ≡ Some (supervisor_of i p, project_quota i p)
     project_seen p lt = slice_get-get_or f.projects.items p (0, 0) lt
 
@@ -73,18 +78,22 @@ module _ {G : Type 0} {o : Ops G} (laws : IsWorth o) where
         (u_long : length u ≡ length f.lists.items) (u_is : (s : ℕ) → s < length u → price o u s ≡ student_price o f s)
         (y_long : length y ≡ length f.projects.items) (y_is : (p : ℕ) → p < length y → price o y p ≡ project_price o f p)
         (z_long : length z ≡ length f.supervisors.items) (z_is : (l : ℕ) → l < length z → price o z l ≡ supervisor_price o f l) where
+      -- students' prices added up
       students_sum : sum_of o (length i.students) (price o u) ≡ sum_of o (length f.lists.items) (student_price o f)
       students_sum = ap (λ n. sum_of o n (price o u)) (students_seen f steps pushed)
           ∙ sum_of_same laws (length f.lists.items) (price o u) (student_price o f) (λ s lt. u_is s (omega (arith, lt, u_long)))
 
+      -- projects' prices
       projects_sum : sum_of o (length i.projects) (λ p. multiple o (project_quota i p) (price o y p)) ≡ sum_of o (length f.projects.items) (λ p. multiple o (quota_at (slice_get f.projects.items p)) (project_price o f p))
       projects_sum = sum_of_same laws (length f.projects.items) (λ p. multiple o (project_quota i p) (price o y p)) (λ p. multiple o (quota_at (slice_get f.projects.items p)) (project_price o f p))
           (λ p lt. ap (multiple o (project_quota i p)) (y_is p (omega (arith, lt, y_long))) ∙ ap (λ e. multiple o (quota_at e) (project_price o f p)) (sym (project_seen p lt)))
 
+      -- supervisors' prices
       supervisors_sum : sum_of o (length i.supervisors) (λ l. multiple o (supervisor_quota i l) (price o z l)) ≡ sum_of o (length f.supervisors.items) (λ l. multiple o (slice_index f.supervisors.items l) (supervisor_price o f l))
       supervisors_sum = sum_of_same laws (length f.supervisors.items) (λ l. multiple o (supervisor_quota i l) (price o z l)) (λ l. multiple o (slice_index f.supervisors.items l) (supervisor_price o f l))
           (λ l lt. ap (multiple o (supervisor_quota i l)) (z_is l (omega (arith, lt, z_long))))
 
+      -- all of them, and the worths of the places
       all_paid : price_total o i (price o u) (price o y) (price o z) ≡ total_worth o (map row_of f.lists.items) f.places.items
       all_paid =
           ap (λ a. o.plus (o.plus a (sum_of o (length i.projects) (λ p. multiple o (project_quota i p) (price o y p)))) (sum_of o (length i.supervisors) (λ l. multiple o (supervisor_quota i l) (price o z l)))) students_sum
@@ -92,6 +101,7 @@ module _ {G : Type 0} {o : Ops G} (laws : IsWorth o) where
           ∙ ap (o.plus (o.plus (sum_of o (length f.lists.items) (student_price o f)) (sum_of o (length f.projects.items) (λ p. multiple o (quota_at (slice_get f.projects.items p)) (project_price o f p))))) supervisors_sum
           ∙ hold.equal ∙ worth_from f.lists.items f.places.items
 
+      -- each listed pair pays its worth
       covers : (s k p : ℕ) (w : G) (list : List (ℕ × G)) → slice_get (map row_of f.lists.items) s ≡ Some list → slice_get list k ≡ Some (p, w)
           → AtMost o w (o.plus (price o u s) (o.plus (price o y p) (price o z (supervisor_of i p))))
       covers s k p w list e d =
@@ -104,9 +114,11 @@ module _ {G : Type 0} {o : Ops G} (laws : IsWorth o) where
           rw (u_is s (omega (arith, here, u_long)), y_is p (omega (arith, lt, y_long)), z_is (supervisor_of i p) (omega (arith, known, z_long)))
           (subst (AtMost o w) (laws.assoc (student_price o f s) (project_price o f p) (supervisor_price o f (supervisor_of i p))) c)
 
+      -- zero is small
       zero_small : o.span o.zero ≤ 4012
       zero_small = omega (arith, laws.span_zero)
 
+      -- lists of the flow's prices are prices
       pub prices_of : ArePrices o (seen f steps) u y z
       prices_of = record {
         student_each = u_long ∙ sym (length-map f.lists.items row_of);

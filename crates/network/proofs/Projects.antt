@@ -1,11 +1,11 @@
 -- the offers out of a project and out of a supervisor
-use Rattle.std.proofs.Common.{◌≡◌, ◌≢◌, ℕ, ◌+◌, ◌*◌, ◌<◌, ◌≤◌, ◌⊎◌, inl, inr, List, length, Option, Some, None, slice_get, refl, arith, sym, ◌∙◌, ap, subst}
+use Rattle.std.proofs.Common.{◌≡◌, ℕ, ◌+◌, ◌<◌, ◌⊎◌, inl, inr, List, length, Some, slice_get, refl, arith, sym, ◌∙◌, ap}
 use Rattle.std.specs.Prelude.{slice_index}
 use Rattle.std.proofs.lemmas.Bool.{cases_eq}
-use Rattle.std.proofs.lemmas.Option.{slice_get_within, some_pair_parts, same_Some}
-use Rattle.spa.specs.Laws.{Ops, IsWorth, AtMost}
+use Rattle.std.proofs.lemmas.Option.{slice_get_within, some_pair_parts}
+use Rattle.spa.specs.Laws.{Ops, IsWorth}
 use Rattle.network.specs.Search.{Relaxes, OneOffer, OffersOf}
-use Rattle.network.specs.Arcs.{HasEntry, Holds, StudentsBelow, ProjectsBelow, EntryArc, LeaveArc, OfferArc, SwapArc, RoomArc, Arc, sink_of, project_count, IsFormed}
+use Rattle.network.specs.Arcs.{Holds, StudentsBelow, ProjectsBelow, OfferArc, SwapArc, RoomArc, Arc, sink_of, project_count, IsFormed}
 use Rattle.network.proofs.Relax.{relaxes_none, relaxes_then, relaxes_as}
 use Rattle.network.specs.declared.flow.Flow.{Flow}
 use Rattle.network.specs.declared.marks.Origin.{Origin}
@@ -13,13 +13,16 @@ use Rattle.network.specs.declared.marks.Origin.TheVariants.{Unseen, Entry, Leave
 use Rattle.network.specs.declared.marks.Mark.{Mark}
 
 module _ {G : Type 0} {o : Ops G} (laws : IsWorth o) (f : Flow G) (formed : IsFormed o f) where
+  -- who has a place is known
   holder_within : {s p : ℕ} → Holds f s p → s < length f.lists.items
   holder_within {s} h = rw formed.students (slice_get_within f.places.items s _ h.placed)
 
   module _ (a : ℕ) (label : G) (within : a < project_count f) where
+    -- a project is no supervisor
     not_swap : {l : ℕ} {c : G} {b : ℕ} → SwapArc o f a l c b → ⊥
     not_swap d = omega (arith, d.from_supervisor, within)
 
+    -- so it has none of a supervisor's arcs
     not_room : {l : ℕ} {c : G} {b : ℕ} → RoomArc o f a l c b → ⊥
     not_room d = omega (arith, d.from_supervisor, within)
 
@@ -73,9 +76,11 @@ module _ {G : Type 0} {o : Ops G} (laws : IsWorth o) (f : Flow G) (formed : IsFo
           back (Room p) x b h = absurd (not_room h.1)
 
   module _ (l : ℕ) (label : G) where
+    -- what a supervisor offers to the first projects
     abbrev pub Swaps : ℕ → Origin → G → ℕ → Type 0
     Swaps i w x b = ProjectsBelow o f l label i w x b
 
+    -- no project is offered nothing
     pub swaps_none : (m : List (Mark G)) → Relaxes o (Swaps 0) m m
     swaps_none m = relaxes_as laws (λ w x b. ⊥) (Swaps 0) m m (λ w x b h. absurd h) back (relaxes_none laws m) where
       back : (w : Origin) (x : G) (b : ℕ) → Swaps 0 w x b → ⊥
@@ -105,6 +110,7 @@ module _ {G : Type 0} {o : Ops G} (laws : IsWorth o) (f : Flow G) (formed : IsFo
       back (Swap q) x b h = (elim (cases_eq b i) [ inl e ↦ absurd (other h.2.0 (rw e at h.2.1)) | inr e ↦ omega (arith, h.0, e) ], h.1, h.2, h.3)
       back (Room q) x b h = h
 
+    -- one project more
     pub swaps_more : (k m n : List (Mark G)) (i quota : ℕ) → slice_get f.projects.items i ≡ Some (l, quota) → Relaxes o (Swaps i) k m → Relaxes o (OneOffer (Swap l) label i) m n → Relaxes o (Swaps (i + 1)) k n
     swaps_more k m n i quota e r t =
         relaxes_as laws (λ w x b. Swaps i w x b ⊎ OneOffer (Swap l) label i w x b) (Swaps (i + 1)) k n to back (relaxes_then laws _ _ k m n r t) where
@@ -130,15 +136,19 @@ module _ {G : Type 0} {o : Ops G} (laws : IsWorth o) (f : Flow G) (formed : IsFo
           ]
           back (Room s) x b h = inl h
 
+    -- the supervisor's node
     abbrev node : ℕ
     node = project_count f + l
 
+    -- nobody is placed at a supervisor
     not_held : {s : ℕ} → Holds f s node → ⊥
     not_held h = omega (arith, (formed.entries _ _ _ _ h.entry).0)
 
+    -- no project's arc begins there
     not_offered : {p : ℕ} {c : G} {b : ℕ} → OfferArc o f node p c b → ⊥
     not_offered d = omega (arith, d.from_project, slice_get_within f.projects.items _ _ d.project)
 
+    -- two nodes of supervisors
     same_supervisor : {q : ℕ} → node ≡ project_count f + q → l ≡ q
     same_supervisor e = omega (arith, e)
 
@@ -166,6 +176,7 @@ module _ {G : Type 0} {o : Ops G} (laws : IsWorth o) (f : Flow G) (formed : IsFo
           let e : l ≡ q = same_supervisor d.from_supervisor in
           full h.0 b (record { from_supervisor = refl; known = rw e d.known; room = rw e d.room; to_sink = d.to_sink; is = d.is })
 
+    -- all arcs of a supervisor
     pub supervisor_room : (k m n : List (Mark G)) → l < length f.supervisors.items → slice_index f.load.items l < slice_index f.supervisors.items l
         → Relaxes o (Swaps (project_count f)) k m → Relaxes o (OneOffer (Room l) label (sink_of f)) m n → Relaxes o (OffersOf o (Arc o f) node label) k n
     supervisor_room k m n known room r t =

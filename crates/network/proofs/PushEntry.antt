@@ -1,29 +1,25 @@
 -- the hole at a project that a list's entry led to
-use Rattle.std.proofs.Common.{◌≡◌, ◌≢◌, ℕ, ◌+◌, ◌*◌, ◌<◌, ◌≤◌, ◌⊎◌, inl, inr, zero, suc, List, [], ◌∷◌, length, get_or, set, Option, Some, None, slice_get, refl, arith, sym, ◌∙◌, ap, subst, eqb, true, false, Bool, length-set, get_or-set_same, get_or-set_other}
-use Rattle.std.specs.Prelude.{slice_index, nat_eq}
+use Rattle.std.proofs.Common.{◌≡◌, ℕ, ◌<◌, ◌⊎◌, inl, inr, List, length, set, Option, Some, None, slice_get, refl, sym, ◌∙◌, ap, length-set}
 use Rattle.std.specs.declared.vec.Vec.{Vec}
 use Rattle.std.specs.declared.alloc.Global.{Global}
-use Rattle.std.proofs.lemmas.Bool.{cases_eq, eq-eqb, ne_eqb}
-use Rattle.std.proofs.lemmas.Option.{slice_get_within, some_pair_parts, same_Some}
-use Rattle.spa.specs.Laws.{Ops, IsWorth, AtMost}
-use Rattle.network.specs.Marks.{mark_at, is_seen}
-use Rattle.network.specs.Search.{rank_or}
-use Rattle.network.specs.Arcs.{HasEntry, Holds, EntryArc, LeaveArc, OfferArc, SwapArc, RoomArc, Arc, OfStudent, sink_of, project_count, IsFormed}
+use Rattle.std.proofs.lemmas.Bool.{cases_eq}
+use Rattle.std.proofs.lemmas.Option.{slice_get_within, same_Some}
+use Rattle.spa.specs.Laws.{Ops, IsWorth}
+use Rattle.network.specs.Marks.{mark_at}
+use Rattle.network.specs.Arcs.{HasEntry, EntryArc, OfStudent, IsFormed}
 use Rattle.network.specs.Fair.{potential, IsFair}
-use Rattle.network.specs.Push.{sum_to, one_if, entry_at, row_at, place_at, seat, seats, seats_of, IsCounted, IsStep, IsFirst, HasSteps, IsPushing, IsPushed, IsNext}
+use Rattle.network.specs.Push.{IsStep, IsFirst, IsPushing, IsPushed, IsNext}
 use Rattle.network.proofs.Ends.{place_quiet, place_counted}
-use Rattle.network.proofs.Entries.{entry_same}
-use Rattle.network.proofs.Students.{holds_same, holds_along}
-use Rattle.network.proofs.Transfer.{transfer_fair, transfer_counted, moved_steps, slice_get-set_same, slice_get-set_other, place_other, holds_before, holds_after, seat_held, same_either}
-use Rattle.network.proofs.Group.{at_most_refl, zero_left, moved_same}
-use Rattle.network.proofs.Sums.{sum_to_change, sum_to_same}
+use Rattle.network.proofs.Students.{holds_same}
+use Rattle.network.proofs.Transfer.{transfer_fair, transfer_counted, moved_steps, slice_get-set_same, place_other}
+use Rattle.network.proofs.Group.{zero_left, moved_same}
 use Rattle.network.specs.declared.flow.Flow.{Flow}
-use Rattle.network.specs.declared.marks.Origin.{Origin}
-use Rattle.network.specs.declared.marks.Origin.TheVariants.{Unseen, Entry, Leave, Offer, Swap, Room}
+use Rattle.network.specs.declared.marks.Origin.TheVariants.{Entry}
 use Rattle.network.specs.declared.marks.Mark.{Mark}
 
 module _ {G : Type 0} {o : Ops G} (laws : IsWorth o) (f : Flow G) (formed : IsFormed o f) (P : Vec (Option ℕ) Global) (s : ℕ) (x : Option ℕ)
     (set_is : P.items ≡ set f.places.items s x) (within : s < length f.places.items) where
+  -- the flow with the student's new place
   abbrev pub N : Flow G
   N = record f { places = P }
 
@@ -51,9 +47,11 @@ module _ {G : Type 0} {o : Ops G} (laws : IsWorth o) (f : Flow G) (formed : IsFo
 
 module _ {G : Type 0} {o : Ops G} (laws : IsWorth o) (f : Flow G) (marks : List (Mark G)) (fresh : ℕ) (top : G) (hole s k : ℕ) (pushing : IsPushing o f marks fresh top hole)
     (origin : (mark_at o marks hole).origin ≡ Entry s k) (P : Vec (Option ℕ) Global) (set_is : P.items ≡ set f.places.items s (Some k)) where
+  -- the flow with the new student's place
   abbrev pub Placed : Flow G
   Placed = record f { places = P }
 
+  -- the step into the hole
   step_here : IsFirst o f marks fresh top hole ⊎ IsStep o f marks (length marks) hole
   step_here = pushing.steps hole pushing.seen (inl refl)
 

@@ -1,30 +1,29 @@
 -- the hole at the sink or at a node that another node led to
-use Rattle.std.proofs.Common.{◌≡◌, ◌≢◌, ℕ, ◌+◌, ◌-◌, ◌*◌, ◌<◌, ◌≤◌, ◌⊎◌, inl, inr, zero, suc, List, [], ◌∷◌, length, get_or, set, Option, Some, None, slice_get, refl, arith, sym, ◌∙◌, ap, subst, eqb, true, false, Bool, length-set, get_or-set_same, get_or-set_other}
+use Rattle.std.proofs.Common.{◌≡◌, ℕ, ◌+◌, ◌-◌, ◌<◌, ◌≤◌, ◌⊎◌, inl, inr, List, length, set, Option, Some, None, slice_get, refl, arith, sym, ◌∙◌, ap, length-set, get_or-set_other}
 use Rattle.std.specs.Prelude.{slice_index, nat_eq}
 use Rattle.std.specs.declared.vec.Vec.{Vec}
 use Rattle.std.specs.declared.alloc.Global.{Global}
-use Rattle.std.proofs.lemmas.Bool.{cases_eq, eq-eqb, ne_eqb}
-use Rattle.std.proofs.lemmas.Option.{slice_get_within, some_pair_parts, same_Some}
-use Rattle.spa.specs.Laws.{Ops, IsWorth, AtMost}
-use Rattle.network.specs.Marks.{mark_at, is_seen}
+use Rattle.std.proofs.lemmas.Bool.{eq-eqb}
+use Rattle.std.proofs.lemmas.Option.{slice_get_within, same_Some}
+use Rattle.spa.specs.Laws.{Ops, IsWorth}
+use Rattle.network.specs.Marks.{mark_at}
 use Rattle.network.specs.Search.{rank_or}
-use Rattle.network.specs.Arcs.{HasEntry, Holds, EntryArc, LeaveArc, OfferArc, SwapArc, RoomArc, Arc, OfStudent, sink_of, project_count, IsFormed}
-use Rattle.network.specs.Fair.{potential, IsFair}
-use Rattle.network.specs.Push.{sum_to, one_if, entry_at, row_at, place_at, seat, seats, seats_of, IsCounted, IsStep, IsFirst, HasSteps, IsPushing, IsPushed, IsNext}
+use Rattle.network.specs.Arcs.{HasEntry, LeaveArc, OfferArc, SwapArc, RoomArc, Arc, OfStudent, sink_of, project_count, IsFormed}
+use Rattle.network.specs.Fair.{potential}
+use Rattle.network.specs.Push.{one_if, IsCounted, IsStep, IsFirst, HasSteps, IsPushing, IsPushed, IsNext}
 use Rattle.network.proofs.Ends.{quiet_without, leave_fair, leave_counted, load_fair, load_counted}
 use Rattle.network.proofs.Shift.{filled_fair, more_counted, less_counted, filled_steps, now_here}
 use Rattle.network.proofs.PushEntry.{placed_formed}
-use Rattle.network.proofs.Entries.{entry_same}
-use Rattle.network.proofs.Students.{holds_same, holds_along}
-use Rattle.network.proofs.Transfer.{transfer_fair, transfer_counted, moved_steps, slice_get-set_same, slice_get-set_other, place_other, holds_before, holds_after, seat_held, same_either}
+use Rattle.network.proofs.Students.{holds_same}
+use Rattle.network.proofs.Transfer.{moved_steps, place_other}
 use Rattle.network.proofs.Group.{at_most_refl, zero_left, moved_same}
-use Rattle.network.proofs.Sums.{sum_to_change, sum_to_same}
 use Rattle.network.specs.declared.flow.Flow.{Flow}
 use Rattle.network.specs.declared.marks.Origin.{Origin}
 use Rattle.network.specs.declared.marks.Origin.TheVariants.{Unseen, Entry, Leave, Offer, Swap, Room}
 use Rattle.network.specs.declared.marks.Mark.{Mark}
 
 module _ {G : Type 0} {o : Ops G} (laws : IsWorth o) (f : Flow G) (marks : List (Mark G)) (fresh : ℕ) (top : G) (hole : ℕ) (pushing : IsPushing o f marks fresh top hole) where
+  -- the step into the hole
   step_here : IsFirst o f marks fresh top hole ⊎ IsStep o f marks (length marks) hole
   step_here = pushing.steps hole pushing.seen (inl refl)
 
@@ -71,6 +70,7 @@ module _ {G : Type 0} {o : Ops G} (laws : IsWorth o) (f : Flow G) (marks : List 
           falls = rw h.settled h.earlier;
         })
 
+  -- another count leaves the flow well formed
   filled_formed : (F : Vec ℕ Global) (p y : ℕ) → F.items ≡ set f.filled.items p y → IsFormed o (record f { filled = F })
   filled_formed F p y set_is = let g = pushing.formed in record {
     students = g.students;

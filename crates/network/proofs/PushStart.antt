@@ -1,13 +1,12 @@
 -- from a search to a push
-use Rattle.std.proofs.Common.{◌≡◌, ◌≢◌, ℕ, ◌+◌, ◌-◌, ◌*◌, ◌<◌, ◌≤◌, ◌⊎◌, inl, inr, List, length, Option, Some, None, slice_get, refl, arith, sym, ◌∙◌, ap, subst, true, false, Bool}
-use Rattle.std.specs.Prelude.{slice_index}
+use Rattle.std.proofs.Common.{◌≡◌, ℕ, ◌+◌, ◌<◌, ◌⊎◌, inl, inr, List, length, Option, Some, None, slice_get, refl, arith, ◌∙◌, ap, subst, true, false}
 use Rattle.std.specs.declared.vec.Vec.{Vec}
 use Rattle.std.specs.declared.alloc.Global.{Global}
 use Rattle.spa.specs.Laws.{Ops, IsWorth, AtMost}
-use Rattle.network.proofs.Group.{at_most_refl, at_most_trans, at_most_shift, moved_back, zero_left}
-use Rattle.network.specs.Marks.{mark_at, potential_at, key_at, is_seen, is_settled, is_open_mark}
-use Rattle.network.specs.Search.{rank_or, FromNode, IsSearch, IsFound, Feasible, lowered}
-use Rattle.network.specs.Arcs.{HasEntry, Holds, EntryArc, LeaveArc, OfferArc, SwapArc, RoomArc, Arc, OfStudent, sink_of, project_count, IsFormed}
+use Rattle.network.proofs.Group.{at_most_trans, at_most_shift, moved_back, zero_left}
+use Rattle.network.specs.Marks.{mark_at, potential_at, is_settled}
+use Rattle.network.specs.Search.{rank_or, FromNode, IsFound, Feasible, lowered}
+use Rattle.network.specs.Arcs.{Holds, Arc, OfStudent, sink_of, project_count, IsFormed}
 use Rattle.network.specs.Fair.{potential, IsFair, IsFairBut}
 use Rattle.network.specs.Push.{IsCounted, IsStep, IsFirst, HasSteps, IsPushing}
 use Rattle.network.proofs.Settle.{open_rank}
@@ -19,6 +18,7 @@ use Rattle.network.specs.declared.marks.Origin.TheVariants.{Unseen, Entry, Leave
 use Rattle.network.specs.declared.marks.Mark.{Mark}
 
 module _ {G : Type 0} {o : Ops G} (laws : IsWorth o) (f : Flow G) (fresh : ℕ) (fair : IsFairBut o f fresh) where
+  -- potentials that are fair to all but the new student allow no arc that improves
   pub but_feasible : Feasible o (Arc o f) f.potentials.items
   but_feasible a Unseen c b d = absurd d
   but_feasible a (Entry s k) c b d = rw d.is (moved_back laws d.worth d.holds.worth _ _ (fair.placed s a k b d.worth d.holds d.entry))
@@ -36,25 +36,32 @@ module _ {G : Type 0} {o : Ops G} (laws : IsWorth o) (f : Flow G) (fresh : ℕ) 
       (none : slice_get f.places.items fresh ≡ Some None) (counted : IsCounted f (sink_of f))
       (H : Vec G Global) (long : length H.items ≡ length f.potentials.items)
       (low_is : (v : ℕ) → potential_at o H.items v ≡ lowered o marks f.potentials.items (mark_at o marks (sink_of f)).label v) where
+    -- the flow with the new potentials
     abbrev pub N : Flow G
     N = record f { potentials = H }
 
+    -- the worth of the walk
     abbrev top : G
     top = (mark_at o marks (sink_of f)).label
 
+    -- the new potential of a node
     abbrev low : ℕ → G
     low v = lowered o marks f.potentials.items top v
 
+    -- the sink's is zero
     low_sink : low (sink_of f) ≡ o.zero
     low_sink = let e : is_settled (mark_at o marks (sink_of f)).rank ≡ false = ap is_settled (open_rank (mark_at o marks (sink_of f)) found.opened).1 in
         rw e fair.sink
 
+    -- potentials only fall
     down : (v : ℕ) → AtMost o (low v) (potential o f v)
     down = falls laws (OfStudent o f fresh o.zero) (Arc o f) f.potentials.items marks (sink_of f) found.settled found.search found.opened found.best fair.sink
 
+    -- no arc improves under the new ones
     arcs : (a : ℕ) (w : Origin) (c : G) (b : ℕ) → Arc o f a w c b → AtMost o (o.plus c (low b)) (low a)
     arcs = stays_feasible laws (OfStudent o f fresh o.zero) (Arc o f) f.potentials.items marks (sink_of f) found.settled found.search found.opened found.best fair.sink but_feasible
 
+    -- the new student is covered by the walk's worth
     begun : (w : Origin) (x : G) (b : ℕ) → OfStudent o f fresh o.zero w x b → AtMost o (o.plus x (low b)) top
     begun = first_covered laws (OfStudent o f fresh o.zero) (Arc o f) f.potentials.items marks (sink_of f) found.settled found.search found.opened found.best fair.sink
 
@@ -62,6 +69,7 @@ module _ {G : Type 0} {o : Ops G} (laws : IsWorth o) (f : Flow G) (fresh : ℕ) 
     holds_of : (s a : ℕ) → Holds N s a → Holds f s a
     holds_of s a h = record { place = h.place; worth = h.worth; placed = h.placed; entry = h.entry }
 
+    -- the new potentials are fair
     pub fair_now : IsFair o N fresh top
     unfolding holds_of
     fair_now = record {
@@ -77,6 +85,7 @@ module _ {G : Type 0} {o : Ops G} (laws : IsWorth o) (f : Flow G) (fresh : ℕ) 
       sink = rw (low_is (sink_of f)) low_sink;
     }
 
+    -- the arcs are the same
     same_arc : (a : ℕ) (w : Origin) (c : G) (b : ℕ) → Arc o f a w c b → Arc o N a w c b
     same_arc a Unseen c b d = d
     same_arc a (Entry s k) c b d = record { holds = record { place = d.holds.place; worth = d.holds.worth; placed = d.holds.placed; entry = d.holds.entry }; worth = d.worth; entry = d.entry; is = d.is }
@@ -85,6 +94,7 @@ module _ {G : Type 0} {o : Ops G} (laws : IsWorth o) (f : Flow G) (fresh : ℕ) 
     same_arc a (Swap l) c b d = record { quota = d.quota; from_supervisor = d.from_supervisor; project = d.project; is = d.is }
     same_arc a (Room l) c b d = record { from_supervisor = d.from_supervisor; known = d.known; room = d.room; to_sink = d.to_sink; is = d.is }
 
+    -- and the first offers
     same_first : (w : Origin) (x : G) (b : ℕ) → OfStudent o f fresh o.zero w x b → OfStudent o N fresh o.zero w x b
     same_first Unseen x b d = d
     same_first (Entry s k) x b d = d
@@ -93,10 +103,12 @@ module _ {G : Type 0} {o : Ops G} (laws : IsWorth o) (f : Flow G) (fresh : ℕ) 
     same_first (Swap l) x b d = d
     same_first (Room l) x b d = d
 
+    -- an earlier rank stays earlier
     rank_wider : (r : ℕ) (q : Option ℕ) → r < rank_or found.settled q → r < rank_or (length marks) q
     rank_wider r None lt = omega (arith, lt, found.few, len)
     rank_wider r (Some k) lt = lt
 
+    -- whoever stands before the sink is settled
     settled_or_sink : (v : ℕ) → (v ≡ sink_of f) ⊎ (rank_or (length marks) (mark_at o marks v).rank < rank_or (length marks) (mark_at o marks (sink_of f)).rank)
         → (v ≡ sink_of f) ⊎ (is_settled (mark_at o marks v).rank ≡ true)
     settled_or_sink v (inl e) = inl e
@@ -105,6 +117,7 @@ module _ {G : Type 0} {o : Ops G} (laws : IsWorth o) (f : Flow G) (fresh : ℕ) 
       go None h = absurd (omega (arith, h))
       go (Some r) h = refl
 
+    -- all nodes up to the sink have their step
     pub steps_now : HasSteps o N marks fresh top (length marks) (sink_of f)
     steps_now v seen before = go (found.search.from v seen) where
       here : (v ≡ sink_of f) ⊎ (is_settled (mark_at o marks v).rank ≡ true)

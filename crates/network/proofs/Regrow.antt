@@ -1,12 +1,11 @@
 -- what is known of a pushed flow stays where its lists are held in other memory
-use Rattle.std.proofs.Common.{◌≡◌, ◌≢◌, ℕ, ◌+◌, ◌*◌, ◌^◌, ◌<◌, ◌≤◌, ◌⊎◌, inl, inr, List, length, Option, Some, None, slice_get, refl, arith, sym, ◌∙◌, ap, subst}
-use Rattle.std.specs.Prelude.{slice_index, nat_eq}
+use Rattle.std.proofs.Common.{◌≡◌, ℕ, length, Option, Some, None, slice_get, arith, sym, ◌∙◌, ap, subst}
 use Rattle.std.specs.declared.vec.Vec.{Vec}
 use Rattle.std.specs.declared.alloc.Global.{Global}
-use Rattle.spa.specs.Laws.{Ops, IsWorth, AtMost}
-use Rattle.network.specs.Arcs.{HasEntry, Holds, sink_of, project_count, IsFormed}
-use Rattle.network.specs.Fair.{potential, IsFair}
-use Rattle.network.specs.Push.{sum_to, one_if, place_at, seat, seats, seats_of, IsCounted, IsPushed}
+use Rattle.spa.specs.Laws.{Ops}
+use Rattle.network.specs.Arcs.{HasEntry, Holds}
+use Rattle.network.specs.Fair.{IsFair}
+use Rattle.network.specs.Push.{sum_to, place_at, seat, seats, IsPushed}
 use Rattle.network.specs.View.{IsReady}
 use Rattle.network.proofs.Sums.{sum_to_same}
 use Rattle.network.specs.declared.flow.Flow.{Flow}
@@ -14,24 +13,31 @@ use Rattle.network.specs.declared.flow.Flow.{Flow}
 module _ {G : Type 0} {o : Ops G} (f : Flow G) (pushed : IsPushed o f)
     (L : Vec (Vec (ℕ × G) Global) Global) (P : Vec (Option ℕ) Global)
     (lists_are : L.items ≡ f.lists.items) (places_are : P.items ≡ f.places.items) where
+  -- the flow over other memory
   abbrev pub R : Flow G
   R = record f { lists = L; places = P }
 
+  -- an entry is one of before
   entry_old : (s k p : ℕ) (w : G) → HasEntry L.items s k p w → HasEntry f.lists.items s k p w
   entry_old s k p w e = record { row = e.row; student = sym (ap (λ z. slice_get z s) lists_are) ∙ e.student; place = e.place }
 
+  -- and one of before is there
   entry_new : (s k p : ℕ) (w : G) → HasEntry f.lists.items s k p w → HasEntry L.items s k p w
   entry_new s k p w e = record { row = e.row; student = ap (λ z. slice_get z s) lists_are ∙ e.student; place = e.place }
 
+  -- a place is one of before
   place_old : (s : ℕ) (x : Option ℕ) → slice_get P.items s ≡ Some x → slice_get f.places.items s ≡ Some x
   place_old s x e = sym (ap (λ z. slice_get z s) places_are) ∙ e
 
+  -- so is one that is held
   holds_old : (s a : ℕ) → Holds R s a → Holds f s a
   holds_old s a h = record { place = h.place; worth = h.worth; placed = place_old s (Some h.place) h.placed; entry = entry_old s h.place a h.worth h.entry }
 
+  -- there are as many lists
   long : length L.items ≡ length f.lists.items
   long = ap length lists_are
 
+  -- the potentials are fair
   regrown_fair : IsFair o R (length L.items) o.zero
   unfolding holds_old
   regrown_fair = record {
@@ -47,12 +53,15 @@ module _ {G : Type 0} {o : Ops G} (f : Flow G) (pushed : IsPushed o f)
     sink = pushed.fair.sink;
   }
 
+  -- the seats are the same
   seat_same : (p s : ℕ) → seat f p s ≡ seat R p s
   seat_same p s = sym (ap (λ z. place_at (slice_get z s) (slice_get L.items s) p) places_are ∙ ap (λ z. place_at (slice_get f.places.items s) (slice_get z s) p) lists_are)
 
+  -- so each project has as many
   seats_same : (p : ℕ) → seats f p ≡ seats R p
   seats_same p = sum_to_same (length f.lists.items) (seat f p) (seat R p) (λ s lt. seat_same p s) ∙ sym (ap (λ z. sum_to z (seat R p)) long)
 
+  -- all holds as before
   pub regrown : IsPushed o R
   regrown = record {
     formed = record {
@@ -79,5 +88,6 @@ module _ {G : Type 0} {o : Ops G} (f : Flow G) (pushed : IsPushed o f)
     };
   }
 
+  -- and what holds between two calls
   pub regrown_ready : (steps : ℕ) → IsReady o f steps → IsReady o R steps
   regrown_ready steps ready = record { pushed = regrown; low = ready.low; counted = omega (arith, ready.counted, long) }

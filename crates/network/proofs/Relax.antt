@@ -1,19 +1,21 @@
 -- relaxations one after another
-use Rattle.std.proofs.Common.{◌≡◌, ◌≢◌, ℕ, ◌+◌, ◌<◌, ◌≤◌, ◌⊎◌, inl, inr, List, length, set, get_or, Bool, true, false, cond, Option, Some, None, refl, arith, sym, ◌∙◌, ap, subst, get_or-set_same, get_or-set_other, length-set}
-use Rattle.std.proofs.lemmas.Bool.{cases_eq, cases_Bool, cond-true, cond-false}
+use Rattle.std.proofs.Common.{◌≡◌, ℕ, ◌<◌, ◌⊎◌, inl, inr, List, length, set, Bool, true, false, cond, Option, Some, None, refl, sym, ◌∙◌, ap, get_or-set_same, get_or-set_other, length-set}
+use Rattle.std.proofs.lemmas.Bool.{cases_eq}
 use Rattle.std.specs.Ordering.{is_gt}
 use Rattle.spa.specs.Laws.{Ops, IsWorth, AtMost}
 use Rattle.network.proofs.Group.{at_most_refl, at_most_trans, at_most_rev}
-use Rattle.network.specs.Marks.{is_seen, is_settled, is_open_mark, blank, mark_at, potential_at, key_at, relaxed}
-use Rattle.network.specs.Search.{Replaced, Reaches, Taken, Relaxes, OneOffer}
+use Rattle.network.specs.Marks.{is_seen, is_settled, blank, mark_at, relaxed}
+use Rattle.network.specs.Search.{Replaced, Taken, Relaxes, OneOffer}
 use Rattle.network.specs.declared.marks.Origin.{Origin}
 use Rattle.network.specs.declared.marks.Mark.{Mark}
 
+-- no rank
 not_settled : (r : Option ℕ) → is_settled r ≡ false → r ≡ None
 not_settled None e = refl
 not_settled (Some r) e = cc
 
 module _ {G : Type 0} {o : Ops G} (laws : IsWorth o) where
+  -- one comparison leaves a mark or replaces it
   relaxed_moves : (m : Mark G) (label : G) (origin : Origin) (node : ℕ) → is_seen origin ≡ true
       → (s t u : Bool) → is_settled m.rank ≡ s → is_seen m.origin ≡ t → is_gt (o.cmp label m.label) ≡ u
       → let n : Mark G = cond s m (cond t (cond u (record { label = label; origin = origin; rank = None }) m) (record { label = label; origin = origin; rank = None })) in
@@ -25,6 +27,7 @@ module _ {G : Type 0} {o : Ops G} (laws : IsWorth o) where
   relaxed_moves m label origin node e false true true es et eu =
       inr (record { was_open = not_settled m.rank es; is_open = refl; seen = e; offered = (refl, refl, refl); grows = λ h. at_most_rev laws label m.label eu })
 
+  -- and then the label is taken
   relaxed_taken : (m : Mark G) (label : G) (origin : Origin) → is_seen origin ≡ true
       → (s t u : Bool) → is_settled m.rank ≡ s → is_seen m.origin ≡ t → is_gt (o.cmp label m.label) ≡ u
       → let n : Mark G = cond s m (cond t (cond u (record { label = label; origin = origin; rank = None }) m) (record { label = label; origin = origin; rank = None })) in
@@ -53,6 +56,7 @@ module _ {G : Type 0} {o : Ops G} (laws : IsWorth o) where
         ]);
       }
 
+  -- two replacements in turn
   replaced_then : (p q : Origin → G → ℕ → Type 0) (b : ℕ) (l m n : Mark G)
       → (m ≡ l) ⊎ Replaced o p b l m → (n ≡ m) ⊎ Replaced o q b m n
       → (n ≡ l) ⊎ Replaced o (λ w x c. p w x c ⊎ q w x c) b l n
@@ -79,9 +83,11 @@ module _ {G : Type 0} {o : Ops G} (laws : IsWorth o) where
     go (inr f) (inl s) = absurd (let h = f.was_open in cc)
     go (inr f) (inr s) = inr (record { seen = f.seen; enough = at_most_trans laws x _ _ s.enough (f.grows s.seen) })
 
+  -- no offer
   pub relaxes_none : (marks : List (Mark G)) → Relaxes o (λ w x b. ⊥) marks marks
   relaxes_none marks = record { len = refl; moves = λ b. inl refl; taken = λ w x b h. absurd h }
 
+  -- offers in turn
   pub relaxes_then : (p q : Origin → G → ℕ → Type 0) (l m n : List (Mark G)) → Relaxes o p l m → Relaxes o q m n → Relaxes o (λ w x b. p w x b ⊎ q w x b) l n
   relaxes_then p q l m n e f = record {
     len = f.len ∙ e.len;
@@ -89,6 +95,7 @@ module _ {G : Type 0} {o : Ops G} (laws : IsWorth o) where
     taken = λ w x b. elim [ inl h ↦ taken_stays q m n b x f (e.taken w x b h) | inr h ↦ f.taken w x b h ];
   }
 
+  -- the same offers in other words
   pub relaxes_as : (p q : Origin → G → ℕ → Type 0) (l m : List (Mark G)) → ((w : Origin) (x : G) (b : ℕ) → p w x b → q w x b)
       → ((w : Origin) (x : G) (b : ℕ) → q w x b → p w x b) → Relaxes o p l m → Relaxes o q l m
   relaxes_as p q l m to back e = record {

@@ -1,23 +1,26 @@
 -- a search settles one more node
-use Rattle.std.proofs.Common.{◌≡◌, ◌≢◌, ℕ, ◌+◌, ◌*◌, ◌<◌, ◌≤◌, ◌⊎◌, inl, inr, List, length, set, get_or, Bool, true, false, cond, Option, Some, None, refl, arith, sym, ◌∙◌, ap, subst, get_or-set_same, get_or-set_other, length-set, not, ◌&&◌}
-use Rattle.std.proofs.lemmas.Bool.{cases_eq, cases_Bool, and_parts}
+use Rattle.std.proofs.Common.{◌≡◌, ℕ, ◌+◌, ◌*◌, ◌<◌, ◌≤◌, ◌⊎◌, inl, inr, List, length, set, true, Option, Some, None, refl, arith, sym, ◌∙◌, ap, get_or-set_same, get_or-set_other, not}
+use Rattle.std.proofs.lemmas.Bool.{cases_eq, and_parts}
 use Rattle.spa.specs.Laws.{Ops, IsWorth, AtMost}
-use Rattle.network.proofs.Group.{at_most_refl, at_most_trans, at_most_rev, at_most_back, offered_below}
+use Rattle.network.proofs.Group.{at_most_refl, at_most_trans, at_most_back, offered_below}
 use Rattle.network.specs.Marks.{is_seen, is_settled, is_open_mark, blank, mark_at, potential_at, key_at, settled_as}
 use Rattle.network.specs.Search.{Replaced, Reaches, Taken, Relaxes, rank_or, FromNode, IsSearch, Feasible, OffersOf}
 use Rattle.network.specs.declared.marks.Origin.{Origin}
 use Rattle.network.specs.declared.marks.Mark.{Mark}
 
+-- an open node was reached, and has no rank
 pub open_rank : {G : Type 0} (m : Mark G) → is_open_mark m ≡ true → (is_seen m.origin ≡ true) × (m.rank ≡ None)
 open_rank m e = let p = and_parts (is_seen m.origin) (not (is_settled m.rank)) e in (p.0, go m.rank p.1) where
   go : (r : Option ℕ) → not (is_settled r) ≡ true → r ≡ None
   go None e = refl
   go (Some r) e = cc
 
+-- a settled one has a rank
 pub settled_rank : (r : Option ℕ) → is_settled r ≡ true → (k : ℕ) × (r ≡ Some k)
 settled_rank None e = cc
 settled_rank (Some k) e = (k, refl)
 
+-- k stands in for a rank that is to come
 rank_or_more : (k : ℕ) (r : Option ℕ) → rank_or k r ≤ rank_or (k + 1) r
 rank_or_more k None = omega arith
 rank_or_more k (Some r) = omega arith
@@ -30,15 +33,19 @@ pub data Change {G : Type 0} (o : Ops G) (offer : Origin → G → ℕ → Type 
 
 module _ {G : Type 0} {o : Ops G} (laws : IsWorth o) (first : Origin → G → ℕ → Type 0) (arc : ℕ → Origin → G → ℕ → Type 0) (potentials : List G)
     (marks middle new : List (Mark G)) (node k : ℕ) where
+  -- the marks before
   abbrev pub M : ℕ → Mark G
   M b = mark_at o marks b
 
+  -- the marks after
   abbrev pub N : ℕ → Mark G
   N b = mark_at o new b
 
+  -- the node's label
   abbrev pub D : G
   D = (mark_at o marks node).label
 
+  -- each mark stays, or is settled or replaced by an offer
   pub change : node < length marks → middle ≡ set marks node (settled_as (M node) k) → Relaxes o (OffersOf o arc node D) middle new → (b : ℕ) → Change o (OffersOf o arc node D) node k b (M b) (N b)
   change lt e r b = elim (cases_eq b node) [ inl q ↦ rw q (at_node (r.moves node)) | inr q ↦ elsewhere q (r.moves b) ] where
     here : mark_at o middle node ≡ settled_as (M node) k
@@ -73,6 +80,7 @@ module _ {G : Type 0} {o : Ops G} (laws : IsWorth o) (first : Origin → G → �
       go (stayed q e) = e
       go (offered q f) = absurd (let g : None ≡ Some r = sym f.was_open ∙ h in cc)
 
+    -- the node is settled as the k-th
     node_now : N node ≡ settled_as (M node) k
     node_now = go (changes node) where
       go : Change o (OffersOf o arc node D) node k node (M node) (N node) → N node ≡ settled_as (M node) k
@@ -80,6 +88,7 @@ module _ {G : Type 0} {o : Ops G} (laws : IsWorth o) (first : Origin → G → �
       go (stayed q e) = absurd (q refl)
       go (offered q f) = absurd (q refl)
 
+    -- what was reached stays reached
     reaches_stays : (b : ℕ) (x : G) → Reaches o marks b x → Reaches o new b x
     reaches_stays b x s = go (changes b) where
       go : Change o (OffersOf o arc node D) node k b (M b) (N b) → Reaches o new b x
@@ -91,6 +100,7 @@ module _ {G : Type 0} {o : Ops G} (laws : IsWorth o) (first : Origin → G → �
     key_same : (b : ℕ) (m : Mark G) → N b ≡ m → m.label ≡ (M b).label → key_at o new potentials b ≡ key_at o marks potentials b
     key_same b m e f = ap (λ z. o.plus z (potential_at o potentials b)) (ap (λ (z : Mark G). z.label) e ∙ f)
 
+    -- each label came along an arc
     from_now : (b : ℕ) → is_seen (N b).origin ≡ true → first (N b).origin (N b).label b ⊎ FromNode o arc new (k + 1) b
     from_now b h = go (changes b) where
       same : (n : Mark G) → N b ≡ n → n.origin ≡ (M b).origin → n.label ≡ (M b).label → rank_or k (M b).rank ≤ rank_or (k + 1) n.rank → is_seen (M b).origin ≡ true
@@ -122,6 +132,7 @@ module _ {G : Type 0} {o : Ops G} (laws : IsWorth o) (first : Origin → G → �
         label = a.2 ∙ ap (λ (z : Mark G). o.plus z.label a.0) (sym node_now);
       })
 
+    -- the ranks are below k + 1
     ranks_now : (b r : ℕ) → (N b).rank ≡ Some r → (r < k + 1) × (is_seen (N b).origin ≡ true)
     ranks_now b r h = elim (settled_now b r h) [
       | inl f ↦ (omega (arith, f.1), rw f.2 (open_rank (M node) opened).0)
@@ -144,6 +155,7 @@ module _ {G : Type 0} {o : Ops G} (laws : IsWorth o) (first : Origin → G → �
           }
         ]
 
+    -- the offers of settled nodes were compared
     done_now : (a r : ℕ) (w : Origin) (c : G) (b : ℕ) → (N a).rank ≡ Some r → arc a w c b → Reaches o new b (o.plus (N a).label c)
     done_now a r w c b h f = elim (settled_now a r h) [
       | inl g ↦ rw g.2 (let f' : arc node w c b = rw g.0 at f in
@@ -154,6 +166,7 @@ module _ {G : Type 0} {o : Ops G} (laws : IsWorth o) (first : Origin → G → �
       | inr g ↦ rw g.0 (reaches_stays b _ (old.done a r w c b g.1 f))
     ]
 
+    -- no open node's key is above a settled one's
     ordered_now : (a r b : ℕ) → (N a).rank ≡ Some r → is_open_mark (N b) ≡ true → AtMost o (key_at o new potentials b) (key_at o new potentials a)
     ordered_now a r b h e = at_most_trans laws _ (key_at o marks potentials node) _ (below (changes b)) (above (settled_now a r h)) where
       below : Change o (OffersOf o arc node D) node k b (M b) (N b) → AtMost o (key_at o new potentials b) (key_at o marks potentials node)
@@ -169,6 +182,7 @@ module _ {G : Type 0} {o : Ops G} (laws : IsWorth o) (first : Origin → G → �
           let ke : key_at o new potentials a ≡ key_at o marks potentials a = key_same a (M a) g.0 refl in
           rw ke (old.ordered a r node g.1 opened)
 
+    -- labels are small
     spans_now : (b : ℕ) → o.span (N b).label ≤ 2 * (k + 1) + 1
     spans_now b = go (changes b) where
       go : Change o (OffersOf o arc node D) node k b (M b) (N b) → o.span (N b).label ≤ 2 * (k + 1) + 1
@@ -176,6 +190,7 @@ module _ {G : Type 0} {o : Ops G} (laws : IsWorth o) (first : Origin → G → �
       go (stayed q e) = rw e (omega (arith, old.spans b))
       go (offered q f) = let a = f.offered in rw a.2 (omega (arith, laws.span_plus D a.0, old.spans node, small node _ a.0 b a.1))
 
+    -- one more node is settled
     pub settles : IsSearch o first arc potentials new (k + 1)
     settles = record {
       from = from_now;

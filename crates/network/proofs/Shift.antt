@@ -1,18 +1,17 @@
 -- the counts of a project and of a supervisor change
-use Rattle.std.proofs.Common.{◌≡◌, ◌≢◌, ℕ, ◌+◌, ◌-◌, ◌*◌, ◌<◌, ◌≤◌, ◌⊎◌, inl, inr, zero, suc, List, [], ◌∷◌, length, get_or, set, Option, Some, None, slice_get, refl, arith, sym, ◌∙◌, ap, subst, eqb, true, false, Bool, length-set, get_or-set_same, get_or-set_other}
+use Rattle.std.proofs.Common.{◌≡◌, ℕ, ◌+◌, ◌*◌, ◌<◌, ◌≤◌, ◌⊎◌, inl, inr, List, length, set, Some, slice_get, refl, arith, sym, ◌∙◌, ap, get_or-set_same, get_or-set_other}
 use Rattle.std.specs.Prelude.{slice_index, nat_eq}
 use Rattle.std.specs.declared.vec.Vec.{Vec}
 use Rattle.std.specs.declared.alloc.Global.{Global}
 use Rattle.std.proofs.lemmas.Bool.{cases_eq, eq-eqb, ne_eqb}
 use Rattle.std.proofs.lemmas.Option.{slice_get_within, some_pair_parts, same_Some}
 use Rattle.spa.specs.Laws.{Ops, IsWorth, AtMost}
-use Rattle.network.proofs.Group.{at_most_refl, zero_left}
-use Rattle.network.specs.Marks.{mark_at, is_seen}
+use Rattle.network.specs.Marks.{mark_at}
 use Rattle.network.specs.Search.{rank_or}
-use Rattle.network.specs.Arcs.{HasEntry, Holds, EntryArc, LeaveArc, OfferArc, SwapArc, RoomArc, Arc, OfStudent, sink_of, project_count, IsFormed}
+use Rattle.network.specs.Arcs.{Holds, Arc, project_count, IsFormed}
 use Rattle.network.specs.Fair.{potential, IsFair}
-use Rattle.network.specs.Push.{sum_to, one_if, owner_at, seat, seats, seats_of, IsCounted, IsStep, IsFirst, HasSteps}
-use Rattle.network.proofs.Sums.{sum_to_change, sum_to_same}
+use Rattle.network.specs.Push.{one_if, owner_at, seats_of, IsCounted, HasSteps}
+use Rattle.network.proofs.Sums.{sum_to_change}
 use Rattle.network.specs.declared.flow.Flow.{Flow}
 use Rattle.network.specs.declared.marks.Origin.{Origin}
 use Rattle.network.specs.declared.marks.Origin.TheVariants.{Unseen, Entry, Leave, Offer, Swap, Room}
@@ -20,27 +19,35 @@ use Rattle.network.specs.declared.marks.Mark.{Mark}
 
 module _ {G : Type 0} {o : Ops G} (laws : IsWorth o) (f : Flow G) (formed : IsFormed o f) (F : Vec ℕ Global) (p l q y : ℕ)
     (set_is : F.items ≡ set f.filled.items p y) (project : slice_get f.projects.items p ≡ Some (l, q)) where
+  -- the flow with the project's new count
   abbrev pub N : Flow G
   N = record f { filled = F }
 
+  -- the counts before
   abbrev was : ℕ → ℕ
   was i = slice_index f.filled.items i
 
+  -- the counts after
   abbrev now : ℕ → ℕ
   now i = slice_index F.items i
 
+  -- the project is known
   p_within : p < project_count f
   p_within = slice_get_within f.projects.items p _ project
 
+  -- its new count
   pub now_here : now p ≡ y
   now_here = rw set_is (get_or-set_same f.filled.items p y 0 (omega (arith, p_within, formed.filled)))
 
+  -- the other counts
   now_other : (i : ℕ) → (i ≡ p → ⊥) → now i ≡ was i
   now_other i ne = rw set_is (get_or-set_other f.filled.items p i y 0 ne)
 
+  -- the places are as before
   abbrev pub before_holds : (t c : ℕ) → Holds N t c → Holds f t c
   before_holds t c h = record { place = h.place; worth = h.worth; placed = h.placed; entry = h.entry }
 
+  -- and as after
   abbrev pub after_holds : (t c : ℕ) → Holds f t c → Holds N t c
   after_holds t c h = record { place = h.place; worth = h.worth; placed = h.placed; entry = h.entry }
 
@@ -64,9 +71,11 @@ module _ {G : Type 0} {o : Ops G} (laws : IsWorth o) (f : Flow G) (formed : IsFo
     sink = fair.sink;
   }
 
+  -- the project is its supervisor's
   owner_here : (m : ℕ) → owner_at (slice_get f.projects.items p) m ≡ one_if (nat_eq l m)
   owner_here m = rw project refl
 
+  -- the supervisor's seats change with it
   seats_of_moved : (m : ℕ) → seats_of N m + one_if (nat_eq l m) * was p ≡ seats_of f m + one_if (nat_eq l m) * y
   seats_of_moved m =
       let change = sum_to_change (length f.projects.items) p (λ i. owner_at (slice_get f.projects.items i) m * was i) (λ i. owner_at (slice_get f.projects.items i) m * now i) p_within
@@ -76,18 +85,22 @@ module _ {G : Type 0} {o : Ops G} (laws : IsWorth o) (f : Flow G) (formed : IsFo
       let c = ap (λ z. one_if (nat_eq l m) * z) now_here in
       omega (arith, change, a, b, c)
 
+  -- a supervisor is no project
   not_project : (m r : ℕ) → r < project_count f → one_if (nat_eq (project_count f + m) r) ≡ 0
   not_project m r lt = ap one_if (ne_eqb (project_count f + m) r (λ e. omega (arith, e, lt)))
 
+  -- nor a project a supervisor
   not_node : (m r : ℕ) → r < project_count f → one_if (nat_eq r (project_count f + m)) ≡ 0
   not_node m r lt = ap one_if (ne_eqb r (project_count f + m) (λ e. omega (arith, e, lt)))
 
+  -- two nodes of supervisors
   node_is : (m : ℕ) → one_if (nat_eq (project_count f + m) (project_count f + l)) ≡ one_if (nat_eq l m)
   node_is m = elim (cases_eq l m) [
     | inl e ↦ ap one_if (eq-eqb _ _ (ap (λ z. project_count f + z) (sym e)) ∙ sym (eq-eqb l m e))
     | inr ne ↦ ap one_if (ne_eqb (project_count f + m) (project_count f + l) (λ e. ne (omega (arith, e))) ∙ sym (ne_eqb l m ne))
   ]
 
+  -- a number is itself
   itself : (r : ℕ) → one_if (nat_eq r r) ≡ 1
   itself r = ap one_if (eq-eqb r r refl)
 

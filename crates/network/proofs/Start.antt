@@ -1,15 +1,13 @@
 -- the flow with no students is ready
-use Rattle.std.proofs.Common.{◌≡◌, ◌≢◌, ℕ, ◌+◌, ◌*◌, ◌^◌, ◌<◌, ◌≤◌, ◌⊎◌, inl, inr, zero, suc, List, [], ◌∷◌, length, Option, Some, None, slice_get, refl, arith, sym, ◌∙◌, ap, subst, true, false}
-use Rattle.std.specs.Prelude.{slice_index, nat_eq}
-use Rattle.std.specs.declared.vec.Vec.{Vec}
-use Rattle.std.specs.declared.alloc.Global.{Global}
+use Rattle.std.proofs.Common.{◌≡◌, ℕ, ◌+◌, ◌*◌, ◌<◌, ◌≤◌, List, [], length, Some, slice_get, arith, sym, ◌∙◌, ap}
+use Rattle.std.specs.Prelude.{slice_index}
 use Rattle.std.proofs.lemmas.Option.{slice_get_within}
 use Rattle.spa.specs.Laws.{Ops, IsWorth, AtMost}
 use Rattle.network.proofs.Group.{at_most_refl}
 use Rattle.network.specs.Marks.{potential_at}
-use Rattle.network.specs.Arcs.{HasEntry, Holds, sink_of, project_count, IsFormed}
-use Rattle.network.specs.Fair.{potential, IsFair, IsLow}
-use Rattle.network.specs.Push.{sum_to, one_if, seat, seats, seats_of, owner_at, IsCounted, IsPushed}
+use Rattle.network.specs.Arcs.{HasEntry, Holds, project_count}
+use Rattle.network.specs.Fair.{potential}
+use Rattle.network.specs.Push.{sum_to, seat, seats, seats_of, owner_at}
 use Rattle.network.specs.View.{IsReady}
 use Rattle.network.proofs.Sums.{sum_to_zero}
 use Rattle.network.proofs.Ends.{not_sink, node_not_sink}
@@ -23,18 +21,23 @@ module _ {G : Type 0} {o : Ops G} (laws : IsWorth o) (f : Flow G)
     (filled_long : length f.filled.items ≡ length f.projects.items) (filled : (i : ℕ) → slice_index f.filled.items i ≡ 0)
     (load_long : length f.load.items ≡ length f.supervisors.items) (load : (i : ℕ) → slice_index f.load.items i ≡ 0)
     (potentials_long : length f.potentials.items ≡ length f.projects.items + length f.supervisors.items + 1) (potentials : (i : ℕ) → potential_at o f.potentials.items i ≡ o.zero) where
+  -- an empty list has no element
   no_student : {X : Type 0} (s : ℕ) (x : X) (xs : List X) → xs ≡ [] → slice_get xs s ≡ Some x → ⊥
   no_student s x xs e h = let n = slice_get_within xs s x h in let z = ap length e in omega (arith, n, z)
 
+  -- nobody has a place
   none_held : (s a : ℕ) → Holds f s a → ⊥
   none_held s a h = no_student s _ f.places.items no_places h.placed
 
+  -- or a list
   none_listed : (s k p : ℕ) (w : G) → HasEntry f.lists.items s k p w → ⊥
   none_listed s k p w h = no_student s h.row f.lists.items no_lists h.student
 
+  -- all potentials are alike
   zeros : (a b : ℕ) → AtMost o (potential o f a) (potential o f b)
   zeros a b = rw (potentials a, potentials b) (at_most_refl laws o.zero)
 
+  -- all holds at the start
   pub started : IsReady o f 0
   started = record {
     pushed = record {

@@ -1,14 +1,14 @@
 -- the offers of a project to the students placed there, one student after another
-use Rattle.std.proofs.Common.{◌≡◌, ◌≢◌, ℕ, ◌+◌, ◌*◌, ◌<◌, ◌≤◌, ◌⊎◌, inl, inr, List, length, Option, Some, None, slice_get, refl, arith, sym, ◌∙◌, ap, subst, take, get_or, sum_by}
+use Rattle.std.proofs.Common.{◌≡◌, ℕ, ◌+◌, ◌<◌, ◌≤◌, ◌⊎◌, inl, inr, List, length, Some, slice_get, refl, arith, sym, ◌∙◌, ap, take, get_or, sum_by}
 use Rattle.std.proofs.lemmas.Bool.{cases_eq}
-use Rattle.std.proofs.lemmas.Option.{slice_get_within, slice_get_cases, some_pair_parts, same_Some}
+use Rattle.std.proofs.lemmas.Option.{slice_get_cases, same_Some}
 use Rattle.std.proofs.lemmas.List.Sums.{sum_by_more}
 use Rattle.std.specs.declared.vec.Vec.{Vec}
 use Rattle.std.specs.declared.alloc.Global.{Global}
-use Rattle.spa.specs.Laws.{Ops, IsWorth, AtMost}
+use Rattle.spa.specs.Laws.{Ops, IsWorth}
 use Rattle.network.proofs.Group.{change_of, leave_of}
-use Rattle.network.specs.Search.{Relaxes, OneOffer, OffersOf}
-use Rattle.network.specs.Arcs.{HasEntry, Holds, OfStudent, EntriesBelow, StudentsBelow, EntryArc, LeaveArc, OfferArc, Arc, sink_of, project_count}
+use Rattle.network.specs.Search.{Relaxes}
+use Rattle.network.specs.Arcs.{HasEntry, Holds, OfStudent, StudentsBelow, EntryArc, LeaveArc}
 use Rattle.network.proofs.Relax.{relaxes_none, relaxes_then, relaxes_as}
 use Rattle.network.proofs.Entries.{entry_same}
 use Rattle.network.specs.declared.flow.Flow.{Flow}
@@ -22,13 +22,16 @@ holds_same {G} {f} {s} {k} {p} {q} {w} e g h =
     let same : k ≡ h.place = same_Some _ _ (same_Some _ _ (sym e ∙ h.placed)) in
     entry_same (rw same at g) h.entry
 
+-- two places of one student are the same
 pub holds_along : {G : Type 0} {f : Flow G} {s t k p q : ℕ} {w : G} → s ≡ t → slice_get f.places.items s ≡ Some (Some k) → HasEntry f.lists.items s k p w → (h : Holds f t q) → (p ≡ q) × (w ≡ h.worth)
 holds_along {G} {f} {s} {t} {k} {p} {q} {w} e g n h = holds_same (rw e at g) (rw e at n) h
 
 module _ {G : Type 0} {o : Ops G} (laws : IsWorth o) (f : Flow G) (a : ℕ) (label : G) where
+  -- what a project offers to the first students
   abbrev pub Students : ℕ → Origin → G → ℕ → Type 0
   Students i w x b = StudentsBelow o f a label i w x b
 
+  -- no student is offered nothing
   pub students_none : (m : List (Mark G)) → Relaxes o (Students 0) m m
   students_none m = relaxes_as laws (λ w x b. ⊥) (Students 0) m m (λ w x b h. absurd h) back (relaxes_none laws m) where
     back : (w : Origin) (x : G) (b : ℕ) → Students 0 w x b → ⊥

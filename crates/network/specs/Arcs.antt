@@ -1,8 +1,8 @@
--- the residual arcs of a flow of students
-use Rattle.std.specs.Prelude.{◌≡◌, ◌≢◌, ℕ, ◌+◌, ◌*◌, ◌≤◌, ◌<◌, ◌⊎◌, List, length, slice_index, slice_get, Option, Some, None, Bool, true, false, sum_by}
+-- The residual arcs of a flow of students.
+use Rattle.std.specs.Prelude.{◌≡◌, ℕ, ◌+◌, ◌*◌, ◌≤◌, ◌<◌, List, length, slice_index, slice_get, Some, sum_by}
 use Rattle.std.specs.declared.vec.Vec.{Vec}
 use Rattle.std.specs.declared.alloc.Global.{Global}
-use Rattle.spa.specs.Laws.{Ops, AtMost}
+use Rattle.spa.specs.Laws.{Ops}
 use Rattle.network.specs.declared.marks.Origin.{Origin}
 use Rattle.network.specs.declared.marks.Origin.TheVariants.{Unseen, Entry, Leave, Offer, Swap, Room}
 use Rattle.network.specs.declared.flow.Flow.{Flow}
@@ -20,9 +20,11 @@ pub record Holds {G : Type 0} (f : Flow G) (s p : ℕ) : Type 0 where
   pub placed : slice_get f.places.items s ≡ Some (Some place)
   pub entry : HasEntry f.lists.items s place p worth
 
+-- how many projects there are, and so the node of the first supervisor
 abbrev pub project_count : {G : Type 0} → Flow G → ℕ
 project_count f = length f.projects.items
 
+-- the sink's node, past the projects and the supervisors
 abbrev pub sink_of : {G : Type 0} → Flow G → ℕ
 sink_of f = length f.projects.items + length f.supervisors.items
 
@@ -64,6 +66,7 @@ pub record RoomArc {G : Type 0} (o : Ops G) (f : Flow G) (a l : ℕ) (c : G) (b 
   pub to_sink : b ≡ sink_of f
   pub is : c ≡ o.zero
 
+-- an arc from a to b of worth c, by the origin that it gives to b
 abbrev pub Arc : {G : Type 0} → Ops G → Flow G → ℕ → Origin → G → ℕ → Type 0
 Arc o f a Unseen c b = ⊥
 Arc o f a (Entry s k) c b = EntryArc o f a s k c b

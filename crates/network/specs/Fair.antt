@@ -1,10 +1,11 @@
--- potentials that are fair to every student, project and supervisor
-use Rattle.std.specs.Prelude.{◌≡◌, ◌≢◌, ℕ, ◌+◌, ◌*◌, ◌≤◌, ◌<◌, ◌⊎◌, List, length, slice_index, slice_get, Option, Some, None}
+-- Potentials that are fair to every student, project and supervisor.
+use Rattle.std.specs.Prelude.{◌≡◌, ℕ, ◌+◌, ◌≤◌, ◌<◌, length, slice_index, slice_get, Some, None}
 use Rattle.spa.specs.Laws.{Ops, AtMost}
 use Rattle.network.specs.Marks.{potential_at}
 use Rattle.network.specs.Arcs.{HasEntry, Holds, project_count, sink_of}
 use Rattle.network.specs.declared.flow.Flow.{Flow}
 
+-- a node's potential in a flow
 abbrev pub potential : {G : Type 0} → Ops G → Flow G → ℕ → G
 potential o f v = potential_at o f.potentials.items v
 

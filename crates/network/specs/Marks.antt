@@ -1,11 +1,12 @@
--- the marks of a search
-use Rattle.std.specs.Prelude.{◌≡◌, ℕ, ◌+◌, ◌≤◌, ◌<◌, ◌⊎◌, List, length, slice_index_or, Option, Some, None, Bool, true, false, cond, not, ◌&&◌, sum_by}
+-- The marks of a search.
+use Rattle.std.specs.Prelude.{ℕ, List, slice_index_or, Option, Some, None, Bool, true, false, cond, not, ◌&&◌, sum_by}
 use Rattle.std.specs.Ordering.{is_gt}
-use Rattle.spa.specs.Laws.{Ops, AtMost}
+use Rattle.spa.specs.Laws.{Ops}
 use Rattle.network.specs.declared.marks.Origin.{Origin}
 use Rattle.network.specs.declared.marks.Origin.TheVariants.{Unseen, Entry, Leave, Offer, Swap, Room}
 use Rattle.network.specs.declared.marks.Mark.{Mark}
 
+-- a node that was reached
 abbrev pub is_seen : Origin → Bool
 is_seen Unseen = false
 is_seen (Entry s k) = true
@@ -14,13 +15,16 @@ is_seen (Offer p) = true
 is_seen (Swap l) = true
 is_seen (Room l) = true
 
+-- a node that was settled, by its rank
 abbrev pub is_settled : Option ℕ → Bool
 is_settled None = false
 is_settled (Some r) = true
 
+-- reached, and not settled
 abbrev pub is_open_mark : {G : Type 0} → Mark G → Bool
 is_open_mark m = is_seen m.origin && not (is_settled m.rank)
 
+-- the mark of a node that was not reached
 abbrev pub blank : {G : Type 0} → Ops G → Mark G
 blank o = record { label = o.zero; origin = Unseen; rank = None }
 
@@ -28,6 +32,7 @@ blank o = record { label = o.zero; origin = Unseen; rank = None }
 abbrev pub mark_at : {G : Type 0} → Ops G → List (Mark G) → ℕ → Mark G
 mark_at o marks v = slice_index_or marks v (blank o)
 
+-- the potential at a node, zero past the end
 abbrev pub potential_at : {G : Type 0} → Ops G → List G → ℕ → G
 potential_at o potentials v = slice_index_or potentials v o.zero
 

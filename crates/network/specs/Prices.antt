@@ -1,5 +1,5 @@
--- prices and their sums
-use Rattle.std.specs.Prelude.{◌≡◌, ℕ, ◌+◌, ◌*◌, ◌≤◌, ◌<◌, List, length, Option, Some, None, slice_get, slice_index, slice_index_or}
+-- The prices of a flow, by its potentials.
+use Rattle.std.specs.Prelude.{◌≡◌, ℕ, ◌+◌, ◌≤◌, ◌<◌, length, Option, Some, None, slice_get, slice_index}
 use Rattle.std.specs.declared.vec.Vec.{Vec}
 use Rattle.std.specs.declared.alloc.Global.{Global}
 use Rattle.spa.specs.Laws.{Ops, AtMost}
@@ -8,14 +8,17 @@ use Rattle.network.specs.Arcs.{project_count, HasEntry}
 use Rattle.network.specs.Fair.{potential}
 use Rattle.network.specs.declared.flow.Flow.{Flow}
 
+-- a value of an entry, zero where there is none
 abbrev pub at_entry : {G : Type 0} → Ops G → (ℕ → G → G) → Option (ℕ × G) → G
 at_entry o v None = o.zero
 at_entry o v (Some e) = v e.0 e.1
 
+-- a value of the entry at a place of a list
 abbrev pub at_row : {G : Type 0} → Ops G → (ℕ → G → G) → Option (Vec (ℕ × G) Global) → ℕ → G
 at_row o v None k = o.zero
 at_row o v (Some row) k = at_entry o v (slice_get row.items k)
 
+-- a value of the entry at the place of a student, zero without a place
 abbrev pub at_place : {G : Type 0} → Ops G → (ℕ → G → G) → Option (Option ℕ) → Option (Vec (ℕ × G) Global) → G
 at_place o v None row = o.zero
 at_place o v (Some None) row = o.zero
@@ -29,17 +32,21 @@ of_place o f v s = at_place o v (slice_get f.places.items s) (slice_get f.lists.
 abbrev pub student_price : {G : Type 0} → Ops G → Flow G → ℕ → G
 student_price o f = of_place o f (λ p w. o.plus w (potential o f p))
 
+-- a project's quota, zero where there is no project
 abbrev pub quota_at : Option (ℕ × ℕ) → ℕ
 quota_at None = 0
 quota_at (Some e) = e.1
 
+-- what a project's potential leaves to its supervisor's
 abbrev pub project_price_at : {G : Type 0} → Ops G → Flow G → ℕ → Option (ℕ × ℕ) → G
 project_price_at o f p None = o.zero
 project_price_at o f p (Some e) = o.minus (potential o f (project_count f + e.0)) (potential o f p)
 
+-- the price of a project
 abbrev pub project_price : {G : Type 0} → Ops G → Flow G → ℕ → G
 project_price o f p = project_price_at o f p (slice_get f.projects.items p)
 
+-- what a supervisor's potential leaves to zero
 abbrev pub supervisor_price : {G : Type 0} → Ops G → Flow G → ℕ → G
 supervisor_price o f l = o.minus o.zero (potential o f (project_count f + l))
 

@@ -1,32 +1,36 @@
--- a push along the walk, from the sink back to the new student
-use Rattle.std.specs.Prelude.{◌≡◌, ◌≢◌, ℕ, ◌+◌, ◌*◌, ◌≤◌, ◌<◌, ◌⊎◌, zero, suc, List, length, slice_index, slice_get, Option, Some, None, Bool, true, false, cond, nat_eq}
+-- A push along the walk, from the sink back to the new student.
+use Rattle.std.specs.Prelude.{◌≡◌, ℕ, ◌+◌, ◌*◌, ◌≤◌, ◌<◌, ◌⊎◌, zero, suc, List, length, slice_index, slice_get, Option, Some, None, Bool, true, false, nat_eq}
 use Rattle.std.specs.declared.vec.Vec.{Vec}
 use Rattle.std.specs.declared.alloc.Global.{Global}
-use Rattle.spa.specs.Laws.{Ops, AtMost}
-use Rattle.network.specs.Marks.{mark_at, is_settled, is_seen}
+use Rattle.spa.specs.Laws.{Ops}
+use Rattle.network.specs.Marks.{mark_at, is_seen}
 use Rattle.network.specs.Search.{rank_or}
-use Rattle.network.specs.Arcs.{HasEntry, Holds, Arc, OfStudent, project_count, sink_of, IsFormed}
+use Rattle.network.specs.Arcs.{Arc, OfStudent, project_count, sink_of, IsFormed}
 use Rattle.network.specs.Fair.{potential, IsFair}
 use Rattle.network.specs.declared.flow.Flow.{Flow}
-use Rattle.network.specs.declared.marks.Origin.{Origin}
 use Rattle.network.specs.declared.marks.Mark.{Mark}
 
+-- g 0 and so on, up to g (n - 1), added up
 abbrev pub sum_to : ℕ → (ℕ → ℕ) → ℕ
 sum_to zero g = 0
 sum_to (suc n) g = sum_to n g + g n
 
+-- 1 for yes
 abbrev pub one_if : Bool → ℕ
 one_if true = 1
 one_if false = 0
 
+-- 1 where the entry names the project
 abbrev pub entry_at : {G : Type 0} → Option (ℕ × G) → ℕ → ℕ
 entry_at None p = 0
 entry_at (Some e) p = one_if (nat_eq e.0 p)
 
+-- 1 where the entry at a place of the list does
 abbrev pub row_at : {G : Type 0} → Option (Vec (ℕ × G) Global) → ℕ → ℕ → ℕ
 row_at None k p = 0
 row_at (Some row) k p = entry_at (slice_get row.items k) p
 
+-- 1 where the entry at the student's place does
 abbrev pub place_at : {G : Type 0} → Option (Option ℕ) → Option (Vec (ℕ × G) Global) → ℕ → ℕ
 place_at None row p = 0
 place_at (Some None) row p = 0
@@ -40,6 +44,7 @@ seat f p s = place_at (slice_get f.places.items s) (slice_get f.lists.items s) p
 abbrev pub seats : {G : Type 0} → Flow G → ℕ → ℕ
 seats f p = sum_to (length f.lists.items) (seat f p)
 
+-- 1 where the project is the supervisor's
 abbrev pub owner_at : Option (ℕ × ℕ) → ℕ → ℕ
 owner_at None l = 0
 owner_at (Some e) l = one_if (nat_eq e.0 l)

@@ -1,7 +1,7 @@
--- what a search keeps of its marks
-use Rattle.std.specs.Prelude.{◌≡◌, ◌≢◌, ℕ, ◌+◌, ◌*◌, ◌≤◌, ◌<◌, ◌⊎◌, List, length, Option, Some, None, Bool, true, false, cond}
+-- What a search keeps of its marks.
+use Rattle.std.specs.Prelude.{◌≡◌, ℕ, ◌+◌, ◌*◌, ◌≤◌, ◌<◌, ◌⊎◌, List, length, Option, Some, None, true, cond}
 use Rattle.spa.specs.Laws.{Ops, AtMost}
-use Rattle.network.specs.Marks.{is_seen, is_settled, is_open_mark, mark_at, potential_at, key_at, blank, unsettled}
+use Rattle.network.specs.Marks.{is_seen, is_settled, is_open_mark, mark_at, potential_at, key_at, unsettled}
 use Rattle.network.specs.declared.marks.Origin.{Origin}
 use Rattle.network.specs.declared.marks.Mark.{Mark}
 
@@ -22,6 +22,7 @@ pub record Reaches {G : Type 0} (o : Ops G) (marks : List (Mark G)) (b : ℕ) (x
   pub seen : is_seen (mark_at o marks b).origin ≡ true
   pub enough : AtMost o x (mark_at o marks b).label
 
+-- a node is settled, or was reached with a label of at least x
 abbrev pub Taken : {G : Type 0} → Ops G → List (Mark G) → ℕ → G → Type 0
 Taken o marks b x = (is_settled (mark_at o marks b).rank ≡ true) ⊎ Reaches o marks b x
 

@@ -6,7 +6,9 @@ use Rattle.spa.specs.Laws.{Ops}
 use Rattle.network.specs.Fair.{IsLow}
 use Rattle.network.specs.Push.{IsPushed}
 use Rattle.network.specs.Seen.{Seen}
+use Rattle.network.specs.Labels.{AreBlank}
 use Rattle.network.specs.declared.flow.Flow.{Flow}
+use Rattle.network.specs.declared.marks.Labels.{Labels}
 
 -- the entries of a student's list
 abbrev pub row_of : {G : Type 0} → Vec (ℕ × G) Global → List (ℕ × G)
@@ -25,3 +27,8 @@ pub record IsReady {G : Type 0} (o : Ops G) (f : Flow G) (steps : ℕ) : Type 0 
   pub pushed : IsPushed o f
   pub low : IsLow o f
   pub counted : steps ≤ 2 ^ 22 * length f.lists.items
+
+-- the same, and the labels of the last search are gone
+pub record IsIdle {G : Type 0} (o : Ops G) (f : Flow G) (l : Labels G) (steps : ℕ) : Type 0 where
+  pub ready : IsReady o f steps
+  pub blank : AreBlank o l (length f.potentials.items)

@@ -2,7 +2,7 @@
 
 ghost use Rattle.std.specs.Prelude.{◌≡◌, ℕ, ◌+◌, ◌-◌, ◌*◌, ◌<◌, ◌≤◌, ◌^◌, [], ◌∷◌, ◌++◌, length, slice_get, Some, None, IfOk, OnOk};
 ghost use Rattle.std.specs.Vec.{vec_len, vec_capacity};
-ghost use Rattle.network.specs.Marks.{mark_at, blank};
+ghost use Rattle.network.specs.Labels.{AreBlank};
 ghost use Rattle.network.specs.Arcs.{project_count, sink_of, flow_arcs};
 ghost use Rattle.network.specs.Fair.{IsLow};
 ghost use Rattle.network.specs.Push.{IsPushed};
@@ -11,7 +11,7 @@ ghost use Rattle.network.specs.View.{IsKnownList};
 
 use crate::admit::place_new;
 use crate::flow::Flow;
-use crate::marks::{Mark, Origin};
+use crate::marks::Labels;
 use spa::Worth;
 use std::alloc::{AllocError, Global};
 
@@ -22,22 +22,6 @@ pub struct Admitted {
     pub placed: bool,
     /// The labels that were compared across a residual arc.
     pub relaxations: u64,
-}
-
-/// Marks of nodes that no walk has reached.
-pub fn blank_marks<G: Worth>(alloc: Global, nodes: usize) -> Result<Vec<Mark<G>>, AllocError>
-    ensures len { IfOk result (λ marks. length marks.items ≡ nodes) }
-    ensures blank { IfOk result (λ marks. (b : ℕ) → mark_at G.ops marks.items b ≡ blank G.ops) }
-{
-    let mut marks = Vec::with_capacity(alloc, nodes)?;
-    for _node in 0..nodes {
-        marks.push(Mark {
-            label: G::zero(),
-            origin: Origin::Unseen,
-            rank: None,
-        })?;
-    }
-    Ok(marks)
 }
 
 /// Room for one more student.
@@ -82,7 +66,7 @@ fn has_place<G: Worth>(flow: &Flow<G>, student: usize) -> bool
 }
 
 /// The student is added and finds a place, or none.
-pub fn enter<G: Worth>(flow: &mut Flow<G>, row: Vec<(usize, G)>, marks: &mut [Mark<G>]) -> Admitted
+pub fn enter<G: Worth>(flow: &mut Flow<G>, row: Vec<(usize, G)>, labels: &mut Labels<G>) -> Admitted
     requires pushed { IsPushed G.ops flow.old }
     requires low { IsLow G.ops flow.old }
     requires few { length flow.old.lists.items < 500 }
@@ -90,20 +74,20 @@ pub fn enter<G: Worth>(flow: &mut Flow<G>, row: Vec<(usize, G)>, marks: &mut [Ma
     requires known { IsKnownList G.ops (project_count flow.old) row.items }
     requires list_room { vec_len flow.old.lists < vec_capacity flow.old.lists }
     requires place_room { vec_len flow.old.places < vec_capacity flow.old.places }
-    requires marks { length marks.old ≡ length flow.old.potentials.items }
-    requires blank { (b : ℕ) → mark_at G.ops marks.old b ≡ blank G.ops }
+    requires blank { AreBlank G.ops labels.old (length flow.old.potentials.items) }
+    ensures blank { AreBlank G.ops labels.new (length flow.new.potentials.items) }
     ensures pushed { IsPushed G.ops flow.new }
     ensures low { IsLow G.ops flow.new }
     ensures lists { flow.new.lists.items ≡ flow.old.lists.items ++ row ∷ [] }
     ensures projects { flow.new.projects ≡ flow.old.projects }
     ensures supervisors { flow.new.supervisors ≡ flow.old.supervisors }
     ensures placed { result.placed ≡ is_place (slice_get flow.new.places.items (length flow.old.lists.items)) }
-    ensures cost { result.relaxations ≤ length row.items + 1 + sink_of flow.new * flow_arcs flow.new }
+    ensures cost { result.relaxations ≤ 2 * length row.items + 1 + sink_of flow.new * flow_arcs flow.new }
 {
     let student = flow.lists.len();
     append(flow, row);
     let mut relaxations = 0;
-    place_new(flow, student, marks, &mut relaxations);
+    place_new(flow, student, labels, &mut relaxations);
     let placed = has_place(flow, student);
     Admitted {
         placed,

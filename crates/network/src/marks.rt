@@ -29,6 +29,16 @@ pub struct Mark<G> {
     pub rank: Option<usize>,
 }
 
+/// The marks of all nodes, and the lists of those that are open and of those that are settled.
+#[derive(Drop)]
+pub struct Labels<G> {
+    pub marks: Vec<Mark<G>>,
+    pub frontier: Vec<usize>,
+    pub settled: Vec<usize>,
+}
+
+mod blank;
 mod steps;
 
-pub use steps::{best_open, is_open, relax};
+pub use blank::{blank_labels, clear};
+pub use steps::{best_open, exceeds, relax, settle};

@@ -4,11 +4,13 @@ ghost use Rattle.std.specs.Prelude.{◌≡◌, ℕ, ◌+◌, ◌<◌, ◌≤◌,
 ghost use Rattle.spa.specs.declared.TheConstants.{MOST_SUPERVISORS, MOST_PROJECTS, MOST_STUDENTS, MOST_PLACES, RANKS};
 ghost use Rattle.network.specs.Arcs.{project_count};
 ghost use Rattle.network.specs.Marks.{potential_at};
+ghost use Rattle.network.specs.Labels.{AreBlank};
 ghost use Rattle.network.specs.Seen.{ArePrices, IsPriced, IsAdmission};
 ghost use Rattle.network.specs.View.{seen, IsReady};
 
-use crate::enter::{Admitted, blank_marks, enter, grow};
+use crate::enter::{Admitted, enter, grow};
 use crate::flow::{Flow, place_of};
+use crate::marks::{Labels, blank_labels};
 use crate::prices::all_prices;
 use spa::Worth;
 use std::alloc::{AllocError, Global};
@@ -74,23 +76,25 @@ fn start_flow<G: Worth>(
 /// One student is admitted; where memory is refused nothing changes.
 fn admit_to<G: Worth>(
     flow: &mut Flow<G>,
+    labels: &mut Labels<G>,
     steps: &mut u64,
     alloc: Global,
     list: &[(usize, G)],
 ) -> Result<Admitted, AllocError>
     requires ready { IsReady G.ops flow.old steps.old }
+    requires blank { AreBlank G.ops labels.old (length flow.old.potentials.items) }
     requires few { length flow.old.lists.items < MOST_STUDENTS }
     requires short { length list.now ≤ RANKS }
     requires known { All (λ e. e.0 < project_count flow.old) list.now }
     requires small { All (λ e. G.ops.span e.1 ≤ 1) list.now }
     ensures ready { IsReady G.ops flow.new steps.new }
+    ensures blank { AreBlank G.ops labels.new (length flow.new.potentials.items) }
     ensures memory { OnErr result (seen flow.new steps.new ≡ seen flow.old steps.old) }
     ensures admitted { IfOk result (λ a. IsAdmission G.ops (seen flow.old steps.old) (seen flow.new steps.new) list.now a.placed a.relaxations) }
 {
-    let mut marks = blank_marks(alloc, flow.potentials.len())?;
     let row = Vec::from_slice(alloc, list)?;
     grow(flow)?;
-    let admitted = enter(flow, row, marks.as_mut_slice());
+    let admitted = enter(flow, row, labels);
     *steps += admitted.relaxations;
     Ok(admitted)
 }
@@ -107,19 +111,20 @@ fn priced<G: Worth>(flow: &Flow<G>, steps: u64)
 #[derive(Drop)]
 pub struct Network<G: Worth> {
     flow: Flow<G>,
+    labels: Labels<G>,
     steps: u64,
     alloc: Global,
 }
 
 impl<G: Worth> Model for Network<G> {
     ghost use Rattle.network.specs.Seen.{Seen};
-    ghost use Rattle.network.specs.View.{seen, IsReady};
+    ghost use Rattle.network.specs.View.{seen, IsIdle};
 
     ghost Value = { Seen G };
 
     ghost view = { λ n. seen n.flow n.steps };
 
-    ghost invariant = { λ n. IsReady G.ops n.flow n.steps };
+    ghost invariant = { λ n. IsIdle G.ops n.flow n.labels n.steps };
 }
 
 impl<G: Worth> Network<G> {
@@ -143,9 +148,11 @@ impl<G: Worth> Network<G> {
         ensures priced { IfOk result (λ n. IsPriced G.ops n) }
     {
         let flow = start_flow(alloc, supervisors, projects)?;
+        let labels = blank_labels(alloc, flow.potentials.len())?;
         priced(&flow, 0);
         Ok(Network {
             flow,
+            labels,
             steps: 0,
             alloc,
         })
@@ -162,7 +169,7 @@ impl<G: Worth> Network<G> {
         ensures admitted { IfOk result (λ a. IsAdmission G.ops self.old self.new list.now a.placed a.relaxations) }
         ensures memory { OnErr result (self.new ≡ self.old) }
     {
-        admit_to(&mut self.flow, &mut self.steps, self.alloc, list)
+        admit_to(&mut self.flow, &mut self.labels, &mut self.steps, self.alloc, list)
     }
 
     /// The law that the places are a matching of the lists admitted so far, and that there are prices for it.

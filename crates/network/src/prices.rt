@@ -3,23 +3,15 @@
 ghost use Rattle.std.specs.Prelude.{◌≡◌, ℕ, ◌+◌, ◌*◌, ◌<◌, ◌≤◌, ◌^◌, length, slice_get, Some, None, IfOk};
 ghost use Rattle.network.specs.Marks.{potential_at};
 ghost use Rattle.network.specs.Arcs.{IsFormed};
-ghost use Rattle.network.specs.Fair.{potential, IsLow};
+ghost use Rattle.network.specs.Fair.{IsLow};
 ghost use Rattle.network.specs.Seen.{ArePrices};
 ghost use Rattle.network.specs.View.{seen, IsReady};
 ghost use Rattle.network.specs.Prices.{student_price, project_price, supervisor_price};
 
-use crate::flow::{Flow, place_of};
+use crate::flow::{Flow, place_of, potential_of};
 use crate::relaxes::{entry, project, supervisor_node};
 use spa::Worth;
 use std::alloc::{AllocError, Global};
-
-/// The potential of a node.
-fn potential_of<G: Worth>(flow: &Flow<G>, node: usize) -> G
-    requires { node < length flow.now.potentials.items }
-    ensures { result ≡ potential G.ops flow.now node }
-{
-    flow.potentials[node]
-}
 
 /// What a student's place is worth with the project's potential, or zero.
 fn price_of_student<G: Worth>(flow: &Flow<G>, student: usize) -> G

@@ -8,7 +8,7 @@ ghost use Rattle.network.specs.Arcs.{HasEntry, sink_of, project_count, IsFormed}
 ghost use Rattle.network.specs.Push.{IsPushing, IsPushed, IsNext};
 
 use crate::flow::{Flow, place_of};
-use crate::marks::{Mark, Origin};
+use crate::marks::{Labels, Origin};
 use crate::relaxes::{entry, sink, supervisor_node};
 use spa::Worth;
 
@@ -52,27 +52,27 @@ fn load_up<G>(flow: &mut Flow<G>, supervisor: usize)
 }
 
 /// How a node was reached.
-fn origin_of<G: Worth>(marks: &[Mark<G>], node: usize) -> Origin
-    requires { node < length marks.now }
-    ensures { result ≡ (mark_at G.ops marks.now node).origin }
+fn origin_of<G: Worth>(labels: &Labels<G>, node: usize) -> Origin
+    requires { node < length labels.now.marks.items }
+    ensures { result ≡ (mark_at G.ops labels.now.marks.items node).origin }
 {
-    marks[node].origin
+    labels.marks[node].origin
 }
 
 /// The hole at a project that an entry led to.
 fn push_entry<G: Worth>(
     flow: &mut Flow<G>,
-    marks: &[Mark<G>],
+    labels: &Labels<G>,
     fresh: usize,
     top: G,
     hole: usize,
     student: usize,
     place: usize,
 ) -> Option<usize>
-    requires pushing { IsPushing G.ops flow.old marks.now fresh top hole }
-    requires origin { (mark_at G.ops marks.now hole).origin ≡ Entry student place }
+    requires pushing { IsPushing G.ops flow.old labels.now.marks.items fresh top hole }
+    requires origin { (mark_at G.ops labels.now.marks.items hole).origin ≡ Entry student place }
     requires student { student < length flow.old.places.items }
-    ensures more { IfSome result (λ next. IsNext G.ops flow.new marks.now fresh top hole next) }
+    ensures more { IfSome result (λ next. IsNext G.ops flow.new labels.now.marks.items fresh top hole next) }
     ensures done { IfNone result (IsPushed G.ops flow.new) }
     ensures rest { flow.new ≡ record flow.old { places = flow.new.places; filled = flow.new.filled; load = flow.new.load } }
 {
@@ -92,16 +92,16 @@ fn push_entry<G: Worth>(
 /// The hole at the sink that a student's place led to.
 fn push_leave<G: Worth>(
     flow: &mut Flow<G>,
-    marks: &[Mark<G>],
+    labels: &Labels<G>,
     fresh: usize,
     top: G,
     hole: usize,
     student: usize,
 ) -> Option<usize>
-    requires pushing { IsPushing G.ops flow.old marks.now fresh top hole }
-    requires origin { (mark_at G.ops marks.now hole).origin ≡ Leave student }
+    requires pushing { IsPushing G.ops flow.old labels.now.marks.items fresh top hole }
+    requires origin { (mark_at G.ops labels.now.marks.items hole).origin ≡ Leave student }
     requires student { student < length flow.old.places.items }
-    ensures more { IfSome result (λ next. IsNext G.ops flow.new marks.now fresh top hole next) }
+    ensures more { IfSome result (λ next. IsNext G.ops flow.new labels.now.marks.items fresh top hole next) }
     ensures done { IfNone result (IsPushed G.ops flow.new) }
     ensures rest { flow.new ≡ record flow.old { places = flow.new.places; filled = flow.new.filled; load = flow.new.load } }
 {
@@ -118,17 +118,17 @@ fn push_leave<G: Worth>(
 /// The hole at a supervisor that a project led to.
 fn push_offer<G: Worth>(
     flow: &mut Flow<G>,
-    marks: &[Mark<G>],
+    labels: &Labels<G>,
     fresh: usize,
     top: G,
     hole: usize,
     project: usize,
 )
-    requires pushing { IsPushing G.ops flow.old marks.now fresh top hole }
-    requires origin { (mark_at G.ops marks.now hole).origin ≡ Offer project }
+    requires pushing { IsPushing G.ops flow.old labels.now.marks.items fresh top hole }
+    requires origin { (mark_at G.ops labels.now.marks.items hole).origin ≡ Offer project }
     requires project { project < length flow.old.filled.items }
     requires room { slice_index flow.old.filled.items project < 500 }
-    ensures next { IsNext G.ops flow.new marks.now fresh top hole project }
+    ensures next { IsNext G.ops flow.new labels.now.marks.items fresh top hole project }
     ensures rest { flow.new ≡ record flow.old { places = flow.new.places; filled = flow.new.filled; load = flow.new.load } }
 {
     count_up(flow, project);
@@ -137,17 +137,17 @@ fn push_offer<G: Worth>(
 /// The hole at a project that its supervisor led to.
 fn push_swap<G: Worth>(
     flow: &mut Flow<G>,
-    marks: &[Mark<G>],
+    labels: &Labels<G>,
     fresh: usize,
     top: G,
     hole: usize,
     supervisor: usize,
 )
-    requires pushing { IsPushing G.ops flow.old marks.now fresh top hole }
-    requires origin { (mark_at G.ops marks.now hole).origin ≡ Swap supervisor }
+    requires pushing { IsPushing G.ops flow.old labels.now.marks.items fresh top hole }
+    requires origin { (mark_at G.ops labels.now.marks.items hole).origin ≡ Swap supervisor }
     requires hole { hole < length flow.old.filled.items }
     requires some { 0 < slice_index flow.old.filled.items hole }
-    ensures next { IsNext G.ops flow.new marks.now fresh top hole (project_count flow.new + supervisor) }
+    ensures next { IsNext G.ops flow.new labels.now.marks.items fresh top hole (project_count flow.new + supervisor) }
     ensures rest { flow.new ≡ record flow.old { places = flow.new.places; filled = flow.new.filled; load = flow.new.load } }
 {
     count_down(flow, hole);
@@ -156,17 +156,17 @@ fn push_swap<G: Worth>(
 /// The hole at the sink that a supervisor led to.
 fn push_room<G: Worth>(
     flow: &mut Flow<G>,
-    marks: &[Mark<G>],
+    labels: &Labels<G>,
     fresh: usize,
     top: G,
     hole: usize,
     supervisor: usize,
 )
-    requires pushing { IsPushing G.ops flow.old marks.now fresh top hole }
-    requires origin { (mark_at G.ops marks.now hole).origin ≡ Room supervisor }
+    requires pushing { IsPushing G.ops flow.old labels.now.marks.items fresh top hole }
+    requires origin { (mark_at G.ops labels.now.marks.items hole).origin ≡ Room supervisor }
     requires supervisor { supervisor < length flow.old.load.items }
     requires room { slice_index flow.old.load.items supervisor < 500 }
-    ensures next { IsNext G.ops flow.new marks.now fresh top hole (project_count flow.new + supervisor) }
+    ensures next { IsNext G.ops flow.new labels.now.marks.items fresh top hole (project_count flow.new + supervisor) }
     ensures rest { flow.new ≡ record flow.old { places = flow.new.places; filled = flow.new.filled; load = flow.new.load } }
 {
     load_up(flow, supervisor);
@@ -175,43 +175,43 @@ fn push_room<G: Worth>(
 /// One step: the hole moves to the node before, or the push is done.
 fn step<G: Worth>(
     flow: &mut Flow<G>,
-    marks: &[Mark<G>],
+    labels: &Labels<G>,
     fresh: usize,
     top: G,
     hole: usize,
 ) -> Option<usize>
-    requires { IsPushing G.ops flow.old marks.now fresh top hole }
-    ensures more { IfSome result (λ next. IsNext G.ops flow.new marks.now fresh top hole next) }
+    requires { IsPushing G.ops flow.old labels.now.marks.items fresh top hole }
+    ensures more { IfSome result (λ next. IsNext G.ops flow.new labels.now.marks.items fresh top hole next) }
     ensures done { IfNone result (IsPushed G.ops flow.new) }
     ensures rest { flow.new ≡ record flow.old { places = flow.new.places; filled = flow.new.filled; load = flow.new.load } }
 {
-    match origin_of(marks, hole) {
+    match origin_of(labels, hole) {
         Origin::Unseen => unreachable!(),
-        Origin::Entry(student, place) => push_entry(flow, marks, fresh, top, hole, student, place),
-        Origin::Leave(student) => push_leave(flow, marks, fresh, top, hole, student),
+        Origin::Entry(student, place) => push_entry(flow, labels, fresh, top, hole, student, place),
+        Origin::Leave(student) => push_leave(flow, labels, fresh, top, hole, student),
         Origin::Offer(project) => {
-            push_offer(flow, marks, fresh, top, hole, project);
+            push_offer(flow, labels, fresh, top, hole, project);
             Some(project)
         }
         Origin::Swap(supervisor) => {
-            push_swap(flow, marks, fresh, top, hole, supervisor);
+            push_swap(flow, labels, fresh, top, hole, supervisor);
             Some(supervisor_node(flow, supervisor))
         }
         Origin::Room(supervisor) => {
-            push_room(flow, marks, fresh, top, hole, supervisor);
+            push_room(flow, labels, fresh, top, hole, supervisor);
             Some(supervisor_node(flow, supervisor))
         }
     }
 }
 
 /// The push along the walk that the marks show.
-pub fn push<G: Worth>(flow: &mut Flow<G>, marks: &[Mark<G>], fresh: usize, top: G, from: usize)
-    requires { IsPushing G.ops flow.old marks.now fresh top from }
+pub fn push<G: Worth>(flow: &mut Flow<G>, labels: &Labels<G>, fresh: usize, top: G, from: usize)
+    requires { IsPushing G.ops flow.old labels.now.marks.items fresh top from }
     ensures pushed { IsPushed G.ops flow.new }
     ensures rest { flow.new ≡ record flow.old { places = flow.new.places; filled = flow.new.filled; load = flow.new.load } }
 {
     let mut hole = from;
-    while let Some(next) = step(flow, marks, fresh, top, hole) {
+    while let Some(next) = step(flow, labels, fresh, top, hole) {
         hole = next;
     }
 }

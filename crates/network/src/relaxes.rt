@@ -1,11 +1,12 @@
 //! The relaxations of the arcs out of one node.
 
 ghost use Rattle.std.specs.Prelude.{◌≡◌, ℕ, ◌+◌, ◌-◌, ◌*◌, ◌<◌, ◌≤◌, ◌^◌, length, slice_get, slice_index, Some, IfSome, IfNone, sum_by, nat_lt};
+ghost use Rattle.network.specs.Labels.{AreLabels};
 ghost use Rattle.network.specs.Search.{Relaxes, OffersOf};
 ghost use Rattle.network.specs.Arcs.{Arc, IsFormed, OfStudent, EntriesBelow, StudentsBelow, ProjectsBelow, HasEntry, Holds, sink_of, project_count};
 
 use crate::flow::Flow;
-use crate::marks::{Mark, Origin, relax};
+use crate::marks::{Labels, Origin, relax};
 use spa::Worth;
 
 /// The entry at a place of a student's list.
@@ -41,21 +42,23 @@ fn relax_entry<G: Worth>(
     student: usize,
     place: usize,
     label: G,
-    marks: &mut [Mark<G>],
+    labels: &mut Labels<G>,
     count: &mut u64,
 )
+    requires kept { AreLabels G.ops labels.old }
     requires formed { IsFormed G.ops flow.now }
-    requires marks { length marks.old ≡ length flow.now.potentials.items }
+    requires marks { length labels.old.marks.items ≡ length flow.now.potentials.items }
     requires student { student < length flow.now.lists.items }
     requires place { (row : _) → slice_get flow.now.lists.items student ≡ Some row → place < length row.items }
     requires label { G.ops.span label < 2 ^ 32 }
     requires count { count.old < 2 ^ 40 }
-    ensures relaxes { (m : _) → Relaxes G.ops (EntriesBelow G.ops flow.now student label place) m marks.old → Relaxes G.ops (EntriesBelow G.ops flow.now student label (place + 1)) m marks.new }
+    ensures kept { AreLabels G.ops labels.new }
+    ensures relaxes { (m : _) → Relaxes G.ops (EntriesBelow G.ops flow.now student label place) m labels.old.marks.items → Relaxes G.ops (EntriesBelow G.ops flow.now student label (place + 1)) m labels.new.marks.items }
     ensures count { count.new ≡ count.old + 1 }
 {
     let (project, worth) = entry(flow, student, place);
     relax(
-        marks,
+        labels,
         project,
         label.plus(worth),
         Origin::Entry(student, place),
@@ -68,23 +71,25 @@ pub fn relax_entries<G: Worth>(
     flow: &Flow<G>,
     student: usize,
     label: G,
-    marks: &mut [Mark<G>],
+    labels: &mut Labels<G>,
     count: &mut u64,
 )
+    requires kept { AreLabels G.ops labels.old }
     requires formed { IsFormed G.ops flow.now }
-    requires marks { length marks.old ≡ length flow.now.potentials.items }
+    requires marks { length labels.old.marks.items ≡ length flow.now.potentials.items }
     requires student { student < length flow.now.lists.items }
     requires label { G.ops.span label < 2 ^ 32 }
     requires count { count.old < 2 ^ 32 }
-    ensures relaxes { Relaxes G.ops (OfStudent G.ops flow.now student label) marks.old marks.new }
+    ensures kept { AreLabels G.ops labels.new }
+    ensures relaxes { Relaxes G.ops (OfStudent G.ops flow.now student label) labels.old.marks.items labels.new.marks.items }
     ensures count { (row : _) → slice_get flow.now.lists.items student ≡ Some row → count.new ≡ count.old + length row.items + 1 }
     ensures small { count.new ≤ count.old + 13 }
 {
     let places = list_len(flow, student);
     for k in 0..places {
-        relax_entry(flow, student, k, label, marks, count);
+        relax_entry(flow, student, k, label, labels, count);
     }
-    relax(marks, sink(flow), label, Origin::Leave(student), count);
+    relax(labels, sink(flow), label, Origin::Leave(student), count);
 }
 
 /// The worth of the student's place, where that is at the project.
@@ -109,21 +114,23 @@ fn relax_student<G: Worth>(
     project: usize,
     student: usize,
     label: G,
-    marks: &mut [Mark<G>],
+    labels: &mut Labels<G>,
     count: &mut u64,
 )
+    requires kept { AreLabels G.ops labels.old }
     requires formed { IsFormed G.ops flow.now }
-    requires marks { length marks.old ≡ length flow.now.potentials.items }
+    requires marks { length labels.old.marks.items ≡ length flow.now.potentials.items }
     requires student { student < length flow.now.lists.items }
     requires label { G.ops.span label < 2 ^ 31 }
     requires count { count.old < 2 ^ 32 }
-    ensures relaxes { (m : _) → Relaxes G.ops (StudentsBelow G.ops flow.now project label student) m marks.old → Relaxes G.ops (StudentsBelow G.ops flow.now project label (student + 1)) m marks.new }
+    ensures kept { AreLabels G.ops labels.new }
+    ensures relaxes { (m : _) → Relaxes G.ops (StudentsBelow G.ops flow.now project label student) m labels.old.marks.items → Relaxes G.ops (StudentsBelow G.ops flow.now project label (student + 1)) m labels.new.marks.items }
     ensures cost { (row : _) → slice_get flow.now.lists.items student ≡ Some row → count.new ≤ count.old + (length row.items + 1) }
     ensures small { count.new ≤ count.old + 13 }
 {
     match held(flow, student, project) {
         None => {}
-        Some(worth) => relax_entries(flow, student, label.minus(worth), marks, count),
+        Some(worth) => relax_entries(flow, student, label.minus(worth), labels, count),
     }
 }
 
@@ -132,19 +139,21 @@ fn relax_students<G: Worth>(
     flow: &Flow<G>,
     project: usize,
     label: G,
-    marks: &mut [Mark<G>],
+    labels: &mut Labels<G>,
     count: &mut u64,
 )
+    requires kept { AreLabels G.ops labels.old }
     requires formed { IsFormed G.ops flow.now }
-    requires marks { length marks.old ≡ length flow.now.potentials.items }
+    requires marks { length labels.old.marks.items ≡ length flow.now.potentials.items }
     requires label { G.ops.span label < 2 ^ 31 }
     requires count { count.old < 2 ^ 31 }
-    ensures relaxes { Relaxes G.ops (StudentsBelow G.ops flow.now project label (length flow.now.lists.items)) marks.old marks.new }
+    ensures kept { AreLabels G.ops labels.new }
+    ensures relaxes { Relaxes G.ops (StudentsBelow G.ops flow.now project label (length flow.now.lists.items)) labels.old.marks.items labels.new.marks.items }
     ensures cost { count.new ≤ count.old + sum_by (λ row. length row.items + 1) flow.now.lists.items }
     ensures small { count.new ≤ count.old + 13 * 500 }
 {
     for student in 0..flow.lists.len() {
-        relax_student(flow, project, student, label, marks, count);
+        relax_student(flow, project, student, label, labels, count);
     }
 }
 
@@ -187,23 +196,25 @@ pub fn relax_project<G: Worth>(
     flow: &Flow<G>,
     at: usize,
     label: G,
-    marks: &mut [Mark<G>],
+    labels: &mut Labels<G>,
     count: &mut u64,
 )
+    requires kept { AreLabels G.ops labels.old }
     requires formed { IsFormed G.ops flow.now }
-    requires marks { length marks.old ≡ length flow.now.potentials.items }
+    requires marks { length labels.old.marks.items ≡ length flow.now.potentials.items }
     requires at { at < length flow.now.projects.items }
     requires label { G.ops.span label < 2 ^ 31 }
     requires count { count.old < 2 ^ 31 }
-    ensures relaxes { Relaxes G.ops (OffersOf G.ops (Arc G.ops flow.now) at label) marks.old marks.new }
+    ensures kept { AreLabels G.ops labels.new }
+    ensures relaxes { Relaxes G.ops (OffersOf G.ops (Arc G.ops flow.now) at label) labels.old.marks.items labels.new.marks.items }
     ensures cost { count.new ≤ count.old + sum_by (λ row. length row.items + 1) flow.now.lists.items + 1 }
     ensures small { count.new ≤ count.old + 6501 }
 {
-    relax_students(flow, at, label, marks, count);
+    relax_students(flow, at, label, labels, count);
     let (supervisor, quota) = project(flow, at);
     if project_has_room(flow, at, quota) {
         relax(
-            marks,
+            labels,
             supervisor_node(flow, supervisor),
             label,
             Origin::Offer(at),
@@ -218,19 +229,21 @@ fn relax_swap<G: Worth>(
     supervisor: usize,
     at: usize,
     label: G,
-    marks: &mut [Mark<G>],
+    labels: &mut Labels<G>,
     count: &mut u64,
 )
+    requires kept { AreLabels G.ops labels.old }
     requires formed { IsFormed G.ops flow.now }
-    requires marks { length marks.old ≡ length flow.now.potentials.items }
+    requires marks { length labels.old.marks.items ≡ length flow.now.potentials.items }
     requires at { at < length flow.now.projects.items }
     requires count { count.old < 2 ^ 32 }
-    ensures relaxes { (m : _) → Relaxes G.ops (ProjectsBelow G.ops flow.now supervisor label at) m marks.old → Relaxes G.ops (ProjectsBelow G.ops flow.now supervisor label (at + 1)) m marks.new }
+    ensures kept { AreLabels G.ops labels.new }
+    ensures relaxes { (m : _) → Relaxes G.ops (ProjectsBelow G.ops flow.now supervisor label at) m labels.old.marks.items → Relaxes G.ops (ProjectsBelow G.ops flow.now supervisor label (at + 1)) m labels.new.marks.items }
     ensures cost { count.new ≤ count.old + 1 }
 {
     let (holder, _) = project(flow, at);
     if holder == supervisor {
-        relax(marks, at, label, Origin::Swap(supervisor), count);
+        relax(labels, at, label, Origin::Swap(supervisor), count);
     }
 }
 
@@ -239,17 +252,19 @@ fn relax_swaps<G: Worth>(
     flow: &Flow<G>,
     supervisor: usize,
     label: G,
-    marks: &mut [Mark<G>],
+    labels: &mut Labels<G>,
     count: &mut u64,
 )
+    requires kept { AreLabels G.ops labels.old }
     requires formed { IsFormed G.ops flow.now }
-    requires marks { length marks.old ≡ length flow.now.potentials.items }
+    requires marks { length labels.old.marks.items ≡ length flow.now.potentials.items }
     requires count { count.old < 2 ^ 31 }
-    ensures relaxes { Relaxes G.ops (ProjectsBelow G.ops flow.now supervisor label (length flow.now.projects.items)) marks.old marks.new }
+    ensures kept { AreLabels G.ops labels.new }
+    ensures relaxes { Relaxes G.ops (ProjectsBelow G.ops flow.now supervisor label (length flow.now.projects.items)) labels.old.marks.items labels.new.marks.items }
     ensures cost { count.new ≤ count.old + length flow.now.projects.items }
 {
     for at in 0..flow.projects.len() {
-        relax_swap(flow, supervisor, at, label, marks, count);
+        relax_swap(flow, supervisor, at, label, labels, count);
     }
 }
 
@@ -258,19 +273,21 @@ pub fn relax_supervisor<G: Worth>(
     flow: &Flow<G>,
     supervisor: usize,
     label: G,
-    marks: &mut [Mark<G>],
+    labels: &mut Labels<G>,
     count: &mut u64,
 )
+    requires kept { AreLabels G.ops labels.old }
     requires formed { IsFormed G.ops flow.now }
-    requires marks { length marks.old ≡ length flow.now.potentials.items }
+    requires marks { length labels.old.marks.items ≡ length flow.now.potentials.items }
     requires supervisor { supervisor < length flow.now.supervisors.items }
     requires label { G.ops.span label < 2 ^ 31 }
     requires count { count.old < 2 ^ 31 }
-    ensures relaxes { Relaxes G.ops (OffersOf G.ops (Arc G.ops flow.now) (length flow.now.projects.items + supervisor) label) marks.old marks.new }
+    ensures kept { AreLabels G.ops labels.new }
+    ensures relaxes { Relaxes G.ops (OffersOf G.ops (Arc G.ops flow.now) (length flow.now.projects.items + supervisor) label) labels.old.marks.items labels.new.marks.items }
     ensures cost { count.new ≤ count.old + length flow.now.projects.items + 1 }
 {
-    relax_swaps(flow, supervisor, label, marks, count);
+    relax_swaps(flow, supervisor, label, labels, count);
     if supervisor_has_room(flow, supervisor) {
-        relax(marks, sink(flow), label, Origin::Room(supervisor), count);
+        relax(labels, sink(flow), label, Origin::Room(supervisor), count);
     }
 }

@@ -4,9 +4,11 @@ ghost use Rattle.std.specs.Prelude.{◌≡◌, ℕ, ◌+◌, ◌-◌, ◌<◌, �
 ghost use Rattle.std.specs.Ordering.{is_gt};
 ghost use Rattle.spa.specs.Laws.{AtMost};
 ghost use Rattle.network.specs.Search.{Relaxes, OneOffer};
-ghost use Rattle.network.specs.Marks.{mark_at, potential_at, key_at, relaxed, is_seen, is_settled, is_open_mark};
+ghost use Rattle.network.specs.Labels.{AreLabels};
+ghost use Rattle.network.specs.Marks.{mark_at, potential_at, key_at, relaxed, settled_as, is_seen, is_settled, is_open_mark};
 
-use super::{Mark, Origin};
+use super::{Labels, Mark, Origin};
+use crate::numbers::{put_in, take_out};
 use spa::Worth;
 use std::cmp::Ordering;
 
@@ -20,50 +22,31 @@ pub fn exceeds<G: Worth>(a: G, b: G) -> bool
     }
 }
 
-/// Was the node reached and not settled?
-pub fn is_open<G: Worth>(mark: &Mark<G>) -> bool
-    ensures { result ≡ is_open_mark mark.now }
+/// Is the node not reached yet?
+fn is_unseen<G: Worth>(labels: &Labels<G>, node: usize) -> bool
+    requires { node < length labels.now.marks.items }
+    ensures { result ≡ not (is_seen (mark_at G.ops labels.now.marks.items node).origin) }
 {
-    match mark.rank {
-        Some(_) => false,
-        None => match mark.origin {
-            Origin::Unseen => false,
-            _ => true,
-        },
+    match labels.marks[node].origin {
+        Origin::Unseen => true,
+        _ => false,
     }
 }
 
-/// One relaxation: a node's label is compared with one across an arc.
-pub fn relax<G: Worth>(
-    marks: &mut [Mark<G>],
-    node: usize,
-    label: G,
-    origin: Origin,
-    count: &mut u64,
-)
-    requires node { node < length marks.old }
-    requires origin { is_seen origin ≡ true }
-    requires count { count.old + 1 < 2 ^ 64 }
-    ensures marks { Relaxes G.ops (OneOffer origin label node) marks.old marks.new }
-    ensures count { count.new ≡ count.old + 1 }
-{
-    *count += 1;
-    compare(marks, node, label, origin);
-}
-
 /// The mark of the node takes the label where that is better.
-fn compare<G: Worth>(marks: &mut [Mark<G>], node: usize, label: G, origin: Origin)
-    requires node { node < length marks.old }
-    ensures marks { marks.new ≡ slice_set marks.old node (relaxed G.ops (mark_at G.ops marks.old node) label origin) }
+fn compare<G: Worth>(labels: &mut Labels<G>, node: usize, label: G, origin: Origin)
+    requires node { node < length labels.old.marks.items }
+    ensures marks { labels.new.marks.items ≡ slice_set labels.old.marks.items node (relaxed G.ops (mark_at G.ops labels.old.marks.items node) label origin) }
+    ensures rest { labels.new ≡ record labels.old { marks = labels.new.marks } }
 {
-    let mark = marks[node];
+    let mark = labels.marks[node];
     if mark.rank.is_none() {
         let better = match mark.origin {
             Origin::Unseen => true,
             _ => exceeds(label, mark.label),
         };
         if better {
-            marks[node] = Mark {
+            labels.marks[node] = Mark {
                 label,
                 origin,
                 rank: None,
@@ -72,43 +55,79 @@ fn compare<G: Worth>(marks: &mut [Mark<G>], node: usize, label: G, origin: Origi
     }
 }
 
-/// Is the node reached and not settled?
-fn is_open_at<G: Worth>(marks: &[Mark<G>], v: usize) -> bool
-    requires { v < length marks.now }
-    ensures { result ≡ is_open_mark (mark_at G.ops marks.now v) }
+/// One relaxation: a node's label is compared with one across an arc.
+pub fn relax<G: Worth>(labels: &mut Labels<G>, node: usize, label: G, origin: Origin, count: &mut u64)
+    requires kept { AreLabels G.ops labels.old }
+    requires node { node < length labels.old.marks.items }
+    requires origin { is_seen origin ≡ true }
+    requires count { count.old + 1 < 2 ^ 64 }
+    ensures kept { AreLabels G.ops labels.new }
+    ensures marks { Relaxes G.ops (OneOffer origin label node) labels.old.marks.items labels.new.marks.items }
+    ensures count { count.new ≡ count.old + 1 }
 {
-    is_open(&marks[v])
+    *count += 1;
+    let first = is_unseen(labels, node);
+    compare(labels, node, label, origin);
+    if first {
+        put_in(&mut labels.frontier, node);
+    }
+}
+
+/// The mark of the node takes its place in the order of settling.
+fn set_rank<G: Worth>(labels: &mut Labels<G>, node: usize, rank: usize)
+    requires { node < length labels.old.marks.items }
+    ensures marks { labels.new.marks.items ≡ slice_set labels.old.marks.items node (settled_as (mark_at G.ops labels.old.marks.items node) rank) }
+    ensures rest { labels.new ≡ record labels.old { marks = labels.new.marks } }
+{
+    let mark = labels.marks[node];
+    labels.marks[node] = Mark {
+        label: mark.label,
+        origin: mark.origin,
+        rank: Some(rank),
+    };
+}
+
+/// An open node is settled as the next.
+pub fn settle<G: Worth>(labels: &mut Labels<G>, node: usize, rank: usize)
+    requires kept { AreLabels G.ops labels.old }
+    requires node { node < length labels.old.marks.items }
+    requires opened { is_open_mark (mark_at G.ops labels.old.marks.items node) ≡ true }
+    ensures kept { AreLabels G.ops labels.new }
+    ensures marks { labels.new.marks.items ≡ slice_set labels.old.marks.items node (settled_as (mark_at G.ops labels.old.marks.items node) rank) }
+{
+    set_rank(labels, node, rank);
+    take_out(&mut labels.frontier, node);
+    put_in(&mut labels.settled, node);
 }
 
 /// What a walk by the node may come to.
-fn key_of<G: Worth>(marks: &[Mark<G>], potentials: &[G], v: usize) -> G
-    requires within { v < length marks.now }
-    requires potentials { length potentials.now ≡ length marks.now }
-    requires span { G.ops.span (mark_at G.ops marks.now v).label + G.ops.span (potential_at G.ops potentials.now v) < 2 ^ 63 }
-    ensures { result ≡ key_at G.ops marks.now potentials.now v }
+fn key_of<G: Worth>(labels: &Labels<G>, potentials: &[G], v: usize) -> G
+    requires within { v < length labels.now.marks.items }
+    requires potentials { length potentials.now ≡ length labels.now.marks.items }
+    requires span { G.ops.span (mark_at G.ops labels.now.marks.items v).label + G.ops.span (potential_at G.ops potentials.now v) < 2 ^ 63 }
+    ensures { result ≡ key_at G.ops labels.now.marks.items potentials.now v }
 {
-    marks[v].label.plus(potentials[v])
+    labels.marks[v].label.plus(potentials[v])
 }
 
 /// The open node whose walk can end highest, the last node where several can.
-pub fn best_open<G: Worth>(marks: &[Mark<G>], potentials: &[G]) -> usize
-    requires some { 0 < length marks.now }
-    requires last_open { is_open_mark (mark_at G.ops marks.now (length marks.now - 1)) ≡ true }
-    requires potentials { length potentials.now ≡ length marks.now }
-    requires spans { (v : ℕ) → v < length marks.now → G.ops.span (mark_at G.ops marks.now v).label + G.ops.span (potential_at G.ops potentials.now v) < 2 ^ 63 }
-    ensures within { result < length marks.now }
-    ensures opened { is_open_mark (mark_at G.ops marks.now result) ≡ true }
-    ensures best { (w : ℕ) → w < length marks.now → is_open_mark (mark_at G.ops marks.now w) ≡ true → AtMost G.ops (key_at G.ops marks.now potentials.now w) (key_at G.ops marks.now potentials.now result) }
+pub fn best_open<G: Worth>(labels: &Labels<G>, potentials: &[G]) -> usize
+    requires kept { AreLabels G.ops labels.now }
+    requires some { 0 < length labels.now.marks.items }
+    requires last_open { is_open_mark (mark_at G.ops labels.now.marks.items (length labels.now.marks.items - 1)) ≡ true }
+    requires potentials { length potentials.now ≡ length labels.now.marks.items }
+    requires spans { (v : ℕ) → v < length labels.now.marks.items → G.ops.span (mark_at G.ops labels.now.marks.items v).label + G.ops.span (potential_at G.ops potentials.now v) < 2 ^ 63 }
+    ensures opened { is_open_mark (mark_at G.ops labels.now.marks.items result) ≡ true }
+    ensures best { (w : ℕ) → is_open_mark (mark_at G.ops labels.now.marks.items w) ≡ true → AtMost G.ops (key_at G.ops labels.now.marks.items potentials.now w) (key_at G.ops labels.now.marks.items potentials.now result) }
 {
-    let mut best = marks.len() - 1;
-    let mut top = key_of(marks, potentials, best);
-    for v in 0..marks.len() {
-        if is_open_at(marks, v) {
-            let key = key_of(marks, potentials, v);
-            if exceeds(key, top) {
-                best = v;
-                top = key;
-            }
+    let mut best = labels.marks.len() - 1;
+    let mut top = key_of(labels, potentials, best);
+    for i in 0..labels.frontier.len() {
+        let v = labels.frontier[i];
+        let key = key_of(labels, potentials, v);
+        if exceeds(key, top) {
+            best = v;
+            top = key;
         }
     }
     best

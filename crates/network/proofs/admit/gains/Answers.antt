@@ -1,0 +1,40 @@
+use Rattle.std.proofs.Common.{arith, rules, ◌≡◌, ◌+◌, ◌<◌, ℕ, inl, inr, length, sym, ◌∙◌, ap, subst}
+use Rattle.std.proofs.lemmas.Bool.{cases_eq}
+use Rattle.std.proofs.lemmas.Option.{slice_get_within}
+use Rattle.spa.specs.Laws.{AtMost}
+use Rattle.network.specs.Arcs.{HasEntry}
+use Rattle.network.specs.Fair.{potential}
+use Rattle.network.proofs.Entries.{entry_same}
+use Rattle.network.proofs.admit.gains.Goals as goal
+
+pub potential_of-requires : goal.potential_of-requires
+potential_of-requires g c =
+    let e = (c.requires.formed.entries _ _ _ _ c.entry-project.ensures).0 in
+    omega (arith, e, c.requires.formed.potentials)
+
+pub plus-requires : goal.plus-requires
+plus-requires g c =
+    let e = (c.requires.formed.entries _ _ _ _ c.entry-project.ensures).1 in
+    rw c.potential_of.ensures (omega (arith, e, c.requires.low c.entry-project.result.0))
+
+pub loop-place-preserved : goal.loop-place-preserved
+loop-place-preserved g c =
+    let o = g.G.Worth.ops in let f = c.args.flow.now in
+    let here : AtMost o (o.plus c.entry-project.result.1 (potential o f c.entry-project.result.0)) o.zero =
+    rw (← c.potential_of.ensures, ← c.plus.ensures, ← c.zero.ensures) (sym c.exceeds.ensures ∙ c.if-exceeds.false) in
+    record {
+      none = λ k p w lt h. elim (cases_eq k c.loop-place.place) [
+        | inl q ↦
+            (let same = entry_same (rw q at h) c.entry-project.ensures in
+            rw (same.0, same.1) here)
+        | inr ne ↦ c.loop-place.invariant.none k p w (omega (arith, lt, ne)) h
+      ];
+      counted = omega (arith, c.loop-place.invariant.counted);
+    }
+
+pub returns-clause-none : goal.returns-clause-none
+returns-clause-none g c e k p w h =
+    let long = c.list_len-place-end.ensures.row h.row h.student in
+    let within = slice_get_within h.row.items k _ h.place in
+    let end : c.loop-place.place ≡ c.list_len-place-end.result = search rules in
+    c.loop-place.invariant.none k p w (omega (arith, long, within, end)) h

@@ -1,0 +1,20 @@
+use Rattle.std.proofs.Common.{arith, sym, ◌∙◌, subst}
+use Rattle.std.proofs.lemmas.Option.{slice_get_within}
+use Rattle.network.specs.Push.{IsPushing}
+use Rattle.network.proofs.PushStart.{but_feasible}
+use Rattle.network.proofs.admit.place_best.Goals as goal
+
+pub search-requires-clause-feasible : goal.search-requires-clause-feasible
+search-requires-clause-feasible g c = but_feasible g.met.G.Worth.laws c.args.flow.now c.args.fresh c.requires.fair
+
+pub search-requires-clause-student : goal.search-requires-clause-student
+search-requires-clause-student g c =
+    let h = slice_get_within c.args.flow.now.places.items c.args.fresh _ c.requires.waiting in
+    omega (arith, h, c.requires.formed.students)
+
+pub push-requires : goal.push-requires
+push-requires g c =
+    subst (λ z. IsPushing g.G.Worth.ops c.lower_flow.new.flow c.search.new.labels.marks.items c.args.fresh c.label_of-top.result z) (c.lower_flow.ensures.sink ∙ sym c.sink-end.ensures) c.lower_flow.ensures.pushing
+
+pub search-requires-clause-potentials : goal.search-requires-clause-potentials
+search-requires-clause-potentials g c = λ v. omega (arith, c.requires.low v)

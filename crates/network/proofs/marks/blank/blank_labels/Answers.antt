@@ -1,0 +1,7 @@
+use Rattle.network.proofs.Labelled.{blank_are}
+use Rattle.network.proofs.marks.blank.blank_labels.Goals as goal
+
+pub returns : goal.returns
+returns g c =
+    blank_are (record { marks = c.in_ok-marks.marks; frontier = c.in_ok-frontier.frontier; settled = c.in_ok-settled.settled }) c.args.nodes c.in_ok-marks.ensures.blank
+    c.in_ok-frontier.ensures.items c.in_ok-settled.ensures.items c.in_ok-marks.ensures.len c.in_ok-frontier.ensures.capacity c.in_ok-settled.ensures.capacity
