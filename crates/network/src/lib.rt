@@ -16,6 +16,7 @@ mod admit;
 mod descend;
 mod enter;
 mod flow;
+mod kept;
 mod numbers;
 mod marks;
 mod network;
