@@ -1,5 +1,5 @@
 -- The lists of open and settled nodes stay right beside the marks.
-use Rattle.std.proofs.Common.{◌≡◌, ℕ, ◌+◌, ◌<◌, ◌≤◌, ◌⊎◌, ◌&&◌, not, inl, inr, List, [], length, set, Bool, true, false, cond, Option, Some, None, refl, sym, ◌∙◌, ap, arith, slice_get, get_or, eq-eqb, ne_eqb, eqb, get_or-set_same, get_or-set_other, length-set}
+use Rattle.std.proofs.Common.{◌≡◌, ℕ, ◌+◌, ◌<◌, ◌≤◌, ◌&&◌, not, inl, inr, List, [], length, set, Bool, true, false, cond, Some, None, refl, sym, ◌∙◌, ap, arith, slice_get, eq-eqb, ne_eqb, eqb, get_or-set_same, get_or-set_other, length-set}
 use Rattle.std.proofs.lemmas.Bool.{cases_eq, cases_Bool, cases_lt}
 use Rattle.std.proofs.lemmas.List.{get_or_past}
 use Rattle.std.specs.Vec.{vec_capacity}
@@ -11,7 +11,7 @@ use Rattle.network.specs.Marks.{is_seen, is_settled, is_open_mark, blank, mark_a
 use Rattle.network.specs.Push.{one_if}
 use Rattle.network.specs.Labels.{count_of, AreLabels, AreBlank}
 use Rattle.network.proofs.Settle.{open_rank}
-use Rattle.network.proofs.Listed.{found, stands, length_within, length_below}
+use Rattle.network.proofs.Listed.{found, stands, length_below}
 use Rattle.network.specs.declared.marks.Labels.{Labels}
 use Rattle.network.specs.declared.marks.Origin.{Origin}
 use Rattle.network.specs.declared.marks.Mark.{Mark}
@@ -26,11 +26,12 @@ one_true : (b : Bool) → 0 < one_if b → b ≡ true
 one_true true h = refl
 one_true false h = absurd (omega (arith, h))
 
--- no, twice
+-- not yes
 pub not_true : (b : Bool) → not b ≡ true → b ≡ false
 not_true true h = cc
 not_true false h = refl
 
+-- not no
 pub not_false : (b : Bool) → not b ≡ false → b ≡ true
 not_false true h = refl
 not_false false h = cc
@@ -158,11 +159,11 @@ module _ {G : Type 0} {o : Ops G} where
         let undone : one_if (is_settled (M node).rank) ≡ 0 = ap (λ (z : Mark G). one_if (is_settled z.rank)) was in
         let one : one_if (eqb node node) ≡ 1 = ap one_if (eq-eqb node node refl) in
         labels_set n node m lt set_to seen
-          (λ b ne. let z : one_if (eqb node b) ≡ 0 = ap one_if (ne_eqb node b (λ e. ne (sym e))) in omega (arith, fronts b, z))
-          (omega (arith, fronts node, one, are.frontier node, closed, opened))
-          (λ b ne. ap (λ (z : Vec ℕ Global). count_of z.items b) dones)
-          (ap (λ (z : Vec ℕ Global). count_of z.items node) dones ∙ are.settled node ∙ undone)
-          room (ap vec_capacity dones)
+        (λ b ne. let z : one_if (eqb node b) ≡ 0 = ap one_if (ne_eqb node b (λ e. ne (sym e))) in omega (arith, fronts b, z))
+        (omega (arith, fronts node, one, are.frontier node, closed, opened))
+        (λ b ne. ap (λ (z : Vec ℕ Global). count_of z.items b) dones)
+        (ap (λ (z : Vec ℕ Global). count_of z.items node) dones ∙ are.settled node ∙ undone)
+        room (ap vec_capacity dones)
 
     -- a later label leaves it open or settled, as it was
     pub labels_kept : (n : Labels G) (node : ℕ) (label : G) (origin : Origin) → is_seen origin ≡ true → node < length l.marks.items → is_seen (M node).origin ≡ true
@@ -170,11 +171,11 @@ module _ {G : Type 0} {o : Ops G} where
     labels_kept n node label origin seen lt was set_is fronts dones =
         let r = relaxed_as (M node) label origin seen was (is_settled (M node).rank) (is_seen (M node).origin) (is_gt (o.cmp label (M node).label)) refl refl in
         labels_set n node (relaxed o (M node) label origin) lt set_is r.2
-          (λ b ne. ap (λ (z : Vec ℕ Global). count_of z.items b) fronts)
-          (ap (λ (z : Vec ℕ Global). count_of z.items node) fronts ∙ are.frontier node ∙ sym (ap one_if r.0))
-          (λ b ne. ap (λ (z : Vec ℕ Global). count_of z.items b) dones)
-          (ap (λ (z : Vec ℕ Global). count_of z.items node) dones ∙ are.settled node ∙ sym (ap one_if r.1))
-          (ap vec_capacity fronts) (ap vec_capacity dones)
+        (λ b ne. ap (λ (z : Vec ℕ Global). count_of z.items b) fronts)
+        (ap (λ (z : Vec ℕ Global). count_of z.items node) fronts ∙ are.frontier node ∙ sym (ap one_if r.0))
+        (λ b ne. ap (λ (z : Vec ℕ Global). count_of z.items b) dones)
+        (ap (λ (z : Vec ℕ Global). count_of z.items node) dones ∙ are.settled node ∙ sym (ap one_if r.1))
+        (ap vec_capacity fronts) (ap vec_capacity dones)
 
     -- a node is settled
     pub labels_settled : (n : Labels G) (node rank : ℕ) → is_open_mark (M node) ≡ true → node < length l.marks.items
@@ -189,11 +190,11 @@ module _ {G : Type 0} {o : Ops G} where
         let undone : one_if (is_settled (M node).rank) ≡ 0 = ap (λ z. one_if (is_settled z)) r.1 in
         let closed : one_if (is_open_mark (settled_as (M node) rank)) ≡ 0 = ap (λ z. one_if (z && false)) r.0 in
         labels_set n node (settled_as (M node) rank) lt set_is r.0
-          (λ b ne. let z : one_if (eqb node b) ≡ 0 = ap one_if (ne_eqb node b (λ e. ne (sym e))) in omega (arith, fronts b, z))
-          (omega (arith, fronts node, one, are.frontier node, was, closed))
-          (λ b ne. let z : one_if (eqb node b) ≡ 0 = ap one_if (ne_eqb node b (λ e. ne (sym e))) in omega (arith, dones b, z))
-          (omega (arith, dones node, one, are.settled node, undone))
-          frontier_room settled_room
+        (λ b ne. let z : one_if (eqb node b) ≡ 0 = ap one_if (ne_eqb node b (λ e. ne (sym e))) in omega (arith, fronts b, z))
+        (omega (arith, fronts node, one, are.frontier node, was, closed))
+        (λ b ne. let z : one_if (eqb node b) ≡ 0 = ap one_if (ne_eqb node b (λ e. ne (sym e))) in omega (arith, dones b, z))
+        (omega (arith, dones node, one, are.settled node, undone))
+        frontier_room settled_room
 
     -- where the nodes of both lists are blank, all are
     pub all_blank : (first second : List (Mark G))

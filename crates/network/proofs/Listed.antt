@@ -1,5 +1,5 @@
 -- Lists in which each number stands as often as it should.
-use Rattle.std.proofs.Common.{◌≡◌, ℕ, zero, suc, ◌+◌, ◌*◌, ◌<◌, ◌≤◌, ◌==◌, inl, inr, true, false, Bool, cond, List, [], ◌∷◌, ◌++◌, length, get_or, Option, Some, None, refl, sym, ap, ◌∙◌, arith, slice_get, eq-eqb, ne_eqb, eqb, sum_by}
+use Rattle.std.proofs.Common.{◌≡◌, ℕ, zero, suc, ◌+◌, ◌*◌, ◌<◌, ◌≤◌, ◌==◌, inl, inr, true, false, Bool, cond, List, [], ◌∷◌, ◌++◌, length, get_or, Some, refl, sym, ap, ◌∙◌, arith, slice_get, eq-eqb, ne_eqb, eqb, sum_by}
 use Rattle.std.specs.List.{swap_remove}
 use Rattle.std.proofs.lemmas.Bool.{cases_eq}
 use Rattle.std.proofs.lemmas.List.Sums.{sum_by-cons, sum_by-append, sum_by-swap_remove}
@@ -54,7 +54,7 @@ sum_over m g [] h = sym (sum_to_zero m (λ n. 0 * g n) (λ n. omega arith))
 sum_over m g (x ∷ xs) h =
     let rest = sum_over m g xs (λ k. h (suc k)) in
     let other : (j : ℕ) → (j ≡ x → ⊥) → count_of xs j * g j ≡ count_of (x ∷ xs) j * g j = λ j ne.
-      ap (λ z. z * g j) (let z : one_if (eqb x j) ≡ 0 = ap one_if (ne_eqb x j (λ e. ne (sym e))) in omega (arith, count_first x xs j, z)) in
+    ap (λ z. z * g j) (let z : one_if (eqb x j) ≡ 0 = ap one_if (ne_eqb x j (λ e. ne (sym e))) in omega (arith, count_first x xs j, z)) in
     let change = sum_to_change m x (λ n. count_of xs n * g n) (λ n. count_of (x ∷ xs) n * g n) (h 0 x refl) other in
     let once : count_of (x ∷ xs) x ≡ 1 + count_of xs x = (let z : one_if (eqb x x) ≡ 1 = ap one_if (eq-eqb x x refl) in omega (arith, count_first x xs x, z)) in
     let here : count_of (x ∷ xs) x * g x ≡ g x + count_of xs x * g x = ap (λ z. z * g x) once ∙ omega arith in

@@ -1,7 +1,6 @@
 -- the offers out of a project and out of a supervisor
 use Rattle.std.proofs.Common.{◌≡◌, ℕ, ◌+◌, ◌<◌, ◌⊎◌, inl, inr, List, length, Some, slice_get, refl, arith, sym, ◌∙◌, ap}
 use Rattle.std.specs.Prelude.{slice_index}
-use Rattle.std.proofs.lemmas.Bool.{cases_eq}
 use Rattle.std.proofs.lemmas.Option.{slice_get_within, some_pair_parts}
 use Rattle.spa.specs.Laws.{Ops, IsWorth}
 use Rattle.network.specs.Search.{Relaxes, OneOffer, OffersOf}

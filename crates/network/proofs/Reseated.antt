@@ -1,6 +1,5 @@
 -- The lists of who is placed at a project follow the places.
 use Rattle.std.proofs.Common.{◌≡◌, ℕ, ◌+◌, ◌*◌, ◌<◌, ◌≤◌, inl, inr, List, [], ◌∷◌, ◌++◌, length, set, Option, Some, None, refl, sym, ◌∙◌, ap, subst, arith, slice_get, eq-eqb, ne_eqb, eqb}
-use Rattle.std.specs.Prelude.{slice_index, nat_eq}
 use Rattle.std.specs.declared.vec.Vec.{Vec}
 use Rattle.std.specs.declared.alloc.Global.{Global}
 use Rattle.std.proofs.lemmas.Bool.{cases_eq, cases_lt}
@@ -33,14 +32,14 @@ module _ {G : Type 0} (lists : List (Vec (ℕ × G) Global)) (places : List (Opt
           let b : is p * one_if (eqb s t) ≡ is p = ap (λ z. is p * z) one ∙ omega arith in
           let old : place_at (slice_get places t) (slice_get lists t) p ≡ was p = ap (λ z. place_at (slice_get places z) (slice_get lists z) p) e ∙ before p in
           let new : place_at (slice_get (set places s x) t) (slice_get lists t) p ≡ is p =
-            ap (λ z. place_at (slice_get (set places s x) z) (slice_get lists z) p) e ∙ ap (λ z. place_at z (slice_get lists s) p) (slice_get-set_same places s x lt) ∙ after p in
+          ap (λ z. place_at (slice_get (set places s x) z) (slice_get lists z) p) e ∙ ap (λ z. place_at z (slice_get lists s) p) (slice_get-set_same places s x lt) ∙ after p in
           omega (arith, counts p t, a, b, old, new, are.students p t known))
       | inr ne ↦
           (let none : one_if (eqb s t) ≡ 0 = ap one_if (ne_eqb s t (λ e. ne (sym e))) in
           let a : was p * one_if (eqb s t) ≡ 0 = ap (λ z. was p * z) none ∙ omega arith in
           let b : is p * one_if (eqb s t) ≡ 0 = ap (λ z. is p * z) none ∙ omega arith in
           let same : place_at (slice_get (set places s x) t) (slice_get lists t) p ≡ place_at (slice_get places t) (slice_get lists t) p =
-            ap (λ z. place_at z (slice_get lists t) p) (slice_get-set_other places s t x ne) in
+          ap (λ z. place_at z (slice_get lists t) p) (slice_get-set_other places s t x ne) in
           omega (arith, counts p t, a, b, same, are.students p t known))
     ];
     room = λ p l q e. omega (arith, are.room p l q e, room p);
@@ -109,7 +108,7 @@ module _ {G : Type 0} {o : Ops G} (f : Flow G) (formed : IsFormed o f) (k : Kept
         → IsKept (record f { places = P }) n
     kept_now was is before after counts = record {
       seated = subst (λ z. AreSeated f.lists.items z f.projects.items n.seated.items) (sym set_is)
-        (reseated f.lists.items f.places.items f.projects.items k.seated.items n.seated.items kept.seated s x was is lt long room before after counts);
+          (reseated f.lists.items f.places.items f.projects.items k.seated.items n.seated.items kept.seated s x was is lt long room before after counts);
       offered = subst (λ (z : Vec (Vec ℕ Global) Global). AreOffered f.supervisors.items f.projects.items z.items) (sym offered) kept.offered;
     }
 

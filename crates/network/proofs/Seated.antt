@@ -1,15 +1,15 @@
 -- The lists beside a flow name who is placed at a project and what a supervisor offers.
-use Rattle.std.proofs.Common.{◌≡◌, ℕ, ◌+◌, ◌*◌, ◌<◌, ◌≤◌, ◌⊎◌, inl, inr, List, [], ◌∷◌, ◌++◌, length, set, Option, Some, None, refl, sym, ◌∙◌, ap, subst, arith, slice_get, eq-eqb, ne_eqb, eqb, Bool, true, false, sum_by}
-use Rattle.std.specs.Prelude.{slice_index, nat_eq}
+use Rattle.std.proofs.Common.{◌≡◌, ℕ, ◌+◌, ◌<◌, ◌≤◌, inl, inr, List, length, Option, Some, None, refl, ◌∙◌, ap, arith, slice_get, eq-eqb, ne_eqb, sum_by}
+use Rattle.std.specs.Prelude.{nat_eq}
 use Rattle.std.specs.declared.vec.Vec.{Vec}
 use Rattle.std.specs.declared.alloc.Global.{Global}
 use Rattle.std.proofs.lemmas.Bool.{cases_eq}
 use Rattle.std.proofs.lemmas.Option.{slice_get_within, slice_get_cases}
 use Rattle.spa.specs.Laws.{Ops}
-use Rattle.network.specs.Arcs.{HasEntry, Holds, project_count, IsFormed, list_cost}
-use Rattle.network.specs.Push.{sum_to, one_if, entry_at, row_at, place_at, seat, seats, owner_at}
+use Rattle.network.specs.Arcs.{Holds, IsFormed, list_cost}
+use Rattle.network.specs.Push.{one_if, entry_at, row_at, place_at, seat, seats, owner_at}
 use Rattle.network.specs.Labels.{count_of}
-use Rattle.network.specs.Kept.{numbers_at, room_at, AreSeated, AreOffered, IsKept}
+use Rattle.network.specs.Kept.{numbers_at, IsKept}
 use Rattle.network.specs.Among.{Among}
 use Rattle.network.proofs.Sums.{sum_to_same}
 use Rattle.network.proofs.Listed.{found, stands, sum_within, length_within, length_is}

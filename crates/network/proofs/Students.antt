@@ -1,5 +1,5 @@
 -- the offers of a project to the students placed there, one student after another
-use Rattle.std.proofs.Common.{◌≡◌, ℕ, suc, ◌+◌, ◌<◌, ◌≤◌, ◌⊎◌, inl, inr, List, [], ◌∷◌, length, Some, slice_get, refl, arith, sym, ◌∙◌, ap, take, get_or, sum_by}
+use Rattle.std.proofs.Common.{◌≡◌, ℕ, ◌+◌, ◌≤◌, ◌⊎◌, inl, inr, List, [], ◌∷◌, length, Some, slice_get, refl, arith, sym, ◌∙◌, ap, take, get_or, sum_by}
 use Rattle.std.proofs.lemmas.Bool.{cases_eq}
 use Rattle.std.proofs.lemmas.Option.{slice_get_within, get_or_from_slice_get, same_Some}
 use Rattle.std.proofs.lemmas.List.Sums.{sum_by_more, sum_by-cons}
@@ -8,7 +8,7 @@ use Rattle.std.specs.declared.alloc.Global.{Global}
 use Rattle.spa.specs.Laws.{Ops, IsWorth}
 use Rattle.network.proofs.Group.{change_of, leave_of}
 use Rattle.network.specs.Search.{Relaxes}
-use Rattle.network.specs.Arcs.{HasEntry, Holds, OfStudent, StudentsAmong, EntryArc, LeaveArc, row_cost, list_cost}
+use Rattle.network.specs.Arcs.{HasEntry, Holds, OfStudent, StudentsAmong, EntryArc, LeaveArc, list_cost}
 use Rattle.network.specs.Among.{Among}
 use Rattle.network.specs.Push.{sum_to}
 use Rattle.network.proofs.Sums.{sum_to_front}

@@ -38,7 +38,13 @@ fn lower_flow<G: Worth>(flow: &mut Flow<G>, fresh: usize, labels: &Labels<G>, to
 }
 
 /// The student who was added last is placed along a best walk, or not at all where none is above zero.
-fn place_best<G: Worth>(flow: &mut Flow<G>, kept: &mut Kept, fresh: usize, labels: &mut Labels<G>, count: &mut u64)
+fn place_best<G: Worth>(
+    flow: &mut Flow<G>,
+    kept: &mut Kept,
+    fresh: usize,
+    labels: &mut Labels<G>,
+    count: &mut u64,
+)
     requires formed { IsFormed G.ops flow.old }
     requires fair { IsFairBut G.ops flow.old fresh }
     requires counted { IsCounted flow.old (sink_of flow.old) }
@@ -83,7 +89,13 @@ fn gains<G: Worth>(flow: &Flow<G>, student: usize, count: &mut u64) -> bool
 }
 
 /// The student who was added last finds a place, or none; where no entry is worth more than it costs, there is no search.
-pub fn place_new<G: Worth>(flow: &mut Flow<G>, kept: &mut Kept, fresh: usize, labels: &mut Labels<G>, count: &mut u64)
+pub fn place_new<G: Worth>(
+    flow: &mut Flow<G>,
+    kept: &mut Kept,
+    fresh: usize,
+    labels: &mut Labels<G>,
+    count: &mut u64,
+)
     requires formed { IsFormed G.ops flow.old }
     requires fair { IsFairBut G.ops flow.old fresh }
     requires counted { IsCounted flow.old (sink_of flow.old) }

@@ -68,7 +68,12 @@ fn has_place<G: Worth>(flow: &Flow<G>, student: usize) -> bool
 }
 
 /// The student is added and finds a place, or none.
-pub fn enter<G: Worth>(flow: &mut Flow<G>, kept: &mut Kept, row: Vec<(usize, G)>, labels: &mut Labels<G>) -> Admitted
+pub fn enter<G: Worth>(
+    flow: &mut Flow<G>,
+    kept: &mut Kept,
+    row: Vec<(usize, G)>,
+    labels: &mut Labels<G>,
+) -> Admitted
     requires pushed { IsPushed G.ops flow.old }
     requires low { IsLow G.ops flow.old }
     requires few { length flow.old.lists.items < 500 }

@@ -72,7 +72,11 @@ pub fn empty_seats(alloc: Global, projects: &[(usize, u32)]) -> Result<Vec<Vec<u
 }
 
 /// The projects of one supervisor.
-fn projects_of(alloc: Global, projects: &[(usize, u32)], supervisor: usize) -> Result<Vec<usize>, AllocError>
+fn projects_of(
+    alloc: Global,
+    projects: &[(usize, u32)],
+    supervisor: usize,
+) -> Result<Vec<usize>, AllocError>
     ensures { IfOk result (λ v. (p : ℕ) → count_of v.items p ≡ owner_at (slice_get projects.now p) supervisor) }
 {
     let mut list = Vec::new(alloc);
@@ -85,7 +89,11 @@ fn projects_of(alloc: Global, projects: &[(usize, u32)], supervisor: usize) -> R
 }
 
 /// The projects of each supervisor.
-pub fn all_offered(alloc: Global, supervisors: &[u32], projects: &[(usize, u32)]) -> Result<Vec<Vec<usize>>, AllocError>
+pub fn all_offered(
+    alloc: Global,
+    supervisors: &[u32],
+    projects: &[(usize, u32)],
+) -> Result<Vec<Vec<usize>>, AllocError>
     ensures { IfOk result (λ v. AreOffered supervisors.now projects.now v.items) }
 {
     let mut lists = Vec::with_capacity(alloc, supervisors.len())?;

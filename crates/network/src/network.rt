@@ -187,7 +187,14 @@ impl<G: Worth> Network<G> {
         ensures admitted { IfOk result (λ a. IsAdmission G.ops self.old self.new list.now a.placed a.relaxations) }
         ensures memory { OnErr result (self.new ≡ self.old) }
     {
-        admit_to(&mut self.flow, &mut self.kept, &mut self.labels, &mut self.steps, self.alloc, list)
+        admit_to(
+            &mut self.flow,
+            &mut self.kept,
+            &mut self.labels,
+            &mut self.steps,
+            self.alloc,
+            list,
+        )
     }
 
     /// The law that the places are a matching of the lists admitted so far, and that there are prices for it.

@@ -205,7 +205,9 @@ fn step<G: Worth>(
 {
     match origin_of(labels, hole) {
         Origin::Unseen => unreachable!(),
-        Origin::Entry(student, place) => push_entry(flow, kept, labels, fresh, top, hole, student, place),
+        Origin::Entry(student, place) => push_entry(
+            flow, kept, labels, fresh, top, hole, student, place,
+        ),
         Origin::Leave(student) => push_leave(flow, kept, labels, fresh, top, hole, student),
         Origin::Offer(project) => {
             push_offer(flow, labels, fresh, top, hole, project);
@@ -223,8 +225,14 @@ fn step<G: Worth>(
 }
 
 /// The push along the walk that the marks show.
-pub fn push<G: Worth>(flow: &mut Flow<G>,
-    kept: &mut Kept, labels: &Labels<G>, fresh: usize, top: G, from: usize)
+pub fn push<G: Worth>(
+    flow: &mut Flow<G>,
+    kept: &mut Kept,
+    labels: &Labels<G>,
+    fresh: usize,
+    top: G,
+    from: usize,
+)
     requires kept { IsKept flow.old kept.old }
     requires pushing { IsPushing G.ops flow.old labels.now.marks.items fresh top from }
     ensures kept { IsKept flow.new kept.new }

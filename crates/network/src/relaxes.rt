@@ -111,7 +111,14 @@ fn held<G: Worth>(flow: &Flow<G>, student: usize, project: usize) -> Option<G>
 }
 
 /// The offers of one student, where placed at the project.
-fn relax_student<G: Worth>(flow: &Flow<G>, project: usize, student: usize, label: G, labels: &mut Labels<G>, count: &mut u64)
+fn relax_student<G: Worth>(
+    flow: &Flow<G>,
+    project: usize,
+    student: usize,
+    label: G,
+    labels: &mut Labels<G>,
+    count: &mut u64,
+)
     requires formed { IsFormed G.ops flow.now }
     requires kept { AreLabels G.ops labels.old }
     requires marks { length labels.old.marks.items ≡ length flow.now.potentials.items }
@@ -130,7 +137,14 @@ fn relax_student<G: Worth>(flow: &Flow<G>, project: usize, student: usize, label
 }
 
 /// The offers of all students who are placed at the project.
-fn relax_students<G: Worth>(flow: &Flow<G>, kept: &Kept, project: usize, label: G, labels: &mut Labels<G>, count: &mut u64)
+fn relax_students<G: Worth>(
+    flow: &Flow<G>,
+    kept: &Kept,
+    project: usize,
+    label: G,
+    labels: &mut Labels<G>,
+    count: &mut u64,
+)
     requires formed { IsFormed G.ops flow.now }
     requires lists { IsKept flow.now kept.now }
     requires kept { AreLabels G.ops labels.old }
@@ -218,7 +232,14 @@ pub fn relax_project<G: Worth>(
 }
 
 /// A supervisor's offers to all of the supervisor's projects.
-fn relax_swaps<G: Worth>(flow: &Flow<G>, kept: &Kept, supervisor: usize, label: G, labels: &mut Labels<G>, count: &mut u64)
+fn relax_swaps<G: Worth>(
+    flow: &Flow<G>,
+    kept: &Kept,
+    supervisor: usize,
+    label: G,
+    labels: &mut Labels<G>,
+    count: &mut u64,
+)
     requires formed { IsFormed G.ops flow.now }
     requires lists { IsKept flow.now kept.now }
     requires kept { AreLabels G.ops labels.old }

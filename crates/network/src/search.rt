@@ -138,8 +138,13 @@ fn begin<G: Worth>(flow: &Flow<G>, student: usize, labels: &mut Labels<G>, count
 }
 
 /// A search from a student to the sink.
-pub fn search<G: Worth>(flow: &Flow<G>,
-    kept: &Kept, student: usize, labels: &mut Labels<G>, count: &mut u64)
+pub fn search<G: Worth>(
+    flow: &Flow<G>,
+    kept: &Kept,
+    student: usize,
+    labels: &mut Labels<G>,
+    count: &mut u64,
+)
     requires lists { IsKept flow.now kept.now }
     requires kept { AreLabels G.ops labels.old }
     requires formed { IsFormed G.ops flow.now }

@@ -175,15 +175,15 @@ fn admissions_are_counted(rt: HostRuntime) -> Result<(), Fail> {
 // The supervisor's quota, those of P and Q, and the lists of A and B; then by hand how many are placed, and the sum of
 // their ranks.
 #[rattlefmt::skip]
-const PAIRS: [(u32, u32, u32, [usize; 2], [usize; 2], usize, usize); 8] = [
-    (2, 1, 1, [0, 1], [1, 0], 2, 2),
-    (2, 1, 1, [0, 1], [0, 1], 2, 3),
-    (2, 2, 1, [0, 1], [0, 1], 2, 2),
-    (2, 1, 0, [0, 1], [0, 1], 1, 1),
-    (2, 0, 1, [0, 1], [0, 1], 1, 2),
-    (1, 1, 1, [0, 1], [1, 0], 1, 1),
-    (1, 2, 2, [1, 0], [1, 0], 1, 1),
-    (0, 1, 1, [0, 1], [1, 0], 0, 0),
+const PAIRS: [(u32, u32, u32, (usize, usize), (usize, usize), usize, usize); 8] = [
+    (2, 1, 1, (0, 1), (1, 0), 2, 2),
+    (2, 1, 1, (0, 1), (0, 1), 2, 3),
+    (2, 2, 1, (0, 1), (0, 1), 2, 2),
+    (2, 1, 0, (0, 1), (0, 1), 1, 1),
+    (2, 0, 1, (0, 1), (0, 1), 1, 2),
+    (1, 1, 1, (0, 1), (1, 0), 1, 1),
+    (1, 2, 2, (1, 0), (1, 0), 1, 1),
+    (0, 1, 1, (0, 1), (1, 0), 0, 0),
 ];
 
 #[test]
@@ -191,8 +191,8 @@ fn quotas_are_kept(rt: HostRuntime) -> Result<(), Fail> {
     let alloc = rt.alloc();
     for (quota, p, q, a, b, placed, ranks) in PAIRS {
         let mut trial = Trial::start(&rt, alloc, &[quota], &[(0, p), (0, q)])?;
-        let first = trial.admit(&rt, alloc, &a)?;
-        let second = trial.admit(&rt, alloc, &b)?;
+        let first = trial.admit(&rt, alloc, &[a.0, a.1])?;
+        let second = trial.admit(&rt, alloc, &[b.0, b.1])?;
         let rank_a = trial.rank_of(&rt, 0);
         let rank_b = trial.rank_of(&rt, 1);
         assert_eq!(rt; first.placed, quota > 0);

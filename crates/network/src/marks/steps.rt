@@ -56,7 +56,13 @@ fn compare<G: Worth>(labels: &mut Labels<G>, node: usize, label: G, origin: Orig
 }
 
 /// One relaxation: a node's label is compared with one across an arc.
-pub fn relax<G: Worth>(labels: &mut Labels<G>, node: usize, label: G, origin: Origin, count: &mut u64)
+pub fn relax<G: Worth>(
+    labels: &mut Labels<G>,
+    node: usize,
+    label: G,
+    origin: Origin,
+    count: &mut u64,
+)
     requires kept { AreLabels G.ops labels.old }
     requires node { node < length labels.old.marks.items }
     requires origin { is_seen origin ≡ true }

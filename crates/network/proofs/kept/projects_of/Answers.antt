@@ -1,4 +1,4 @@
-use Rattle.std.proofs.Common.{rules, arith, ◌≡◌, ℕ, ◌+◌, ◌<◌, ◌≤◌, ◌++◌, ◌∷◌, [], inl, inr, get_or, length, Some, slice_get, sym, ◌∙◌, ap, eq-eqb, ne_eqb, eqb}
+use Rattle.std.proofs.Common.{rules, arith, ◌≡◌, ℕ, ◌+◌, inl, inr, get_or, length, Some, slice_get, sym, ◌∙◌, ap, eq-eqb, ne_eqb, eqb}
 use Rattle.std.proofs.lemmas.Bool.{cases_eq, cases_lt}
 use Rattle.std.proofs.lemmas.Option.{slice_get-get_or, slice_get_past}
 use Rattle.network.specs.Labels.{count_of}
@@ -16,7 +16,7 @@ loop-i-preserved c =
     elim c.if-projects-i.branch [
       | then-projects-i+in_ok-push w ↦
           (let now : (n : ℕ) → count_of c.if-projects-i.list.items n ≡ count_of c.loop-i.list.items n + one_if (eqb i n) = λ n.
-            ap (λ z. count_of z.items n) w.list-is ∙ ap (λ z. count_of z n) w.in_ok-push.ensures.items ∙ count_more c.loop-i.list.items i n in
+          ap (λ z. count_of z.items n) w.list-is ∙ ap (λ z. count_of z n) w.in_ok-push.ensures.items ∙ count_more c.loop-i.list.items i n in
           let yes : one_if (eqb (get_or xs i (0, 0)).0 c.args.supervisor) ≡ 1 = ap one_if (eq-eqb _ _ w.if-projects-i.true) in
           record {
             below = λ n lt. elim (cases_eq n i) [
@@ -31,9 +31,9 @@ loop-i-preserved c =
                   omega (arith, now n, none, before))
             ];
             past = λ n le.
-              let none : one_if (eqb i n) ≡ 0 = ap one_if (ne_eqb i n (λ e. omega (arith, e, le))) in
-              let later = c.loop-i.invariant.past n (omega (arith, le)) in
-              omega (arith, now n, none, later);
+                let none : one_if (eqb i n) ≡ 0 = ap one_if (ne_eqb i n (λ e. omega (arith, e, le))) in
+                let later = c.loop-i.invariant.past n (omega (arith, le)) in
+                omega (arith, now n, none, later);
           })
       | else-projects-i w ↦
           (let now : (n : ℕ) → count_of c.if-projects-i.list.items n ≡ count_of c.loop-i.list.items n = λ n. ap (λ z. count_of z.items n) w.list-is in

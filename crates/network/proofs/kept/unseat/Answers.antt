@@ -1,4 +1,4 @@
-use Rattle.std.proofs.Common.{rules, arith, ◌≡◌, ◌≤◌, get_or, length, Some, slice_get, sym, ap, refl}
+use Rattle.std.proofs.Common.{◌≡◌, length, Some, slice_get, refl}
 use Rattle.std.proofs.lemmas.Option.{slice_get_read}
 use Rattle.network.proofs.Seats.{all_shorter}
 use Rattle.network.proofs.kept.unseat.Goals as goal

@@ -1,4 +1,3 @@
-use Rattle.network.specs.Kept.{AreOffered}
 use Rattle.network.proofs.Reseated.{none_seated}
 use Rattle.network.proofs.network.start_kept.Goals as goal
 
