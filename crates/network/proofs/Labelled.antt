@@ -1,5 +1,5 @@
 -- The lists of open and settled nodes stay right beside the marks.
-use Rattle.std.proofs.Common.{◌≡◌, ℕ, ◌+◌, ◌<◌, ◌≤◌, ◌⊎◌, ◌&&◌, not, inl, inr, List, [], length, set, Bool, true, false, cond, Option, Some, None, refl, sym, ◌∙◌, ap, arith, slice_get, get_or, eq-eqb, ne_eqb, eqb, get_or-set_same, get_or-set_other, length-set}
+use Rattle.std.proofs.Common.{◌≡◌, ℕ, ◌+◌, ◌<◌, ◌≤◌, ◌&&◌, not, inl, inr, List, [], length, set, Bool, true, false, cond, Some, None, refl, sym, ◌∙◌, ap, arith, slice_get, eq-eqb, ne_eqb, eqb, get_or-set_same, get_or-set_other, length-set}
 use Rattle.std.proofs.lemmas.Bool.{cases_eq, cases_Bool, cases_lt}
 use Rattle.std.proofs.lemmas.List.{get_or_past}
 use Rattle.std.specs.Vec.{vec_capacity}
@@ -11,13 +11,13 @@ use Rattle.network.specs.Marks.{is_seen, is_settled, is_open_mark, blank, mark_a
 use Rattle.network.specs.Push.{one_if}
 use Rattle.network.specs.Labels.{count_of, AreLabels, AreBlank}
 use Rattle.network.proofs.Settle.{open_rank}
-use Rattle.network.proofs.Listed.{found, stands, length_within, length_below}
+use Rattle.network.proofs.Listed.{found, stands, length_below}
 use Rattle.network.specs.declared.marks.Labels.{Labels}
 use Rattle.network.specs.declared.marks.Origin.{Origin}
 use Rattle.network.specs.declared.marks.Mark.{Mark}
 
 -- 1 at most
-one_most : (b : Bool) → one_if b ≤ 1
+pub one_most : (b : Bool) → one_if b ≤ 1
 one_most true = omega arith
 one_most false = omega arith
 
@@ -26,11 +26,12 @@ one_true : (b : Bool) → 0 < one_if b → b ≡ true
 one_true true h = refl
 one_true false h = absurd (omega (arith, h))
 
--- no, twice
+-- not yes
 pub not_true : (b : Bool) → not b ≡ true → b ≡ false
 not_true true h = cc
 not_true false h = refl
 
+-- not no
 pub not_false : (b : Bool) → not b ≡ false → b ≡ true
 not_false true h = refl
 not_false false h = cc

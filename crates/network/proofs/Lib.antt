@@ -14,6 +14,9 @@ pub mod Costs
 pub mod Listed
 pub mod Labelled
 pub mod Transfer
+pub mod Seated
+pub mod Seats
+pub mod Reseated
 pub mod Shift
 pub mod Ends
 pub mod Refused

@@ -1,12 +1,12 @@
 -- Lists in which each number stands as often as it should.
-use Rattle.std.proofs.Common.{◌≡◌, ℕ, zero, suc, ◌+◌, ◌*◌, ◌<◌, ◌≤◌, ◌==◌, inl, inr, true, false, Bool, cond, List, [], ◌∷◌, ◌++◌, length, get_or, Option, Some, None, refl, sym, ap, ◌∙◌, arith, slice_get, eq-eqb, ne_eqb, eqb, sum_by}
+use Rattle.std.proofs.Common.{◌≡◌, ℕ, zero, suc, ◌+◌, ◌*◌, ◌<◌, ◌≤◌, ◌==◌, inl, inr, true, false, Bool, cond, List, [], ◌∷◌, ◌++◌, length, get_or, Some, refl, sym, ap, ◌∙◌, arith, slice_get, eq-eqb, ne_eqb, eqb, sum_by}
 use Rattle.std.specs.List.{swap_remove}
 use Rattle.std.proofs.lemmas.Bool.{cases_eq}
 use Rattle.std.proofs.lemmas.List.Sums.{sum_by-cons, sum_by-append, sum_by-swap_remove}
 use Rattle.std.proofs.lemmas.Option.{same_Some}
 use Rattle.network.specs.Push.{sum_to, one_if}
 use Rattle.network.specs.Labels.{count_of}
-use Rattle.network.proofs.Sums.{sum_to_change, sum_to_zero, sum_to_most, sum_to_ones}
+use Rattle.network.proofs.Sums.{sum_to_same, sum_to_change, sum_to_zero, sum_to_most, sum_to_ones}
 use Rattle.network.proofs.Costs.{times_more}
 
 -- 1 for yes, in two ways
@@ -78,6 +78,13 @@ pub length_within : (m : ℕ) (xs : List ℕ) → ((k n : ℕ) → slice_get xs 
 length_within m xs h once =
     let s = sum_within m (λ n. 1) xs h once in
     omega (arith, s, ones_long xs, sum_to_ones m)
+
+-- as long as its counts together
+pub length_is : (m : ℕ) (xs : List ℕ) → ((k n : ℕ) → slice_get xs k ≡ Some n → n < m) → length xs ≡ sum_to m (count_of xs)
+length_is m xs h =
+    let s = sum_over m (λ n. 1) xs h in
+    let t = sum_to_same m (λ n. count_of xs n * 1) (count_of xs) (λ n lt. omega arith) in
+    omega (arith, s, t, ones_long xs)
 
 -- and shorter where a number is missing
 pub length_below : (m b : ℕ) (xs : List ℕ) → ((k n : ℕ) → slice_get xs k ≡ Some n → n < m) → ((n : ℕ) → count_of xs n ≤ 1) → b < m → count_of xs b ≡ 0 → length xs < m

@@ -1,11 +1,12 @@
 -- the offers out of a project and out of a supervisor
 use Rattle.std.proofs.Common.{◌≡◌, ℕ, ◌+◌, ◌<◌, ◌⊎◌, inl, inr, List, length, Some, slice_get, refl, arith, sym, ◌∙◌, ap}
 use Rattle.std.specs.Prelude.{slice_index}
-use Rattle.std.proofs.lemmas.Bool.{cases_eq}
 use Rattle.std.proofs.lemmas.Option.{slice_get_within, some_pair_parts}
 use Rattle.spa.specs.Laws.{Ops, IsWorth}
 use Rattle.network.specs.Search.{Relaxes, OneOffer, OffersOf}
-use Rattle.network.specs.Arcs.{Holds, StudentsBelow, ProjectsBelow, OfferArc, SwapArc, RoomArc, Arc, sink_of, project_count, IsFormed}
+use Rattle.network.specs.Arcs.{Holds, StudentsAmong, ProjectsAmong, OfferArc, SwapArc, RoomArc, Arc, sink_of, project_count, IsFormed}
+use Rattle.network.specs.Among.{Among}
+use Rattle.network.proofs.Students.{among_more, among_last, among_either}
 use Rattle.network.proofs.Relax.{relaxes_none, relaxes_then, relaxes_as}
 use Rattle.network.specs.declared.flow.Flow.{Flow}
 use Rattle.network.specs.declared.marks.Origin.{Origin}
@@ -13,11 +14,7 @@ use Rattle.network.specs.declared.marks.Origin.TheVariants.{Unseen, Entry, Leave
 use Rattle.network.specs.declared.marks.Mark.{Mark}
 
 module _ {G : Type 0} {o : Ops G} (laws : IsWorth o) (f : Flow G) (formed : IsFormed o f) where
-  -- who has a place is known
-  holder_within : {s p : ℕ} → Holds f s p → s < length f.lists.items
-  holder_within {s} h = rw formed.students (slice_get_within f.places.items s _ h.placed)
-
-  module _ (a : ℕ) (label : G) (within : a < project_count f) where
+  module _ (a : ℕ) (label : G) (within : a < project_count f) (xs : List ℕ) (all : (s : ℕ) → Holds f s a → Among xs (length xs) s) where
     -- a project is no supervisor
     not_swap : {l : ℕ} {c : G} {b : ℕ} → SwapArc o f a l c b → ⊥
     not_swap d = omega (arith, d.from_supervisor, within)
@@ -28,9 +25,9 @@ module _ {G : Type 0} {o : Ops G} (laws : IsWorth o) (f : Flow G) (formed : IsFo
 
     -- a full project offers through its students alone
     pub project_full : (l m : List (Mark G)) → ((p : ℕ) (c : G) (b : ℕ) → OfferArc o f a p c b → ⊥)
-        → Relaxes o (StudentsBelow o f a label (length f.lists.items)) l m → Relaxes o (OffersOf o (Arc o f) a label) l m
-    project_full l m full = relaxes_as laws (StudentsBelow o f a label (length f.lists.items)) (OffersOf o (Arc o f) a label) l m to back where
-      to : (w : Origin) (x : G) (b : ℕ) → StudentsBelow o f a label (length f.lists.items) w x b → OffersOf o (Arc o f) a label w x b
+        → Relaxes o (StudentsAmong o f a label xs (length xs)) l m → Relaxes o (OffersOf o (Arc o f) a label) l m
+    project_full l m full = relaxes_as laws (StudentsAmong o f a label xs (length xs)) (OffersOf o (Arc o f) a label) l m to back where
+      to : (w : Origin) (x : G) (b : ℕ) → StudentsAmong o f a label xs (length xs) w x b → OffersOf o (Arc o f) a label w x b
       to Unseen x b h = absurd h
       to (Entry s k) x b h = h.1
       to (Leave s) x b h = h.1
@@ -38,20 +35,20 @@ module _ {G : Type 0} {o : Ops G} (laws : IsWorth o) (f : Flow G) (formed : IsFo
       to (Swap q) x b h = absurd h
       to (Room q) x b h = absurd h
 
-      back : (w : Origin) (x : G) (b : ℕ) → OffersOf o (Arc o f) a label w x b → StudentsBelow o f a label (length f.lists.items) w x b
+      back : (w : Origin) (x : G) (b : ℕ) → OffersOf o (Arc o f) a label w x b → StudentsAmong o f a label xs (length xs) w x b
       back Unseen x b h = h.1
-      back (Entry s k) x b h = (holder_within h.1.holds, h)
-      back (Leave s) x b h = (holder_within h.1.holds, h)
+      back (Entry s k) x b h = (all _ h.1.holds, h)
+      back (Leave s) x b h = (all _ h.1.holds, h)
       back (Offer p) x b h = full p h.0 b h.1
       back (Swap q) x b h = not_swap h.1
       back (Room q) x b h = not_room h.1
 
     -- one with room offers to its supervisor too
     pub project_room : (l m n : List (Mark G)) (s q : ℕ) → slice_get f.projects.items a ≡ Some (s, q) → slice_index f.filled.items a < q
-        → Relaxes o (StudentsBelow o f a label (length f.lists.items)) l m → Relaxes o (OneOffer (Offer a) label (project_count f + s)) m n → Relaxes o (OffersOf o (Arc o f) a label) l n
+        → Relaxes o (StudentsAmong o f a label xs (length xs)) l m → Relaxes o (OneOffer (Offer a) label (project_count f + s)) m n → Relaxes o (OffersOf o (Arc o f) a label) l n
     project_room l m n s q e lt r t =
-        relaxes_as laws (λ w x b. StudentsBelow o f a label (length f.lists.items) w x b ⊎ OneOffer (Offer a) label (project_count f + s) w x b) (OffersOf o (Arc o f) a label) l n to back (relaxes_then laws _ _ l m n r t) where
-          to : (w : Origin) (x : G) (b : ℕ) → StudentsBelow o f a label (length f.lists.items) w x b ⊎ OneOffer (Offer a) label (project_count f + s) w x b → OffersOf o (Arc o f) a label w x b
+        relaxes_as laws (λ w x b. StudentsAmong o f a label xs (length xs) w x b ⊎ OneOffer (Offer a) label (project_count f + s) w x b) (OffersOf o (Arc o f) a label) l n to back (relaxes_then laws _ _ l m n r t) where
+          to : (w : Origin) (x : G) (b : ℕ) → StudentsAmong o f a label xs (length xs) w x b ⊎ OneOffer (Offer a) label (project_count f + s) w x b → OffersOf o (Arc o f) a label w x b
           to Unseen x b = elim [ inl h ↦ absurd h | inr h ↦ let z = h.0 in absurd (cc) ]
           to (Entry i k) x b = elim [ inl h ↦ h.1 | inr h ↦ let z = h.0 in absurd (cc) ]
           to (Leave i) x b = elim [ inl h ↦ h.1 | inr h ↦ let z = h.0 in absurd (cc) ]
@@ -64,10 +61,10 @@ module _ {G : Type 0} {o : Ops G} (laws : IsWorth o) (f : Flow G) (formed : IsFo
           to (Swap p) x b = elim [ inl h ↦ absurd h | inr h ↦ let z = h.0 in absurd (cc) ]
           to (Room p) x b = elim [ inl h ↦ absurd h | inr h ↦ let z = h.0 in absurd (cc) ]
 
-          back : (w : Origin) (x : G) (b : ℕ) → OffersOf o (Arc o f) a label w x b → StudentsBelow o f a label (length f.lists.items) w x b ⊎ OneOffer (Offer a) label (project_count f + s) w x b
+          back : (w : Origin) (x : G) (b : ℕ) → OffersOf o (Arc o f) a label w x b → StudentsAmong o f a label xs (length xs) w x b ⊎ OneOffer (Offer a) label (project_count f + s) w x b
           back Unseen x b h = inl h.1
-          back (Entry i k) x b h = inl (holder_within h.1.holds, h)
-          back (Leave i) x b h = inl (holder_within h.1.holds, h)
+          back (Entry i k) x b h = inl (all _ h.1.holds, h)
+          back (Leave i) x b h = inl (all _ h.1.holds, h)
           back (Offer p) x b h = let d = h.1 in
               let pr : slice_get f.projects.items a ≡ Some (d.supervisor, d.quota) = rw d.from_project d.project in
               let same : s ≡ d.supervisor = (some_pair_parts _ _ _ _ (sym e ∙ pr)).0 in
@@ -75,10 +72,10 @@ module _ {G : Type 0} {o : Ops G} (laws : IsWorth o) (f : Flow G) (formed : IsFo
           back (Swap p) x b h = absurd (not_swap h.1)
           back (Room p) x b h = absurd (not_room h.1)
 
-  module _ (l : ℕ) (label : G) where
-    -- what a supervisor offers to the first projects
+  module _ (l : ℕ) (label : G) (xs : List ℕ) where
+    -- what a supervisor offers to the first projects of the list
     abbrev pub Swaps : ℕ → Origin → G → ℕ → Type 0
-    Swaps i w x b = ProjectsBelow o f l label i w x b
+    Swaps i w x b = ProjectsAmong o f l label xs i w x b
 
     -- no project is offered nothing
     pub swaps_none : (m : List (Mark G)) → Relaxes o (Swaps 0) m m
@@ -88,123 +85,106 @@ module _ {G : Type 0} {o : Ops G} (laws : IsWorth o) (f : Flow G) (formed : IsFo
       back (Entry s k) x b h = h
       back (Leave s) x b h = h
       back (Offer p) x b h = h
-      back (Swap q) x b h = omega (arith, h.0)
-      back (Room q) x b h = h
-
-    -- a project of another supervisor
-    pub swaps_skip : (m n : List (Mark G)) (i : ℕ) → ((q : ℕ) → slice_get f.projects.items i ≡ Some (l, q) → ⊥) → Relaxes o (Swaps i) m n → Relaxes o (Swaps (i + 1)) m n
-    swaps_skip m n i other = relaxes_as laws (Swaps i) (Swaps (i + 1)) m n to back where
-      to : (w : Origin) (x : G) (b : ℕ) → Swaps i w x b → Swaps (i + 1) w x b
-      to Unseen x b h = h
-      to (Entry s k) x b h = h
-      to (Leave s) x b h = h
-      to (Offer p) x b h = h
-      to (Swap q) x b h = (omega (arith, h.0), h.1, h.2, h.3)
-      to (Room q) x b h = h
-
-      back : (w : Origin) (x : G) (b : ℕ) → Swaps (i + 1) w x b → Swaps i w x b
-      back Unseen x b h = h
-      back (Entry s k) x b h = h
-      back (Leave s) x b h = h
-      back (Offer p) x b h = h
-      back (Swap q) x b h = (elim (cases_eq b i) [ inl e ↦ absurd (other h.2.0 (rw e at h.2.1)) | inr e ↦ omega (arith, h.0, e) ], h.1, h.2, h.3)
+      back (Swap q) x b h = omega (arith, h.0.1)
       back (Room q) x b h = h
 
     -- one project more
-    pub swaps_more : (k m n : List (Mark G)) (i quota : ℕ) → slice_get f.projects.items i ≡ Some (l, quota) → Relaxes o (Swaps i) k m → Relaxes o (OneOffer (Swap l) label i) m n → Relaxes o (Swaps (i + 1)) k n
-    swaps_more k m n i quota e r t =
-        relaxes_as laws (λ w x b. Swaps i w x b ⊎ OneOffer (Swap l) label i w x b) (Swaps (i + 1)) k n to back (relaxes_then laws _ _ k m n r t) where
-          to : (w : Origin) (x : G) (b : ℕ) → Swaps i w x b ⊎ OneOffer (Swap l) label i w x b → Swaps (i + 1) w x b
+    pub swaps_more : (k m n : List (Mark G)) (i p quota : ℕ) → slice_get xs i ≡ Some p → slice_get f.projects.items p ≡ Some (l, quota)
+        → Relaxes o (Swaps i) k m → Relaxes o (OneOffer (Swap l) label p) m n → Relaxes o (Swaps (i + 1)) k n
+    swaps_more k m n i p quota at e r t =
+        relaxes_as laws (λ w x b. Swaps i w x b ⊎ OneOffer (Swap l) label p w x b) (Swaps (i + 1)) k n to back (relaxes_then laws _ _ k m n r t) where
+          to : (w : Origin) (x : G) (b : ℕ) → Swaps i w x b ⊎ OneOffer (Swap l) label p w x b → Swaps (i + 1) w x b
           to Unseen x b = elim [ inl h ↦ h | inr h ↦ let z = h.0 in cc ]
           to (Entry s q) x b = elim [ inl h ↦ h | inr h ↦ let z = h.0 in cc ]
           to (Leave s) x b = elim [ inl h ↦ h | inr h ↦ let z = h.0 in cc ]
           to (Offer s) x b = elim [ inl h ↦ h | inr h ↦ let z = h.0 in cc ]
           to (Swap q) x b = elim [
-            | inl h ↦ (omega (arith, h.0), h.1, h.2, h.3)
-            | inr h ↦ (omega (arith, h.2), (let z = h.0 in cc), (quota, rw h.2 e), h.1)
+            | inl h ↦ (among_more xs i b h.0, h.1, h.2, h.3)
+            | inr h ↦ (rw h.2 (among_last xs i p at), (let z = h.0 in cc), (quota, rw h.2 e), h.1)
           ]
           to (Room s) x b = elim [ inl h ↦ h | inr h ↦ let z = h.0 in cc ]
 
-          back : (w : Origin) (x : G) (b : ℕ) → Swaps (i + 1) w x b → Swaps i w x b ⊎ OneOffer (Swap l) label i w x b
+          back : (w : Origin) (x : G) (b : ℕ) → Swaps (i + 1) w x b → Swaps i w x b ⊎ OneOffer (Swap l) label p w x b
           back Unseen x b h = inl h
           back (Entry s q) x b h = inl h
           back (Leave s) x b h = inl h
           back (Offer s) x b h = inl h
-          back (Swap q) x b h = elim (cases_eq b i) [
-            | inl g ↦ inr (ap Swap h.1, h.3, g)
-            | inr g ↦ inl (omega (arith, h.0, g), h.1, h.2, h.3)
+          back (Swap q) x b h = elim (among_either xs i p b at h.0) [
+            | inl g ↦ inl (g, h.1, h.2, h.3)
+            | inr g ↦ inr (ap Swap h.1, h.3, g)
           ]
           back (Room s) x b h = inl h
 
-    -- the supervisor's node
-    abbrev node : ℕ
-    node = project_count f + l
+    module _ (every : (p q : ℕ) → slice_get f.projects.items p ≡ Some (l, q) → Among xs (length xs) p) where
+      -- the supervisor's node
+      abbrev node : ℕ
+      node = project_count f + l
 
-    -- nobody is placed at a supervisor
-    not_held : {s : ℕ} → Holds f s node → ⊥
-    not_held h = omega (arith, (formed.entries _ _ _ _ h.entry).0)
+      -- nobody is placed at a supervisor
+      not_held : {s : ℕ} → Holds f s node → ⊥
+      not_held h = omega (arith, (formed.entries _ _ _ _ h.entry).0)
 
-    -- no project's arc begins there
-    not_offered : {p : ℕ} {c : G} {b : ℕ} → OfferArc o f node p c b → ⊥
-    not_offered d = omega (arith, d.from_project, slice_get_within f.projects.items _ _ d.project)
+      -- no project's arc begins there
+      not_offered : {p : ℕ} {c : G} {b : ℕ} → OfferArc o f node p c b → ⊥
+      not_offered d = omega (arith, d.from_project, slice_get_within f.projects.items _ _ d.project)
 
-    -- two nodes of supervisors
-    same_supervisor : {q : ℕ} → node ≡ project_count f + q → l ≡ q
-    same_supervisor e = omega (arith, e)
+      -- two nodes of supervisors
+      same_supervisor : {q : ℕ} → node ≡ project_count f + q → l ≡ q
+      same_supervisor e = omega (arith, e)
 
-    -- a supervisor without room
-    pub supervisor_full : (m n : List (Mark G)) → ((c : G) (b : ℕ) → RoomArc o f node l c b → ⊥)
-        → Relaxes o (Swaps (project_count f)) m n → Relaxes o (OffersOf o (Arc o f) node label) m n
-    supervisor_full m n full = relaxes_as laws (Swaps (project_count f)) (OffersOf o (Arc o f) node label) m n to back where
-      to : (w : Origin) (x : G) (b : ℕ) → Swaps (project_count f) w x b → OffersOf o (Arc o f) node label w x b
-      to Unseen x b h = absurd h
-      to (Entry s k) x b h = absurd h
-      to (Leave s) x b h = absurd h
-      to (Offer p) x b h = absurd h
-      to (Swap q) x b h = (o.zero, record { quota = h.2.0; from_supervisor = rw h.1 refl; project = rw h.1 h.2.1; is = refl }, h.3 ∙ sym (laws.unit label))
-      to (Room q) x b h = absurd h
+      -- a supervisor without room
+      pub supervisor_full : (m n : List (Mark G)) → ((c : G) (b : ℕ) → RoomArc o f node l c b → ⊥)
+          → Relaxes o (Swaps (length xs)) m n → Relaxes o (OffersOf o (Arc o f) node label) m n
+      supervisor_full m n full = relaxes_as laws (Swaps (length xs)) (OffersOf o (Arc o f) node label) m n to back where
+        to : (w : Origin) (x : G) (b : ℕ) → Swaps (length xs) w x b → OffersOf o (Arc o f) node label w x b
+        to Unseen x b h = absurd h
+        to (Entry s k) x b h = absurd h
+        to (Leave s) x b h = absurd h
+        to (Offer p) x b h = absurd h
+        to (Swap q) x b h = (o.zero, record { quota = h.2.0; from_supervisor = rw h.1 refl; project = rw h.1 h.2.1; is = refl }, h.3 ∙ sym (laws.unit label))
+        to (Room q) x b h = absurd h
 
-      back : (w : Origin) (x : G) (b : ℕ) → OffersOf o (Arc o f) node label w x b → Swaps (project_count f) w x b
-      back Unseen x b h = h.1
-      back (Entry s k) x b h = not_held h.1.holds
-      back (Leave s) x b h = not_held h.1.holds
-      back (Offer p) x b h = not_offered h.1
-      back (Swap q) x b h = let d = h.1 in
-          let e : q ≡ l = sym (same_supervisor d.from_supervisor) in
-          (slice_get_within f.projects.items _ _ d.project, e, (d.quota, rw (← e) d.project), h.2 ∙ ap (o.plus label) d.is ∙ laws.unit label)
-      back (Room q) x b h = let d = h.1 in
-          let e : l ≡ q = same_supervisor d.from_supervisor in
-          full h.0 b (record { from_supervisor = refl; known = rw e d.known; room = rw e d.room; to_sink = d.to_sink; is = d.is })
+        back : (w : Origin) (x : G) (b : ℕ) → OffersOf o (Arc o f) node label w x b → Swaps (length xs) w x b
+        back Unseen x b h = h.1
+        back (Entry s k) x b h = not_held h.1.holds
+        back (Leave s) x b h = not_held h.1.holds
+        back (Offer p) x b h = not_offered h.1
+        back (Swap q) x b h = let d = h.1 in
+            let e : q ≡ l = sym (same_supervisor d.from_supervisor) in
+            (every b d.quota (rw (← e) d.project), e, (d.quota, rw (← e) d.project), h.2 ∙ ap (o.plus label) d.is ∙ laws.unit label)
+        back (Room q) x b h = let d = h.1 in
+            let e : l ≡ q = same_supervisor d.from_supervisor in
+            full h.0 b (record { from_supervisor = refl; known = rw e d.known; room = rw e d.room; to_sink = d.to_sink; is = d.is })
 
-    -- all arcs of a supervisor
-    pub supervisor_room : (k m n : List (Mark G)) → l < length f.supervisors.items → slice_index f.load.items l < slice_index f.supervisors.items l
-        → Relaxes o (Swaps (project_count f)) k m → Relaxes o (OneOffer (Room l) label (sink_of f)) m n → Relaxes o (OffersOf o (Arc o f) node label) k n
-    supervisor_room k m n known room r t =
-        relaxes_as laws (λ w x b. Swaps (project_count f) w x b ⊎ OneOffer (Room l) label (sink_of f) w x b) (OffersOf o (Arc o f) node label) k n to back (relaxes_then laws _ _ k m n r t) where
-          to : (w : Origin) (x : G) (b : ℕ) → Swaps (project_count f) w x b ⊎ OneOffer (Room l) label (sink_of f) w x b → OffersOf o (Arc o f) node label w x b
-          to Unseen x b = elim [ inl h ↦ absurd h | inr h ↦ let z = h.0 in absurd (cc) ]
-          to (Entry s q) x b = elim [ inl h ↦ absurd h | inr h ↦ let z = h.0 in absurd (cc) ]
-          to (Leave s) x b = elim [ inl h ↦ absurd h | inr h ↦ let z = h.0 in absurd (cc) ]
-          to (Offer s) x b = elim [ inl h ↦ absurd h | inr h ↦ let z = h.0 in absurd (cc) ]
-          to (Swap q) x b = elim [
-            | inl h ↦ (o.zero, record { quota = h.2.0; from_supervisor = rw h.1 refl; project = rw h.1 h.2.1; is = refl }, h.3 ∙ sym (laws.unit label))
-            | inr h ↦ let z = h.0 in absurd (cc)
-          ]
-          to (Room q) x b = elim [
-            | inl h ↦ absurd h
-            | inr h ↦
-                (let e : q ≡ l = let z = h.0 in cc in
-                (o.zero, record { from_supervisor = rw e refl; known = rw e known; room = rw e room; to_sink = h.2; is = refl }, h.1 ∙ sym (laws.unit label)))
-          ]
+      -- all arcs of a supervisor
+      pub supervisor_room : (k m n : List (Mark G)) → l < length f.supervisors.items → slice_index f.load.items l < slice_index f.supervisors.items l
+          → Relaxes o (Swaps (length xs)) k m → Relaxes o (OneOffer (Room l) label (sink_of f)) m n → Relaxes o (OffersOf o (Arc o f) node label) k n
+      supervisor_room k m n known room r t =
+          relaxes_as laws (λ w x b. Swaps (length xs) w x b ⊎ OneOffer (Room l) label (sink_of f) w x b) (OffersOf o (Arc o f) node label) k n to back (relaxes_then laws _ _ k m n r t) where
+            to : (w : Origin) (x : G) (b : ℕ) → Swaps (length xs) w x b ⊎ OneOffer (Room l) label (sink_of f) w x b → OffersOf o (Arc o f) node label w x b
+            to Unseen x b = elim [ inl h ↦ absurd h | inr h ↦ let z = h.0 in absurd (cc) ]
+            to (Entry s q) x b = elim [ inl h ↦ absurd h | inr h ↦ let z = h.0 in absurd (cc) ]
+            to (Leave s) x b = elim [ inl h ↦ absurd h | inr h ↦ let z = h.0 in absurd (cc) ]
+            to (Offer s) x b = elim [ inl h ↦ absurd h | inr h ↦ let z = h.0 in absurd (cc) ]
+            to (Swap q) x b = elim [
+              | inl h ↦ (o.zero, record { quota = h.2.0; from_supervisor = rw h.1 refl; project = rw h.1 h.2.1; is = refl }, h.3 ∙ sym (laws.unit label))
+              | inr h ↦ let z = h.0 in absurd (cc)
+            ]
+            to (Room q) x b = elim [
+              | inl h ↦ absurd h
+              | inr h ↦
+                  (let e : q ≡ l = let z = h.0 in cc in
+                  (o.zero, record { from_supervisor = rw e refl; known = rw e known; room = rw e room; to_sink = h.2; is = refl }, h.1 ∙ sym (laws.unit label)))
+            ]
 
-          back : (w : Origin) (x : G) (b : ℕ) → OffersOf o (Arc o f) node label w x b → Swaps (project_count f) w x b ⊎ OneOffer (Room l) label (sink_of f) w x b
-          back Unseen x b h = inl h.1
-          back (Entry s q) x b h = absurd (not_held h.1.holds)
-          back (Leave s) x b h = absurd (not_held h.1.holds)
-          back (Offer p) x b h = absurd (not_offered h.1)
-          back (Swap q) x b h = let d = h.1 in
-              let e : q ≡ l = sym (same_supervisor d.from_supervisor) in
-              inl (slice_get_within f.projects.items _ _ d.project, e, (d.quota, rw (← e) d.project), h.2 ∙ ap (o.plus label) d.is ∙ laws.unit label)
-          back (Room q) x b h = let d = h.1 in
-              let e : q ≡ l = sym (same_supervisor d.from_supervisor) in
-              inr (ap Room e, h.2 ∙ ap (o.plus label) d.is ∙ laws.unit label, d.to_sink)
+            back : (w : Origin) (x : G) (b : ℕ) → OffersOf o (Arc o f) node label w x b → Swaps (length xs) w x b ⊎ OneOffer (Room l) label (sink_of f) w x b
+            back Unseen x b h = inl h.1
+            back (Entry s q) x b h = absurd (not_held h.1.holds)
+            back (Leave s) x b h = absurd (not_held h.1.holds)
+            back (Offer p) x b h = absurd (not_offered h.1)
+            back (Swap q) x b h = let d = h.1 in
+                let e : q ≡ l = sym (same_supervisor d.from_supervisor) in
+                inl (every b d.quota (rw (← e) d.project), e, (d.quota, rw (← e) d.project), h.2 ∙ ap (o.plus label) d.is ∙ laws.unit label)
+            back (Room q) x b h = let d = h.1 in
+                let e : q ≡ l = sym (same_supervisor d.from_supervisor) in
+                inr (ap Room e, h.2 ∙ ap (o.plus label) d.is ∙ laws.unit label, d.to_sink)

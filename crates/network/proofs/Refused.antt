@@ -1,8 +1,8 @@
 -- A student for whom every entry costs what it is worth stays without a place.
-use Rattle.std.proofs.Common.{◌≡◌, ℕ, refl}
+use Rattle.std.proofs.Common.{ℕ, refl}
 use Rattle.spa.specs.Laws.{Ops, IsWorth, AtMost}
 use Rattle.network.specs.Arcs.{HasEntry, sink_of, IsFormed}
-use Rattle.network.specs.Fair.{potential, IsFair, IsFairBut}
+use Rattle.network.specs.Fair.{potential, IsFairBut}
 use Rattle.network.specs.Push.{IsCounted, IsPushed}
 use Rattle.network.proofs.Group.{at_most_refl}
 use Rattle.network.proofs.Ends.{quiet_without}

@@ -1,8 +1,9 @@
 -- The residual arcs of a flow of students.
-use Rattle.std.specs.Prelude.{◌≡◌, ℕ, ◌+◌, ◌*◌, ◌≤◌, ◌<◌, List, length, slice_index, slice_get, Some, sum_by}
+use Rattle.std.specs.Prelude.{◌≡◌, ℕ, ◌+◌, ◌*◌, ◌≤◌, ◌<◌, List, length, slice_index, slice_get, Option, Some, None, sum_by}
 use Rattle.std.specs.declared.vec.Vec.{Vec}
 use Rattle.std.specs.declared.alloc.Global.{Global}
 use Rattle.spa.specs.Laws.{Ops}
+use Rattle.network.specs.Among.{Among}
 use Rattle.network.specs.declared.marks.Origin.{Origin}
 use Rattle.network.specs.declared.marks.Origin.TheVariants.{Unseen, Entry, Leave, Offer, Swap, Room}
 use Rattle.network.specs.declared.flow.Flow.{Flow}
@@ -109,23 +110,32 @@ EntriesBelow o f student label i (Offer p) x b = ⊥
 EntriesBelow o f student label i (Swap l) x b = ⊥
 EntriesBelow o f student label i (Room l) x b = ⊥
 
--- the offers of a node to the students placed there, of the students below i
-abbrev pub StudentsBelow : {G : Type 0} → Ops G → Flow G → ℕ → G → ℕ → Origin → G → ℕ → Type 0
-StudentsBelow o f a label i Unseen x b = ⊥
-StudentsBelow {G} o f a label i (Entry s k) x b = (s < i) × ((c : G) × EntryArc o f a s k c b × (x ≡ o.plus label c))
-StudentsBelow {G} o f a label i (Leave s) x b = (s < i) × ((c : G) × LeaveArc o f a s c b × (x ≡ o.plus label c))
-StudentsBelow o f a label i (Offer p) x b = ⊥
-StudentsBelow o f a label i (Swap l) x b = ⊥
-StudentsBelow o f a label i (Room l) x b = ⊥
+-- the offers of a node to the students placed there, of the first i of a list
+abbrev pub StudentsAmong : {G : Type 0} → Ops G → Flow G → ℕ → G → List ℕ → ℕ → Origin → G → ℕ → Type 0
+StudentsAmong o f a label xs i Unseen x b = ⊥
+StudentsAmong {G} o f a label xs i (Entry s k) x b = Among xs i s × ((c : G) × EntryArc o f a s k c b × (x ≡ o.plus label c))
+StudentsAmong {G} o f a label xs i (Leave s) x b = Among xs i s × ((c : G) × LeaveArc o f a s c b × (x ≡ o.plus label c))
+StudentsAmong o f a label xs i (Offer p) x b = ⊥
+StudentsAmong o f a label xs i (Swap l) x b = ⊥
+StudentsAmong o f a label xs i (Room l) x b = ⊥
 
--- the offers of a supervisor to the projects below i
-abbrev pub ProjectsBelow : {G : Type 0} → Ops G → Flow G → ℕ → G → ℕ → Origin → G → ℕ → Type 0
-ProjectsBelow o f l label i Unseen x b = ⊥
-ProjectsBelow o f l label i (Entry s k) x b = ⊥
-ProjectsBelow o f l label i (Leave s) x b = ⊥
-ProjectsBelow o f l label i (Offer p) x b = ⊥
-ProjectsBelow o f l label i (Swap m) x b = (b < i) × (m ≡ l) × ((q : ℕ) × (slice_get f.projects.items b ≡ Some (l, q))) × (x ≡ label)
-ProjectsBelow o f l label i (Room m) x b = ⊥
+-- the offers of a supervisor to the first i projects of a list
+abbrev pub ProjectsAmong : {G : Type 0} → Ops G → Flow G → ℕ → G → List ℕ → ℕ → Origin → G → ℕ → Type 0
+ProjectsAmong o f l label xs i Unseen x b = ⊥
+ProjectsAmong o f l label xs i (Entry s k) x b = ⊥
+ProjectsAmong o f l label xs i (Leave s) x b = ⊥
+ProjectsAmong o f l label xs i (Offer p) x b = ⊥
+ProjectsAmong o f l label xs i (Swap m) x b = Among xs i b × (m ≡ l) × ((q : ℕ) × (slice_get f.projects.items b ≡ Some (l, q))) × (x ≡ label)
+ProjectsAmong o f l label xs i (Room m) x b = ⊥
+
+-- a student's entries and the arc to the sink
+abbrev pub row_cost : {G : Type 0} → Option (Vec (ℕ × G) Global) → ℕ
+row_cost None = 0
+row_cost (Some row) = length row.items + 1
+
+-- the same by position
+abbrev pub list_cost : {G : Type 0} → List (Vec (ℕ × G) Global) → ℕ → ℕ
+list_cost lists s = row_cost (slice_get lists s)
 
 -- list entries, students, and twice the projects and the supervisors
 abbrev pub flow_arcs : {G : Type 0} → Flow G → ℕ

@@ -7,7 +7,9 @@ use Rattle.network.specs.Fair.{IsLow}
 use Rattle.network.specs.Push.{IsPushed}
 use Rattle.network.specs.Seen.{Seen}
 use Rattle.network.specs.Labels.{AreBlank}
+use Rattle.network.specs.Kept.{IsKept}
 use Rattle.network.specs.declared.flow.Flow.{Flow}
+use Rattle.network.specs.declared.kept.Kept.{Kept}
 use Rattle.network.specs.declared.marks.Labels.{Labels}
 
 -- the entries of a student's list
@@ -28,7 +30,8 @@ pub record IsReady {G : Type 0} (o : Ops G) (f : Flow G) (steps : ℕ) : Type 0 
   pub low : IsLow o f
   pub counted : steps ≤ 2 ^ 22 * length f.lists.items
 
--- the same, and the labels of the last search are gone
-pub record IsIdle {G : Type 0} (o : Ops G) (f : Flow G) (l : Labels G) (steps : ℕ) : Type 0 where
+-- the same, with the lists beside the flow, and the labels of the last search gone
+pub record IsIdle {G : Type 0} (o : Ops G) (f : Flow G) (k : Kept) (l : Labels G) (steps : ℕ) : Type 0 where
   pub ready : IsReady o f steps
+  pub kept : IsKept f k
   pub blank : AreBlank o l (length f.potentials.items)

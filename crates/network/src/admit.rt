@@ -3,6 +3,7 @@
 ghost use Rattle.std.specs.Prelude.{◌≡◌, ℕ, ◌+◌, ◌-◌, ◌*◌, ◌<◌, ◌≤◌, ◌^◌, length, slice_get, Some, None, false};
 ghost use Rattle.network.specs.Marks.{mark_at};
 ghost use Rattle.network.specs.Labels.{AreLabels, AreBlank};
+ghost use Rattle.network.specs.Kept.{IsKept};
 ghost use Rattle.network.specs.Search.{lowered, IsFound, Feasible};
 ghost use Rattle.network.specs.Arcs.{Arc, IsFormed, HasEntry, OfStudent, sink_of, flow_arcs};
 ghost use Rattle.spa.specs.Laws.{AtMost};
@@ -11,6 +12,7 @@ ghost use Rattle.network.specs.Push.{IsCounted, IsPushing, IsPushed};
 
 use crate::descend::lower;
 use crate::flow::{Flow, potential_of};
+use crate::kept::Kept;
 use crate::marks::{Labels, clear, exceeds};
 use crate::push::push;
 use crate::relaxes::{entry, list_len, sink};
@@ -36,25 +38,33 @@ fn lower_flow<G: Worth>(flow: &mut Flow<G>, fresh: usize, labels: &Labels<G>, to
 }
 
 /// The student who was added last is placed along a best walk, or not at all where none is above zero.
-fn place_best<G: Worth>(flow: &mut Flow<G>, fresh: usize, labels: &mut Labels<G>, count: &mut u64)
+fn place_best<G: Worth>(
+    flow: &mut Flow<G>,
+    kept: &mut Kept,
+    fresh: usize,
+    labels: &mut Labels<G>,
+    count: &mut u64,
+)
     requires formed { IsFormed G.ops flow.old }
     requires fair { IsFairBut G.ops flow.old fresh }
     requires counted { IsCounted flow.old (sink_of flow.old) }
     requires waiting { slice_get flow.old.places.items fresh ≡ Some None }
+    requires kept { IsKept flow.old kept.old }
     requires blank { AreBlank G.ops labels.old (length flow.old.potentials.items) }
     requires low { IsLow G.ops flow.old }
     requires count { count.old < 2 ^ 30 }
+    ensures kept { IsKept flow.new kept.new }
     ensures blank { AreBlank G.ops labels.new (length flow.new.potentials.items) }
     ensures pushed { IsPushed G.ops flow.new }
     ensures low { IsLow G.ops flow.new }
     ensures rest { flow.new ≡ record flow.old { places = flow.new.places; filled = flow.new.filled; load = flow.new.load; potentials = flow.new.potentials } }
     ensures cost { (row : _) → slice_get flow.old.lists.items fresh ≡ Some row → count.new ≤ count.old + length row.items + 1 + sink_of flow.old * flow_arcs flow.old }
 {
-    search(flow, fresh, labels, count);
+    search(flow, kept, fresh, labels, count);
     let end = sink(flow);
     let top = label_of(labels, end);
     lower_flow(flow, fresh, labels, top);
-    push(flow, labels, fresh, top, end);
+    push(flow, kept, labels, fresh, top, end);
     clear(labels);
 }
 
@@ -81,6 +91,7 @@ fn gains<G: Worth>(flow: &Flow<G>, student: usize, count: &mut u64) -> bool
 /// The student who was added last finds a place, or none; where no entry is worth more than it costs, there is no search.
 pub fn place_new<G: Worth>(
     flow: &mut Flow<G>,
+    kept: &mut Kept,
     fresh: usize,
     labels: &mut Labels<G>,
     count: &mut u64,
@@ -89,9 +100,11 @@ pub fn place_new<G: Worth>(
     requires fair { IsFairBut G.ops flow.old fresh }
     requires counted { IsCounted flow.old (sink_of flow.old) }
     requires waiting { slice_get flow.old.places.items fresh ≡ Some None }
+    requires kept { IsKept flow.old kept.old }
     requires blank { AreBlank G.ops labels.old (length flow.old.potentials.items) }
     requires low { IsLow G.ops flow.old }
     requires count { count.old < 2 ^ 29 }
+    ensures kept { IsKept flow.new kept.new }
     ensures blank { AreBlank G.ops labels.new (length flow.new.potentials.items) }
     ensures pushed { IsPushed G.ops flow.new }
     ensures low { IsLow G.ops flow.new }
@@ -99,6 +112,6 @@ pub fn place_new<G: Worth>(
     ensures cost { (row : _) → slice_get flow.old.lists.items fresh ≡ Some row → count.new ≤ count.old + 2 * length row.items + 1 + sink_of flow.old * flow_arcs flow.old }
 {
     if gains(flow, fresh, count) {
-        place_best(flow, fresh, labels, count);
+        place_best(flow, kept, fresh, labels, count);
     }
 }

@@ -3,6 +3,7 @@
 ghost use Rattle.std.specs.Prelude.{◌≡◌, ℕ, ◌+◌, ◌-◌, ◌*◌, ◌<◌, ◌≤◌, ◌^◌, [], ◌∷◌, ◌++◌, length, slice_get, Some, None, IfOk, OnOk};
 ghost use Rattle.std.specs.Vec.{vec_len, vec_capacity};
 ghost use Rattle.network.specs.Labels.{AreBlank};
+ghost use Rattle.network.specs.Kept.{IsKept};
 ghost use Rattle.network.specs.Arcs.{project_count, sink_of, flow_arcs};
 ghost use Rattle.network.specs.Fair.{IsLow};
 ghost use Rattle.network.specs.Push.{IsPushed};
@@ -11,6 +12,7 @@ ghost use Rattle.network.specs.View.{IsKnownList};
 
 use crate::admit::place_new;
 use crate::flow::Flow;
+use crate::kept::Kept;
 use crate::marks::Labels;
 use spa::Worth;
 use std::alloc::{AllocError, Global};
@@ -66,7 +68,12 @@ fn has_place<G: Worth>(flow: &Flow<G>, student: usize) -> bool
 }
 
 /// The student is added and finds a place, or none.
-pub fn enter<G: Worth>(flow: &mut Flow<G>, row: Vec<(usize, G)>, labels: &mut Labels<G>) -> Admitted
+pub fn enter<G: Worth>(
+    flow: &mut Flow<G>,
+    kept: &mut Kept,
+    row: Vec<(usize, G)>,
+    labels: &mut Labels<G>,
+) -> Admitted
     requires pushed { IsPushed G.ops flow.old }
     requires low { IsLow G.ops flow.old }
     requires few { length flow.old.lists.items < 500 }
@@ -74,7 +81,9 @@ pub fn enter<G: Worth>(flow: &mut Flow<G>, row: Vec<(usize, G)>, labels: &mut La
     requires known { IsKnownList G.ops (project_count flow.old) row.items }
     requires list_room { vec_len flow.old.lists < vec_capacity flow.old.lists }
     requires place_room { vec_len flow.old.places < vec_capacity flow.old.places }
+    requires kept { IsKept flow.old kept.old }
     requires blank { AreBlank G.ops labels.old (length flow.old.potentials.items) }
+    ensures kept { IsKept flow.new kept.new }
     ensures blank { AreBlank G.ops labels.new (length flow.new.potentials.items) }
     ensures pushed { IsPushed G.ops flow.new }
     ensures low { IsLow G.ops flow.new }
@@ -87,7 +96,7 @@ pub fn enter<G: Worth>(flow: &mut Flow<G>, row: Vec<(usize, G)>, labels: &mut La
     let student = flow.lists.len();
     append(flow, row);
     let mut relaxations = 0;
-    place_new(flow, student, labels, &mut relaxations);
+    place_new(flow, kept, student, labels, &mut relaxations);
     let placed = has_place(flow, student);
     Admitted {
         placed,

@@ -6,7 +6,8 @@
 //!
 //! Promised: after `start` and after each `admit` the places are a matching of the lists admitted so far, and there are
 //! prices that show it to be a best one; `prices` answers such. An admission takes no more relaxations than a round over
-//! all arcs for each node, and `steps` adds them up. Where memory is refused, nobody was admitted.
+//! all arcs for each node, and `steps` adds them up. Where memory is refused, nobody was admitted. A new student is
+//! admitted to the flow that the ones before left: the arcs are kept, and a search touches what it reaches alone.
 //!
 //! Read on in `specs/Seen.antt`, which says all of this in lists alone, then in `specs/Fair.antt` (what the potentials
 //! keep), `specs/Search.antt` and `specs/Push.antt`.
@@ -16,6 +17,7 @@ mod admit;
 mod descend;
 mod enter;
 mod flow;
+mod kept;
 mod marks;
 mod network;
 mod numbers;

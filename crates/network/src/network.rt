@@ -5,11 +5,13 @@ ghost use Rattle.spa.specs.declared.TheConstants.{MOST_SUPERVISORS, MOST_PROJECT
 ghost use Rattle.network.specs.Arcs.{project_count};
 ghost use Rattle.network.specs.Marks.{potential_at};
 ghost use Rattle.network.specs.Labels.{AreBlank};
+ghost use Rattle.network.specs.Kept.{IsKept};
 ghost use Rattle.network.specs.Seen.{ArePrices, IsPriced, IsAdmission};
 ghost use Rattle.network.specs.View.{seen, IsReady};
 
 use crate::enter::{Admitted, enter, grow};
 use crate::flow::{Flow, place_of};
+use crate::kept::{Kept, all_offered, empty_seats};
 use crate::marks::{Labels, blank_labels};
 use crate::prices::all_prices;
 use spa::Worth;
@@ -73,28 +75,41 @@ fn start_flow<G: Worth>(
     })
 }
 
+/// The lists beside a flow with no students.
+fn start_kept<G: Worth>(alloc: Global, flow: &Flow<G>) -> Result<Kept, AllocError>
+    requires { flow.now.places.items ≡ [] }
+    ensures { IfOk result (λ k. IsKept flow.now k) }
+{
+    let seated = empty_seats(alloc, &flow.projects)?;
+    let offered = all_offered(alloc, &flow.supervisors, &flow.projects)?;
+    Ok(Kept { seated, offered })
+}
+
 /// One student is admitted; where memory is refused nothing changes.
 fn admit_to<G: Worth>(
     flow: &mut Flow<G>,
+    kept: &mut Kept,
     labels: &mut Labels<G>,
     steps: &mut u64,
     alloc: Global,
     list: &[(usize, G)],
 ) -> Result<Admitted, AllocError>
     requires ready { IsReady G.ops flow.old steps.old }
+    requires kept { IsKept flow.old kept.old }
     requires blank { AreBlank G.ops labels.old (length flow.old.potentials.items) }
     requires few { length flow.old.lists.items < MOST_STUDENTS }
     requires short { length list.now ≤ RANKS }
     requires known { All (λ e. e.0 < project_count flow.old) list.now }
     requires small { All (λ e. G.ops.span e.1 ≤ 1) list.now }
     ensures ready { IsReady G.ops flow.new steps.new }
+    ensures kept { IsKept flow.new kept.new }
     ensures blank { AreBlank G.ops labels.new (length flow.new.potentials.items) }
     ensures memory { OnErr result (seen flow.new steps.new ≡ seen flow.old steps.old) }
     ensures admitted { IfOk result (λ a. IsAdmission G.ops (seen flow.old steps.old) (seen flow.new steps.new) list.now a.placed a.relaxations) }
 {
     let row = Vec::from_slice(alloc, list)?;
     grow(flow)?;
-    let admitted = enter(flow, row, labels);
+    let admitted = enter(flow, kept, row, labels);
     *steps += admitted.relaxations;
     Ok(admitted)
 }
@@ -111,6 +126,7 @@ fn priced<G: Worth>(flow: &Flow<G>, steps: u64)
 #[derive(Drop)]
 pub struct Network<G: Worth> {
     flow: Flow<G>,
+    kept: Kept,
     labels: Labels<G>,
     steps: u64,
     alloc: Global,
@@ -124,7 +140,7 @@ impl<G: Worth> Model for Network<G> {
 
     ghost view = { λ n. seen n.flow n.steps };
 
-    ghost invariant = { λ n. IsIdle G.ops n.flow n.labels n.steps };
+    ghost invariant = { λ n. IsIdle G.ops n.flow n.kept n.labels n.steps };
 }
 
 impl<G: Worth> Network<G> {
@@ -148,10 +164,12 @@ impl<G: Worth> Network<G> {
         ensures priced { IfOk result (λ n. IsPriced G.ops n) }
     {
         let flow = start_flow(alloc, supervisors, projects)?;
+        let kept = start_kept(alloc, &flow)?;
         let labels = blank_labels(alloc, flow.potentials.len())?;
         priced(&flow, 0);
         Ok(Network {
             flow,
+            kept,
             labels,
             steps: 0,
             alloc,
@@ -171,6 +189,7 @@ impl<G: Worth> Network<G> {
     {
         admit_to(
             &mut self.flow,
+            &mut self.kept,
             &mut self.labels,
             &mut self.steps,
             self.alloc,

@@ -1,6 +1,6 @@
 //! Lists of numbers that take one in or out without taking memory.
 
-ghost use Rattle.std.specs.Prelude.{◌≡◌, ℕ, ◌+◌, ◌<◌, ◌==◌, length};
+ghost use Rattle.std.specs.Prelude.{◌≡◌, ℕ, ◌+◌, ◌<◌, ◌≤◌, ◌==◌, length};
 ghost use Rattle.std.specs.Vec.{vec_capacity};
 ghost use Rattle.network.specs.Push.{one_if};
 ghost use Rattle.network.specs.Labels.{count_of};
@@ -18,6 +18,7 @@ pub fn put_in(list: &mut Vec<usize>, number: usize)
 pub fn take_out(list: &mut Vec<usize>, number: usize)
     requires { 0 < count_of list.old.items number }
     ensures counts { (n : ℕ) → count_of list.new.items n + one_if (number == n) ≡ count_of list.old.items n }
+    ensures shorter { length list.new.items ≤ length list.old.items }
     ensures capacity { vec_capacity list.new ≡ vec_capacity list.old }
 {
     for i in 0..list.len() {

@@ -5,9 +5,11 @@ ghost use Rattle.network.specs.declared.marks.Origin.TheVariants.{Entry, Leave, 
 ghost use Rattle.network.specs.Marks.{mark_at, is_seen};
 ghost use Rattle.network.specs.Search.{rank_or};
 ghost use Rattle.network.specs.Arcs.{HasEntry, sink_of, project_count, IsFormed};
+ghost use Rattle.network.specs.Kept.{IsKept};
 ghost use Rattle.network.specs.Push.{IsPushing, IsPushed, IsNext};
 
 use crate::flow::{Flow, place_of};
+use crate::kept::{Kept, seat, unseat};
 use crate::marks::{Labels, Origin};
 use crate::relaxes::{entry, sink, supervisor_node};
 use spa::Worth;
@@ -62,6 +64,7 @@ fn origin_of<G: Worth>(labels: &Labels<G>, node: usize) -> Origin
 /// The hole at a project that an entry led to.
 fn push_entry<G: Worth>(
     flow: &mut Flow<G>,
+    kept: &mut Kept,
     labels: &Labels<G>,
     fresh: usize,
     top: G,
@@ -69,9 +72,11 @@ fn push_entry<G: Worth>(
     student: usize,
     place: usize,
 ) -> Option<usize>
+    requires kept { IsKept flow.old kept.old }
     requires pushing { IsPushing G.ops flow.old labels.now.marks.items fresh top hole }
     requires origin { (mark_at G.ops labels.now.marks.items hole).origin ≡ Entry student place }
     requires student { student < length flow.old.places.items }
+    ensures kept { IsKept flow.new kept.new }
     ensures more { IfSome result (λ next. IsNext G.ops flow.new labels.now.marks.items fresh top hole next) }
     ensures done { IfNone result (IsPushed G.ops flow.new) }
     ensures rest { flow.new ≡ record flow.old { places = flow.new.places; filled = flow.new.filled; load = flow.new.load } }
@@ -79,11 +84,14 @@ fn push_entry<G: Worth>(
     match place_of(flow, student) {
         None => {
             set_place(flow, student, Some(place));
+            seat(kept, hole, student);
             None
         }
         Some(old) => {
             let (from, _) = entry(flow, student, old);
             set_place(flow, student, Some(place));
+            unseat(kept, from, student);
+            seat(kept, hole, student);
             Some(from)
         }
     }
@@ -92,15 +100,18 @@ fn push_entry<G: Worth>(
 /// The hole at the sink that a student's place led to.
 fn push_leave<G: Worth>(
     flow: &mut Flow<G>,
+    kept: &mut Kept,
     labels: &Labels<G>,
     fresh: usize,
     top: G,
     hole: usize,
     student: usize,
 ) -> Option<usize>
+    requires kept { IsKept flow.old kept.old }
     requires pushing { IsPushing G.ops flow.old labels.now.marks.items fresh top hole }
     requires origin { (mark_at G.ops labels.now.marks.items hole).origin ≡ Leave student }
     requires student { student < length flow.old.places.items }
+    ensures kept { IsKept flow.new kept.new }
     ensures more { IfSome result (λ next. IsNext G.ops flow.new labels.now.marks.items fresh top hole next) }
     ensures done { IfNone result (IsPushed G.ops flow.new) }
     ensures rest { flow.new ≡ record flow.old { places = flow.new.places; filled = flow.new.filled; load = flow.new.load } }
@@ -110,6 +121,7 @@ fn push_leave<G: Worth>(
         Some(old) => {
             let (from, _) = entry(flow, student, old);
             set_place(flow, student, None);
+            unseat(kept, from, student);
             Some(from)
         }
     }
@@ -129,6 +141,7 @@ fn push_offer<G: Worth>(
     requires project { project < length flow.old.filled.items }
     requires room { slice_index flow.old.filled.items project < 500 }
     ensures next { IsNext G.ops flow.new labels.now.marks.items fresh top hole project }
+    ensures same { flow.new ≡ record flow.old { filled = flow.new.filled } }
     ensures rest { flow.new ≡ record flow.old { places = flow.new.places; filled = flow.new.filled; load = flow.new.load } }
 {
     count_up(flow, project);
@@ -148,6 +161,7 @@ fn push_swap<G: Worth>(
     requires hole { hole < length flow.old.filled.items }
     requires some { 0 < slice_index flow.old.filled.items hole }
     ensures next { IsNext G.ops flow.new labels.now.marks.items fresh top hole (project_count flow.new + supervisor) }
+    ensures same { flow.new ≡ record flow.old { filled = flow.new.filled } }
     ensures rest { flow.new ≡ record flow.old { places = flow.new.places; filled = flow.new.filled; load = flow.new.load } }
 {
     count_down(flow, hole);
@@ -167,6 +181,7 @@ fn push_room<G: Worth>(
     requires supervisor { supervisor < length flow.old.load.items }
     requires room { slice_index flow.old.load.items supervisor < 500 }
     ensures next { IsNext G.ops flow.new labels.now.marks.items fresh top hole (project_count flow.new + supervisor) }
+    ensures same { flow.new ≡ record flow.old { load = flow.new.load } }
     ensures rest { flow.new ≡ record flow.old { places = flow.new.places; filled = flow.new.filled; load = flow.new.load } }
 {
     load_up(flow, supervisor);
@@ -175,20 +190,25 @@ fn push_room<G: Worth>(
 /// One step: the hole moves to the node before, or the push is done.
 fn step<G: Worth>(
     flow: &mut Flow<G>,
+    kept: &mut Kept,
     labels: &Labels<G>,
     fresh: usize,
     top: G,
     hole: usize,
 ) -> Option<usize>
-    requires { IsPushing G.ops flow.old labels.now.marks.items fresh top hole }
+    requires kept { IsKept flow.old kept.old }
+    requires pushing { IsPushing G.ops flow.old labels.now.marks.items fresh top hole }
+    ensures kept { IsKept flow.new kept.new }
     ensures more { IfSome result (λ next. IsNext G.ops flow.new labels.now.marks.items fresh top hole next) }
     ensures done { IfNone result (IsPushed G.ops flow.new) }
     ensures rest { flow.new ≡ record flow.old { places = flow.new.places; filled = flow.new.filled; load = flow.new.load } }
 {
     match origin_of(labels, hole) {
         Origin::Unseen => unreachable!(),
-        Origin::Entry(student, place) => push_entry(flow, labels, fresh, top, hole, student, place),
-        Origin::Leave(student) => push_leave(flow, labels, fresh, top, hole, student),
+        Origin::Entry(student, place) => push_entry(
+            flow, kept, labels, fresh, top, hole, student, place,
+        ),
+        Origin::Leave(student) => push_leave(flow, kept, labels, fresh, top, hole, student),
         Origin::Offer(project) => {
             push_offer(flow, labels, fresh, top, hole, project);
             Some(project)
@@ -205,13 +225,22 @@ fn step<G: Worth>(
 }
 
 /// The push along the walk that the marks show.
-pub fn push<G: Worth>(flow: &mut Flow<G>, labels: &Labels<G>, fresh: usize, top: G, from: usize)
-    requires { IsPushing G.ops flow.old labels.now.marks.items fresh top from }
+pub fn push<G: Worth>(
+    flow: &mut Flow<G>,
+    kept: &mut Kept,
+    labels: &Labels<G>,
+    fresh: usize,
+    top: G,
+    from: usize,
+)
+    requires kept { IsKept flow.old kept.old }
+    requires pushing { IsPushing G.ops flow.old labels.now.marks.items fresh top from }
+    ensures kept { IsKept flow.new kept.new }
     ensures pushed { IsPushed G.ops flow.new }
     ensures rest { flow.new ≡ record flow.old { places = flow.new.places; filled = flow.new.filled; load = flow.new.load } }
 {
     let mut hole = from;
-    while let Some(next) = step(flow, labels, fresh, top, hole) {
+    while let Some(next) = step(flow, kept, labels, fresh, top, hole) {
         hole = next;
     }
 }

@@ -1,11 +1,13 @@
 //! The relaxations of the arcs out of one node.
 
-ghost use Rattle.std.specs.Prelude.{◌≡◌, ℕ, ◌+◌, ◌-◌, ◌*◌, ◌<◌, ◌≤◌, ◌^◌, length, slice_get, slice_index, Some, IfSome, IfNone, sum_by, nat_lt};
+ghost use Rattle.std.specs.Prelude.{◌≡◌, ℕ, ◌+◌, ◌-◌, ◌*◌, ◌<◌, ◌≤◌, ◌^◌, length, slice_get, slice_index, Some, IfSome, IfNone, sum_by, nat_lt, List};
 ghost use Rattle.network.specs.Labels.{AreLabels};
+ghost use Rattle.network.specs.Kept.{numbers_at, IsKept};
 ghost use Rattle.network.specs.Search.{Relaxes, OffersOf};
-ghost use Rattle.network.specs.Arcs.{Arc, IsFormed, OfStudent, EntriesBelow, StudentsBelow, ProjectsBelow, HasEntry, Holds, sink_of, project_count};
+ghost use Rattle.network.specs.Arcs.{Arc, IsFormed, OfStudent, EntriesBelow, StudentsAmong, ProjectsAmong, list_cost, HasEntry, Holds, sink_of, project_count};
 
 use crate::flow::Flow;
+use crate::kept::{Kept, projects_at, students_at};
 use crate::marks::{Labels, Origin, relax};
 use spa::Worth;
 
@@ -117,15 +119,15 @@ fn relax_student<G: Worth>(
     labels: &mut Labels<G>,
     count: &mut u64,
 )
-    requires kept { AreLabels G.ops labels.old }
     requires formed { IsFormed G.ops flow.now }
+    requires kept { AreLabels G.ops labels.old }
     requires marks { length labels.old.marks.items ≡ length flow.now.potentials.items }
     requires student { student < length flow.now.lists.items }
     requires label { G.ops.span label < 2 ^ 31 }
     requires count { count.old < 2 ^ 32 }
     ensures kept { AreLabels G.ops labels.new }
-    ensures relaxes { (m : _) → Relaxes G.ops (StudentsBelow G.ops flow.now project label student) m labels.old.marks.items → Relaxes G.ops (StudentsBelow G.ops flow.now project label (student + 1)) m labels.new.marks.items }
-    ensures cost { (row : _) → slice_get flow.now.lists.items student ≡ Some row → count.new ≤ count.old + (length row.items + 1) }
+    ensures relaxes { (m : _) (xs : List ℕ) (i : ℕ) → slice_get xs i ≡ Some student → Relaxes G.ops (StudentsAmong G.ops flow.now project label xs i) m labels.old.marks.items → Relaxes G.ops (StudentsAmong G.ops flow.now project label xs (i + 1)) m labels.new.marks.items }
+    ensures cost { count.new ≤ count.old + list_cost flow.now.lists.items student }
     ensures small { count.new ≤ count.old + 13 }
 {
     match held(flow, student, project) {
@@ -137,23 +139,27 @@ fn relax_student<G: Worth>(
 /// The offers of all students who are placed at the project.
 fn relax_students<G: Worth>(
     flow: &Flow<G>,
+    kept: &Kept,
     project: usize,
     label: G,
     labels: &mut Labels<G>,
     count: &mut u64,
 )
-    requires kept { AreLabels G.ops labels.old }
     requires formed { IsFormed G.ops flow.now }
+    requires lists { IsKept flow.now kept.now }
+    requires kept { AreLabels G.ops labels.old }
     requires marks { length labels.old.marks.items ≡ length flow.now.potentials.items }
+    requires project { project < length flow.now.projects.items }
     requires label { G.ops.span label < 2 ^ 31 }
     requires count { count.old < 2 ^ 31 }
     ensures kept { AreLabels G.ops labels.new }
-    ensures relaxes { Relaxes G.ops (StudentsBelow G.ops flow.now project label (length flow.now.lists.items)) labels.old.marks.items labels.new.marks.items }
+    ensures relaxes { Relaxes G.ops (StudentsAmong G.ops flow.now project label (numbers_at kept.now.seated.items project) (length (numbers_at kept.now.seated.items project))) labels.old.marks.items labels.new.marks.items }
     ensures cost { count.new ≤ count.old + sum_by (λ row. length row.items + 1) flow.now.lists.items }
     ensures small { count.new ≤ count.old + 13 * 500 }
 {
-    for student in 0..flow.lists.len() {
-        relax_student(flow, project, student, label, labels, count);
+    let students = students_at(kept, project);
+    for i in 0..students.len() {
+        relax_student(flow, project, students[i], label, labels, count);
     }
 }
 
@@ -194,11 +200,13 @@ pub fn supervisor_node<G: Worth>(flow: &Flow<G>, supervisor: usize) -> usize
 /// The arcs out of a project.
 pub fn relax_project<G: Worth>(
     flow: &Flow<G>,
+    kept: &Kept,
     at: usize,
     label: G,
     labels: &mut Labels<G>,
     count: &mut u64,
 )
+    requires lists { IsKept flow.now kept.now }
     requires kept { AreLabels G.ops labels.old }
     requires formed { IsFormed G.ops flow.now }
     requires marks { length labels.old.marks.items ≡ length flow.now.potentials.items }
@@ -210,7 +218,7 @@ pub fn relax_project<G: Worth>(
     ensures cost { count.new ≤ count.old + sum_by (λ row. length row.items + 1) flow.now.lists.items + 1 }
     ensures small { count.new ≤ count.old + 6501 }
 {
-    relax_students(flow, at, label, labels, count);
+    relax_students(flow, kept, at, label, labels, count);
     let (supervisor, quota) = project(flow, at);
     if project_has_room(flow, at, quota) {
         relax(
@@ -223,59 +231,41 @@ pub fn relax_project<G: Worth>(
     }
 }
 
-/// A supervisor's offer to one project.
-fn relax_swap<G: Worth>(
-    flow: &Flow<G>,
-    supervisor: usize,
-    at: usize,
-    label: G,
-    labels: &mut Labels<G>,
-    count: &mut u64,
-)
-    requires kept { AreLabels G.ops labels.old }
-    requires formed { IsFormed G.ops flow.now }
-    requires marks { length labels.old.marks.items ≡ length flow.now.potentials.items }
-    requires at { at < length flow.now.projects.items }
-    requires count { count.old < 2 ^ 32 }
-    ensures kept { AreLabels G.ops labels.new }
-    ensures relaxes { (m : _) → Relaxes G.ops (ProjectsBelow G.ops flow.now supervisor label at) m labels.old.marks.items → Relaxes G.ops (ProjectsBelow G.ops flow.now supervisor label (at + 1)) m labels.new.marks.items }
-    ensures cost { count.new ≤ count.old + 1 }
-{
-    let (holder, _) = project(flow, at);
-    if holder == supervisor {
-        relax(labels, at, label, Origin::Swap(supervisor), count);
-    }
-}
-
-/// A supervisor's offers to all projects.
+/// A supervisor's offers to all of the supervisor's projects.
 fn relax_swaps<G: Worth>(
     flow: &Flow<G>,
+    kept: &Kept,
     supervisor: usize,
     label: G,
     labels: &mut Labels<G>,
     count: &mut u64,
 )
-    requires kept { AreLabels G.ops labels.old }
     requires formed { IsFormed G.ops flow.now }
+    requires lists { IsKept flow.now kept.now }
+    requires kept { AreLabels G.ops labels.old }
     requires marks { length labels.old.marks.items ≡ length flow.now.potentials.items }
+    requires supervisor { supervisor < length flow.now.supervisors.items }
     requires count { count.old < 2 ^ 31 }
     ensures kept { AreLabels G.ops labels.new }
-    ensures relaxes { Relaxes G.ops (ProjectsBelow G.ops flow.now supervisor label (length flow.now.projects.items)) labels.old.marks.items labels.new.marks.items }
+    ensures relaxes { Relaxes G.ops (ProjectsAmong G.ops flow.now supervisor label (numbers_at kept.now.offered.items supervisor) (length (numbers_at kept.now.offered.items supervisor))) labels.old.marks.items labels.new.marks.items }
     ensures cost { count.new ≤ count.old + length flow.now.projects.items }
 {
-    for at in 0..flow.projects.len() {
-        relax_swap(flow, supervisor, at, label, labels, count);
+    let projects = projects_at(kept, supervisor);
+    for i in 0..projects.len() {
+        relax(labels, projects[i], label, Origin::Swap(supervisor), count);
     }
 }
 
 /// The arcs out of a supervisor.
 pub fn relax_supervisor<G: Worth>(
     flow: &Flow<G>,
+    kept: &Kept,
     supervisor: usize,
     label: G,
     labels: &mut Labels<G>,
     count: &mut u64,
 )
+    requires lists { IsKept flow.now kept.now }
     requires kept { AreLabels G.ops labels.old }
     requires formed { IsFormed G.ops flow.now }
     requires marks { length labels.old.marks.items ≡ length flow.now.potentials.items }
@@ -286,7 +276,7 @@ pub fn relax_supervisor<G: Worth>(
     ensures relaxes { Relaxes G.ops (OffersOf G.ops (Arc G.ops flow.now) (length flow.now.projects.items + supervisor) label) labels.old.marks.items labels.new.marks.items }
     ensures cost { count.new ≤ count.old + length flow.now.projects.items + 1 }
 {
-    relax_swaps(flow, supervisor, label, labels, count);
+    relax_swaps(flow, kept, supervisor, label, labels, count);
     if supervisor_has_room(flow, supervisor) {
         relax(labels, sink(flow), label, Origin::Room(supervisor), count);
     }

@@ -4,10 +4,12 @@ ghost use Rattle.std.specs.Prelude.{◌≡◌, ℕ, ◌+◌, ◌-◌, ◌*◌, �
 ghost use Rattle.spa.specs.Laws.{AtMost};
 ghost use Rattle.network.specs.Marks.{mark_at, potential_at, key_at, blank, settled_as, is_open_mark, unsettled};
 ghost use Rattle.network.specs.Labels.{AreLabels};
+ghost use Rattle.network.specs.Kept.{IsKept};
 ghost use Rattle.network.specs.Search.{Relaxes, OffersOf, Feasible, IsFound, IsRunning};
 ghost use Rattle.network.specs.Arcs.{Arc, IsFormed, OfStudent, sink_of, project_count, flow_arcs};
 
 use crate::flow::Flow;
+use crate::kept::Kept;
 use crate::marks::{Labels, best_open, settle};
 use crate::relaxes::{relax_entries, relax_project, relax_supervisor, sink};
 use spa::Worth;
@@ -23,11 +25,13 @@ pub fn label_of<G: Worth>(labels: &Labels<G>, node: usize) -> G
 /// The arcs out of a node.
 fn relax_node<G: Worth>(
     flow: &Flow<G>,
+    kept: &Kept,
     node: usize,
     label: G,
     labels: &mut Labels<G>,
     count: &mut u64,
 )
+    requires lists { IsKept flow.now kept.now }
     requires kept { AreLabels G.ops labels.old }
     requires formed { IsFormed G.ops flow.now }
     requires marks { length labels.old.marks.items ≡ length flow.now.potentials.items }
@@ -41,20 +45,22 @@ fn relax_node<G: Worth>(
 {
     let projects = flow.projects.len();
     if node < projects {
-        relax_project(flow, node, label, labels, count);
+        relax_project(flow, kept, node, label, labels, count);
     } else {
-        relax_supervisor(flow, node - projects, label, labels, count);
+        relax_supervisor(flow, kept, node - projects, label, labels, count);
     }
 }
 
 /// The node is settled, and its arcs are relaxed.
 fn expand<G: Worth>(
     flow: &Flow<G>,
+    kept: &Kept,
     node: usize,
     rank: usize,
     labels: &mut Labels<G>,
     count: &mut u64,
 )
+    requires lists { IsKept flow.now kept.now }
     requires kept { AreLabels G.ops labels.old }
     requires opened { is_open_mark (mark_at G.ops labels.old.marks.items node) ≡ true }
     requires formed { IsFormed G.ops flow.now }
@@ -69,7 +75,7 @@ fn expand<G: Worth>(
 {
     let label = label_of(labels, node);
     settle(labels, node, rank);
-    relax_node(flow, node, label, labels, count);
+    relax_node(flow, kept, node, label, labels, count);
 }
 
 /// The open node whose walk can end highest.
@@ -89,12 +95,14 @@ fn choose<G: Worth>(flow: &Flow<G>, labels: &Labels<G>) -> usize
 /// The node is settled, its arcs are relaxed, and the next node is chosen.
 fn advance<G: Worth>(
     flow: &Flow<G>,
+    kept: &Kept,
     student: usize,
     node: usize,
     rank: usize,
     labels: &mut Labels<G>,
     count: &mut u64,
 ) -> usize
+    requires lists { IsKept flow.now kept.now }
     requires kept { AreLabels G.ops labels.old }
     requires formed { IsFormed G.ops flow.now }
     requires running { IsRunning G.ops (OfStudent G.ops flow.now student G.ops.zero) (Arc G.ops flow.now) flow.now.potentials.items (sink_of flow.now) labels.old.marks.items rank node }
@@ -107,7 +115,7 @@ fn advance<G: Worth>(
     ensures cost { count.new ≤ count.old + flow_arcs flow.now }
     ensures small { count.new ≤ count.old + 7600 }
 {
-    expand(flow, node, rank, labels, count);
+    expand(flow, kept, node, rank, labels, count);
     choose(flow, labels)
 }
 
@@ -130,7 +138,14 @@ fn begin<G: Worth>(flow: &Flow<G>, student: usize, labels: &mut Labels<G>, count
 }
 
 /// A search from a student to the sink.
-pub fn search<G: Worth>(flow: &Flow<G>, student: usize, labels: &mut Labels<G>, count: &mut u64)
+pub fn search<G: Worth>(
+    flow: &Flow<G>,
+    kept: &Kept,
+    student: usize,
+    labels: &mut Labels<G>,
+    count: &mut u64,
+)
+    requires lists { IsKept flow.now kept.now }
     requires kept { AreLabels G.ops labels.old }
     requires formed { IsFormed G.ops flow.now }
     requires marks { length labels.old.marks.items ≡ length flow.now.potentials.items }
@@ -148,7 +163,7 @@ pub fn search<G: Worth>(flow: &Flow<G>, student: usize, labels: &mut Labels<G>, 
     let end = sink(flow);
     let mut rank: usize = 0;
     while node != end {
-        node = advance(flow, student, node, rank, labels, count);
+        node = advance(flow, kept, student, node, rank, labels, count);
         rank += 1;
     }
 }

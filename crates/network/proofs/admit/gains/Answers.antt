@@ -1,8 +1,7 @@
-use Rattle.std.proofs.Common.{arith, rules, ◌≡◌, ◌+◌, ◌<◌, ℕ, inl, inr, length, sym, ◌∙◌, ap, subst}
+use Rattle.std.proofs.Common.{arith, rules, ◌≡◌, inl, inr, sym, ◌∙◌}
 use Rattle.std.proofs.lemmas.Bool.{cases_eq}
 use Rattle.std.proofs.lemmas.Option.{slice_get_within}
 use Rattle.spa.specs.Laws.{AtMost}
-use Rattle.network.specs.Arcs.{HasEntry}
 use Rattle.network.specs.Fair.{potential}
 use Rattle.network.proofs.Entries.{entry_same}
 use Rattle.network.proofs.admit.gains.Goals as goal

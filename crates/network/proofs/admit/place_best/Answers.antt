@@ -1,5 +1,6 @@
 use Rattle.std.proofs.Common.{arith, sym, ◌∙◌, subst}
 use Rattle.std.proofs.lemmas.Option.{slice_get_within}
+use Rattle.network.specs.Kept.{IsKept}
 use Rattle.network.specs.Push.{IsPushing}
 use Rattle.network.proofs.PushStart.{but_feasible}
 use Rattle.network.proofs.admit.place_best.Goals as goal
@@ -13,8 +14,10 @@ search-requires-clause-student g c =
     omega (arith, h, c.requires.formed.students)
 
 pub push-requires : goal.push-requires
-push-requires g c =
-    subst (λ z. IsPushing g.G.Worth.ops c.lower_flow.new.flow c.search.new.labels.marks.items c.args.fresh c.label_of-top.result z) (c.lower_flow.ensures.sink ∙ sym c.sink-end.ensures) c.lower_flow.ensures.pushing
+push-requires g c = record {
+  kept = subst (λ z. IsKept z c.args.kept.now) (sym c.lower_flow.ensures.rest) (record { seated = c.requires.kept.seated; offered = c.requires.kept.offered });
+  pushing = subst (λ z. IsPushing g.G.Worth.ops c.lower_flow.new.flow c.search.new.labels.marks.items c.args.fresh c.label_of-top.result z) (c.lower_flow.ensures.sink ∙ sym c.sink-end.ensures) c.lower_flow.ensures.pushing;
+}
 
 pub search-requires-clause-potentials : goal.search-requires-clause-potentials
 search-requires-clause-potentials g c = λ v. omega (arith, c.requires.low v)

@@ -1,8 +1,5 @@
 use Rattle.std.proofs.Common.{arith, ◌≡◌, ◌-◌, length}
-use Rattle.network.specs.Marks.{key_at}
 use Rattle.network.specs.Arcs.{sink_of}
-use Rattle.network.proofs.Begin.{best_of_all}
-use Rattle.spa.specs.Laws.{AtMost}
 use Rattle.network.proofs.search.choose.Goals as goal
 
 pub best_open-requires-clause-last_open : goal.best_open-requires-clause-last_open

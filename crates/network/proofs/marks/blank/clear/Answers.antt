@@ -1,5 +1,4 @@
-use Rattle.std.proofs.Common.{rules, arith, ◌≡◌, ◌≤◌, sym, ◌∙◌, ap, subst, length, Some, slice_get}
-use Rattle.std.specs.Vec.{vec_capacity}
+use Rattle.std.proofs.Common.{arith, sym, ◌∙◌, ap, length, slice_get}
 use Rattle.network.proofs.Labelled.{open_known, done_known, all_blank, blank_are}
 use Rattle.network.proofs.marks.blank.clear.Goals as goal
 

@@ -1,0 +1,79 @@
+-- Lists of numbers by position, when one of them changes or one more comes.
+use Rattle.std.proofs.Common.{◌≡◌, ℕ, zero, suc, ◌+◌, ◌*◌, ◌<◌, ◌≤◌, inl, inr, List, [], ◌∷◌, ◌++◌, length, set, Some, refl, sym, ◌∙◌, ap, arith, slice_get, eq-eqb, ne_eqb, eqb}
+use Rattle.std.specs.Vec.{vec_capacity}
+use Rattle.std.specs.declared.vec.Vec.{Vec}
+use Rattle.std.specs.declared.alloc.Global.{Global}
+use Rattle.std.proofs.lemmas.Bool.{cases_eq}
+use Rattle.std.proofs.lemmas.Option.{slice_get_within}
+use Rattle.network.specs.Push.{one_if}
+use Rattle.network.specs.Labels.{count_of}
+use Rattle.network.specs.Kept.{numbers_of, numbers_at, room_of, room_at}
+use Rattle.network.proofs.Append.{slice_get-before}
+use Rattle.network.proofs.Transfer.{slice_get-set_same, slice_get-set_other}
+
+module _ (L : List (Vec ℕ Global)) (p : ℕ) (v w : Vec ℕ Global) (was : slice_get L p ≡ Some w) where
+  -- the list at p
+  here : slice_get (set L p v) p ≡ Some v
+  here = slice_get-set_same L p v (slice_get_within L p w was)
+
+  -- and another
+  there : (q : ℕ) → (q ≡ p → ⊥) → slice_get (set L p v) q ≡ slice_get L q
+  there q ne = slice_get-set_other L p q v ne
+
+  -- more in the one list
+  pub counts_more : (n : ℕ) → ((t : ℕ) → count_of v.items t ≡ count_of w.items t + one_if (eqb n t)) → (q t : ℕ)
+      → count_of (numbers_at (set L p v) q) t ≡ count_of (numbers_at L q) t + one_if (eqb p q) * one_if (eqb n t)
+  counts_more n more q t = elim (cases_eq q p) [
+    | inl e ↦
+        (let z : one_if (eqb p q) * one_if (eqb n t) ≡ one_if (eqb n t) = ap (λ x. x * one_if (eqb n t)) (ap one_if (eq-eqb p q (sym e))) ∙ omega arith in
+        let a : count_of (numbers_at (set L p v) q) t ≡ count_of v.items t = ap (λ x. count_of (numbers_at (set L p v) x) t) e ∙ ap (λ x. count_of (numbers_of x) t) here in
+        let b : count_of (numbers_at L q) t ≡ count_of w.items t = ap (λ x. count_of (numbers_at L x) t) e ∙ ap (λ x. count_of (numbers_of x) t) was in
+        omega (arith, a, b, z, more t))
+    | inr ne ↦
+        (let z : one_if (eqb p q) * one_if (eqb n t) ≡ 0 = ap (λ x. x * one_if (eqb n t)) (ap one_if (ne_eqb p q (λ e. ne (sym e)))) ∙ omega arith in
+        let a : count_of (numbers_at (set L p v) q) t ≡ count_of (numbers_at L q) t = ap (λ x. count_of (numbers_of x) t) (there q ne) in
+        omega (arith, a, z))
+  ]
+
+  -- less in the one list
+  pub counts_less : (n : ℕ) → ((t : ℕ) → count_of v.items t + one_if (eqb n t) ≡ count_of w.items t) → (q t : ℕ)
+      → count_of (numbers_at (set L p v) q) t + one_if (eqb p q) * one_if (eqb n t) ≡ count_of (numbers_at L q) t
+  counts_less n less q t = elim (cases_eq q p) [
+    | inl e ↦
+        (let z : one_if (eqb p q) * one_if (eqb n t) ≡ one_if (eqb n t) = ap (λ x. x * one_if (eqb n t)) (ap one_if (eq-eqb p q (sym e))) ∙ omega arith in
+        let a : count_of (numbers_at (set L p v) q) t ≡ count_of v.items t = ap (λ x. count_of (numbers_at (set L p v) x) t) e ∙ ap (λ x. count_of (numbers_of x) t) here in
+        let b : count_of (numbers_at L q) t ≡ count_of w.items t = ap (λ x. count_of (numbers_at L x) t) e ∙ ap (λ x. count_of (numbers_of x) t) was in
+        omega (arith, a, b, z, less t))
+    | inr ne ↦
+        (let z : one_if (eqb p q) * one_if (eqb n t) ≡ 0 = ap (λ x. x * one_if (eqb n t)) (ap one_if (ne_eqb p q (λ e. ne (sym e)))) ∙ omega arith in
+        let a : count_of (numbers_at (set L p v) q) t ≡ count_of (numbers_at L q) t = ap (λ x. count_of (numbers_of x) t) (there q ne) in
+        omega (arith, a, z))
+  ]
+
+  -- the room stays
+  pub room_same : vec_capacity v ≡ vec_capacity w → (q : ℕ) → room_at (set L p v) q ≡ room_at L q
+  room_same same q = elim (cases_eq q p) [
+    | inl e ↦ ap (room_at (set L p v)) e ∙ ap room_of here ∙ same ∙ sym (ap (room_at L) e ∙ ap room_of was)
+    | inr ne ↦ ap room_of (there q ne)
+  ]
+
+  -- no list gets longer
+  pub all_shorter : length v.items ≤ length w.items → (q : ℕ) → length (numbers_at (set L p v) q) ≤ length (numbers_at L q)
+  all_shorter less q = elim (cases_eq q p) [
+    | inl e ↦
+        (let a : length (numbers_at (set L p v) q) ≡ length v.items = ap (λ x. length (numbers_at (set L p v) x)) e ∙ ap (λ x. length (numbers_of x)) here in
+        let b : length (numbers_at L q) ≡ length w.items = ap (λ x. length (numbers_at L x)) e ∙ ap (λ x. length (numbers_of x)) was in
+        omega (arith, a, b, less))
+    | inr ne ↦ (let a : length (numbers_at (set L p v) q) ≡ length (numbers_at L q) = ap (λ x. length (numbers_of x)) (there q ne) in omega (arith, a))
+  ]
+
+-- one more empty list
+pub none_more : (L : List (Vec ℕ Global)) (v : Vec ℕ Global) → v.items ≡ [] → ((p s : ℕ) → count_of (numbers_at L p) s ≡ 0) → (p s : ℕ) → count_of (numbers_at (L ++ v ∷ []) p) s ≡ 0
+none_more [] v e none zero s = ap (λ z. count_of z s) e
+none_more [] v e none (suc p) s = refl
+none_more (x ∷ L) v e none zero s = none 0 s
+none_more (x ∷ L) v e none (suc p) s = none_more L v e (λ q. none (suc q)) p s
+
+-- the lists before stay
+pub before_same : (L : List (Vec ℕ Global)) (v : Vec ℕ Global) (p : ℕ) → p < length L → slice_get (L ++ v ∷ []) p ≡ slice_get L p
+before_same L v p lt = slice_get-before L v p lt
