@@ -1,10 +1,10 @@
 //! A student who was added finds a place.
 
-ghost use Rattle.std.specs.Prelude.{◌≡◌, ℕ, ◌+◌, ◌-◌, ◌*◌, ◌<◌, ◌≤◌, ◌^◌, length, slice_get, Some, None, false};
+ghost use Rattle.std.specs.Prelude.{◌≡◌, ℕ, ◌+◌, ◌*◌, ◌<◌, ◌≤◌, ◌^◌, length, slice_get, Some, None, false};
 ghost use Rattle.network.specs.Marks.{mark_at};
 ghost use Rattle.network.specs.Labels.{AreLabels, AreBlank};
 ghost use Rattle.network.specs.Kept.{IsKept};
-ghost use Rattle.network.specs.Search.{lowered, IsFound, Feasible};
+ghost use Rattle.network.specs.Search.{IsFound};
 ghost use Rattle.network.specs.Arcs.{Arc, IsFormed, HasEntry, OfStudent, sink_of, flow_arcs};
 ghost use Rattle.spa.specs.Laws.{AtMost};
 ghost use Rattle.network.specs.Fair.{IsFairBut, IsLow, potential};

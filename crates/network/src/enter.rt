@@ -1,6 +1,6 @@
 //! One more student enters the flow.
 
-ghost use Rattle.std.specs.Prelude.{◌≡◌, ℕ, ◌+◌, ◌-◌, ◌*◌, ◌<◌, ◌≤◌, ◌^◌, [], ◌∷◌, ◌++◌, length, slice_get, Some, None, IfOk, OnOk};
+ghost use Rattle.std.specs.Prelude.{◌≡◌, ◌+◌, ◌*◌, ◌<◌, ◌≤◌, [], ◌∷◌, ◌++◌, length, slice_get, Some, None, OnOk};
 ghost use Rattle.std.specs.Vec.{vec_len, vec_capacity};
 ghost use Rattle.network.specs.Labels.{AreBlank};
 ghost use Rattle.network.specs.Kept.{IsKept};
@@ -15,7 +15,7 @@ use crate::flow::Flow;
 use crate::kept::Kept;
 use crate::marks::Labels;
 use spa::Worth;
-use std::alloc::{AllocError, Global};
+use std::alloc::AllocError;
 
 /// What an admission came to.
 #[derive(Clone, Copy, Debug, PartialEq, Eq)]
@@ -46,14 +46,8 @@ fn append<G: Worth>(flow: &mut Flow<G>, row: Vec<(usize, G)>)
     ensures places { flow.new.places.items ≡ flow.old.places.items ++ None ∷ [] }
     ensures rest { flow.new ≡ record flow.old { lists = flow.new.lists; places = flow.new.places } }
 {
-    match flow.lists.push(row) {
-        Ok(()) => {}
-        Err(_) => unreachable!(),
-    }
-    match flow.places.push(None) {
-        Ok(()) => {}
-        Err(_) => unreachable!(),
-    }
+    flow.lists.push_reserved(row);
+    flow.places.push_reserved(None);
 }
 
 /// Whether a student has a place.

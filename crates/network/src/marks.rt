@@ -1,31 +1,30 @@
 //! The marks of one search.
 
-ghost use Rattle.std.specs.Prelude.{◌≡◌, ℕ, ◌+◌, ◌<◌, ◌≤◌, ◌^◌, length, slice_set, slice_index_or, true, false, MatchOption, IsTrue, ◌↔◌};
-ghost use Rattle.spa.specs.Laws.{AtMost};
-
-use spa::Worth;
-use std::cmp::Ordering;
-
 /// Along which residual arc a node was reached.
 #[derive(Clone, Copy, Debug, PartialEq, Eq)]
 pub enum Origin {
+    /// Not reached yet.
     Unseen,
-    /// a project, by an entry of a student's list
+    /// A project, by the entry at a place of a student's list.
     Entry(usize, usize),
-    /// the sink, by a student who gives up the place
+    /// The sink, by a student who gives up the place.
     Leave(usize),
-    /// a supervisor, by a project with room
+    /// A supervisor, by a project with room.
     Offer(usize),
-    /// a project, by its supervisor
+    /// A project, by its supervisor.
     Swap(usize),
-    /// the sink, by a supervisor with room
+    /// The sink, by a supervisor with room.
     Room(usize),
 }
 
+/// What a search knows of a node.
 #[derive(Clone, Copy)]
 pub struct Mark<G> {
+    /// The worth of the best walk found to the node.
     pub label: G,
+    /// The last arc of that walk.
     pub origin: Origin,
+    /// The place in the order of settling, where the node is settled.
     pub rank: Option<usize>,
 }
 
@@ -33,7 +32,9 @@ pub struct Mark<G> {
 #[derive(Drop)]
 pub struct Labels<G> {
     pub marks: Vec<Mark<G>>,
+    /// The open nodes, in any order.
     pub frontier: Vec<usize>,
+    /// The settled nodes.
     pub settled: Vec<usize>,
 }
 

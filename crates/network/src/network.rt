@@ -1,6 +1,6 @@
 //! The network: students are admitted one by one.
 
-ghost use Rattle.std.specs.Prelude.{◌≡◌, ℕ, ◌+◌, ◌<◌, ◌≤◌, [], length, slice_get, slice_index, Some, IfOk, OnErr, All};
+ghost use Rattle.std.specs.Prelude.{◌≡◌, ℕ, ◌<◌, ◌≤◌, [], length, slice_get, slice_index, Some, IfOk, OnErr, All};
 ghost use Rattle.spa.specs.declared.TheConstants.{MOST_SUPERVISORS, MOST_PROJECTS, MOST_STUDENTS, MOST_PLACES, RANKS};
 ghost use Rattle.network.specs.Arcs.{project_count};
 ghost use Rattle.network.specs.Marks.{potential_at};

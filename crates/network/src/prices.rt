@@ -1,6 +1,6 @@
 //! The prices that show that a matching is a best one.
 
-ghost use Rattle.std.specs.Prelude.{◌≡◌, ℕ, ◌+◌, ◌*◌, ◌<◌, ◌≤◌, ◌^◌, length, slice_get, Some, None, IfOk};
+ghost use Rattle.std.specs.Prelude.{◌≡◌, ℕ, ◌<◌, length, Some, None, IfOk};
 ghost use Rattle.network.specs.Marks.{potential_at};
 ghost use Rattle.network.specs.Arcs.{IsFormed};
 ghost use Rattle.network.specs.Fair.{IsLow};

@@ -1,10 +1,9 @@
 //! A push along the walk that a search found, from the sink back to the new student.
 
-ghost use Rattle.std.specs.Prelude.{◌≡◌, ℕ, ◌+◌, ◌-◌, ◌*◌, ◌<◌, ◌≤◌, ◌^◌, length, slice_get, slice_index, slice_set, Some, None, IfSome, IfNone, true};
+ghost use Rattle.std.specs.Prelude.{◌≡◌, ◌+◌, ◌-◌, ◌<◌, length, slice_index, slice_set, Some, None, IfSome, IfNone};
 ghost use Rattle.network.specs.declared.marks.Origin.TheVariants.{Entry, Leave, Offer, Swap, Room};
-ghost use Rattle.network.specs.Marks.{mark_at, is_seen};
-ghost use Rattle.network.specs.Search.{rank_or};
-ghost use Rattle.network.specs.Arcs.{HasEntry, sink_of, project_count, IsFormed};
+ghost use Rattle.network.specs.Marks.{mark_at};
+ghost use Rattle.network.specs.Arcs.{project_count};
 ghost use Rattle.network.specs.Kept.{IsKept};
 ghost use Rattle.network.specs.Push.{IsPushing, IsPushed, IsNext};
 

@@ -1,12 +1,12 @@
 //! A search for a best walk to the sink.
 
-ghost use Rattle.std.specs.Prelude.{◌≡◌, ℕ, ◌+◌, ◌-◌, ◌*◌, ◌<◌, ◌≤◌, ◌^◌, length, slice_get, slice_index, slice_set, Some, None, IfSome, IfNone, sum_by, nat_lt, true};
+ghost use Rattle.std.specs.Prelude.{◌≡◌, ℕ, ◌+◌, ◌*◌, ◌<◌, ◌≤◌, ◌^◌, length, slice_get, slice_set, Some, true};
 ghost use Rattle.spa.specs.Laws.{AtMost};
-ghost use Rattle.network.specs.Marks.{mark_at, potential_at, key_at, blank, settled_as, is_open_mark, unsettled};
+ghost use Rattle.network.specs.Marks.{mark_at, potential_at, key_at, blank, settled_as, is_open_mark};
 ghost use Rattle.network.specs.Labels.{AreLabels};
 ghost use Rattle.network.specs.Kept.{IsKept};
 ghost use Rattle.network.specs.Search.{Relaxes, OffersOf, Feasible, IsFound, IsRunning};
-ghost use Rattle.network.specs.Arcs.{Arc, IsFormed, OfStudent, sink_of, project_count, flow_arcs};
+ghost use Rattle.network.specs.Arcs.{Arc, IsFormed, OfStudent, sink_of, flow_arcs};
 
 use crate::flow::Flow;
 use crate::kept::Kept;

@@ -1,6 +1,6 @@
 //! Labels of nodes that no walk has reached.
 
-ghost use Rattle.std.specs.Prelude.{◌≡◌, ℕ, ◌<◌, ◌≤◌, length, slice_get, slice_set, Some, IfOk};
+ghost use Rattle.std.specs.Prelude.{◌≡◌, ℕ, ◌<◌, length, slice_get, slice_set, Some, IfOk};
 ghost use Rattle.network.specs.Marks.{mark_at, blank};
 ghost use Rattle.network.specs.Labels.{AreLabels, AreBlank};
 

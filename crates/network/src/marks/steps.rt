@@ -1,11 +1,11 @@
 //! One relaxation, and the choice of the next node.
 
-ghost use Rattle.std.specs.Prelude.{◌≡◌, ℕ, ◌+◌, ◌-◌, ◌<◌, ◌≤◌, ◌^◌, length, slice_set, slice_index_or, true, false, not, ◌&&◌, MatchOption, IsTrue, ◌↔◌};
+ghost use Rattle.std.specs.Prelude.{◌≡◌, ℕ, ◌+◌, ◌-◌, ◌<◌, ◌^◌, length, slice_set, true, false, not};
 ghost use Rattle.std.specs.Ordering.{is_gt};
 ghost use Rattle.spa.specs.Laws.{AtMost};
 ghost use Rattle.network.specs.Search.{Relaxes, OneOffer};
 ghost use Rattle.network.specs.Labels.{AreLabels};
-ghost use Rattle.network.specs.Marks.{mark_at, potential_at, key_at, relaxed, settled_as, is_seen, is_settled, is_open_mark};
+ghost use Rattle.network.specs.Marks.{mark_at, potential_at, key_at, relaxed, settled_as, is_seen, is_open_mark};
 
 use super::{Labels, Mark, Origin};
 use crate::numbers::{put_in, take_out};
