@@ -1,7 +1,7 @@
 -- The first line up to which lines begin no round text.
-use Rattle.std.proofs.Common.{◌≡◌, ℕ, ◌+◌, ◌<◌, ◌≤◌, List, [], ◌∷◌, ◌++◌, length, map, take, drop, get_or, flat_map, refl, sym, ap, ◌∙◌, subst, arith}
+use Rattle.std.proofs.Common.{◌≡◌, ℕ, ◌+◌, ◌<◌, ◌≤◌, List, [], ◌∷◌, ◌++◌, length, map, take, drop, get_or, refl, sym, ap, ◌∙◌, subst, arith}
 use Rattle.std.specs.Prelude.{◌==◌}
-use Rattle.std.proofs.lemmas.List.{take_more, take_at, take_all, take-append-le, take-append-drop, length-append, length-take-le, get_or_at, get_or-map}
+use Rattle.std.proofs.lemmas.List.{take_more, take_at, take_all, take-append-le, take-append-drop, length-append, get_or_at, get_or-map}
 use denote.Ref.{Bor}
 use Rattle.std.proofs.lemmas.List.Splits.{length-slice_split}
 use Rattle.intake.specs.Parts.{Parts, IsRoundParts}

@@ -1,9 +1,9 @@
-use Rattle.std.proofs.Common.{◌≡◌, ℕ, ◌+◌, ◌-◌, ◌<◌, ◌≤◌, Bool, true, false, List, [], length, map, take, sym, ap, subst, ◌∙◌, arith, rules}
+use Rattle.std.proofs.Common.{◌≡◌, ℕ, ◌-◌, ◌<◌, Bool, List, length, take, sym, ap, subst, ◌∙◌, arith, rules}
 use denote.Ref.{Bor}
 use Rattle.std.proofs.lemmas.List.{length-map}
 use Rattle.intake.specs.Lines.{round_lines}
 use Rattle.intake.specs.Reading.{pieces}
-use Rattle.intake.specs.Draft.{draft_of, IsWhole, AddsLine}
+use Rattle.intake.specs.Draft.{draft_of, AddsLine}
 use Rattle.intake.proofs.Bad.{some_piece, piece_at, line_more, bad_line, bad_end, good_text}
 use Rattle.intake.proofs.read.read_round.Goals as goal
 
