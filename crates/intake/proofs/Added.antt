@@ -1,13 +1,10 @@
 -- What a line that was tried adds to a draft.
-use Rattle.std.proofs.Common.{◌≡◌, ℕ, ℤ, Bool, true, false, All, not, ◌==◌, refl, List, [], map, ◌∷◌, ◌++◌, codes, sym, ap, subst, ◌∙◌}
+use Rattle.std.proofs.Common.{◌≡◌, ℕ, Bool, true, false, All, ◌==◌, refl, List, [], map, ◌∷◌, ◌++◌, codes, sym, ap, subst, ◌∙◌}
 use Rattle.intake.specs.Parts.{Parts}
 use Rattle.intake.specs.Lines.{Row, line, round_lines}
 use Rattle.intake.specs.Reading.{Begins}
 use Rattle.intake.specs.Draft.{IsDraft, IsField, AddsLine, AddsSupervisor, AddsProject, AddsStudent, AddsPair, AddsStudentPrice, AddsProjectPrice, AddsSupervisorPrice, line_of}
 use denote.Ref.{Bor}
-use Rattle.std.specs.Str.{bytes_eq}
-use Rattle.std.proofs.lemmas.Bool.Decides.{not_from_Decides}
-use Rattle.std.proofs.lemmas.Slice.Eq.{bytes_eq-Decides}
 use Rattle.std.proofs.lemmas.List.Elements.{All-nil, All-cons, All-tail}
 use Rattle.intake.proofs.Goes.{goes_on}
 use Rattle.intake.proofs.Takes.{supervisor_only, project_only, student_only, pair_only, student_price_only, project_price_only, supervisor_price_only, other_only}

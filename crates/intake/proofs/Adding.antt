@@ -1,9 +1,9 @@
 -- What a row adds to a draft.
-use Rattle.std.proofs.Common.{◌≡◌, ℕ, zero, suc, ◌+◌, ◌-◌, ◌<◌, ◌≤◌, ℤ, Bool, true, false, List, [], ◌∷◌, ◌++◌, length, map, get_or, replicate, Option, Some, None, refl, sym, ap, ◌∙◌, subst, arith}
+use Rattle.std.proofs.Common.{◌≡◌, ℕ, ◌<◌, ◌≤◌, ℤ, Bool, true, false, List, [], ◌∷◌, ◌++◌, length, map, get_or, Option, refl, ap, ◌∙◌, subst, arith}
 use denote.Ref.{Bor}
 use Rattle.std.proofs.lemmas.List.{map_push, nil_from_length}
 use Rattle.spa.specs.Instance.{Instance, Supervisor, Project, Student, given, supervisor_codes, project_codes, student_codes, supervisors_of, projects_of, students_of}
-use Rattle.intake.specs.Parts.{Parts, Rise}
+use Rattle.intake.specs.Parts.{Parts}
 use Rattle.intake.specs.Draft.{NoneOrAll, AddsPrice, AddsStudentPrice, AddsProjectPrice, AddsSupervisorPrice, with_supervisor, with_project, with_student}
 use Rattle.intake.proofs.Lists.{blank}
 

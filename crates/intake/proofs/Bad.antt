@@ -1,8 +1,7 @@
 -- The first line up to which lines begin no round text.
-use Rattle.std.proofs.Common.{◌≡◌, ℕ, ◌+◌, ◌<◌, ◌≤◌, Bool, true, false, List, [], ◌∷◌, ◌++◌, length, map, take, drop, get_or, flat_map, refl, sym, ap, ◌∙◌, subst, arith}
+use Rattle.std.proofs.Common.{◌≡◌, ℕ, ◌+◌, ◌<◌, ◌≤◌, List, [], ◌∷◌, ◌++◌, length, map, take, drop, get_or, refl, sym, ap, ◌∙◌, subst, arith}
 use Rattle.std.specs.Prelude.{◌==◌}
-use Rattle.std.proofs.lemmas.List.{take_more, take_at, take_all, take-append-le, take-append-drop, length-append, length-take-le, get_or_at, get_or-map, nil_from_length}
-use Rattle.std.proofs.lemmas.Bool.{eqb-true, eqb-false}
+use Rattle.std.proofs.lemmas.List.{take_more, take_at, take_all, take-append-le, take-append-drop, length-append, get_or_at, get_or-map}
 use denote.Ref.{Bor}
 use Rattle.std.proofs.lemmas.List.Splits.{length-slice_split}
 use Rattle.intake.specs.Parts.{Parts, IsRoundParts}
@@ -66,14 +65,6 @@ good_text text n ls lines many last =
 -- a piece that was read
 pub piece_at : (text : List ℕ) (lines : List (Bor (List ℕ))) (n : ℕ) (x : Bor (List ℕ)) → map (λ p. p.now) lines ≡ pieces text → n < length lines → x ≡ get_or lines n x → get_or (pieces text) n [] ≡ x.now
 piece_at text lines n x e h read = ap (λ (l : List (List ℕ)). get_or l n []) (sym e) ∙ get_or-map (λ (p : Bor (List ℕ)). p.now) lines n x [] h ∙ ap (λ (p : Bor (List ℕ)). p.now) (sym read)
-
--- a piece that tests as empty
-pub empty_piece : (x : List ℕ) (r : Bool) → r ≡ (length x == 0) → r ≡ true → x ≡ []
-empty_piece x r e t = nil_from_length x (eqb-true (length x) 0 (sym e ∙ t))
-
--- and one that does not
-pub other_piece : (x : List ℕ) (r : Bool) → r ≡ (length x == 0) → r ≡ false → x ≡ [] → ⊥
-other_piece x r e t same = eqb-false (length x) 0 (sym e ∙ t) (ap length same)
 
 -- one line more of those that were read
 pub line_more : (text : List ℕ) (n : ℕ) (old new : List (List ℕ)) (l : List ℕ) → n < length (pieces text) → get_or (pieces text) n [] ≡ l → old ≡ take n (pieces text) → new ≡ old ++ l ∷ [] → new ≡ take (n + 1) (pieces text)

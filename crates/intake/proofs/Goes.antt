@@ -1,5 +1,5 @@
 -- A line that goes on is one that the draft takes.
-use Rattle.std.proofs.Common.{◌≡◌, ℕ, zero, suc, ◌+◌, ◌<◌, ◌≤◌, ◌^◌, ◌/◌, ◌%◌, ◌⊎◌, inl, inr, ℤ, pos, negsuc, Bool, true, false, List, [], ◌∷◌, ◌++◌, length, map, get_or, slice_get, codes, decimal, flat_map, Option, Some, None, All, Contains, refl, sym, ap, ◌∙◌, subst, arith, append_assoc}
+use Rattle.std.proofs.Common.{◌≡◌, ℕ, zero, suc, ◌+◌, ◌<◌, ◌≤◌, ◌^◌, ◌%◌, ℤ, pos, negsuc, true, false, List, [], ◌∷◌, ◌++◌, length, map, get_or, slice_get, codes, decimal, Option, Some, None, All, Contains, refl, sym, ap, ◌∙◌, arith, append_assoc}
 use Rattle.std.specs.Fmt.{signed_decimal}
 use Rattle.std.specs.List.{list_all}
 use Rattle.std.specs.Prelude.{◌==◌, IsTrue}
@@ -13,11 +13,11 @@ use Rattle.std.proofs.lemmas.List.Elements.{All-nil, All-cons, All-head, All-tai
 use Rattle.spa.specs.declared.TheConstants.{MOST_PLACES}
 use Rattle.spa.specs.Text.{is_code, is_code_byte}
 use Rattle.spa.specs.Codes.{code_at}
-use Rattle.spa.specs.Instance.{Instance, Supervisor, Project, Student, supervisor_codes, project_codes, student_codes}
-use Rattle.spa.specs.Made.{IsWithin, IsSoundList}
+use Rattle.spa.specs.Instance.{Supervisor, Project, Student, supervisor_codes, project_codes, student_codes}
+use Rattle.spa.specs.Made.{IsSoundList}
 use Rattle.verdict.specs.Rows.{InRange}
 use Rattle.intake.specs.Parts.{Parts, IsRoll, IsPrice, IsRoundParts}
-use Rattle.intake.specs.Lines.{Row, Section, line, section_lines, sections, round_lines, supervisor_row, project_row, student_row, pair_rows, price_rows}
+use Rattle.intake.specs.Lines.{Row, line, sections, round_lines, supervisor_row, project_row, student_row, pair_rows, price_rows}
 use Rattle.intake.specs.Reading.{Begins}
 use Rattle.intake.specs.Draft.{IsDraft, IsField, IsFree}
 use Rattle.intake.proofs.Numbers.{code_bytes, small}

@@ -1,17 +1,16 @@
 -- A list of projects, read field by field.
-use Rattle.std.proofs.Common.{◌≡◌, ℕ, zero, suc, ◌+◌, ◌<◌, ◌≤◌, Bool, true, false, not, List, [], ◌∷◌, ◌++◌, length, map, get_or, take, slice_get, Option, Some, None, All, Contains, refl, sym, ap, ◌∙◌, subst, inl, inr, arith}
+use Rattle.std.proofs.Common.{◌≡◌, ℕ, zero, suc, ◌+◌, ◌<◌, Bool, true, false, not, List, [], ◌∷◌, ◌++◌, length, map, get_or, take, slice_get, Option, Some, None, refl, sym, ap, ◌∙◌, arith}
 use Rattle.std.specs.Prelude.{IsTrue, is_some}
 use denote.Ref.{Bor}
-use Rattle.std.proofs.lemmas.List.{take_more, length-map, length-take-le}
+use Rattle.std.proofs.lemmas.List.{take_more, length-take-le}
 use Rattle.std.specs.Str.{bytes_eq}
 use Rattle.std.proofs.lemmas.Bool.Decides.{not_from_Decides}
 use Rattle.std.proofs.lemmas.Slice.Eq.{bytes_eq-Decides}
 use Rattle.std.proofs.lemmas.List.Elements.{All-contains}
 use Rattle.spa.specs.Text.{is_code}
-use Rattle.spa.specs.Codes.{AreApart, Finds}
+use Rattle.spa.specs.Codes.{Finds}
 use Rattle.spa.specs.Made.{IsSoundUpTo, IsSoundList}
 use Rattle.intake.specs.Parts.{IsRoll}
-use Rattle.intake.proofs.Found.{slice_get_at}
 use Rattle.intake.proofs.Order.{get_found}
 use Rattle.intake.proofs.Rolls.{known_more, apart_more, contained, standing}
 

@@ -1,19 +1,18 @@
 -- What a pair's line refers to.
-use Rattle.std.proofs.Common.{◌≡◌, ℕ, zero, suc, ◌+◌, ◌-◌, ◌<◌, ◌≤◌, true, List, [], ◌∷◌, ◌++◌, length, map, get_or, slice_get, replicate, Option, Some, None, Vec, Global, All, Contains, refl, sym, ap, ◌∙◌, subst, inl, inr, arith}
+use Rattle.std.proofs.Common.{◌≡◌, ℕ, zero, suc, ◌<◌, true, List, [], ◌∷◌, length, map, get_or, slice_get, Some, None, Vec, Global, All, sym, ap, ◌∙◌, subst, inl, inr, arith}
 use Rattle.std.specs.Prelude.{IsTrue}
 use Rattle.std.proofs.lemmas.Bool.{cases_order}
-use Rattle.std.proofs.lemmas.List.{length-map}
 use Rattle.std.proofs.lemmas.List.Elements.{All-contains}
 use Rattle.spa.specs.declared.code.Code.{Code}
 use Rattle.spa.specs.Text.{is_code}
 use Rattle.spa.specs.Codes.{code_at, Finds}
 use Rattle.spa.specs.Instance.{Student, students_of, student_codes, project_codes}
 use Rattle.spa.specs.Made.{IsSoundList}
-use Rattle.intake.specs.Parts.{Parts, Rise, IsRoll}
+use Rattle.intake.specs.Parts.{Parts, Rise}
 use Rattle.intake.specs.Draft.{IsDraft, TakesPair}
 use Rattle.intake.proofs.Found.{slice_get_at}
 use Rattle.intake.proofs.Order.{get_found, cmp_apart}
-use Rattle.intake.proofs.Rolls.{contained, within_get}
+use Rattle.intake.proofs.Rolls.{within_get}
 
 -- what is found of a list that is made from another
 pub get_mapped : {X Y : Type 0} (f : X → Y) (xs : List X) (n : ℕ) (x : X) → slice_get xs n ≡ Some x → slice_get (map f xs) n ≡ Some (f x)

@@ -1,9 +1,8 @@
 -- Rolls of entries with codes, as the code keeps them and by codes.
-use Rattle.std.proofs.Common.{◌≡◌, ◌≢◌, ℕ, zero, suc, ◌+◌, ◌<◌, List, [], ◌∷◌, ◌++◌, length, map, slice_get, Some, None, Option, Vec, Global, Contains, refl, sym, ap, ◌∙◌, subst, inl, inr, arith, below_more}
+use Rattle.std.proofs.Common.{◌≡◌, ℕ, zero, suc, ◌+◌, ◌<◌, List, [], ◌∷◌, ◌++◌, length, map, slice_get, Some, None, Vec, Global, Contains, refl, sym, ap, ◌∙◌, subst, inl, inr, arith, below_more}
 use Rattle.std.proofs.lemmas.Bool.{cases_lt}
-use Rattle.std.proofs.lemmas.List.{map_push, length-map}
 use Rattle.spa.specs.declared.code.Code.{Code}
-use Rattle.spa.specs.Instance.{Supervisor, Project, Student, supervisors_of, projects_of, students_of}
+use Rattle.spa.specs.Instance.{supervisors_of, projects_of, students_of}
 use Rattle.spa.specs.Codes.{AreApart, Finds}
 use Rattle.spa.specs.Made.{AreKnown, IsSoundList}
 use Rattle.intake.specs.Parts.{Rise}

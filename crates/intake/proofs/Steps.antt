@@ -1,17 +1,17 @@
 -- A draft with one line more is a draft, and has that line after the others.
-use Rattle.std.proofs.Common.{◌≡◌, ℕ, zero, suc, ◌+◌, ◌-◌, ◌<◌, ◌≤◌, ◌⊎◌, inl, inr, ℤ, List, [], ◌∷◌, ◌++◌, length, map, get_or, slice_get, replicate, flat_map, codes, Option, Some, None, All, Contains, true, refl, sym, ap, ◌∙◌, subst, arith, append_assoc, append-nil}
+use Rattle.std.proofs.Common.{◌≡◌, ℕ, zero, suc, ◌+◌, ◌-◌, ◌<◌, ◌≤◌, inl, inr, ℤ, List, [], ◌∷◌, ◌++◌, length, map, slice_get, replicate, codes, Option, Some, None, All, Contains, true, refl, sym, ap, ◌∙◌, subst, arith, append_assoc, append-nil}
 use Rattle.std.specs.Fmt.{signed_decimal}
 use Rattle.std.specs.Prelude.{IsTrue}
-use Rattle.std.proofs.lemmas.List.{map_push, length_push, nil_from_length, length-map}
-use Rattle.std.proofs.lemmas.List.Elements.{All-push, All-nil, All-weaker, Contains-append_left}
+use Rattle.std.proofs.lemmas.List.{map_push, length_push, length-map}
+use Rattle.std.proofs.lemmas.List.Elements.{All-push, All-nil}
 use Rattle.spa.specs.declared.TheConstants.{MOST_PLACES}
 use Rattle.spa.specs.Text.{is_code}
 use Rattle.spa.specs.Codes.{code_at}
 use Rattle.spa.specs.Instance.{Supervisor, Project, Student, supervisor_codes, project_codes, student_codes}
 use Rattle.spa.specs.Made.{IsSoundList}
-use Rattle.intake.specs.Parts.{Parts, Rise, IsPlace, IsPrice, IsRoll}
-use Rattle.intake.specs.Lines.{Row, Section, line, section_lines, sections, round_lines, supervisor_row, project_row, student_row, pair_rows, price_rows}
-use Rattle.intake.specs.Draft.{IsDraft, ArePricesUpTo, ArePlaces, EndsPlaced, NoneOrAll, HasNoPrices, TakesSupervisor, TakesProject, TakesStudent, TakesPair, TakesPrice, TakesStudentPrice, TakesProjectPrice, TakesSupervisorPrice, with_supervisor, with_project, with_student, with_pair}
+use Rattle.intake.specs.Parts.{Parts, Rise, IsPrice, IsRoll}
+use Rattle.intake.specs.Lines.{Row, line, round_lines, supervisor_row, project_row, student_row, pair_rows, price_rows}
+use Rattle.intake.specs.Draft.{IsDraft, ArePricesUpTo, ArePlaces, EndsPlaced, TakesSupervisor, TakesProject, TakesStudent, TakesPair, TakesPrice, TakesStudentPrice, TakesProjectPrice, TakesSupervisorPrice, with_supervisor, with_project, with_student, with_pair}
 
 -- the lines of seven sections
 abbrev pub seven : List (List ℕ) → List (List ℕ) → List (List ℕ) → List (List ℕ) → List (List ℕ) → List (List ℕ) → List (List ℕ) → List (List ℕ)

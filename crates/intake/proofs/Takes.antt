@@ -1,24 +1,23 @@
 -- The section that the next row is in says what the draft takes.
-use Rattle.std.proofs.Common.{◌≡◌, ℕ, zero, suc, ◌+◌, ◌-◌, ◌<◌, ◌≤◌, ◌⊎◌, inl, inr, ℤ, Bool, true, false, ◌||◌, List, [], ◌∷◌, ◌++◌, length, map, drop, get_or, slice_get, codes, decimal, Option, Some, None, All, Contains, refl, sym, ap, ◌∙◌, subst, arith, append_assoc}
+use Rattle.std.proofs.Common.{◌≡◌, ℕ, zero, suc, ◌<◌, ◌≤◌, ◌⊎◌, inl, inr, ℤ, Bool, true, false, ◌||◌, List, [], ◌∷◌, ◌++◌, length, map, drop, get_or, slice_get, codes, Option, Some, None, All, Contains, refl, sym, ap, ◌∙◌, subst, arith}
 use Rattle.std.specs.Fmt.{signed_decimal}
 use Rattle.std.specs.List.{AllZip}
 use Rattle.std.specs.Prelude.{IsTrue}
 use Rattle.std.specs.Str.{bytes_eq}
 use Rattle.std.proofs.lemmas.Slice.Eq.{bytes_eq-Decides}
-use Rattle.std.proofs.lemmas.List.{map-append, length-append, length-map, get_or_append_left, nil_from_length}
-use Rattle.std.proofs.lemmas.List.Elements.{All-head, All-tail}
+use Rattle.std.proofs.lemmas.List.{length-append, length-map, get_or_append_left, nil_from_length}
 use Rattle.spa.specs.declared.TheConstants.{MOST_PLACES}
 use Rattle.spa.specs.Text.{is_code}
 use Rattle.spa.specs.Codes.{code_at}
-use Rattle.spa.specs.Instance.{Instance, Supervisor, Project, Student, supervisor_codes, project_codes, student_codes}
+use Rattle.spa.specs.Instance.{Supervisor, Project, Student, supervisor_codes, project_codes, student_codes}
 use Rattle.spa.specs.Made.{IsSoundList}
-use Rattle.intake.specs.Parts.{Parts, Rise, IsRoll, IsPlace, IsPrice, IsRoundParts}
+use Rattle.intake.specs.Parts.{Parts, Rise, IsPlace, IsPrice, IsRoundParts}
 use Rattle.intake.specs.Lines.{Row, Section, sections, round_lines, supervisor_row, project_row, student_row, pair_rows, price_rows}
 use Rattle.intake.specs.Draft.{IsDraft, IsWhole, HasNoPrices, NoneOrAll, ArePlaces, EndsPlaced, TakesSupervisor, TakesProject, TakesStudent, TakesPair, TakesPrice, TakesStudentPrice, TakesProjectPrice, TakesSupervisorPrice}
 use Rattle.intake.proofs.Order.{cmp_apart, get_found}
 use Rattle.intake.proofs.Pairing.{all_found, get_mapped}
 use Rattle.intake.proofs.Rolls.{within_get}
-use Rattle.intake.proofs.Sections.{Next, NoRows, has_letter}
+use Rattle.intake.proofs.Sections.{Next, has_letter}
 use Rattle.intake.proofs.Goes.{GoesOn, rows_alike}
 
 -- a row's letter is one of the sections'

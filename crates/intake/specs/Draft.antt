@@ -1,5 +1,5 @@
 -- The parts of a round text as far as it was read, and what a line may add to them.
-use Rattle.std.specs.Prelude.{◌≡◌, Bool, true, false, replicate, ◌-◌, ◌==◌, ℕ, ◌<◌, ◌≤◌, ◌⊎◌, ℤ, List, [], ◌∷◌, ◌++◌, length, map, take, slice_get, Option, Some, None, IsSome, IsTrue, All, Contains, ⊤}
+use Rattle.std.specs.Prelude.{◌≡◌, Bool, true, false, replicate, ◌-◌, ◌==◌, ℕ, ◌<◌, ◌≤◌, ◌⊎◌, ℤ, List, [], ◌∷◌, ◌++◌, length, map, slice_get, Option, Some, None, IsSome, IsTrue, All, Contains, ⊤}
 use Rattle.std.specs.Fmt.{signed_decimal}
 use Rattle.spa.specs.declared.TheConstants.{MOST_SUPERVISORS, MOST_PROJECTS, MOST_STUDENTS, MOST_PLACES}
 use Rattle.spa.specs.Text.{is_code}

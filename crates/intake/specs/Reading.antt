@@ -1,5 +1,5 @@
 -- What a text is read as: its parts, or the first line up to which its lines begin no round text.
-use Rattle.std.specs.Prelude.{◌≡◌, ℕ, ◌+◌, ◌<◌, ◌==◌, List, ◌++◌, length, take, ⊤, Result, Ok, Err}
+use Rattle.std.specs.Prelude.{◌≡◌, ℕ, ◌+◌, ◌<◌, ◌≤◌, ◌==◌, List, ◌++◌, length, take, ⊤, Result, Ok, Err}
 use Rattle.std.specs.List.{slice_split}
 use Rattle.intake.specs.declared.TheConstants.{MOST_BYTES}
 use Rattle.intake.specs.declared.round.RoundParts.{RoundParts}
@@ -9,7 +9,7 @@ use Rattle.intake.specs.Parts.{Parts, IsRoundParts}
 use Rattle.intake.specs.Lines.{round_lines, round_text}
 use Rattle.intake.specs.View.{parts_of}
 
--- the lines of a text, where the last piece is what stands after the last LF
+-- the pieces of a text between its LFs: its lines, and what stands after the last LF
 abbrev pub pieces : List ℕ → List (List ℕ)
 pieces text = slice_split (λ b. b == 10) text
 
@@ -29,7 +29,7 @@ pub record IsFirstBadLine (text : List ℕ) (n : ℕ) : Type 0 where
 
 -- the text is that of the parts, or the fault is its own; want of memory may take the place of any
 abbrev pub IsReading : List ℕ → Result RoundParts RoundFault → Type 0
-IsReading text (Ok r) = IsRoundParts (parts_of r) × (text ≡ round_text (parts_of r)) × (length text < MOST_BYTES + 1)
+IsReading text (Ok r) = IsRoundParts (parts_of r) × (text ≡ round_text (parts_of r)) × (length text ≤ MOST_BYTES)
 IsReading text (Err Memory) = ⊤
 IsReading text (Err TooLarge) = MOST_BYTES < length text
-IsReading text (Err (Line n)) = (length text < MOST_BYTES + 1) × IsFirstBadLine text n
+IsReading text (Err (Line n)) = (length text ≤ MOST_BYTES) × IsFirstBadLine text n

@@ -38,12 +38,12 @@ pub(crate) fn read_code(alloc: Global, field: &[u8]) -> Result<Option<Code>, All
     }
 }
 
-/// Whether a field is the one text of a number: no sign, and no zero before it.
-fn is_decimal(field: &[u8], number: u32) -> bool
-    ensures { IsTrue result ↔ (field.now ≡ decimal number) }
+/// Whether a field is the one text of a quota: no sign, and no zero before it.
+fn is_decimal(field: &[u8], quota: u32) -> bool
+    ensures { IsTrue result ↔ (field.now ≡ decimal quota) }
 {
     let mut buffer = itoa::Buffer::new();
-    buffer.format(number).as_bytes() == field
+    buffer.format(quota).as_bytes() == field
 }
 
 /// The quota that a field is.

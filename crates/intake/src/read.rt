@@ -1,6 +1,8 @@
 //! Round texts, read.
 #![tactic(auto)]
 
+ghost use Rattle.std.specs.Prelude.{◌≡◌, ◌↔◌, [], IsTrue};
+ghost use Rattle.intake.specs.Draft.{draft_of, IsWhole};
 ghost use Rattle.intake.specs.Reading.{IsReading};
 
 use crate::MOST_BYTES;
@@ -9,7 +11,15 @@ use crate::fields::pieces;
 use crate::round::{RoundFault, RoundParts};
 use std::alloc::Global;
 
-/// Reads a round text, or names the first line that is wrong.
+/// Whether a text may end with this after its last LF.
+fn may_end(draft: &Draft, last: &[u8]) -> bool
+    ensures { IsTrue result ↔ (last.now ≡ []) × IsWhole (draft_of draft.now) }
+{
+    last.is_empty() && draft.is_whole()
+}
+
+/// Reads a round text. A text of more than 262,144 bytes is too large, whatever its lines; else the first bad line is
+/// named, counted from 1. Whether the matching keeps the quotas is not judged.
 pub fn read_round(alloc: Global, text: &[u8]) -> Result<RoundParts, RoundFault>
     ensures reading { IsReading text.now result }
 {
@@ -24,10 +34,7 @@ pub fn read_round(alloc: Global, text: &[u8]) -> Result<RoundParts, RoundFault>
             return Err(RoundFault::Line(n + 1));
         }
     }
-    if !lines[whole].is_empty() {
-        return Err(RoundFault::Line(lines.len()));
-    }
-    if !draft.is_whole() {
+    if !may_end(&draft, lines[whole]) {
         return Err(RoundFault::Line(lines.len()));
     }
     Ok(draft.finish(alloc)?)

@@ -129,3 +129,10 @@ fn the_size_is_judged_first(rt: HostRuntime) -> Result<(), Fail> {
     }
     Ok(())
 }
+
+#[test]
+fn a_bad_line_is_printed(rt: HostRuntime) -> Result<(), Fail> {
+    let text = RoundFault::Line(3).to_string(rt.alloc())?;
+    assert_eq!(rt; text.as_str(), "bad line 3");
+    Ok(())
+}

@@ -124,7 +124,7 @@ fn write_proof(
     Ok(())
 }
 
-/// Writes an instance, alone or with a matching and prices. Codes rise in each roll.
+/// Writes an instance, alone or with a matching and prices: the one text of these parts. Codes rise in each roll.
 pub fn write_round(
     alloc: Global,
     instance: &Instance,

@@ -1,6 +1,6 @@
-use Rattle.std.proofs.Common.{◌≡◌, ℕ, ◌<◌, length, get_or, pos, arith, List, []}
+use Rattle.std.proofs.Common.{ℕ, get_or, pos, arith, List, []}
 use denote.Ref.{Bor}
-use Rattle.intake.proofs.Numbers.{AreRead, field_is, fields_are, read_more}
+use Rattle.intake.proofs.Numbers.{field_is, fields_are, read_more}
 use Rattle.intake.proofs.fields.read_price.Goals as goal
 
 -- what a look-up past the end gives

@@ -1,4 +1,4 @@
-use Rattle.std.proofs.Common.{◌≡◌, ℕ, ◌<◌, List, get_or, slice_get, Some, sym, ap, ◌∙◌, below_more}
+use Rattle.std.proofs.Common.{◌≡◌, slice_get, Some, sym, ◌∙◌, below_more}
 use Rattle.std.specs.Str.{bytes_eq}
 use Rattle.std.proofs.lemmas.List.{get_or_read}
 use Rattle.std.proofs.lemmas.Bool.Decides.{not_from_Decides}

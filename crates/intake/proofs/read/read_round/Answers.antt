@@ -1,10 +1,10 @@
-use Rattle.std.proofs.Common.{◌≡◌, ℕ, ◌+◌, ◌-◌, ◌<◌, ◌≤◌, Bool, true, false, List, [], length, map, take, sym, ap, subst, ◌∙◌, arith, rules}
+use Rattle.std.proofs.Common.{◌≡◌, ℕ, ◌-◌, ◌<◌, Bool, List, length, take, sym, ap, subst, ◌∙◌, arith, rules}
 use denote.Ref.{Bor}
 use Rattle.std.proofs.lemmas.List.{length-map}
 use Rattle.intake.specs.Lines.{round_lines}
 use Rattle.intake.specs.Reading.{pieces}
-use Rattle.intake.specs.Draft.{draft_of, IsWhole, AddsLine}
-use Rattle.intake.proofs.Bad.{some_piece, piece_at, empty_piece, other_piece, line_more, bad_line, bad_end, good_text}
+use Rattle.intake.specs.Draft.{draft_of, AddsLine}
+use Rattle.intake.proofs.Bad.{some_piece, piece_at, line_more, bad_line, bad_end, good_text}
 use Rattle.intake.proofs.read.read_round.Goals as goal
 
 pub overflow_sub-whole : goal.overflow_sub-whole
@@ -45,36 +45,20 @@ loop-n-preserved c =
           (piece_at c.args.text.now c.in_ok-lines.lines.items n c.index.result.now c.in_ok-lines.ensures h c.index.ensures) c.loop-n.invariant.lines added.1;
     }
 
-pub returns-then-not-is_empty : goal.returns-then-not-is_empty
-returns-then-not-is_empty c =
+pub returns-then-not-may_end : goal.returns-then-not-may_end
+returns-then-not-may_end c =
     let w : ℕ = c.len-whole.result - 1 in
     let len : c.len-whole.result ≡ length c.in_ok-lines.lines.items = search (rules) in
     let again : c.len.result ≡ length c.in_ok-lines.lines.items = search (rules) in
     let many : length c.in_ok-lines.lines.items ≡ length (pieces c.args.text.now) = sym (length-map c.in_ok-lines.lines.items (λ (f : Bor (List ℕ)). f.now)) ∙ ap length c.in_ok-lines.ensures in
     let some = some_piece c.args.text.now in
     let exit : c.loop-n.n ≡ w = omega (arith, c.loop-n-test.false, c.loop-n.auto.n-end) in
+    let last = piece_at c.args.text.now c.in_ok-lines.lines.items w c.index-2.result.now c.in_ok-lines.ensures (omega (arith, many, len, some)) c.index-2.ensures in
     record {
       reading = (
         omega arith,
         bad_end c.args.text.now c.len.result w (draft_of c.loop-n.draft) c.loop-n.invariant.draft (c.loop-n.invariant.lines ∙ ap (λ (n : ℕ). take n (pieces c.args.text.now)) exit) (omega (arith, many, len, some)) (omega (arith, again, many, len, some))
-            (λ e. absurd (other_piece c.index-2.result.now.now c.is_empty.result c.is_empty.ensures c.if-not-is_empty.true
-            (sym (piece_at c.args.text.now c.in_ok-lines.lines.items w c.index-2.result.now c.in_ok-lines.ensures (omega (arith, many, len, some)) c.index-2.ensures) ∙ e))),
-      );
-    }
-
-pub returns-then-not-is_whole : goal.returns-then-not-is_whole
-returns-then-not-is_whole c =
-    let w : ℕ = c.len-whole.result - 1 in
-    let len : c.len-whole.result ≡ length c.in_ok-lines.lines.items = search (rules) in
-    let again : c.len-then-not-is_whole.result ≡ length c.in_ok-lines.lines.items = search (rules) in
-    let many : length c.in_ok-lines.lines.items ≡ length (pieces c.args.text.now) = sym (length-map c.in_ok-lines.lines.items (λ (f : Bor (List ℕ)). f.now)) ∙ ap length c.in_ok-lines.ensures in
-    let some = some_piece c.args.text.now in
-    let exit : c.loop-n.n ≡ w = omega (arith, c.loop-n-test.false, c.loop-n.auto.n-end) in
-    record {
-      reading = (
-        omega arith,
-        bad_end c.args.text.now c.len-then-not-is_whole.result w (draft_of c.loop-n.draft) c.loop-n.invariant.draft (c.loop-n.invariant.lines ∙ ap (λ (n : ℕ). take n (pieces c.args.text.now)) exit) (omega (arith, many, len, some)) (omega (arith, again, many, len, some))
-            (λ e whole. let yes = c.is_whole.ensures.1 whole in let other = c.if-not-is_whole.true in cc),
+            (λ e whole. let yes = c.may_end.ensures.1 (sym last ∙ e, whole) in let other = c.if-not-may_end.true in cc),
       );
     }
 
@@ -85,7 +69,8 @@ returns c =
     let many : length c.in_ok-lines.lines.items ≡ length (pieces c.args.text.now) = sym (length-map c.in_ok-lines.lines.items (λ (f : Bor (List ℕ)). f.now)) ∙ ap length c.in_ok-lines.ensures in
     let some = some_piece c.args.text.now in
     let exit : c.loop-n.n ≡ w = omega (arith, c.loop-n-test.false, c.loop-n.auto.n-end) in
-    let last = piece_at c.args.text.now c.in_ok-lines.lines.items w c.index-2.result.now c.in_ok-lines.ensures (omega (arith, many, len, some)) c.index-2.ensures ∙ empty_piece c.index-2.result.now.now c.is_empty.result c.is_empty.ensures c.if-not-is_empty.false in
+    let end = c.may_end.ensures.0 c.if-not-may_end.false in
+    let last = piece_at c.args.text.now c.in_ok-lines.lines.items w c.index-2.result.now c.in_ok-lines.ensures (omega (arith, many, len, some)) c.index-2.ensures ∙ end.0 in
     record {
       reading = (
         c.in_ok-finish.ensures.parts,

@@ -1,4 +1,4 @@
-use Rattle.std.proofs.Common.{◌≡◌, ◌++◌, List, ℕ, string_bytes, refl, ap, sym, ◌∙◌}
+use Rattle.std.proofs.Common.{string_bytes}
 use Rattle.intake.proofs.Writing.{four_written}
 use Rattle.intake.proofs.write.write_proof.Goals as goal
 

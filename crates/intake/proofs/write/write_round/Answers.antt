@@ -1,9 +1,9 @@
-use Rattle.std.proofs.Common.{◌≡◌, ℕ, List, [], ◌++◌, flat_map, take, drop, string_bytes, Option, Some, None, ap, ◌∙◌, sym}
+use Rattle.std.proofs.Common.{◌≡◌, ℕ, List, ◌++◌, flat_map, take, string_bytes, Option, ap, ◌∙◌, sym}
 use denote.Ref.{Bor}
 use Rattle.spa.specs.declared.matching.Matching.{Matching}
 use Rattle.verdict.specs.declared.prices.Prices.{Prices}
 use Rattle.intake.specs.Lines.{round_text, ended, sections, section_lines}
-use Rattle.intake.specs.View.{written, alone, proved}
+use Rattle.intake.specs.View.{written, alone}
 use Rattle.intake.proofs.Writing.{joined, instance_alone}
 use Rattle.intake.proofs.write.write_round.Goals as goal
 use Rattle.intake.proofs.write.write_round.Goals.{in-Some+in_ok-write_proof, in_default}

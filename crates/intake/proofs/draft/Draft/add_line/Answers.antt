@@ -1,10 +1,8 @@
-use Rattle.std.proofs.Common.{◌≡◌, ℕ, Bool, List, All, map, sym, ap, subst, ◌∙◌}
+use Rattle.std.proofs.Common.{ℕ, List, All, map, sym, ap, subst, ◌∙◌}
 use denote.Ref.{Bor}
 use Rattle.std.proofs.lemmas.Result.{IfOk-weaker}
 use Rattle.intake.specs.Draft.{draft_of, AddsLine, IsField, line_of}
-use Rattle.intake.proofs.Pieces.{pieces_free, line_back, text_back, pieces_back}
-use Rattle.intake.proofs.Ends.{draft_begins}
-use Rattle.intake.proofs.Takes.{whole_only}
+use Rattle.intake.proofs.Pieces.{pieces_free, line_back}
 use Rattle.intake.proofs.draft.Draft.add_line.Goals as goal
 
 pub add-requires-clause-fields : goal.add-requires-clause-fields

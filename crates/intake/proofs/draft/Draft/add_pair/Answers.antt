@@ -1,5 +1,4 @@
-use Rattle.std.proofs.Common.{◌≡◌, ℕ, ◌<◌, ◌+◌, ◌≤◌, List, [], ◌∷◌, ◌++◌, length, map, get_or, slice_get, Option, Some, None, true, false, refl, sym, ap, subst, ◌∙◌, arith, rules}
-use denote.Ref.{Bor}
+use Rattle.std.proofs.Common.{◌≡◌, ℕ, ◌<◌, List, [], ◌∷◌, ◌++◌, length, map, get_or, slice_get, Option, Some, refl, sym, ap, subst, ◌∙◌, arith, rules}
 use Rattle.std.proofs.lemmas.List.{length-map}
 use Rattle.spa.specs.Codes.{code_at}
 use Rattle.intake.proofs.Order.{get_found}
@@ -7,8 +6,8 @@ use Rattle.spa.specs.Instance.{Student}
 use Rattle.intake.specs.Parts.{Rise}
 use Rattle.intake.proofs.Adding.{two_fields, parts}
 use Rattle.intake.proofs.Lists.{blank}
-use Rattle.intake.proofs.Rolls.{student_keys, student_count}
-use Rattle.intake.proofs.Pairing.{Refers, refers, nowhere, one_place, student_at, listed_at, small_place, get_mapped, same_found}
+use Rattle.intake.proofs.Rolls.{student_keys}
+use Rattle.intake.proofs.Pairing.{refers, nowhere, one_place, student_at, listed_at, small_place, get_mapped, same_found}
 use Rattle.intake.proofs.draft.Draft.add_pair.Goals as goal
 
 pub returns-in_default-2 : goal.returns-in_default-2

@@ -1,5 +1,4 @@
-use Rattle.std.proofs.Common.{◌≡◌, ℕ, ◌<◌, ◌+◌, List, [], ◌∷◌, ◌++◌, length, map, get_or, slice_get, Option, Some, None, not, decimal, refl, sym, ap, subst, ◌∙◌, arith, rules}
-use denote.Ref.{Bor}
+use Rattle.std.proofs.Common.{◌≡◌, ℕ, List, [], ◌∷◌, length, map, get_or, slice_get, Option, Some, None, not, decimal, sym, ap, subst, ◌∙◌, arith, rules}
 use Rattle.std.proofs.lemmas.List.{length-map, nil_from_length}
 use Rattle.spa.specs.Codes.{Finds}
 use Rattle.spa.specs.Instance.{Project, students_of, supervisors_of}

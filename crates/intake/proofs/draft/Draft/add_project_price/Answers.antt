@@ -1,5 +1,4 @@
-use Rattle.std.proofs.Common.{◌≡◌, ℕ, List, length, map, sym, ap, subst, ◌∙◌, rules}
-use Rattle.intake.specs.Draft.{AddsPrice}
+use Rattle.std.proofs.Common.{◌≡◌, length, map, sym, ap, ◌∙◌, rules}
 use Rattle.intake.proofs.Adding.{project_price_adds, empty_is, price_moved, none_or_all_moved}
 use Rattle.intake.proofs.Rolls.{project_keys, student_count}
 use Rattle.intake.proofs.draft.Draft.add_project_price.Goals as goal

@@ -1,9 +1,8 @@
-use Rattle.std.proofs.Common.{◌≡◌, ℕ, ◌<◌, ◌+◌, List, [], ◌∷◌, ◌++◌, length, map, get_or, decimal, refl, sym, ap, subst, ◌∙◌, arith, rules}
+use Rattle.std.proofs.Common.{◌≡◌, ℕ, List, ◌∷◌, length, map, sym, ap, subst, ◌∙◌, arith, rules}
 use denote.Ref.{Bor}
 use Rattle.std.specs.Prelude.{IsTrue}
-use Rattle.std.proofs.lemmas.List.{map_push, length-map, nil_from_length}
+use Rattle.std.proofs.lemmas.List.{map_push, nil_from_length}
 use Rattle.spa.specs.Text.{is_code}
-use Rattle.spa.specs.Instance.{Student}
 use Rattle.intake.specs.Parts.{Rise, IsRoll}
 use Rattle.intake.proofs.Adding.{student_added}
 use Rattle.intake.proofs.Lists.{first_field, other_fields}

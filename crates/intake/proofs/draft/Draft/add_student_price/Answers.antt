@@ -1,5 +1,4 @@
-use Rattle.std.proofs.Common.{◌≡◌, ℕ, List, length, map, sym, ap, subst, ◌∙◌, rules}
-use Rattle.intake.specs.Draft.{AddsPrice}
+use Rattle.std.proofs.Common.{map, sym, ap, ◌∙◌, rules}
 use Rattle.intake.proofs.Adding.{student_price_adds, empty_is, price_moved}
 use Rattle.intake.proofs.Rolls.{student_keys}
 use Rattle.intake.proofs.draft.Draft.add_student_price.Goals as goal

@@ -1,5 +1,4 @@
-use Rattle.std.proofs.Common.{◌≡◌, ℕ, ◌<◌, ◌+◌, List, [], ◌∷◌, ◌++◌, length, map, get_or, decimal, refl, sym, ap, subst, ◌∙◌, arith, rules}
-use denote.Ref.{Bor}
+use Rattle.std.proofs.Common.{◌≡◌, ℕ, List, [], ◌∷◌, length, map, get_or, sym, ap, subst, ◌∙◌, arith, rules}
 use Rattle.std.proofs.lemmas.List.{length-map, nil_from_length}
 use Rattle.spa.specs.Instance.{Supervisor, projects_of}
 use Rattle.std.specs.Prelude.{IsTrue}

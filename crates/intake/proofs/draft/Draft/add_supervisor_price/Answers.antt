@@ -1,6 +1,5 @@
-use Rattle.std.proofs.Common.{◌≡◌, ℕ, List, length, map, sym, ap, subst, ◌∙◌, rules}
-use Rattle.intake.specs.Draft.{AddsPrice}
-use Rattle.intake.proofs.Adding.{supervisor_price_adds, empty_is, price_moved, none_or_all_moved}
+use Rattle.std.proofs.Common.{◌≡◌, length, map, sym, ap, ◌∙◌, rules}
+use Rattle.intake.proofs.Adding.{supervisor_price_adds, price_moved, none_or_all_moved}
 use Rattle.intake.proofs.Rolls.{supervisor_keys, student_count, project_count}
 use Rattle.intake.proofs.draft.Draft.add_supervisor_price.Goals as goal
 

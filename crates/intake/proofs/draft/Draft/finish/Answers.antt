@@ -1,4 +1,4 @@
-use Rattle.std.proofs.Common.{◌≡◌, ℕ, ◌≤◌, ◌++◌, ◌-◌, List, length, map, replicate, Option, None, sym, ap, subst, ◌∙◌, arith, rules}
+use Rattle.std.proofs.Common.{◌≡◌, ℕ, ◌++◌, ◌-◌, length, replicate, None, sym, ap, subst, ◌∙◌, arith, rules}
 use Rattle.intake.specs.Parts.{IsRoundParts}
 use Rattle.intake.specs.Lines.{round_lines}
 use Rattle.intake.proofs.Rolls.{student_count}
