@@ -1,2 +1,1 @@
 pub mod Subcommands
-pub mod Codes
