@@ -4,13 +4,12 @@ use Rattle.std.specs.declared.vec.Vec.{Vec}
 use Rattle.std.specs.declared.alloc.Global.{Global}
 use Rattle.std.proofs.lemmas.List.{length-append, length-map, map-append}
 use Rattle.std.proofs.lemmas.List.Sums.{sum_by-cons, sum_by-append}
-use Rattle.spa.specs.Laws.{Ops, IsWorth}
+use Rattle.spa.specs.Laws.{Ops}
 use Rattle.network.specs.Arcs.{sink_of, flow_arcs}
 use Rattle.network.specs.Fair.{IsLow}
 use Rattle.network.specs.Push.{IsPushed}
-use Rattle.network.specs.Seen.{is_place, node_count, arc_count, IsAdmission}
+use Rattle.network.specs.Seen.{is_place, node_count, arc_count, IsPriced, IsAdmission}
 use Rattle.network.specs.View.{seen, row_of, IsReady}
-use Rattle.network.proofs.Priced.{priced}
 use Rattle.network.proofs.Append.{slice_get-last}
 use Rattle.network.proofs.Costs.{entries_few, entries_same, cost_within, cost_small}
 use Rattle.network.specs.declared.flow.Flow.{Flow}
@@ -56,12 +55,12 @@ module _ {G : Type 0} {o : Ops G} (f n : Flow G) (steps x : ℕ) (placed : Bool)
       omega (arith, a, b)
 
   -- and callers see an admission
-  pub is_admission : IsWorth o → IsAdmission o (seen f steps) (seen n (steps + x)) list placed x
-  is_admission laws = record {
+  pub is_admission : IsPriced o (seen n (steps + x)) → IsAdmission o (seen f steps) (seen n (steps + x)) list placed x
+  is_admission priced = record {
     lists = ap (map row_of) lists ∙ map-append row_of f.lists.items (row ∷ []) ∙ ap (λ z. map row_of f.lists.items ++ z ∷ []) row_is;
     projects = projects;
     supervisors = supervisors;
-    priced = priced laws n (steps + x) admitted_ready;
+    priced = priced;
     placed_is =
         let l : length (map row_of f.lists.items) ≡ length f.lists.items = length-map f.lists.items row_of in
         placed_is ∙ ap (λ z. is_place (slice_get n.places.items z)) (sym l);

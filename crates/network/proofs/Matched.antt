@@ -1,17 +1,16 @@
 -- The places of a pushed flow are a matching.
-use Rattle.std.proofs.Common.{◌≡◌, ℕ, zero, suc, ◌+◌, ◌*◌, ◌<◌, ◌≤◌, ◌==◌, inl, inr, true, false, Bool, cond, List, [], ◌∷◌, length, map, get_or, Contains, count_by, Option, Some, None, refl, sym, ap, ◌∙◌, subst, arith, option_map, slice_get, slice_index, eq-eqb, ne_eqb, eqb}
+use Rattle.std.proofs.Common.{◌≡◌, ℕ, zero, suc, ◌+◌, ◌*◌, ◌<◌, ◌≤◌, ◌==◌, true, false, Bool, cond, List, [], ◌∷◌, length, map, count_by, Option, Some, None, refl, sym, ap, ◌∙◌, subst, arith, option_map, slice_get, slice_index, eq-eqb, ne_eqb, eqb}
 use Rattle.std.specs.declared.vec.Vec.{Vec}
 use Rattle.std.specs.declared.alloc.Global.{Global}
 use Rattle.std.specs.List.{AllByRecursion}
-use Rattle.std.proofs.lemmas.Bool.{cases_lt, cases_eq}
 use Rattle.std.proofs.lemmas.List.{length-map, get_or-map}
 use Rattle.std.proofs.lemmas.List.Sums.{sum_by-cons}
 use Rattle.std.proofs.lemmas.List.Elements.{All-from_recursion}
 use Rattle.std.proofs.lemmas.Option.{slice_get_within, slice_get-get_or, get_or_from_slice_get, slice_get-map, same_Some}
 use Rattle.spa.specs.Laws.{Ops}
-use Rattle.spa.specs.Shape.{Shape, list_of, supervisor_of, project_quota, supervisor_quota}
+use Rattle.spa.specs.Shape.{Shape, list_of, supervisor_of, project_quota}
 use Rattle.spa.specs.Matching.{Pair, pairs_from}
-use Rattle.spa.specs.Matched.{pairs, HasPlaces, IsMatched}
+use Rattle.spa.specs.Matched.{pairs, HasPlaces, IsMatched, QuotasSuffice}
 use Rattle.network.specs.Arcs.{HasEntry}
 use Rattle.network.specs.Push.{sum_to, one_if, entry_at, row_at, place_at, owner_at, IsPushed}
 use Rattle.network.specs.Seen.{shape_of}
@@ -20,80 +19,6 @@ use Rattle.network.proofs.Sums.{sum_to_same, sum_to_change, sum_to_zero, sum_to_
 use Rattle.network.proofs.Listed.{cond_one}
 use Rattle.network.proofs.Ends.{not_sink, node_not_sink}
 use Rattle.network.specs.declared.flow.Flow.{Flow}
-
--- each pair is a student from n on and a project of the student's list
-listed_from : (n : ℕ) (xss : List (List ℕ)) (ks : List (Option ℕ)) (lists : ℕ → List ℕ)
-    → ((j : ℕ) → j < length xss → lists (n + j) ≡ get_or xss j [])
-    → ((j k : ℕ) → slice_get ks j ≡ Some (Some k) → k < length (lists (n + j)))
-    → AllByRecursion (λ e. Contains (lists e.student) e.project) (pairs_from n xss ks)
-listed_from n [] ks lists same within = tt
-listed_from n (xs ∷ xss) [] lists same within = tt
-listed_from n (xs ∷ xss) (None ∷ ks) lists same within =
-    listed_from (suc n) xss ks lists
-    (λ j h. ap lists (omega arith) ∙ same (suc j) (omega arith))
-    (λ j k e. subst (λ (m : ℕ). k < length (lists m)) (omega arith) (within (suc j) k e))
-listed_from n (xs ∷ xss) (Some k ∷ ks) lists same within =
-    let here : lists n ≡ xs = ap lists (omega arith) ∙ same 0 (omega arith) in
-    let small : k < length (lists n) = subst (λ (m : ℕ). k < length (lists m)) (omega arith) (within 0 k refl) in (
-      (k, small, contained (lists n) xs k here small),
-      listed_from (suc n) xss ks lists
-          (λ j h. ap lists (omega arith) ∙ same (suc j) (omega arith))
-          (λ j k e. subst (λ (m : ℕ). k < length (lists m)) (omega arith) (within (suc j) k e)),
-    )
-  where
-    inside : (ys : List ℕ) (k a b : ℕ) → k < length ys → get_or ys k a ≡ get_or ys k b
-    inside [] k a b h = absurd (omega arith)
-    inside (y ∷ ys) zero a b h = refl
-    inside (y ∷ ys) (suc k) a b h = inside ys k a b (omega arith)
-
-    contained : (ys xs : List ℕ) (k : ℕ) → ys ≡ xs → k < length ys → get_or ys k (slice_index xs k) ≡ slice_index xs k
-    contained ys xs k e h = inside ys k (slice_index xs k) 0 h ∙ ap (λ (zs : List ℕ). get_or zs k 0) e
-
--- a student before n is in none of the pairs
-none_before : (s n : ℕ) (xss : List (List ℕ)) (ks : List (Option ℕ)) → s < n → count_by (λ e. e.student == s) (pairs_from n xss ks) ≡ 0
-none_before s n [] ks h = refl
-none_before s n (xs ∷ xss) [] h = refl
-none_before s n (xs ∷ xss) (None ∷ ks) h = none_before s (suc n) xss ks (omega arith)
-none_before s n (xs ∷ xss) (Some k ∷ ks) h =
-    let r = none_before s (suc n) xss ks (omega arith) in
-    let e : eqb n s ≡ false = ne_eqb n s (λ x. absurd (omega arith)) in
-    simp (sum_by-cons, e, r)
-
--- each student is in one pair at most
-one_at_most : (s n : ℕ) (xss : List (List ℕ)) (ks : List (Option ℕ)) → count_by (λ e. e.student == s) (pairs_from n xss ks) ≤ 1
-one_at_most s n [] ks = omega arith
-one_at_most s n (xs ∷ xss) [] = omega arith
-one_at_most s n (xs ∷ xss) (None ∷ ks) = one_at_most s (suc n) xss ks
-one_at_most s n (xs ∷ xss) (Some k ∷ ks) =
-    elim (cases_eq n s) [
-      | inl same ↦
-          let r = none_before s (suc n) xss ks (omega arith) in
-          let e : eqb n s ≡ true = eq-eqb n s same in
-          simp (sum_by-cons, e) (omega (arith, r))
-      | inr other ↦
-          let r = one_at_most s (suc n) xss ks in
-          let e : eqb n s ≡ false = ne_eqb n s other in
-          simp (sum_by-cons, e) (omega (arith, r))
-    ]
-
--- what no pair has is counted nowhere
-none_past : (key : Pair → ℕ) (m k : ℕ) (M : List Pair) → AllByRecursion (λ e. key e < m) M → m ≤ k → count_by (λ e. key e == k) M ≡ 0
-none_past key m k [] a h = refl
-none_past key m k (e ∷ M) a h =
-    let r = none_past key m k M a.1 h in
-    let small : key e < m = a.0 in
-    let f : eqb (key e) k ≡ false = ne_eqb (key e) k (λ x. absurd (omega arith)) in
-    simp (sum_by-cons, f, r)
-
--- where each quota that is known is kept, all are
-within_all : (key : Pair → ℕ) (m : ℕ) (quota : ℕ → ℕ) (M : List Pair) → AllByRecursion (λ e. key e < m) M → ((k : ℕ) → k < m → count_by (λ e. key e == k) M ≤ quota k) → (k : ℕ) → count_by (λ e. key e == k) M ≤ quota k
-within_all key m quota M a within k =
-    elim (cases_lt k m) [ inl h ↦ within k h | inr h ↦ let z = none_past key m k M a h in omega (arith, z) ]
-
--- what holds of each element goes on
-each_from : {X : Type 0} (P Q : X → Type 0) → ((x : X) → P x → Q x) → (xs : List X) → AllByRecursion P xs → AllByRecursion Q xs
-each_from P Q f [] a = tt
-each_from P Q f (x ∷ xs) a = (f x a.0, each_from P Q f xs a.1)
 
 -- the pairs of a supervisor are those of the supervisor's projects
 by_project : (owns : ℕ → Bool) (n : ℕ) (M : List Pair) → AllByRecursion (λ e. e.project < n) M
@@ -202,10 +127,6 @@ module _ {G : Type 0} {o : Ops G} (f : Flow G) (steps : ℕ) (pushed : IsPushed 
   abbrev M : List Pair
   M = pairs i ks
 
-  -- each pair is listed
-  listed : AllByRecursion (λ e. Contains (list_of i e.student) e.project) M
-  listed = listed_from 0 i.students ks (list_of i) (λ j h. ap (list_of i) (omega arith)) (λ j k e. subst (λ (m : ℕ). k < length (list_of i m)) (omega arith) (has_places.in_list j k e))
-
   -- each pair's project is known
   projects : AllByRecursion (λ e. e.project < length f.projects.items) M
   projects = known_from 0 (length f.projects.items) f.lists.items ks pushed.formed.placed (λ s k p w h. (pushed.formed.entries s k p w h).0)
@@ -213,10 +134,6 @@ module _ {G : Type 0} {o : Ops G} (f : Flow G) (steps : ℕ) (pushed : IsPushed 
   -- the project and the supervisor at a position
   project_seen : (p : ℕ) → p < length f.projects.items → slice_get f.projects.items p ≡ Some (supervisor_of i p, project_quota i p)
   project_seen p lt = slice_get-get_or f.projects.items p (0, 0) lt
-
-  -- and so is its supervisor
-  supervisors : AllByRecursion (λ e. supervisor_of i e.project < length f.supervisors.items) M
-  supervisors = each_from (λ (e : Pair). e.project < length f.projects.items) (λ e. supervisor_of i e.project < length f.supervisors.items) (λ e h. pushed.formed.projects e.project _ _ (project_seen e.project h)) M projects
 
   -- a project's count is that of its pairs
   filled_by : (p : ℕ) → p < length f.projects.items → slice_index f.filled.items p ≡ count_by (λ e. e.project == p) M
@@ -233,16 +150,10 @@ module _ {G : Type 0} {o : Ops G} (f : Flow G) (steps : ℕ) (pushed : IsPushed 
       let t = sum_to_same (length f.projects.items) (λ p. owner_at (slice_get f.projects.items p) l * slice_index f.filled.items p) (λ p. one_if (supervisor_of i p == l) * count_by (λ e. e.project == p) M) (owned l) in
       omega (arith, s, t, pushed.counted.supervisor l lt, node_not_sink f l lt)
 
-  -- the places are a matching
-  pub matched : IsMatched i ks
-  matched = record {
-    places = has_places;
-    matching = record {
-      listed = All-from_recursion (λ e. Contains (list_of i e.student) e.project) M listed;
-      student_once = λ s. one_at_most s 0 i.students ks;
-      project_within = within_all (λ e. e.project) (length f.projects.items) (project_quota i) M projects
-          (λ p lt. let w = pushed.counted.project_within p _ _ (project_seen p lt) in omega (arith, w, filled_by p lt));
-      supervisor_within = within_all (λ e. supervisor_of i e.project) (length f.supervisors.items) (supervisor_quota i) M supervisors
-          (λ l lt. omega (arith, pushed.counted.supervisor_within l lt, loaded_by l lt));
-    };
-  }
+  -- the places are a matching, by the law of places and quotas
+  pub matched : QuotasSuffice → IsMatched i ks
+  matched suffice =
+      suffice i ks has_places (All-from_recursion (λ e. e.project < length f.projects.items) M projects)
+      (λ p lt. pushed.formed.projects p _ _ (project_seen p lt))
+      (λ p lt. let w = pushed.counted.project_within p _ _ (project_seen p lt) in omega (arith, w, filled_by p lt))
+      (λ l lt. omega (arith, pushed.counted.supervisor_within l lt, loaded_by l lt))

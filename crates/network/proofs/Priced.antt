@@ -9,6 +9,7 @@ use Rattle.std.proofs.lemmas.List.FromFn.{get_or-map-range_with_len, length-rang
 use Rattle.std.proofs.lemmas.Option.{slice_get-get_or, slice_get_within}
 use Rattle.spa.specs.Laws.{Ops, IsWorth, AtMost}
 use Rattle.spa.specs.Shape.{Shape, supervisor_of, project_quota, supervisor_quota}
+use Rattle.spa.specs.Matched.{QuotasSuffice}
 use Rattle.network.specs.Arcs.{HasEntry}
 use Rattle.network.specs.Fair.{IsLow}
 use Rattle.network.specs.Push.{IsPushed}
@@ -135,11 +136,11 @@ module _ {G : Type 0} {o : Ops G} (laws : IsWorth o) where
       }
 
   -- between two calls the places are a matching that has prices
-  pub priced : (f : Flow G) (steps : ℕ) → IsReady o f steps → IsPriced o (seen f steps)
-  priced f steps ready =
+  pub priced : QuotasSuffice → (f : Flow G) (steps : ℕ) → IsReady o f steps → IsPriced o (seen f steps)
+  priced suffice f steps ready =
       let S = length f.lists.items in let P = length f.projects.items in let L = length f.supervisors.items in
       record {
-        matched = matched f steps ready.pushed;
+        matched = matched f steps ready.pushed suffice;
         students = by_position S (student_price o f);
         projects = by_position P (project_price o f);
         supervisors = by_position L (supervisor_price o f);

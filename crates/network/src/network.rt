@@ -14,7 +14,7 @@ use crate::flow::{Flow, place_of};
 use crate::kept::{Kept, all_offered, empty_seats};
 use crate::marks::{Labels, blank_labels};
 use crate::prices::all_prices;
-use spa::Worth;
+use spa::{Worth, place_law};
 use std::alloc::{AllocError, Global};
 use std::marker::Model;
 
@@ -111,6 +111,7 @@ fn admit_to<G: Worth>(
     grow(flow)?;
     let admitted = enter(flow, kept, row, labels);
     *steps += admitted.relaxations;
+    priced(flow, *steps);
     Ok(admitted)
 }
 
@@ -119,6 +120,7 @@ fn priced<G: Worth>(flow: &Flow<G>, steps: u64)
     requires { IsReady G.ops flow.now steps }
     ensures { IsPriced G.ops (seen flow.now steps) }
 {
+    place_law();
     let _ = flow;
 }
 

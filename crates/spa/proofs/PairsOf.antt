@@ -2,11 +2,11 @@
 use Rattle.std.proofs.Common.{◌≡◌, ℕ, zero, suc, ◌+◌, ◌<◌, ◌≤◌, ◌==◌, inl, inr, true, false, List, [], ◌∷◌, length, get_or, Contains, count_by, Option, Some, None, refl, ap, ◌∙◌, subst, arith, slice_get, slice_index, eq-eqb, ne_eqb, eqb}
 use Rattle.std.proofs.lemmas.Bool.{cases_lt, cases_eq}
 use Rattle.std.proofs.lemmas.List.Sums.{sum_by-cons}
-use Rattle.std.proofs.lemmas.List.Elements.{All-from_recursion}
+use Rattle.std.proofs.lemmas.List.Elements.{All-from_recursion, recursion_from_All}
 use Rattle.std.specs.List.{AllByRecursion}
 use Rattle.spa.specs.Shape.{Shape, IsSound, list_of, supervisor_of, project_quota, supervisor_quota}
 use Rattle.spa.specs.Matching.{Pair, pairs_from}
-use Rattle.spa.specs.Matched.{pairs, HasPlaces, IsMatched, in_project, with_supervisor}
+use Rattle.spa.specs.Matched.{pairs, HasPlaces, IsMatched, in_project, with_supervisor, QuotasSuffice}
 use Rattle.spa.proofs.Duality.{each_from, listed_project}
 
 -- each pair is a student from n on and a project of the student's list
@@ -78,17 +78,18 @@ pub within_all : (key : Pair → ℕ) (m : ℕ) (quota : ℕ → ℕ) (M : List 
 within_all key m quota M a within k =
     elim (cases_lt k m) [ inl h ↦ within k h | inr h ↦ let z = none_past key m k M a h in omega (arith, z) ]
 
--- places within their lists, and counts within the quotas of known positions, are a matching
-pub matched_from : (i : Shape) (ks : List (Option ℕ)) → IsSound i → HasPlaces i ks
-    → ((p : ℕ) → p < length i.projects → in_project i ks p ≤ project_quota i p)
-    → ((l : ℕ) → l < length i.supervisors → with_supervisor i ks l ≤ supervisor_quota i l)
-    → IsMatched i ks
-matched_from i ks fit has by_project by_supervisor =
+-- each pair of places within their lists is listed
+pairs_listed : (i : Shape) (ks : List (Option ℕ)) → HasPlaces i ks → AllByRecursion (λ e. Contains (list_of i e.student) e.project) (pairs i ks)
+pairs_listed i ks has =
+    listed_from 0 i.students ks (list_of i) (λ j h. ap (list_of i) (omega arith)) (λ j k e. subst (λ (m : ℕ). k < length (list_of i m)) (omega arith) (has.in_list j k e))
+
+-- places within their lists and within each known quota stand for a matching
+pub quotas_suffice : QuotasSuffice
+quotas_suffice i ks has known offered by_project by_supervisor =
     let M : List Pair = pairs i ks in
-    let listed : AllByRecursion (λ e. Contains (list_of i e.student) e.project) M =
-    listed_from 0 i.students ks (list_of i) (λ j h. ap (list_of i) (omega arith)) (λ j k e. subst (λ (m : ℕ). k < length (list_of i m)) (omega arith) (has.in_list j k e)) in
-    let projects : AllByRecursion (λ e. e.project < length i.projects) M = each_from (λ (e : Pair). Contains (list_of i e.student) e.project) (λ e. e.project < length i.projects) (λ e c. listed_project i fit e.student e.project c) M listed in
-    let supervisors : AllByRecursion (λ e. supervisor_of i e.project < length i.supervisors) M = each_from (λ (e : Pair). e.project < length i.projects) (λ e. supervisor_of i e.project < length i.supervisors) (λ e h. fit.offered e.project (0, 0) h) M projects in
+    let listed = pairs_listed i ks has in
+    let projects : AllByRecursion (λ e. e.project < length i.projects) M = recursion_from_All (λ e. e.project < length i.projects) M known in
+    let supervisors : AllByRecursion (λ e. supervisor_of i e.project < length i.supervisors) M = each_from (λ (e : Pair). e.project < length i.projects) (λ e. supervisor_of i e.project < length i.supervisors) (λ e h. offered e.project h) M projects in
     record {
       places = has;
       matching = record {
@@ -98,3 +99,14 @@ matched_from i ks fit has by_project by_supervisor =
         supervisor_within = within_all (λ e. supervisor_of i e.project) (length i.supervisors) (supervisor_quota i) M supervisors by_supervisor;
       };
     }
+
+-- and so it is in a sound instance, where each listed project is known
+pub matched_from : (i : Shape) (ks : List (Option ℕ)) → IsSound i → HasPlaces i ks
+    → ((p : ℕ) → p < length i.projects → in_project i ks p ≤ project_quota i p)
+    → ((l : ℕ) → l < length i.supervisors → with_supervisor i ks l ≤ supervisor_quota i l)
+    → IsMatched i ks
+matched_from i ks fit has by_project by_supervisor =
+    let M : List Pair = pairs i ks in
+    let listed = pairs_listed i ks has in
+    let projects : AllByRecursion (λ e. e.project < length i.projects) M = each_from (λ (e : Pair). Contains (list_of i e.student) e.project) (λ e. e.project < length i.projects) (λ e c. listed_project i fit e.student e.project c) M listed in
+    quotas_suffice i ks has (All-from_recursion (λ e. e.project < length i.projects) M projects) (λ p h. fit.offered p (0, 0) h) by_project by_supervisor

@@ -1,5 +1,5 @@
 -- A matching as the code keeps it, a place in the list or none for each student, and what can be wrong with it.
-use Rattle.std.specs.Prelude.{◌≡◌, ◌≢◌, ℕ, ◌<◌, ◌≤◌, ◌==◌, List, length, slice_get, count_by, Option, Some}
+use Rattle.std.specs.Prelude.{◌≡◌, ◌≢◌, ℕ, ◌<◌, ◌≤◌, ◌==◌, List, All, length, slice_get, count_by, Option, Some}
 use Rattle.spa.specs.Shape.{Shape, list_of, supervisor_of, project_quota, supervisor_quota}
 use Rattle.spa.specs.Matching.{Pair, IsMatching, pairs_from, rank}
 use Rattle.spa.specs.declared.matching.MatchFault.{MatchFault}
@@ -51,3 +51,13 @@ IsFirstFault i ks (SupervisorOver l) = HasPlaces i ks × ((p : ℕ) → p < leng
 -- how many pairs have a rank
 abbrev pub with_rank : Shape → List (Option ℕ) → ℕ → ℕ
 with_rank i ks r = count_by (λ e. rank i e == r) (pairs i ks)
+
+-- places within their lists and within each known quota stand for a matching, where each pair's project is known and each
+-- known project's supervisor is
+abbrev pub QuotasSuffice : Type 0
+QuotasSuffice = (i : Shape) (ks : List (Option ℕ)) → HasPlaces i ks
+    → All (λ e. e.project < length i.projects) (pairs i ks)
+    → ((p : ℕ) → p < length i.projects → supervisor_of i p < length i.supervisors)
+    → ((p : ℕ) → p < length i.projects → in_project i ks p ≤ project_quota i p)
+    → ((l : ℕ) → l < length i.supervisors → with_supervisor i ks l ≤ supervisor_quota i l)
+    → IsMatched i ks

@@ -6,6 +6,7 @@ ghost use Rattle.spa.specs.Order.{greedy, IsSettled};
 ghost use Rattle.spa.specs.Shape.{list_of};
 ghost use Rattle.spa.specs.Matching.{Pair, IsBest, IsGreedyMaximum, rank_in};
 ghost use Rattle.spa.specs.Prices.{ProveBest};
+ghost use Rattle.spa.specs.Matched.{QuotasSuffice};
 ghost use Rattle.spa.specs.Coded.{SaysTheSame};
 
 use crate::instance::Instance;
@@ -18,6 +19,11 @@ pub fn list_law(instance: &Instance)
 {
     instance.fit();
 }
+
+/// Places within their lists and within each known quota stand for a matching.
+pub fn place_law()
+    ensures { QuotasSuffice }
+{}
 
 /// The greedy order is settled by the places of a worth, and what it does not put before goes on.
 pub fn order_law()

@@ -32,7 +32,7 @@ pub use code::Code;
 pub use fault::{InstanceFault, Roll};
 pub use instance::Instance;
 pub use label::Label;
-pub use laws::{code_law, greedy_law, list_law, order_law, price_law};
+pub use laws::{code_law, greedy_law, list_law, order_law, place_law, price_law};
 pub use lex::{Lex, lex_law};
 pub use matching::{MatchFault, Matching, profile};
 pub use order::precedes;
