@@ -1,7 +1,8 @@
-//! The tests of `spa`, `verdict`, `network`, `solver` and `wire`: worked examples of what no clause says, each through
-//! public calls alone.
+//! The tests of `spa`, `verdict`, `network`, `solver`, `office` and `wire`: worked examples of what no clause says,
+//! each through public calls alone.
 //!
-//! They stand in one crate above all others, so that none of those is proved once more for its tests.
+//! They stand in one crate above all others, so that none of those is proved once more for its tests. The program has its
+//! own beside it.
 #![tactic(auto)]
 
 #[cfg(test)]
@@ -10,6 +11,8 @@ mod admissions;
 mod checks;
 #[cfg(test)]
 mod instances;
+#[cfg(test)]
+mod offices;
 #[cfg(test)]
 mod rolls_of;
 #[cfg(test)]
