@@ -1,5 +1,5 @@
-//! The tests of `spa`, `verdict`, `network`, `solver`, `intake`, `office` and `wire`: worked examples of what no clause
-//! says, each through public calls alone.
+//! The tests of `spa`, `verdict`, `network`, `solver`, `intake`, `office`, `store` and `wire`: worked examples of what
+//! no clause says, each through public calls alone.
 //!
 //! They stand in one crate above all others, so that none of those is proved once more for its tests. The program has its
 //! own beside it.
@@ -19,6 +19,8 @@ mod rolls_of;
 mod round_texts;
 #[cfg(test)]
 mod rounds;
+#[cfg(test)]
+mod stores;
 #[cfg(test)]
 mod streams;
 #[cfg(test)]
