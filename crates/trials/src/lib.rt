@@ -1,5 +1,5 @@
-//! The tests of `spa`, `verdict`, `network`, `solver`, `intake`, `office`, `store`, `desk` and `wire`: worked examples
-//! of what no clause says, each through public calls alone.
+//! The tests of the crates below, from `spa` to `web`: worked examples of what no clause says, each through public calls
+//! alone.
 //!
 //! They stand in one crate above all others, so that none of those is proved once more for its tests. The program has its
 //! own beside it.
@@ -11,6 +11,8 @@ mod admissions;
 mod checks;
 #[cfg(test)]
 mod desks;
+#[cfg(test)]
+mod exchanges;
 #[cfg(test)]
 mod instances;
 #[cfg(test)]
