@@ -23,6 +23,3 @@ pub use write::write_round;
 
 /// The longest round text that is read, in bytes.
 pub const MOST_BYTES: usize = 262_144;
-
-#[cfg(test)]
-mod tests;

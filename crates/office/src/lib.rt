@@ -14,8 +14,6 @@
 mod draft;
 mod making;
 mod office;
-#[cfg(test)]
-mod tests;
 
 pub use draft::RowsFault;
 pub use office::Office;

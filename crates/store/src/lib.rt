@@ -17,8 +17,6 @@ mod roll;
 mod rows;
 mod saving;
 mod store;
-#[cfg(test)]
-mod tests;
 
 pub use fault::StoreFault;
 pub use store::Store;

@@ -1,7 +1,8 @@
-//! The tests of `spa`, `verdict`, `network`, `solver` and `wire`: worked examples of what no clause says, each through
-//! public calls alone.
+//! The tests of the crates below, from `spa` to `web`: worked examples of what no clause says, each through public calls
+//! alone.
 //!
-//! They stand in one crate above all others, so that none of those is proved once more for its tests.
+//! They stand in one crate above all others, so that none of those is proved once more for its tests. The program has its
+//! own beside it.
 #![tactic(auto)]
 
 #[cfg(test)]
@@ -9,11 +10,21 @@ mod admissions;
 #[cfg(test)]
 mod checks;
 #[cfg(test)]
+mod desks;
+#[cfg(test)]
+mod exchanges;
+#[cfg(test)]
 mod instances;
+#[cfg(test)]
+mod offices;
 #[cfg(test)]
 mod rolls_of;
 #[cfg(test)]
+mod round_texts;
+#[cfg(test)]
 mod rounds;
+#[cfg(test)]
+mod stores;
 #[cfg(test)]
 mod streams;
 #[cfg(test)]

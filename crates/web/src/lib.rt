@@ -16,8 +16,6 @@ mod requests;
 mod routes;
 mod service;
 mod serving;
-#[cfg(test)]
-mod tests;
 mod texts;
 
 pub use laws::ends_are_refusals;

@@ -1,11 +1,13 @@
-use crate::{Office, RowsFault};
+//! Puts, reads and rows at an office, worked out by hand.
+
+use office::{Office, RowsFault};
 use rolls::{Done, Plain, Refusal, Reply, Request, Row, Text};
 use std::alloc::Global;
 use std::process::Abort;
 use std::rt::HostRuntime;
 use std::test::Fail;
 
-// A request that puts a supervisor, a project or a student: the supervisor of a project last.
+/// A supervisor, a project or a student, as put: the supervisor of a project last.
 #[derive(Clone, Copy)]
 enum Put {
     Supervisor(&'static str, &'static str, u32),
@@ -13,6 +15,7 @@ enum Put {
     Student(&'static str, &'static str),
 }
 
+/// The request that puts it.
 fn plain(alloc: Global, put: Put) -> Result<Plain, Fail> {
     let text = |text: &str| String::from_str(alloc, text);
     Ok(match put {
@@ -34,11 +37,20 @@ fn plain(alloc: Global, put: Put) -> Result<Plain, Fail> {
     })
 }
 
-// The number of the refusal that the put gets, 0 for none.
+/// The number of the refusal that the put gets, 0 for none.
 fn put_in(alloc: Global, office: &mut Office, put: Put) -> Result<u32, Fail> {
     match office.apply(plain(alloc, put)?) {
         Ok(_done) => Ok(0),
         Err(refusal) => Ok(refusal.number()),
+    }
+}
+
+/// The number of the refusal that is named before the put, 0 for none.
+fn named(alloc: Global, office: &Office, put: Put) -> Result<u32, Fail> {
+    let request = Request::Plain(plain(alloc, put)?);
+    match office.refusal_of(&request) {
+        Some(refusal) => Ok(refusal.number()),
+        None => Ok(0),
     }
 }
 
@@ -66,32 +78,8 @@ fn puts() -> [(&'static str, Put, u32); 17] {
     ]
 }
 
-// Asks each put in turn, and compares the number of its refusal with the wanted one.
+/// Compares the refusal of each put, as it is named before and as it is answered, with the wanted one.
 fn ask_all(
-    alloc: Global,
-    rt: &impl Abort,
-    office: &mut Office,
-    puts: &[(&'static str, Put, u32)],
-) -> Result<(), Fail> {
-    for (name, put, number) in puts {
-        let answered = put_in(alloc, office, *put)?;
-        assert_eq!(rt; answered, *number, "{name}");
-    }
-    Ok(())
-}
-
-// The number of the refusal that is named before the put, 0 for none.
-fn named(alloc: Global, office: &Office, put: Put) -> Result<u32, Fail> {
-    Ok(
-        match office.refusal_of(&Request::Plain(plain(alloc, put)?)) {
-            Some(refusal) => refusal.number(),
-            None => 0,
-        },
-    )
-}
-
-// The same, and of the refusals that are named before each put.
-fn ask_named(
     alloc: Global,
     rt: &impl Abort,
     office: &mut Office,
@@ -109,7 +97,7 @@ fn ask_named(
 #[test]
 fn puts_are_refused_in_their_order(rt: HostRuntime) -> Result<(), Fail> {
     let mut office = Office::new(rt.alloc());
-    ask_named(rt.alloc(), &rt, &mut office, puts().as_slice())?;
+    ask_all(rt.alloc(), &rt, &mut office, puts().as_slice())?;
     assert_eq!(rt; office.supervisors().len(), 2);
     assert_eq!(rt; office.students().len(), 1);
     assert_eq!(rt; office.projects().len(), 1);
@@ -117,7 +105,7 @@ fn puts_are_refused_in_their_order(rt: HostRuntime) -> Result<(), Fail> {
     Ok(())
 }
 
-// The answer to reading P is the project as it was put last, and changes nothing.
+/// The answer to reading P is the project as it was put last, and changes nothing.
 fn are_pipes(rt: &impl Abort, done: &Done) {
     assert!(rt; done.changes.is_empty());
     match &done.reply {
@@ -153,6 +141,7 @@ fn entries_are_read_as_they_were_put(rt: HostRuntime) -> Result<(), Fail> {
     Ok(())
 }
 
+/// The row of what is put.
 fn row(alloc: Global, put: Put) -> Result<Row, Fail> {
     let text = |text: &str| Text::of(alloc, text);
     Ok(match put {
@@ -187,7 +176,7 @@ fn rows() -> [(&'static str, [Put; 3], bool); 6] {
     ]
 }
 
-// Whether the rows make an office, as they should or should not.
+/// Whether the rows make an office, as they should or should not.
 fn compare_office(
     alloc: Global,
     rt: &impl Abort,
@@ -210,7 +199,7 @@ fn compare_office(
     Ok(())
 }
 
-// The same of each case.
+/// The same of each case.
 fn compare_all(
     alloc: Global,
     rt: &impl Abort,

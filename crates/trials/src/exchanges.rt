@@ -1,0 +1,423 @@
+//! Streams at a desk over a database in memory, byte for byte.
+
+use crate::desks::{desk_over, new_desk};
+use desk::Desk;
+use sqlite::MemStore;
+use std::alloc::{AllocError, Global};
+use std::io;
+use std::io::{Read, Write};
+use std::process::Abort;
+use std::rt::HostRuntime;
+use std::test::Fail;
+use web::{End, Served, StreamFault, Watched, serve_stream};
+
+/// Gives some bytes, at first so many and then a piece at a time, and then fails or ends.
+#[derive(Drop)]
+struct Pieces<'a> {
+    bytes: &'a [u8],
+    first: usize,
+    piece: usize,
+    fails: bool,
+}
+
+impl Read for Pieces<'_> {
+    fn read(&mut self, buf: &mut [u8]) -> io::Result<usize> {
+        if self.bytes.is_empty() && self.fails {
+            return Err(io::Error::from(io::ErrorKind::ConnectionReset));
+        }
+        let n = self.first.min(buf.len());
+        self.first = self.piece;
+        self.bytes.read(&mut buf[..n])
+    }
+}
+
+/// Takes some bytes, thirty at a time at most, and then fails or takes none.
+#[derive(Drop)]
+struct Narrow {
+    taken: Vec<u8>,
+    room: usize,
+    fails: bool,
+}
+
+impl Write for Narrow {
+    fn write(&mut self, buf: &[u8]) -> io::Result<usize> {
+        if self.room == 0 && self.fails {
+            return Err(io::Error::from(io::ErrorKind::ConnectionReset));
+        }
+        let n = self.room.min(buf.len()).min(30);
+        self.room -= n;
+        self.taken.write(&buf[..n])
+    }
+
+    fn flush(&mut self) -> io::Result<()> {
+        Ok(())
+    }
+}
+
+/// What came of a stream.
+#[derive(Drop)]
+struct Outcome {
+    written: Vec<u8>,
+    result: Result<Served, StreamFault>,
+    failed_reads: u64,
+    failed_writes: u64,
+}
+
+/// Serves what the reader gives, to a writer with so much room.
+fn served_by(
+    alloc: Global,
+    desk: &mut Desk<MemStore>,
+    reader: Pieces,
+    room: usize,
+    fails: bool,
+) -> Outcome {
+    let taken = Vec::new(alloc);
+    let mut reader = Watched::new(reader);
+    let mut writer = Watched::new(Narrow { taken, room, fails });
+    let result = serve_stream(alloc, desk, &mut reader, &mut writer);
+    let failed_reads = reader.failures();
+    let failed_writes = writer.failures();
+    let Narrow { taken, .. } = writer.into_inner();
+    Outcome {
+        written: taken,
+        result,
+        failed_reads,
+        failed_writes,
+    }
+}
+
+/// Serves these bytes, at first so many and then a piece at a time.
+fn served(
+    alloc: Global,
+    desk: &mut Desk<MemStore>,
+    bytes: &[u8],
+    first: usize,
+    piece: usize,
+) -> Outcome {
+    let reader = Pieces {
+        bytes,
+        first,
+        piece,
+        fails: false,
+    };
+    served_by(alloc, desk, reader, 100_000, false)
+}
+
+/// Asserts what was written, how many messages were answered, and the end.
+fn compare(
+    rt: &impl Abort,
+    name: usize,
+    outcome: &Outcome,
+    written: &[u8],
+    answered: u32,
+    end: End,
+) {
+    assert_eq!(rt; outcome.result, Ok(Served { answered, end }), "{name}");
+    assert_eq!(rt; outcome.written.as_slice(), written, "{name}");
+    assert!(rt;
+        outcome.failed_reads == 0 && outcome.failed_writes == 0,
+        "{name}"
+    );
+}
+
+/// The desk opened anew over its tables, which have so many students.
+fn stored(
+    alloc: Global,
+    rt: &impl Abort,
+    desk: Desk<MemStore>,
+    students: i64,
+) -> Result<Desk<MemStore>, Fail> {
+    let mut connection = desk.into_connection();
+    let found: i64 = connection
+        .query_row("SELECT count(*) FROM student", &[])?
+        .get(0)?;
+    assert_eq!(rt; found, students);
+    Ok(desk_over(alloc, rt, connection))
+}
+
+/// A message that puts S1, of 63 bytes.
+#[rattlefmt::skip]
+fn put_ann() -> &'static [u8] {
+    b"PUT /students/S1 HTTP/1.1\r\nContent-Length: 14\r\n\r\n{\"name\":\"Ann\"}"
+}
+
+/// Messages that put S1 and S2, of 63 bytes each.
+#[rattlefmt::skip]
+fn put_two() -> &'static [u8] {
+    b"PUT /students/S1 HTTP/1.1\r\nContent-Length: 14\r\n\r\n{\"name\":\"Ann\"}PUT /students/S2 HTTP/1.1\r\nContent-Length: 14\r\n\r\n{\"name\":\"Bob\"}"
+}
+
+/// The answer to a message that puts an entry, of 82 bytes.
+#[rattlefmt::skip]
+fn done() -> &'static [u8] {
+    b"HTTP/1.1 200 OK\r\nContent-Type: application/json\r\nContent-Length: 11\r\n\r\n{\"ok\":true}"
+}
+
+/// Twice that.
+#[rattlefmt::skip]
+fn done_twice() -> &'static [u8] {
+    b"HTTP/1.1 200 OK\r\nContent-Type: application/json\r\nContent-Length: 11\r\n\r\n{\"ok\":true}HTTP/1.1 200 OK\r\nContent-Type: application/json\r\nContent-Length: 11\r\n\r\n{\"ok\":true}"
+}
+
+/// Messages that read S1 and S9.
+#[rattlefmt::skip]
+fn get_two() -> &'static [u8] {
+    b"GET /students/S1 HTTP/1.1\r\n\r\nGET /students/S9 HTTP/1.1\r\n\r\n"
+}
+
+/// Their answers, where S1 is Ann and nobody is S9.
+#[rattlefmt::skip]
+fn ann_and_nobody() -> &'static [u8] {
+    b"HTTP/1.1 200 OK\r\nContent-Type: application/json\r\nContent-Length: 40\r\n\r\n{\"list\":null,\"name\":\"Ann\",\"placed\":null}HTTP/1.1 404 Not Found\r\nContent-Type: application/json\r\nContent-Length: 38\r\n\r\n{\"fault\":\"UnknownStudent\",\"number\":15}"
+}
+
+#[test]
+fn what_is_put_is_stored_and_read(rt: HostRuntime) -> Result<(), Fail> {
+    let alloc = rt.alloc();
+    let mut desk = new_desk(alloc, &rt)?;
+    let none = served(alloc, &mut desk, b"", 9, 9);
+    compare(&rt, 0, &none, b"", 0, End::Closed);
+    let put = served(alloc, &mut desk, put_ann(), 100, 100);
+    compare(&rt, 1, &put, done(), 1, End::Closed);
+    assert_eq!(rt; put.written.len(), 82);
+    let got = served(alloc, &mut desk, get_two(), 100, 100);
+    compare(&rt, 2, &got, ann_and_nobody(), 2, End::Closed);
+    let mut again = stored(alloc, &rt, desk, 1)?;
+    let got = served(alloc, &mut again, get_two(), 100, 100);
+    compare(&rt, 3, &got, ann_and_nobody(), 2, End::Closed);
+    Ok(())
+}
+
+/// Serves two messages in pieces, and then all of them but the last byte.
+fn compare_pieces(alloc: Global, rt: &impl Abort, bytes: &[u8], piece: usize) -> Result<(), Fail> {
+    let mut desk = new_desk(alloc, rt)?;
+    let both = served(alloc, &mut desk, bytes, piece, piece);
+    compare(rt, piece, &both, done_twice(), 2, End::Closed);
+    stored(alloc, rt, desk, 2)?;
+    let mut desk = new_desk(alloc, rt)?;
+    let most = bytes.split_last().map_or(bytes, |(_last, most)| most);
+    let cut = served(alloc, &mut desk, most, piece, piece);
+    compare(rt, piece, &cut, done(), 1, End::Unfinished);
+    stored(alloc, rt, desk, 1)?;
+    Ok(())
+}
+
+#[test]
+fn streams_come_in_pieces(rt: HostRuntime) -> Result<(), Fail> {
+    compare_pieces(rt.alloc(), &rt, put_two(), 1)?;
+    compare_pieces(rt.alloc(), &rt, put_two(), 200)
+}
+
+/// Serves the messages cut into two pieces after each byte in turn.
+fn compare_cuts(alloc: Global, rt: &impl Abort, desk: &mut Desk<MemStore>, bytes: &[u8]) {
+    for cut in 1..bytes.len() {
+        let both = served(alloc, desk, bytes, cut, 200);
+        compare(rt, cut, &both, done_twice(), 2, End::Closed);
+    }
+}
+
+#[test]
+fn streams_are_cut_after_each_byte(rt: HostRuntime) -> Result<(), Fail> {
+    let mut desk = new_desk(rt.alloc(), &rt)?;
+    compare_cuts(rt.alloc(), &rt, &mut desk, put_two());
+    stored(rt.alloc(), &rt, desk, 2)?;
+    Ok(())
+}
+
+// A reader fails after the first message.
+#[test]
+fn a_reader_fails(rt: HostRuntime) -> Result<(), Fail> {
+    let alloc = rt.alloc();
+    let mut desk = new_desk(alloc, &rt)?;
+    let reader = Pieces {
+        bytes: put_ann(),
+        first: 10,
+        piece: 10,
+        fails: true,
+    };
+    let read = served_by(alloc, &mut desk, reader, 100_000, false);
+    assert_eq!(rt; read.result, Err(StreamFault::Read));
+    assert!(rt; read.failed_reads == 1 && read.failed_writes == 0);
+    assert_eq!(rt; read.written.as_slice(), done());
+    assert_eq!(rt; read.written.len(), 82);
+    stored(alloc, &rt, desk, 1)?;
+    Ok(())
+}
+
+/// Serves two messages to a writer that takes so many bytes and then fails, or takes none. So many students are stored,
+/// and the next stream is served as ever.
+fn compare_narrow(
+    alloc: Global,
+    rt: &impl Abort,
+    room: usize,
+    fails: bool,
+    students: i64,
+) -> Result<(), Fail> {
+    let mut desk = new_desk(alloc, rt)?;
+    let reader = Pieces {
+        bytes: put_two(),
+        first: 200,
+        piece: 200,
+        fails: false,
+    };
+    let write = served_by(alloc, &mut desk, reader, room, fails);
+    assert_eq!(rt; write.result, Err(StreamFault::Write));
+    assert!(rt; write.failed_reads == 0 && write.failed_writes == 1);
+    assert_eq!(rt; write.written.len(), room);
+    assert!(rt; done_twice().starts_with(&write.written));
+    let next = served(alloc, &mut desk, get_two(), 200, 200);
+    compare(rt, room, &next, ann_and_nobody(), 2, End::Closed);
+    let mut again = stored(alloc, rt, desk, students)?;
+    let next = served(alloc, &mut again, put_ann(), 200, 200);
+    compare(rt, room, &next, done(), 1, End::Closed);
+    Ok(())
+}
+
+#[test]
+fn a_writer_fails(rt: HostRuntime) -> Result<(), Fail> {
+    compare_narrow(rt.alloc(), &rt, 100, true, 2)?;
+    compare_narrow(rt.alloc(), &rt, 0, false, 1)
+}
+
+type Exchange = (&'static str, &'static str, &'static str, &'static str);
+
+// Each after those before it: method and path, body, status, and body of the answer.
+#[rattlefmt::skip]
+fn exchanges() -> [Exchange; 33] {
+    [
+        ("GET /desks",          "",                                                      "404 Not Found",          "{\"fault\":\"NoRoute\",\"number\":5}"),
+        ("GET /students/",      "",                                                      "404 Not Found",          "{\"fault\":\"NoRoute\",\"number\":5}"),
+        ("GET /students/S1/",   "",                                                      "404 Not Found",          "{\"fault\":\"NoRoute\",\"number\":5}"),
+        ("POST /desks",         "",                                                      "404 Not Found",          "{\"fault\":\"NoRoute\",\"number\":5}"),
+        ("POST /students/S1",   "{\"name\":",                                            "405 Method Not Allowed", "{\"fault\":\"WrongMethod\",\"number\":6}"),
+        ("PUT /students/S1",    "{\"name\":",                                            "400 Bad Request",        "{\"fault\":\"Json\",\"number\":7}"),
+        ("PUT /students/S1",    "",                                                      "400 Bad Request",        "{\"fault\":\"Json\",\"number\":7}"),
+        ("PUT /students/S1",    "[]",                                                    "400 Bad Request",        "{\"fault\":\"Members\",\"number\":8}"),
+        ("PUT /students/S1",    "{\"name\":\"Ann\",\"x\":1}",                            "400 Bad Request",        "{\"fault\":\"Members\",\"number\":8}"),
+        ("PUT /students/S1",    "{\"name\":1}",                                          "400 Bad Request",        "{\"fault\":\"Members\",\"number\":8}"),
+        ("GET /students/S1",    "{}",                                                    "400 Bad Request",        "{\"fault\":\"Members\",\"number\":8}"),
+        ("PUT /students/-A",    "{\"name\":\"Ann\"}",                                    "400 Bad Request",        "{\"fault\":\"Code\",\"number\":9}"),
+        ("PUT /students/S1",    "{\"name\":\"\"}",                                       "400 Bad Request",        "{\"fault\":\"Label\",\"number\":10}"),
+        ("PUT /students/S1",    "{\"name\":\"Bob\",\"name\":\"Ann\"}",                   "200 OK",                 "{\"ok\":true}"),
+        ("GET /students/S1",    "",                                                      "200 OK",                 "{\"list\":null,\"name\":\"Ann\",\"placed\":null}"),
+        ("PUT /supervisors/L",  "{\"name\":\"Lee\",\"quota\":501}",                      "400 Bad Request",        "{\"fault\":\"Quota\",\"number\":11}"),
+        ("PUT /supervisors/L",  "{\"name\":\"Lee\",\"quota\":5.0}",                      "400 Bad Request",        "{\"fault\":\"Quota\",\"number\":11}"),
+        ("PUT /supervisors/L",  "{\"name\":\"Lee\",\"quota\":-1}",                       "400 Bad Request",        "{\"fault\":\"Quota\",\"number\":11}"),
+        ("PUT /supervisors/L",  "{\"name\":\"Lee\",\"quota\":99999999999999999999}",     "400 Bad Request",        "{\"fault\":\"Quota\",\"number\":11}"),
+        ("PUT /supervisors/L",  "{\"name\":\"\",\"quota\":501}",                         "400 Bad Request",        "{\"fault\":\"Label\",\"number\":10}"),
+        ("PUT /supervisors/-A", "{\"name\":\"Lee\",\"quota\":500}",                      "400 Bad Request",        "{\"fault\":\"Code\",\"number\":9}"),
+        ("PUT /supervisors/L",  "{\"name\":\"Lee\",\"quota\":\"5\"}",                    "400 Bad Request",        "{\"fault\":\"Members\",\"number\":8}"),
+        ("PUT /supervisors/L",  "{\"quota\":500,\"name\":\"Lee\"}",                      "200 OK",                 "{\"ok\":true}"),
+        ("GET /supervisors/L",  "",                                                      "200 OK",                 "{\"name\":\"Lee\",\"placed\":0,\"quota\":500}"),
+        ("GET /supervisors/K",  "",                                                      "404 Not Found",          "{\"fault\":\"UnknownSupervisor\",\"number\":13}"),
+        ("PUT /projects/P",     "{\"name\":\"Pumps\",\"quota\":2,\"supervisor\":\"K\"}", "404 Not Found",          "{\"fault\":\"UnknownSupervisor\",\"number\":13}"),
+        ("PUT /projects/P",     "{\"name\":\"Pumps\",\"quota\":2,\"supervisor\":\"L\"}", "200 OK",                 "{\"ok\":true}"),
+        ("PUT /projects/P",     "{\"name\":\"Pumps\",\"quota\":2,\"supervisor\":\"K\"}", "404 Not Found",          "{\"fault\":\"UnknownSupervisor\",\"number\":13}"),
+        ("PUT /supervisors/K",  "{\"name\":\"Kim\",\"quota\":0}",                        "200 OK",                 "{\"ok\":true}"),
+        ("PUT /projects/P",     "{\"name\":\"Pumps\",\"quota\":2,\"supervisor\":\"K\"}", "409 Conflict",           "{\"fault\":\"SupervisorFixed\",\"number\":16}"),
+        ("PUT /projects/P",     "{\"name\":\"Pumps\",\"quota\":2}",                      "400 Bad Request",        "{\"fault\":\"Members\",\"number\":8}"),
+        ("GET /projects/P",     "",                                                      "200 OK",                 "{\"name\":\"Pumps\",\"placed\":0,\"quota\":2,\"supervisor\":\"L\"}"),
+        ("GET /projects/p",     "",                                                      "404 Not Found",          "{\"fault\":\"UnknownProject\",\"number\":14}"),
+    ]
+}
+
+/// The answer with this status and body.
+fn answer(alloc: Global, status: &str, body: &str) -> Result<String, AllocError> {
+    let len = body.len();
+    format!(in alloc;
+        "HTTP/1.1 {status}\r\nContent-Type: application/json\r\nContent-Length: {len}\r\n\r\n{body}"
+    )
+}
+
+/// Whether the bytes get this one answer, and this end.
+fn is_told(
+    alloc: Global,
+    desk: &mut Desk<MemStore>,
+    bytes: &[u8],
+    status: &str,
+    body: &str,
+    end: End,
+) -> Result<bool, AllocError> {
+    let want = answer(alloc, status, body)?;
+    let got = served(alloc, desk, bytes, 1000, 1000);
+    Ok(got.written.as_slice() == want.as_bytes() && got.result == Ok(Served { answered: 1, end }))
+}
+
+/// The message that asks this with a body.
+fn message(alloc: Global, asked: &str, body: &str) -> Result<String, AllocError> {
+    let len = body.len();
+    format!(in alloc; "{asked} HTTP/1.1\r\nContent-Length: {len}\r\n\r\n{body}")
+}
+
+/// Compares the answer of each row.
+fn compare_exchanges(
+    alloc: Global,
+    rt: &impl Abort,
+    desk: &mut Desk<MemStore>,
+    rows: &[Exchange],
+) -> Result<(), Fail> {
+    for (asked, body, status, told) in rows {
+        let message = message(alloc, asked, body)?;
+        let is_told = is_told(alloc, desk, message.as_bytes(), status, told, End::Closed)?;
+        assert!(rt; is_told, "{asked} {body}");
+    }
+    Ok(())
+}
+
+#[test]
+fn requests_are_answered(rt: HostRuntime) -> Result<(), Fail> {
+    let mut desk = new_desk(rt.alloc(), &rt)?;
+    compare_exchanges(rt.alloc(), &rt, &mut desk, exchanges().as_slice())
+}
+
+#[test]
+fn bad_heads_and_large_bodies_end_a_stream(rt: HostRuntime) -> Result<(), Fail> {
+    let alloc = rt.alloc();
+    let mut desk = new_desk(alloc, &rt)?;
+    let long = b"PUT /students/S1 HTTP/1.1\r\nContent-Length: 65537\r\n\r\nGET / HTTP/1.1\r\n\r\n";
+    let status = "413 Payload Too Large";
+    let large = "{\"fault\":\"TooLarge\",\"number\":4}";
+    assert!(rt;
+        is_told(alloc, &mut desk, long, status, large, End::TooLarge)?,
+        "too long"
+    );
+    let twice = b"PUT /students/S1 HTTP/1.1\r\nContent-Length: 14\r\nContent-Length: 14\r\n\r\n{}";
+    let status = "400 Bad Request";
+    let bad = "{\"fault\":\"BadHead\",\"number\":3}";
+    assert!(rt;
+        is_told(alloc, &mut desk, twice, status, bad, End::BadHead)?,
+        "two lengths"
+    );
+    stored(alloc, &rt, desk, 0)?;
+    Ok(())
+}
+
+/// A message whose body is 200 lists within one another.
+fn deep_lists(alloc: Global) -> Result<Vec<u8>, AllocError> {
+    let mut deep = Vec::from_slice(
+        alloc,
+        b"PUT /students/S1 HTTP/1.1\r\nContent-Length: 400\r\n\r\n",
+    )?;
+    deep.extend_from_slice(&[b'['; 200])?;
+    deep.extend_from_slice(&[b']'; 200])?;
+    Ok(deep)
+}
+
+#[test]
+fn bodies_that_are_no_json_are_refused(rt: HostRuntime) -> Result<(), Fail> {
+    let alloc = rt.alloc();
+    let mut desk = new_desk(alloc, &rt)?;
+    let status = "400 Bad Request";
+    let told = "{\"fault\":\"Json\",\"number\":7}";
+    let byte = b"PUT /students/S1 HTTP/1.1\r\nContent-Length: 1\r\n\r\n\xff";
+    assert!(rt;
+        is_told(alloc, &mut desk, byte, status, told, End::Closed)?,
+        "no text"
+    );
+    let deep = deep_lists(alloc)?;
+    assert!(rt;
+        is_told(alloc, &mut desk, &deep, status, told, End::Closed)?,
+        "too deep"
+    );
+    Ok(())
+}

@@ -1,0 +1,225 @@
+//! The tables of a store: what is saved is read back, and hand-made tables are judged.
+
+use office::Office;
+use rolls::{Change, Row, RowKey, Text};
+use sqlite::{Connection, MemStore};
+use std::alloc::Global;
+use std::process::Abort;
+use std::rt::HostRuntime;
+use std::test::Fail;
+use store::{Store, StoreFault};
+
+/// How many supervisors, projects and students there are.
+type Sizes = (usize, usize, usize);
+
+/// What an opening answers, and the connection given back.
+type Opened = (Result<Sizes, StoreFault>, Connection<MemStore>);
+
+fn supervisor(alloc: Global, code: &str, label: &str, quota: u32) -> Result<Change, Fail> {
+    Ok(Change::Put(Row::Supervisor {
+        code: Text::of(alloc, code)?,
+        label: Text::of(alloc, label)?,
+        quota,
+    }))
+}
+
+fn project(alloc: Global, code: &str, supervisor: &str, quota: u32) -> Result<Change, Fail> {
+    Ok(Change::Put(Row::Project {
+        code: Text::of(alloc, code)?,
+        label: Text::of(alloc, "Pumps")?,
+        supervisor: Text::of(alloc, supervisor)?,
+        quota,
+    }))
+}
+
+fn student(alloc: Global, code: &str, label: &str) -> Result<Change, Fail> {
+    Ok(Change::Put(Row::Student {
+        code: Text::of(alloc, code)?,
+        label: Text::of(alloc, label)?,
+    }))
+}
+
+fn sizes(office: &Office) -> Sizes {
+    (
+        office.supervisors().len(),
+        office.projects().len(),
+        office.students().len(),
+    )
+}
+
+/// Opens the tables of a database.
+fn opened(alloc: Global, conn: Connection<MemStore>) -> Opened {
+    match Store::open(alloc, conn) {
+        Ok((store, office)) => (Ok(sizes(&office)), store.into_connection()),
+        Err((fault, conn)) => (Err(fault), conn),
+    }
+}
+
+/// The store over a database whose tables stand for an office of these sizes.
+fn open(
+    alloc: Global,
+    rt: &impl Abort,
+    conn: Connection<MemStore>,
+    want: Sizes,
+) -> Result<Store<MemStore>, StoreFault> {
+    match Store::open(alloc, conn) {
+        Ok((store, office)) => {
+            assert_eq!(rt; sizes(&office), want);
+            Ok(store)
+        }
+        Err((fault, _conn)) => Err(fault),
+    }
+}
+
+/// The number that a query answers.
+fn count(conn: &mut Connection<MemStore>, sql: &str) -> Result<i64, Fail> {
+    Ok(conn.query_row(sql, &[])?.get(0)?)
+}
+
+/// Six changes: Ann is renamed, and Bob is taken away again.
+fn changes(alloc: Global) -> Result<Vec<Change>, Fail> {
+    let mut changes = Vec::new(alloc);
+    changes.push(supervisor(alloc, "L", "Lee", 5)?)?;
+    changes.push(project(alloc, "P", "L", 1)?)?;
+    changes.push(student(alloc, "S1", "Ann")?)?;
+    changes.push(student(alloc, "S2", "Bob")?)?;
+    changes.push(student(alloc, "S1", "Anne")?)?;
+    changes.push(Change::Take(RowKey::Student(Text::of(alloc, "S2")?)))?;
+    Ok(changes)
+}
+
+/// Loads the office, which has one entry in each roll and Anne as its student.
+fn loads_anne(rt: &impl Abort, store: &mut Store<MemStore>) -> Result<(), Fail> {
+    let office = store.load()?;
+    assert_eq!(rt; sizes(&office), (1, 1, 1));
+    for student in office.students() {
+        assert_eq!(rt; student.label.as_str(), "Anne");
+    }
+    Ok(())
+}
+
+/// A project of an unknown supervisor is refused by its table, and the change before it is undone.
+fn is_undone(alloc: Global, rt: &impl Abort, store: &mut Store<MemStore>) -> Result<(), Fail> {
+    let mut refused = Vec::new(alloc);
+    refused.push(student(alloc, "S3", "Cy")?)?;
+    refused.push(project(alloc, "Q", "K", 1)?)?;
+    assert_eq!(rt; store.save(&refused), Err(StoreFault::Storage));
+    Ok(())
+}
+
+#[test]
+fn saved_changes_are_read_back(rt: HostRuntime) -> Result<(), Fail> {
+    let alloc = rt.alloc();
+    let conn = Connection::open_in_memory(alloc)?;
+    let mut store = open(alloc, &rt, conn, (0, 0, 0))?;
+    assert_eq!(rt; store.save(&changes(alloc)?), Ok(()));
+    loads_anne(&rt, &mut store)?;
+    is_undone(alloc, &rt, &mut store)?;
+    let mut conn = store.into_connection();
+    assert_eq!(rt; count(&mut conn, "SELECT count(*) FROM student")?, 1);
+    let quota = count(&mut conn, "SELECT quota FROM project WHERE code = 'P'")?;
+    assert_eq!(rt; quota, 1);
+    let (answer, _conn) = opened(alloc, conn);
+    assert_eq!(rt; answer, Ok((1, 1, 1)));
+    Ok(())
+}
+
+/// Another table and the four of an office, with nobody on its rolls.
+#[rattlefmt::skip]
+fn tables() -> [&'static str; 6] {
+    [
+        "CREATE TABLE other (a INTEGER);",
+        "CREATE TABLE edition (id INTEGER NOT NULL PRIMARY KEY CHECK (id = 1), number INTEGER NOT NULL) STRICT;",
+        "CREATE TABLE supervisor (code TEXT NOT NULL PRIMARY KEY, label TEXT NOT NULL, quota INTEGER NOT NULL) STRICT;",
+        "CREATE TABLE project (code TEXT NOT NULL PRIMARY KEY, label TEXT NOT NULL, supervisor TEXT NOT NULL REFERENCES supervisor (code), quota INTEGER NOT NULL) STRICT;",
+        "create table student (code text primary key not null, label text not null) strict;",
+        "INSERT INTO edition VALUES (1, 1);",
+    ]
+}
+
+type HandMade = (&'static str, &'static str, Result<Sizes, StoreFault>);
+
+/// What is added to these tables, and what opening answers.
+#[rattlefmt::skip]
+fn hand_made() -> [HandMade; 7] {
+    [
+        ("fit",              "INSERT INTO supervisor VALUES ('L', 'Lee', 500); INSERT INTO project VALUES ('P', 'Pumps', 'L', 0); INSERT INTO student VALUES ('S1', 'Ann')", Ok((1, 1, 1))),
+        ("empty label",      "INSERT INTO student VALUES ('S1', '')", Err(StoreFault::Damaged)),
+        ("no code",          "INSERT INTO student VALUES ('-A', 'Ann')", Err(StoreFault::Damaged)),
+        ("quota of 501",     "INSERT INTO supervisor VALUES ('L', 'Lee', 501)", Err(StoreFault::Damaged)),
+        ("quota below 0",    "INSERT INTO supervisor VALUES ('L', 'Lee', -1)", Err(StoreFault::Damaged)),
+        ("another edition",  "UPDATE edition SET number = 9", Err(StoreFault::Damaged)),
+        ("a table missing",  "DROP TABLE student", Err(StoreFault::Damaged)),
+    ]
+}
+
+/// Executes each statement.
+fn execute_all(conn: &mut Connection<MemStore>, statements: &[&'static str]) -> Result<(), Fail> {
+    for statement in statements {
+        conn.execute_batch(statement)?;
+    }
+    Ok(())
+}
+
+/// Compares what the tables with this addition are opened as, and that no table was added or taken away.
+fn compare_opened(
+    alloc: Global,
+    rt: &impl Abort,
+    name: &str,
+    added: &str,
+    want: &Result<Sizes, StoreFault>,
+) -> Result<(), Fail> {
+    let mut conn = Connection::open_in_memory(alloc)?;
+    execute_all(&mut conn, tables().as_slice())?;
+    conn.execute_batch(added)?;
+    let before = count(&mut conn, "SELECT count(*) FROM sqlite_schema")?;
+    let (answer, mut conn) = opened(alloc, conn);
+    assert_eq!(rt; answer, *want, "{name}");
+    let after = count(&mut conn, "SELECT count(*) FROM sqlite_schema")?;
+    assert_eq!(rt; after, before, "{name}");
+    Ok(())
+}
+
+/// The same of each case.
+fn compare_hand_made(alloc: Global, rt: &impl Abort, rows: &[HandMade]) -> Result<(), Fail> {
+    for (name, added, want) in rows {
+        compare_opened(alloc, rt, name, added, want)?;
+    }
+    Ok(())
+}
+
+#[test]
+fn hand_made_tables_are_judged(rt: HostRuntime) -> Result<(), Fail> {
+    compare_hand_made(rt.alloc(), &rt, hand_made().as_slice())
+}
+
+/// The empty office's tables beside another table, which is as it was.
+fn beside_another(alloc: Global, rt: &impl Abort) -> Result<Connection<MemStore>, Fail> {
+    let mut conn = Connection::open_in_memory(alloc)?;
+    conn.execute_batch("CREATE TABLE other (a INTEGER); INSERT INTO other VALUES (7);")?;
+    let (answer, mut conn) = opened(alloc, conn);
+    assert_eq!(rt; answer, Ok((0, 0, 0)));
+    assert_eq!(rt; count(&mut conn, "SELECT a FROM other")?, 7);
+    Ok(conn)
+}
+
+#[test]
+fn other_tables_are_left_alone(rt: HostRuntime) -> Result<(), Fail> {
+    let alloc = rt.alloc();
+    let mut conn = beside_another(alloc, &rt)?;
+
+    // A table whose rows go with a student's: nothing is saved over it.
+    conn.execute_batch(
+        "CREATE TABLE pet (of TEXT REFERENCES student (code) ON DELETE CASCADE); INSERT INTO student VALUES ('S1', 'Ann');",
+    )?;
+    let mut store = open(alloc, &rt, conn, (0, 0, 1))?;
+    let mut changes = Vec::new(alloc);
+    changes.push(student(alloc, "S2", "Bob")?)?;
+    assert_eq!(rt; store.save(&changes), Err(StoreFault::Storage));
+    let mut conn = store.into_connection();
+    assert_eq!(rt; count(&mut conn, "SELECT count(*) FROM student")?, 1);
+    conn.execute_batch("BEGIN")?;
+    let (answer, _conn) = opened(alloc, conn);
+    assert_eq!(rt; answer, Err(StoreFault::Storage));
+    Ok(())
+}
