@@ -13,4 +13,5 @@ mod Rolls
 mod Sections
 mod Steps
 mod Takes
+mod Unique
 mod Writing
