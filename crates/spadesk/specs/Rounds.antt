@@ -1,5 +1,5 @@
 -- What the lines on round files print.
-use Rattle.std.specs.Prelude.{◌≡◌, ℕ, ◌<◌, List, [], ◌∷◌, ◌++◌, length, map, flat_map, Option, Result, Ok, Err, ⊤, String, codes, decimal, string_bytes}
+use Rattle.std.specs.Prelude.{◌≡◌, ℕ, List, [], ◌∷◌, ◌++◌, length, map, flat_map, Option, Result, Ok, Err, ⊤, String, codes, decimal, string_bytes}
 use Rattle.std.specs.List.{range_with_len}
 use Rattle.std.specs.declared.alloc.Global.{Global}
 use Rattle.spa.specs.declared.TheConstants.{RANKS}

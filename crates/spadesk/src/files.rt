@@ -19,8 +19,6 @@ fn read_some<R: Read + Drop>(alloc: Global, reader: R) -> io::Result<Vec<u8>>
     ensures { IfOk result (λ bytes. IfSome (R.remaining reader) (λ all. bytes.items ≡ take (MOST_BYTES + 1) all)) }
 {
     let mut bytes = Vec::new(alloc);
-    reader
-        .take(MOST_BYTES as u64 + 1)
-        .read_to_end(&mut bytes)?;
+    reader.take(MOST_BYTES as u64 + 1).read_to_end(&mut bytes)?;
     Ok(bytes)
 }

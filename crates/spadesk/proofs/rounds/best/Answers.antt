@@ -12,6 +12,6 @@ returns c =
     let ks : List (Option ℕ) = c.args.parts.now.matching.places.items in
     let many : length c.profile-counts.result ≡ 8 = search rules in
     let counts : c.profile-counts.result ≡ map (profile i (pairs i ks)) (range_with_len 0 8) = listed c.profile-counts.result (profile i (pairs i ks)) 0 8 many
-        (λ k h. (let at : k ≡ 0 + k = omega arith in c.profile-counts.ensures.profile k h ∙ ap (profile i (pairs i ks)) at)) in
+    (λ k h. (let at : k ≡ 0 + k = omega arith in c.profile-counts.ensures.profile k h ∙ ap (profile i (pairs i ks)) at)) in
     in_turn (string_bytes c.new-text.result) (string_bytes c.write.new.self) (string_bytes c.push_counts.new.out) (string_bytes c.push_str.new.self) c.size-size.result (length (pairs i ks)) c.profile-counts.result _ c.size-size.ensures.size counts
     c.new-text.ensures.bytes c.in_ok-write.ensures.bytes c.in_ok-push_counts.ensures c.in_ok-push_str.ensures.bytes
