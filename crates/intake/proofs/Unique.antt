@@ -1,23 +1,22 @@
 -- The text of parts tells them.
-use Rattle.std.proofs.Common.{◌≡◌, ℕ, zero, suc, ◌<◌, ◌≤◌, ◌⊎◌, inl, inr, ℤ, pos, List, [], ◌∷◌, ◌++◌, length, map, get_or, slice_get, Option, Some, None, All, Result, Ok, Err, decimal, refl, sym, ap, ◌∙◌, subst, arith}
+use Rattle.std.proofs.Common.{◌≡◌, ℕ, suc, ◌<◌, ◌≤◌, inl, inr, ℤ, pos, List, [], ◌∷◌, length, map, get_or, slice_get, Option, Some, None, All, Result, Ok, Err, decimal, refl, sym, ap, ◌∙◌, subst, arith}
 use Rattle.std.specs.Fmt.{signed_decimal}
 use Rattle.std.specs.List.{AllZip}
 use Rattle.std.proofs.lemmas.Bool.{cases_order}
 use Rattle.std.proofs.lemmas.Fmt.{decimal_injective, signed_decimal_injective}
 use Rattle.std.proofs.lemmas.List.{append_cancel_right, length-map}
 use Rattle.std.proofs.lemmas.List.Elements.{All-head, All-tail}
-use Rattle.spa.specs.declared.TheConstants.{PLACES, MOST_PLACES}
+use Rattle.spa.specs.declared.TheConstants.{MOST_PLACES}
 use Rattle.spa.specs.Codes.{code_at, AreApart}
-use Rattle.spa.specs.Instance.{Supervisor, Project, Student, supervisor_codes, project_codes, student_codes}
+use Rattle.spa.specs.Instance.{Supervisor, Project, Student, project_codes}
 use Rattle.spa.specs.Made.{IsSoundList}
 use Rattle.verdict.specs.Rows.{InRange}
 use Rattle.intake.specs.declared.round.RoundParts.{RoundParts}
 use Rattle.intake.specs.declared.round.RoundFault.{RoundFault}
 use Rattle.intake.specs.declared.round.RoundFault.TheVariants.{Memory, TooLarge, Line}
 use Rattle.intake.specs.Parts.{Parts, Rise, IsPlace, IsPrice, ArePrices, IsRoundParts}
-use Rattle.intake.specs.Lines.{Row, sections, round_lines, round_text, supervisor_row, project_row, pair_rows, price_rows}
-use Rattle.intake.specs.Lines.{student_row}
-use Rattle.intake.specs.Reading.{pieces, IsReading, IsReadBack}
+use Rattle.intake.specs.Lines.{sections, round_lines, round_text, supervisor_row, project_row, pair_rows, price_rows}
+use Rattle.intake.specs.Reading.{IsReading, IsReadBack}
 use Rattle.intake.specs.View.{parts_of}
 use Rattle.intake.proofs.Bad.{round_pieces}
 use Rattle.intake.proofs.Found.{slice_get_at}
