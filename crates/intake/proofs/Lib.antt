@@ -14,4 +14,5 @@ mod Sections
 mod Steps
 mod Takes
 mod Unique
+mod Whole
 mod Writing

@@ -60,7 +60,7 @@ same_projects (x ∷ xs) (y ∷ ys) a b e =
     ∙ ap (λ (l : List Project). y ∷ l) (same_projects xs ys (All-tail (λ q. q ≤ MOST_PLACES) x.quota (map (λ e. e.quota) xs) a) (All-tail (λ q. q ≤ MOST_PLACES) y.quota (map (λ e. e.quota) ys) b) rest)
 
 -- a project stands at one place of a list
-one_listed : (list : List (List ℕ)) (k l : ℕ) → AreApart list (length list) → k < length list → l < length list → code_at list k ≡ code_at list l → k ≡ l
+pub one_listed : (list : List (List ℕ)) (k l : ℕ) → AreApart list (length list) → k < length list → l < length list → code_at list k ≡ code_at list l → k ≡ l
 one_listed list k l apart h i e =
     let a : slice_get list k ≡ Some (code_at list l) = slice_get_at list k [] (code_at list l) h e in
     let b : slice_get list l ≡ Some (code_at list l) = slice_get_at list l [] (code_at list l) i refl in
