@@ -40,6 +40,12 @@ impl From<AllocError> for Trouble {
 }
 
 impl From<io::Error> for Trouble {
+    ghost use Rattle.std.specs.Prelude.{◌≡◌, ◌⊎◌};
+    ghost use Rattle.rolls.specs.declared.refusal.Refusal.TheVariants.{Memory, Storage};
+    ghost use Rattle.spadesk.specs.declared.rounds.Trouble.TheVariants.{Refused};
+
+    ghost from_gives = { λ _ t. (t ≡ Refused Memory) ⊎ (t ≡ Refused Storage) };
+
     fn from(error: io::Error) -> Trouble {
         if error.kind() == io::ErrorKind::OutOfMemory {
             Trouble::Refused(Refusal::Memory)
