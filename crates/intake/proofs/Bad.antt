@@ -19,7 +19,7 @@ pub some_piece : (text : List ℕ) → 1 ≤ length (pieces text)
 some_piece text = omega (arith, length-slice_split (λ b. b == 10) text)
 
 -- the pieces of a round text are its lines and an empty one
-round_pieces : (text : List ℕ) (p : Parts) → IsRoundParts p → text ≡ round_text p → pieces text ≡ round_lines p ++ [] ∷ []
+pub round_pieces : (text : List ℕ) (p : Parts) → IsRoundParts p → text ≡ round_text p → pieces text ≡ round_lines p ++ [] ∷ []
 round_pieces text p v e = ap pieces e ∙ pieces_back (round_lines p) (lines_free 10 (sections p) refl (parts_plain 10 (omega arith) p v))
 
 -- the lines of parts, up to any of them, begin a text

@@ -13,4 +13,6 @@ mod Rolls
 mod Sections
 mod Steps
 mod Takes
+mod Unique
+mod Whole
 mod Writing

@@ -37,7 +37,7 @@ nothing_made f [] e = refl
 nothing_made f (x ∷ xs) e = cc
 
 -- rows that are the same have the same codes
-same_codes : {X : Type 0} (row : X → Row) (code : X → List ℕ) → ((x y : X) → row x ≡ row y → code x ≡ code y) → (xs ys : List X) → map row xs ≡ map row ys → map code xs ≡ map code ys
+pub same_codes : {X : Type 0} (row : X → Row) (code : X → List ℕ) → ((x y : X) → row x ≡ row y → code x ≡ code y) → (xs ys : List X) → map row xs ≡ map row ys → map code xs ≡ map code ys
 same_codes row code inj [] [] e = refl
 same_codes row code inj [] (y ∷ ys) e = cc
 same_codes row code inj (x ∷ xs) [] e = cc
@@ -206,7 +206,7 @@ student_only old r d g =
     ]
 
 -- students with the same rows are the same
-same_students : (xs ys : List Student) → map student_row xs ≡ map student_row ys → xs ≡ ys
+pub same_students : (xs ys : List Student) → map student_row xs ≡ map student_row ys → xs ≡ ys
 same_students [] [] e = refl
 same_students [] (y ∷ ys) e = cc
 same_students (x ∷ xs) [] e = cc
@@ -233,7 +233,7 @@ behind : (x : Student) (k : Option ℕ) (es : List Student) (ks : List (Option �
 behind x k es ks m n r h a = (let l = a.later in record { at = suc a.at; place = a.place; student = a.student; here = a.here; placed = a.placed; later = omega arith; is = a.is })
 
 -- the first pair
-first_pair : (es : List Student) (ks : List (Option ℕ)) (r : Row) (more : List Row) → pair_rows es ks ≡ r ∷ more → PairAt es ks 0 r
+pub first_pair : (es : List Student) (ks : List (Option ℕ)) (r : Row) (more : List Row) → pair_rows es ks ≡ r ∷ more → PairAt es ks 0 r
 first_pair [] ks r more e = cc
 first_pair (x ∷ es) [] r more e = cc
 first_pair (x ∷ es) (None ∷ ks) r more e = behind x None es ks 0 0 r (omega arith) (first_pair es ks r more e)
@@ -248,14 +248,14 @@ some_pair (x ∷ es) (None ∷ []) a e h = cc
 some_pair (x ∷ es) (None ∷ k ∷ ks) a e h = some_pair es (k ∷ ks) a.1 e (omega arith)
 
 -- a code stands before all others of a roll that rises
-before_others : (x : Student) (es : List Student) (n : ℕ) (y : Student) → Rise (map (λ (e : Student). e.code) (x ∷ es)) → slice_get es n ≡ Some y → x.code ≡ y.code → ⊥
+pub before_others : (x : Student) (es : List Student) (n : ℕ) (y : Student) → Rise (map (λ (e : Student). e.code) (x ∷ es)) → slice_get es n ≡ Some y → x.code ≡ y.code → ⊥
 before_others x es n y rise here e =
     let coded : slice_get (map (λ (e : Student). e.code) es) n ≡ Some y.code = get_mapped (λ (e : Student). e.code) es n y here in
     let found : get_or (map (λ (e : Student). e.code) es) n [] ≡ y.code = get_found (map (λ (e : Student). e.code) es) n y.code [] coded in
     cmp_apart x.code (get_or (map (λ (e : Student). e.code) es) n []) (rise 0 (suc n) [] (omega arith) (let w = within_get (map (λ (e : Student). e.code) es) n y.code coded in omega (arith, w))) (e ∙ sym found)
 
 -- the roll after its first entry rises
-rise_tail : (c : List ℕ) (cs : List (List ℕ)) → Rise (c ∷ cs) → Rise cs
+pub rise_tail : (c : List ℕ) (cs : List (List ℕ)) → Rise (c ∷ cs) → Rise cs
 rise_tail c cs rise i j d h l = rise (suc i) (suc j) d (omega arith) (omega arith)
 
 -- what ends with a place does so after its first

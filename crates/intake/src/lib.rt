@@ -5,18 +5,21 @@
 //! does.
 //!
 //! Promised: `write_round` writes the one text of its parts. `read_round` gives the parts of a text that has the form,
-//! and else names the first line up to which the lines begin no such text. The form is in `specs/Lines.antt`, what may
-//! stand in it in `specs/Parts.antt`, and the first bad line in `specs/Reading.antt`; begin there.
+//! and else names the first line up to which the lines begin no such text. No two parts have one text, so what was
+//! written is read as the same parts: `round_law`. The form is in `specs/Lines.antt`, what may stand in it in
+//! `specs/Parts.antt`, and the first bad line in `specs/Reading.antt`; begin there.
 #![tactic(auto)]
 
 mod draft;
 mod fields;
+mod laws;
 mod lines;
 mod lookup;
 mod read;
 mod round;
 mod write;
 
+pub use laws::round_law;
 pub use read::read_round;
 pub use round::{RoundFault, RoundParts};
 pub use write::write_round;

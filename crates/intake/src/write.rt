@@ -1,12 +1,14 @@
 //! Round texts, written.
 #![tactic(auto)]
 
-ghost use Rattle.std.specs.Prelude.{◌≡◌, ◌++◌, map, flat_map, take, drop, codes, IfOk, IfSome, OnOk, string_bytes, length};
+ghost use Rattle.std.specs.Prelude.{◌≡◌, ◌++◌, map, flat_map, take, drop, codes, IfOk, IfSome, OnOk, string_bytes, length, All, IsTrue};
+ghost use Rattle.spa.specs.Text.{is_code};
+ghost use Rattle.spa.specs.declared.TheConstants.{PLACES};
 ghost use Rattle.spa.specs.Instance.{supervisor_codes, project_codes, student_codes};
 ghost use Rattle.spa.specs.Named.{Named, instance_of};
 ghost use Rattle.spa.specs.Matched.{IsMatched, HasPlaces};
 ghost use Rattle.verdict.specs.Verdict.{HasShape};
-ghost use Rattle.intake.specs.Parts.{Rise};
+ghost use Rattle.intake.specs.Parts.{Rise, IsRoundParts};
 ghost use Rattle.intake.specs.Lines.{Section, supervisor_row, project_row, student_row, pair_rows, price_rows, sections, section_lines, ended, round_text};
 ghost use Rattle.intake.specs.View.{alone, proved, written};
 
@@ -17,7 +19,8 @@ use verdict::Prices;
 
 /// Appends the supervisors' lines.
 fn write_supervisors(out: &mut String, instance: &Instance) -> Result<(), AllocError>
-    ensures { OnOk result (string_bytes out.new ≡ string_bytes out.old ++ ended (section_lines (record { letter = codes "S"; rows = map supervisor_row (instance_of instance.now).supervisors }))) }
+    ensures text { OnOk result (string_bytes out.new ≡ string_bytes out.old ++ ended (section_lines (record { letter = codes "S"; rows = map supervisor_row (instance_of instance.now).supervisors }))) }
+    ensures form { OnOk result (All (λ c. IsTrue (is_code c)) instance.now.supervisor_codes) }
 {
     instance.fit();
     let codes = instance.supervisor_codes();
@@ -29,7 +32,8 @@ fn write_supervisors(out: &mut String, instance: &Instance) -> Result<(), AllocE
 
 /// Appends the projects' lines.
 fn write_projects(out: &mut String, instance: &Instance) -> Result<(), AllocError>
-    ensures { OnOk result (string_bytes out.new ≡ string_bytes out.old ++ ended (section_lines (record { letter = codes "P"; rows = map project_row (instance_of instance.now).projects }))) }
+    ensures text { OnOk result (string_bytes out.new ≡ string_bytes out.old ++ ended (section_lines (record { letter = codes "P"; rows = map project_row (instance_of instance.now).projects }))) }
+    ensures form { OnOk result (All (λ c. IsTrue (is_code c)) instance.now.project_codes) }
 {
     instance.fit();
     let codes = instance.project_codes();
@@ -48,7 +52,8 @@ fn write_projects(out: &mut String, instance: &Instance) -> Result<(), AllocErro
 
 /// Appends the students' lines.
 fn write_students(out: &mut String, instance: &Instance) -> Result<(), AllocError>
-    ensures { OnOk result (string_bytes out.new ≡ string_bytes out.old ++ ended (section_lines (record { letter = codes "C"; rows = map student_row (instance_of instance.now).students }))) }
+    ensures text { OnOk result (string_bytes out.new ≡ string_bytes out.old ++ ended (section_lines (record { letter = codes "C"; rows = map student_row (instance_of instance.now).students }))) }
+    ensures form { OnOk result (All (λ c. IsTrue (is_code c)) instance.now.student_codes) }
 {
     instance.fit();
     let codes = instance.student_codes();
@@ -88,7 +93,8 @@ fn write_prices(
     prices: &[[i64; PLACES]],
 ) -> Result<(), AllocError>
     requires { length prices.now ≡ length roll.now }
-    ensures { OnOk result (string_bytes out.new ≡ string_bytes out.old ++ ended (section_lines (record { letter = letter.now; rows = price_rows roll.now prices.now }))) }
+    ensures text { OnOk result (string_bytes out.new ≡ string_bytes out.old ++ ended (section_lines (record { letter = letter.now; rows = price_rows roll.now prices.now }))) }
+    ensures numbers { OnOk result (All (λ v. length v ≡ PLACES) prices.now) }
 {
     for n in 0..prices.len() {
         push_price(out, letter, roll[n].as_str(), &prices[n])?;
@@ -98,7 +104,10 @@ fn write_prices(
 
 /// Appends the lines of an instance.
 fn write_instance(out: &mut String, instance: &Instance) -> Result<(), AllocError>
-    ensures { OnOk result (string_bytes out.new ≡ string_bytes out.old ++ ended (flat_map section_lines (take 3 (sections (alone instance.now))))) }
+    ensures text { OnOk result (string_bytes out.new ≡ string_bytes out.old ++ ended (flat_map section_lines (take 3 (sections (alone instance.now))))) }
+    ensures supervisors { OnOk result (All (λ c. IsTrue (is_code c)) instance.now.supervisor_codes) }
+    ensures projects { OnOk result (All (λ c. IsTrue (is_code c)) instance.now.project_codes) }
+    ensures students { OnOk result (All (λ c. IsTrue (is_code c)) instance.now.student_codes) }
 {
     write_supervisors(out, instance)?;
     write_projects(out, instance)?;
@@ -114,7 +123,10 @@ fn write_proof(
 ) -> Result<(), AllocError>
     requires places { HasPlaces instance.now.shape matching.now.places.items }
     requires shape { HasShape instance.now.shape prices.now }
-    ensures { OnOk result (string_bytes out.new ≡ string_bytes out.old ++ ended (flat_map section_lines (drop 3 (sections (proved instance.now matching.now.places.items prices.now))))) }
+    ensures text { OnOk result (string_bytes out.new ≡ string_bytes out.old ++ ended (flat_map section_lines (drop 3 (sections (proved instance.now matching.now.places.items prices.now))))) }
+    ensures students { OnOk result (All (λ v. length v ≡ PLACES) prices.now.students.items) }
+    ensures projects { OnOk result (All (λ v. length v ≡ PLACES) prices.now.projects.items) }
+    ensures supervisors { OnOk result (All (λ v. length v ≡ PLACES) prices.now.supervisors.items) }
 {
     instance.fit();
     write_pairs(out, instance, &matching.places)?;
@@ -139,7 +151,11 @@ pub fn write_round(
     requires shape { IfSome proof (λ p. HasShape instance.now.shape p.1.now) }
 
     ensures text { IfOk result (λ text. string_bytes text ≡ round_text (written instance.now proof.entry)) }
+
+    // So the law of round texts holds of them.
+    ensures parts { OnOk result (IsRoundParts (written instance.now proof.entry)) }
 {
+    instance.fit();
     let mut out = String::new(alloc);
     write_instance(&mut out, instance)?;
     if let Some((matching, prices)) = proof {

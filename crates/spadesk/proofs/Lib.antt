@@ -1,1 +1,3 @@
+mod Counted
+mod Limited
 pub mod Subcommands

@@ -1,5 +1,5 @@
 -- The subcommand of a parse, by its name and its matches.
-use Rattle.std.proofs.Common.{◌≡◌, List, Option, Some, None, option_map, refl, ap, sym, subst, ◌∙◌, codes}
+use Rattle.std.proofs.Common.{◌≡◌, List, Option, Some, None, option_map, refl, ap, ◌∙◌, codes}
 use Rattle.std.proofs.lemmas.Option.{same_Some}
 use Rattle.clap.specs.Words.{Row, Text, first_of}
 use Rattle.spadesk.specs.Lines.{Names}

@@ -1,5 +1,5 @@
 -- The program's command line, and the lines that its words stand for.
-use Rattle.std.specs.Prelude.{◌≡◌, ℕ, List, Option, Some, codes, None, string_bytes, true}
+use Rattle.std.specs.Prelude.{◌≡◌, List, Option, Some, codes, None, string_bytes, true}
 use Rattle.clap.specs.Words.{App, Row, Rule, Text, first_of, new_app, new_rule, subcommand_of, with_rule, with_subcommand}
 use Rattle.spadesk.specs.declared.words.Line.{Line}
 use Rattle.spadesk.specs.declared.words.Line.TheVariants.{Solve, Check}

@@ -1,11 +1,11 @@
 //! What the lines on round files print.
 #![tactic(auto)]
 
-ghost use Rattle.std.specs.Prelude.{IfOk, string_bytes};
+ghost use Rattle.std.specs.Prelude.{◌≡◌, ℕ, List, ◌∷◌, ◌++◌, flat_map, IfOk, OnOk, string_bytes, decimal};
 ghost use Rattle.spa.specs.Order.{greedy};
 ghost use Rattle.spa.specs.Matched.{HasPlaces};
 ghost use Rattle.verdict.specs.Verdict.{IsFirstFailure};
-ghost use Rattle.spadesk.specs.Rounds.{IsSolution};
+ghost use Rattle.spadesk.specs.Rounds.{best_text, fault_text, IsSolved, IsChecked};
 
 use intake::{RoundFault, RoundParts, read_round, write_round};
 use rolls::Refusal;
@@ -13,7 +13,7 @@ use solver::solve;
 use spa::profile;
 use std::alloc::{AllocError, Global};
 use std::fmt::Write;
-use std::{fmt, io};
+use std::io;
 use verdict::{CheckFault, check};
 
 /// Why a line prints no result.
@@ -28,18 +28,24 @@ pub(crate) enum Trouble {
 }
 
 impl From<AllocError> for Trouble {
+    ghost use Rattle.std.specs.Prelude.{◌≡◌};
+    ghost use Rattle.rolls.specs.declared.refusal.Refusal.TheVariants.{Memory};
+    ghost use Rattle.spadesk.specs.declared.rounds.Trouble.TheVariants.{Refused};
+
+    ghost from_gives = { λ _ t. t ≡ Refused Memory };
+
     fn from(_error: AllocError) -> Trouble {
         Trouble::Refused(Refusal::Memory)
     }
 }
 
-impl From<fmt::Error> for Trouble {
-    fn from(_error: fmt::Error) -> Trouble {
-        Trouble::Refused(Refusal::Memory)
-    }
-}
-
 impl From<io::Error> for Trouble {
+    ghost use Rattle.std.specs.Prelude.{◌≡◌, ◌⊎◌};
+    ghost use Rattle.rolls.specs.declared.refusal.Refusal.TheVariants.{Memory, Storage};
+    ghost use Rattle.spadesk.specs.declared.rounds.Trouble.TheVariants.{Refused};
+
+    ghost from_gives = { λ _ t. (t ≡ Refused Memory) ⊎ (t ≡ Refused Storage) };
+
     fn from(error: io::Error) -> Trouble {
         if error.kind() == io::ErrorKind::OutOfMemory {
             Trouble::Refused(Refusal::Memory)
@@ -50,6 +56,11 @@ impl From<io::Error> for Trouble {
 }
 
 impl From<RoundFault> for Trouble {
+    ghost use Rattle.std.specs.Prelude.{◌≡◌};
+    ghost use Rattle.spadesk.specs.Rounds.{trouble_of};
+
+    ghost from_gives = { λ f t. t ≡ trouble_of f };
+
     fn from(fault: RoundFault) -> Trouble {
         match fault {
             RoundFault::Memory => Trouble::Refused(Refusal::Memory),
@@ -61,7 +72,7 @@ impl From<RoundFault> for Trouble {
 
 /// The round of a text with a greedy maximum matching and prices that prove it.
 pub(crate) fn solved(alloc: Global, text: &[u8]) -> Result<String, Trouble>
-    ensures { IfOk result (λ out. IsSolution text.now (string_bytes out)) }
+    ensures { IsSolved text.now result }
 {
     let parts = read_round(alloc, text)?;
     parts.instance.fit();
@@ -73,35 +84,45 @@ pub(crate) fn solved(alloc: Global, text: &[u8]) -> Result<String, Trouble>
     )?)
 }
 
-/// Size and profile of the matching of a text, which its prices prove best.
-pub(crate) fn checked(alloc: Global, text: &[u8]) -> Result<String, Trouble> {
+/// Size and profile of the matching of a text where its prices prove it best, or else the first condition that fails.
+pub(crate) fn checked(alloc: Global, text: &[u8]) -> Result<String, Trouble>
+    ensures { IsChecked text.now result }
+{
     let parts = read_round(alloc, text)?;
     match check(&parts.instance, &parts.matching, &parts.prices) {
-        Ok(()) => best(alloc, &parts),
+        Ok(()) => Ok(best(alloc, &parts)?),
         Err(fault) => Err(Trouble::Failed(failed(alloc, &parts, fault)?)),
     }
 }
 
-/// What is printed of a best matching.
-fn best(alloc: Global, parts: &RoundParts) -> Result<String, Trouble>
-    requires { HasPlaces parts.now.instance.shape parts.now.matching.places.items }
+/// Appends numbers, each after a space.
+fn push_counts(out: &mut String, counts: &[u32]) -> Result<(), AllocError>
+    ensures { OnOk result (string_bytes out.new ≡ string_bytes out.old ++ flat_map (λ n. 32 ∷ decimal n) counts.now) }
 {
-    let mut text = String::new(alloc);
-    write!(
-        text,
-        "best size {} profile",
-        parts.matching.size(&parts.instance)
-    )?;
-    for count in profile(&parts.instance, &parts.matching) {
-        write!(text, " {count}")?;
+    for count in counts {
+        write!(out, " {count}")?;
     }
-    text.push('\n')?;
+    Ok(())
+}
+
+/// What is printed of a best matching.
+fn best(alloc: Global, parts: &RoundParts) -> Result<String, AllocError>
+    requires { HasPlaces parts.now.instance.shape parts.now.matching.places.items }
+    ensures { IfOk result (λ text. string_bytes text ≡ best_text parts.now.instance.shape parts.now.matching.places.items) }
+{
+    let size = parts.matching.size(&parts.instance);
+    let counts = profile(&parts.instance, &parts.matching);
+    let mut text = String::new(alloc);
+    write!(text, "best size {size} profile")?;
+    push_counts(&mut text, &counts)?;
+    text.push_str("\n")?;
     Ok(text)
 }
 
 /// What is printed of a check that failed: the number of the condition, and the first uncovered student and place.
-fn failed(alloc: Global, parts: &RoundParts, fault: CheckFault) -> Result<String, Trouble>
+fn failed(alloc: Global, parts: &RoundParts, fault: CheckFault) -> Result<String, AllocError>
     requires { IsFirstFailure greedy parts.now.instance.shape parts.now.matching.places.items parts.now.prices fault }
+    ensures { IfOk result (λ text. string_bytes text ≡ fault_text parts.now.instance fault) }
 {
     parts.instance.fit();
     let mut text = String::new(alloc);

@@ -1,24 +1,30 @@
 //! A whole line: its words, what it prints, and its status.
 #![tactic(auto)]
 
-ghost use Rattle.std.specs.Prelude.{◌≤◌};
+ghost use Rattle.std.specs.Prelude.{◌≡◌, ◌≤◌, ◌⊎◌};
 
 use crate::files::read_file;
 use crate::rounds::{Trouble, checked, solved};
 use crate::words::{Line, LineFault, command};
 use rolls::Refusal;
-use std::io::Write;
+use std::io::{self, Write};
 use std::rt::HostRuntime;
 
 /// Writes a text in one piece, and gives the status, or 1 where it could not be written.
 fn print<W: Write>(out: &mut W, text: &str, status: u8) -> u8
-    requires { status ≤ 2 }
-    ensures { result ≤ 2 }
+    ensures { (result ≡ status) ⊎ (result ≡ 1) }
 {
     match out.write_all(text.as_bytes()) {
         Ok(()) => status,
         Err(_) => 1,
     }
+}
+
+/// The status of a line that failed, whether or not its fault could be written.
+fn failure(_written: io::Result<()>) -> u8
+    ensures { result ≡ 1 }
+{
+    1
 }
 
 /// What the line prints on standard output.
@@ -52,17 +58,13 @@ pub fn line<O: Write + Drop, E: Write + Drop>(
         Ok(text) => print(&mut out, &text, 0),
         Err(Trouble::Failed(text)) => print(&mut out, &text, 1),
         Err(Trouble::Refused(refusal)) => refuse(&mut err, refusal),
-        Err(Trouble::BadLine(n)) => match writeln!(err, "bad line {n}") {
-            _ => 1,
-        },
+        Err(Trouble::BadLine(n)) => failure(writeln!(err, "bad line {n}")),
     }
 }
 
 /// Prints a refusal, and gives its status.
 fn refuse<W: Write>(err: &mut W, refusal: Refusal) -> u8
-    ensures { result ≤ 2 }
+    ensures { result ≡ 1 }
 {
-    match writeln!(err, "refused {}: {refusal:?}", refusal.number()) {
-        _ => 1,
-    }
+    failure(writeln!(err, "refused {}: {refusal:?}", refusal.number()))
 }

@@ -1,8 +1,12 @@
-use Rattle.std.proofs.Common.{◌≡◌, ◌++◌, drop, string_bytes}
+use Rattle.std.proofs.Common.{◌≡◌, ℕ, ◌<◌, List, ◌++◌, drop, get_or, string_bytes}
+use Rattle.std.specs.Prelude.{IsTrue}
+use Rattle.spa.specs.Text.{is_code}
 use Rattle.intake.proofs.Writing.{supervisor_text}
 use Rattle.intake.proofs.write.write_supervisors.Given as goal
 
 abbrev pub invariant-loop-l : goal.invariant-loop-l
-invariant-loop-l l =
-    string_bytes l.out ++ supervisor_text (drop l.l l.instance.supervisor_codes) (drop l.l l.instance.shape.supervisors)
-    ≡ string_bytes l.fn.out ++ supervisor_text l.instance.supervisor_codes l.instance.shape.supervisors
+invariant-loop-l l = record {
+  text : string_bytes l.out ++ supervisor_text (drop l.l l.instance.supervisor_codes) (drop l.l l.instance.shape.supervisors)
+      ≡ string_bytes l.fn.out ++ supervisor_text l.instance.supervisor_codes l.instance.shape.supervisors;
+  form : (k : ℕ) (d : List ℕ) → k < l.l → IsTrue (is_code (get_or l.instance.supervisor_codes k d));
+}

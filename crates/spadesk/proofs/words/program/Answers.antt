@@ -1,7 +1,7 @@
-use Rattle.std.proofs.Common.{rules, ap, ap₂, ◌≡◌, ◌∙◌, codes, refl, true}
+use Rattle.std.proofs.Common.{rules, ap, ap₂, ◌≡◌, ◌∙◌, codes, true}
 use Rattle.std.proofs.lemmas.Result.{IfOk-weaker}
-use Rattle.clap.specs.Words.{App, Rule, app_of, new_app, rule_of, with_rule, with_subcommand}
-use Rattle.spadesk.specs.Lines.{program, file_rule, with_file}
+use Rattle.clap.specs.Words.{App, app_of, new_app, rule_of, with_rule, with_subcommand}
+use Rattle.spadesk.specs.Lines.{file_rule, with_file}
 use Rattle.spadesk.proofs.words.program.Goals as goal
 
 pub returns : goal.returns

@@ -1,0 +1,175 @@
+-- The text of parts tells them.
+use Rattle.std.proofs.Common.{◌≡◌, ℕ, suc, ◌<◌, ◌≤◌, inl, inr, ℤ, pos, List, [], ◌∷◌, length, map, get_or, slice_get, Option, Some, None, All, Result, Ok, Err, decimal, refl, sym, ap, ◌∙◌, subst, arith}
+use Rattle.std.specs.Fmt.{signed_decimal}
+use Rattle.std.specs.List.{AllZip}
+use Rattle.std.proofs.lemmas.Bool.{cases_order}
+use Rattle.std.proofs.lemmas.Fmt.{decimal_injective, signed_decimal_injective}
+use Rattle.std.proofs.lemmas.List.{append_cancel_right, length-map}
+use Rattle.std.proofs.lemmas.List.Elements.{All-head, All-tail}
+use Rattle.spa.specs.declared.TheConstants.{MOST_PLACES}
+use Rattle.spa.specs.Codes.{code_at, AreApart}
+use Rattle.spa.specs.Instance.{Supervisor, Project, Student, project_codes}
+use Rattle.spa.specs.Made.{IsSoundList}
+use Rattle.verdict.specs.Rows.{InRange}
+use Rattle.intake.specs.declared.round.RoundParts.{RoundParts}
+use Rattle.intake.specs.declared.round.RoundFault.{RoundFault}
+use Rattle.intake.specs.declared.round.RoundFault.TheVariants.{Memory, TooLarge, Line}
+use Rattle.intake.specs.Parts.{Parts, Rise, IsPlace, IsPrice, ArePrices, IsRoundParts}
+use Rattle.intake.specs.Lines.{sections, round_lines, round_text, supervisor_row, project_row, pair_rows, price_rows}
+use Rattle.intake.specs.Reading.{IsReading, IsReadBack}
+use Rattle.intake.specs.View.{parts_of}
+use Rattle.intake.proofs.Bad.{round_pieces}
+use Rattle.intake.proofs.Found.{slice_get_at}
+use Rattle.intake.proofs.Goes.{parts_plain}
+use Rattle.intake.proofs.Numbers.{small}
+use Rattle.intake.proofs.Sections.{fields_of, sections_back, SameRows, same_rows}
+use Rattle.intake.proofs.Takes.{same_students, rise_tail, before_others, first_pair}
+
+-- quotas that are written the same are the same
+same_quota : (m n : ℕ) → m ≤ MOST_PLACES → n ≤ MOST_PLACES → decimal m ≡ decimal n → m ≡ n
+same_quota m n h i e = decimal_injective m n (omega arith) (omega arith) e
+
+-- supervisors with the same rows are the same
+same_supervisors : (xs ys : List Supervisor) → All (λ q. q ≤ MOST_PLACES) (map (λ e. e.quota) xs) → All (λ q. q ≤ MOST_PLACES) (map (λ e. e.quota) ys) → map supervisor_row xs ≡ map supervisor_row ys → xs ≡ ys
+same_supervisors [] [] a b e = refl
+same_supervisors [] (y ∷ ys) a b e = cc
+same_supervisors (x ∷ xs) [] a b e = cc
+same_supervisors (x ∷ xs) (y ∷ ys) a b e =
+    let code : x.code ≡ y.code = cc in
+    let number : decimal x.quota ≡ decimal y.quota = cc in
+    let rest : map supervisor_row xs ≡ map supervisor_row ys = cc in
+    let quota : x.quota ≡ y.quota = same_quota x.quota y.quota (All-head (λ q. q ≤ MOST_PLACES) x.quota (map (λ e. e.quota) xs) a) (All-head (λ q. q ≤ MOST_PLACES) y.quota (map (λ e. e.quota) ys) b) number in
+    ap (λ (c : List ℕ). (let s : Supervisor = record { code = c; quota = x.quota } in s) ∷ xs) code
+    ∙ ap (λ (q : ℕ). (let s : Supervisor = record { code = y.code; quota = q } in s) ∷ xs) quota
+    ∙ ap (λ (l : List Supervisor). y ∷ l) (same_supervisors xs ys (All-tail (λ q. q ≤ MOST_PLACES) x.quota (map (λ e. e.quota) xs) a) (All-tail (λ q. q ≤ MOST_PLACES) y.quota (map (λ e. e.quota) ys) b) rest)
+
+-- projects with the same rows are the same
+same_projects : (xs ys : List Project) → All (λ q. q ≤ MOST_PLACES) (map (λ e. e.quota) xs) → All (λ q. q ≤ MOST_PLACES) (map (λ e. e.quota) ys) → map project_row xs ≡ map project_row ys → xs ≡ ys
+same_projects [] [] a b e = refl
+same_projects [] (y ∷ ys) a b e = cc
+same_projects (x ∷ xs) [] a b e = cc
+same_projects (x ∷ xs) (y ∷ ys) a b e =
+    let code : x.code ≡ y.code = cc in
+    let owner : x.supervisor ≡ y.supervisor = cc in
+    let number : decimal x.quota ≡ decimal y.quota = cc in
+    let rest : map project_row xs ≡ map project_row ys = cc in
+    let quota : x.quota ≡ y.quota = same_quota x.quota y.quota (All-head (λ q. q ≤ MOST_PLACES) x.quota (map (λ e. e.quota) xs) a) (All-head (λ q. q ≤ MOST_PLACES) y.quota (map (λ e. e.quota) ys) b) number in
+    ap (λ (c : List ℕ). (let s : Project = record { code = c; supervisor = x.supervisor; quota = x.quota } in s) ∷ xs) code
+    ∙ ap (λ (o : List ℕ). (let s : Project = record { code = y.code; supervisor = o; quota = x.quota } in s) ∷ xs) owner
+    ∙ ap (λ (q : ℕ). (let s : Project = record { code = y.code; supervisor = y.supervisor; quota = q } in s) ∷ xs) quota
+    ∙ ap (λ (l : List Project). y ∷ l) (same_projects xs ys (All-tail (λ q. q ≤ MOST_PLACES) x.quota (map (λ e. e.quota) xs) a) (All-tail (λ q. q ≤ MOST_PLACES) y.quota (map (λ e. e.quota) ys) b) rest)
+
+-- a project stands at one place of a list
+pub one_listed : (list : List (List ℕ)) (k l : ℕ) → AreApart list (length list) → k < length list → l < length list → code_at list k ≡ code_at list l → k ≡ l
+one_listed list k l apart h i e =
+    let a : slice_get list k ≡ Some (code_at list l) = slice_get_at list k [] (code_at list l) h e in
+    let b : slice_get list l ≡ Some (code_at list l) = slice_get_at list l [] (code_at list l) i refl in
+    elim (cases_order k l) [
+      | inl same ↦ same
+      | inr o ↦ elim o [
+        | inl less ↦ absurd (apart k l less i (a ∙ sym b))
+        | inr more ↦ absurd (apart l k more h (b ∙ sym a))
+      ]
+    ]
+
+-- places with the same rows of pairs are the same
+same_places : (known : List (List ℕ)) (es : List Student) (ks ls : List (Option ℕ)) → Rise (map (λ e. e.code) es) → All (λ e. IsSoundList known e.list) es → AllZip IsPlace es ks → AllZip IsPlace es ls → pair_rows es ks ≡ pair_rows es ls → ks ≡ ls
+same_places known [] [] [] rise d a b e = refl
+same_places known [] [] (l ∷ ls) rise d a b e = absurd b
+same_places known [] (k ∷ ks) ls rise d a b e = absurd a
+same_places known (x ∷ es) [] ls rise d a b e = absurd a
+same_places known (x ∷ es) (k ∷ ks) [] rise d a b e = absurd b
+same_places known (x ∷ es) (None ∷ ks) (None ∷ ls) rise d a b e =
+    ap (λ (m : List (Option ℕ)). None ∷ m) (same_places known es ks ls (rise_tail x.code (map (λ (e : Student). e.code) es) rise) (All-tail (λ (e : Student). IsSoundList known e.list) x es d) a.1 b.1 e)
+same_places known (x ∷ es) (None ∷ ks) (Some l ∷ ls) rise d a b e =
+    let first = first_pair es ks (x.code ∷ code_at x.list l ∷ []) (pair_rows es ls) e in
+    let is = first.is in
+    let same : x.code ≡ first.student.code = cc in
+    absurd (before_others x es first.at first.student rise first.here same)
+same_places known (x ∷ es) (Some k ∷ ks) (None ∷ ls) rise d a b e =
+    let first = first_pair es ls (x.code ∷ code_at x.list k ∷ []) (pair_rows es ks) (sym e) in
+    let is = first.is in
+    let same : x.code ≡ first.student.code = cc in
+    absurd (before_others x es first.at first.student rise first.here same)
+same_places known (x ∷ es) (Some k ∷ ks) (Some l ∷ ls) rise d a b e =
+    let here : code_at x.list k ≡ code_at x.list l = cc in
+    let rest : pair_rows es ks ≡ pair_rows es ls = cc in
+    let sound : IsSoundList known x.list = All-head (λ (e : Student). IsSoundList known e.list) x es d in
+    ap (λ (n : ℕ). Some n ∷ ks) (one_listed x.list k l sound.1.apart a.0 b.0 here)
+    ∙ ap (λ (m : List (Option ℕ)). Some l ∷ m) (same_places known es ks ls (rise_tail x.code (map (λ (e : Student). e.code) es) rise) (All-tail (λ (e : Student). IsSoundList known e.list) x es d) a.1 b.1 rest)
+
+-- numbers that are written the same are the same
+same_numbers : (v w : List ℤ) → ((t : ℕ) → t < length v → InRange (get_or v t (pos 0))) → ((t : ℕ) → t < length w → InRange (get_or w t (pos 0))) → map signed_decimal v ≡ map signed_decimal w → v ≡ w
+same_numbers [] [] a b e = refl
+same_numbers [] (y ∷ w) a b e = cc
+same_numbers (x ∷ v) [] a b e = cc
+same_numbers (x ∷ v) (y ∷ w) a b e =
+    let first : signed_decimal x ≡ signed_decimal y = cc in
+    let rest : map signed_decimal v ≡ map signed_decimal w = cc in
+    ap (λ (n : ℤ). n ∷ v) (signed_decimal_injective x y (small x (a 0 (omega arith))) (small y (b 0 (omega arith))) first)
+    ∙ ap (λ (l : List ℤ). y ∷ l) (same_numbers v w (λ t h. a (suc t) (omega arith)) (λ t h. b (suc t) (omega arith)) rest)
+
+-- and so are prices
+same_price : (v w : List ℤ) → IsPrice v → IsPrice w → map signed_decimal v ≡ map signed_decimal w → v ≡ w
+same_price v w a b e = same_numbers v w (λ t h. a.range t (omega (arith, a.numbers))) (λ t h. b.range t (omega (arith, b.numbers))) e
+
+-- prices of the same codes with the same rows are the same
+same_prices : (cs : List (List ℕ)) (us vs : List (List ℤ)) → length us ≤ length cs → length vs ≤ length cs → All IsPrice us → All IsPrice vs → price_rows cs us ≡ price_rows cs vs → us ≡ vs
+same_prices [] [] [] h i a b e = refl
+same_prices [] [] (v ∷ vs) h i a b e = absurd (omega arith)
+same_prices [] (u ∷ us) vs h i a b e = absurd (omega arith)
+same_prices (c ∷ cs) [] [] h i a b e = refl
+same_prices (c ∷ cs) [] (v ∷ vs) h i a b e = cc
+same_prices (c ∷ cs) (u ∷ us) [] h i a b e = cc
+same_prices (c ∷ cs) (u ∷ us) (v ∷ vs) h i a b e =
+    let first : map signed_decimal u ≡ map signed_decimal v = cc in
+    let rest : price_rows cs us ≡ price_rows cs vs = cc in
+    ap (λ (w : List ℤ). w ∷ us) (same_price u v (All-head IsPrice u us a) (All-head IsPrice v vs b) first)
+    ∙ ap (λ (l : List (List ℤ)). v ∷ l) (same_prices cs us vs (omega arith) (omega arith) (All-tail IsPrice u us a) (All-tail IsPrice v vs b) rest)
+
+-- there are no more prices than codes
+few_prices : {X : Type 0} (code : X → List ℕ) (es : List X) (vs : List (List ℤ)) → ArePrices (length es) vs → length vs ≤ length (map code es)
+few_prices code es vs a = elim a.none_or_all [ inl none ↦ omega arith | inr all ↦ omega (arith, length-map es code) ]
+
+-- prices of one roll with the same rows are the same
+same_priced : {X : Type 0} (code : X → List ℕ) (es fs : List X) (us vs : List (List ℤ)) → es ≡ fs → ArePrices (length es) us → ArePrices (length fs) vs → price_rows (map code es) us ≡ price_rows (map code fs) vs → us ≡ vs
+same_priced {X = X} code es fs us vs e a b rows =
+    same_prices (map code fs) us vs (subst (λ (l : List X). length us ≤ length (map code l)) e (few_prices code es us a)) (few_prices code fs vs b) a.prices b.prices
+    (ap (λ (l : List X). price_rows (map code l) us) (sym e) ∙ rows)
+
+-- parts of the same seven lists are the same
+same_parts : (a i : List Supervisor) (b j : List Project) (c k : List Student) (d l : List (Option ℕ)) (u v x y z w : List (List ℤ)) → a ≡ i → b ≡ j → c ≡ k → d ≡ l → u ≡ v → x ≡ y → z ≡ w
+    → (let p : Parts = record { instance = record { supervisors = a; projects = b; students = c }; places = d; student_prices = u; project_prices = x; supervisor_prices = z } in p)
+    ≡ record { instance = record { supervisors = i; projects = j; students = k }; places = l; student_prices = v; project_prices = y; supervisor_prices = w }
+same_parts a i b j c k d l u v x y z w ea eb ec ed eu ex ez = rw (ea, eb, ec, ed, eu, ex, ez) refl
+
+-- the rows of parts with one text
+one_rows : (p q : Parts) → IsRoundParts p → IsRoundParts q → round_text p ≡ round_text q → SameRows (sections p) (sections q)
+one_rows p q v w e =
+    let lines : round_lines p ≡ round_lines q = append_cancel_right (round_lines p) (round_lines q) ([] ∷ []) (sym (round_pieces (round_text p) p v refl) ∙ round_pieces (round_text p) q w e) in
+    same_rows (sections p) (sections q) (sym (sections_back (sections p) (parts_plain 44 (omega arith) p v)) ∙ ap (map fields_of) lines ∙ sections_back (sections q) (parts_plain 44 (omega arith) q w))
+    (refl, (refl, (refl, (refl, (refl, (refl, (refl, tt))))))) refl refl
+
+-- parts with one text are the same
+pub one_text : (p q : Parts) → IsRoundParts p → IsRoundParts q → round_text p ≡ round_text q → p ≡ q
+one_text p q v w e =
+    let s = one_rows p q v w e in
+    let supervisors : p.instance.supervisors ≡ q.instance.supervisors = same_supervisors p.instance.supervisors q.instance.supervisors v.within.supervisor_quotas w.within.supervisor_quotas s.0 in
+    let projects : p.instance.projects ≡ q.instance.projects = same_projects p.instance.projects q.instance.projects v.within.project_quotas w.within.project_quotas s.1.0 in
+    let students : p.instance.students ≡ q.instance.students = same_students p.instance.students q.instance.students s.1.1.0 in
+    let zipped : AllZip IsPlace q.instance.students p.places = subst (λ (l : List Student). AllZip IsPlace l p.places) students v.places in
+    let pairs : pair_rows q.instance.students p.places ≡ pair_rows q.instance.students q.places = ap (λ (l : List Student). pair_rows l p.places) (sym students) ∙ s.1.1.1.0 in
+    same_parts p.instance.supervisors q.instance.supervisors p.instance.projects q.instance.projects p.instance.students q.instance.students
+    p.places q.places p.student_prices q.student_prices p.project_prices q.project_prices p.supervisor_prices q.supervisor_prices
+    supervisors projects students
+    (same_places (project_codes q.instance) q.instance.students p.places q.places w.students.rise w.listed zipped w.places pairs)
+    (same_priced (λ (e : Student). e.code) p.instance.students q.instance.students p.student_prices q.student_prices students v.student_prices w.student_prices s.1.1.1.1.0)
+    (same_priced (λ (e : Project). e.code) p.instance.projects q.instance.projects p.project_prices q.project_prices projects v.project_prices w.project_prices s.1.1.1.1.1.0)
+    (same_priced (λ (e : Supervisor). e.code) p.instance.supervisors q.instance.supervisors p.supervisor_prices q.supervisor_prices supervisors v.supervisor_prices w.supervisor_prices s.1.1.1.1.1.1.0)
+
+-- the text of parts is read as them
+pub read_back : (p : Parts) (r : Result RoundParts RoundFault) → IsRoundParts p → IsReading (round_text p) r → IsReadBack p r
+read_back p (Ok r) v h = sym (one_text p (parts_of r) v h.0 h.1)
+read_back p (Err Memory) v h = tt
+read_back p (Err TooLarge) v h = h
+read_back p (Err (Line n)) v h = h.1.refused p v refl
