@@ -10,7 +10,7 @@ use Rattle.tables.proofs.Runs.{listed_once}
 use Rattle.store.specs.declared.roll.Roll.{Roll}
 use Rattle.store.specs.declared.roll.Roll.TheVariants.{Supervisors, Projects, Students}
 use Rattle.store.specs.Rows.{table_of}
-use Rattle.store.specs.Saving.{IsLeftAlone, AreInert, IsActedOnAt}
+use Rattle.store.specs.Saving.{IsLeftAlone, IsActedOnAt}
 use Rattle.store.proofs.Holding.{tree_is}
 
 named_alike : (roll : Roll) (p q : Place) → (table_of roll p).name ≡ (table_of roll q).name
@@ -40,9 +40,3 @@ acted_there roll schema tree b there exact = (
 -- one that is listed nowhere is not
 pub acted_nowhere : (roll : Roll) (schema : Schema) → IsUnlisted (table_of roll) schema → (true ≡ false) ↔ IsActedOnAt roll schema
 acted_nowhere roll schema none = (λ h. absurd (cc), λ at. absurd (none at.0 at.1))
-
--- so on none of the three
-pub all_left : (schema : Schema) → IsLeftAlone (table_of Supervisors) schema → IsLeftAlone (table_of Projects) schema → IsLeftAlone (table_of Students) schema → AreInert schema
-all_left schema a b c Supervisors = a
-all_left schema a b c Projects = b
-all_left schema a b c Students = c

@@ -15,14 +15,9 @@ use Rattle.store.specs.Rows.{AreRowsAt}
 -- keys that are tested to be one are one
 pub same_row_is : (a b : RowKey) → same_row a b ≡ true → a ≡ b
 same_row_is (key.Supervisor a) (key.Supervisor b) h = ap key.Supervisor ((bytes_eq-Decides a b).0 h)
-same_row_is (key.Supervisor a) (key.Project b) h = absurd (cc)
-same_row_is (key.Supervisor a) (key.Student b) h = absurd (cc)
-same_row_is (key.Project a) (key.Supervisor b) h = absurd (cc)
 same_row_is (key.Project a) (key.Project b) h = ap key.Project ((bytes_eq-Decides a b).0 h)
-same_row_is (key.Project a) (key.Student b) h = absurd (cc)
-same_row_is (key.Student a) (key.Supervisor b) h = absurd (cc)
-same_row_is (key.Student a) (key.Project b) h = absurd (cc)
 same_row_is (key.Student a) (key.Student b) h = ap key.Student ((bytes_eq-Decides a b).0 h)
+same_row_is _ _ h = absurd (cc)
 
 -- a key is itself
 pub same_row_self : (a : RowKey) → same_row a a ≡ true

@@ -124,14 +124,9 @@ row_from Students v = row.Student (text_in (column v 0)) (text_in (column v 1))
 from_columns : (roll : Roll) (r : Row) → is_in roll r ≡ true → row_from roll (columns r) ≡ r
 unfolding row_from text_in number_in natural
 from_columns Supervisors (row.Supervisor c l n) h = refl
-from_columns Supervisors (row.Project c l s n) h = absurd (cc)
-from_columns Supervisors (row.Student c l) h = absurd (cc)
-from_columns Projects (row.Supervisor c l n) h = absurd (cc)
 from_columns Projects (row.Project c l s n) h = refl
-from_columns Projects (row.Student c l) h = absurd (cc)
-from_columns Students (row.Supervisor c l n) h = absurd (cc)
-from_columns Students (row.Project c l s n) h = absurd (cc)
 from_columns Students (row.Student c l) h = refl
+from_columns _ _ h = absurd (cc)
 
 back_go : (roll : Roll) (r : Row) (rest : List Row) (b : Bool) → is_in roll r ≡ b → map (row_from roll) (map columns (filter (is_in roll) rest)) ≡ filter (is_in roll) rest
     → map (row_from roll) (map columns (cond b (r ∷ filter (is_in roll) rest) (filter (is_in roll) rest))) ≡ cond b (r ∷ filter (is_in roll) rest) (filter (is_in roll) rest)

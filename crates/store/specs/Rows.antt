@@ -32,14 +32,9 @@ width_of Students = 2
 -- whether it is a row of this roll's table
 abbrev pub is_in : Roll → Row → Bool
 is_in Supervisors (row.Supervisor code label quota) = true
-is_in Supervisors (row.Project code label supervisor quota) = false
-is_in Supervisors (row.Student code label) = false
-is_in Projects (row.Supervisor code label quota) = false
 is_in Projects (row.Project code label supervisor quota) = true
-is_in Projects (row.Student code label) = false
-is_in Students (row.Supervisor code label quota) = false
-is_in Students (row.Project code label supervisor quota) = false
 is_in Students (row.Student code label) = true
+is_in _ _ = false
 
 -- the columns of those of the rows that are of this roll's table
 abbrev pub columns_of : Roll → List Row → List Cells

@@ -1,5 +1,5 @@
 -- Statements one after the other, and what they leave alone.
-use Rattle.std.proofs.Common.{◌≡◌, ◌≢◌, ◌⊎◌, inl, inr, arith, ℕ, List, [], ◌∷◌, refl, sym, subst, ◌∙◌, IsTrue, true, false, Bool, map, ap, ◌<◌, ◌^◌, nat_lt, Option, Some, slice_get}
+use Rattle.std.proofs.Common.{◌≡◌, ◌≢◌, ◌⊎◌, inl, inr, arith, ℕ, List, [], ◌∷◌, refl, sym, subst, ◌∙◌, IsTrue, true, false, Bool, map, ap, ◌<◌, ◌^◌, nat_lt, Option, Some, slice_get, Result, Ok, Err, IfOk}
 use Rattle.std.specs.List.{AllByRecursion, AllZip}
 use Rattle.std.proofs.lemmas.Bool.Decides.{Decides-ltb}
 use Rattle.sqlite_schema.specs.Names.{table_named}
@@ -10,13 +10,13 @@ use Rattle.sqlite.specs.Order.{Row}
 use Rattle.sqlite.specs.Schema.{Schema}
 use Rattle.sqlite.specs.Table.{Table}
 use Rattle.sqlite.specs.Effect.{Database}
-use Rattle.sqlite.specs.State.{State, Survives}
+use Rattle.sqlite.specs.State.{State, Executes, Survives}
 use Rattle.sqlite.specs.Tree.{Trees}
 use Rattle.sqlite_rules.proofs.ListLemmas.{all_has, all_from, has_got}
 use Rattle.tables.specs.Table.{Place, Lists, Holds, cells}
 use Rattle.tables.specs.Keyed.{IsKeyed, Stands}
 use Rattle.tables.specs.Writes.{WritesOnly, Adds, Makes}
-use Rattle.tables.specs.Steps.{HasStepped, Stays, Rests}
+use Rattle.tables.specs.Steps.{HasRun, HasStepped, Stays, Rests}
 use Rattle.tables.proofs.Places.{listed_along}
 
 -- what writes nothing writes only one table
@@ -147,3 +147,13 @@ listed_once schema table p q named l m =
     let at : l.at ≡ m.at = let e : Some l.at ≡ Some m.at = sym l.named ∙ ap (table_named schema) named ∙ m.named in cc in
     let both : ◌≡◌ {A = Option Table} (Some (table p)) (Some (table q)) = sym l.there ∙ ap (slice_get schema.tables) at ∙ m.there in
     cc
+
+-- what a statement that went through did
+pub stepped_by : (P : Database → Database → Type 0) (sql : List ℕ) (params : Row) (count : ℕ) (old new : State) → (Executes sql params old new (Ok count) → P old.now new.now) → HasRun sql params count old new → HasStepped P old new
+stepped_by P sql params count old new does it = record { inside = it.inside; shown = it.shown; step = does it.ran }
+
+-- the same of one that tells how many rows it wrote
+pub stepped_each : {E : Type 0} (P : ℕ → Database → Database → Type 0) (sql : List ℕ) (params : Row) (old new : State) (r : Result ℕ E) → ((count : ℕ) → Executes sql params old new (Ok count) → P count old.now new.now)
+    → IfOk r (λ count. HasRun sql params count old new) → IfOk r (λ count. HasStepped (P count) old new)
+stepped_each P sql params old new (Ok count) does it = stepped_by (P count) sql params count old new (does count) it
+stepped_each P sql params old new (Err e) does it = it
