@@ -1,5 +1,10 @@
 -- The columns of the rows of one table, once a row is put or taken away.
-use Rattle.std.proofs.Common.{◌≡◌, ◌≢◌, ◌⊎◌, inl, inr, ℕ, List, [], ◌∷◌, Bool, true, false, not, cond, Some, is_eq, filter, map, refl, sym, ap, ◌∙◌}
+use Rattle.std.proofs.Common.{◌≡◌, ◌≢◌, ◌⊎◌, inl, inr, ℕ, zero, suc, ◌<◌, List, [], ◌∷◌, length, get_or, take, Bool, true, false, not, ◌&&◌, cond, Some, is_eq, filter, map, refl, sym, ap, ◌∙◌, arith, true≢false}
+use Rattle.std.specs.List.{list_any}
+use Rattle.std.proofs.lemmas.Bool.{and_parts, not-true}
+use Rattle.std.proofs.lemmas.List.{get_or_default}
+use Rattle.sqlite_rules.specs.Lists.{Has}
+use Rattle.sqlite_rules.proofs.ListLemmas.{has_at, some_from}
 use Rattle.std.specs.Str.{bytes_eq}
 use Rattle.std.proofs.lemmas.Map.Text.{is_eq-slice_cmp}
 use Rattle.sqlite_value.proofs.OrderLemmas.{value_cmp-Text}
@@ -16,7 +21,7 @@ use Rattle.rolls.specs.declared.row.RowKey.TheVariants as key
 use Rattle.rolls.specs.Rows.{key_of, same_row}
 use Rattle.store.specs.declared.roll.Roll.{Roll}
 use Rattle.store.specs.declared.roll.Roll.TheVariants.{Supervisors, Projects, Students}
-use Rattle.store.specs.Rows.{columns, is_in, columns_of}
+use Rattle.store.specs.Rows.{columns, is_in, columns_of, rolls, same_roll}
 use Rattle.store.proofs.Keys.{dropped}
 
 truth_is : (b : Bool) → is_true (from_truth (Some b)) ≡ b
@@ -43,6 +48,36 @@ decide_roll Supervisors Supervisors = inl refl
 decide_roll Projects Projects = inl refl
 decide_roll Students Students = inl refl
 decide_roll _ _ = inr (λ e. cc)
+
+-- each roll is one of them
+pub every : (roll : Roll) → Has rolls roll
+every Supervisors = inl refl
+every Projects = inr (inl refl)
+every Students = inr (inr (inl refl))
+
+-- a roll is itself
+same_self : (roll : Roll) → same_roll roll roll ≡ true
+same_self Supervisors = refl
+same_self Projects = refl
+same_self Students = refl
+
+are_once : List Roll → Bool
+are_once [] = true
+are_once (r ∷ rs) = not (list_any (same_roll r) rs) && are_once rs
+
+once_in : (all : List Roll) (d : Roll) → are_once all ≡ true → (i : ℕ) → i < length all → Has (take i all) (get_or all i d) → ⊥
+unfolding are_once
+once_in [] d once i low h = absurd (omega (arith, low))
+once_in (r ∷ rs) d once zero low h = h
+once_in (r ∷ rs) d once (suc i) low (inl same) =
+    let there : Has rs (get_or rs i d) = has_at rs i (get_or rs i d) (omega (arith, low)) (get_or_default rs i d (get_or rs i d) (omega (arith, low))) in
+    true≢false (sym (some_from (same_roll r) rs (get_or rs i d) there (ap (same_roll r) same ∙ same_self r)) ∙ not-true _ (and_parts _ _ once).0)
+once_in (r ∷ rs) d once (suc i) low (inr h) = once_in rs d (and_parts _ _ once).1 i (omega (arith, low)) h
+
+-- a roll does not come twice
+pub not_before : (d : Roll) (i : ℕ) → i < length rolls → Has (take i rolls) (get_or rolls i d) → ⊥
+unfolding are_once
+not_before d i low h = once_in rolls d refl i low h
 
 -- the roll of a row
 pub roll_of : Row → Roll

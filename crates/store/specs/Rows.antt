@@ -11,6 +11,17 @@ use Rattle.store.specs.declared.roll.Roll.{Roll}
 use Rattle.store.specs.declared.roll.Roll.TheVariants.{Supervisors, Projects, Students}
 use Rattle.rolls.specs.From.{are_apart, row_in}
 
+-- every roll
+abbrev pub rolls : List Roll
+rolls = Supervisors ∷ Projects ∷ Students ∷ []
+
+-- whether two rolls are one
+abbrev pub same_roll : Roll → Roll → Bool
+same_roll Supervisors Supervisors = true
+same_roll Projects Projects = true
+same_roll Students Students = true
+same_roll _ _ = false
+
 -- the table of a roll
 abbrev pub table_of : Roll → Place → Table
 table_of Supervisors = supervisor_table

@@ -1,5 +1,4 @@
-use Rattle.std.proofs.Common.{refl}
-use Rattle.store.proofs.Inertness.{left_nowhere, acted_there, acted_nowhere}
+use Rattle.store.proofs.Inertness.{left_nowhere}
 use Rattle.store.proofs.quiet.is_left.Goals as goal
 
 pub returns-in-None-clause-sound : goal.returns-in-None-clause-sound

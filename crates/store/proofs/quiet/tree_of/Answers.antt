@@ -1,4 +1,3 @@
-use Rattle.std.proofs.Common.{◌≡◌}
 use Rattle.store.proofs.quiet.tree_of.Goals as goal
 
 pub returns-in-Supervisors-clause-none : goal.returns-in-Supervisors-clause-none

@@ -1,5 +1,4 @@
-use Rattle.std.proofs.Common.{◌≡◌, false, sym, subst, ◌∙◌}
-use Rattle.sqlite.specs.Held.{state}
+use Rattle.std.proofs.Common.{◌≡◌, false, sym, subst}
 use Rattle.sqlite.proofs.StateLemmas.{survives_weaker}
 use Rattle.store.specs.Saving.{AreActedOn, AreInert}
 use Rattle.store.proofs.Applying.{saves_call, saves_left}

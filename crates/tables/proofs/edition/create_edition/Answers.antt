@@ -1,4 +1,3 @@
-use Rattle.sqlite.specs.Held.{state}
 use Rattle.tables.proofs.Runs.{stepped_by}
 use Rattle.tables.proofs.Creating.{create_makes}
 use Rattle.tables.proofs.EditionTexts.{edition, create_edition, edition_create}

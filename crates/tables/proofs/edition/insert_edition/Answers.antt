@@ -1,4 +1,3 @@
-use Rattle.sqlite.specs.Held.{state}
 use Rattle.std.proofs.Common.{[]}
 use Rattle.tables.proofs.Runs.{stepped_by}
 use Rattle.tables.proofs.Adding.{inserts}

@@ -1,4 +1,3 @@
-use Rattle.sqlite.specs.Held.{state}
 use Rattle.tables.proofs.Runs.{stepped_by}
 use Rattle.tables.proofs.Deleting.{delete_removes}
 use Rattle.tables.proofs.ProjectTexts.{project, delete_project, project_delete, project_coded}

@@ -1,4 +1,3 @@
-use Rattle.sqlite.specs.Held.{state}
 use Rattle.tables.proofs.Runs.{stepped_by}
 use Rattle.tables.proofs.Adding.{inserts}
 use Rattle.tables.proofs.ProjectTexts.{project, insert_project, new_project, project_insert, project_given}

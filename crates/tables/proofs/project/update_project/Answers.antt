@@ -1,4 +1,3 @@
-use Rattle.sqlite.specs.Held.{state}
 use Rattle.tables.proofs.Runs.{stepped_each}
 use Rattle.tables.proofs.Updating.{update_replaces}
 use Rattle.tables.proofs.ProjectTexts.{project, update_project, project_update, project_coded, project_set}

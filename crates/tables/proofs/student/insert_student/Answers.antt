@@ -1,4 +1,3 @@
-use Rattle.sqlite.specs.Held.{state}
 use Rattle.tables.proofs.Runs.{stepped_by}
 use Rattle.tables.proofs.Adding.{inserts}
 use Rattle.tables.proofs.StudentTexts.{student, insert_student, new_student, student_insert, student_given}

@@ -1,4 +1,3 @@
-use Rattle.sqlite.specs.Held.{state}
 use Rattle.tables.proofs.Runs.{stepped_each}
 use Rattle.tables.proofs.Updating.{update_replaces}
 use Rattle.tables.proofs.StudentTexts.{student, update_student, student_update, student_coded, student_set}

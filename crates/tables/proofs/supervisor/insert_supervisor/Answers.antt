@@ -1,4 +1,3 @@
-use Rattle.sqlite.specs.Held.{state}
 use Rattle.tables.proofs.Runs.{stepped_by}
 use Rattle.tables.proofs.Adding.{inserts}
 use Rattle.tables.proofs.SupervisorTexts.{supervisor, insert_supervisor, new_supervisor, supervisor_insert, supervisor_given}
