@@ -2,7 +2,6 @@
 use Rattle.std.proofs.Common.{◌≡◌, ℕ, ◌+◌, ◌<◌, List, [], ◌∷◌, ◌++◌, length, get_or, take, refl, sym, ap, subst, ◌∙◌, Result, Ok, Err, OnOk, Option}
 use Rattle.std.proofs.lemmas.List.{take_more}
 use Rattle.sqlite.specs.Effect.{Database}
-use Rattle.sqlite.specs.Schema.{Schema}
 use Rattle.sqlite.specs.State.{State}
 use Rattle.rolls.specs.declared.row.Row.{Row}
 use Rattle.rolls.specs.declared.row.RowKey.{RowKey}

@@ -1,19 +1,18 @@
 -- The rows of all rolls, one after the other.
-use Rattle.std.proofs.Common.{◌≡◌, ◌≢◌, ◌⊎◌, inl, inr, List, [], ◌∷◌, ◌++◌, Bool, true, false, ◌&&◌, cond, filter, map, refl, sym, ap, subst, ◌∙◌, nat_lt, ◌^◌, append-nil, IsTrue}
+use Rattle.std.proofs.Common.{◌≡◌, ◌≢◌, ◌⊎◌, inl, inr, ℕ, ◌+◌, ◌<◌, length, get_or, take, arith, List, [], ◌∷◌, ◌++◌, Bool, true, false, cond, filter, map, refl, sym, ap, subst, ◌∙◌, append-nil, IsTrue}
 use Rattle.std.specs.List.{list_all}
-use Rattle.std.proofs.lemmas.Bool.{cases_Bool, and_parts, false_from_ne_true}
-use Rattle.std.proofs.lemmas.List.{map-append}
+use Rattle.std.proofs.lemmas.Bool.{and_parts, false_from_ne_true}
+use Rattle.std.proofs.lemmas.List.{map-append, take_more}
+use Rattle.sqlite_rules.specs.Lists.{Has}
+use Rattle.sqlite_rules.proofs.ListLemmas.{has_either, has_left, has_right}
 use Rattle.sqlite.specs.Order.{Row as Cells}
 use Rattle.sqlite.specs.Effect.{Database}
 use Rattle.sqlite.specs.State.{State as Seen, IsUnchanged}
-use Rattle.tables.specs.Table.{Place, Lists}
-use Rattle.tables.specs.Keyed.{Stands}
 use Rattle.rolls.specs.declared.row.Row.{Row}
 use Rattle.store.specs.declared.roll.Roll.{Roll}
-use Rattle.store.specs.declared.roll.Roll.TheVariants.{Supervisors, Projects, Students}
-use Rattle.store.specs.Rows.{columns, is_in, columns_of, table_of}
-use Rattle.store.specs.Reading.{HoldsCells, ReadsRoll, HoldsNoRow, ReadsAll, HoldsUnread}
-use Rattle.store.proofs.Columns.{in_once}
+use Rattle.store.specs.Rows.{columns, is_in, columns_of, rolls}
+use Rattle.store.specs.Reading.{HoldsCells, ReadsRoll, ReadsSome, HoldsNoRow, ReadsAll, HoldsUnread}
+use Rattle.store.proofs.Columns.{in_once, decide_roll, every, not_before}
 
 filter_append_go : {X : Type 0} (p : X → Bool) (x : X) (xs ys : List X) (b : Bool) → filter p (xs ++ ys) ≡ filter p xs ++ filter p ys → cond b (x ∷ filter p (xs ++ ys)) (filter p (xs ++ ys)) ≡ cond b (x ∷ filter p xs) (filter p xs) ++ filter p ys
 filter_append_go p x xs ys true later = ap (λ zs. x ∷ zs) later
@@ -42,22 +41,6 @@ of_own a rows kind = ap (map columns) (filter_all (is_in a) rows kind)
 of_both : (a : Roll) (xs ys : List Row) → columns_of a (xs ++ ys) ≡ columns_of a xs ++ columns_of a ys
 of_both a xs ys = ap (map columns) (filter_append (is_in a) xs ys) ∙ map-append columns (filter (is_in a) xs) (filter (is_in a) ys)
 
-module _ (s p t : List Row) (ss : list_all (is_in Supervisors) s ≡ true) (pp : list_all (is_in Projects) p ≡ true) (tt' : list_all (is_in Students) t ≡ true) where
-  of_three : (a : Roll) → columns_of a ((s ++ p) ++ t) ≡ (columns_of a s ++ columns_of a p) ++ columns_of a t
-  of_three a = of_both a (s ++ p) t ∙ ap (λ xs. xs ++ columns_of a t) (of_both a s p)
-
-  supervisors_are : columns_of Supervisors ((s ++ p) ++ t) ≡ map columns s
-  supervisors_are =
-      of_three Supervisors ∙ (λ i. (of_own Supervisors s ss i ++ of_other Supervisors Projects p (λ e. cc) pp i) ++ of_other Supervisors Students t (λ e. cc) tt' i)
-      ∙ append-nil (map columns s ++ []) ∙ append-nil (map columns s)
-
-  projects_are : columns_of Projects ((s ++ p) ++ t) ≡ map columns p
-  projects_are =
-      of_three Projects ∙ (λ i. (of_other Projects Supervisors s (λ e. cc) ss i ++ of_own Projects p pp i) ++ of_other Projects Students t (λ e. cc) tt' i) ∙ append-nil (map columns p)
-
-  students_are : columns_of Students ((s ++ p) ++ t) ≡ map columns t
-  students_are = of_three Students ∙ (λ i. (of_other Students Supervisors s (λ e. cc) ss i ++ of_other Students Projects p (λ e. cc) pp i) ++ of_own Students t tt' i)
-
 -- columns that are held are still held where nothing has changed
 pub holds_back : (roll : Roll) (cells : List Cells) (old new : Database) → new ≡ old → HoldsCells roll cells new → HoldsCells roll cells old
 holds_back roll cells old new same = subst (HoldsCells roll cells) same
@@ -80,16 +63,67 @@ unchanged_then a b c p q = (
   q.2 ∙ p.2,
 )
 
--- the three rolls, read one after the other
-pub reads_all : (s p t : List Row) (a b c d : Seen) → ReadsRoll Supervisors s a b → ReadsRoll Projects p b c → ReadsRoll Students t c d → ReadsAll ((s ++ p) ++ t) a d
-reads_all s p t a b c d x y z = record {
-  same = unchanged_then a c d (unchanged_then a b c x.same y.same) z.same;
-  holds = λ roll. by_roll roll;
+-- nothing was read yet
+pub reads_none : (s : Seen) → ReadsSome 0 [] s s
+reads_none s = record {
+  opened = inl (refl, refl);
+  same = λ up. (record { was_open = up; is_open = up; now_is = refl; committed_is = refl; mode = refl }, record { changes = refl; last_rowid = refl }, refl);
+  holds = λ roll h. absurd h;
+  others = λ roll h. refl;
 }
-  where
-    by_roll : (roll : Roll) → HoldsCells roll (columns_of roll ((s ++ p) ++ t)) a.now
-    by_roll Supervisors = subst (λ cells. HoldsCells Supervisors cells a.now) (sym (supervisors_are s p t x.kind y.kind z.kind)) x.holds
-    by_roll Projects =
-        holds_back Projects _ a.now b.now x.same.0.now_is (subst (λ cells. HoldsCells Projects cells b.now) (sym (projects_are s p t x.kind y.kind z.kind)) y.holds)
-    by_roll Students =
-        holds_back Students _ a.now c.now (y.same.0.now_is ∙ x.same.0.now_is) (subst (λ cells. HoldsCells Students cells c.now) (sym (students_are s p t x.kind y.kind z.kind)) z.holds)
+
+-- a connection that is open after readings was open before them
+was_open : (count : ℕ) (rows : List Row) (a b : Seen) → ReadsSome count rows a b → IsTrue b.is_open → IsTrue a.is_open
+was_open count rows a b s up = elim s.opened [ inl none ↦ subst IsTrue none.1 up | inr was ↦ was ]
+
+module _ (i : ℕ) (d : Roll) (rows more : List Row) (a b c : Seen) (low : i < length rolls) (s : ReadsSome i rows a b) (r : ReadsRoll (get_or rolls i d) more b c) where
+  abbrev q : Roll
+  q = get_or rolls i d
+
+  open_a : IsTrue a.is_open
+  open_a = was_open i rows a b s r.same.0.was_open
+
+  last : (roll : Roll) → Has (take (i + 1) rolls) roll → Has (take i rolls) roll ⊎ (roll ≡ q)
+  last roll h = elim (has_either (take i rolls) (q ∷ []) roll (subst (λ rs. Has rs roll) (take_more rolls i d low) h)) [ inl early ↦ inl early | inr (inl same) ↦ inr same | inr (inr none) ↦ absurd none ]
+
+  first : (roll : Roll) → Has (take i rolls) roll → Has (take (i + 1) rolls) roll
+  first roll h = subst (λ rs. Has rs roll) (sym (take_more rolls i d low)) (has_left (take i rolls) (q ∷ []) roll h)
+
+  its_own : Has (take (i + 1) rolls) q
+  its_own = subst (λ rs. Has rs q) (sym (take_more rolls i d low)) (has_right (take i rolls) (q ∷ []) q (inl refl))
+
+  beside : (roll : Roll) → roll ≢ q → columns_of roll (rows ++ more) ≡ columns_of roll rows
+  beside roll other = of_both roll rows more ∙ ap (λ xs. columns_of roll rows ++ xs) (of_other roll q more other r.kind) ∙ append-nil (columns_of roll rows)
+
+  own : columns_of q (rows ++ more) ≡ map columns more
+  own = of_both q rows more ∙ (λ j. s.others q (not_before d i low) j ++ of_own q more r.kind j)
+
+  holds_at : (roll : Roll) → (roll ≡ q) ⊎ (roll ≢ q) → Has (take (i + 1) rolls) roll → HoldsCells roll (columns_of roll (rows ++ more)) a.now
+  holds_at roll (inl same) h =
+      subst (λ x. HoldsCells x (columns_of x (rows ++ more)) a.now) (sym same) (subst (λ cells. HoldsCells q cells a.now) (sym own) (subst (HoldsCells q (map columns more)) (s.same open_a).0.now_is r.holds))
+  holds_at roll (inr other) h = elim (last roll h) [
+    | inl early ↦ subst (λ cells. HoldsCells roll cells a.now) (sym (beside roll other)) (s.holds roll early)
+    | inr same ↦ absurd (other same)
+  ]
+
+  -- one roll more was read
+  pub reads_more : ReadsSome (i + 1) (rows ++ more) a c
+  reads_more = record {
+    opened = inr open_a;
+    same = λ up. unchanged_then a b c (s.same up) r.same;
+    holds = λ roll. holds_at roll (decide_roll roll q);
+    others = λ roll away. beside roll (λ same. away (subst (Has (take (i + 1) rolls)) (sym same) its_own)) ∙ s.others roll (λ early. away (first roll early));
+  }
+
+-- each roll was read
+pub reads_all : (i : ℕ) (rows : List Row) (a b : Seen) → i ≡ length rolls → ReadsSome i rows a b → ReadsAll rows a b
+reads_all i rows a b end s = record {
+  same = elim s.opened [ inl none ↦ absurd (omega (arith, sym end ∙ none.0)) | inr up ↦ s.same up ];
+  holds = λ roll. s.holds roll (subst (λ n. Has (take n rolls) roll) (sym end) (every roll));
+}
+
+-- a roll that could not be read, after those that were
+pub unread_then : (i : ℕ) (rows : List Row) (roll : Roll) (a b : Seen) → ReadsSome i rows a b → IsTrue b.is_open × HoldsNoRow roll b.now → HoldsUnread a
+unread_then i rows roll a b s h =
+    let up = was_open i rows a b s h.0 in
+    (up, roll, subst (HoldsNoRow roll) (s.same up).0.now_is h.1)

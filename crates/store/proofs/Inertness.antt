@@ -1,15 +1,16 @@
 -- A table that is listed at a tree on which nothing acts.
-use Rattle.std.proofs.Common.{◌≡◌, ℕ, refl, sym, ap, subst, ◌∙◌}
+use Rattle.std.proofs.Common.{◌≡◌, ◌↔◌, ℕ, Bool, true, false, refl, sym, ap, subst, ◌∙◌}
 use Rattle.sqlite.specs.Table.{Table}
 use Rattle.sqlite.specs.Schema.{Schema}
 use Rattle.tables.specs.Table.{Place, Lists}
 use Rattle.tables.specs.Writes.{IsInert}
+use Rattle.tables.specs.Inert.{IsActedOn}
 use Rattle.tables.specs.Layout.{IsListed, IsUnlisted}
 use Rattle.tables.proofs.Runs.{listed_once}
 use Rattle.store.specs.declared.roll.Roll.{Roll}
 use Rattle.store.specs.declared.roll.Roll.TheVariants.{Supervisors, Projects, Students}
 use Rattle.store.specs.Rows.{table_of}
-use Rattle.store.specs.Saving.{IsLeftAlone, AreInert}
+use Rattle.store.specs.Saving.{IsLeftAlone, IsActedOnAt}
 use Rattle.store.proofs.Holding.{tree_is}
 
 named_alike : (roll : Roll) (p q : Place) → (table_of roll p).name ≡ (table_of roll q).name
@@ -29,8 +30,13 @@ left_there roll schema tree there inert place listed = subst (IsInert schema) (o
 pub left_nowhere : (roll : Roll) (schema : Schema) → IsUnlisted (table_of roll) schema → IsLeftAlone (table_of roll) schema
 left_nowhere roll schema none place listed = absurd (none place listed)
 
--- so on none of the three
-pub all_left : (schema : Schema) → IsLeftAlone (table_of Supervisors) schema → IsLeftAlone (table_of Projects) schema → IsLeftAlone (table_of Students) schema → AreInert schema
-all_left schema a b c Supervisors = a
-all_left schema a b c Projects = b
-all_left schema a b c Students = c
+-- a table is acted on where the tree at which it is listed is
+pub acted_there : (roll : Roll) (schema : Schema) (tree : ℕ) (b : Bool) → IsListed (table_of roll) schema tree → (b ≡ false) ↔ IsActedOn schema.tables tree → (b ≡ false) ↔ IsActedOnAt roll schema
+acted_there roll schema tree b there exact = (
+  λ h. (record { tree = tree; checks = there.0 }, there.1, exact.0 h),
+  λ at. exact.1 (subst (IsActedOn schema.tables) (one_tree roll schema at.0 (record { tree = tree; checks = there.0 }) at.1 there.1) at.2),
+)
+
+-- one that is listed nowhere is not
+pub acted_nowhere : (roll : Roll) (schema : Schema) → IsUnlisted (table_of roll) schema → (true ≡ false) ↔ IsActedOnAt roll schema
+acted_nowhere roll schema none = (λ h. absurd (cc), λ at. absurd (none at.0 at.1))

@@ -1,12 +1,11 @@
 -- What was read from the tables says whether they stand for a fit office.
-use Rattle.std.proofs.Common.{◌≡◌, ◌≢◌, ℕ, List, [], ◌∷◌, map, drop, Option, refl, sym, ap, subst, ◌∙◌, nat_lt, ◌^◌, true, IsTrue, length, arith, inl, inr}
+use Rattle.std.proofs.Common.{◌≡◌, ◌≢◌, List, [], ◌∷◌, map, drop, refl, sym, ap, subst, nat_lt, ◌^◌, true, IsTrue, length, arith, inl, inr}
 use Rattle.std.specs.List.Sorted.{IsPermutation}
 use Rattle.std.proofs.lemmas.List.Sorted.{IsPermutation-trans, IsPermutation-sym, length_permutation}
 use Rattle.sqlite_rules.specs.Lists.{Has}
 use Rattle.sqlite.specs.Order.{Row as Cells}
-use Rattle.sqlite.specs.Table.{Table}
 use Rattle.sqlite.specs.Effect.{Database}
-use Rattle.sqlite.specs.State.{State as Seen, IsLive, IsUnchanged}
+use Rattle.sqlite.specs.State.{State as Seen, IsLive}
 use Rattle.tables.specs.Table.{Place, Lists, edition_table}
 use Rattle.tables.specs.Keyed.{Stands}
 use Rattle.tables.specs.Steps.{Shows}
@@ -17,14 +16,14 @@ use Rattle.rolls.specs.Fit.{IsFit}
 use Rattle.rolls.specs.Rows.{row_of}
 use Rattle.rolls.specs.From as from
 use Rattle.store.specs.declared.roll.Roll.{Roll}
-use Rattle.store.specs.Rows.{columns, is_in, columns_of, table_of, AreRowsAt}
+use Rattle.store.specs.Rows.{columns_of, table_of}
 use Rattle.office.specs.declared.draft.RowsFault.{RowsFault}
 use Rattle.office.specs.declared.draft.RowsFault.TheVariants.{Unfit}
 use Rattle.office.specs.declared.draft.RowsFault.TheVariants as why
 use Rattle.store.specs.Faults.{of_rows}
 use Rattle.store.specs.declared.fault.StoreFault.TheVariants.{Damaged}
-use Rattle.store.specs.Tables.{TablesHold, StandsFor, first_edition}
-use Rattle.store.specs.Reading.{AreListed, HoldsCells, HoldsNoRow, ReadsAll, IsDamaged}
+use Rattle.store.specs.Tables.{StandsFor, first_edition}
+use Rattle.store.specs.Reading.{AreListed, HoldsCells, HoldsNoRow, IsDamaged}
 use Rattle.store.proofs.Holding.{tree_is}
 use Rattle.store.proofs.Permuted.{has_permuted, rows_permuted, permuted_by_rolls}
 use Rattle.store.proofs.Fitness.{small_quota, row_of_columns}

@@ -1,94 +1,81 @@
 -- What is listed, and what one row says of the edition.
-use Rattle.std.proofs.Common.{◌≡◌, ◌≢◌, ◌⊎◌, inl, inr, ℕ, ◌+◌, List, [], ◌∷◌, length, map, drop, refl, sym, ap, subst, ◌∙◌, pos, arith, nat_lt, ◌^◌, true}
-use Rattle.std.specs.List.{list_all}
+use Rattle.std.proofs.Common.{◌≡◌, ◌≢◌, inl, inr, ℕ, ◌+◌, ◌<◌, List, [], ◌∷◌, length, get_or, take, map, drop, refl, sym, ap, subst, ◌∙◌, pos, arith}
+use Rattle.std.proofs.lemmas.List.{take_more}
+use Rattle.sqlite_rules.proofs.ListLemmas.{has_either}
 use Rattle.sqlite.specs.declared.types.Value.TheVariants.{Int}
 use Rattle.sqlite.specs.Order.{Row as Cells, column}
 use Rattle.sqlite.specs.Schema.{Schema}
 use Rattle.sqlite.specs.Table.{Table}
-use Rattle.sqlite.specs.Effect.{Database}
-use Rattle.sqlite.specs.State.{State as Seen, IsUnchanged}
+use Rattle.sqlite.specs.State.{State as Seen}
 use Rattle.sqlite_rules.specs.Lists.{Has}
-use Rattle.tables.specs.Table.{Place, Lists, edition_table, supervisor_table, project_table, student_table}
+use Rattle.tables.specs.Table.{edition_table}
 use Rattle.tables.specs.Keyed.{Stands}
 use Rattle.tables.specs.Layout.{IsListed, IsUnlisted}
 use Rattle.tables.specs.Steps.{Shows}
 use Rattle.tables.proofs.Runs.{listed_once}
 use Rattle.rolls.specs.declared.row.Row.{Row}
 use Rattle.store.specs.declared.roll.Roll.{Roll}
-use Rattle.store.specs.declared.roll.Roll.TheVariants.{Supervisors, Projects, Students}
-use Rattle.store.specs.Rows.{columns, is_in, table_of}
+use Rattle.store.specs.Rows.{rolls, table_of}
 use Rattle.store.specs.Tables.{first_edition}
-use Rattle.store.specs.Reading.{AreListed, AreApart, AreRowsOf, IsNoRow, ReadsRoll, HoldsNoRow}
+use Rattle.store.specs.Reading.{AreListed, IsAlone, IsElsewhere, IsListedAlone, AreRowsOf, IsNoRow, ReadsRoll, HoldsNoRow}
+use Rattle.store.proofs.Columns.{every}
 use Rattle.store.proofs.Inertness.{one_tree}
 
-module _ (schema : Schema) (edition supervisor project student : ℕ) (e : IsListed edition_table schema edition) (s : IsListed supervisor_table schema supervisor)
-    (p : IsListed project_table schema project) (t : IsListed student_table schema student) where
-  there : Roll → Place
-  there Supervisors = record { tree = supervisor; checks = s.0 }
-  there Projects = record { tree = project; checks = p.0 }
-  there Students = record { tree = student; checks = t.0 }
+-- what holds of so many rolls, and of the next, holds of one more
+pub so_far : (P : Roll → Type 0) (i : ℕ) (d : Roll) → i < length rolls → ((roll : Roll) → Has (take i rolls) roll → P roll) → P (get_or rolls i d) → (roll : Roll) → Has (take (i + 1) rolls) roll → P roll
+so_far P i d low early here roll h = elim (has_either (take i rolls) (get_or rolls i d ∷ []) roll (subst (λ rs. Has rs roll) (take_more rolls i d low) h)) [
+  | inl before ↦ early roll before
+  | inr (inl same) ↦ subst P (sym same) here
+  | inr (inr none) ↦ absurd none
+]
 
-  from_edition : AreApart edition supervisor project student → (roll : Roll) → (there roll).tree ≢ edition
-  unfolding there
-  from_edition apart Supervisors same = apart.0 (sym same)
-  from_edition apart Projects same = apart.1 (sym same)
-  from_edition apart Students same = apart.2 (sym same)
+-- what holds of as many as there are holds of each
+pub of_each : (P : Roll → Type 0) (i : ℕ) → i ≡ length rolls → ((roll : Roll) → Has (take i rolls) roll → P roll) → (roll : Roll) → P roll
+of_each P i end all roll = all roll (subst (λ n. Has (take n rolls) roll) (sym end) (every roll))
 
-  all_apart : AreApart edition supervisor project student → (x y : Roll) → x ≢ y → (there x).tree ≢ (there y).tree
-  unfolding there
-  all_apart apart Supervisors Supervisors other same = other refl
-  all_apart apart Supervisors Projects other same = apart.3 same
-  all_apart apart Supervisors Students other same = apart.4 same
-  all_apart apart Projects Supervisors other same = apart.3 (sym same)
-  all_apart apart Projects Projects other same = other refl
-  all_apart apart Projects Students other same = apart.5 same
-  all_apart apart Students Supervisors other same = apart.4 (sym same)
-  all_apart apart Students Projects other same = apart.5 (sym same)
-  all_apart apart Students Students other same = other refl
+-- a table that is listed in another tree is not listed in this one
+pub elsewhere : (roll : Roll) (schema : Schema) (there tree : ℕ) → IsListed (table_of roll) schema there → there ≢ tree → IsElsewhere roll tree schema
+elsewhere roll schema there tree at other place listed same = other (one_tree roll schema (record { tree = there; checks = at.0 }) place at.1 listed ∙ same)
 
-  all_listed : (roll : Roll) → Lists schema (table_of roll (there roll))
-  unfolding there
-  all_listed Supervisors = s.1
-  all_listed Projects = p.1
-  all_listed Students = t.1
+-- where another table is listed in the tree, the roll is not alone in it
+pub not_alone : (other roll : Roll) (schema : Schema) (tree : ℕ) → other ≢ roll → IsListed (table_of other) schema tree → IsAlone roll tree schema → ⊥
+not_alone other roll schema tree apart at alone = alone other apart (record { tree = tree; checks = at.0 }) at.1 refl
 
-  -- four tables in trees apart are listed
-  pub listed_right : AreApart edition supervisor project student → AreListed schema
-  listed_right apart = record {
-    edition = record { tree = edition; checks = e.0 };
-    places = there;
-    edition_apart = from_edition apart;
-    apart = all_apart apart;
-    edition_listed = e.1;
-    rolls_listed = all_listed;
-  }
+-- a table that is listed in this tree is listed alone where the tree is its own
+pub listed_alone : (edition : ℕ) (schema : Schema) (roll : Roll) (tree : ℕ) → IsListed (table_of roll) schema tree → tree ≢ edition → IsAlone roll tree schema → IsListedAlone edition schema roll
+listed_alone edition schema roll tree at apart alone = record { place = record { tree = tree; checks = at.0 }; listed = at.1; from_edition = apart; alone = alone }
 
-  edition_tree : (place : Place) → Lists schema (edition_table place) → place.tree ≡ edition
-  edition_tree place listed = ap (λ (table : Table). table.tree) (listed_once schema edition_table place (record { tree = edition; checks = e.0 }) refl listed e.1)
+-- and only there
+pub listed_close : (edition : ℕ) (schema : Schema) (roll : Roll) (tree : ℕ) → IsListed (table_of roll) schema tree → (tree ≢ edition → IsAlone roll tree schema → ⊥) → IsListedAlone edition schema roll → ⊥
+listed_close edition schema roll tree at close l =
+    let same = one_tree roll schema l.place (record { tree = tree; checks = at.0 }) l.listed at.1 in
+    close (subst (λ n. n ≢ edition) same l.from_edition) (subst (λ n. IsAlone roll n schema) same l.alone)
 
-  -- in trees that are not apart they are not
-  pub listed_wrong : (AreApart edition supervisor project student → ⊥) → AreListed schema → ⊥
-  listed_wrong close l =
-      let a = edition_tree l.edition l.edition_listed in
-      let b : (l.places Supervisors).tree ≡ supervisor = one_tree Supervisors schema (l.places Supervisors) (record { tree = supervisor; checks = s.0 }) (l.rolls_listed Supervisors) s.1 in
-      let c : (l.places Projects).tree ≡ project = one_tree Projects schema (l.places Projects) (record { tree = project; checks = p.0 }) (l.rolls_listed Projects) p.1 in
-      let d : (l.places Students).tree ≡ student = one_tree Students schema (l.places Students) (record { tree = student; checks = t.0 }) (l.rolls_listed Students) t.1 in
-      close (
-        λ same. l.edition_apart Supervisors (b ∙ sym same ∙ sym a),
-        λ same. l.edition_apart Projects (c ∙ sym same ∙ sym a),
-        λ same. l.edition_apart Students (d ∙ sym same ∙ sym a),
-        λ same. l.apart Supervisors Projects (λ e. cc) (b ∙ same ∙ sym c),
-        λ same. l.apart Supervisors Students (λ e. cc) (b ∙ same ∙ sym d),
-        λ same. l.apart Projects Students (λ e. cc) (c ∙ same ∙ sym d),
-      )
+-- tables that are each listed alone are listed
+pub listed_right : (schema : Schema) (edition : ℕ) → IsListed edition_table schema edition → ((roll : Roll) → IsListedAlone edition schema roll) → AreListed schema
+listed_right schema edition e each = record {
+  edition = record { tree = edition; checks = e.0 };
+  places = λ roll. (each roll).place;
+  edition_apart = λ roll. (each roll).from_edition;
+  apart = λ a b other. (each b).alone a other (each a).place (each a).listed;
+  edition_listed = e.1;
+  rolls_listed = λ roll. (each roll).listed;
+}
+
+-- tables that are listed are each listed alone
+pub listed_each : (schema : Schema) (edition : ℕ) → IsListed edition_table schema edition → AreListed schema → (roll : Roll) → IsListedAlone edition schema roll
+listed_each schema edition e l roll =
+    let there : l.edition.tree ≡ edition = ap (λ (table : Table). table.tree) (listed_once schema edition_table l.edition (record { tree = edition; checks = e.0 }) refl l.edition_listed e.1) in
+    record {
+      place = l.places roll;
+      listed = l.rolls_listed roll;
+      from_edition = subst (λ n. (l.places roll).tree ≢ n) there (l.edition_apart roll);
+      alone = λ other apart place listed same. l.apart other roll apart (sym (one_tree other schema place (l.places other) listed (l.rolls_listed other)) ∙ same);
+    }
 
 -- where one of the tables isn't listed, they aren't
 pub no_edition : (schema : Schema) → IsUnlisted edition_table schema → AreListed schema → ⊥
 no_edition schema none l = none l.edition l.edition_listed
-
--- nor where a roll's table is missing
-pub no_roll : (roll : Roll) (schema : Schema) → IsUnlisted (table_of roll) schema → AreListed schema → ⊥
-no_roll roll schema none l = none (l.places roll) (l.rolls_listed roll)
 
 -- two columns after the rowid
 pub is_first : (cells : Cells) → length cells ≡ 3 → column cells 1 ≡ Int (pos 1) → column cells 2 ≡ Int (pos 1) → map (drop 1) (cells ∷ []) ≡ first_edition

@@ -1,8 +1,7 @@
 -- Rows by their keys: what stands at a key once a row is put or taken away.
-use Rattle.std.proofs.Common.{◌≡◌, ◌≢◌, ◌⊎◌, inl, inr, List, [], ◌∷◌, Bool, true, false, not, ◌&&◌, ◌||◌, cond, filter, Option, Some, None, refl, sym, ap, subst, ◌∙◌, true≢false}
+use Rattle.std.proofs.Common.{◌≡◌, List, [], ◌∷◌, Bool, true, false, not, ◌||◌, cond, filter, Option, Some, None, refl, sym, ap, subst, ◌∙◌, true≢false}
 use Rattle.std.specs.List.{list_any}
-use Rattle.std.specs.Str.{bytes_eq}
-use Rattle.std.proofs.lemmas.Bool.{cases_Bool, and_parts, and_from, or_parts, not-true, false_from_ne_true}
+use Rattle.std.proofs.lemmas.Bool.{and_parts, and_from, or_parts, not-true, false_from_ne_true}
 use Rattle.std.proofs.lemmas.Slice.Eq.{bytes_eq-Decides}
 use Rattle.rolls.specs.declared.row.Row.{Row}
 use Rattle.rolls.specs.declared.row.RowKey.{RowKey}
@@ -15,14 +14,9 @@ use Rattle.store.specs.Rows.{AreRowsAt}
 -- keys that are tested to be one are one
 pub same_row_is : (a b : RowKey) → same_row a b ≡ true → a ≡ b
 same_row_is (key.Supervisor a) (key.Supervisor b) h = ap key.Supervisor ((bytes_eq-Decides a b).0 h)
-same_row_is (key.Supervisor a) (key.Project b) h = absurd (cc)
-same_row_is (key.Supervisor a) (key.Student b) h = absurd (cc)
-same_row_is (key.Project a) (key.Supervisor b) h = absurd (cc)
 same_row_is (key.Project a) (key.Project b) h = ap key.Project ((bytes_eq-Decides a b).0 h)
-same_row_is (key.Project a) (key.Student b) h = absurd (cc)
-same_row_is (key.Student a) (key.Supervisor b) h = absurd (cc)
-same_row_is (key.Student a) (key.Project b) h = absurd (cc)
 same_row_is (key.Student a) (key.Student b) h = ap key.Student ((bytes_eq-Decides a b).0 h)
+same_row_is _ _ h = absurd (cc)
 
 -- a key is itself
 pub same_row_self : (a : RowKey) → same_row a a ≡ true

@@ -1,23 +1,27 @@
 -- The tables that were made stand for the empty office.
-use Rattle.std.proofs.Common.{◌≡◌, ◌≢◌, ℕ, List, [], ◌∷◌, Option, None, inl, inr, refl, sym, ap, ◌∙◌, pos}
+use Rattle.std.proofs.Common.{◌≡◌, ◌≢◌, ◌⊎◌, ◌+◌, ◌<◌, ◌++◌, ℕ, List, [], ◌∷◌, length, get_or, take, Result, Ok, Err, OnOk, inl, inr, refl, sym, subst, ◌∙◌}
+use Rattle.std.proofs.lemmas.List.{take_more}
 use Rattle.sqlite.specs.Effect.{Database}
-use Rattle.sqlite.specs.Order.{Row as Cells}
+use Rattle.sqlite.specs.Table.{Table}
 use Rattle.sqlite.specs.State.{State as Seen}
+use Rattle.sqlite_rules.specs.Lists.{Has}
+use Rattle.sqlite_rules.proofs.ListLemmas.{has_either}
 use Rattle.rolls.specs.declared.row.RowKey.{RowKey}
 use Rattle.rolls.specs.declared.row.RowKey.TheVariants as key
 use Rattle.rolls.specs.Rows.{row_of}
 use Rattle.rolls.specs.From.{row_in}
 use Rattle.rolls.specs.State.{State, empty}
-use Rattle.tables.specs.Table.{Place, edition_table, supervisor_table, project_table, student_table}
+use Rattle.tables.specs.Table.{Place, edition_table}
 use Rattle.tables.specs.Keyed.{Stands}
 use Rattle.tables.specs.Writes.{Makes}
 use Rattle.sqlite.specs.Tree.{Trees}
-use Rattle.tables.specs.Steps.{HasStepped, IsLeft}
-use Rattle.tables.proofs.Runs.{stands_beside, stepped_then}
+use Rattle.tables.specs.Steps.{HasStepped, IsLeft, Stays}
+use Rattle.tables.proofs.Runs.{stands_beside, stands_kept, stays_none, stays_then, stepped_stays}
 use Rattle.store.specs.declared.roll.Roll.{Roll}
-use Rattle.store.specs.declared.roll.Roll.TheVariants.{Supervisors, Projects, Students}
-use Rattle.store.specs.Rows.{columns_of, table_of, AreRowsAt}
-use Rattle.store.specs.Tables.{TablesHold, StandsFor, Empties, Founds, HasNone, Opens, first_edition}
+use Rattle.store.specs.Rows.{rolls, table_of, AreRowsAt}
+use Rattle.store.specs.Tables.{MakesRolls, StandsFor, Empties, Founds, HasNone, Opens, first_edition}
+use Rattle.store.proofs.Holding.{tree_is}
+use Rattle.store.proofs.Columns.{decide_roll, every}
 
 no_row : (k : RowKey) → row_in [] k ≡ row_of empty k
 no_row (key.Supervisor code) = refl
@@ -27,72 +31,84 @@ no_row (key.Student code) = refl
 no_rows : AreRowsAt [] (row_of empty)
 no_rows = record { apart = refl; each = no_row }
 
-module _ (a b c d e : Database) (m : Makes edition_table first_edition a b) (n : Makes supervisor_table [] b c) (o : Makes project_table [] c d) (p : Makes student_table [] d e) where
-  edition_c : Stands edition_table m.place first_edition c × (m.place.tree ≢ n.place.tree)
-  edition_c = stands_beside edition_table m.place refl first_edition supervisor_table [] b c n m.stands
+-- no table was made yet
+pub made_none : (s : Seen) → Stays (MakesRolls []) s s
+made_none s = stays_none (MakesRolls []) s (record { places = λ roll. record { tree = 0; checks = [] }; stand = λ roll h. absurd h; apart = λ a b h. absurd h; others = λ t listed. (listed, refl, λ roll h. absurd h) })
 
-  edition_d : Stands edition_table m.place first_edition d × (m.place.tree ≢ o.place.tree)
-  edition_d = stands_beside edition_table m.place refl first_edition project_table [] c d o edition_c.0
+module _ (done : List Roll) (q : Roll) (a b c : Database) (m : MakesRolls done a b) (n : Makes (table_of q) [] b c) where
+  -- where a roll stands: the last one at its new place
+  at : (roll : Roll) → (roll ≡ q) ⊎ (roll ≢ q) → Place
+  at roll (inl same) = n.place
+  at roll (inr other) = m.places roll
 
-  edition_e : Stands edition_table m.place first_edition e × (m.place.tree ≢ p.place.tree)
-  edition_e = stands_beside edition_table m.place refl first_edition student_table [] d e p edition_d.0
+  before : (roll : Roll) → roll ≢ q → Has (done ++ q ∷ []) roll → Has done roll
+  before roll other h = elim (has_either done (q ∷ []) roll h) [ inl early ↦ early | inr (inl same) ↦ absurd (other same) | inr (inr none) ↦ absurd none ]
 
-  supervisor_d : Stands supervisor_table n.place [] d × (n.place.tree ≢ o.place.tree)
-  supervisor_d = stands_beside supervisor_table n.place refl [] project_table [] c d o n.stands
+  beside : (roll : Roll) → Has done roll → Stands (table_of roll) (m.places roll) [] c × ((m.places roll).tree ≢ n.place.tree)
+  beside roll early = stands_beside (table_of roll) (m.places roll) (tree_is roll (m.places roll)) [] (table_of q) [] b c n (m.stand roll early)
 
-  supervisor_e : Stands supervisor_table n.place [] e × (n.place.tree ≢ p.place.tree)
-  supervisor_e = stands_beside supervisor_table n.place refl [] student_table [] d e p supervisor_d.0
+  stand_at : (roll : Roll) (d : (roll ≡ q) ⊎ (roll ≢ q)) → Has (done ++ q ∷ []) roll → Stands (table_of roll) (at roll d) [] c
+  unfolding at
+  stand_at roll (inl same) h = subst (λ r. Stands (table_of r) n.place [] c) (sym same) n.stands
+  stand_at roll (inr other) h = (beside roll (before roll other h)).0
 
-  project_e : Stands project_table o.place [] e × (o.place.tree ≢ p.place.tree)
-  project_e = stands_beside project_table o.place refl [] student_table [] d e p o.stands
+  apart_at : (x y : Roll) (d : (x ≡ q) ⊎ (x ≢ q)) (e : (y ≡ q) ⊎ (y ≢ q)) → Has (done ++ q ∷ []) x → Has (done ++ q ∷ []) y → x ≢ y → (at x d).tree ≢ (at y e).tree
+  unfolding at
+  apart_at x y (inl s) (inl t) h k apart same = absurd (apart (s ∙ sym t))
+  apart_at x y (inl s) (inr o) h k apart same = (beside y (before y o k)).1 (sym same)
+  apart_at x y (inr o) (inl t) h k apart same = (beside x (before x o h)).1 same
+  apart_at x y (inr o) (inr p) h k apart same = m.apart x y (before x o h) (before y p k) apart same
 
-  places : Roll → Place
-  places Supervisors = n.place
-  places Projects = o.place
-  places Students = p.place
+  other_at : (t : Table) → t.tree ≢ n.place.tree → ((roll : Roll) → Has done roll → t.tree ≢ (m.places roll).tree) → (roll : Roll) (d : (roll ≡ q) ⊎ (roll ≢ q)) → Has (done ++ q ∷ []) roll
+      → t.tree ≢ (at roll d).tree
+  unfolding at
+  other_at t last early roll (inl same) h = last
+  other_at t last early roll (inr other) h = early roll (before roll other h)
 
-  from_edition : (roll : Roll) → (places roll).tree ≢ m.place.tree
-  unfolding places
-  from_edition Supervisors same = edition_c.1 (sym same)
-  from_edition Projects same = edition_d.1 (sym same)
-  from_edition Students same = edition_e.1 (sym same)
+  -- one table more
+  made_then : MakesRolls (done ++ q ∷ []) a c
+  made_then = record {
+    places = λ roll. at roll (decide_roll roll q);
+    stand = λ roll. stand_at roll (decide_roll roll q);
+    apart = λ x y. apart_at x y (decide_roll x q) (decide_roll y q);
+    others = λ t listed.
+        let was = m.others t listed in
+        let is = n.others t was.0 in
+        (is.0, is.1 ∙ was.1, λ roll. other_at t is.2 was.2 roll (decide_roll roll q));
+  }
 
-  all_apart : (x y : Roll) → x ≢ y → (places x).tree ≢ (places y).tree
-  unfolding places
-  all_apart Supervisors Supervisors apart same = apart refl
-  all_apart Supervisors Projects apart same = supervisor_d.1 same
-  all_apart Supervisors Students apart same = supervisor_e.1 same
-  all_apart Projects Supervisors apart same = supervisor_d.1 (sym same)
-  all_apart Projects Projects apart same = apart refl
-  all_apart Projects Students apart same = project_e.1 same
-  all_apart Students Supervisors apart same = supervisor_e.1 (sym same)
-  all_apart Students Projects apart same = project_e.1 (sym same)
-  all_apart Students Students apart same = apart refl
+-- the same of the statements that make them
+pub made_more : (i : ℕ) (all : List Roll) (d : Roll) (a b c : Seen) → i < length all → Stays (MakesRolls (take i all)) a b → HasStepped (Makes (table_of (get_or all i d)) []) b c
+    → Stays (MakesRolls (take (i + 1) all)) a c
+made_more i all d a b c low p n =
+    let q = get_or all i d in
+    subst (λ rs. Stays (MakesRolls rs) a c) (sym (take_more all i d low))
+    (stays_then (MakesRolls (take i all)) (Makes (table_of q) []) (MakesRolls (take i all ++ q ∷ [])) a b c (made_then (take i all) q a.now b.now c.now) p n)
 
-  all_stand : (roll : Roll) → Stands (table_of roll) (places roll) (columns_of roll []) e
-  unfolding places
-  all_stand Supervisors = supervisor_e.0
-  all_stand Projects = project_e.0
-  all_stand Students = p.stands
+-- the tables of all rolls beside that of the edition
+empty_stands : (a b c : Database) → Makes edition_table first_edition a b → MakesRolls rolls b c → StandsFor c empty
+empty_stands a b c m n =
+    let kept = n.others (edition_table m.place) m.stands.listed in
+    record {
+      edition = m.place;
+      places = n.places;
+      edition_apart = λ roll same. kept.2 roll (every roll) (sym same);
+      apart = λ x y. n.apart x y (every x) (every y);
+      list = [];
+      at = no_rows;
+      editions = stands_kept edition_table m.place refl first_edition b c kept.0 kept.1 m.stands;
+      rolls = λ roll. n.stand roll (every roll);
+    }
 
-  empty_stands : StandsFor e empty
-  empty_stands = record { edition = m.place; places = places; edition_apart = from_edition; apart = all_apart; list = []; at = no_rows; editions = edition_e.0; rolls = all_stand }
-
--- the four tables were made one after the other
-pub founded : (a b c d e : Seen) → HasStepped (Makes edition_table first_edition) a b → HasStepped (Makes supervisor_table []) b c → HasStepped (Makes project_table []) c d
-    → HasStepped (Makes student_table []) d e → HasStepped Empties a e
+-- the tables were made one after the other
+pub founded : (a b c : Seen) → HasStepped (Makes edition_table first_edition) a b → Stays (MakesRolls rolls) b c → HasStepped Empties a c
 unfolding Empties
-founded a b c d e m n o p = record {
-  inside = m.inside;
-  shown = record {
-    was_open = m.shown.was_open;
-    is_open = p.shown.is_open;
-    now_is = refl;
-    committed_is = p.shown.committed_is ∙ o.shown.committed_is ∙ n.shown.committed_is ∙ m.shown.committed_is;
-    mode = p.shown.mode;
-  };
-  step = empty_stands a.now b.now c.now d.now e.now m.step n.step o.step p.step;
-}
+founded a b c m n = stepped_stays (Makes edition_table first_edition) (MakesRolls rolls) Empties a b c (empty_stands a.now b.now c.now) m n
+
+-- the same of a call that made the last of them
+pub founded_call : {E : Type 0} (a b c : Seen) (r : Result (Unit {0}) E) → HasStepped (Makes edition_table first_edition) a b → OnOk r (Stays (MakesRolls rolls) b c) → OnOk r (HasStepped Empties a c)
+founded_call a b c (Ok u) m n = founded a b c m n
+founded_call a b c (Err e) m n = n
 
 -- the tables were made where there were none
 pub opens_new : (old new : Database) (office : State) → HasNone old.schema → office ≡ empty → Empties old new → Opens old new office

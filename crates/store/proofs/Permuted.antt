@@ -1,10 +1,10 @@
 -- Rows in another order.
-use Rattle.std.proofs.Common.{◌≡◌, ◌≢◌, ◌⊎◌, inl, inr, List, [], ◌∷◌, ◌++◌, Bool, true, false, not, ◌&&◌, ◌||◌, cond, filter, map, Option, Some, None, refl, sym, ap, subst, subst₂, ◌∙◌, true≢false, ℕ, ℤ, pos, negsuc}
+use Rattle.std.proofs.Common.{◌≡◌, inl, inr, List, [], ◌∷◌, ◌++◌, Bool, true, false, not, ◌||◌, cond, filter, map, Option, Some, refl, sym, ap, subst, subst₂, ◌∙◌, true≢false, ℕ, ℤ, pos, negsuc}
 use Rattle.std.specs.List.{list_any}
 use Rattle.std.specs.List.Sorted.{IsPermutation}
-use Rattle.std.proofs.lemmas.Bool.{and_parts, and_from, or_parts, not-true, cases_Bool}
+use Rattle.std.proofs.lemmas.Bool.{and_parts, and_from, or_parts, not-true}
 use Rattle.std.proofs.lemmas.List.Sorted.{IsPermutation-refl, IsPermutation-trans, IsPermutation-sym, IsPermutation-cons, IsPermutation-middle, IsPermutation-map, IsPermutation-append_left, IsPermutation-append_right}
-use Rattle.sqlite_keyed.proofs.ListLemmas.{along_permutation, map-map}
+use Rattle.sqlite_keyed.proofs.ListLemmas.{along_permutation}
 use Rattle.sqlite.specs.declared.types.Value.{Value}
 use Rattle.sqlite.specs.declared.types.Value.TheVariants.{Null, Int, Real, Text, Blob}
 use Rattle.sqlite.specs.Order.{Row as Cells, column}
@@ -16,7 +16,7 @@ use Rattle.rolls.specs.Rows.{key_of, same_row}
 use Rattle.rolls.specs.From.{row_in, are_apart}
 use Rattle.store.specs.declared.roll.Roll.{Roll}
 use Rattle.store.specs.declared.roll.Roll.TheVariants.{Supervisors, Projects, Students}
-use Rattle.store.specs.Rows.{columns, is_in, columns_of, AreRowsAt}
+use Rattle.store.specs.Rows.{columns, is_in, columns_of, rolls, AreRowsAt}
 use Rattle.store.proofs.Keys.{same_row_is, same_row_by, same_row_turned}
 
 -- ---- what is among permuted rows
@@ -124,14 +124,9 @@ row_from Students v = row.Student (text_in (column v 0)) (text_in (column v 1))
 from_columns : (roll : Roll) (r : Row) → is_in roll r ≡ true → row_from roll (columns r) ≡ r
 unfolding row_from text_in number_in natural
 from_columns Supervisors (row.Supervisor c l n) h = refl
-from_columns Supervisors (row.Project c l s n) h = absurd (cc)
-from_columns Supervisors (row.Student c l) h = absurd (cc)
-from_columns Projects (row.Supervisor c l n) h = absurd (cc)
 from_columns Projects (row.Project c l s n) h = refl
-from_columns Projects (row.Student c l) h = absurd (cc)
-from_columns Students (row.Supervisor c l n) h = absurd (cc)
-from_columns Students (row.Project c l s n) h = absurd (cc)
 from_columns Students (row.Student c l) h = refl
+from_columns _ _ h = absurd (cc)
 
 back_go : (roll : Roll) (r : Row) (rest : List Row) (b : Bool) → is_in roll r ≡ b → map (row_from roll) (map columns (filter (is_in roll) rest)) ≡ filter (is_in roll) rest
     → map (row_from roll) (map columns (cond b (r ∷ filter (is_in roll) rest) (filter (is_in roll) rest))) ≡ cond b (r ∷ filter (is_in roll) rest) (filter (is_in roll) rest)
@@ -145,30 +140,55 @@ back roll (r ∷ rest) = back_go roll r rest (is_in roll r) refl (back roll rest
 rolls_permuted : (roll : Roll) (xs ys : List Row) → IsPermutation (columns_of roll xs) (columns_of roll ys) → IsPermutation (filter (is_in roll) xs) (filter (is_in roll) ys)
 rolls_permuted roll xs ys same = subst₂ IsPermutation (back roll xs) (back roll ys) (IsPermutation-map (row_from roll) _ _ same)
 
-abbrev by_rolls : List Row → List Row
-by_rolls rows = filter (is_in Supervisors) rows ++ (filter (is_in Projects) rows ++ filter (is_in Students) rows)
+-- the rows of the first of these rolls, then those of the next
+gathered : List Roll → List Row → List Row
+gathered [] rows = []
+gathered (q ∷ qs) rows = filter (is_in q) rows ++ gathered qs rows
 
--- rows sorted by their rolls
-sorted_go : (r : Row) (rest : List Row) → IsPermutation rest (by_rolls rest) → IsPermutation (r ∷ rest) (by_rolls (r ∷ rest))
-sorted_go (row.Supervisor c l n) rest h = IsPermutation-cons _ _ _ h
-sorted_go (row.Project c l s n) rest h = IsPermutation-trans _ _ _ (IsPermutation-cons _ _ _ h) (IsPermutation-sym _ _ (IsPermutation-middle (filter (is_in Supervisors) rest) (row.Project c l s n) _))
-sorted_go (row.Student c l) rest h =
-    let r = row.Student c l in
-    let sup = filter (is_in Supervisors) rest in
-    let inner : IsPermutation (r ∷ filter (is_in Projects) rest ++ filter (is_in Students) rest) (filter (is_in Projects) rest ++ r ∷ filter (is_in Students) rest) =
-    IsPermutation-sym _ _ (IsPermutation-middle (filter (is_in Projects) rest) r _) in
-    IsPermutation-trans _ _ _ (IsPermutation-cons _ _ _ h)
-    (IsPermutation-trans _ _ _ (IsPermutation-sym _ _ (IsPermutation-middle sup r _)) (IsPermutation-append_right sup _ _ inner))
+-- whether the row is of one of the rolls, and of one alone
+is_of_one : List Roll → Row → Bool
+is_of_one [] r = false
+is_of_one (q ∷ qs) r = cond (is_in q r) (not (list_any (λ p. is_in p r) qs)) (is_of_one qs r)
 
-sorted : (rows : List Row) → IsPermutation rows (by_rolls rows)
+gathered_beside : (qs : List Roll) (r : Row) (rest : List Row) → list_any (λ p. is_in p r) qs ≡ false → gathered qs (r ∷ rest) ≡ gathered qs rest
+unfolding gathered
+gathered_beside [] r rest none = refl
+gathered_beside (q ∷ qs) r rest none =
+    let parts = or_parts _ _ none in
+    λ i. cond (parts.0 i) (r ∷ filter (is_in q) rest) (filter (is_in q) rest) ++ gathered_beside qs r rest parts.1 i
+
+more_go : (q : Roll) (qs : List Roll) (r : Row) (rest : List Row) (b : Bool) → cond b (not (list_any (λ p. is_in p r) qs)) (is_of_one qs r) ≡ true
+    → (is_of_one qs r ≡ true → IsPermutation (r ∷ gathered qs rest) (gathered qs (r ∷ rest)))
+    → IsPermutation (r ∷ (filter (is_in q) rest ++ gathered qs rest)) (cond b (r ∷ filter (is_in q) rest) (filter (is_in q) rest) ++ gathered qs (r ∷ rest))
+more_go q qs r rest true one later =
+    subst (λ more. IsPermutation (r ∷ (filter (is_in q) rest ++ gathered qs rest)) (r ∷ (filter (is_in q) rest ++ more))) (sym (gathered_beside qs r rest (not-true _ one))) (IsPermutation-refl _)
+more_go q qs r rest false one later = IsPermutation-trans _ _ _ (IsPermutation-sym _ _ (IsPermutation-middle (filter (is_in q) rest) r _)) (IsPermutation-append_right (filter (is_in q) rest) _ _ (later one))
+
+gathered_more : (qs : List Roll) (r : Row) (rest : List Row) → is_of_one qs r ≡ true → IsPermutation (r ∷ gathered qs rest) (gathered qs (r ∷ rest))
+unfolding gathered is_of_one
+gathered_more [] r rest one = absurd (cc)
+gathered_more (q ∷ qs) r rest one = more_go q qs r rest (is_in q r) one (gathered_more qs r rest)
+
+of_one : (r : Row) → is_of_one rolls r ≡ true
+unfolding is_of_one
+of_one (row.Supervisor c l n) = refl
+of_one (row.Project c l s n) = refl
+of_one (row.Student c l) = refl
+
+sorted : (rows : List Row) → IsPermutation rows (gathered rolls rows)
+unfolding gathered
 sorted [] = IsPermutation-refl _
-sorted (r ∷ rest) = sorted_go r rest (sorted rest)
+sorted (r ∷ rest) = IsPermutation-trans _ _ _ (IsPermutation-cons _ _ _ (sorted rest)) (gathered_more rolls r rest (of_one r))
 
 beside : (a b c d : List Row) → IsPermutation a b → IsPermutation c d → IsPermutation (a ++ c) (b ++ d)
 beside a b c d p q = IsPermutation-trans _ _ _ (IsPermutation-append_left c a b p) (IsPermutation-append_right b c d q)
 
+gathered_permuted : (qs : List Roll) (xs ys : List Row) → ((roll : Roll) → IsPermutation (filter (is_in roll) xs) (filter (is_in roll) ys)) → IsPermutation (gathered qs xs) (gathered qs ys)
+unfolding gathered
+gathered_permuted [] xs ys each = IsPermutation-refl _
+gathered_permuted (q ∷ qs) xs ys each = beside _ _ _ _ (each q) (gathered_permuted qs xs ys each)
+
 -- rows whose columns are the same in each table are the same
 pub permuted_by_rolls : (xs ys : List Row) → ((roll : Roll) → IsPermutation (columns_of roll xs) (columns_of roll ys)) → IsPermutation xs ys
-permuted_by_rolls xs ys same = IsPermutation-trans _ _ _ (sorted xs) (IsPermutation-trans _ _ _
-    (beside _ _ _ _ (rolls_permuted Supervisors xs ys (same Supervisors)) (beside _ _ _ _ (rolls_permuted Projects xs ys (same Projects)) (rolls_permuted Students xs ys (same Students))))
-    (IsPermutation-sym _ _ (sorted ys)))
+permuted_by_rolls xs ys same =
+    IsPermutation-trans _ _ _ (sorted xs) (IsPermutation-trans _ _ _ (gathered_permuted rolls xs ys (λ roll. rolls_permuted roll xs ys (same roll))) (IsPermutation-sym _ _ (sorted ys)))

@@ -1,5 +1,5 @@
 -- The tables of an office once its changes are saved.
-use Rattle.std.proofs.Common.{◌≡◌, List, Option, sym, ◌∙◌}
+use Rattle.std.proofs.Common.{◌≡◌, List, Option, ◌∙◌}
 use Rattle.sqlite.specs.Effect.{Database}
 use Rattle.sqlite.specs.Tree.{Trees}
 use Rattle.rolls.specs.declared.row.Row.{Row}

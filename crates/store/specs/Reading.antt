@@ -1,5 +1,5 @@
 -- What the rows that are read from the tables say.
-use Rattle.std.specs.Prelude.{◌≡◌, ◌≢◌, ◌<◌, ◌^◌, ℕ, true, IsTrue, List, map, drop, nat_lt}
+use Rattle.std.specs.Prelude.{◌≡◌, ◌≢◌, ◌⊎◌, [], take, ◌<◌, ◌^◌, ℕ, true, IsTrue, List, map, drop, nat_lt}
 use Rattle.std.specs.List.{list_all}
 use Rattle.sqlite.specs.Order.{Row as Cells}
 use Rattle.sqlite.specs.Effect.{Database}
@@ -8,7 +8,7 @@ use Rattle.rolls.specs.declared.row.Row.TheVariants as row
 use Rattle.rolls.specs.State.{State}
 use Rattle.rolls.specs.Fit.{IsFit}
 use Rattle.store.specs.declared.roll.Roll.{Roll}
-use Rattle.store.specs.Rows.{columns, is_in, columns_of, table_of}
+use Rattle.store.specs.Rows.{columns, is_in, columns_of, rolls, table_of}
 use Rattle.sqlite.specs.Schema.{Schema}
 use Rattle.sqlite.specs.State.{State as Seen, IsUnchanged}
 use Rattle.sqlite_rules.specs.Lists.{Has}
@@ -40,9 +40,20 @@ pub record AreListed (schema : Schema) : Type 0 where
   pub edition_listed : Lists schema (edition_table edition)
   pub rolls_listed : (roll : Roll) → Lists schema (table_of roll (places roll))
 
--- no two of four numbers are one
-abbrev pub AreApart : ℕ → ℕ → ℕ → ℕ → Type 0
-AreApart a b c d = (a ≢ b) × (a ≢ c) × (a ≢ d) × (b ≢ c) × (b ≢ d) × (c ≢ d)
+-- the table of this roll is not listed in this tree
+abbrev pub IsElsewhere : Roll → ℕ → Schema → Type 0
+IsElsewhere roll tree schema = (place : Place) → Lists schema (table_of roll place) → place.tree ≢ tree
+
+-- no table of another roll is listed in this tree
+abbrev pub IsAlone : Roll → ℕ → Schema → Type 0
+IsAlone roll tree schema = (other : Roll) → other ≢ roll → IsElsewhere other tree schema
+
+-- the table of the roll is listed with its columns and rules, and in its tree is neither that of the edition nor one of another roll
+pub record IsListedAlone (edition : ℕ) (schema : Schema) (roll : Roll) : Type 0 where
+  pub place : Place
+  pub listed : Lists schema (table_of roll place)
+  pub from_edition : place.tree ≢ edition
+  pub alone : IsAlone roll place.tree schema
 
 -- wherever the table of the roll is listed it holds these columns
 abbrev pub HoldsCells : Roll → List Cells → Database → Type 0
@@ -66,6 +77,13 @@ pub record HoldsNoRow (roll : Roll) (db : Database) : Type 0 where
 pub record ReadsAll (rows : List Row) (old new : Seen) : Type 0 where
   pub same : IsUnchanged old new
   pub holds : (roll : Roll) → HoldsCells roll (columns_of roll rows) old.now
+
+-- so many of the rolls were read, if any, and nothing has changed
+pub record ReadsSome (count : ℕ) (rows : List Row) (old new : Seen) : Type 0 where
+  pub opened : ((count ≡ 0) × (new.is_open ≡ old.is_open)) ⊎ IsTrue old.is_open
+  pub same : IsTrue old.is_open → IsUnchanged old new
+  pub holds : (roll : Roll) → Has (take count rolls) roll → HoldsCells roll (columns_of roll rows) old.now
+  pub others : (roll : Roll) → (Has (take count rolls) roll → ⊥) → columns_of roll rows ≡ []
 
 -- one of the rolls holds columns that no row has
 abbrev pub HoldsUnread : Seen → Type 0

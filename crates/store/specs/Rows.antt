@@ -11,6 +11,17 @@ use Rattle.store.specs.declared.roll.Roll.{Roll}
 use Rattle.store.specs.declared.roll.Roll.TheVariants.{Supervisors, Projects, Students}
 use Rattle.rolls.specs.From.{are_apart, row_in}
 
+-- every roll
+abbrev pub rolls : List Roll
+rolls = Supervisors ∷ Projects ∷ Students ∷ []
+
+-- whether two rolls are one
+abbrev pub same_roll : Roll → Roll → Bool
+same_roll Supervisors Supervisors = true
+same_roll Projects Projects = true
+same_roll Students Students = true
+same_roll _ _ = false
+
 -- the table of a roll
 abbrev pub table_of : Roll → Place → Table
 table_of Supervisors = supervisor_table
@@ -32,14 +43,9 @@ width_of Students = 2
 -- whether it is a row of this roll's table
 abbrev pub is_in : Roll → Row → Bool
 is_in Supervisors (row.Supervisor code label quota) = true
-is_in Supervisors (row.Project code label supervisor quota) = false
-is_in Supervisors (row.Student code label) = false
-is_in Projects (row.Supervisor code label quota) = false
 is_in Projects (row.Project code label supervisor quota) = true
-is_in Projects (row.Student code label) = false
-is_in Students (row.Supervisor code label quota) = false
-is_in Students (row.Project code label supervisor quota) = false
 is_in Students (row.Student code label) = true
+is_in _ _ = false
 
 -- the columns of those of the rows that are of this roll's table
 abbrev pub columns_of : Roll → List Row → List Cells

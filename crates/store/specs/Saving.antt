@@ -11,11 +11,8 @@ use Rattle.tables.specs.Table.{Place, Lists}
 use Rattle.store.specs.Rows.{table_of}
 use Rattle.store.specs.declared.roll.Roll.{Roll}
 use Rattle.tables.specs.Writes.{IsInert}
+use Rattle.tables.specs.Inert.{IsActedOn}
 use Rattle.store.specs.Tables.{TablesHold}
-
--- whatever rows the tables held, they hold those after the changes
-unfoldable pub Saves : List Change → Database → Database → Type 0
-Saves changes old new = (rows : RowKey → Option Row) → TablesHold old rows → TablesHold new (after_changes changes rows)
 
 -- no foreign key acts on this table, wherever it is listed
 abbrev pub IsLeftAlone : (Place → Table) → Schema → Type 0
@@ -24,6 +21,18 @@ IsLeftAlone table schema = (place : Place) → Lists schema (table place) → Is
 -- no foreign key of another table acts on the product's tables
 abbrev pub AreInert : Schema → Type 0
 AreInert schema = (roll : Roll) → IsLeftAlone (table_of roll) schema
+
+-- a foreign key acts on the table of this roll
+abbrev pub IsActedOnAt : Roll → Schema → Type 0
+IsActedOnAt roll schema = (place : Place) × Lists schema (table_of roll place) × IsActedOn schema.tables place.tree
+
+-- a foreign key of another table acts on one of the product's tables
+abbrev pub AreActedOn : Schema → Type 0
+AreActedOn schema = (roll : Roll) × IsActedOnAt roll schema
+
+-- whatever rows the tables held, they hold those after the changes
+unfoldable pub Saves : List Change → Database → Database → Type 0
+Saves changes old new = (rows : RowKey → Option Row) → TablesHold old rows → TablesHold new (after_changes changes rows)
 
 -- the same, of a run of statements: the schema stays as it is
 unfoldable pub Applies : List Change → Database → Database → Type 0

@@ -1,17 +1,19 @@
 -- When the tables of a database hold the rows of an office.
-use Rattle.std.specs.Prelude.{◌≡◌, ◌≢◌, ◌⊎◌, ℕ, pos, true, false, List, [], ◌∷◌, Option, is_some, codes}
+use Rattle.std.specs.Prelude.{◌≡◌, ◌≢◌, ◌⊎◌, pos, false, List, [], ◌∷◌, Option, is_some, codes}
 use Rattle.sqlite.specs.declared.types.Value.TheVariants.{Int}
 use Rattle.sqlite.specs.Order.{Row as Cells}
 use Rattle.sqlite.specs.Schema.{Schema}
+use Rattle.sqlite.specs.Table.{Table}
 use Rattle.sqlite.specs.Tree.{Trees}
 use Rattle.sqlite.specs.Effect.{Database}
 use Rattle.sqlite.specs.State.{State as Seen}
 use Rattle.sqlite_schema.specs.Names.{table_named}
+use Rattle.sqlite_rules.specs.Lists.{Has}
 use Rattle.rolls.specs.declared.row.Row.{Row}
 use Rattle.rolls.specs.declared.row.RowKey.{RowKey}
 use Rattle.rolls.specs.Rows.{row_of}
 use Rattle.rolls.specs.State.{State, empty}
-use Rattle.tables.specs.Table.{Place, edition_table}
+use Rattle.tables.specs.Table.{Place, Lists, edition_table}
 use Rattle.tables.specs.Keyed.{Stands}
 use Rattle.store.specs.Rows.{AreRowsAt, columns_of, table_of}
 use Rattle.store.specs.declared.roll.Roll.{Roll}
@@ -42,6 +44,14 @@ pub record HasNone (schema : Schema) : Type 0 where
   pub supervisor : is_some (table_named schema (codes "supervisor")) ≡ false
   pub project : is_some (table_named schema (codes "project")) ≡ false
   pub student : is_some (table_named schema (codes "student")) ≡ false
+
+-- Each of these rolls has got its table, with no rows, in a tree of its own, while the tables that the schema had are
+-- listed as before, with their rows.
+pub record MakesRolls (rolls : List Roll) (old new : Database) : Type 0 where
+  pub places : Roll → Place
+  pub stand : (roll : Roll) → Has rolls roll → Stands (table_of roll) (places roll) [] new
+  pub apart : (a b : Roll) → Has rolls a → Has rolls b → a ≢ b → (places a).tree ≢ (places b).tree
+  pub others : (t : Table) → Lists old.schema t → Lists new.schema t × (new.trees t.tree ≡ old.trees t.tree) × ((roll : Roll) → Has rolls roll → t.tree ≢ (places roll).tree)
 
 -- a database with none of the tables comes to stand for the empty office
 pub record Founds (old new : Database) : Type 0 where

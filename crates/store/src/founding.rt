@@ -1,12 +1,15 @@
 //! Making the tables.
 
-ghost use Rattle.std.specs.Prelude.{◌≡◌, ◌≢◌, IsTrue, false, OnOk, OnErr};
+ghost use Rattle.std.specs.Prelude.{◌≡◌, ◌≢◌, [], IsTrue, false, OnOk, OnErr};
 ghost use Rattle.sqlite.specs.State.{HasCleanDisk, KeepsCommit, Survives};
 ghost use Rattle.sqlite.specs.Held.{state};
-ghost use Rattle.tables.specs.Steps.{HasSaved, HasStepped, IsKept, IsLeft};
-ghost use Rattle.store.specs.Tables.{Empties, HasNone};
+ghost use Rattle.tables.specs.Steps.{HasSaved, HasStepped, IsKept, IsLeft, Stays};
+ghost use Rattle.tables.specs.Writes.{Makes};
+ghost use Rattle.store.specs.Rows.{table_of};
+ghost use Rattle.store.specs.Tables.{Empties, HasNone, MakesRolls};
 
 use crate::fault::StoreFault;
+use crate::roll::{ROLLS, Roll};
 use sqlite::{Alter, Connection, Transaction};
 use sqlite_schema::schema::Schema;
 use tables::edition::make_edition;
@@ -27,6 +30,33 @@ pub fn has_none(schema: &Schema) -> bool
         && !has_table(schema, "student")
 }
 
+/// Makes the table of a roll.
+fn make_roll<S: Alter>(tx: &mut Transaction<'_, S>, roll: Roll) -> Result<(), TableFault>
+    ensures same_reference { tx.new.conn.ghost_name ≡ tx.old.conn.ghost_name }
+    ensures survives { Survives (state S.Store tx.old.conn.now) (state S.Store tx.new.conn.now) (λ _. ⊥) }
+    ensures stepped { HasCleanDisk (state S.Store tx.new.conn.now) → OnOk result (HasStepped (Makes (table_of roll) []) (state S.Store tx.old.conn.now) (state S.Store tx.new.conn.now)) }
+    ensures kept { HasCleanDisk (state S.Store tx.new.conn.now) → KeepsCommit (state S.Store tx.old.conn.now) (state S.Store tx.new.conn.now) }
+{
+    match roll {
+        Roll::Supervisors => create_supervisor(tx),
+        Roll::Projects => create_project(tx),
+        Roll::Students => create_student(tx),
+    }
+}
+
+/// Makes the table of each of these rolls.
+pub fn make_rolls<S: Alter>(tx: &mut Transaction<'_, S>, rolls: &[Roll]) -> Result<(), TableFault>
+    ensures same_reference { tx.new.conn.ghost_name ≡ tx.old.conn.ghost_name }
+    ensures survives { Survives (state S.Store tx.old.conn.now) (state S.Store tx.new.conn.now) (λ _. ⊥) }
+    ensures stays { HasCleanDisk (state S.Store tx.new.conn.now) → OnOk result (Stays (MakesRolls rolls.now) (state S.Store tx.old.conn.now) (state S.Store tx.new.conn.now)) }
+    ensures kept { HasCleanDisk (state S.Store tx.new.conn.now) → KeepsCommit (state S.Store tx.old.conn.now) (state S.Store tx.new.conn.now) }
+{
+    for roll in rolls {
+        make_roll(tx, *roll)?;
+    }
+    Ok(())
+}
+
 /// Makes each table.
 fn make_tables<S: Alter>(tx: &mut Transaction<'_, S>) -> Result<(), TableFault>
     ensures same_reference { tx.new.conn.ghost_name ≡ tx.old.conn.ghost_name }
@@ -35,10 +65,7 @@ fn make_tables<S: Alter>(tx: &mut Transaction<'_, S>) -> Result<(), TableFault>
     ensures kept { HasCleanDisk (state S.Store tx.new.conn.now) → KeepsCommit (state S.Store tx.old.conn.now) (state S.Store tx.new.conn.now) }
 {
     make_edition(tx)?;
-    create_supervisor(tx)?;
-    create_project(tx)?;
-    create_student(tx)?;
-    Ok(())
+    make_rolls(tx, &ROLLS)
 }
 
 /// Makes the tables in one transaction.

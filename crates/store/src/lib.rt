@@ -7,6 +7,8 @@
 //! stand for none; a database with none of the tables gets them in one transaction; `save` makes changes in
 //! one transaction, and touches only the rows that they name; after a fault everything is as before; and each
 //! says what a crash leaves. Other tables are left alone. Begin with `specs/Tables.antt`, then `store.rt`.
+//!
+//! A further table is a roll more: a variant of `Roll` and of `ROLLS`, and an arm of each `match` over rolls.
 #![tactic(auto)]
 
 mod fault;

@@ -1,40 +1,33 @@
 //! Whether other tables act on the product's.
 
-ghost use Rattle.std.specs.Prelude.{◌≡◌, IsTrue, IfSome, None, MatchOption};
-ghost use Rattle.store.specs.Saving.{AreInert, IsLeftAlone};
-ghost use Rattle.store.specs.declared.roll.Roll.{Roll as AnyRoll};
-ghost use Rattle.store.specs.declared.roll.Roll.TheVariants as roll;
-ghost use Rattle.tables.specs.Table.{supervisor_table, project_table, student_table};
+ghost use Rattle.std.specs.Prelude.{◌≡◌, ◌↔◌, IsTrue, false, None, IfSome};
+ghost use Rattle.tables.specs.Layout.{IsListed, IsUnlisted};
+ghost use Rattle.store.specs.Rows.{table_of};
+ghost use Rattle.store.specs.Saving.{AreActedOn, AreInert, IsActedOnAt, IsLeftAlone};
 
+use crate::roll::Roll;
 use sqlite_schema::schema::Schema;
 use tables::inert::is_inert;
 use tables::layout::{project_tree, student_tree, supervisor_tree};
 
-/// Whether no foreign key acts on the rows of `supervisor`.
-fn is_supervisor_left(schema: &Schema) -> bool
-    ensures { IsTrue result → IsLeftAlone supervisor_table schema.now }
+/// The tree of a roll's table, where it is listed as it is made here.
+pub fn tree_of(schema: &Schema, roll: Roll) -> Option<u32>
+    ensures some { IfSome result (IsListed (table_of roll) schema.now) }
+    ensures none { result ≡ None → IsUnlisted (table_of roll) schema.now }
 {
-    match supervisor_tree(schema) {
-        Some(tree) => is_inert(schema, tree),
-        None => true,
+    match roll {
+        Roll::Supervisors => supervisor_tree(schema),
+        Roll::Projects => project_tree(schema),
+        Roll::Students => student_tree(schema),
     }
 }
 
-/// Whether no foreign key acts on the rows of `project`.
-fn is_project_left(schema: &Schema) -> bool
-    ensures { IsTrue result → IsLeftAlone project_table schema.now }
+/// Whether no foreign key acts on the rows of a roll's table.
+fn is_left(schema: &Schema, roll: Roll) -> bool
+    ensures sound { IsTrue result → IsLeftAlone (table_of roll) schema.now }
+    ensures exact { (result ≡ false) ↔ IsActedOnAt roll schema.now }
 {
-    match project_tree(schema) {
-        Some(tree) => is_inert(schema, tree),
-        None => true,
-    }
-}
-
-/// Whether no foreign key acts on the rows of `student`.
-fn is_student_left(schema: &Schema) -> bool
-    ensures { IsTrue result → IsLeftAlone student_table schema.now }
-{
-    match student_tree(schema) {
+    match tree_of(schema, roll) {
         Some(tree) => is_inert(schema, tree),
         None => true,
     }
@@ -42,7 +35,10 @@ fn is_student_left(schema: &Schema) -> bool
 
 /// Whether no foreign key of another table acts on the product's tables.
 pub fn are_left(schema: &Schema) -> bool
-    ensures { IsTrue result → AreInert schema.now }
+    ensures sound { IsTrue result → AreInert schema.now }
+    ensures exact { (result ≡ false) ↔ AreActedOn schema.now }
 {
-    is_supervisor_left(schema) && is_project_left(schema) && is_student_left(schema)
+    is_left(schema, Roll::Supervisors)
+        && is_left(schema, Roll::Projects)
+        && is_left(schema, Roll::Students)
 }

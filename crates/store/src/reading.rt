@@ -8,10 +8,12 @@ ghost use Rattle.sqlite.specs.Held.{state};
 ghost use Rattle.tables.specs.Steps.{Rests, Shows};
 ghost use Rattle.store.specs.Rows.{table_of};
 ghost use Rattle.store.specs.Tables.{StandsFor, first_edition};
-ghost use Rattle.store.specs.Reading.{AreListed, AreApart, ReadsRoll, HoldsNoRow, ReadsAll, HoldsUnread, IsDamaged};
+ghost use Rattle.tables.specs.Layout.{IsListed};
+ghost use Rattle.store.specs.Reading.{AreListed, IsAlone, IsElsewhere, IsListedAlone, ReadsRoll, HoldsNoRow, ReadsAll, HoldsUnread, IsDamaged};
 
 use crate::fault::StoreFault;
-use crate::roll::Roll;
+use crate::quiet::tree_of;
+use crate::roll::{ROLLS, Roll};
 use crate::rows::rows_with;
 use office::Office;
 use rolls::Row;
@@ -21,16 +23,47 @@ use sqlite_value::value::ValueRef;
 use std::alloc::Global;
 use tables::edition::read_edition;
 use tables::fault::TableFault;
-use tables::layout::{edition_tree, project_tree, student_tree, supervisor_tree};
+use tables::layout::edition_tree;
 use tables::project::read_projects;
 use tables::student::read_students;
 use tables::supervisor::read_supervisors;
 
-fn are_apart(a: u32, b: u32, c: u32, d: u32) -> bool
-    ensures right { IsTrue result → AreApart a b c d }
-    ensures wrong { result ≡ false → AreApart a b c d → ⊥ }
+/// Whether the table of another roll is listed in this tree.
+fn shares(schema: &Schema, other: Roll, roll: Roll, tree: u32) -> bool
+    ensures right { IsTrue result → (other ≢ roll) × IsListed (table_of other) schema.now tree }
+    ensures wrong { result ≡ false → other ≢ roll → IsElsewhere other tree schema.now }
 {
-    a != b && a != c && a != d && b != c && b != d && c != d
+    if other == roll {
+        return false;
+    }
+    match tree_of(schema, other) {
+        Some(there) => there == tree,
+        None => false,
+    }
+}
+
+/// Whether no other roll's table is listed in this tree.
+fn is_alone(schema: &Schema, roll: Roll, tree: u32) -> bool
+    ensures right { IsTrue result → IsAlone roll tree schema.now }
+    ensures wrong { result ≡ false → IsAlone roll tree schema.now → ⊥ }
+{
+    for other in ROLLS {
+        if shares(schema, other, roll, tree) {
+            return false;
+        }
+    }
+    true
+}
+
+/// Whether a roll's table is listed as it is made here, in a tree of its own.
+fn is_listed(schema: &Schema, edition: u32, roll: Roll) -> bool
+    ensures right { IsTrue result → IsListedAlone edition schema.now roll }
+    ensures wrong { result ≡ false → IsListedAlone edition schema.now roll → ⊥ }
+{
+    match tree_of(schema, roll) {
+        Some(tree) => tree != edition && is_alone(schema, roll, tree),
+        None => false,
+    }
 }
 
 /// Whether the tables are listed as they are made here, each in a tree of its own.
@@ -41,16 +74,12 @@ pub fn are_listed(schema: &Schema) -> bool
     let Some(edition) = edition_tree(schema) else {
         return false;
     };
-    let Some(supervisor) = supervisor_tree(schema) else {
-        return false;
-    };
-    let Some(project) = project_tree(schema) else {
-        return false;
-    };
-    let Some(student) = student_tree(schema) else {
-        return false;
-    };
-    are_apart(edition, supervisor, project, student)
+    for roll in ROLLS {
+        if !is_listed(schema, edition, roll) {
+            return false;
+        }
+    }
+    true
 }
 
 fn is_one(cells: &Cells, at: usize) -> bool
@@ -109,11 +138,11 @@ fn read_rows<S: Alter>(alloc: Global, conn: &mut Connection<S>) -> Result<Vec<Ro
     ensures mode { conn.old.in_transaction ≡ false → conn.new.in_transaction ≡ false }
     ensures survives { Survives (state S.Store conn.old) (state S.Store conn.new) (λ _. ⊥) }
 {
-    let mut rows = read_roll(alloc, conn, Roll::Supervisors)?;
-    let mut projects = read_roll(alloc, conn, Roll::Projects)?;
-    let mut students = read_roll(alloc, conn, Roll::Students)?;
-    rows.append(&mut projects)?;
-    rows.append(&mut students)?;
+    let mut rows = Vec::new(alloc);
+    for roll in ROLLS {
+        let mut more = read_roll(alloc, conn, roll)?;
+        rows.append(&mut more)?;
+    }
     Ok(rows)
 }
 

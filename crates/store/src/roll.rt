@@ -7,3 +7,6 @@ pub enum Roll {
     Projects,
     Students,
 }
+
+/// Every roll. A table is made after those that it refers to.
+pub const ROLLS: [Roll; 3] = [Roll::Supervisors, Roll::Projects, Roll::Students];

@@ -4,7 +4,7 @@ ghost use Rattle.std.specs.Prelude.{◌≡◌, ◌≢◌, IsTrue, false, OnOk, O
 ghost use Rattle.sqlite.specs.State.{HasCleanDisk, KeepsCommit, Survives};
 ghost use Rattle.sqlite.specs.Held.{state};
 ghost use Rattle.tables.specs.Steps.{HasSaved, HasStepped, IsKept, IsLeft, Stays};
-ghost use Rattle.store.specs.Saving.{Applies, AppliesOne, Saves};
+ghost use Rattle.store.specs.Saving.{Applies, AppliesOne, AreActedOn, Saves};
 
 use crate::fault::StoreFault;
 use crate::quiet::are_left;
@@ -112,6 +112,7 @@ pub fn save_changes<S: Alter>(
     ensures ok { HasCleanDisk (state S.Store conn.new) → OnOk result (HasSaved (Saves changes.now) (state S.Store conn.old) (state S.Store conn.new)) }
     ensures err { HasCleanDisk (state S.Store conn.new) → OnErr result (IsKept (state S.Store conn.old) (state S.Store conn.new)) }
     ensures faults { result ≢ Err StoreFault.Damaged }
+    ensures acted_on { AreActedOn (state S.Store conn.old).now.schema → result ≡ Err StoreFault.Storage }
     ensures crash { Survives (state S.Store conn.old) (state S.Store conn.new) (IsLeft (Saves changes.now) (state S.Store conn.old).now) }
     ensures ended { conn.old.in_transaction ≡ false → conn.new.in_transaction ≡ false }
 {

@@ -6,7 +6,7 @@ ghost use Rattle.sqlite.specs.Held.{state};
 ghost use Rattle.tables.specs.Steps.{HasSaved, IsKept, IsLeft};
 ghost use Rattle.store.specs.Tables.{Founds, HasNone, LeavesAlone, Opens, StandsFor};
 ghost use Rattle.store.specs.Reading.{IsDamaged};
-ghost use Rattle.store.specs.Saving.{Saves};
+ghost use Rattle.store.specs.Saving.{AreActedOn, Saves};
 
 use crate::fault::StoreFault;
 use crate::founding::{found, has_none};
@@ -118,6 +118,9 @@ impl<S: Alter> Store<S> {
         ensures alone { HasCleanDisk (state S.Store self.new) → OnOk result (LeavesAlone (state S.Store self.new)) }
         ensures err { HasCleanDisk (state S.Store self.new) → OnErr result (IsKept (state S.Store self.old) (state S.Store self.new)) }
         ensures faults { result ≢ Err StoreFault.Damaged }
+
+        // Nothing is saved where a foreign key would write other rows too.
+        ensures acted_on { AreActedOn (state S.Store self.old).now.schema → result ≡ Err StoreFault.Storage }
 
         // A crash at any moment of the call.
         ensures crash { Survives (state S.Store self.old) (state S.Store self.new) (IsLeft (Saves changes.now) (state S.Store self.old).now) }

@@ -1,5 +1,5 @@
 -- What an INSERT of one row does to the rows of a table, and what its text means under any schema.
-use Rattle.std.proofs.Common.{◌≡◌, ◌≢◌, ◌⊎◌, inl, inr, ℕ, ℤ, ◌+◌, ◌/◌, length, List, [], ◌∷◌, ◌++◌, map, filter, slice_get, slice_range, Option, Some, None, Ok, Err, Result, refl, sym, ap, subst, ◌∙◌, false, true, Bool, cond, not, ◌&&◌}
+use Rattle.std.proofs.Common.{◌≡◌, ℕ, ℤ, ◌+◌, ◌/◌, length, List, [], ◌∷◌, map, slice_get, slice_range, Option, Some, None, Ok, refl, sym, ap, subst, ◌∙◌, false, true, Bool, cond, not, ◌&&◌}
 use Rattle.std.specs.List.Sorted.{IsPermutation}
 use Rattle.std.proofs.lemmas.Bool.{and_parts}
 use Rattle.std.proofs.lemmas.List.Sorted.{IsPermutation-trans, IsPermutation-cons, IsPermutation-map}
@@ -33,9 +33,9 @@ use Rattle.sqlite_resolve.specs.Lowering.{Checked}
 use Rattle.sqlite_resolve.specs.declared.compiled.Compiled.{Compiled}
 use Rattle.sqlite.specs.Command.{Command}
 use Rattle.tables.specs.Table.{Place, Lists, cells}
-use Rattle.tables.specs.Keyed.{IsKeyed, Stands}
-use Rattle.tables.specs.Writes.{WritesOnly, Adds}
-use Rattle.tables.proofs.Places.{untimed, placed, listed_along}
+use Rattle.tables.specs.Keyed.{IsKeyed}
+use Rattle.tables.specs.Writes.{Adds}
+use Rattle.tables.proofs.Places.{placed, listed_along}
 use Rattle.tables.proofs.Understood.{Means, runs_by}
 use Rattle.tables.proofs.Inserting.{insert_does, insert_edit}
 use Rattle.tables.proofs.Puts.{put_row_permutes}

@@ -1,10 +1,6 @@
 -- A schema with more tables at its end.
-use Rattle.std.proofs.Common.{◌≡◌, ◌≢◌, ◌⊎◌, inl, inr, ℕ, zero, suc, ◌+◌, ◌<◌, List, [], ◌∷◌, ◌++◌, length, slice_get, Option, Some, None, is_some, Bool, true, false, ◌||◌, cond, refl, sym, ap, subst, ◌∙◌, arith, add-one}
+use Rattle.std.proofs.Common.{◌≡◌, ℕ, zero, suc, ◌+◌, List, [], ◌∷◌, ◌++◌, length, slice_get, Some, is_some, Bool, true, false, refl, ap, ◌∙◌, arith}
 use Rattle.std.specs.List.{position_from}
-use Rattle.sqlite.specs.Schema.{Schema}
-use Rattle.sqlite.specs.Table.{Table}
-use Rattle.sqlite_schema.specs.Names.{table_named, same_name}
-use Rattle.tables.specs.Table.{Lists}
 
 module _ {X : Type 0} (p : X → Bool) where
   found_go : (from : ℕ) (x : X) (xs ys : List X) (at : ℕ) (b : Bool) → p x ≡ b → ((n : ℕ) → position_from p n xs ≡ Some at → position_from p n (xs ++ ys) ≡ Some at)

@@ -1,28 +1,23 @@
 -- CREATE TABLE under any schema.
-use Rattle.std.proofs.Common.{◌≡◌, ◌⊎◌, inl, inr, ℕ, ◌+◌, List, [], ◌∷◌, ◌++◌, length, map, ◌≢◌, slice_get, slice_range, arith, ◌||◌, codes, Option, Some, None, is_some, Ok, Err, Result, Bool, true, false, refl, sym, ap, subst, ◌∙◌, if◌then◌else◌}
+use Rattle.std.proofs.Common.{◌≡◌, inl, inr, ℕ, ◌+◌, List, [], length, map, ◌≢◌, slice_get, slice_range, arith, ◌||◌, Option, Some, None, is_some, Ok, Err, Bool, true, false, refl, sym, ap, subst, ◌∙◌, if◌then◌else◌}
 use Rattle.std.proofs.lemmas.Bool.{cases_Bool}
 use Rattle.sqlite.specs.Schema.{Schema}
-use Rattle.sqlite.specs.Compile.{table_defined_by, compiled, first, timed, returning, command, small, creates, is_reserved, is_attached, create_table, with_command}
+use Rattle.sqlite.specs.Compile.{table_defined_by, compiled, first, timed, returning, command, small, creates, is_reserved, is_attached, with_command}
 use Rattle.sqlite.specs.Command.{Command}
 use Rattle.sqlite.specs.Command.TheVariants.{CreateTable, Nothing}
-use Rattle.sqlite_tied.specs.Compute.{everything}
-use Rattle.sqlite.specs.Listing.{understood, listing_schema, if_select}
+use Rattle.sqlite.specs.Listing.{listing_schema, if_select}
 use Rattle.sqlite_resolve.specs.declared.error.CompileError.TheVariants.{NoSuchTable, Misuse, Exists, Unsupported}
 use Rattle.sqlite_resolve.specs.Lowering.{Checked, and_then}
-use Rattle.sqlite_resolve.specs.Define as define
-use Rattle.sqlite_ast.specs.declared.Rule.TheVariants as rule
-use Rattle.sqlite_ast.specs.declared.Statement.TheVariants as written
 use Rattle.sqlite_syntax.specs.declared.statement.Parsed.{Parsed}
 use Rattle.std.specs.Option.{option_or}
 use Rattle.sqlite_schema.specs.Names.{same_name, table_named, view_named, index_named}
 use Rattle.sqlite.specs.State.{State, Executes, text_of}
 use Rattle.sqlite.specs.Table.{Table}
 use Rattle.sqlite.specs.Term.{Term}
-use Rattle.sqlite.specs.Order.{Row}
 use Rattle.std.proofs.lemmas.List.Sorted.{IsPermutation-refl}
 use Rattle.std.specs.List.Sorted.{IsPermutation}
 use Rattle.tables.specs.Table.{cells}
-use Rattle.tables.specs.Keyed.{IsKeyed, Stands}
+use Rattle.tables.specs.Keyed.{IsKeyed}
 use Rattle.sqlite.specs.Tree.{Trees}
 use Rattle.sqlite.specs.Change.{created, next_tree, is_used}
 use Rattle.sqlite.specs.Effect.{Database}
@@ -33,8 +28,6 @@ use Rattle.sqlite_catalog.proofs.StepLemmas.{table_below}
 use Rattle.sqlite_rules.specs.Lists.{Has}
 use Rattle.sqlite_rules.proofs.ListLemmas.{has_got, all_has}
 use Rattle.sqlite_resolve.specs.declared.compiled.Compiled.{Compiled}
-use Rattle.sqlite_ast.specs.declared.Expr.TheVariants as expr
-use Rattle.sqlite_ast.specs.declared.Binary.TheVariants as binary
 use Rattle.tables.specs.Table.{Place, Lists}
 use Rattle.tables.specs.Writes.{Makes}
 use Rattle.tables.proofs.Places.{placed}

@@ -1,10 +1,8 @@
 -- DELETE by key, where the key is a text in the first column.
-use Rattle.std.proofs.Common.{◌≡◌, ℕ, ◌+◌, List, [], ◌∷◌, codes, slice_get, slice_range, Option, Some, None, Ok, Err, Result, refl, sym, ap, subst, ◌∙◌, false, true, length, pos, negsuc, ◌⊎◌, Bool, if◌then◌else◌, cond, not, ◌&&◌, ◌++◌, map, filter, subst₂}
+use Rattle.std.proofs.Common.{◌≡◌, ℕ, List, [], ◌∷◌, codes, slice_get, slice_range, Option, Some, None, Ok, Err, refl, sym, ap, subst, ◌∙◌, false, true, pos, negsuc, Bool, if◌then◌else◌, cond, not, ◌&&◌, ◌++◌, map, filter, subst₂}
 use Rattle.sqlite.specs.Schema.{Schema}
 use Rattle.sqlite.specs.Table.{Table}
-use Rattle.sqlite.specs.Compile.{compiled, first, timed, returning, command, with_command, delete, shows}
-use Rattle.sqlite_tied.specs.Compute.{everything}
-use Rattle.sqlite_schema.specs.Names.{table_named}
+use Rattle.sqlite.specs.Compile.{compiled, first, timed, returning, command, delete, shows}
 use Rattle.sqlite_syntax.specs.declared.statement.Parsed.{Parsed}
 use Rattle.sqlite_ast.specs.declared.Statement.TheVariants as written
 use Rattle.sqlite_ast.specs.declared.Expr.{Expr}
@@ -13,14 +11,14 @@ use Rattle.sqlite_ast.specs.declared.Binary.TheVariants as binary
 use Rattle.sqlite_resolve.specs.Write.{deleted}
 use Rattle.sqlite_resolve.specs.Program.{program}
 use Rattle.sqlite_draft.specs.declared.query.Draft.{Draft}
-use Rattle.sqlite_sql.specs.Term.{Term, Env, lit, col, op2}
+use Rattle.sqlite_sql.specs.Term.{Env, lit, col, op2}
 use Rattle.sqlite.specs.declared.types.Value.TheVariants.{Null, Int, Text}
 use Rattle.sqlite_sql.specs.Query.{Query, inner, end, IsAnswer, output, Output}
 use Rattle.sqlite_sql.specs.declared.ops.BinaryOp.TheVariants.{Compare}
 use Rattle.sqlite_sql.specs.declared.ops.CompareOp.TheVariants.{Eq}
 use Rattle.sqlite.specs.Collation.TheVariants.{Binary}
 use Rattle.sqlite.specs.Listing.{listing_schema, if_select}
-use Rattle.sqlite.specs.Command.TheVariants.{Delete, Nothing}
+use Rattle.sqlite.specs.Command.TheVariants.{Delete}
 use Rattle.sqlite_schema.specs.declared.program.Program.{Program}
 use Rattle.sqlite_resolve.specs.Lowering.{Checked, and_then}
 use Rattle.sqlite_resolve.specs.declared.error.CompileError.TheVariants.{NoSuchTable, Mismatch}
@@ -51,7 +49,7 @@ use Rattle.sqlite.proofs.Callers.{one_step}
 use Rattle.tables.proofs.Inserting.{went, same_value}
 use Rattle.tables.proofs.Understood.{planned_of, Means, runs_by}
 use Rattle.tables.specs.Table.{Place, Lists, cells}
-use Rattle.tables.specs.Writes.{Removes, Turns, differs_from, without}
+use Rattle.tables.specs.Writes.{Removes, differs_from}
 use Rattle.tables.proofs.Places.{placed, listed_along}
 use Rattle.tables.proofs.Adding.{Has, has_listed, on_table_is}
 

@@ -1,11 +1,11 @@
 -- Rows that are taken out by their rowids.
-use Rattle.std.proofs.Common.{◌≡◌, ◌⊎◌, inl, inr, ℕ, ℤ, List, [], ◌∷◌, ◌++◌, map, filter, Bool, true, false, not, ◌||◌, ◌&&◌, cond, refl, sym, ap, ap₂, subst, ◌∙◌}
+use Rattle.std.proofs.Common.{◌≡◌, inl, inr, ℤ, List, [], ◌∷◌, map, filter, Bool, true, false, not, ◌||◌, ◌&&◌, cond, refl, sym, ap, subst, ◌∙◌}
 use Rattle.std.specs.List.{list_any, AllByRecursion}
 use Rattle.std.specs.List.Sorted.{IsPermutation}
 use Rattle.std.proofs.lemmas.List.Sorted.{list_any-IsPermutation}
 use Rattle.sqlite.specs.Order.{Row}
-use Rattle.sqlite.specs.Tree.{rowid, has_rowid, without_rowid, IsAscending}
-use Rattle.sqlite.specs.Edit.{id_in, without_all}
+use Rattle.sqlite.specs.Tree.{has_rowid, without_rowid, IsAscending}
+use Rattle.sqlite.specs.Edit.{without_all}
 use Rattle.sqlite_rules.specs.Lists.{Has}
 use Rattle.tables.proofs.Rowids.{found_of, both_of}
 use Rattle.tables.specs.Keyed.{id_of, IsKeyed}

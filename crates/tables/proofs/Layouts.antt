@@ -1,5 +1,5 @@
 -- A table that passes the tests is the one that is made here, and the one that is made here passes them.
-use Rattle.std.proofs.Common.{◌≡◌, ℕ, suc, zero, Bool, true, false, not, ◌&&◌, ◌==◌, List, [], ◌∷◌, length, codes, slice_get, Option, Some, None, is_none, refl, sym, ap, subst, ◌∙◌, arith, IsTrue}
+use Rattle.std.proofs.Common.{◌≡◌, ℕ, Bool, true, false, not, ◌==◌, List, [], ◌∷◌, length, codes, slice_get, Option, Some, None, is_none, refl, sym, ap, ◌∙◌, arith}
 use Rattle.std.specs.Option.{option_map_or}
 use Rattle.std.specs.Str.{bytes_eq}
 use Rattle.std.proofs.lemmas.Bool.{and_parts}
@@ -22,7 +22,7 @@ use Rattle.sqlite_schema.specs.declared.schema.Action.TheVariants as action
 use Rattle.sqlite_schema.specs.Rules.{kind_code}
 use Rattle.tables.specs.Table.{Place, Lists, required, coded_table, student_table, supervisor_table, project_table, to_supervisor, edition_table}
 use Rattle.tables.specs.Inert.{is_passive}
-use Rattle.tables.specs.Layout.{is_nothing, is_binary, is_required, has_column, is_only, are_plain, has_one_key, is_untimed, is_coded, is_student, is_supervisor, is_to_supervisor, is_project, is_edition, IsNamed, IsListed, IsUnlisted, place_of}
+use Rattle.tables.specs.Layout.{is_nothing, is_binary, is_required, has_column, is_only, are_plain, has_one_key, is_untimed, is_coded, is_student, is_supervisor, is_to_supervisor, is_project, is_edition, IsNamed, IsListed, place_of}
 
 same_bytes : (a b : List ℕ) → bytes_eq a b ≡ true → a ≡ b
 same_bytes a b h = (bytes_eq-Decides a b).0 h

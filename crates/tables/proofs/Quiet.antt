@@ -1,8 +1,9 @@
 -- Where no reference to a table has an action, none acts.
-use Rattle.std.proofs.Common.{◌≡◌, ◌⊎◌, inl, inr, ℕ, List, [], ◌∷◌, ◌++◌, Bool, true, false, not, ◌&&◌, ◌||◌, ◌==◌, Option, Some, None, option_map, option_and_then, find, length, refl, sym, ap, subst, ◌∙◌, true≢false}
+use Rattle.std.proofs.Common.{◌≡◌, ◌≢◌, ◌⊎◌, ◌↔◌, inl, inr, ℕ, List, [], ◌∷◌, Bool, true, false, not, ◌&&◌, ◌||◌, ◌==◌, Option, Some, None, option_map, option_and_then, find, length, refl, sym, ap, ◌∙◌, true≢false}
 use Rattle.std.specs.List.{list_all, flat_map, filter_map}
-use Rattle.std.proofs.lemmas.Bool.{and_parts, and_from, false_from_ne_true}
-use Rattle.sqlite_rules.proofs.ListLemmas.{has_found, some_from}
+use Rattle.std.proofs.lemmas.Bool.{and_parts, and_from, and_cases, and_left, and_right, or_parts, or_from, not-false, false_from_ne_true}
+use Rattle.std.proofs.lemmas.Bool.Decides.{Decides-eqb}
+use Rattle.sqlite_rules.proofs.ListLemmas.{has_found, some_has, some_from, fails_has, fails_from}
 use Rattle.sqlite.specs.Order.{Row}
 use Rattle.sqlite.specs.Schema.{Schema}
 use Rattle.sqlite.specs.Table.{Table}
@@ -11,12 +12,12 @@ use Rattle.sqlite_schema.specs.declared.schema.Action.TheVariants.{NoAction, Res
 use Rattle.sqlite_schema.specs.declared.schema.Keys.TheVariants.{Enforced}
 use Rattle.sqlite_schema.specs.declared.schema.Reference.{Reference}
 use Rattle.sqlite_schema.specs.Names.{same_name}
-use Rattle.sqlite_schema.specs.Rules.{ParentKey, parent_key, key_in, key_places, declared_order}
+use Rattle.sqlite_schema.specs.Rules.{ParentKey, key_in, key_places, declared_order}
 use Rattle.sqlite_value.specs.declared.keys.Order.{Order}
 use Rattle.sqlite_rules.specs.declared.action.Deed.{Deed}
-use Rattle.sqlite_rules.specs.Action.{works, work_by, work_for, deed_for, deed_of, pairs, Work}
+use Rattle.sqlite_rules.specs.Action.{work_by, work_for, deed_for, pairs}
 use Rattle.tables.specs.Writes.{IsInert}
-use Rattle.tables.specs.Inert.{is_passive, refers_to, is_quiet, is_inert}
+use Rattle.tables.specs.Inert.{is_passive, refers_to, is_quiet, is_inert, IsActedOn}
 
 passive_is : (a : Action) → is_passive a ≡ true → a ≡ NoAction
 passive_is NoAction h = refl
@@ -82,3 +83,43 @@ nil_of h p each (x ∷ xs) all = let parts = and_parts _ _ all in rw (each x par
 pub inert : (schema : Schema) (tree : ℕ) → is_inert schema.tables tree ≡ true → IsInert schema tree
 inert schema tree h olds news =
     nil_of _ (λ (t : Table). list_all (is_quiet schema.tables tree) t.references) (λ child all. none_of _ (is_quiet schema.tables tree) (λ ref. quiet schema tree olds news child ref) child.references all) schema.tables h
+
+active : (a : Action) → is_passive a ≡ false → a ≢ NoAction
+active a h is = true≢false (sym (ap is_passive is) ∙ h)
+
+not_passive : (a : Action) → a ≢ NoAction → is_passive a ≡ false
+not_passive a acts = false_from_ne_true _ (λ h. acts (passive_is a h))
+
+-- where a schema does not pass, a foreign key acts
+found_acting : (tables : List Table) (tree : ℕ) → is_inert tables tree ≡ false → IsActedOn tables tree
+found_acting tables tree h =
+    let c = fails_has _ tables h in
+    let r = fails_has (is_quiet tables tree) c.0.references c.2 in
+    let loud = or_parts _ _ r.2 in
+    let p = some_has (λ t. same_name t.name r.0.parent && (t.tree == tree)) tables (not-false _ loud.1) in
+    let both = and_parts _ _ p.2 in
+    record {
+      child = c.0;
+      reference = r.0;
+      parent = p.0;
+      child_listed = c.1;
+      parent_listed = p.1;
+      of_child = r.1;
+      to_parent = both.0;
+      here = (Decides-eqb p.0.tree tree).0 both.1;
+      acts = elim (and_cases _ _ loud.0) [ inl deletes ↦ inl (active _ deletes) | inr updates ↦ inr (active _ updates) ];
+    }
+
+-- where a foreign key acts, the schema does not pass
+acting_fails : (tables : List Table) (tree : ℕ) → IsActedOn tables tree → is_inert tables tree ≡ false
+acting_fails tables tree it =
+    let refers : refers_to tables tree it.reference ≡ true =
+    some_from (λ t. same_name t.name it.reference.parent && (t.tree == tree)) tables it.parent it.parent_listed (and_from _ _ it.to_parent ((Decides-eqb it.parent.tree tree).1 it.here)) in
+    let acts : (is_passive it.reference.on_delete && is_passive it.reference.on_update) ≡ false =
+    elim it.acts [ inl deletes ↦ and_left _ _ (not_passive _ deletes) | inr updates ↦ and_right _ _ (not_passive _ updates) ] in
+    fails_from (λ t. list_all (is_quiet tables tree) t.references) tables it.child it.child_listed
+    (fails_from (is_quiet tables tree) it.child.references it.reference it.of_child (or_from _ _ acts (ap not refers)))
+
+-- a schema passes unless a foreign key acts
+pub acted_on : (tables : List Table) (tree : ℕ) → (is_inert tables tree ≡ false) ↔ IsActedOn tables tree
+acted_on tables tree = (found_acting tables tree, acting_fails tables tree)

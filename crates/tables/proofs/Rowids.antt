@@ -1,17 +1,16 @@
 -- Rows that are told apart by their rowids, and what puts keep of it.
-use Rattle.std.proofs.Common.{◌≡◌, ◌⊎◌, inl, inr, ℕ, List, [], ◌∷◌, ◌++◌, map, Bool, true, false, not, ◌&&◌, ◌||◌, refl, sym, ap, subst, subst₂, ◌∙◌}
-use Rattle.std.specs.List.{list_any, list_all, AllByRecursion}
+use Rattle.std.proofs.Common.{◌≡◌, inl, inr, List, [], ◌∷◌, ◌++◌, map, Bool, true, false, sym, ap, subst, subst₂, ◌∙◌}
+use Rattle.std.specs.List.{list_any, AllByRecursion}
 use Rattle.std.specs.List.Sorted.{IsPermutation}
 use Rattle.std.specs.Ordering.{is_eq}
 use Rattle.std.proofs.lemmas.Bool.{and_parts, or_parts, not-true}
 use Rattle.std.proofs.lemmas.Cmp.{tied_itself, eq_by_cmp_equiv}
-use Rattle.std.proofs.lemmas.List.Sorted.{IsPermutation-refl, IsPermutation-trans, IsPermutation-cons, IsPermutation-middle, IsPermutation-sym, IsPermutation-append_right}
+use Rattle.std.proofs.lemmas.List.Sorted.{IsPermutation-refl, IsPermutation-trans, IsPermutation-middle, IsPermutation-sym, IsPermutation-append_right}
 use Rattle.sqlite.specs.declared.types.Value.{Value}
-use Rattle.sqlite.specs.declared.types.Value.TheVariants.{Int}
 use Rattle.sqlite.specs.Order.{Row, value_cmp}
 use Rattle.sqlite.specs.Tree.{rowid, has_rowid, put_row, IsAscending}
 use Rattle.sqlite_trees.specs.View.{is_int}
-use Rattle.sqlite.specs.Edit.{id_in, is_taken, are_fresh, put_all, have_rowids}
+use Rattle.sqlite.specs.Edit.{is_taken, are_fresh, put_all, have_rowids}
 use Rattle.sqlite_value.proofs.OrderLemmas.{value_cmp_total}
 use Rattle.sqlite_rules.specs.Lists.{Has}
 use Rattle.sqlite_rules.proofs.ListLemmas.{all_has, all_from}

@@ -1,5 +1,5 @@
 -- Statements one after the other, and what they leave alone.
-use Rattle.std.proofs.Common.{◌≡◌, ◌≢◌, ◌⊎◌, inl, inr, arith, ℕ, List, [], ◌∷◌, refl, sym, subst, ◌∙◌, IsTrue, true, false, Bool, map, ap, ◌<◌, ◌^◌, nat_lt, Option, Some, slice_get}
+use Rattle.std.proofs.Common.{◌≡◌, ◌≢◌, inl, inr, arith, ℕ, List, [], ◌∷◌, refl, sym, subst, ◌∙◌, IsTrue, true, false, Bool, map, ap, ◌<◌, ◌^◌, nat_lt, Option, Some, slice_get, Result, Ok, Err, IfOk}
 use Rattle.std.specs.List.{AllByRecursion, AllZip}
 use Rattle.std.proofs.lemmas.Bool.Decides.{Decides-ltb}
 use Rattle.sqlite_schema.specs.Names.{table_named}
@@ -10,13 +10,13 @@ use Rattle.sqlite.specs.Order.{Row}
 use Rattle.sqlite.specs.Schema.{Schema}
 use Rattle.sqlite.specs.Table.{Table}
 use Rattle.sqlite.specs.Effect.{Database}
-use Rattle.sqlite.specs.State.{State, Survives}
+use Rattle.sqlite.specs.State.{State, Executes, Survives}
 use Rattle.sqlite.specs.Tree.{Trees}
 use Rattle.sqlite_rules.proofs.ListLemmas.{all_has, all_from, has_got}
-use Rattle.tables.specs.Table.{Place, Lists, Holds, cells}
+use Rattle.tables.specs.Table.{Place, Lists, cells}
 use Rattle.tables.specs.Keyed.{IsKeyed, Stands}
 use Rattle.tables.specs.Writes.{WritesOnly, Adds, Makes}
-use Rattle.tables.specs.Steps.{HasStepped, Stays, Rests}
+use Rattle.tables.specs.Steps.{HasRun, HasStepped, Stays, Rests}
 use Rattle.tables.proofs.Places.{listed_along}
 
 -- what writes nothing writes only one table
@@ -33,18 +33,22 @@ writes_then tree a b c p q =
       others = all_from _ a.schema.tables (λ t h apart. all_has _ a.schema.tables t later h apart ∙ all_has _ a.schema.tables t p.others h apart);
     }
 
--- a table stands as before where another is written
+-- a table stands as before where it is listed as before, with the rows of its tree
+pub stands_kept : (table : Place → Table) (place : Place) (same : (table place).tree ≡ place.tree) (rows : List Row) (old new : Database) → Lists new.schema (table place)
+    → new.trees (table place).tree ≡ old.trees (table place).tree → Stands table place rows old → Stands table place rows new
+stands_kept table place same rows old new listed kept stands = record {
+  listed = listed;
+  keyed = subst IsKeyed (subst (λ n. old.trees n ≡ new.trees n) same (sym kept)) stands.keyed;
+  holds = subst (λ all. IsPermutation rows (map (cells (table place)) all)) (sym kept) stands.holds;
+}
+
+-- so it does where another is written
 pub stands_apart : (table : Place → Table) (place : Place) (same : (table place).tree ≡ place.tree) (rows : List Row) (tree : ℕ) (old new : Database) → place.tree ≢ tree → WritesOnly tree old new
     → Stands table place rows old → Stands table place rows new
 stands_apart table place same rows tree old new apart only stands =
     let t = table place in
-    let other : t.tree ≢ tree = λ e. apart (sym same ∙ e) in
-    let kept : new.trees t.tree ≡ old.trees t.tree = all_has _ old.schema.tables t only.others (has_got old.schema.tables stands.listed.at t stands.listed.there) other in
-    record {
-      listed = listed_along old.schema new.schema t only.schema stands.listed;
-      keyed = subst IsKeyed (subst (λ n. old.trees n ≡ new.trees n) same (sym kept)) stands.keyed;
-      holds = subst (λ all. IsPermutation rows (map (cells t) all)) (sym kept) stands.holds;
-    }
+    let kept : new.trees t.tree ≡ old.trees t.tree = all_has _ old.schema.tables t only.others (has_got old.schema.tables stands.listed.at t stands.listed.there) (λ e. apart (sym same ∙ e)) in
+    stands_kept table place same rows old new (listed_along old.schema new.schema t only.schema stands.listed) kept stands
 
 -- a table that is made, and then gets a row
 pub made_with : (table : Place → Table) (row : Row) (a b c : Database) → Makes table [] a b → Adds table row b c → Makes table (row ∷ []) a c
@@ -61,19 +65,12 @@ made_with table row a b c made adds =
           );
     }
 
--- a table stands as before where another is made, and is another
+-- so it does where another is made, and is another
 pub stands_beside : (table : Place → Table) (place : Place) (same : (table place).tree ≡ place.tree) (rows : List Row) (other : Place → Table) (given : List Row) (old new : Database)
     → (made : Makes other given old new) → Stands table place rows old → Stands table place rows new × (place.tree ≢ made.place.tree)
 stands_beside table place same rows other given old new made stands =
-    let t = table place in
-    let kept = made.others t stands.listed in (
-      record {
-        listed = kept.0;
-        keyed = subst IsKeyed (subst (λ n. old.trees n ≡ new.trees n) same (sym kept.1)) stands.keyed;
-        holds = subst (λ all. IsPermutation rows (map (cells t) all)) (sym kept.1) stands.holds;
-      },
-      λ e. kept.2 (same ∙ e),
-    )
+    let kept = made.others (table place) stands.listed in
+    (stands_kept table place same rows old new kept.0 kept.1 stands, λ e. kept.2 (same ∙ e))
 
 -- a connection that was open and is
 pub both_open : (a b : Bool) → IsTrue a → IsTrue b → b ≡ a
@@ -104,6 +101,20 @@ stepped_then P Q R a b c both p q = record {
     now_is = refl;
     committed_is = q.shown.committed_is ∙ p.shown.committed_is;
     mode = q.shown.mode;
+  };
+  step = both p.step q.step;
+}
+
+-- a statement, and then a run of them
+pub stepped_stays : (P Q R : Database → Database → Type 0) (a b c : State) → (P a.now b.now → Q b.now c.now → R a.now c.now) → HasStepped P a b → Stays Q b c → HasStepped R a c
+stepped_stays P Q R a b c both p q = record {
+  inside = p.inside;
+  shown = record {
+    was_open = p.shown.was_open;
+    is_open = subst IsTrue (sym q.shut) p.shown.is_open;
+    now_is = refl;
+    committed_is = q.committed ∙ p.shown.committed_is;
+    mode = q.mode ∙ p.shown.mode;
   };
   step = both p.step q.step;
 }
@@ -147,3 +158,13 @@ listed_once schema table p q named l m =
     let at : l.at ≡ m.at = let e : Some l.at ≡ Some m.at = sym l.named ∙ ap (table_named schema) named ∙ m.named in cc in
     let both : ◌≡◌ {A = Option Table} (Some (table p)) (Some (table q)) = sym l.there ∙ ap (slice_get schema.tables) at ∙ m.there in
     cc
+
+-- what a statement that went through did
+pub stepped_by : (P : Database → Database → Type 0) (sql : List ℕ) (params : Row) (count : ℕ) (old new : State) → (Executes sql params old new (Ok count) → P old.now new.now) → HasRun sql params count old new → HasStepped P old new
+stepped_by P sql params count old new does it = record { inside = it.inside; shown = it.shown; step = does it.ran }
+
+-- the same of one that tells how many rows it wrote
+pub stepped_each : {E : Type 0} (P : ℕ → Database → Database → Type 0) (sql : List ℕ) (params : Row) (old new : State) (r : Result ℕ E) → ((count : ℕ) → Executes sql params old new (Ok count) → P count old.now new.now)
+    → IfOk r (λ count. HasRun sql params count old new) → IfOk r (λ count. HasStepped (P count) old new)
+stepped_each P sql params old new (Ok count) does it = stepped_by (P count) sql params count old new (does count) it
+stepped_each P sql params old new (Err e) does it = it

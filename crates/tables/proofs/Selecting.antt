@@ -1,16 +1,12 @@
 -- SELECT of the columns of a whole table, under any schema that lists it.
-use Rattle.std.proofs.Common.{◌≡◌, ℕ, ◌+◌, List, [], ◌∷◌, ◌++◌, codes, slice_get, slice_range, Option, Some, None, Ok, Err, Result, refl, sym, ap, subst, ◌∙◌, false, true, length, drop, pos, negsuc, Bool, if◌then◌else◌, map, unwrap_or, nat_le, nat_lt, ◌-◌, ◌^◌, subst₂, append-nil}
+use Rattle.std.proofs.Common.{◌≡◌, ℕ, List, [], ◌∷◌, codes, slice_get, slice_range, Some, None, Ok, Err, Result, refl, sym, ap, subst, ◌∙◌, false, true, drop, pos, negsuc, Bool, if◌then◌else◌, map, unwrap_or, nat_le, nat_lt, ◌-◌, ◌^◌, subst₂, append-nil}
 use Rattle.sqlite.specs.Schema.{Schema}
 use Rattle.sqlite.specs.Table.{Table}
-use Rattle.sqlite.specs.Compile.{compiled, first, timed, returning, command, small, with_command, read}
-use Rattle.sqlite_tied.specs.Compute.{everything}
-use Rattle.sqlite_schema.specs.Names.{table_named}
+use Rattle.sqlite.specs.Compile.{compiled, first, timed, returning, command, read}
 use Rattle.sqlite_syntax.specs.declared.statement.Parsed.{Parsed}
 use Rattle.sqlite_ast.specs.declared.Statement.TheVariants as written
 use Rattle.sqlite_ast.specs.declared.Select.{Select, out-Select}
 use Rattle.sqlite_ast.specs.declared.Core.{Core, out-Core}
-use Rattle.sqlite_ast.specs.declared.Sort.{Sort}
-use Rattle.sqlite_ast.specs.declared.Source.{Source}
 use Rattle.sqlite.specs.declared.types.Value.TheVariants.{Null, Int}
 use Rattle.sqlite.specs.Term.{Term, lit, col}
 use Rattle.sqlite.specs.Query.{Query, inner, end, IsAnswer, output, Output as Output'}
@@ -23,7 +19,6 @@ use Rattle.sqlite_resolve.specs.declared.scope.Bound.{Bound}
 use Rattle.sqlite_resolve.specs.declared.scope.Output.{Output}
 use Rattle.sqlite_resolve.specs.Body.{bounds, result, matching, body, tests}
 use Rattle.sqlite_resolve.specs.Expr.{lower}
-use Rattle.sqlite_resolve.specs.declared.state.Carried.{Carried}
 use Rattle.sqlite.specs.Collation.TheVariants.{Binary}
 use Rattle.sqlite_resolve.specs.Select.{outermost, parts, assembled, having, ungrouped}
 use Rattle.sqlite_resolve.specs.Order.{keys, sorts}
@@ -36,7 +31,7 @@ use Rattle.sqlite_draft.specs.declared.query.Draft.{Draft}
 use Rattle.sqlite_draft.specs.declared.join.Step.TheVariants.{Inner}
 use Rattle.sqlite_schema.specs.declared.program.Program.{Program}
 use Rattle.sqlite_resolve.specs.declared.error.CompileError.TheVariants.{NoSuchTable, Mismatch}
-use Rattle.sqlite.specs.Listing.{understood, reads_listing, IsSourceOf, listing_schema, if_select}
+use Rattle.sqlite.specs.Listing.{reads_listing, IsSourceOf, listing_schema, if_select}
 use Rattle.sqlite.specs.State.{State, Shown as HasShown, IsUnchanged, text_of}
 use Rattle.sqlite_resolve.specs.declared.compiled.Compiled.{Compiled}
 use Rattle.tables.proofs.Understood.{planned_of, compiled_of, Means}
@@ -54,7 +49,7 @@ use Rattle.tables.specs.Keyed.{IsKeyed, Stands}
 use Rattle.tables.specs.Steps.{Shows, Rests, RanQuery}
 use Rattle.tables.specs.declared.fault.TableFault.{TableFault}
 use Rattle.std.specs.declared.alloc.Global.{Global}
-use Rattle.std.proofs.Common.{Vec, IfOk, inl, inr, IsTrue}
+use Rattle.std.proofs.Common.{Vec, IfOk, inl, inr}
 use Rattle.tables.proofs.Rowids.{keyed_by_ids}
 use Rattle.sqlite_keyed.proofs.ListLemmas.{map-map}
 use Rattle.sqlite.specs.State.{CommitsShowing, IsRolledBack, FailsToQuery, IsNotRun}

@@ -1,11 +1,10 @@
 -- What the texts over `student` mean.
-use Rattle.std.proofs.Common.{◌≡◌, ℕ, List, [], ◌∷◌, codes, Option, Some, None, Ok, Err, refl, true, ◌^◌, nat_lt}
+use Rattle.std.proofs.Common.{◌≡◌, ℕ, List, [], ◌∷◌, codes, Some, Err, refl, true, ◌^◌, nat_lt}
 use Rattle.sqlite.specs.declared.types.Value.TheVariants.{Null, Text}
-use Rattle.sqlite.specs.Order.{Row}
 use Rattle.sqlite.specs.Schema.{Schema}
 use Rattle.sqlite.specs.Table.{Table}
 use Rattle.sqlite.specs.Term.{Term, lit, col}
-use Rattle.sqlite.specs.Compile.{compiled, first}
+use Rattle.sqlite.specs.Compile.{compiled}
 use Rattle.sqlite_tied.specs.Compute.{everything}
 use Rattle.sqlite.specs.Listing.{listing_schema, if_select}
 use Rattle.sqlite_resolve.specs.declared.error.CompileError.TheVariants.{NoSuchTable}
@@ -16,7 +15,7 @@ use Rattle.sqlite_ast.specs.declared.Conflict.TheVariants as conflict
 use Rattle.sqlite_ast.specs.declared.Expr.TheVariants as expr
 use Rattle.sqlite_ast.specs.declared.Select.{out-Select}
 use Rattle.tables.specs.Table.{Place, Lists, student_table}
-use Rattle.tables.proofs.Places.{nowhere, placed}
+use Rattle.tables.proofs.Places.{nowhere}
 use Rattle.tables.proofs.Creating.{IsCreate, made_command}
 use Rattle.tables.proofs.Adding.{IsInsert, IsGiven, cast_null}
 use Rattle.tables.proofs.Deleting.{IsDelete, IsCoded, test}

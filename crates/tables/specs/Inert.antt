@@ -1,11 +1,25 @@
 -- Which foreign keys act where rows of a table are taken out or replaced.
-use Rattle.std.specs.Prelude.{ℕ, Bool, true, false, not, ◌&&◌, ◌||◌, ◌==◌, List}
+use Rattle.std.specs.Prelude.{◌≡◌, ◌≢◌, ◌⊎◌, ℕ, Bool, true, false, not, ◌&&◌, ◌||◌, ◌==◌, List}
 use Rattle.std.specs.List.{list_all, list_any}
 use Rattle.sqlite.specs.Table.{Table}
 use Rattle.sqlite_schema.specs.declared.schema.Action.{Action}
 use Rattle.sqlite_schema.specs.declared.schema.Action.TheVariants.{NoAction, Restrict, Cascade, SetNull, SetDefault}
 use Rattle.sqlite_schema.specs.declared.schema.Reference.{Reference}
 use Rattle.sqlite_schema.specs.Names.{same_name}
+use Rattle.sqlite_rules.specs.Lists.{Has}
+
+-- A foreign key acts on the table of this tree: some table of the schema refers to it by its name, and not with
+-- NO ACTION both where rows are taken out and where they are replaced.
+pub record IsActedOn (tables : List Table) (tree : ℕ) : Type 0 where
+  pub child : Table
+  pub reference : Reference
+  pub parent : Table
+  pub child_listed : Has tables child
+  pub parent_listed : Has tables parent
+  pub of_child : Has child.references reference
+  pub to_parent : same_name parent.name reference.parent ≡ true
+  pub here : parent.tree ≡ tree
+  pub acts : (reference.on_delete ≢ NoAction) ⊎ (reference.on_update ≢ NoAction)
 
 -- a foreign key with NO ACTION, which is tested and writes nothing
 abbrev pub is_passive : Action → Bool

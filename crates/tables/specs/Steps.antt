@@ -1,13 +1,19 @@
 -- What a statement, a transaction and a crash do, under a relation P between the database before and after.
-use Rattle.std.specs.Prelude.{◌≡◌, ◌⊎◌, ◌^◌, ℕ, IsTrue, true, false, List, [], map, drop, nat_lt}
+use Rattle.std.specs.Prelude.{◌≡◌, ◌⊎◌, ◌^◌, ℕ, IsTrue, true, false, List, [], map, drop, nat_lt, Ok}
 use Rattle.sqlite.specs.Effect.{Database}
-use Rattle.sqlite.specs.State.{State, IsUnchanged, Shown, FailsToQuery, Shows as Sees}
+use Rattle.sqlite.specs.State.{State, Executes, IsUnchanged, Shown, FailsToQuery, Shows as Sees}
 use Rattle.sqlite.specs.declared.error.Error.{Error}
 use Rattle.sqlite.specs.Order.{Row}
 use Rattle.sqlite.specs.Table.{Table}
 use Rattle.tables.specs.Table.{Place, Lists}
 use Rattle.tables.specs.Keyed.{Stands}
 use Rattle.sqlite.specs.Tree.{Trees}
+
+-- the statement of this text went through in a transaction, over so many rows: nothing is committed
+pub record HasRun (sql : List ℕ) (params : Row) (count : ℕ) (old new : State) : Type 0 where
+  pub inside : old.in_transaction ≡ true
+  pub shown : Sees old new new.now old.committed true
+  pub ran : Executes sql params old new (Ok count)
 
 -- a statement in a transaction went through: nothing is committed, and what the transaction sees changed by P
 pub record HasStepped (P : Database → Database → Type 0) (old new : State) : Type 0 where

@@ -10,6 +10,7 @@ ghost use Rattle.tables.specs.Steps.{HasStepped, Rests, Shows};
 
 use crate::fault::TableFault;
 use crate::read::read;
+use crate::write::write;
 use sqlite::{Alter, Connection, Row, Transaction};
 
 /// Makes the table.
@@ -19,7 +20,8 @@ fn create_edition<S: Alter>(tx: &mut Transaction<'_, S>) -> Result<(), TableFaul
     ensures stepped { HasCleanDisk (state S.Store tx.new.conn.now) → OnOk result (HasStepped (Makes edition_table []) (state S.Store tx.old.conn.now) (state S.Store tx.new.conn.now)) }
     ensures kept { HasCleanDisk (state S.Store tx.new.conn.now) → KeepsCommit (state S.Store tx.old.conn.now) (state S.Store tx.new.conn.now) }
 {
-    tx.execute(
+    write(
+        tx,
         "CREATE TABLE edition (id INTEGER NOT NULL PRIMARY KEY CHECK (id = 1), number INTEGER NOT NULL) STRICT",
         &[],
     )?;
@@ -33,7 +35,7 @@ fn insert_edition<S: Alter>(tx: &mut Transaction<'_, S>) -> Result<(), TableFaul
     ensures stepped { HasCleanDisk (state S.Store tx.new.conn.now) → OnOk result (HasStepped (Adds edition_table (Int (pos 1) ∷ Int (pos 1) ∷ [])) (state S.Store tx.old.conn.now) (state S.Store tx.new.conn.now)) }
     ensures kept { HasCleanDisk (state S.Store tx.new.conn.now) → KeepsCommit (state S.Store tx.old.conn.now) (state S.Store tx.new.conn.now) }
 {
-    tx.execute("INSERT INTO edition (id, number) VALUES (1, 1)", &[])?;
+    write(tx, "INSERT INTO edition (id, number) VALUES (1, 1)", &[])?;
     Ok(())
 }
 

@@ -1,9 +1,9 @@
 //! Whether the foreign keys of a schema act where rows of a table are taken out or replaced.
 
-ghost use Rattle.std.specs.Prelude.{◌≡◌, IsTrue};
+ghost use Rattle.std.specs.Prelude.{◌≡◌, ◌↔◌, IsTrue, false};
 ghost use Rattle.std.specs.List.{list_all};
 ghost use Rattle.tables.specs.Writes.{IsInert};
-ghost use Rattle.tables.specs.Inert.{is_passive, refers_to, is_quiet, is_inert};
+ghost use Rattle.tables.specs.Inert.{is_passive, refers_to, is_quiet, is_inert, IsActedOn};
 
 use sqlite_schema::names::same_name;
 use sqlite_schema::schema::{Action, Reference, Schema, Table};
@@ -52,9 +52,10 @@ fn has_no_action(schema: &Schema, tree: u32) -> bool
 }
 
 /// Whether no reference acts where rows of this tree are taken out or replaced.
-#[tactic(auto, using(crate::proofs::Quiet::inert))]
+#[tactic(auto, using(crate::proofs::Quiet::inert, crate::proofs::Quiet::acted_on))]
 pub fn is_inert(schema: &Schema, tree: u32) -> bool
-    ensures { IsTrue result → IsInert schema.now tree }
+    ensures sound { IsTrue result → IsInert schema.now tree }
+    ensures exact { (result ≡ false) ↔ IsActedOn schema.now.tables tree }
 {
     has_no_action(schema, tree)
 }

@@ -22,3 +22,4 @@ pub mod project;
 mod read;
 pub mod student;
 pub mod supervisor;
+mod write;

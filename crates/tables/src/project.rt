@@ -10,6 +10,7 @@ ghost use Rattle.tables.specs.Steps.{HasStepped, Rests, Shows};
 
 use crate::fault::TableFault;
 use crate::read::read;
+use crate::write::write;
 use sqlite::{Alter, Connection, Row, Transaction, params};
 
 /// Makes the table.
@@ -19,7 +20,8 @@ pub fn create_project<S: Alter>(tx: &mut Transaction<'_, S>) -> Result<(), Table
     ensures stepped { HasCleanDisk (state S.Store tx.new.conn.now) → OnOk result (HasStepped (Makes project_table []) (state S.Store tx.old.conn.now) (state S.Store tx.new.conn.now)) }
     ensures kept { HasCleanDisk (state S.Store tx.new.conn.now) → KeepsCommit (state S.Store tx.old.conn.now) (state S.Store tx.new.conn.now) }
 {
-    tx.execute(
+    write(
+        tx,
         "CREATE TABLE project (code TEXT NOT NULL PRIMARY KEY, label TEXT NOT NULL, supervisor TEXT NOT NULL REFERENCES supervisor (code), quota INTEGER NOT NULL CHECK (quota BETWEEN 0 AND 500)) STRICT",
         &[],
     )?;
@@ -39,7 +41,8 @@ fn insert_project<S: Alter>(
     ensures stepped { HasCleanDisk (state S.Store tx.new.conn.now) → OnOk result (HasStepped (Adds project_table (Text code.now ∷ Text label.now ∷ Text supervisor.now ∷ Int (pos quota) ∷ [])) (state S.Store tx.old.conn.now) (state S.Store tx.new.conn.now)) }
     ensures kept { HasCleanDisk (state S.Store tx.new.conn.now) → KeepsCommit (state S.Store tx.old.conn.now) (state S.Store tx.new.conn.now) }
 {
-    tx.execute(
+    write(
+        tx,
         "INSERT INTO project (code, label, supervisor, quota) VALUES (?1, ?2, ?3, ?4)",
         params![code, label, supervisor, quota],
     )?;
@@ -59,10 +62,11 @@ fn update_project<S: Alter>(
     ensures stepped { HasCleanDisk (state S.Store tx.new.conn.now) → IfOk result (λ count. HasStepped (Replaces project_table code.now (Text code.now ∷ Text label.now ∷ Text supervisor.now ∷ Int (pos quota) ∷ []) count) (state S.Store tx.old.conn.now) (state S.Store tx.new.conn.now)) }
     ensures kept { HasCleanDisk (state S.Store tx.new.conn.now) → KeepsCommit (state S.Store tx.old.conn.now) (state S.Store tx.new.conn.now) }
 {
-    Ok(tx.execute(
+    write(
+        tx,
         "UPDATE project SET code = ?1, label = ?2, supervisor = ?3, quota = ?4 WHERE code = ?1",
         params![code, label, supervisor, quota],
-    )?)
+    )
 }
 
 /// Puts the project in: the columns of the one with this code, or a project more.
@@ -94,7 +98,7 @@ pub fn delete_project<S: Alter>(tx: &mut Transaction<'_, S>, code: &str) -> Resu
     ensures stepped { HasCleanDisk (state S.Store tx.new.conn.now) → OnOk result (HasStepped (Removes project_table code.now) (state S.Store tx.old.conn.now) (state S.Store tx.new.conn.now)) }
     ensures kept { HasCleanDisk (state S.Store tx.new.conn.now) → KeepsCommit (state S.Store tx.old.conn.now) (state S.Store tx.new.conn.now) }
 {
-    tx.execute("DELETE FROM project WHERE code = ?1", params![code])?;
+    write(tx, "DELETE FROM project WHERE code = ?1", params![code])?;
     Ok(())
 }
 

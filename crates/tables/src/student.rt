@@ -10,6 +10,7 @@ ghost use Rattle.tables.specs.Steps.{HasStepped, Rests, Shows};
 
 use crate::fault::TableFault;
 use crate::read::read;
+use crate::write::write;
 use sqlite::{Alter, Connection, Row, Transaction, params};
 
 /// Makes the table.
@@ -19,7 +20,8 @@ pub fn create_student<S: Alter>(tx: &mut Transaction<'_, S>) -> Result<(), Table
     ensures stepped { HasCleanDisk (state S.Store tx.new.conn.now) → OnOk result (HasStepped (Makes student_table []) (state S.Store tx.old.conn.now) (state S.Store tx.new.conn.now)) }
     ensures kept { HasCleanDisk (state S.Store tx.new.conn.now) → KeepsCommit (state S.Store tx.old.conn.now) (state S.Store tx.new.conn.now) }
 {
-    tx.execute(
+    write(
+        tx,
         "CREATE TABLE student (code TEXT NOT NULL PRIMARY KEY, label TEXT NOT NULL) STRICT",
         &[],
     )?;
@@ -37,7 +39,8 @@ fn insert_student<S: Alter>(
     ensures stepped { HasCleanDisk (state S.Store tx.new.conn.now) → OnOk result (HasStepped (Adds student_table (Text code.now ∷ Text label.now ∷ [])) (state S.Store tx.old.conn.now) (state S.Store tx.new.conn.now)) }
     ensures kept { HasCleanDisk (state S.Store tx.new.conn.now) → KeepsCommit (state S.Store tx.old.conn.now) (state S.Store tx.new.conn.now) }
 {
-    tx.execute(
+    write(
+        tx,
         "INSERT INTO student (code, label) VALUES (?1, ?2)",
         params![code, label],
     )?;
@@ -55,10 +58,11 @@ fn update_student<S: Alter>(
     ensures stepped { HasCleanDisk (state S.Store tx.new.conn.now) → IfOk result (λ count. HasStepped (Replaces student_table code.now (Text code.now ∷ Text label.now ∷ []) count) (state S.Store tx.old.conn.now) (state S.Store tx.new.conn.now)) }
     ensures kept { HasCleanDisk (state S.Store tx.new.conn.now) → KeepsCommit (state S.Store tx.old.conn.now) (state S.Store tx.new.conn.now) }
 {
-    Ok(tx.execute(
+    write(
+        tx,
         "UPDATE student SET code = ?1, label = ?2 WHERE code = ?1",
         params![code, label],
-    )?)
+    )
 }
 
 /// Puts the student in: the label of the one with this code, or a student more.
@@ -88,7 +92,7 @@ pub fn delete_student<S: Alter>(tx: &mut Transaction<'_, S>, code: &str) -> Resu
     ensures stepped { HasCleanDisk (state S.Store tx.new.conn.now) → OnOk result (HasStepped (Removes student_table code.now) (state S.Store tx.old.conn.now) (state S.Store tx.new.conn.now)) }
     ensures kept { HasCleanDisk (state S.Store tx.new.conn.now) → KeepsCommit (state S.Store tx.old.conn.now) (state S.Store tx.new.conn.now) }
 {
-    tx.execute("DELETE FROM student WHERE code = ?1", params![code])?;
+    write(tx, "DELETE FROM student WHERE code = ?1", params![code])?;
     Ok(())
 }
 

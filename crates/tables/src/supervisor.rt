@@ -10,6 +10,7 @@ ghost use Rattle.tables.specs.Steps.{HasStepped, Rests, Shows};
 
 use crate::fault::TableFault;
 use crate::read::read;
+use crate::write::write;
 use sqlite::{Alter, Connection, Row, Transaction, params};
 
 /// Makes the table.
@@ -19,7 +20,8 @@ pub fn create_supervisor<S: Alter>(tx: &mut Transaction<'_, S>) -> Result<(), Ta
     ensures stepped { HasCleanDisk (state S.Store tx.new.conn.now) → OnOk result (HasStepped (Makes supervisor_table []) (state S.Store tx.old.conn.now) (state S.Store tx.new.conn.now)) }
     ensures kept { HasCleanDisk (state S.Store tx.new.conn.now) → KeepsCommit (state S.Store tx.old.conn.now) (state S.Store tx.new.conn.now) }
 {
-    tx.execute(
+    write(
+        tx,
         "CREATE TABLE supervisor (code TEXT NOT NULL PRIMARY KEY, label TEXT NOT NULL, quota INTEGER NOT NULL CHECK (quota BETWEEN 0 AND 500)) STRICT",
         &[],
     )?;
@@ -38,7 +40,8 @@ fn insert_supervisor<S: Alter>(
     ensures stepped { HasCleanDisk (state S.Store tx.new.conn.now) → OnOk result (HasStepped (Adds supervisor_table (Text code.now ∷ Text label.now ∷ Int (pos quota) ∷ [])) (state S.Store tx.old.conn.now) (state S.Store tx.new.conn.now)) }
     ensures kept { HasCleanDisk (state S.Store tx.new.conn.now) → KeepsCommit (state S.Store tx.old.conn.now) (state S.Store tx.new.conn.now) }
 {
-    tx.execute(
+    write(
+        tx,
         "INSERT INTO supervisor (code, label, quota) VALUES (?1, ?2, ?3)",
         params![code, label, quota],
     )?;
@@ -57,10 +60,11 @@ fn update_supervisor<S: Alter>(
     ensures stepped { HasCleanDisk (state S.Store tx.new.conn.now) → IfOk result (λ count. HasStepped (Replaces supervisor_table code.now (Text code.now ∷ Text label.now ∷ Int (pos quota) ∷ []) count) (state S.Store tx.old.conn.now) (state S.Store tx.new.conn.now)) }
     ensures kept { HasCleanDisk (state S.Store tx.new.conn.now) → KeepsCommit (state S.Store tx.old.conn.now) (state S.Store tx.new.conn.now) }
 {
-    Ok(tx.execute(
+    write(
+        tx,
         "UPDATE supervisor SET code = ?1, label = ?2, quota = ?3 WHERE code = ?1",
         params![code, label, quota],
-    )?)
+    )
 }
 
 /// Puts the supervisor in: the columns of the one with this code, or a supervisor more.
@@ -94,7 +98,7 @@ pub fn delete_supervisor<S: Alter>(
     ensures stepped { HasCleanDisk (state S.Store tx.new.conn.now) → OnOk result (HasStepped (Removes supervisor_table code.now) (state S.Store tx.old.conn.now) (state S.Store tx.new.conn.now)) }
     ensures kept { HasCleanDisk (state S.Store tx.new.conn.now) → KeepsCommit (state S.Store tx.old.conn.now) (state S.Store tx.new.conn.now) }
 {
-    tx.execute("DELETE FROM supervisor WHERE code = ?1", params![code])?;
+    write(tx, "DELETE FROM supervisor WHERE code = ?1", params![code])?;
     Ok(())
 }
 

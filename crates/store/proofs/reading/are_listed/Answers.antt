@@ -1,22 +1,22 @@
-use Rattle.std.proofs.Common.{refl}
-use Rattle.store.specs.declared.roll.Roll.TheVariants.{Supervisors, Projects, Students}
-use Rattle.store.proofs.Judging.{no_edition, no_roll, listed_right, listed_wrong}
+use Rattle.std.proofs.Common.{◌≡◌, length, refl, arith}
+use Rattle.store.specs.Rows.{rolls}
+use Rattle.store.specs.Reading.{IsListedAlone}
+use Rattle.store.proofs.Judging.{no_edition, so_far, of_each, listed_right, listed_each}
 use Rattle.store.proofs.reading.are_listed.Goals as goal
 
 pub returns-in_default-clause-wrong : goal.returns-in_default-clause-wrong
 returns-in_default-clause-wrong c h = no_edition _ (c.in_default.ensures.none refl)
 
-pub returns-in_default-supervisor_tree-clause-wrong : goal.returns-in_default-supervisor_tree-clause-wrong
-returns-in_default-supervisor_tree-clause-wrong c h = no_roll Supervisors _ (c.in_default-supervisor_tree.ensures.none refl)
+pub loop-roll-init : goal.loop-roll-init
+loop-roll-init c roll h = absurd h
 
-pub returns-in_default-project_tree-clause-wrong : goal.returns-in_default-project_tree-clause-wrong
-returns-in_default-project_tree-clause-wrong c h = no_roll Projects _ (c.in_default-project_tree.ensures.none refl)
+pub loop-roll-preserved : goal.loop-roll-preserved
+loop-roll-preserved c = so_far (IsListedAlone c.in-Some.edition c.args.schema.now) c.loop-roll.roll-index _ c.loop-roll-test.true c.loop-roll.invariant (c.is_listed.ensures.right c.if-not-is_listed.false)
 
-pub returns-in_default-student_tree-clause-wrong : goal.returns-in_default-student_tree-clause-wrong
-returns-in_default-student_tree-clause-wrong c h = no_roll Students _ (c.in_default-student_tree.ensures.none refl)
+pub returns-then-not-is_listed-clause-wrong : goal.returns-then-not-is_listed-clause-wrong
+returns-then-not-is_listed-clause-wrong c h listed = c.is_listed.ensures.wrong c.if-not-is_listed.true (listed_each c.args.schema.now c.in-Some.edition c.in-Some.ensures.some listed _)
 
 pub returns-clause-right : goal.returns-clause-right
-returns-clause-right c h = listed_right _ _ _ _ _ c.in-Some.ensures.some c.in-Some-supervisor_tree.ensures.some c.in-Some-project_tree.ensures.some c.in-Some-student_tree.ensures.some (c.are_apart.ensures.right h)
-
-pub returns-clause-wrong : goal.returns-clause-wrong
-returns-clause-wrong c h = listed_wrong _ _ _ _ _ c.in-Some.ensures.some c.in-Some-supervisor_tree.ensures.some c.in-Some-project_tree.ensures.some c.in-Some-student_tree.ensures.some (c.are_apart.ensures.wrong h)
+returns-clause-right c h =
+    let end : c.loop-roll.roll-index ≡ length rolls = omega arith in
+    listed_right c.args.schema.now c.in-Some.edition c.in-Some.ensures.some (of_each (IsListedAlone c.in-Some.edition c.args.schema.now) c.loop-roll.roll-index end c.loop-roll.invariant)

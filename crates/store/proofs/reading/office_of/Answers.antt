@@ -1,4 +1,4 @@
-use Rattle.std.proofs.Common.{◌≡◌, ◌≢◌, Err, List, map, drop, sym, ap, subst, ◌∙◌, arith, rules}
+use Rattle.std.proofs.Common.{◌≡◌, ◌≢◌, Err, List, map, drop, ap, subst, ◌∙◌, arith, rules}
 use Rattle.sqlite.specs.Order.{Row as Cells}
 use Rattle.sqlite.specs.State.{HasCleanDisk}
 use Rattle.sqlite.specs.Held.{state}
@@ -7,7 +7,6 @@ use Rattle.store.specs.declared.fault.StoreFault.TheVariants.{Damaged}
 use Rattle.store.specs.Faults.{of_rows}
 use Rattle.store.specs.Tables.{first_edition}
 use Rattle.store.specs.Reading.{AreListed}
-use Rattle.store.specs.Rows.{columns_of}
 use Rattle.store.proofs.Gathering.{none_back, holds_back, unchanged_then}
 use Rattle.store.proofs.Judged.{other_edition, unread, unfit, stood, refused}
 use Rattle.store.proofs.reading.office_of.Goals as goal

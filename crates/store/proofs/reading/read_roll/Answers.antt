@@ -1,5 +1,4 @@
-use Rattle.std.proofs.Common.{◌≡◌, sym, subst}
-use Rattle.sqlite.specs.Held.{state}
+use Rattle.std.proofs.Common.{subst}
 use Rattle.sqlite_rules.specs.Lists.{Has}
 use Rattle.store.proofs.Judging.{holds_none}
 use Rattle.store.proofs.reading.read_roll.Goals as goal

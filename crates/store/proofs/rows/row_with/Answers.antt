@@ -1,6 +1,6 @@
-use Rattle.std.proofs.Common.{◌≡◌, ◌+◌, refl, sym, ap, ◌∙◌}
+use Rattle.std.proofs.Common.{◌+◌, refl, sym, ap, ◌∙◌}
 use Rattle.store.specs.Rows.{width_of}
-use Rattle.store.proofs.Cells.{two_after, three_after, four_after}
+use Rattle.store.proofs.Cells.{four_after}
 use Rattle.store.proofs.rows.row_with.Goals as goal
 
 pub returns-in_ok-quota-in-Projects-clause-row : goal.returns-in_ok-quota-in-Projects-clause-row

@@ -1,4 +1,4 @@
-use Rattle.std.proofs.Common.{◌≡◌, Err, arith, rules}
+use Rattle.std.proofs.Common.{◌≡◌, Err, rules}
 use Rattle.store.specs.declared.fault.StoreFault.TheVariants.{Damaged}
 use Rattle.store.proofs.Cells.{has_at}
 use Rattle.store.proofs.rows.rows_with.Goals as goal

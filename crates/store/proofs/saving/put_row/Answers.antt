@@ -1,5 +1,4 @@
 use Rattle.std.proofs.Common.{refl}
-use Rattle.sqlite.specs.Held.{state}
 use Rattle.store.specs.declared.roll.Roll.TheVariants.{Supervisors, Projects, Students}
 use Rattle.store.proofs.Holding.{hold_put}
 use Rattle.store.proofs.Applying.{as_step}

@@ -1,5 +1,4 @@
 use Rattle.std.proofs.Common.{subst}
-use Rattle.sqlite.specs.Held.{state}
 use Rattle.sqlite.proofs.StateLemmas.{survives_weaker}
 use Rattle.store.specs.Tables.{HasNone}
 use Rattle.store.proofs.Making.{opens_new, founds_left}

@@ -1,0 +1,25 @@
+//! One statement in a transaction.
+
+ghost use Rattle.std.specs.Prelude.{◌≡◌, IfOk};
+ghost use Rattle.sqlite.specs.State.{HasCleanDisk, KeepsCommit, Survives};
+ghost use Rattle.sqlite.specs.Values.{bound};
+ghost use Rattle.sqlite.specs.Held.{state};
+ghost use Rattle.tables.specs.Steps.{HasRun};
+
+use crate::fault::TableFault;
+use sqlite::{Alter, Transaction};
+use sqlite_value::value::ValueRef;
+
+/// Runs a statement with these parameters, and tells how many rows it wrote.
+pub(crate) fn write<S: Alter>(
+    tx: &mut Transaction<'_, S>,
+    sql: &str,
+    params: &[ValueRef<'_>],
+) -> Result<usize, TableFault>
+    ensures same_reference { tx.new.conn.ghost_name ≡ tx.old.conn.ghost_name }
+    ensures survives { Survives (state S.Store tx.old.conn.now) (state S.Store tx.new.conn.now) (λ _. ⊥) }
+    ensures ran { HasCleanDisk (state S.Store tx.new.conn.now) → IfOk result (λ count. HasRun sql.now (bound params.now) count (state S.Store tx.old.conn.now) (state S.Store tx.new.conn.now)) }
+    ensures kept { HasCleanDisk (state S.Store tx.new.conn.now) → KeepsCommit (state S.Store tx.old.conn.now) (state S.Store tx.new.conn.now) }
+{
+    Ok(tx.execute(sql, params)?)
+}
