@@ -148,26 +148,76 @@ fn ranked(alloc: Global, projects: &[usize]) -> Result<Vec<(usize, Lex)>, Fail> 
     Ok(list)
 }
 
-// One supervisor with quota 5 offers P and Q with quota 1 and Z with quota 0; A lists P, Q, and then C lists Z, P. By hand:
-// 7 times 11 and 8 times 14 relaxations at most.
+/// What an admission answered, the relaxations since the start, and the rank of each student after it, from 1, or 0.
+#[derive(Drop)]
+struct Shown {
+    placed: bool,
+    relaxations: u64,
+    steps: u64,
+    ranks: Vec<usize>,
+}
+
+/// Admits a student, and shows what came of it.
+fn show(
+    alloc: Global,
+    rt: &impl Abort,
+    trial: &mut Trial,
+    projects: &[usize],
+) -> Result<Shown, Fail> {
+    let admitted = trial.admit(rt, alloc, projects)?;
+    let mut ranks = Vec::new(alloc);
+    for student in 0..trial.students {
+        ranks.push(trial.rank_of(rt, student))?;
+    }
+    Ok(Shown {
+        placed: admitted.placed,
+        relaxations: admitted.relaxations,
+        steps: trial.network.steps(),
+        ranks,
+    })
+}
+
+/// Admits a student with each list in turn, and shows what came of each.
+fn show_all(
+    alloc: Global,
+    rt: &impl Abort,
+    trial: &mut Trial,
+    lists: &[&[usize]],
+) -> Result<Vec<Shown>, Fail> {
+    let mut all = Vec::new(alloc);
+    for list in lists {
+        all.push(show(alloc, rt, trial, list)?)?;
+    }
+    Ok(all)
+}
+
+/// Asserts that each admission was counted, by 7 times 11 and 8 times 14 relaxations at most, and at which ranks.
+fn are_counted(rt: &impl Abort, all: &[Shown]) {
+    match all {
+        [first, second] => {
+            assert!(rt; first.placed && 0 < first.relaxations && first.relaxations <= 77);
+            assert_eq!(rt; first.steps, first.relaxations);
+            assert!(rt; first.ranks.as_slice() == [1].as_slice());
+            assert!(rt; second.placed && 0 < second.relaxations && second.relaxations <= 112);
+            assert_eq!(rt; second.steps, first.steps.wrapping_add(second.relaxations));
+            assert!(rt; second.ranks.as_slice() == [2, 2].as_slice());
+        }
+        _ => assert!(rt; false, "{} admissions", all.len()),
+    }
+}
+
+/// One supervisor with quota 5 offers P and Q with quota 1 and Z with quota 0.
+fn worked(alloc: Global, rt: &impl Abort) -> Result<Trial, Fail> {
+    Trial::start(rt, alloc, &[5], &[(0, 1), (0, 1), (0, 0)])
+}
+
+// A lists P, Q, and then C lists Z, P.
 #[test]
 fn admissions_are_counted(rt: HostRuntime) -> Result<(), Fail> {
-    let alloc = rt.alloc();
-    let mut trial = Trial::start(&rt, alloc, &[5], &[(0, 1), (0, 1), (0, 0)])?;
+    let mut trial = worked(rt.alloc(), &rt)?;
     assert_eq!(rt; trial.network.steps(), 0);
-    let first = trial.admit(&rt, alloc, &[0, 1])?;
-    assert!(rt; first.placed && 0 < first.relaxations && first.relaxations <= 77);
-    assert_eq!(rt; trial.network.steps(), first.relaxations);
-    assert_eq!(rt; trial.rank_of(&rt, 0), 1);
-    let second = trial.admit(&rt, alloc, &[2, 0])?;
-    assert!(rt; second.placed && 0 < second.relaxations && second.relaxations <= 112);
-    assert!(rt; first.relaxations < trial.network.steps());
-    assert_eq!(rt;
-        trial.network.steps() - first.relaxations,
-        second.relaxations
-    );
-    assert_eq!(rt; trial.rank_of(&rt, 0), 2);
-    assert_eq!(rt; trial.rank_of(&rt, 1), 2);
+    let all = show_all(rt.alloc(), &rt, &mut trial, &[&[0, 1], &[2, 0]])?;
+    are_counted(&rt, &all);
     Ok(())
 }
 
@@ -189,22 +239,28 @@ fn pairs() -> [Pair; 8] {
     ]
 }
 
-/// Compares how many of each row are placed, and at which ranks.
+/// Compares how many of a row are placed, and at which ranks.
+fn compare_pair(rt: &impl Abort, all: &[Shown], quota: u32, placed: usize, ranks: usize) {
+    match all {
+        [first, second] => match second.ranks.as_slice() {
+            [a, b] => {
+                assert_eq!(rt; first.placed, quota > 0);
+                assert_eq!(rt; second.placed, *b > 0);
+                assert_eq!(rt; (*a).min(1).saturating_add((*b).min(1)), placed);
+                assert_eq!(rt; (*a).saturating_add(*b), ranks);
+            }
+            _ => assert!(rt; false, "two ranks"),
+        },
+        _ => assert!(rt; false, "two admissions"),
+    }
+}
+
+/// The same of each row.
 fn compare_pairs(alloc: Global, rt: &impl Abort, rows: &[Pair]) -> Result<(), Fail> {
     for (quota, p, q, a, b, placed, ranks) in rows {
         let mut trial = Trial::start(rt, alloc, &[*quota], &[(0, *p), (0, *q)])?;
-        let first = trial.admit(rt, alloc, a.as_slice())?;
-        let second = trial.admit(rt, alloc, b.as_slice())?;
-        let rank_a = trial.rank_of(rt, 0);
-        let rank_b = trial.rank_of(rt, 1);
-        assert_eq!(rt; first.placed, *quota > 0);
-        assert_eq!(rt; second.placed, rank_b > 0);
-        assert_eq!(rt;
-            rank_a.min(1).saturating_add(rank_b.min(1)),
-            *placed,
-            "{quota} {p} {q}"
-        );
-        assert_eq!(rt; rank_a.saturating_add(rank_b), *ranks, "{quota} {p} {q}");
+        let all = show_all(alloc, rt, &mut trial, &[a.as_slice(), b.as_slice()])?;
+        compare_pair(rt, &all, *quota, *placed, *ranks);
     }
     Ok(())
 }
@@ -214,20 +270,26 @@ fn quotas_are_kept(rt: HostRuntime) -> Result<(), Fail> {
     compare_pairs(rt.alloc(), &rt, pairs().as_slice())
 }
 
+/// Asserts that the first student made room for the second, and that there was none for the third.
+fn made_room(rt: &impl Abort, all: &[Shown]) {
+    match all {
+        [first, second, third] => {
+            assert!(rt; first.ranks.as_slice() == [1].as_slice());
+            assert!(rt; second.placed && second.ranks.as_slice() == [2, 1].as_slice());
+            assert!(rt; !third.placed && 0 < third.relaxations);
+            assert!(rt; third.ranks.last() == Some(&0));
+        }
+        _ => assert!(rt; false, "three admissions"),
+    }
+}
+
 // L and M have quota 1; L offers P and Q, M offers R. A lists P, R; B lists Q alone, so A makes room at R.
 #[test]
 fn a_student_makes_room_with_the_supervisor(rt: HostRuntime) -> Result<(), Fail> {
     let alloc = rt.alloc();
     let mut trial = Trial::start(&rt, alloc, &[1, 1], &[(0, 1), (0, 1), (1, 1)])?;
-    trial.admit(&rt, alloc, &[0, 2])?;
-    assert_eq!(rt; trial.rank_of(&rt, 0), 1);
-    let second = trial.admit(&rt, alloc, &[1])?;
-    assert!(rt; second.placed);
-    assert_eq!(rt; trial.rank_of(&rt, 0), 2);
-    assert_eq!(rt; trial.rank_of(&rt, 1), 1);
-    let third = trial.admit(&rt, alloc, &[0, 1, 2])?;
-    assert!(rt; !third.placed && 0 < third.relaxations);
-    assert_eq!(rt; trial.rank_of(&rt, 2), 0);
+    let all = show_all(alloc, &rt, &mut trial, &[&[0, 2], &[1], &[0, 1, 2]])?;
+    made_room(&rt, &all);
     Ok(())
 }
 
@@ -240,12 +302,8 @@ fn paid(prices: &[Lex], quotas: &[i64]) -> i64 {
     sum
 }
 
-#[test]
-fn prices_pay_for_the_places(rt: HostRuntime) -> Result<(), Fail> {
-    let alloc = rt.alloc();
-    let mut trial = Trial::start(&rt, alloc, &[5], &[(0, 1), (0, 1), (0, 0)])?;
-    trial.admit(&rt, alloc, &[0, 1])?;
-    trial.admit(&rt, alloc, &[2, 0])?;
+/// Asserts that the prices pay for two places in all.
+fn pay_for_two(rt: &impl Abort, trial: &Trial) -> Result<(), Fail> {
     let (students, projects, supervisors) = trial.network.prices()?;
     assert_eq!(rt;
         (students.len(), projects.len(), supervisors.len()),
@@ -256,4 +314,11 @@ fn prices_pay_for_the_places(rt: HostRuntime) -> Result<(), Fail> {
         .wrapping_add(paid(&supervisors, &[5]));
     assert_eq!(rt; sum, 2);
     Ok(())
+}
+
+#[test]
+fn prices_pay_for_the_places(rt: HostRuntime) -> Result<(), Fail> {
+    let mut trial = worked(rt.alloc(), &rt)?;
+    show_all(rt.alloc(), &rt, &mut trial, &[&[0, 1], &[2, 0]])?;
+    pay_for_two(&rt, &trial)
 }

@@ -1,7 +1,7 @@
 //! Instances, matchings and profiles, worked out by hand.
 
 use crate::rolls_of::{instance, places, projects, students, supervisors};
-use spa::{Instance, InstanceFault, MatchFault, RANKS, Roll, profile};
+use spa::{Code, Instance, InstanceFault, MatchFault, RANKS, Roll, profile};
 use std::alloc::Global;
 use std::process::Abort;
 use std::rt::HostRuntime;
@@ -81,27 +81,40 @@ fn the_first_fault_of_rolls_is_named(rt: HostRuntime) -> Result<(), Fail> {
     compare_faults(rt.alloc(), &rt, faults().as_slice())
 }
 
+/// Compares how many codes there are, and each of them.
+fn compare_codes(rt: &impl Abort, codes: &[Code], want: &[&str]) {
+    assert_eq!(rt; codes.len(), want.len());
+    for (code, want) in codes.iter().zip(want.iter()) {
+        assert_eq!(rt; code.as_str(), *want);
+    }
+}
+
+#[test]
+fn an_instance_lends_its_codes(rt: HostRuntime) -> Result<(), Fail> {
+    let instance = instance(rt.alloc(), "L:5 K:1", "P:L:1 Q:K:2 Z:L:0", "A:P:Q C:Z:P")?;
+    compare_codes(&rt, instance.supervisor_codes(), &["L", "K"]);
+    compare_codes(&rt, instance.project_codes(), &["P", "Q", "Z"]);
+    compare_codes(&rt, instance.student_codes(), &["A", "C"]);
+    Ok(())
+}
+
+/// Compares each list with the wanted one.
+fn compare_lists(rt: &impl Abort, lists: &[Vec<usize>], want: &[[usize; 2]]) {
+    assert_eq!(rt; lists.len(), want.len());
+    for (list, want) in lists.iter().zip(want.iter()) {
+        assert!(rt; list.as_slice() == want.as_slice());
+    }
+}
+
 #[test]
 fn an_instance_lends_its_rolls(rt: HostRuntime) -> Result<(), Fail> {
-    let alloc = rt.alloc();
-    let instance = instance(alloc, "L:5 K:1", "P:L:1 Q:K:2 Z:L:0", "A:P:Q C:Z:P")?;
+    let instance = instance(rt.alloc(), "L:5 K:1", "P:L:1 Q:K:2 Z:L:0", "A:P:Q C:Z:P")?;
     assert_eq!(rt; instance.supervisor_count(), 2);
     assert_eq!(rt; instance.project_count(), 3);
     assert_eq!(rt; instance.student_count(), 2);
     assert!(rt; instance.supervisors() == [5, 1].as_slice());
     assert!(rt; instance.projects() == [(0, 1), (1, 2), (0, 0)].as_slice());
-    for (code, want) in instance.project_codes().iter().zip(["P", "Q", "Z"]) {
-        assert_eq!(rt; code.as_str(), want);
-    }
-    for (code, want) in instance.supervisor_codes().iter().zip(["L", "K"]) {
-        assert_eq!(rt; code.as_str(), want);
-    }
-    for (code, want) in instance.student_codes().iter().zip(["A", "C"]) {
-        assert_eq!(rt; code.as_str(), want);
-    }
-    for (list, want) in instance.students().iter().zip([[0, 1], [2, 0]]) {
-        assert!(rt; list.as_slice() == want.as_slice());
-    }
+    compare_lists(&rt, instance.students(), &[[0, 1], [2, 0]]);
     Ok(())
 }
 

@@ -123,22 +123,33 @@ fn are_pipes(rt: &impl Abort, done: &Done) {
     }
 }
 
+/// Reads P, which is as it was put last.
+fn reads_pipes(alloc: Global, rt: &impl Abort, office: &mut Office) -> Result<(), Fail> {
+    let code = String::from_str(alloc, "P")?;
+    match office.apply(Plain::GetProject { code }) {
+        Ok(done) => are_pipes(rt, &done),
+        Err(refusal) => assert!(rt; false, "refused {}", refusal.number()),
+    }
+    Ok(())
+}
+
+/// Reads S9, who is not on the roll.
+fn reads_nobody(alloc: Global, rt: &impl Abort, office: &mut Office) -> Result<(), Fail> {
+    let code = String::from_str(alloc, "S9")?;
+    match office.apply(Plain::GetStudent { code }) {
+        Ok(_done) => assert!(rt; false, "S9 is not on the roll"),
+        Err(refusal) => assert!(rt; refusal == Refusal::UnknownStudent),
+    }
+    Ok(())
+}
+
 #[test]
 fn entries_are_read_as_they_were_put(rt: HostRuntime) -> Result<(), Fail> {
     let mut office = Office::new(rt.alloc());
     ask_all(rt.alloc(), &rt, &mut office, puts().as_slice())?;
     let mut copy = office.copy()?;
-    let code = String::from_str(rt.alloc(), "P")?;
-    match copy.apply(Plain::GetProject { code }) {
-        Ok(done) => are_pipes(&rt, &done),
-        Err(refusal) => assert!(rt; false, "refused {}", refusal.number()),
-    }
-    let code = String::from_str(rt.alloc(), "S9")?;
-    match copy.apply(Plain::GetStudent { code }) {
-        Ok(_done) => assert!(rt; false, "S9 is not on the roll"),
-        Err(refusal) => assert!(rt; refusal == Refusal::UnknownStudent),
-    }
-    Ok(())
+    reads_pipes(rt.alloc(), &rt, &mut copy)?;
+    reads_nobody(rt.alloc(), &rt, &mut copy)
 }
 
 /// The row of what is put.
