@@ -1,6 +1,5 @@
 -- Changes that turn the rows of one office into those of the next, saved: the tables stand for the next one.
-use Rattle.std.proofs.Common.{◌≡◌, ◌⊎◌, inl, inr, ◌≤◌, ℕ, false, true, List, Option, Some, None, IsTrue, refl, sym, ap, subst, ◌∙◌, arith}
-use Rattle.std.specs.Prelude.{Ok, Err}
+use Rattle.std.proofs.Common.{◌≡◌, ◌⊎◌, inl, inr, true, List, Option, refl, sym, subst, ◌∙◌, arith}
 use Rattle.sqlite.specs.Effect.{Database}
 use Rattle.sqlite.specs.State.{State as Seen, HasCleanDisk, Survives}
 use Rattle.sqlite.specs.Tree.{Trees}
@@ -13,9 +12,7 @@ use Rattle.rolls.specs.State.{State}
 use Rattle.rolls.specs.Rows.{row_of, after_changes, Turns}
 use Rattle.rolls.specs.Asked.{Put, Plain, is_read, PutSupervisor, PutProject, PutStudent, GetSupervisor, GetProject, GetStudent}
 use Rattle.rolls.specs.Answers.{IsDone}
-use Rattle.rolls.specs.Run.{Step}
 use Rattle.rolls.specs.Stepping.{after_put}
-use Rattle.store.specs.Rows.{AreRowsAt}
 use Rattle.store.specs.Tables.{TablesHold, StandsFor, Opens}
 use Rattle.store.specs.Saving.{Saves}
 use Rattle.desk.specs.Keeping.{Keeps, Leads}

@@ -1,16 +1,16 @@
 -- What a desk keeps between requests, and what a crash leaves of one.
-use Rattle.std.specs.Prelude.{◌≡◌, ◌⊎◌, IsTrue, Bool, false, true, is_some, Option, Some, None, Err, Ok, ◌||◌}
+use Rattle.std.specs.Prelude.{◌≡◌, IsTrue, Bool, false, is_some, Ok, ◌||◌}
 use Rattle.sqlite.specs.Effect.{Database}
 use Rattle.sqlite.specs.State.{State as Seen, HasCleanDisk}
 use Rattle.sqlite.specs.Held.{state}
 use Rattle.sqlite_trees.specs.declared.store.Store.{Ghosts}
 use Rattle.rolls.specs.declared.request.Reply.{Reply}
-use Rattle.rolls.specs.State.{State, empty}
+use Rattle.rolls.specs.State.{State}
 use Rattle.rolls.specs.Asked.{Asked, Plain, is_read}
 use Rattle.rolls.specs.Refusing.{refusal}
 use Rattle.rolls.specs.Run.{Step}
 use Rattle.desk.specs.Kept.{Kept}
-use Rattle.store.specs.Tables.{StandsFor, HasNone, LeavesAlone}
+use Rattle.store.specs.Tables.{StandsFor}
 
 -- The tables stand for the office. Where a fault of the disk has shut the connection it shows no tables, and
 -- only what a crash leaves is known.

@@ -1,12 +1,12 @@
 //! The desk.
 
-ghost use Rattle.std.specs.Prelude.{◌≡◌, ◌≢◌, ◌⊎◌, Err, IfOk, IfErr, IfSome, OnOk, OnErr, map, false, true};
+ghost use Rattle.std.specs.Prelude.{◌≡◌, ◌≢◌, ◌⊎◌, Err, IfOk, IfErr, IsErr, IfSome, OnOk, OnErr, map, false, true};
 ghost use Rattle.sqlite.specs.State.{HasCleanDisk, Survives};
 ghost use Rattle.sqlite.specs.Held.{state};
 ghost use Rattle.tables.specs.Steps.{IsKept, IsLeft};
 ghost use Rattle.rolls.specs.Answers.{Answers, IsDone};
 ghost use Rattle.rolls.specs.Rows.{Turns};
-ghost use Rattle.store.specs.Saving.{Saves};
+ghost use Rattle.store.specs.Saving.{AreActedOn, Saves};
 ghost use Rattle.rolls.specs.Asked.{asked_of, put_of, is_read, Plain as ThePlain};
 ghost use Rattle.rolls.specs.Refusing.{refusal};
 ghost use Rattle.rolls.specs.Run.{Step, Run};
@@ -131,6 +131,9 @@ impl<S: Alter> Desk<S> {
         // answered change the tables after it alone.
         ensures crash { Survives (state S.Store self.old.store) (state S.Store self.new.store) (IsLeft (Leads self.old.office (asked_of request)) (state S.Store self.old.store).now) }
         ensures alone { only_reads (asked_of request) ≡ false → HasCleanDisk (state S.Store self.new.store) → OnOk result (LeavesAlone (state S.Store self.new.store)) }
+
+        // Where a foreign key would write other rows too, no change is made.
+        ensures acted_on { only_reads (asked_of request) ≡ false → AreActedOn (state S.Store self.old.store).now.schema → IsErr result }
     {
         if let Some(refusal) = self.office.refusal_of(&request) {
             return Err(refusal);
@@ -166,6 +169,7 @@ impl<S: Alter> Desk<S> {
         ensures tables { Keeps (state S.Store self.new.store) self.new.office }
         ensures crash { Survives (state S.Store self.old.store) (state S.Store self.new.store) (IsLeft (Leads self.old.office (ThePlain (put_of plain))) (state S.Store self.old.store).now) }
         ensures alone { HasCleanDisk (state S.Store self.new.store) → OnOk result (LeavesAlone (state S.Store self.new.store)) }
+        ensures acted_on { AreActedOn (state S.Store self.old.store).now.schema → IsErr result }
     {
         let mut next = self.office.copy()?;
         match next.apply(plain) {
@@ -182,6 +186,7 @@ impl<S: Alter> Desk<S> {
         ensures tables { Keeps (state S.Store self.new.store) self.new.office }
         ensures crash { let changes = done.changes in Survives (state S.Store self.old.store) (state S.Store self.new.store) (IsLeft (Saves changes.items) (state S.Store self.old.store).now) }
         ensures alone { HasCleanDisk (state S.Store self.new.store) → OnOk result (LeavesAlone (state S.Store self.new.store)) }
+        ensures acted_on { AreActedOn (state S.Store self.old.store).now.schema → IsErr result }
     {
         match self.store.save(&done.changes) {
             Ok(()) => {

@@ -1,4 +1,4 @@
-use Rattle.std.proofs.Common.{rules, ◌≡◌, List, [], ◌∷◌, ◌++◌, map, length, arith, refl, sym, subst, Result, append-nil}
+use Rattle.std.proofs.Common.{rules, ◌≡◌, List, [], ◌∷◌, map, length, arith, refl, sym, subst, Result, append-nil}
 use Rattle.rolls.specs.declared.request.Reply.{Reply}
 use Rattle.rolls.specs.declared.refusal.Refusal.{Refusal}
 use Rattle.rolls.specs.declared.request.Request.{Request}

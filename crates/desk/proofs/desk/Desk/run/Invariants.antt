@@ -1,4 +1,4 @@
-use Rattle.std.proofs.Common.{◌≡◌, List, ◌++◌, map, ◌+◌, ◌≤◌, length, vec_len, Result}
+use Rattle.std.proofs.Common.{List, ◌++◌, map, ◌+◌, ◌≤◌, length, vec_len, Result}
 use Rattle.std.specs.Vec.{vec_capacity}
 use Rattle.sqlite.specs.Held.{state}
 use Rattle.rolls.specs.declared.request.Reply.{Reply}
