@@ -89,7 +89,7 @@ fn gains<G: Worth>(flow: &Flow<G>, student: usize, count: &mut u64) -> bool
 }
 
 /// The student who was added last finds a place, or none; where no entry is worth more than it costs, there is no search.
-pub fn place_new<G: Worth>(
+pub(crate) fn place_new<G: Worth>(
     flow: &mut Flow<G>,
     kept: &mut Kept,
     fresh: usize,

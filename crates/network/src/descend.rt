@@ -19,7 +19,7 @@ fn lower_one<G: Worth>(potentials: &mut [G], labels: &Labels<G>, top: G, node: u
 }
 
 /// The potentials of the settled nodes fall.
-pub fn lower<G: Worth>(potentials: &mut [G], labels: &Labels<G>, top: G)
+pub(crate) fn lower<G: Worth>(potentials: &mut [G], labels: &Labels<G>, top: G)
     requires kept { AreLabels G.ops labels.now }
     requires marks { length labels.now.marks.items ≡ length potentials.old }
     requires labels { (v : ℕ) → G.ops.span (mark_at G.ops labels.now.marks.items v).label ≤ 2 ^ 20 }

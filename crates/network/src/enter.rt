@@ -27,7 +27,7 @@ pub struct Admitted {
 }
 
 /// Room for one more student.
-pub fn grow<G: Worth>(flow: &mut Flow<G>) -> Result<(), AllocError>
+pub(crate) fn grow<G: Worth>(flow: &mut Flow<G>) -> Result<(), AllocError>
     ensures lists { flow.new.lists.items ≡ flow.old.lists.items }
     ensures places { flow.new.places.items ≡ flow.old.places.items }
     ensures rest { flow.new ≡ record flow.old { lists = flow.new.lists; places = flow.new.places } }
@@ -62,7 +62,7 @@ fn has_place<G: Worth>(flow: &Flow<G>, student: usize) -> bool
 }
 
 /// The student is added and finds a place, or none.
-pub fn enter<G: Worth>(
+pub(crate) fn enter<G: Worth>(
     flow: &mut Flow<G>,
     kept: &mut Kept,
     row: Vec<(usize, G)>,

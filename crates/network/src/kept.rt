@@ -18,7 +18,7 @@ pub struct Kept {
 }
 
 /// The students placed at a project.
-pub fn students_at(kept: &Kept, project: usize) -> &[usize]
+pub(crate) fn students_at(kept: &Kept, project: usize) -> &[usize]
     requires { project < length kept.now.seated.items }
     ensures { result.now ≡ numbers_at kept.now.seated.items project }
 {
@@ -26,7 +26,7 @@ pub fn students_at(kept: &Kept, project: usize) -> &[usize]
 }
 
 /// The projects of a supervisor.
-pub fn projects_at(kept: &Kept, supervisor: usize) -> &[usize]
+pub(crate) fn projects_at(kept: &Kept, supervisor: usize) -> &[usize]
     requires { supervisor < length kept.now.offered.items }
     ensures { result.now ≡ numbers_at kept.now.offered.items supervisor }
 {
@@ -34,7 +34,7 @@ pub fn projects_at(kept: &Kept, supervisor: usize) -> &[usize]
 }
 
 /// A student comes to a project.
-pub fn seat(kept: &mut Kept, project: usize, student: usize)
+pub(crate) fn seat(kept: &mut Kept, project: usize, student: usize)
     requires project { project < length kept.old.seated.items }
     requires room { length (numbers_at kept.old.seated.items project) < room_at kept.old.seated.items project }
     ensures counts { (p s : ℕ) → count_of (numbers_at kept.new.seated.items p) s ≡ count_of (numbers_at kept.old.seated.items p) s + one_if (project == p) * one_if (student == s) }
@@ -46,7 +46,7 @@ pub fn seat(kept: &mut Kept, project: usize, student: usize)
 }
 
 /// A student leaves a project.
-pub fn unseat(kept: &mut Kept, project: usize, student: usize)
+pub(crate) fn unseat(kept: &mut Kept, project: usize, student: usize)
     requires project { project < length kept.old.seated.items }
     requires there { 0 < count_of (numbers_at kept.old.seated.items project) student }
     ensures counts { (p s : ℕ) → count_of (numbers_at kept.new.seated.items p) s + one_if (project == p) * one_if (student == s) ≡ count_of (numbers_at kept.old.seated.items p) s }
@@ -59,7 +59,10 @@ pub fn unseat(kept: &mut Kept, project: usize, student: usize)
 }
 
 /// Lists of nobody, with room for the quota of each project.
-pub fn empty_seats(alloc: Global, projects: &[(usize, u32)]) -> Result<Vec<Vec<usize>>, AllocError>
+pub(crate) fn empty_seats(
+    alloc: Global,
+    projects: &[(usize, u32)],
+) -> Result<Vec<Vec<usize>>, AllocError>
     ensures len { IfOk result (λ v. length v.items ≡ length projects.now) }
     ensures none { IfOk result (λ v. (p s : ℕ) → count_of (numbers_at v.items p) s ≡ 0) }
     ensures room { IfOk result (λ v. (p l q : ℕ) → slice_get projects.now p ≡ Some (l, q) → q ≤ room_at v.items p) }
@@ -89,7 +92,7 @@ fn projects_of(
 }
 
 /// The projects of each supervisor.
-pub fn all_offered(
+pub(crate) fn all_offered(
     alloc: Global,
     supervisors: &[u32],
     projects: &[(usize, u32)],

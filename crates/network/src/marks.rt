@@ -41,5 +41,5 @@ pub struct Labels<G> {
 mod blank;
 mod steps;
 
-pub use blank::{blank_labels, clear};
-pub use steps::{best_open, exceeds, relax, settle};
+pub(crate) use blank::{blank_labels, clear};
+pub(crate) use steps::{best_open, exceeds, relax, settle};

@@ -6,7 +6,7 @@ ghost use Rattle.network.specs.Push.{one_if};
 ghost use Rattle.network.specs.Labels.{count_of};
 
 /// A number comes in; there is room for it.
-pub fn put_in(list: &mut Vec<usize>, number: usize)
+pub(crate) fn put_in(list: &mut Vec<usize>, number: usize)
     requires room { length list.old.items < vec_capacity list.old }
     ensures counts { (n : ℕ) → count_of list.new.items n ≡ count_of list.old.items n + one_if (number == n) }
     ensures capacity { vec_capacity list.new ≡ vec_capacity list.old }
@@ -15,7 +15,7 @@ pub fn put_in(list: &mut Vec<usize>, number: usize)
 }
 
 /// A number that is there goes out, and the last takes its place.
-pub fn take_out(list: &mut Vec<usize>, number: usize)
+pub(crate) fn take_out(list: &mut Vec<usize>, number: usize)
     requires { 0 < count_of list.old.items number }
     ensures counts { (n : ℕ) → count_of list.new.items n + one_if (number == n) ≡ count_of list.old.items n }
     ensures shorter { length list.new.items ≤ length list.old.items }

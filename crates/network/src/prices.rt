@@ -30,7 +30,7 @@ fn price_of_student<G: Worth>(flow: &Flow<G>, student: usize) -> G
 }
 
 /// The students' prices.
-pub fn student_prices<G: Worth>(flow: &Flow<G>, alloc: Global) -> Result<Vec<G>, AllocError>
+pub(crate) fn student_prices<G: Worth>(flow: &Flow<G>, alloc: Global) -> Result<Vec<G>, AllocError>
     requires formed { IsFormed G.ops flow.now }
     requires low { IsLow G.ops flow.now }
     ensures len { IfOk result (λ v. length v.items ≡ length flow.now.lists.items) }
@@ -55,7 +55,7 @@ fn price_of_project<G: Worth>(flow: &Flow<G>, at: usize) -> G
 }
 
 /// The projects' prices.
-pub fn project_prices<G: Worth>(flow: &Flow<G>, alloc: Global) -> Result<Vec<G>, AllocError>
+pub(crate) fn project_prices<G: Worth>(flow: &Flow<G>, alloc: Global) -> Result<Vec<G>, AllocError>
     requires formed { IsFormed G.ops flow.now }
     requires low { IsLow G.ops flow.now }
     ensures len { IfOk result (λ v. length v.items ≡ length flow.now.projects.items) }
@@ -79,7 +79,10 @@ fn price_of_supervisor<G: Worth>(flow: &Flow<G>, at: usize) -> G
 }
 
 /// The supervisors' prices.
-pub fn supervisor_prices<G: Worth>(flow: &Flow<G>, alloc: Global) -> Result<Vec<G>, AllocError>
+pub(crate) fn supervisor_prices<G: Worth>(
+    flow: &Flow<G>,
+    alloc: Global,
+) -> Result<Vec<G>, AllocError>
     requires formed { IsFormed G.ops flow.now }
     requires low { IsLow G.ops flow.now }
     ensures len { IfOk result (λ v. length v.items ≡ length flow.now.supervisors.items) }
@@ -93,7 +96,7 @@ pub fn supervisor_prices<G: Worth>(flow: &Flow<G>, alloc: Global) -> Result<Vec<
 }
 
 /// All prices.
-pub fn all_prices<G: Worth>(
+pub(crate) fn all_prices<G: Worth>(
     flow: &Flow<G>,
     steps: u64,
     alloc: Global,

@@ -224,7 +224,7 @@ fn step<G: Worth>(
 }
 
 /// The push along the walk that the marks show.
-pub fn push<G: Worth>(
+pub(crate) fn push<G: Worth>(
     flow: &mut Flow<G>,
     kept: &mut Kept,
     labels: &Labels<G>,

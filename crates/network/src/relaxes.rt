@@ -12,7 +12,7 @@ use crate::marks::{Labels, Origin, relax};
 use spa::Worth;
 
 /// The entry at a place of a student's list.
-pub fn entry<G: Worth>(flow: &Flow<G>, student: usize, place: usize) -> (usize, G)
+pub(crate) fn entry<G: Worth>(flow: &Flow<G>, student: usize, place: usize) -> (usize, G)
     requires student { student < length flow.now.lists.items }
     requires place { (row : _) → slice_get flow.now.lists.items student ≡ Some row → place < length row.items }
     ensures { HasEntry flow.now.lists.items student place result.0 result.1 }
@@ -21,7 +21,7 @@ pub fn entry<G: Worth>(flow: &Flow<G>, student: usize, place: usize) -> (usize, 
 }
 
 /// How many entries a student's list has.
-pub fn list_len<G: Worth>(flow: &Flow<G>, student: usize) -> usize
+pub(crate) fn list_len<G: Worth>(flow: &Flow<G>, student: usize) -> usize
     requires formed { IsFormed G.ops flow.now }
     requires student { student < length flow.now.lists.items }
     ensures row { (row : _) → slice_get flow.now.lists.items student ≡ Some row → result ≡ length row.items }
@@ -31,7 +31,7 @@ pub fn list_len<G: Worth>(flow: &Flow<G>, student: usize) -> usize
 }
 
 /// The sink's node.
-pub fn sink<G: Worth>(flow: &Flow<G>) -> usize
+pub(crate) fn sink<G: Worth>(flow: &Flow<G>) -> usize
     requires formed { IsFormed G.ops flow.now }
     ensures { result ≡ sink_of flow.now }
 {
@@ -69,7 +69,7 @@ fn relax_entry<G: Worth>(
 }
 
 /// Each entry of a student's list, and the sink, is offered what the label makes of it.
-pub fn relax_entries<G: Worth>(
+pub(crate) fn relax_entries<G: Worth>(
     flow: &Flow<G>,
     student: usize,
     label: G,
@@ -164,7 +164,7 @@ fn relax_students<G: Worth>(
 }
 
 /// The supervisor and the quota of a project.
-pub fn project<G: Worth>(flow: &Flow<G>, at: usize) -> (usize, u32)
+pub(crate) fn project<G: Worth>(flow: &Flow<G>, at: usize) -> (usize, u32)
     requires { at < length flow.now.projects.items }
     ensures { slice_get flow.now.projects.items at ≡ Some result }
 {
@@ -172,7 +172,7 @@ pub fn project<G: Worth>(flow: &Flow<G>, at: usize) -> (usize, u32)
 }
 
 /// Is there room in the project?
-pub fn project_has_room<G: Worth>(flow: &Flow<G>, at: usize, quota: u32) -> bool
+pub(crate) fn project_has_room<G: Worth>(flow: &Flow<G>, at: usize, quota: u32) -> bool
     requires { at < length flow.now.filled.items }
     ensures { result ≡ nat_lt (slice_index flow.now.filled.items at) quota }
 {
@@ -180,7 +180,7 @@ pub fn project_has_room<G: Worth>(flow: &Flow<G>, at: usize, quota: u32) -> bool
 }
 
 /// Has the supervisor room?
-pub fn supervisor_has_room<G: Worth>(flow: &Flow<G>, at: usize) -> bool
+pub(crate) fn supervisor_has_room<G: Worth>(flow: &Flow<G>, at: usize) -> bool
     requires load { at < length flow.now.load.items }
     requires quota { at < length flow.now.supervisors.items }
     ensures { result ≡ nat_lt (slice_index flow.now.load.items at) (slice_index flow.now.supervisors.items at) }
@@ -189,7 +189,7 @@ pub fn supervisor_has_room<G: Worth>(flow: &Flow<G>, at: usize) -> bool
 }
 
 /// The node of a supervisor.
-pub fn supervisor_node<G: Worth>(flow: &Flow<G>, supervisor: usize) -> usize
+pub(crate) fn supervisor_node<G: Worth>(flow: &Flow<G>, supervisor: usize) -> usize
     requires formed { IsFormed G.ops flow.now }
     requires supervisor { supervisor < length flow.now.supervisors.items }
     ensures { result ≡ project_count flow.now + supervisor }
@@ -198,7 +198,7 @@ pub fn supervisor_node<G: Worth>(flow: &Flow<G>, supervisor: usize) -> usize
 }
 
 /// The arcs out of a project.
-pub fn relax_project<G: Worth>(
+pub(crate) fn relax_project<G: Worth>(
     flow: &Flow<G>,
     kept: &Kept,
     at: usize,
@@ -257,7 +257,7 @@ fn relax_swaps<G: Worth>(
 }
 
 /// The arcs out of a supervisor.
-pub fn relax_supervisor<G: Worth>(
+pub(crate) fn relax_supervisor<G: Worth>(
     flow: &Flow<G>,
     kept: &Kept,
     supervisor: usize,

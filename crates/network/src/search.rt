@@ -15,7 +15,7 @@ use crate::relaxes::{relax_entries, relax_project, relax_supervisor, sink};
 use spa::Worth;
 
 /// The label of a node.
-pub fn label_of<G: Worth>(labels: &Labels<G>, node: usize) -> G
+pub(crate) fn label_of<G: Worth>(labels: &Labels<G>, node: usize) -> G
     requires { node < length labels.now.marks.items }
     ensures { result ≡ (mark_at G.ops labels.now.marks.items node).label }
 {
@@ -138,7 +138,7 @@ fn begin<G: Worth>(flow: &Flow<G>, student: usize, labels: &mut Labels<G>, count
 }
 
 /// A search from a student to the sink.
-pub fn search<G: Worth>(
+pub(crate) fn search<G: Worth>(
     flow: &Flow<G>,
     kept: &Kept,
     student: usize,

@@ -25,7 +25,7 @@ fn blank_marks<G: Worth>(alloc: Global, nodes: usize) -> Result<Vec<Mark<G>>, Al
 }
 
 /// The labels before the first search, with room for all nodes.
-pub fn blank_labels<G: Worth>(alloc: Global, nodes: usize) -> Result<Labels<G>, AllocError>
+pub(crate) fn blank_labels<G: Worth>(alloc: Global, nodes: usize) -> Result<Labels<G>, AllocError>
     ensures { IfOk result (λ labels. AreBlank G.ops labels nodes) }
 {
     let marks = blank_marks(alloc, nodes)?;
@@ -63,7 +63,7 @@ fn wipe<G: Worth>(marks: &mut Vec<Mark<G>>, nodes: &[usize])
 }
 
 /// After a search: only the nodes that it reached are touched.
-pub fn clear<G: Worth>(labels: &mut Labels<G>)
+pub(crate) fn clear<G: Worth>(labels: &mut Labels<G>)
     requires { AreLabels G.ops labels.old }
     ensures { AreBlank G.ops labels.new (length labels.old.marks.items) }
 {

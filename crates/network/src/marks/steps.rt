@@ -13,7 +13,7 @@ use spa::Worth;
 use std::cmp::Ordering;
 
 /// Is one worth above the other?
-pub fn exceeds<G: Worth>(a: G, b: G) -> bool
+pub(crate) fn exceeds<G: Worth>(a: G, b: G) -> bool
     ensures { result ≡ is_gt (G.ops.cmp a b) }
 {
     match a.cmp(b) {
@@ -56,7 +56,7 @@ fn compare<G: Worth>(labels: &mut Labels<G>, node: usize, label: G, origin: Orig
 }
 
 /// One relaxation: a node's label is compared with one across an arc.
-pub fn relax<G: Worth>(
+pub(crate) fn relax<G: Worth>(
     labels: &mut Labels<G>,
     node: usize,
     label: G,
@@ -94,7 +94,7 @@ fn set_rank<G: Worth>(labels: &mut Labels<G>, node: usize, rank: usize)
 }
 
 /// An open node is settled as the next.
-pub fn settle<G: Worth>(labels: &mut Labels<G>, node: usize, rank: usize)
+pub(crate) fn settle<G: Worth>(labels: &mut Labels<G>, node: usize, rank: usize)
     requires kept { AreLabels G.ops labels.old }
     requires node { node < length labels.old.marks.items }
     requires opened { is_open_mark (mark_at G.ops labels.old.marks.items node) ≡ true }
@@ -117,7 +117,7 @@ fn key_of<G: Worth>(labels: &Labels<G>, potentials: &[G], v: usize) -> G
 }
 
 /// The open node whose walk can end highest, the last node where several can.
-pub fn best_open<G: Worth>(labels: &Labels<G>, potentials: &[G]) -> usize
+pub(crate) fn best_open<G: Worth>(labels: &Labels<G>, potentials: &[G]) -> usize
     requires kept { AreLabels G.ops labels.now }
     requires some { 0 < length labels.now.marks.items }
     requires last_open { is_open_mark (mark_at G.ops labels.now.marks.items (length labels.now.marks.items - 1)) ≡ true }
