@@ -42,27 +42,20 @@ impl<E: Keyed> Model for Table<E> {
     ghost invariant = { λ t. IsTrue (rises E.key t.entries.items) };
 }
 
-/// How two keys compare.
-fn compare(round: u32, code: &str, other_round: u32, other: &str) -> Ordering
-    ensures { result ≡ key_cmp (round, code.now) (other_round, other.now) }
+/// How the key of an entry compares with another.
+fn compare<E: Keyed>(entry: &E, round: u32, code: &str) -> Ordering
+    ensures { result ≡ key_cmp (E.key entry.now) (round, code.now) }
 {
-    round.cmp(&other_round).then(code.cmp(other))
+    entry.round().cmp(&round).then(entry.code().cmp(code))
 }
 
-/// Where the entry with the key stands, or where one would go.
+/// Where the entry with the key stands, or where one would go: a search by halves.
 fn search<E: Keyed>(entries: &[E], round: u32, code: &str) -> Result<usize, usize>
     requires { IsTrue (rises E.key entries.now) }
     ensures found { IfOk result (IsAt E.key entries.now (round, code.now)) }
     ensures absent { IfErr result (IsGapFor E.key entries.now (round, code.now)) }
 {
-    for (i, entry) in entries.iter().enumerate() {
-        match compare(round, code, entry.round(), entry.code()) {
-            Ordering::Less => return Err(i),
-            Ordering::Equal => return Ok(i),
-            Ordering::Greater => {}
-        }
-    }
-    Err(entries.len())
+    entries.binary_search_by(|entry| compare(entry, round, code))
 }
 
 impl<E: Keyed> Table<E> {
