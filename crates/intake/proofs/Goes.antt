@@ -20,7 +20,8 @@ use Rattle.intake.specs.Parts.{Parts, IsRoll, IsPrice, IsRoundParts}
 use Rattle.intake.specs.Lines.{Row, line, sections, round_lines, supervisor_row, project_row, student_row, pair_rows, price_rows}
 use Rattle.intake.specs.Reading.{Begins}
 use Rattle.intake.specs.Draft.{IsDraft, IsField, IsFree}
-use Rattle.intake.proofs.Numbers.{code_bytes, small}
+use Rattle.spa.proofs.Texts.{code_bytes}
+use Rattle.intake.proofs.Numbers.{small}
 use Rattle.intake.proofs.Sections.{fields_of, fields_back, full, Plain, sections_back, Next, next_section, SameRows, same_rows}
 
 -- a byte of a code is at least a dash

@@ -1,18 +1,14 @@
--- Codes and numbers have texts of ASCII, and are read from them.
+-- Numbers have texts of ASCII, and are read from them.
 use Rattle.std.proofs.Common.{◌≡◌, ℕ, zero, suc, ◌<◌, ◌≤◌, ◌^◌, true, ◌≢◌, ◌+◌, ℤ, pos, negsuc, List, [], ◌∷◌, length, map, set, get_or, Result, Ok, decimal, refl, ap, ◌∙◌, arith, below_more, length-set, get_or-set_other, get_or-set_same, to_z, of_z}
 use denote.Ref.{Bor}
 use Rattle.std.proofs.lemmas.List.{get_or_default}
 use Rattle.spa.specs.declared.TheConstants.{PLACES}
 use Rattle.std.specs.Fmt.{signed_decimal}
-use Rattle.std.specs.List.{list_all}
-use Rattle.std.specs.Cmp.{first_so, second_so}
-use Rattle.std.specs.Str.{IsUtf8, IsAscii}
+use Rattle.std.specs.Str.{IsUtf8}
 use Rattle.std.specs.Str.Parse.{ParsesUnsigned, ParsesSigned}
-use Rattle.std.proofs.lemmas.Bool.Decides.{nat_tests}
 use Rattle.std.proofs.lemmas.Fmt.{parse-decimal, parse-signed_decimal, IsAscii-decimal, IsAscii-signed}
 use Rattle.std.proofs.lemmas.Str.{IsUtf8-from_ascii}
 use Rattle.std.proofs.lemmas.Int.{ints, to_z-of_z}
-use Rattle.spa.specs.Text.{is_code, is_code_byte}
 use Rattle.verdict.specs.Rows.{InRange}
 use lib.Signed.{mag}
 use mir.Syntax.{w64}
@@ -37,24 +33,6 @@ number_utf8 n h = IsUtf8-from_ascii (signed_decimal n) (IsAscii-signed n (small 
 -- the text of such a number is read as it
 pub number_parsed : {E : Type 0} (n : ℤ) (bs : List ℕ) (r : Result ℤ E) → InRange n → bs ≡ signed_decimal n → ParsesSigned w64 10 bs r → r ≡ Ok n
 number_parsed n bs r h e p = parse-signed_decimal w64 n bs r (record { sfits = small n h }) (small n h) e p
-
--- a byte of a code is ASCII
-code_byte_ascii : (b : ℕ) → is_code_byte b ≡ true → b < 128
-code_byte_ascii b h = grind (arith, nat_tests)
-
--- bytes of codes are ASCII
-code_bytes_ascii : (bs : List ℕ) → list_all is_code_byte bs ≡ true → IsAscii bs
-code_bytes_ascii [] h i = omega arith
-code_bytes_ascii (b ∷ bs) h zero = code_byte_ascii b (first_so (is_code_byte b) (list_all is_code_byte bs) h)
-code_bytes_ascii (b ∷ bs) h (suc i) = code_bytes_ascii bs (second_so (is_code_byte b) (list_all is_code_byte bs) h) i
-
--- the bytes of a code are bytes of codes
-pub code_bytes : (bs : List ℕ) → is_code bs ≡ true → list_all is_code_byte bs ≡ true
-code_bytes bs h = second_so _ (list_all is_code_byte bs) h
-
--- a code is text
-pub code_utf8 : (bs : List ℕ) → is_code bs ≡ true → IsUtf8 bs
-code_utf8 bs h = IsUtf8-from_ascii bs (code_bytes_ascii bs (code_bytes bs h))
 
 -- such a number is kept in 64 bits
 pub number_kept : (n : ℤ) → InRange n → to_z w64 (of_z w64 n) ≡ n

@@ -7,7 +7,7 @@ use Rattle.std.specs.Str.{bytes_eq}
 use Rattle.std.proofs.lemmas.Bool.{cases_Bool, cases_eq, eq-eqb, ne_eqb}
 use Rattle.std.proofs.lemmas.Bool.Decides.{not_from_Decides}
 use Rattle.std.proofs.lemmas.Slice.Eq.{bytes_eq-Decides}
-use Rattle.std.proofs.lemmas.List.{length-map, get_or-map}
+use Rattle.std.proofs.lemmas.List.{get_or_default, length-map, get_or-map}
 use Rattle.std.proofs.lemmas.List.Sums.{sum_by-cons}
 use Rattle.std.proofs.lemmas.List.Elements.{recursion_from_All, All-from_recursion}
 use Rattle.spa.specs.declared.TheConstants.{RANKS}
@@ -19,7 +19,7 @@ use Rattle.spa.specs.Matching.{Pair, IsMatching, IsGreedyMaximum, rank, profile}
 use Rattle.spa.specs.Named.{Named, IsFit, instance_of, supervisors_named, projects_named, students_named}
 use Rattle.spa.specs.Coded.{CodePair, choices_of, offerer_of, places_in, places_with, IsMatchingByCodes, rank_by_codes, profile_by_codes, IsGreedyMaximumByCodes, codes_of}
 use Rattle.spa.proofs.Duality.{each_from, listed_student, listed_project}
-use Rattle.spa.proofs.Places.{slice_get_at, same_default}
+use Rattle.spa.proofs.Places.{slice_get_at}
 use Rattle.spa.proofs.PairsOf.{within_all}
 use Rattle.spa.proofs.RollLists.{same_position}
 
@@ -278,7 +278,7 @@ contained_position codes xs x c =
     let within : c.0 < length xs = omega (arith, c.1, length-map xs (code_at codes)) in
     let k : ℕ = get_or xs c.0 0 in (
       k,
-      (c.0, within, same_default xs c.0 k 0 within),
+      (c.0, within, get_or_default xs c.0 k 0 within),
       sym (get_or-map (code_at codes) xs c.0 0 x within) ∙ c.2,
     )
 

@@ -10,3 +10,4 @@ pub mod CodeLists
 pub mod RollLists
 pub mod Making
 pub mod ByCodes
+pub mod Texts

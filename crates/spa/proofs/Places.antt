@@ -1,5 +1,6 @@
 -- A count over the pairs that places stand for, student by student, and what the places' lists give.
 use Rattle.std.proofs.Common.{◌≡◌, ℕ, zero, suc, ◌+◌, ◌<◌, ◌≤◌, ◌==◌, Bool, cond, List, [], ◌∷◌, length, get_or, drop, count_by, Option, Some, None, refl, ap, arith, drop-cons, add-one, slice_get, slice_index, drop_of_length-le, true, false, not, eqb, eq-eqb, ne_eqb, AllPairs, ◌≢◌}
+use Rattle.std.proofs.lemmas.List.{get_or_default}
 use Rattle.std.proofs.lemmas.List.Sums.{sum_by-cons, prefix_len_is}
 use Rattle.spa.specs.Shape.{Shape, IsSound, list_of}
 use Rattle.spa.specs.Matching.{Pair, pairs_from, rank_in}
@@ -56,12 +57,6 @@ left_some s k xss ks h g e = rw (drop-cons xss s [], drop-cons ks s None, e) (si
 pub left_end : (s : ℕ) (xss : List (List ℕ)) (ks : List (Option ℕ)) → length xss ≤ s → left s xss ks ≡ 0
 left_end s xss ks h = rw (drop_of_length-le xss h) refl
 
--- an element that is there does not depend on the default
-pub same_default : {X : Type 0} (xs : List X) (i : ℕ) (a b : X) → i < length xs → get_or xs i a ≡ get_or xs i b
-same_default [] i a b h = absurd (omega arith)
-same_default (x ∷ xs) zero a b h = refl
-same_default (x ∷ xs) (suc i) a b h = same_default xs i a b (omega arith)
-
 -- the rank of the project at a place of a list without repeats
 pub rank_at : (xs : List ℕ) (k : ℕ) → AllPairs (λ p q. p ≢ q) xs → k < length xs → rank_in xs (slice_index xs k) ≡ k + 1
 rank_at xs k apart h =
@@ -73,5 +68,5 @@ rank_at xs k apart h =
 -- the rank of the project at a place of a student's list
 pub rank_of_place : (i : Shape) → IsSound i → (s k : ℕ) → k < length (list_of i s) → rank_in (list_of i s) (slice_index (list_of i s) k) ≡ k + 1
 rank_of_place i sound s k h =
-    let known : s < length i.students = listed_student i s (slice_index (list_of i s) k) (k, h, same_default (list_of i s) k (slice_index (list_of i s) k) 0 h) in
+    let known : s < length i.students = listed_student i s (slice_index (list_of i s) k) (k, h, get_or_default (list_of i s) k (slice_index (list_of i s) k) 0 h) in
     rank_at (list_of i s) k (sound.distinct s [] known) h

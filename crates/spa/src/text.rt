@@ -2,7 +2,7 @@
 #![tactic(auto)]
 
 ghost use Rattle.std.specs.Prelude.{◌≡◌};
-ghost use Rattle.spa.specs.Text.{is_code, is_label, is_code_byte, is_label_byte};
+ghost use Rattle.spa.specs.Text.{is_code, is_label, is_code_byte, is_label_byte, has_label_bytes};
 
 use thiserror::Error;
 
@@ -48,9 +48,9 @@ pub fn is_code_text(text: &str) -> bool
     true
 }
 
-/// Whether the text is a label: 1 to 200 bytes, none of them a control character.
-pub fn is_label_text(text: &str) -> bool
-    ensures { result ≡ is_label text.now }
+/// Whether the text has 1 to 200 bytes, none of them a control character.
+fn has_label_bytes(text: &str) -> bool
+    ensures { result ≡ has_label_bytes text.now }
 {
     let bytes = text.as_bytes();
     if bytes.is_empty() || bytes.len() > 200 {
@@ -62,4 +62,11 @@ pub fn is_label_text(text: &str) -> bool
         }
     }
     true
+}
+
+/// Whether the text is a label: 1 to 200 bytes, none of them a control character. Each `str` is UTF-8.
+pub fn is_label_text(text: &str) -> bool
+    ensures { result ≡ is_label text.now }
+{
+    has_label_bytes(text)
 }

@@ -1,6 +1,10 @@
--- The rows of a fit office have small quotas.
-use Rattle.std.proofs.Common.{◌≡◌, inl, inr, ℕ, List, [], ◌∷◌, Bool, true, false, cond, filter, map, Option, Some, None, refl, sym, ap, subst, ◌∙◌, arith}
+-- The rows of a fit office have UTF-8 texts and small quotas.
+use Rattle.std.proofs.Common.{◌≡◌, inl, inr, ℕ, List, [], ◌∷◌, Bool, true, false, cond, filter, map, Option, Some, None, is_some, refl, sym, ap, subst, ◌∙◌, arith}
 use Rattle.std.specs.Option.{option_map}
+use Rattle.std.specs.Prelude.{IsUtf8}
+use Rattle.std.specs.Ordering.{is_eq}
+use Rattle.std.specs.declared.cmp.Ordering.{Ordering}
+use Rattle.std.specs.declared.cmp.Ordering.TheVariants.{Less, Equal, Greater}
 use Rattle.std.proofs.lemmas.Bool.{and_parts, or_parts, not-true, cases_Bool}
 use Rattle.sqlite.specs.Order.{Row as Cells}
 use Rattle.sqlite_rules.specs.Lists.{Has}
@@ -9,13 +13,15 @@ use Rattle.rolls.specs.declared.row.Row.{Row}
 use Rattle.rolls.specs.declared.row.Row.TheVariants as row
 use Rattle.rolls.specs.declared.row.RowKey.{RowKey}
 use Rattle.rolls.specs.Roll.{Key, find, same_key}
-use Rattle.rolls.specs.State.{State, supervisor_of, project_of, supervisor_key, project_key}
-use Rattle.rolls.specs.Fit.{IsFit, SupervisorFits, ProjectFits}
-use Rattle.rolls.specs.Rows.{key_of, same_row, row_of, supervisor_row, project_row}
+use Rattle.spa.proofs.Texts.{code_utf8, label_utf8}
+use Rattle.rolls.specs.State.{State, supervisor_of, project_of, student_of, supervisor_key, project_key, student_key, has_supervisor}
+use Rattle.rolls.specs.Fit.{IsFit, SupervisorFits, ProjectFits, StudentFits}
+use Rattle.rolls.specs.Rows.{key_of, same_row, row_of, supervisor_row, project_row, student_row}
 use Rattle.rolls.specs.From.{row_in, are_apart}
 use Rattle.store.specs.declared.roll.Roll.{Roll}
 use Rattle.store.specs.Rows.{columns, is_in, columns_of, AreRowsAt}
-use Rattle.store.specs.Reading.{HasSmallQuota}
+use Rattle.store.specs.Reading.{IsHeld}
+use Rattle.rolls.proofs.Same.{keys_exact}
 use Rattle.store.proofs.Keys.{same_row_is, same_row_self}
 use Rattle.std.specs.List.{list_any}
 
@@ -49,28 +55,51 @@ row_stands (s ∷ rest) r apart (inr h) =
       | inr other ↦ ap (λ b. cond b (Some s) (row_in rest (key_of r))) other ∙ row_stands rest r parts.1 h
     ]
 
-quota_in : Row → ℕ
-quota_in (row.Supervisor c l n) = n
-quota_in (row.Project c l s n) = n
-quota_in (row.Student c l) = 0
+-- what is found has the key
+tied : (r : Ordering) → is_eq r ≡ true → r ≡ Equal
+tied Less h = absurd (cc)
+tied Equal h = refl
+tied Greater h = absurd (cc)
 
-small_at : (o : State) → IsFit o → (r : Row) → row_of o (key_of r) ≡ Some r → HasSmallQuota r
-unfolding quota_in
-small_at o fit (row.Supervisor code label quota) h =
-    let it = mapped supervisor_row (supervisor_of o code) (row.Supervisor code label quota) h in
+key_go : {E : Type 0} (key : E → Key) (k : Key) (e x : E) (es : List E) (b : Bool) → same_key k (key e) ≡ b → (find key k es ≡ Some x → k ≡ key x) → cond b (Some e) (find key k es) ≡ Some x → k ≡ key x
+key_go key k e x es true is later h = let same : e ≡ x = cc in keys_exact k (key e) (tied _ is) ∙ ap key same
+key_go key k e x es false is later h = later h
+
+found_key : {E : Type 0} (key : E → Key) (k : Key) (es : List E) (x : E) → find key k es ≡ Some x → k ≡ key x
+found_key key k [] x h = absurd (cc)
+found_key key k (e ∷ es) x h = key_go key k e x es (same_key k (key e)) refl (found_key key k es x) h
+
+some_of : {X : Type 0} (o : Option X) → is_some o ≡ true → (x : X) × (o ≡ Some x)
+some_of None h = absurd (cc)
+some_of (Some x) h = (x, refl)
+
+-- a supervisor on the roll has a code
+known_held : (o : State) → IsFit o → (code : List ℕ) → has_supervisor o code ≡ true → IsUtf8 code
+known_held o fit code h =
+    let it = some_of (supervisor_of o code) h in
     let fits = all_has SupervisorFits o.supervisors it.0 fit.supervisors_fit (found_has supervisor_key (0, code) o.supervisors it.0 it.1) in
-    let same : it.0.quota ≡ quota = ap quota_in it.2 in
-    omega (arith, fits.quota, same)
-small_at o fit (row.Project code label supervisor quota) h =
-    let it = mapped project_row (project_of o code) (row.Project code label supervisor quota) h in
-    let fits = all_has (ProjectFits o) o.projects it.0 fit.projects_fit (found_has project_key (0, code) o.projects it.0 it.1) in
-    let same : it.0.quota ≡ quota = ap quota_in it.2 in
-    omega (arith, fits.quota, same)
-small_at o fit (row.Student code label) h = tt
+    subst IsUtf8 (sym (ap (λ k. k.1) (found_key supervisor_key (0, code) o.supervisors it.0 it.1))) (code_utf8 it.0.code fits.code)
 
--- each row of a fit office has a small quota
-pub small_quota : (o : State) (list : List Row) (r : Row) → IsFit o → AreRowsAt list (row_of o) → Has list r → HasSmallQuota r
-small_quota o list r fit at h = small_at o fit r (sym (at.each (key_of r)) ∙ row_stands list r at.apart h)
+held_at : (o : State) → IsFit o → (r : Row) → row_of o (key_of r) ≡ Some r → IsHeld r
+held_at o fit (row.Supervisor code label quota) h =
+    let it = mapped supervisor_row (supervisor_of o code) (row.Supervisor code label quota) h in
+    let s = it.0 in
+    let fits = all_has SupervisorFits o.supervisors s fit.supervisors_fit (found_has supervisor_key (0, code) o.supervisors s it.1) in
+    subst IsHeld it.2 (code_utf8 s.code fits.code, label_utf8 s.label fits.label, omega (arith, fits.quota))
+held_at o fit (row.Project code label supervisor quota) h =
+    let it = mapped project_row (project_of o code) (row.Project code label supervisor quota) h in
+    let p = it.0 in
+    let fits = all_has (ProjectFits o) o.projects p fit.projects_fit (found_has project_key (0, code) o.projects p it.1) in
+    subst IsHeld it.2 (code_utf8 p.code fits.code, label_utf8 p.label fits.label, known_held o fit p.supervisor fits.supervisor, omega (arith, fits.quota))
+held_at o fit (row.Student code label) h =
+    let it = mapped student_row (student_of o code) (row.Student code label) h in
+    let s = it.0 in
+    let fits = all_has StudentFits o.students s fit.students_fit (found_has student_key (0, code) o.students s it.1) in
+    subst IsHeld it.2 (code_utf8 s.code fits.code, label_utf8 s.label fits.label)
+
+-- each row of a fit office has UTF-8 texts and a small quota
+pub is_held : (o : State) (list : List Row) (r : Row) → IsFit o → AreRowsAt list (row_of o) → Has list r → IsHeld r
+is_held o list r fit at h = held_at o fit r (sym (at.each (key_of r)) ∙ row_stands list r at.apart h)
 
 filtered_go : (p : Row → Bool) (s r : Row) (rest : List Row) (b : Bool) → p s ≡ b → (Has (filter p rest) r → Has rest r × (p r ≡ true)) → Has (cond b (s ∷ filter p rest) (filter p rest)) r → Has (s ∷ rest) r × (p r ≡ true)
 filtered_go p s r rest true is later (inl same) = (inl same, ap p same ∙ is)

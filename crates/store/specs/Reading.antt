@@ -1,5 +1,5 @@
 -- What the rows that are read from the tables say.
-use Rattle.std.specs.Prelude.{◌≡◌, ◌≢◌, ◌⊎◌, [], take, ◌<◌, ◌^◌, ℕ, true, IsTrue, List, map, drop, nat_lt}
+use Rattle.std.specs.Prelude.{◌≡◌, ◌≢◌, ◌⊎◌, [], take, ◌<◌, ◌^◌, ℕ, true, IsTrue, IsUtf8, List, map, drop, nat_lt}
 use Rattle.std.specs.List.{list_all}
 use Rattle.sqlite.specs.Order.{Row as Cells}
 use Rattle.sqlite.specs.Effect.{Database}
@@ -16,15 +16,15 @@ use Rattle.tables.specs.Table.{Place, Lists, edition_table}
 use Rattle.tables.specs.Keyed.{Stands}
 use Rattle.store.specs.Tables.{StandsFor}
 
--- the quota, if there is one, is a `u32`
-abbrev pub HasSmallQuota : Row → Type 0
-HasSmallQuota (row.Supervisor code label quota) = quota < 2 ^ 32
-HasSmallQuota (row.Project code label supervisor quota) = quota < 2 ^ 32
-HasSmallQuota (row.Student code label) = Unit {0}
+-- the texts are UTF-8 and the quota is a `u32`, as in each row that a program holds
+abbrev pub IsHeld : Row → Type 0
+IsHeld (row.Supervisor code label quota) = IsUtf8 code × IsUtf8 label × (quota < 2 ^ 32)
+IsHeld (row.Project code label supervisor quota) = IsUtf8 code × IsUtf8 label × IsUtf8 supervisor × (quota < 2 ^ 32)
+IsHeld (row.Student code label) = IsUtf8 code × IsUtf8 label
 
 -- no row of the roll has these columns
 abbrev pub IsNoRow : Roll → Cells → Type 0
-IsNoRow roll cells = (row : Row) → is_in roll row ≡ true → HasSmallQuota row → columns row ≢ cells
+IsNoRow roll cells = (row : Row) → is_in roll row ≡ true → IsHeld row → columns row ≢ cells
 
 -- the rows of the roll whose columns these are, each after its rowid
 pub record AreRowsOf (roll : Roll) (cells : List Cells) (rows : List Row) : Type 0 where

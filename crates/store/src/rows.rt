@@ -1,6 +1,6 @@
 //! Rows as they are read.
 
-ghost use Rattle.std.specs.Prelude.{◌≡◌, ◌≢◌, ◌<◌, ◌^◌, ℕ, pos, List, IfOk, drop, true};
+ghost use Rattle.std.specs.Prelude.{◌≡◌, ◌≢◌, ◌<◌, ◌^◌, ℕ, pos, List, IsUtf8, IfOk, drop, true};
 ghost use Rattle.sqlite.specs.declared.types.Value.TheVariants.{Int, Text as Words};
 ghost use Rattle.sqlite.specs.Order.{Row as AnyCells, column};
 ghost use Rattle.sqlite_rules.specs.Lists.{Has};
@@ -17,7 +17,7 @@ use std::alloc::Global;
 /// The text in a column.
 fn text_at(alloc: Global, cells: &Cells, at: usize) -> Result<Text, StoreFault>
     ensures text { IfOk result (λ text. column cells.now at ≡ Words text) }
-    ensures damaged { result ≡ Err StoreFault.Damaged → (text : List ℕ) → column cells.now at ≢ Words text }
+    ensures damaged { result ≡ Err StoreFault.Damaged → (text : List ℕ) → IsUtf8 text → column cells.now at ≢ Words text }
 {
     let Ok(value) = cells.get_ref(at) else {
         return Err(StoreFault::Storage);
@@ -26,7 +26,7 @@ fn text_at(alloc: Global, cells: &Cells, at: usize) -> Result<Text, StoreFault>
         return Err(StoreFault::Damaged);
     };
     let Ok(text) = std::str::from_utf8(bytes) else {
-        return Err(StoreFault::Storage);
+        return Err(StoreFault::Damaged);
     };
     Ok(Text::of(alloc, text)?)
 }

@@ -141,10 +141,12 @@ type HandMade = (&'static str, &'static str, Result<Sizes, StoreFault>);
 
 /// What is added to these tables, and what opening answers.
 #[rattlefmt::skip]
-fn hand_made() -> [HandMade; 7] {
+fn hand_made() -> [HandMade; 9] {
     [
         ("fit",              "INSERT INTO supervisor VALUES ('L', 'Lee', 500); INSERT INTO project VALUES ('P', 'Pumps', 'L', 0); INSERT INTO student VALUES ('S1', 'Ann')", Ok((1, 1, 1))),
         ("empty label",      "INSERT INTO student VALUES ('S1', '')", Err(StoreFault::Damaged)),
+        ("label not UTF-8",  "INSERT INTO student VALUES ('S1', CAST(x'41FF' AS TEXT))", Err(StoreFault::Damaged)),
+        ("code not UTF-8",   "INSERT INTO student VALUES (CAST(x'53C3' AS TEXT), 'Ann')", Err(StoreFault::Damaged)),
         ("no code",          "INSERT INTO student VALUES ('-A', 'Ann')", Err(StoreFault::Damaged)),
         ("quota of 501",     "INSERT INTO supervisor VALUES ('L', 'Lee', 501)", Err(StoreFault::Damaged)),
         ("quota below 0",    "INSERT INTO supervisor VALUES ('L', 'Lee', -1)", Err(StoreFault::Damaged)),
