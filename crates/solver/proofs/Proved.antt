@@ -3,7 +3,7 @@ use Rattle.std.proofs.Common.{◌≡◌, ℕ, zero, suc, ◌+◌, ◌<◌, ◌�
 use Rattle.std.specs.Prelude.{unsigned_abs}
 use Rattle.std.proofs.lemmas.Int.{ints}
 use Rattle.std.proofs.lemmas.Bool.{cases_lt}
-use Rattle.std.proofs.lemmas.List.{get_or_past, length-map}
+use Rattle.std.proofs.lemmas.List.{get_or_default, get_or_past, length-map}
 use Rattle.std.proofs.lemmas.Option.{slice_get-get_or}
 use Rattle.spa.specs.declared.TheConstants.{PLACES, RANKS}
 use Rattle.spa.specs.Order.{greedy, none, plus, IsSettled, sum_below}
@@ -22,7 +22,6 @@ use Rattle.network.specs.Seen.{Seen, shape_of, ArePrices, IsPriced, price as wor
 use Rattle.solver.specs.Weights.{worth_of, weighed}
 use Rattle.solver.specs.Solved.{IsOf, AreRowsOf, ArePricesOf}
 use Rattle.solver.proofs.Weighing.{projects_of-weighed_from, length-weighed_from, entry-weighed_from}
-use Rattle.solver.proofs.Reading.{same_default}
 use Rattle.solver.proofs.Totals.{row-places_of, value_is, weight_is}
 
 -- lists without their worths are the lists
@@ -100,7 +99,7 @@ module _ (law : IsLexicographic PLACES) (order : IsSettled greedy) where
         let o = lex_ops PLACES in
         let xs : List ℕ = list_of i s in
         let k : ℕ = c.0 in
-        let here : slice_index xs k ≡ q = same_default xs k 0 q c.1 ∙ c.2 in
+        let here : slice_index xs k ≡ q = get_or_default xs k 0 q c.1 ∙ c.2 in
         let list_is : slice_get v.lists s ≡ Some (weighed xs) = ap (λ ls. slice_get ls s) is.lists ∙ row_of i.students s (student s q c) in
         let inside : k < length (weighed xs) = subst (λ (n : ℕ). k < n) (sym (length-weighed_from 0 xs)) c.1 in
         let d : ℕ × Places PLACES = (q, worth_of k) in

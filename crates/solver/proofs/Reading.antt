@@ -15,12 +15,6 @@ use Rattle.solver.specs.Weights.{worth_of}
 use Rattle.solver.specs.Solved.{AreRowsOf}
 use Rattle.solver.proofs.Totals.{row-places_of}
 
--- an element that is there does not depend on the default
-pub same_default : {X : Type 0} (xs : List X) (k : ℕ) (a b : X) → k < length xs → get_or xs k a ≡ get_or xs k b
-same_default [] k a b h = absurd (omega arith)
-same_default (x ∷ xs) zero a b h = refl
-same_default (x ∷ xs) (suc k) a b h = same_default xs k a b (omega arith)
-
 -- a place of zero
 row-zero : (n t : ℕ) → row n (lex_ops n).zero t ≡ pos 0
 row-zero zero t = refl

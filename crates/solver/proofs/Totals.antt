@@ -7,6 +7,7 @@ use Rattle.spa.specs.Order.{sum_below}
 use Rattle.spa.specs.Shape.{Shape, list_of, project_quota, supervisor_quota}
 use Rattle.spa.specs.Matching.{Pair, pairs_from, rank, rank_in, weight, weight_row}
 use Rattle.spa.specs.Prices.{value}
+use Rattle.spa.proofs.Sums.{sum_below_same}
 use Rattle.spa.specs.Places.{Places, places_of, lex_ops, row}
 use Rattle.spa.specs.LexLaw.{IsLexicographic}
 use Rattle.network.specs.Seen.{sum_of, multiple, price_total, worth_at, total_worth}
@@ -50,11 +51,6 @@ module _ (law : IsLexicographic PLACES) where
       let s = law.plus (multiple (lex_ops PLACES) n x) x t in
       omega (arith, ints, r, s)
 
-  -- equal numbers have equal sums
-  same_sums : (n : ℕ) (f g : ℕ → ℤ) → ((k : ℕ) → f k ≡ g k) → sum_below n f ≡ sum_below n g
-  same_sums zero f g e = refl
-  same_sums (suc n) f g e = let r = same_sums n f g e in let h = e n in omega (arith, ints, r, h)
-
   -- rows of prices add up to the row of the worths' total
   pub value_is : (i : Shape) (u y z : ℕ → ℕ → ℤ) (a b c : ℕ → Places PLACES) (t : ℕ)
       → ((n : ℕ) → u n t ≡ row PLACES (a n) t) → ((n : ℕ) → y n t ≡ row PLACES (b n) t) → ((n : ℕ) → z n t ≡ row PLACES (c n) t)
@@ -64,11 +60,11 @@ module _ (law : IsLexicographic PLACES) where
       let A : Places PLACES = sum_of o (length i.students) a in
       let B : Places PLACES = sum_of o (length i.projects) (λ p. multiple o (project_quota i p) (b p)) in
       let C : Places PLACES = sum_of o (length i.supervisors) (λ l. multiple o (supervisor_quota i l) (c l)) in
-      let first : sum_below (length i.students) (λ s. u s t) ≡ row PLACES A t = same_sums (length i.students) (λ s. u s t) (λ s. row PLACES (a s) t) us ∙ sym (row-sum_of (length i.students) a t) in
+      let first : sum_below (length i.students) (λ s. u s t) ≡ row PLACES A t = sum_below_same (length i.students) (λ s. u s t) (λ s. row PLACES (a s) t) us ∙ sym (row-sum_of (length i.students) a t) in
       let second : sum_below (length i.projects) (λ p. pos (project_quota i p) *ℤ y p t) ≡ row PLACES B t =
-      same_sums (length i.projects) (λ p. pos (project_quota i p) *ℤ y p t) (λ p. row PLACES (multiple o (project_quota i p) (b p)) t) (λ p. ap (λ (x : ℤ). pos (project_quota i p) *ℤ x) (ys p) ∙ sym (row-multiple (project_quota i p) (b p) t)) ∙ sym (row-sum_of (length i.projects) (λ p. multiple o (project_quota i p) (b p)) t) in
+      sum_below_same (length i.projects) (λ p. pos (project_quota i p) *ℤ y p t) (λ p. row PLACES (multiple o (project_quota i p) (b p)) t) (λ p. ap (λ (x : ℤ). pos (project_quota i p) *ℤ x) (ys p) ∙ sym (row-multiple (project_quota i p) (b p) t)) ∙ sym (row-sum_of (length i.projects) (λ p. multiple o (project_quota i p) (b p)) t) in
       let third : sum_below (length i.supervisors) (λ l. pos (supervisor_quota i l) *ℤ z l t) ≡ row PLACES C t =
-      same_sums (length i.supervisors) (λ l. pos (supervisor_quota i l) *ℤ z l t) (λ l. row PLACES (multiple o (supervisor_quota i l) (c l)) t) (λ l. ap (λ (x : ℤ). pos (supervisor_quota i l) *ℤ x) (zs l) ∙ sym (row-multiple (supervisor_quota i l) (c l) t)) ∙ sym (row-sum_of (length i.supervisors) (λ l. multiple o (supervisor_quota i l) (c l)) t) in
+      sum_below_same (length i.supervisors) (λ l. pos (supervisor_quota i l) *ℤ z l t) (λ l. row PLACES (multiple o (supervisor_quota i l) (c l)) t) (λ l. ap (λ (x : ℤ). pos (supervisor_quota i l) *ℤ x) (zs l) ∙ sym (row-multiple (supervisor_quota i l) (c l) t)) ∙ sym (row-sum_of (length i.supervisors) (λ l. multiple o (supervisor_quota i l) (c l)) t) in
       let e = law.plus (o.plus A B) C t in
       let f = law.plus A B t in
       omega (arith, ints, first, second, third, e, f)

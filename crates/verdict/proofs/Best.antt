@@ -1,5 +1,6 @@
 -- The five conditions, by projects and by places of the lists, and as prices that prove a matching best.
 use Rattle.std.proofs.Common.{◌≡◌, ℕ, ◌<◌, List, length, slice_index, Contains, Option, sym, ◌∙◌, subst}
+use Rattle.std.proofs.lemmas.List.{get_or_default}
 use Rattle.spa.specs.Order.{RowOrder}
 use Rattle.spa.specs.Shape.{Shape, list_of}
 use Rattle.spa.specs.Matched.{pairs}
@@ -7,7 +8,6 @@ use Rattle.spa.specs.Prices.{ProveBest}
 use Rattle.verdict.specs.Rows.{price}
 use Rattle.verdict.specs.Verdict.{IsProvedBest, IsUncovered, IsUncoveredAt, AllCovered}
 use Rattle.verdict.specs.declared.prices.Prices.{Prices}
-use Rattle.verdict.proofs.PriceReads.{same_default}
 
 -- each project of a list is covered, since each place is
 pub covered_from_places : (order : RowOrder) (i : Shape) (p : Prices)
@@ -15,13 +15,13 @@ pub covered_from_places : (order : RowOrder) (i : Shape) (p : Prices)
     → ((s k : ℕ) → s < length i.students → k < length (list_of i s) → ¬ IsUncoveredAt order i p s k)
     → AllCovered order i p
 covered_from_places order i p student covered s q c =
-    let read : slice_index (list_of i s) c.0 ≡ q = same_default (list_of i s) c.0 0 q c.1 ∙ c.2 in
+    let read : slice_index (list_of i s) c.0 ≡ q = get_or_default (list_of i s) c.0 0 q c.1 ∙ c.2 in
     let P : ℕ → Type 0 = λ q. ¬ IsUncovered order i p s q in
     subst P read (covered s c.0 (student s q c) c.1)
 
 -- the project at a place is one of the list
 pub contained_at : (xs : List ℕ) (k : ℕ) → k < length xs → Contains xs (slice_index xs k)
-contained_at xs k h = (k, h, same_default xs k (slice_index xs k) 0 h)
+contained_at xs k h = (k, h, get_or_default xs k (slice_index xs k) 0 h)
 
 -- the five conditions hold of the prices as rows
 pub as_rows : (order : RowOrder) (i : Shape) (ks : List (Option ℕ)) (p : Prices) → IsProvedBest order i ks p

@@ -1,19 +1,13 @@
 -- What the code reads of prices, and the arrays that it compares.
 use Rattle.std.proofs.Common.{◌≡◌, ◌≢◌, ℕ, zero, suc, ◌+◌, ◌<◌, ◌==◌, List, [], ◌∷◌, length, set, get_or, replicate, cond, eqb, true, false, inl, inr, refl, ap, sym, arith, ◌∙◌, add-one, pos, ℤ, below_more, get_or-set_other, get_or-set_same}
-use Rattle.std.proofs.lemmas.List.{length-replicate}
+use Rattle.std.proofs.lemmas.List.{get_or_default, length-replicate}
 use Rattle.std.proofs.lemmas.Bool.{eq-eqb, ne_eqb, cases_eq}
 use Rattle.spa.specs.Row.{at}
 use Rattle.spa.specs.Matching.{weight}
 
--- an element that is there does not depend on the default
-pub same_default : {X : Type 0} (xs : List X) (i : ℕ) (a b : X) → i < length xs → get_or xs i a ≡ get_or xs i b
-same_default [] i a b h = absurd (omega arith)
-same_default (x ∷ xs) zero a b h = refl
-same_default (x ∷ xs) (suc i) a b h = same_default xs i a b (omega arith)
-
 -- a price that was read is the one that a look-up with a default gives
 pub read_is : (prices : List (List ℤ)) (i : ℕ) (price : List ℤ) → i < length prices → price ≡ get_or prices i price → price ≡ get_or prices i []
-read_is prices i price h e = e ∙ same_default prices i price [] h
+read_is prices i price h e = e ∙ get_or_default prices i price [] h
 
 -- one place more of a row that is filled place by place
 pub filled_more : (v : List ℤ) (f : ℕ → ℤ) (t : ℕ) (x : ℤ) → t < length v → ((k : ℕ) → k < t → at v k ≡ f k) → x ≡ f t → (k : ℕ) → k < t + 1 → at (set v t x) k ≡ f k

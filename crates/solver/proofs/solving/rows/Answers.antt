@@ -1,7 +1,8 @@
 use Rattle.std.proofs.Common.{◌≡◌, ◌<◌, ◌+◌, ◌∙◌, ap, sym, subst, arith, ℕ, List, ℤ, length, get_or}
 use Rattle.spa.specs.Places.{Places, lex_ops}
+use Rattle.std.proofs.lemmas.List.{get_or_default}
 use Rattle.spa.specs.declared.TheConstants.{PLACES}
-use Rattle.solver.proofs.Reading.{same_default, rows_more, all_rows}
+use Rattle.solver.proofs.Reading.{rows_more, all_rows}
 use Rattle.solver.proofs.solving.rows.Goals as goal
 
 pub loop-worth-preserved : goal.loop-worth-preserved
@@ -11,7 +12,7 @@ loop-worth-preserved c =
     let grown = c.in_ok-push.ensures.items in
     let len = c.in_ok-push.ensures.len in
     let w : Places PLACES = c.worth-item.result in
-    let here : get_or c.args.worths.now m (lex_ops PLACES).zero ≡ w = same_default c.args.worths.now m (lex_ops PLACES).zero w c.loop-worth-test.true ∙ sym c.worth-item.is in
+    let here : get_or c.args.worths.now m (lex_ops PLACES).zero ≡ w = get_or_default c.args.worths.now m (lex_ops PLACES).zero w c.loop-worth-test.true ∙ sym c.worth-item.is in
     record {
       each = omega (arith, e, len);
       same = rw grown (λ n t h. rows_more c.loop-worth.rows.items c.args.worths.now c.numbers.result w m e c.loop-worth.invariant.same here c.numbers.ensures n t h);
