@@ -1,8 +1,9 @@
-use Rattle.std.proofs.Common.{◌≡◌, ◌≢◌, ℕ, ◌<◌, ◌≤◌, [], ◌∷◌, ◌++◌, List, length, get_or, slice_get, Some, refl, sym, ◌∙◌, ap, rules, arith}
+use Rattle.std.proofs.Common.{◌≡◌, ◌≢◌, ℕ, ◌<◌, ◌≤◌, [], ◌∷◌, ◌++◌, List, length, get_or, slice_get, Some, refl, sym, ◌∙◌, ap, rules, arith, subst}
 use Rattle.std.proofs.lemmas.Bool.{eqb-false, eqb-true}
 use Rattle.std.proofs.lemmas.List.Elements.{All-push}
 use Rattle.std.proofs.lemmas.List.Quantifiers.{all_pairs_push}
 use Rattle.spa.specs.Codes.{code_at}
+use Rattle.spa.specs.Made.{IsSoundUpTo}
 use Rattle.spa.proofs.Places.{slice_get_at}
 use Rattle.spa.proofs.CodeLists.{apart_more}
 use Rattle.spa.proofs.RollLists.{mapped_more, mapped_at, mapped_length, get_is, known_more, contained_code, apart_from}
@@ -62,3 +63,24 @@ loop-place-preserved c =
         apart = apart_more list n code here inv.sound.apart (apart_from codes list c.loop-place.ranked.items n c.in-Some.position code c.requires.apart inv.ranking most found.1 fresh);
       };
     })
+
+pub returns-clause-sound : goal.returns-clause-sound
+returns-clause-sound c =
+    let all : c.loop-place.place ≡ length c.args.list.now = omega arith in
+    let some = eqb-false (length c.args.list.now) 0 (sym c.if-is_empty.ensures) in
+    ((omega arith, omega arith), subst (IsSoundUpTo c.args.codes.now c.args.list.now) all c.loop-place.invariant.sound)
+
+pub returns-in_default-clause-fault : goal.returns-in_default-clause-fault
+returns-in_default-clause-fault c =
+    let some = eqb-false (length c.args.list.now) 0 (sym c.if-is_empty.ensures) in
+    let code : List ℕ = c.index-list-place.result in (
+      refl,
+      (omega arith, omega arith),
+      c.loop-place.invariant.sound.apart,
+      record {
+        code = code;
+        here = slice_get_at c.args.list.now c.loop-place.place code code c.loop-place-test.true (sym c.index-list-place.is);
+        unknown = λ k. c.in_default.ensures k.0 k.1 (slice_get_at c.args.codes.now k.0 code code k.1 k.2);
+        before = c.loop-place.invariant.sound.known;
+      },
+    )

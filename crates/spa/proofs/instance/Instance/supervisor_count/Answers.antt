@@ -1,0 +1,6 @@
+use Rattle.std.proofs.Common.{ap, ◌∙◌, length}
+use Rattle.spa.specs.Named.{Named}
+use Rattle.spa.proofs.instance.Instance.supervisor_count.Goals as goal
+
+pub returns : goal.returns
+returns c = c.len.ensures ∙ c.self.inside.supervisors.ok.0 ∙ ap (λ (n : Named). length n.shape.supervisors) c.self.view_is
