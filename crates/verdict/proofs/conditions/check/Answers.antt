@@ -50,3 +50,18 @@ returns-clause-greedy_maximum c =
     } in
     (c.greedy_law.ensures (pairs i ks)).1
     (c.price_law.ensures (pairs i ks) (price p.students.items) (price p.projects.items) (price p.supervisors.items) (as_rows greedy i ks p proved))
+
+pub returns-then-not-is_above-clause-failed : goal.returns-then-not-is_above-clause-failed
+returns-then-not-is_above-clause-failed c = (
+  c.fault.ensures.none.0 (sym c.is_some.ensures ∙ c.if-is_some.false),
+  c.if-not-has_shape.ensures.0 refl,
+  λ e. false≢true (c.if-not-is_above.ensures.1 e),
+)
+
+pub returns-in-Some-clause-failed : goal.returns-in-Some-clause-failed
+returns-in-Some-clause-failed c = (
+  c.fault.ensures.none.0 (sym c.is_some.ensures ∙ c.if-is_some.false),
+  c.if-not-has_shape.ensures.0 refl,
+  c.if-not-is_above.ensures.0 refl,
+  (c.in-Some.place, refl, c.in-Some.ensures),
+)
