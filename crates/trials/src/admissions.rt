@@ -221,16 +221,16 @@ fn worked(alloc: Global, rt: &impl Abort) -> Result<Trial, Fail> {
     Trial::start(rt, alloc, &[5], &[(0, 1), (0, 1), (0, 0)])
 }
 
-// A lists P, Q, and then C lists Z, P. By hand: of A one comparison finds that P is worth its cost, then come P, Q and the
-// sink, the supervisor from P, and from there P, Q, Z and the sink. Of C one finds that Z is worth its cost, then come Z, P
-// and the sink, from P what A could have instead (P, Q and the sink), the supervisor from Q, and P, Q, Z and the sink.
+// A lists P, Q, and then C lists Z, P. What this search compares, counted by hand (another search may compare less):
+// of A that P is worth its cost, then P, Q and the sink, the supervisor from P, and from there P, Q, Z and the sink;
+// of C that Z is worth its cost, then Z, P and the sink, from P what A could have instead (P, Q and the sink), the
+// supervisor from Q, and P, Q, Z and the sink.
 #[test]
 fn admissions_are_counted(rt: HostRuntime) -> Result<(), Fail> {
     let mut trial = worked(rt.alloc(), &rt)?;
     assert_eq!(rt; trial.network.steps(), 0);
     let all = show_all(rt.alloc(), &rt, &mut trial, &[&[0, 1], &[2, 0]])?;
     are_counted(&rt, &all, &[9, 12]);
-    are_placed(&rt, &all);
     Ok(())
 }
 
@@ -297,9 +297,10 @@ fn made_room(rt: &impl Abort, all: &[Shown]) {
 }
 
 // L and M have quota 1; L offers P and Q, M offers R. A lists P, R; B lists Q alone, so A makes room at R; the third lists
-// P, Q, R in vain. By hand, each time one comparison finds a gain; then A is compared with P, R, the sink, L, and from L
-// with P, Q and the sink; B with Q, the sink, L, from L with P and Q, from P with P, R and the sink, with M, R and the sink;
-// the third with P, Q, R, the sink, L, P and Q, with Q and the sink for B, and with P, R and the sink for A.
+// P, Q, R in vain. What this search compares, counted by hand: each time a gain by one comparison; then A with P, R, the
+// sink, L, and from L with P, Q and the sink; B with Q, the sink, L, from L with P and Q, from P with P, R and the sink,
+// with M, R and the sink; the third with P, Q, R, the sink, L, P and Q, with Q and the sink for B, and with P, R and the
+// sink for A.
 #[test]
 fn a_student_makes_room_with_the_supervisor(rt: HostRuntime) -> Result<(), Fail> {
     let alloc = rt.alloc();
@@ -334,8 +335,9 @@ fn pay_for_two(rt: &impl Abort, trial: &Trial) -> Result<(), Fail> {
 }
 
 #[test]
-fn prices_pay_for_the_places(rt: HostRuntime) -> Result<(), Fail> {
+fn both_are_placed_and_the_prices_pay(rt: HostRuntime) -> Result<(), Fail> {
     let mut trial = worked(rt.alloc(), &rt)?;
-    show_all(rt.alloc(), &rt, &mut trial, &[&[0, 1], &[2, 0]])?;
+    let all = show_all(rt.alloc(), &rt, &mut trial, &[&[0, 1], &[2, 0]])?;
+    are_placed(&rt, &all);
     pay_for_two(&rt, &trial)
 }
