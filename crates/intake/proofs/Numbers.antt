@@ -1,5 +1,5 @@
 -- Numbers have texts of ASCII, and are read from them.
-use Rattle.std.proofs.Common.{◌≡◌, ℕ, zero, suc, ◌<◌, ◌≤◌, ◌^◌, true, ◌≢◌, ◌+◌, ℤ, pos, negsuc, List, [], ◌∷◌, length, map, set, get_or, Result, Ok, decimal, refl, ap, ◌∙◌, arith, below_more, length-set, get_or-set_other, get_or-set_same, to_z, of_z}
+use Rattle.std.proofs.Common.{◌≡◌, ℕ, zero, suc, ◌<◌, ◌≤◌, ◌^◌, ◌≢◌, ◌+◌, ℤ, pos, negsuc, List, [], ◌∷◌, length, map, set, get_or, Result, Ok, decimal, refl, ap, ◌∙◌, arith, below_more, length-set, get_or-set_other, get_or-set_same, to_z, of_z}
 use denote.Ref.{Bor}
 use Rattle.std.proofs.lemmas.List.{get_or_default}
 use Rattle.spa.specs.declared.TheConstants.{PLACES}
