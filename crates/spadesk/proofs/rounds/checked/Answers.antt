@@ -9,3 +9,12 @@ returns-in-Ok c = record {
   greedy_maximum = c.in-Ok.ensures.greedy_maximum;
   is = c.in_ok-best-in-Ok.ensures;
 }
+
+pub returns : goal.returns
+returns c = record {
+  round = c.in_ok-parts.parts;
+  fault = c.in-Err.fault;
+  read = c.in_ok-parts.ensures.reading;
+  first = c.in-Err.ensures.failed;
+  is = c.in_ok-failed-in-Err.ensures;
+}

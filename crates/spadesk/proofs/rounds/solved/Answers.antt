@@ -8,3 +8,12 @@ write_round-requires-clause-projects c = c.in_ok-parts.ensures.reading.0.project
 
 pub write_round-requires-clause-students : goal.write_round-requires-clause-students
 write_round-requires-clause-students c = c.in_ok-parts.ensures.reading.0.students.rise
+
+pub returns : goal.returns
+returns c = record {
+  round = c.in_ok-parts.parts;
+  solved = c.in_ok-solved.solved;
+  read = c.in_ok-parts.ensures.reading;
+  best = c.in_ok-solved.ensures.proved;
+  is = c.in_ok-write_round.ensures.text;
+}
