@@ -324,7 +324,7 @@ within : (n limit : ℕ) → n ≤ limit → nat_le n limit ≡ true
 within n limit h = grind (arith, nat_tests)
 
 -- a supervisor who is on the roll has a code
-known_is_code : (w : State) → IsFit w → (code : List ℕ) → has_supervisor w code ≡ true → is_code code ≡ true
+pub known_is_code : (w : State) → IsFit w → (code : List ℕ) → has_supervisor w code ≡ true → is_code code ≡ true
 known_is_code w fit code h = of_found (find supervisor_key (0, code) w.supervisors) refl h
   where
     of_found : (x : Option Supervisor) → find supervisor_key (0, code) w.supervisors ≡ x → is_some x ≡ true → is_code code ≡ true

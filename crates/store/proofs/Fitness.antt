@@ -1,10 +1,6 @@
 -- The rows of a fit office have UTF-8 texts and small quotas.
-use Rattle.std.proofs.Common.{◌≡◌, inl, inr, ℕ, List, [], ◌∷◌, Bool, true, false, cond, filter, map, Option, Some, None, is_some, refl, sym, ap, subst, ◌∙◌, arith}
+use Rattle.std.proofs.Common.{◌≡◌, inl, inr, List, [], ◌∷◌, Bool, true, false, cond, filter, map, Option, Some, None, refl, sym, ap, subst, ◌∙◌, arith}
 use Rattle.std.specs.Option.{option_map}
-use Rattle.std.specs.Prelude.{IsUtf8}
-use Rattle.std.specs.Ordering.{is_eq}
-use Rattle.std.specs.declared.cmp.Ordering.{Ordering}
-use Rattle.std.specs.declared.cmp.Ordering.TheVariants.{Less, Equal, Greater}
 use Rattle.std.proofs.lemmas.Bool.{and_parts, or_parts, not-true, cases_Bool}
 use Rattle.sqlite.specs.Order.{Row as Cells}
 use Rattle.sqlite_rules.specs.Lists.{Has}
@@ -14,14 +10,14 @@ use Rattle.rolls.specs.declared.row.Row.TheVariants as row
 use Rattle.rolls.specs.declared.row.RowKey.{RowKey}
 use Rattle.rolls.specs.Roll.{Key, find, same_key}
 use Rattle.spa.proofs.Texts.{code_utf8, label_utf8}
-use Rattle.rolls.specs.State.{State, supervisor_of, project_of, student_of, supervisor_key, project_key, student_key, has_supervisor}
+use Rattle.office.proofs.Gathered.{known_is_code}
+use Rattle.rolls.specs.State.{State, supervisor_of, project_of, student_of, supervisor_key, project_key, student_key}
 use Rattle.rolls.specs.Fit.{IsFit, SupervisorFits, ProjectFits, StudentFits}
 use Rattle.rolls.specs.Rows.{key_of, same_row, row_of, supervisor_row, project_row, student_row}
 use Rattle.rolls.specs.From.{row_in, are_apart}
 use Rattle.store.specs.declared.roll.Roll.{Roll}
 use Rattle.store.specs.Rows.{columns, is_in, columns_of, AreRowsAt}
 use Rattle.store.specs.Reading.{IsHeld}
-use Rattle.rolls.proofs.Same.{keys_exact}
 use Rattle.store.proofs.Keys.{same_row_is, same_row_self}
 use Rattle.std.specs.List.{list_any}
 
@@ -55,31 +51,6 @@ row_stands (s ∷ rest) r apart (inr h) =
       | inr other ↦ ap (λ b. cond b (Some s) (row_in rest (key_of r))) other ∙ row_stands rest r parts.1 h
     ]
 
--- what is found has the key
-tied : (r : Ordering) → is_eq r ≡ true → r ≡ Equal
-tied Less h = absurd (cc)
-tied Equal h = refl
-tied Greater h = absurd (cc)
-
-key_go : {E : Type 0} (key : E → Key) (k : Key) (e x : E) (es : List E) (b : Bool) → same_key k (key e) ≡ b → (find key k es ≡ Some x → k ≡ key x) → cond b (Some e) (find key k es) ≡ Some x → k ≡ key x
-key_go key k e x es true is later h = let same : e ≡ x = cc in keys_exact k (key e) (tied _ is) ∙ ap key same
-key_go key k e x es false is later h = later h
-
-found_key : {E : Type 0} (key : E → Key) (k : Key) (es : List E) (x : E) → find key k es ≡ Some x → k ≡ key x
-found_key key k [] x h = absurd (cc)
-found_key key k (e ∷ es) x h = key_go key k e x es (same_key k (key e)) refl (found_key key k es x) h
-
-some_of : {X : Type 0} (o : Option X) → is_some o ≡ true → (x : X) × (o ≡ Some x)
-some_of None h = absurd (cc)
-some_of (Some x) h = (x, refl)
-
--- a supervisor on the roll has a code
-known_held : (o : State) → IsFit o → (code : List ℕ) → has_supervisor o code ≡ true → IsUtf8 code
-known_held o fit code h =
-    let it = some_of (supervisor_of o code) h in
-    let fits = all_has SupervisorFits o.supervisors it.0 fit.supervisors_fit (found_has supervisor_key (0, code) o.supervisors it.0 it.1) in
-    subst IsUtf8 (sym (ap (λ k. k.1) (found_key supervisor_key (0, code) o.supervisors it.0 it.1))) (code_utf8 it.0.code fits.code)
-
 held_at : (o : State) → IsFit o → (r : Row) → row_of o (key_of r) ≡ Some r → IsHeld r
 held_at o fit (row.Supervisor code label quota) h =
     let it = mapped supervisor_row (supervisor_of o code) (row.Supervisor code label quota) h in
@@ -90,7 +61,7 @@ held_at o fit (row.Project code label supervisor quota) h =
     let it = mapped project_row (project_of o code) (row.Project code label supervisor quota) h in
     let p = it.0 in
     let fits = all_has (ProjectFits o) o.projects p fit.projects_fit (found_has project_key (0, code) o.projects p it.1) in
-    subst IsHeld it.2 (code_utf8 p.code fits.code, label_utf8 p.label fits.label, known_held o fit p.supervisor fits.supervisor, omega (arith, fits.quota))
+    subst IsHeld it.2 (code_utf8 p.code fits.code, label_utf8 p.label fits.label, code_utf8 p.supervisor (known_is_code o fit p.supervisor fits.supervisor), omega (arith, fits.quota))
 held_at o fit (row.Student code label) h =
     let it = mapped student_row (student_of o code) (row.Student code label) h in
     let s = it.0 in
