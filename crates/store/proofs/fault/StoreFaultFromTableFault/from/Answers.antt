@@ -1,0 +1,6 @@
+use Rattle.std.proofs.Common.{sym, ap}
+use Rattle.store.specs.Faults.{of_table}
+use Rattle.store.proofs.fault.StoreFaultFromTableFault.from.Goals as goal
+
+pub returns-in-Storage : goal.returns-in-Storage
+returns-in-Storage c = sym (ap of_table c.in-Storage.is)
