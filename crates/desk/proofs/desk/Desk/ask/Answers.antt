@@ -1,0 +1,15 @@
+use Rattle.std.proofs.Common.{◌≡◌, Option, Some, Err, IfSome, Result, refl, sym, ap, subst, ◌∙◌}
+use Rattle.rolls.specs.declared.request.Reply.{Reply}
+use Rattle.rolls.specs.declared.refusal.Refusal.{Refusal}
+use Rattle.rolls.specs.Asked.{asked_of}
+use Rattle.rolls.specs.Refusing.{refusal}
+use Rattle.desk.proofs.desk.Desk.ask.Goals as goal
+
+-- the refusal that was found is the one that is due
+due : (found : Option Refusal) (r : Refusal) → found ≡ Some r → IfSome found (λ (s : Refusal). ◌≡◌ {A = Result Reply Refusal} (Err r) (Err s))
+due found r e = subst (λ (o : Option Refusal). IfSome o (λ (s : Refusal). ◌≡◌ {A = Result Reply Refusal} (Err r) (Err s))) (sym e) refl
+
+pub returns-in-Some-clause-named : goal.returns-in-Some-clause-named
+returns-in-Some-clause-named g c =
+    due (refusal c.args.self.now.office (asked_of c.args.request)) c.in-Some.refusal
+    (sym (c.refusal_of.ensures.refusal ∙ ap (λ k. refusal k.office (asked_of c.args.request)) c.self.view_is) ∙ c.in-Some.is)
