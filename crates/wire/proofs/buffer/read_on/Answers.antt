@@ -21,3 +21,15 @@ pub returns-else-is_empty-clause-finds : goal.returns-else-is_empty-clause-finds
 returns-else-is_empty-clause-finds g c =
     unfinished_here c.args.buffer.now.items c.refill.new.buffer.items (g.R.Source.left c.refill.new.reader) (c.in-Ok-eq0.ensures.end.0 c.in-Ok-eq0.field-0-test).1
     (c.in-Ok-eq0.ensures.end.0 c.in-Ok-eq0.field-0-test).0 (some_of c.refill.new.buffer.items (vec_len c.refill.new.buffer) (omega (arith, c.refill.new.buffer.ok.0)) c.if-is_empty.ensures) c.in-Open.ensures
+
+pub returns-then-is_empty-clause-count_err : goal.returns-then-is_empty-clause-count_err
+returns-then-is_empty-clause-count_err g c = tt
+
+pub returns-else-is_empty-clause-count_err : goal.returns-else-is_empty-clause-count_err
+returns-else-is_empty-clause-count_err g c = tt
+
+pub returns-then-is_empty-clause-open : goal.returns-then-is_empty-clause-open
+returns-then-is_empty-clause-open g c = tt
+
+pub returns-else-is_empty-clause-open : goal.returns-else-is_empty-clause-open
+returns-else-is_empty-clause-open g c = tt

@@ -1,7 +1,10 @@
-use Rattle.std.proofs.Common.{◌≡◌, ◌≤◌, ℕ, List, [], Option, Some, IfSome, refl, sym, subst, arith, vec_len, ap, length}
+use Rattle.std.proofs.Common.{◌≡◌, ◌<◌, ◌≤◌, ℕ, ◌+◌, ◌-◌, ◌^◌, List, [], Option, Some, None, IfSome, IfNone, Err, refl, sym, subst, arith, vec_len, ap, length}
 use Rattle.wire.specs.declared.outcome.End.{End}
 use Rattle.wire.specs.declared.outcome.End.TheVariants.{Hundred}
-use Rattle.wire.specs.Run.{Said}
+use Rattle.wire.specs.declared.outcome.StreamFault.{StreamFault}
+use Rattle.wire.specs.declared.outcome.StreamFault.TheVariants.{Memory, Read, Write}
+use Rattle.wire.specs.declared.outcome.Served.{Served}
+use Rattle.wire.specs.Run.{Said, write_failed}
 use Rattle.wire.specs.Served.{SoFar, ServedTo}
 use Rattle.wire.proofs.Runs.{nothing_yet, hundred_here}
 use Rattle.wire.proofs.Turns.{finished, unfinished}
@@ -25,6 +28,18 @@ loop-answered-init g c = record {
   writes = refl;
   holds = c.requires.holds;
 }
+
+pub turn-requires-clause-write_failures : goal.turn-requires-clause-write_failures
+turn-requires-clause-write_failures g c = subst (λ (n : ℕ). n < 2 ^ 64 - 1) (sym c.loop-answered.invariant.writes) c.requires.write_failures
+
+-- a fault is counted the same whatever else the result could be
+counted : (A B : Type 0) (fault : StreamFault) (new old start : ℕ) → new ≡ old + write_failed {A = A} (Err fault) → old ≡ start → new ≡ start + write_failed {A = B} (Err fault)
+counted A B Memory new old start e h = cc
+counted A B Read new old start e h = cc
+counted A B Write new old start e h = cc
+
+pub returns-in-Err-clause-write_count : goal.returns-in-Err-clause-write_count
+returns-in-Err-clause-write_count g c = counted (Option End) Served c.in-Err.fault _ _ _ c.in-Err.ensures.write_count c.loop-answered.invariant.writes
 
 pub returns-in-Err-clause-broken : goal.returns-in-Err-clause-broken
 returns-in-Err-clause-broken g c =
@@ -64,3 +79,25 @@ returns-clause-served g c =
     hundred g.H.Handler.step c.args.desk.now c.loop-answered.desk (g.R.Source.left c.args.reader.now) (g.W.Sink.written c.args.writer.now)
     (g.R.Source.left c.loop-answered.reader) (g.W.Sink.written c.loop-answered.writer) c.loop-answered.buffer.items c.loop-answered.answered
     c.loop-answered.invariant.so_far (omega (arith, c.loop-answered-test.false))
+
+pub finish-requires-clause-few : goal.finish-requires-clause-few
+finish-requires-clause-few g c = c.loop-answered-test.true
+
+-- what is said where no end was found
+at_none : (P : Type 0) (found : Option End) → found ≡ None → IfNone found P → P
+at_none P found e h = subst (λ (o : Option End). IfNone o P) e h
+
+-- a count that grew by nothing stays
+stays : (new old start : ℕ) → new ≡ old + 0 → old ≡ start → new ≡ start
+stays new old start e h = omega arith
+
+pub loop-answered-preserved : goal.loop-answered-preserved
+loop-answered-preserved g c = record {
+  so_far = at_none _ c.in-Ok.found c.in_default.is c.in-Ok.ensures.answers c.args.desk.now (g.R.Source.left c.args.reader.now) (g.W.Sink.written c.args.writer.now)
+      c.loop-answered.answered c.loop-answered.invariant.so_far;
+  size = c.in-Ok.ensures.size;
+  capacity = c.in-Ok.ensures.capacity;
+  reads = stays _ _ _ c.in-Ok.ensures.read_count c.loop-answered.invariant.reads;
+  holds = c.in-Ok.ensures.holds;
+  writes = stays _ _ _ c.in-Ok.ensures.write_count c.loop-answered.invariant.writes;
+}
