@@ -17,7 +17,7 @@ use Rattle.rolls.specs.Rows.{key_of, same_row, row_of, supervisor_row, project_r
 use Rattle.rolls.specs.From.{row_in, are_apart}
 use Rattle.store.specs.declared.roll.Roll.{Roll}
 use Rattle.store.specs.Rows.{columns, is_in, columns_of, AreRowsAt}
-use Rattle.store.specs.Reading.{IsHeld}
+use Rattle.store.specs.Reading.{IsTyped}
 use Rattle.store.proofs.Keys.{same_row_is, same_row_self}
 use Rattle.std.specs.List.{list_any}
 
@@ -51,25 +51,25 @@ row_stands (s ∷ rest) r apart (inr h) =
       | inr other ↦ ap (λ b. cond b (Some s) (row_in rest (key_of r))) other ∙ row_stands rest r parts.1 h
     ]
 
-held_at : (o : State) → IsFit o → (r : Row) → row_of o (key_of r) ≡ Some r → IsHeld r
+held_at : (o : State) → IsFit o → (r : Row) → row_of o (key_of r) ≡ Some r → IsTyped r
 held_at o fit (row.Supervisor code label quota) h =
     let it = mapped supervisor_row (supervisor_of o code) (row.Supervisor code label quota) h in
     let s = it.0 in
     let fits = all_has SupervisorFits o.supervisors s fit.supervisors_fit (found_has supervisor_key (0, code) o.supervisors s it.1) in
-    subst IsHeld it.2 (code_utf8 s.code fits.code, label_utf8 s.label fits.label, omega (arith, fits.quota))
+    subst IsTyped it.2 (code_utf8 s.code fits.code, label_utf8 s.label fits.label, omega (arith, fits.quota))
 held_at o fit (row.Project code label supervisor quota) h =
     let it = mapped project_row (project_of o code) (row.Project code label supervisor quota) h in
     let p = it.0 in
     let fits = all_has (ProjectFits o) o.projects p fit.projects_fit (found_has project_key (0, code) o.projects p it.1) in
-    subst IsHeld it.2 (code_utf8 p.code fits.code, label_utf8 p.label fits.label, code_utf8 p.supervisor (known_is_code o fit p.supervisor fits.supervisor), omega (arith, fits.quota))
+    subst IsTyped it.2 (code_utf8 p.code fits.code, label_utf8 p.label fits.label, code_utf8 p.supervisor (known_is_code o fit p.supervisor fits.supervisor), omega (arith, fits.quota))
 held_at o fit (row.Student code label) h =
     let it = mapped student_row (student_of o code) (row.Student code label) h in
     let s = it.0 in
     let fits = all_has StudentFits o.students s fit.students_fit (found_has student_key (0, code) o.students s it.1) in
-    subst IsHeld it.2 (code_utf8 s.code fits.code, label_utf8 s.label fits.label)
+    subst IsTyped it.2 (code_utf8 s.code fits.code, label_utf8 s.label fits.label)
 
 -- each row of a fit office has UTF-8 texts and a small quota
-pub is_held : (o : State) (list : List Row) (r : Row) → IsFit o → AreRowsAt list (row_of o) → Has list r → IsHeld r
+pub is_held : (o : State) (list : List Row) (r : Row) → IsFit o → AreRowsAt list (row_of o) → Has list r → IsTyped r
 is_held o list r fit at h = held_at o fit r (sym (at.each (key_of r)) ∙ row_stands list r at.apart h)
 
 filtered_go : (p : Row → Bool) (s r : Row) (rest : List Row) (b : Bool) → p s ≡ b → (Has (filter p rest) r → Has rest r × (p r ≡ true)) → Has (cond b (s ∷ filter p rest) (filter p rest)) r → Has (s ∷ rest) r × (p r ≡ true)

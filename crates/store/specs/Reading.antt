@@ -16,15 +16,15 @@ use Rattle.tables.specs.Table.{Place, Lists, edition_table}
 use Rattle.tables.specs.Keyed.{Stands}
 use Rattle.store.specs.Tables.{StandsFor}
 
--- the texts are UTF-8 and the quota is a `u32`, as in each row that a program holds
-abbrev pub IsHeld : Row → Type 0
-IsHeld (row.Supervisor code label quota) = IsUtf8 code × IsUtf8 label × (quota < 2 ^ 32)
-IsHeld (row.Project code label supervisor quota) = IsUtf8 code × IsUtf8 label × IsUtf8 supervisor × (quota < 2 ^ 32)
-IsHeld (row.Student code label) = IsUtf8 code × IsUtf8 label
+-- a row as the program has it: its texts are UTF-8 and its quota is a `u32`
+abbrev pub IsTyped : Row → Type 0
+IsTyped (row.Supervisor code label quota) = IsUtf8 code × IsUtf8 label × (quota < 2 ^ 32)
+IsTyped (row.Project code label supervisor quota) = IsUtf8 code × IsUtf8 label × IsUtf8 supervisor × (quota < 2 ^ 32)
+IsTyped (row.Student code label) = IsUtf8 code × IsUtf8 label
 
--- no row of the roll has these columns
+-- no row of the roll that the program can have has these columns
 abbrev pub IsNoRow : Roll → Cells → Type 0
-IsNoRow roll cells = (row : Row) → is_in roll row ≡ true → IsHeld row → columns row ≢ cells
+IsNoRow roll cells = (row : Row) → is_in roll row ≡ true → IsTyped row → columns row ≢ cells
 
 -- the rows of the roll whose columns these are, each after its rowid
 pub record AreRowsOf (roll : Roll) (cells : List Cells) (rows : List Row) : Type 0 where
