@@ -51,26 +51,26 @@ row_stands (s ∷ rest) r apart (inr h) =
       | inr other ↦ ap (λ b. cond b (Some s) (row_in rest (key_of r))) other ∙ row_stands rest r parts.1 h
     ]
 
-held_at : (o : State) → IsFit o → (r : Row) → row_of o (key_of r) ≡ Some r → IsTyped r
-held_at o fit (row.Supervisor code label quota) h =
+typed_at : (o : State) → IsFit o → (r : Row) → row_of o (key_of r) ≡ Some r → IsTyped r
+typed_at o fit (row.Supervisor code label quota) h =
     let it = mapped supervisor_row (supervisor_of o code) (row.Supervisor code label quota) h in
     let s = it.0 in
     let fits = all_has SupervisorFits o.supervisors s fit.supervisors_fit (found_has supervisor_key (0, code) o.supervisors s it.1) in
     subst IsTyped it.2 (code_utf8 s.code fits.code, label_utf8 s.label fits.label, omega (arith, fits.quota))
-held_at o fit (row.Project code label supervisor quota) h =
+typed_at o fit (row.Project code label supervisor quota) h =
     let it = mapped project_row (project_of o code) (row.Project code label supervisor quota) h in
     let p = it.0 in
     let fits = all_has (ProjectFits o) o.projects p fit.projects_fit (found_has project_key (0, code) o.projects p it.1) in
     subst IsTyped it.2 (code_utf8 p.code fits.code, label_utf8 p.label fits.label, code_utf8 p.supervisor (known_is_code o fit p.supervisor fits.supervisor), omega (arith, fits.quota))
-held_at o fit (row.Student code label) h =
+typed_at o fit (row.Student code label) h =
     let it = mapped student_row (student_of o code) (row.Student code label) h in
     let s = it.0 in
     let fits = all_has StudentFits o.students s fit.students_fit (found_has student_key (0, code) o.students s it.1) in
     subst IsTyped it.2 (code_utf8 s.code fits.code, label_utf8 s.label fits.label)
 
 -- each row of a fit office has UTF-8 texts and a small quota
-pub is_held : (o : State) (list : List Row) (r : Row) → IsFit o → AreRowsAt list (row_of o) → Has list r → IsTyped r
-is_held o list r fit at h = held_at o fit r (sym (at.each (key_of r)) ∙ row_stands list r at.apart h)
+pub is_typed : (o : State) (list : List Row) (r : Row) → IsFit o → AreRowsAt list (row_of o) → Has list r → IsTyped r
+is_typed o list r fit at h = typed_at o fit r (sym (at.each (key_of r)) ∙ row_stands list r at.apart h)
 
 filtered_go : (p : Row → Bool) (s r : Row) (rest : List Row) (b : Bool) → p s ≡ b → (Has (filter p rest) r → Has rest r × (p r ≡ true)) → Has (cond b (s ∷ filter p rest) (filter p rest)) r → Has (s ∷ rest) r × (p r ≡ true)
 filtered_go p s r rest true is later (inl same) = (inl same, ap p same ∙ is)

@@ -26,7 +26,7 @@ use Rattle.store.specs.Tables.{StandsFor, first_edition}
 use Rattle.store.specs.Reading.{AreListed, HoldsCells, HoldsNoRow, IsDamaged}
 use Rattle.store.proofs.Holding.{tree_is}
 use Rattle.store.proofs.Permuted.{has_permuted, rows_permuted, permuted_by_rolls}
-use Rattle.store.proofs.Fitness.{is_held, row_of_columns}
+use Rattle.store.proofs.Fitness.{is_typed, row_of_columns}
 
 -- tables that are listed otherwise stand for no office
 pub unlisted : (db : Database) → (AreListed db.schema → ⊥) → IsDamaged db
@@ -67,7 +67,7 @@ module _ (s : Seen) (live : IsLive s) (open_ : IsTrue s.is_open) where
       let here = n.holds (t.places roll) (t.rolls roll).listed (low_roll roll (t.places roll) (t.rolls roll).listed) in
       let same : IsPermutation n.all (columns_of roll t.list) = IsPermutation-trans _ _ _ here.holds (IsPermutation-sym _ _ (t.rolls roll).holds) in
       let it = row_of_columns roll t.list n.cells (has_permuted _ _ same n.cells n.among) in
-      n.none it.0 it.2 (is_held office t.list it.0 fit t.at it.1) (sym it.3)
+      n.none it.0 it.2 (is_typed office t.list it.0 fit t.at it.1) (sym it.3)
 
   -- rows of no office
   pub unfit : (rows : List Row) → ((roll : Roll) → HoldsCells roll (columns_of roll rows) s.now) → ((o : State) → IsFit o → from.AreRowsOf rows o → ⊥) → IsDamaged s.now
