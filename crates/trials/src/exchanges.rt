@@ -279,46 +279,42 @@ fn a_writer_fails(rt: HostRuntime) -> Result<(), Fail> {
     compare_narrow(rt.alloc(), &rt, 0, false, 1)
 }
 
-type Exchange = (&'static str, &'static str, &'static str, &'static str);
-
 // Each after those before it: method and path, body, status, and body of the answer.
 #[rattlefmt::skip]
-fn exchanges() -> [Exchange; 33] {
-    [
-        ("GET /desks",          "",                                                      "404 Not Found",          "{\"fault\":\"NoRoute\",\"number\":5}"),
-        ("GET /students/",      "",                                                      "404 Not Found",          "{\"fault\":\"NoRoute\",\"number\":5}"),
-        ("GET /students/S1/",   "",                                                      "404 Not Found",          "{\"fault\":\"NoRoute\",\"number\":5}"),
-        ("POST /desks",         "",                                                      "404 Not Found",          "{\"fault\":\"NoRoute\",\"number\":5}"),
-        ("POST /students/S1",   "{\"name\":",                                            "405 Method Not Allowed", "{\"fault\":\"WrongMethod\",\"number\":6}"),
-        ("PUT /students/S1",    "{\"name\":",                                            "400 Bad Request",        "{\"fault\":\"Json\",\"number\":7}"),
-        ("PUT /students/S1",    "",                                                      "400 Bad Request",        "{\"fault\":\"Json\",\"number\":7}"),
-        ("PUT /students/S1",    "[]",                                                    "400 Bad Request",        "{\"fault\":\"Members\",\"number\":8}"),
-        ("PUT /students/S1",    "{\"name\":\"Ann\",\"x\":1}",                            "400 Bad Request",        "{\"fault\":\"Members\",\"number\":8}"),
-        ("PUT /students/S1",    "{\"name\":1}",                                          "400 Bad Request",        "{\"fault\":\"Members\",\"number\":8}"),
-        ("GET /students/S1",    "{}",                                                    "400 Bad Request",        "{\"fault\":\"Members\",\"number\":8}"),
-        ("PUT /students/-A",    "{\"name\":\"Ann\"}",                                    "400 Bad Request",        "{\"fault\":\"Code\",\"number\":9}"),
-        ("PUT /students/S1",    "{\"name\":\"\"}",                                       "400 Bad Request",        "{\"fault\":\"Label\",\"number\":10}"),
-        ("PUT /students/S1",    "{\"name\":\"Bob\",\"name\":\"Ann\"}",                   "200 OK",                 "{\"ok\":true}"),
-        ("GET /students/S1",    "",                                                      "200 OK",                 "{\"list\":null,\"name\":\"Ann\",\"placed\":null}"),
-        ("PUT /supervisors/L",  "{\"name\":\"Lee\",\"quota\":501}",                      "400 Bad Request",        "{\"fault\":\"Quota\",\"number\":11}"),
-        ("PUT /supervisors/L",  "{\"name\":\"Lee\",\"quota\":5.0}",                      "400 Bad Request",        "{\"fault\":\"Quota\",\"number\":11}"),
-        ("PUT /supervisors/L",  "{\"name\":\"Lee\",\"quota\":-1}",                       "400 Bad Request",        "{\"fault\":\"Quota\",\"number\":11}"),
-        ("PUT /supervisors/L",  "{\"name\":\"Lee\",\"quota\":99999999999999999999}",     "400 Bad Request",        "{\"fault\":\"Quota\",\"number\":11}"),
-        ("PUT /supervisors/L",  "{\"name\":\"\",\"quota\":501}",                         "400 Bad Request",        "{\"fault\":\"Label\",\"number\":10}"),
-        ("PUT /supervisors/-A", "{\"name\":\"Lee\",\"quota\":500}",                      "400 Bad Request",        "{\"fault\":\"Code\",\"number\":9}"),
-        ("PUT /supervisors/L",  "{\"name\":\"Lee\",\"quota\":\"5\"}",                    "400 Bad Request",        "{\"fault\":\"Members\",\"number\":8}"),
-        ("PUT /supervisors/L",  "{\"quota\":500,\"name\":\"Lee\"}",                      "200 OK",                 "{\"ok\":true}"),
-        ("GET /supervisors/L",  "",                                                      "200 OK",                 "{\"name\":\"Lee\",\"placed\":0,\"quota\":500}"),
-        ("GET /supervisors/K",  "",                                                      "404 Not Found",          "{\"fault\":\"UnknownSupervisor\",\"number\":13}"),
-        ("PUT /projects/P",     "{\"name\":\"Pumps\",\"quota\":2,\"supervisor\":\"K\"}", "404 Not Found",          "{\"fault\":\"UnknownSupervisor\",\"number\":13}"),
-        ("PUT /projects/P",     "{\"name\":\"Pumps\",\"quota\":2,\"supervisor\":\"L\"}", "200 OK",                 "{\"ok\":true}"),
-        ("PUT /projects/P",     "{\"name\":\"Pumps\",\"quota\":2,\"supervisor\":\"K\"}", "404 Not Found",          "{\"fault\":\"UnknownSupervisor\",\"number\":13}"),
-        ("PUT /supervisors/K",  "{\"name\":\"Kim\",\"quota\":0}",                        "200 OK",                 "{\"ok\":true}"),
-        ("PUT /projects/P",     "{\"name\":\"Pumps\",\"quota\":2,\"supervisor\":\"K\"}", "409 Conflict",           "{\"fault\":\"SupervisorFixed\",\"number\":16}"),
-        ("PUT /projects/P",     "{\"name\":\"Pumps\",\"quota\":2}",                      "400 Bad Request",        "{\"fault\":\"Members\",\"number\":8}"),
-        ("GET /projects/P",     "",                                                      "200 OK",                 "{\"name\":\"Pumps\",\"placed\":0,\"quota\":2,\"supervisor\":\"L\"}"),
-        ("GET /projects/p",     "",                                                      "404 Not Found",          "{\"fault\":\"UnknownProject\",\"number\":14}"),
-    ]
+fn exchanges() -> &'static str {
+    r#"GET /desks          |                                             | 404 Not Found          | {"fault":"NoRoute","number":5}
+       GET /students/      |                                             | 404 Not Found          | {"fault":"NoRoute","number":5}
+       GET /students/S1/   |                                             | 404 Not Found          | {"fault":"NoRoute","number":5}
+       POST /desks         |                                             | 404 Not Found          | {"fault":"NoRoute","number":5}
+       POST /students/S1   | {"name":                                    | 405 Method Not Allowed | {"fault":"WrongMethod","number":6}
+       PUT /students/S1    | {"name":                                    | 400 Bad Request        | {"fault":"Json","number":7}
+       PUT /students/S1    |                                             | 400 Bad Request        | {"fault":"Json","number":7}
+       PUT /students/S1    | []                                          | 400 Bad Request        | {"fault":"Members","number":8}
+       PUT /students/S1    | {"name":"Ann","x":1}                        | 400 Bad Request        | {"fault":"Members","number":8}
+       PUT /students/S1    | {"name":1}                                  | 400 Bad Request        | {"fault":"Members","number":8}
+       GET /students/S1    | {}                                          | 400 Bad Request        | {"fault":"Members","number":8}
+       PUT /students/-A    | {"name":"Ann"}                              | 400 Bad Request        | {"fault":"Code","number":9}
+       PUT /students/S1    | {"name":""}                                 | 400 Bad Request        | {"fault":"Label","number":10}
+       PUT /students/S1    | {"name":"Bob","name":"Ann"}                 | 200 OK                 | {"ok":true}
+       GET /students/S1    |                                             | 200 OK                 | {"list":null,"name":"Ann","placed":null}
+       PUT /supervisors/L  | {"name":"Lee","quota":501}                  | 400 Bad Request        | {"fault":"Quota","number":11}
+       PUT /supervisors/L  | {"name":"Lee","quota":5.0}                  | 400 Bad Request        | {"fault":"Quota","number":11}
+       PUT /supervisors/L  | {"name":"Lee","quota":-1}                   | 400 Bad Request        | {"fault":"Quota","number":11}
+       PUT /supervisors/L  | {"name":"Lee","quota":99999999999999999999} | 400 Bad Request        | {"fault":"Quota","number":11}
+       PUT /supervisors/L  | {"name":"","quota":501}                     | 400 Bad Request        | {"fault":"Label","number":10}
+       PUT /supervisors/-A | {"name":"Lee","quota":500}                  | 400 Bad Request        | {"fault":"Code","number":9}
+       PUT /supervisors/L  | {"name":"Lee","quota":"5"}                  | 400 Bad Request        | {"fault":"Members","number":8}
+       PUT /supervisors/L  | {"quota":500,"name":"Lee"}                  | 200 OK                 | {"ok":true}
+       GET /supervisors/L  |                                             | 200 OK                 | {"name":"Lee","placed":0,"quota":500}
+       GET /supervisors/K  |                                             | 404 Not Found          | {"fault":"UnknownSupervisor","number":13}
+       PUT /projects/P     | {"name":"Pumps","quota":2,"supervisor":"K"} | 404 Not Found          | {"fault":"UnknownSupervisor","number":13}
+       PUT /projects/P     | {"name":"Pumps","quota":2,"supervisor":"L"} | 200 OK                 | {"ok":true}
+       PUT /projects/P     | {"name":"Pumps","quota":2,"supervisor":"K"} | 404 Not Found          | {"fault":"UnknownSupervisor","number":13}
+       PUT /supervisors/K  | {"name":"Kim","quota":0}                    | 200 OK                 | {"ok":true}
+       PUT /projects/P     | {"name":"Pumps","quota":2,"supervisor":"K"} | 409 Conflict           | {"fault":"SupervisorFixed","number":16}
+       PUT /projects/P     | {"name":"Pumps","quota":2}                  | 400 Bad Request        | {"fault":"Members","number":8}
+       GET /projects/P     |                                             | 200 OK                 | {"name":"Pumps","placed":0,"quota":2,"supervisor":"L"}
+       GET /projects/p     |                                             | 404 Not Found          | {"fault":"UnknownProject","number":14}"#
 }
 
 /// The answer with this status and body.
@@ -349,16 +345,34 @@ fn message(alloc: Global, asked: &str, body: &str) -> Result<String, AllocError>
     format!(in alloc; "{asked} HTTP/1.1\r\nContent-Length: {len}\r\n\r\n{body}")
 }
 
-/// Compares the answer of each row.
+/// The first cell of a line, without the blanks around it, and what is behind its bar.
+fn first_cell(line: &str) -> (&str, &str) {
+    match line.split_once('|') {
+        Some((cell, rest)) => (cell.trim(), rest),
+        None => (line.trim(), ""),
+    }
+}
+
+/// Compares the answer of each line.
 fn compare_exchanges(
     alloc: Global,
     rt: &impl Abort,
     desk: &mut Desk<MemStore>,
-    rows: &[Exchange],
+    lines: &str,
 ) -> Result<(), Fail> {
-    for (asked, body, status, told) in rows {
+    for line in lines.lines() {
+        let (asked, rest) = first_cell(line);
+        let (body, rest) = first_cell(rest);
+        let (status, told) = first_cell(rest);
         let message = message(alloc, asked, body)?;
-        let is_told = is_told(alloc, desk, message.as_bytes(), status, told, End::Closed)?;
+        let is_told = is_told(
+            alloc,
+            desk,
+            message.as_bytes(),
+            status,
+            told.trim(),
+            End::Closed,
+        )?;
         assert!(rt; is_told, "{asked} {body}");
     }
     Ok(())
@@ -367,7 +381,7 @@ fn compare_exchanges(
 #[test]
 fn requests_are_answered(rt: HostRuntime) -> Result<(), Fail> {
     let mut desk = new_desk(rt.alloc(), &rt)?;
-    compare_exchanges(rt.alloc(), &rt, &mut desk, exchanges().as_slice())
+    compare_exchanges(rt.alloc(), &rt, &mut desk, exchanges())
 }
 
 #[test]
