@@ -13,3 +13,18 @@ pub returns-in-Some-clause-named : goal.returns-in-Some-clause-named
 returns-in-Some-clause-named g c =
     due (refusal c.args.self.now.office (asked_of c.args.request)) c.in-Some.refusal
     (sym (c.refusal_of.ensures.refusal ∙ ap (λ k. refusal k.office (asked_of c.args.request)) c.self.view_is) ∙ c.in-Some.is)
+
+pub read-requires : goal.read-requires
+read-requires g c = record { read = sym c.if-is_read.ensures.read }
+
+pub returns-then-is_read-clause-quiet : goal.returns-then-is_read-clause-quiet
+returns-then-is_read-clause-quiet g c = λ _. c.read.ensures.store
+
+pub returns-then-is_read-clause-storage : goal.returns-then-is_read-clause-storage
+returns-then-is_read-clause-storage g c = λ is. absurd (c.read.ensures.storage is)
+
+pub returns-else-is_read-clause-alone : goal.returns-else-is_read-clause-alone
+returns-else-is_read-clause-alone g c = λ _. c.change.ensures.alone
+
+pub returns-else-is_read-clause-acted_on : goal.returns-else-is_read-clause-acted_on
+returns-else-is_read-clause-acted_on g c = λ _. c.change.ensures.acted_on
