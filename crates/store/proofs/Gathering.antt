@@ -7,7 +7,8 @@ use Rattle.sqlite_rules.specs.Lists.{Has}
 use Rattle.sqlite_rules.proofs.ListLemmas.{has_either, has_left, has_right}
 use Rattle.sqlite.specs.Order.{Row as Cells}
 use Rattle.sqlite.specs.Effect.{Database}
-use Rattle.sqlite.specs.State.{State as Seen, IsUnchanged}
+use Rattle.sqlite.specs.State.{State as Seen, IsUnchanged, Survives}
+use Rattle.sqlite.proofs.StateLemmas.{survives_then}
 use Rattle.rolls.specs.declared.row.Row.{Row}
 use Rattle.store.specs.declared.roll.Roll.{Roll}
 use Rattle.store.specs.Rows.{columns, is_in, columns_of, rolls}
@@ -62,6 +63,10 @@ unchanged_then a b c p q = (
   record { changes = q.1.changes ∙ p.1.changes; last_rowid = q.1.last_rowid ∙ p.1.last_rowid },
   q.2 ∙ p.2,
 )
+
+-- two calls that commit nothing
+pub survives_both : (a b c : Seen) → Survives a b (λ _. ⊥) → Survives b c (λ _. ⊥) → Survives a c (λ _. ⊥)
+survives_both a b c = survives_then a b c (λ _. ⊥) (λ _. ⊥) (λ _. ⊥) (λ _ db none. none) (λ _ db none. none)
 
 -- nothing was read yet
 pub reads_none : (s : Seen) → ReadsSome 0 [] s s

@@ -1,9 +1,10 @@
 -- What was read from the tables says whether they stand for a fit office.
-use Rattle.std.proofs.Common.{◌≡◌, ◌≢◌, List, [], ◌∷◌, map, drop, refl, sym, ap, subst, nat_lt, ◌^◌, true, IsTrue, length, arith, inl, inr}
+use Rattle.std.proofs.Common.{◌≡◌, ◌≢◌, List, [], ◌∷◌, map, drop, refl, sym, ap, subst, nat_lt, ◌^◌, true, IsTrue, length, arith, inl, inr, pos, get_or, ◌∙◌}
 use Rattle.std.specs.List.Sorted.{IsPermutation}
 use Rattle.std.proofs.lemmas.List.Sorted.{IsPermutation-trans, IsPermutation-sym, length_permutation}
 use Rattle.sqlite_rules.specs.Lists.{Has}
-use Rattle.sqlite.specs.Order.{Row as Cells}
+use Rattle.sqlite.specs.Order.{Row as Cells, column}
+use Rattle.sqlite.specs.declared.types.Value.TheVariants.{Int}
 use Rattle.sqlite.specs.Effect.{Database}
 use Rattle.sqlite.specs.State.{State as Seen, IsLive}
 use Rattle.tables.specs.Table.{Place, Lists, edition_table}
@@ -24,9 +25,16 @@ use Rattle.store.specs.Faults.{of_rows}
 use Rattle.store.specs.declared.fault.StoreFault.TheVariants.{Damaged}
 use Rattle.store.specs.Tables.{StandsFor, first_edition}
 use Rattle.store.specs.Reading.{AreListed, HoldsCells, HoldsNoRow, IsDamaged}
+use Rattle.store.proofs.Cells.{two_after}
 use Rattle.store.proofs.Holding.{tree_is}
 use Rattle.store.proofs.Permuted.{has_permuted, rows_permuted, permuted_by_rolls}
 use Rattle.store.proofs.Fitness.{is_typed, row_of_columns}
+
+-- one row with these two columns after its rowid is that of this edition
+pub is_first : (all : List Cells) (cells : Cells) → length all ≡ 1 → cells ≡ get_or all 0 cells → length cells ≡ 3 → column cells 1 ≡ Int (pos 1) → column cells 2 ≡ Int (pos 1) → map (drop 1) all ≡ first_edition
+is_first [] cells one is three p q = absurd (omega (arith, one))
+is_first (x ∷ []) cells one is three p q = ap (λ (row : Cells). drop 1 row ∷ []) (sym is) ∙ ap (λ (row : Cells). row ∷ []) (sym (two_after cells (Int (pos 1)) (Int (pos 1)) three p q))
+is_first (x ∷ y ∷ more) cells one is three p q = absurd (omega (arith, one))
 
 -- tables that are listed otherwise stand for no office
 pub unlisted : (db : Database) → (AreListed db.schema → ⊥) → IsDamaged db

@@ -7,6 +7,7 @@ mod Applying
 mod Making
 mod Inertness
 mod Judging
+mod Committing
 mod Gathering
 mod Permuted
 mod Fitness

@@ -1,6 +1,6 @@
 -- The tables that were made stand for the empty office.
-use Rattle.std.proofs.Common.{◌≡◌, ◌≢◌, ◌⊎◌, ◌+◌, ◌<◌, ◌++◌, ℕ, List, [], ◌∷◌, length, get_or, take, Result, Ok, Err, OnOk, inl, inr, refl, sym, subst, ◌∙◌}
-use Rattle.std.proofs.lemmas.List.{take_more}
+use Rattle.std.proofs.Common.{◌≡◌, ◌≢◌, ◌⊎◌, ◌+◌, ◌<◌, ◌≤◌, ◌++◌, ℕ, List, [], ◌∷◌, length, get_or, take, Result, Ok, Err, OnOk, inl, inr, refl, sym, subst, ◌∙◌}
+use Rattle.std.proofs.lemmas.List.{take_more, take_all}
 use Rattle.sqlite.specs.Effect.{Database}
 use Rattle.sqlite.specs.Table.{Table}
 use Rattle.sqlite.specs.State.{State as Seen}
@@ -84,6 +84,10 @@ made_more i all d a b c low p n =
     let q = get_or all i d in
     subst (λ rs. Stays (MakesRolls rs) a c) (sym (take_more all i d low))
     (stays_then (MakesRolls (take i all)) (Makes (table_of q) []) (MakesRolls (take i all ++ q ∷ [])) a b c (made_then (take i all) q a.now b.now c.now) p n)
+
+-- each of them was made
+pub made_all : (i : ℕ) (all : List Roll) (a b : Seen) → length all ≤ i → Stays (MakesRolls (take i all)) a b → Stays (MakesRolls all) a b
+made_all i all a b end = subst (λ rs. Stays (MakesRolls rs) a b) (take_all i all end)
 
 -- the tables of all rolls beside that of the edition
 empty_stands : (a b c : Database) → Makes edition_table first_edition a b → MakesRolls rolls b c → StandsFor c empty

@@ -7,7 +7,8 @@ use Rattle.store.specs.declared.fault.StoreFault.TheVariants.{Damaged}
 use Rattle.store.specs.Faults.{of_rows}
 use Rattle.store.specs.Tables.{first_edition}
 use Rattle.store.specs.Reading.{AreListed}
-use Rattle.store.proofs.Gathering.{none_back, holds_back, unchanged_then}
+use Rattle.tables.proofs.Runs.{rests_then}
+use Rattle.store.proofs.Gathering.{none_back, holds_back, unchanged_then, survives_both}
 use Rattle.store.proofs.Judged.{other_edition, unread, unfit, stood, refused}
 use Rattle.store.proofs.reading.office_of.Goals as goal
 
@@ -44,3 +45,30 @@ returns-clause-ok g c clean =
       unchanged_then _ _ _ shows.same all.same,
       stood (state g.S.Store c.args.conn.now) c.schema.ensures.live shows.same.0.was_open listed _ _ c.in_ok-rows.rows.items _ shows first (λ roll. holds_back roll _ _ _ shows.same.0.now_is (all.holds roll)) c.in_ok-from_rows.ensures.rows,
     )
+
+pub returns-in_err-rows-clause-rests : goal.returns-in_err-rows-clause-rests
+returns-in_err-rows-clause-rests g c clean =
+    let mid = state g.S.Store c.read_edition.new.conn in
+    let early : HasCleanDisk mid = omega (arith, c.read_rows.ensures.survives.clean) in
+    rests_then (state g.S.Store c.args.conn.now) mid (state g.S.Store c.read_rows.new.conn) (c.in_ok-edition.ensures.rests early) (c.read_rows.ensures.rests clean)
+
+pub returns-in_err-rows-clause-survives : goal.returns-in_err-rows-clause-survives
+returns-in_err-rows-clause-survives g c = survives_both _ _ _ c.in_ok-edition.ensures.survives c.read_rows.ensures.survives
+
+pub returns-in_err-from_rows-clause-rests : goal.returns-in_err-from_rows-clause-rests
+returns-in_err-from_rows-clause-rests g c clean =
+    let mid = state g.S.Store c.read_edition.new.conn in
+    let early : HasCleanDisk mid = omega (arith, c.read_rows.ensures.survives.clean) in
+    rests_then (state g.S.Store c.args.conn.now) mid (state g.S.Store c.read_rows.new.conn) (c.in_ok-edition.ensures.rests early) (c.in_ok-rows.ensures.rests clean)
+
+pub returns-in_err-from_rows-clause-survives : goal.returns-in_err-from_rows-clause-survives
+returns-in_err-from_rows-clause-survives g c = survives_both _ _ _ c.in_ok-edition.ensures.survives c.in_ok-rows.ensures.survives
+
+pub returns-clause-rests : goal.returns-clause-rests
+returns-clause-rests g c clean =
+    let mid = state g.S.Store c.read_edition.new.conn in
+    let early : HasCleanDisk mid = omega (arith, c.read_rows.ensures.survives.clean) in
+    rests_then (state g.S.Store c.args.conn.now) mid (state g.S.Store c.read_rows.new.conn) (c.in_ok-edition.ensures.rests early) (c.in_ok-rows.ensures.rests clean)
+
+pub returns-clause-survives : goal.returns-clause-survives
+returns-clause-survives g c = survives_both _ _ _ c.in_ok-edition.ensures.survives c.in_ok-rows.ensures.survives

@@ -1,10 +1,11 @@
-use Rattle.std.proofs.Common.{◌+◌, refl, sym, subst, arith}
+use Rattle.std.proofs.Common.{◌≡◌, ◌+◌, length, Err, refl, sym, subst, arith, rules}
 use Rattle.sqlite.specs.State.{HasCleanDisk}
 use Rattle.sqlite.specs.Held.{state}
-use Rattle.sqlite.proofs.StateLemmas.{survives_then}
 use Rattle.tables.proofs.Runs.{rests_then, survives_none}
+use Rattle.store.specs.declared.fault.StoreFault.TheVariants.{Damaged}
+use Rattle.store.specs.Rows.{rolls}
 use Rattle.store.specs.Reading.{ReadsSome}
-use Rattle.store.proofs.Gathering.{reads_none, reads_more}
+use Rattle.store.proofs.Gathering.{survives_both, reads_none, reads_more, reads_all, unread_then}
 use Rattle.store.proofs.reading.read_rows.Goals as goal
 
 pub loop-roll-init : goal.loop-roll-init
@@ -25,7 +26,7 @@ loop-roll-preserved g c =
     let it = c.in_ok-more.ensures in
     let l = c.loop-roll.invariant in
     record {
-      survives = survives_then old mid new _ _ (λ _. ⊥) (λ _ db none. none) (λ _ db none. none) l.survives it.survives;
+      survives = survives_both old mid new l.survives it.survives;
       mode = λ ended. it.mode (l.mode ended);
       rests = λ clean.
           let early : HasCleanDisk mid = omega (arith, it.survives.clean) in
@@ -35,3 +36,32 @@ loop-roll-preserved g c =
           subst (λ rows. ReadsSome (c.loop-roll.roll-index + 1) rows old new) (sym c.in_ok-append.ensures.items)
           (reads_more c.loop-roll.roll-index _ _ _ old mid new c.loop-roll-test.true (l.reads early) (it.rows clean));
     }
+
+pub returns-in_err-more-clause-damaged : goal.returns-in_err-more-clause-damaged
+returns-in_err-more-clause-damaged g c clean h =
+    let was : c.read_roll.result ≡ Err Damaged = search rules in
+    let early : HasCleanDisk (state g.S.Store c.loop-roll.conn) = omega (arith, c.read_roll.ensures.survives.clean) in
+    unread_then _ _ _ _ _ (c.loop-roll.invariant.reads early) (c.read_roll.ensures.damaged clean was)
+
+pub returns-in_err-more-clause-rests : goal.returns-in_err-more-clause-rests
+returns-in_err-more-clause-rests g c clean =
+    let mid = state g.S.Store c.loop-roll.conn in
+    let early : HasCleanDisk mid = omega (arith, c.read_roll.ensures.survives.clean) in
+    rests_then (state g.S.Store c.args.conn.now) mid (state g.S.Store c.read_roll.new.conn) (c.loop-roll.invariant.rests early) (c.read_roll.ensures.rests clean)
+
+pub returns-in_err-more-clause-survives : goal.returns-in_err-more-clause-survives
+returns-in_err-more-clause-survives g c = survives_both _ _ _ c.loop-roll.invariant.survives c.read_roll.ensures.survives
+
+pub returns-in_err-append-clause-rests : goal.returns-in_err-append-clause-rests
+returns-in_err-append-clause-rests g c clean =
+    let mid = state g.S.Store c.loop-roll.conn in
+    let early : HasCleanDisk mid = omega (arith, c.read_roll.ensures.survives.clean) in
+    rests_then (state g.S.Store c.args.conn.now) mid (state g.S.Store c.read_roll.new.conn) (c.loop-roll.invariant.rests early) (c.in_ok-more.ensures.rests clean)
+
+pub returns-in_err-append-clause-survives : goal.returns-in_err-append-clause-survives
+returns-in_err-append-clause-survives g c = survives_both _ _ _ c.loop-roll.invariant.survives c.in_ok-more.ensures.survives
+
+pub returns-clause-rows : goal.returns-clause-rows
+returns-clause-rows g c clean =
+    let end : c.loop-roll.roll-index ≡ length rolls = omega arith in
+    reads_all c.loop-roll.roll-index _ _ _ end (c.loop-roll.invariant.reads clean)

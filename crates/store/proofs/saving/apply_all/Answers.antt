@@ -1,8 +1,8 @@
 use Rattle.std.proofs.Common.{refl, arith, ◌∙◌}
 use Rattle.sqlite.specs.State.{HasCleanDisk}
 use Rattle.sqlite.specs.Held.{state}
-use Rattle.sqlite.proofs.StateLemmas.{survives_then}
 use Rattle.tables.proofs.Runs.{survives_none}
+use Rattle.store.proofs.Gathering.{survives_both}
 use Rattle.store.proofs.Applying.{changes_more, changes_none}
 use Rattle.store.proofs.saving.apply_all.Goals as goal
 
@@ -14,7 +14,7 @@ loop-change-preserved g c =
     let it = c.in_ok-apply.ensures in
     let l = c.loop-change.invariant in (
       it.same_reference ∙ l.0,
-      survives_then old mid new _ _ (λ _. ⊥) (λ _ db none. none) (λ _ db none. none) l.1 it.survives,
+      survives_both old mid new l.1 it.survives,
       λ clean.
           let early : HasCleanDisk mid = omega (arith, it.survives.clean) in
           changes_more c.loop-change.change-index c.args.changes.now c.change-item.result old mid new c.loop-change-test.true c.change-item.is (l.2 early) (it.stepped clean),
