@@ -19,6 +19,7 @@ use rolls::{Done, Plain, Refusal, Reply, Request};
 use sqlite::{Alter, Connection};
 use std::alloc::{AllocError, Global};
 use std::marker::Model;
+use std::mem;
 use store::{Store, StoreFault};
 
 /// An office in memory beside the tables that stand for it.
@@ -173,15 +174,15 @@ impl<S: Alter> Desk<S> {
     {
         let mut next = self.office.copy()?;
         match next.apply(plain) {
-            Ok(done) => self.settle(next, done),
+            Ok(done) => self.settle(&mut next, done),
             Err(refusal) => Err(refusal),
         }
     }
 
-    /// The changes are saved, and then the office is the next one.
-    fn settle(&mut self, next: Office, done: Done) -> Result<Reply, Refusal>
-        requires turns { let changes = done.changes in Turns changes.items self.old.office next }
-        ensures ok { IfOk result (λ reply. (reply ≡ done.reply) × (self.new.office ≡ next)) }
+    /// The changes are saved, and then the office and the next one are exchanged.
+    fn settle(&mut self, next: &mut Office, done: Done) -> Result<Reply, Refusal>
+        requires turns { let changes = done.changes in Turns changes.items self.old.office next.old }
+        ensures ok { IfOk result (λ reply. (reply ≡ done.reply) × (self.new.office ≡ next.old)) }
         ensures err { IfErr result (λ refusal. ((refusal ≡ Refusal.Memory) ⊎ (refusal ≡ Refusal.Storage)) × (self.new.office ≡ self.old.office)) }
         ensures tables { Keeps (state S.Store self.new.store) self.new.office }
         ensures crash { let changes = done.changes in Survives (state S.Store self.old.store) (state S.Store self.new.store) (IsLeft (Saves changes.items) (state S.Store self.old.store).now) }
@@ -190,7 +191,7 @@ impl<S: Alter> Desk<S> {
     {
         match self.store.save(&done.changes) {
             Ok(()) => {
-                self.office = next;
+                mem::swap(&mut self.office, next);
                 Ok(done.reply)
             }
             Err(fault) => Err(refusal_of_fault(fault)),

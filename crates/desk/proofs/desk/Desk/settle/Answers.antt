@@ -1,29 +1,35 @@
-use Rattle.std.proofs.Common.{◌≡◌, List, refl, ap}
+use Rattle.std.proofs.Common.{◌≡◌, List, refl, sym, ap, subst}
 use Rattle.sqlite.specs.State.{State as Seen, Survives}
 use Rattle.sqlite.specs.Held.{state}
 use Rattle.tables.specs.Steps.{IsLeft}
 use Rattle.rolls.specs.declared.row.Change.{Change}
+use Rattle.rolls.specs.State.{State}
+use Rattle.rolls.specs.Rows.{Turns}
 use Rattle.store.specs.Saving.{Saves}
-use Rattle.desk.proofs.Settling.{saved_keeps}
+use Rattle.desk.proofs.Settling.{saved_keeps, kept_keeps}
 use Rattle.desk.proofs.desk.Desk.settle.Goals as goal
+
+-- changes that turn an office into the next one turn it into what the next one is exchanged for
+turned : (changes : List Change) (office next here : State) → here ≡ next → Turns changes office next → Turns changes office here
+turned changes office next here e turns = subst (λ (o : State). Turns changes office o) (sym e) turns
 
 pub invariant_of-self : goal.invariant_of-self
 invariant_of-self g c = record {
-  stands = saved_keeps c.args.done.changes.items c.deref.result.now c.deref.ensures.value c.args.self.now.office c.self.inside.office c.args.next (ap (λ k. k.office) c.self.view_is)
-      (state g.S.Store c.self.inside.store) (state g.S.Store c.save.new.self) _ c.requires.turns c.save.ensures.crash c.in-Ok.ensures.ok c.self.invariant.stands;
+  stands = saved_keeps c.args.done.changes.items c.deref.result.now c.deref.ensures.value c.args.self.now.office c.self.inside.office c.swap.new.x (ap (λ k. k.office) c.self.view_is)
+      (state g.S.Store c.self.inside.store) (state g.S.Store c.save.new.self) _ (turned c.args.done.changes.items c.args.self.now.office c.args.next.now c.swap.new.x c.swap.ensures.x_after c.requires.turns) c.save.ensures.crash c.in-Ok.ensures.ok c.self.invariant.stands;
   ended = c.save.ensures.ended c.self.invariant.ended;
 }
 
 pub returns-in-Ok-clause-tables : goal.returns-in-Ok-clause-tables
 returns-in-Ok-clause-tables g c =
-    saved_keeps c.args.done.changes.items c.deref.result.now c.deref.ensures.value c.args.self.now.office c.self.inside.office c.args.next (ap (λ k. k.office) c.self.view_is)
-    (state g.S.Store c.self.inside.store) (state g.S.Store c.save.new.self) _ c.requires.turns c.save.ensures.crash c.in-Ok.ensures.ok c.self.invariant.stands
-
-pub returns-in-Ok-clause-ok : goal.returns-in-Ok-clause-ok
-returns-in-Ok-clause-ok g c = (refl, refl)
+    saved_keeps c.args.done.changes.items c.deref.result.now c.deref.ensures.value c.args.self.now.office c.self.inside.office c.swap.new.x (ap (λ k. k.office) c.self.view_is)
+    (state g.S.Store c.self.inside.store) (state g.S.Store c.save.new.self) _ (turned c.args.done.changes.items c.args.self.now.office c.args.next.now c.swap.new.x c.swap.ensures.x_after c.requires.turns) c.save.ensures.crash c.in-Ok.ensures.ok c.self.invariant.stands
 
 pub returns-in-Ok-clause-err : goal.returns-in-Ok-clause-err
 returns-in-Ok-clause-err g c = tt
+
+pub returns-in-Ok-clause-ok : goal.returns-in-Ok-clause-ok
+returns-in-Ok-clause-ok g c = (refl, c.swap.ensures.x_after)
 
 -- what a crash leaves, of the changes that were given
 left_of : (given changes : List Change) (before seen : Seen) (new : Seen) → given ≡ changes → before ≡ seen
@@ -39,3 +45,10 @@ pub returns-in-Err-clause-crash : goal.returns-in-Err-clause-crash
 returns-in-Err-clause-crash g c =
     left_of c.deref.result.now c.args.done.changes.items (state g.S.Store c.self.inside.store) (state g.S.Store c.args.self.now.store) (state g.S.Store c.save.new.self)
     c.deref.ensures.value (ap (λ k. state g.S.Store k.store) c.self.view_is) c.save.ensures.crash
+
+pub returns-in-Err-clause-tables : goal.returns-in-Err-clause-tables
+returns-in-Err-clause-tables g c =
+    kept_keeps c.self.inside.office (state g.S.Store c.self.inside.store) (state g.S.Store c.save.new.self) _ c.save.ensures.crash c.in-Err.ensures.err c.self.invariant.stands
+
+pub returns-in-Ok-clause-alone : goal.returns-in-Ok-clause-alone
+returns-in-Ok-clause-alone g c = c.in-Ok.ensures.alone
