@@ -1,5 +1,5 @@
 //! What the paths of messages name.
-ghost use Rattle.std.specs.Prelude.{◌≡◌, ℕ, List, ◌++◌, length, MatchOption, IfOk, IfErr, false, option_map, codes};
+ghost use Rattle.std.specs.Prelude.{◌≡◌, ℕ, List, [], ◌++◌, length, MatchOption, IfOk, IfErr, OnOk, false, option_map, codes};
 ghost use Rattle.matchit.specs.Seek.{has_slash};
 ghost use Rattle.web.specs.Paths.{place_of, front_of, all_routes, is_empty};
 
@@ -27,10 +27,22 @@ pub fn router(alloc: Global) -> Result<Router<Kind>, InsertError>
     ensures memory { IfErr result (λ error. error ≡ InsertError.OutOfMemory) }
 {
     let mut router = Router::new(alloc);
+    match insert_routes(&mut router) {
+        Ok(()) => Ok(router),
+        Err(error) => Err(error),
+    }
+}
+
+/// The paths, put into a router that has none.
+fn insert_routes(router: &mut Router<Kind>) -> Result<(), InsertError>
+    requires { router.old ≡ [] }
+    ensures routes { OnOk result (router.new ≡ all_routes) }
+    ensures memory { IfErr result (λ error. error ≡ InsertError.OutOfMemory) }
+{
     router.insert("/supervisors/{code}", Kind::Supervisor)?;
     router.insert("/projects/{code}", Kind::Project)?;
     router.insert("/students/{code}", Kind::Student)?;
-    Ok(router)
+    Ok(())
 }
 
 /// What stands before the code in a path.

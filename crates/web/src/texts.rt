@@ -143,19 +143,19 @@ fn student_text(alloc: Global, name: &str) -> Result<String, AllocError>
 
 /// The answer of success with a body.
 #[tactic(auto, unfolding(wire::specs::Text::reason_of))]
-fn with_head(alloc: Global, body: &str) -> Result<Vec<u8>, AllocError>
-    ensures { IfOk result (λ bytes. bytes.items ≡ json_answer 200 body.now) }
+fn with_head(alloc: Global, body: &str) -> Result<Answer, AllocError>
+    ensures { IfOk result (λ answer. answer_bytes answer ≡ json_answer 200 body.now) }
 {
     let head = json_head(StatusCode::OK, body.len());
     let mut bytes = Vec::from_slice(alloc, head.as_slice())?;
     bytes.extend_from_slice(body.as_bytes())?;
-    Ok(bytes)
+    Ok(Answer::Long(bytes))
 }
 
 /// The answer of success. For a change it takes no memory.
-fn reply_answer(alloc: Global, reply: Reply) -> Result<Answer, AllocError>
-    ensures text { IfOk result (λ answer. answer_bytes answer ≡ text_of (Ok reply)) }
-    ensures memory { OnErr result (IsRead (Ok reply)) }
+fn reply_answer(alloc: Global, reply: &Reply) -> Result<Answer, AllocError>
+    ensures text { IfOk result (λ answer. answer_bytes answer ≡ text_of (Ok reply.now)) }
+    ensures memory { OnErr result (IsRead (Ok reply.now)) }
 {
     match reply {
         Reply::Done => Ok(Answer::Short(done_answer())),
@@ -164,8 +164,8 @@ fn reply_answer(alloc: Global, reply: Reply) -> Result<Answer, AllocError>
             placed,
             quota,
         } => {
-            let body = supervisor_text(alloc, name.as_str(), placed, quota)?;
-            Ok(Answer::Long(with_head(alloc, body.as_str())?))
+            let body = supervisor_text(alloc, name.as_str(), *placed, *quota)?;
+            with_head(alloc, body.as_str())
         }
         Reply::Project {
             name,
@@ -173,12 +173,12 @@ fn reply_answer(alloc: Global, reply: Reply) -> Result<Answer, AllocError>
             quota,
             supervisor,
         } => {
-            let body = project_text(alloc, name.as_str(), placed, quota, supervisor.as_str())?;
-            Ok(Answer::Long(with_head(alloc, body.as_str())?))
+            let body = project_text(alloc, name.as_str(), *placed, *quota, supervisor.as_str())?;
+            with_head(alloc, body.as_str())
         }
         Reply::Student { name } => {
             let body = student_text(alloc, name.as_str())?;
-            Ok(Answer::Long(with_head(alloc, body.as_str())?))
+            with_head(alloc, body.as_str())
         }
     }
 }
@@ -190,7 +190,7 @@ pub fn answer_of(alloc: Global, outcome: Result<Reply, Refusal>) -> Answer
 {
     match outcome {
         Err(refusal) => Answer::Short(refusal_answer(refusal)),
-        Ok(reply) => match reply_answer(alloc, reply) {
+        Ok(reply) => match reply_answer(alloc, &reply) {
             Ok(answer) => answer,
             Err(_) => Answer::Short(refusal_answer(Refusal::Memory)),
         },

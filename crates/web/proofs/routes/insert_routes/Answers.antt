@@ -8,7 +8,7 @@ use Rattle.matchit.proofs.OnLiterals.{matchit_on_literals}
 use Rattle.web.specs.declared.routes.Kind.{Kind}
 use Rattle.web.specs.declared.routes.Kind.TheVariants.{Supervisor, Project}
 use Rattle.web.specs.Paths.{all_routes, row}
-use Rattle.web.proofs.routes.router.Goals as goal
+use Rattle.web.proofs.routes.insert_routes.Goals as goal
 
 -- where no row conflicts with a pattern, it is refused for want of memory alone
 no_conflict : (pattern : List ℕ) (rows : RowsOf (RouteOf Kind)) (error : InsertError) → nearest pattern rows ≡ None → Refused pattern rows error → error ≡ OutOfMemory
@@ -30,20 +30,20 @@ pub returns-in_err-insert-clause-memory : goal.returns-in_err-insert-clause-memo
 unfolding matchit_on_literals
 returns-in_err-insert-clause-memory c =
     let p = err_from_is_err_and c.from_residual.result c.from_residual.ensures.1 in
-    rw (p.1, p.2) (no_conflict (codes "/supervisors/" ++ 256 ∷ []) [] c.in_err-insert.field-0.0 refl (rw c.new-router.ensures at c.in_err-insert.ensures.1))
+    rw (p.1, p.2) (no_conflict (codes "/supervisors/" ++ 256 ∷ []) [] c.in_err-insert.field-0.0 refl (rw c.requires at c.in_err-insert.ensures.1))
 
 pub returns-in_err-insert-2-clause-memory : goal.returns-in_err-insert-2-clause-memory
 unfolding matchit_on_literals
 returns-in_err-insert-2-clause-memory c =
     let p = err_from_is_err_and c.from_residual-in_err-insert-2.result c.from_residual-in_err-insert-2.ensures.1 in
-    rw (p.1, p.2) (no_conflict (codes "/projects/" ++ 256 ∷ []) (supervisors ∷ []) c.in_err-insert-2.field-0.0 refl (rw (c.in_ok-insert.ensures.1, c.new-router.ensures) at c.in_err-insert-2.ensures.1))
+    rw (p.1, p.2) (no_conflict (codes "/projects/" ++ 256 ∷ []) (supervisors ∷ []) c.in_err-insert-2.field-0.0 refl (rw (c.in_ok-insert.ensures.1, c.requires) at c.in_err-insert-2.ensures.1))
 
 pub returns-in_err-insert-3-clause-memory : goal.returns-in_err-insert-3-clause-memory
 unfolding matchit_on_literals
 returns-in_err-insert-3-clause-memory c =
     let p = err_from_is_err_and c.from_residual-in_err-insert-3.result c.from_residual-in_err-insert-3.ensures.1 in
-    rw (p.1, p.2) (no_conflict (codes "/students/" ++ 256 ∷ []) (projects ∷ supervisors ∷ []) c.in_err-insert-3.field-0.0 refl (rw (c.in_ok-insert-2.ensures.1, c.in_ok-insert.ensures.1, c.new-router.ensures) at c.in_err-insert-3.ensures.1))
+    rw (p.1, p.2) (no_conflict (codes "/students/" ++ 256 ∷ []) (projects ∷ supervisors ∷ []) c.in_err-insert-3.field-0.0 refl (rw (c.in_ok-insert-2.ensures.1, c.in_ok-insert.ensures.1, c.requires) at c.in_err-insert-3.ensures.1))
 
 pub returns-clause-routes : goal.returns-clause-routes
 unfolding matchit_on_literals all_routes
-returns-clause-routes c = rw (c.in_ok-insert-2.ensures.1, c.in_ok-insert.ensures.1, c.new-router.ensures) at c.in_ok-insert-3.ensures.1
+returns-clause-routes c = rw (c.in_ok-insert-2.ensures.1, c.in_ok-insert.ensures.1, c.requires) at c.in_ok-insert-3.ensures.1
