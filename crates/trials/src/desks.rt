@@ -1,5 +1,7 @@
 //! A desk over a database: what is put is read back, also by another desk.
 
+use crate::offices::{Put, plain};
+use crate::texts::same_text;
 use desk::Desk;
 use rolls::{Plain, Refusal, Reply, Request};
 use sqlite::{Connection, MemStore};
@@ -26,13 +28,6 @@ pub(crate) fn new_desk(alloc: Global, rt: &impl Abort) -> Result<Desk<MemStore>,
     Ok(desk_over(alloc, rt, connection))
 }
 
-fn put_student(alloc: Global, code: &str, label: &str) -> Result<Request, Fail> {
-    Ok(Request::Plain(Plain::PutStudent {
-        code: String::from_str(alloc, code)?,
-        label: String::from_str(alloc, label)?,
-    }))
-}
-
 fn get_student(alloc: Global, code: &str) -> Result<Request, Fail> {
     let code = String::from_str(alloc, code)?;
     Ok(Request::Plain(Plain::GetStudent { code }))
@@ -40,7 +35,7 @@ fn get_student(alloc: Global, code: &str) -> Result<Request, Fail> {
 
 fn is_named(rt: &impl Abort, answer: &Result<Reply, Refusal>, name: &str) {
     match answer {
-        Ok(Reply::Student { name: found }) => assert_eq!(rt; found.as_str(), name),
+        Ok(Reply::Student { name: found }) => same_text(rt, found.as_str(), name),
         _ => assert!(rt; false, "{name} is on the roll"),
     }
 }
@@ -48,7 +43,7 @@ fn is_named(rt: &impl Abort, answer: &Result<Reply, Refusal>, name: &str) {
 /// A student is put and read, and another is not known.
 fn requests(alloc: Global) -> Result<Vec<Request>, Fail> {
     let mut requests = Vec::new(alloc);
-    requests.push(put_student(alloc, "S1", "Ann")?)?;
+    requests.push(Request::Plain(plain(alloc, Put::Student("S1", "Ann"))?))?;
     requests.push(get_student(alloc, "S1")?)?;
     requests.push(get_student(alloc, "S9")?)?;
     Ok(requests)

@@ -1,6 +1,7 @@
 //! Streams at a desk over a database in memory, byte for byte.
 
 use crate::desks::{desk_over, new_desk};
+use crate::stores::count;
 use desk::Desk;
 use sqlite::MemStore;
 use std::alloc::{AllocError, Global};
@@ -128,124 +129,172 @@ fn stored(
     students: i64,
 ) -> Result<Desk<MemStore>, Fail> {
     let mut connection = desk.into_connection();
-    let found: i64 = connection
-        .query_row("SELECT count(*) FROM student", &[])?
-        .get(0)?;
+    let found = count(&mut connection, "SELECT count(*) FROM student")?;
     assert_eq!(rt; found, students);
     Ok(desk_over(alloc, rt, connection))
 }
 
 /// A message that puts S1, of 63 bytes.
 #[rattlefmt::skip]
-fn put_ann() -> &'static [u8] {
-    b"PUT /students/S1 HTTP/1.1\r\nContent-Length: 14\r\n\r\n{\"name\":\"Ann\"}"
-}
+static PUT_ANN: &[u8] =
+    b"PUT /students/S1 HTTP/1.1\r\nContent-Length: 14\r\n\r\n{\"name\":\"Ann\"}";
 
 /// Messages that put S1 and S2, of 63 bytes each.
 #[rattlefmt::skip]
-fn put_two() -> &'static [u8] {
-    b"PUT /students/S1 HTTP/1.1\r\nContent-Length: 14\r\n\r\n{\"name\":\"Ann\"}PUT /students/S2 HTTP/1.1\r\nContent-Length: 14\r\n\r\n{\"name\":\"Bob\"}"
-}
+static PUT_TWO: &[u8] =
+    b"PUT /students/S1 HTTP/1.1\r\nContent-Length: 14\r\n\r\n{\"name\":\"Ann\"}PUT /students/S2 HTTP/1.1\r\nContent-Length: 14\r\n\r\n{\"name\":\"Bob\"}";
 
 /// The answer to a message that puts an entry, of 82 bytes.
 #[rattlefmt::skip]
-fn done() -> &'static [u8] {
-    b"HTTP/1.1 200 OK\r\nContent-Type: application/json\r\nContent-Length: 11\r\n\r\n{\"ok\":true}"
-}
+static DONE: &[u8] =
+    b"HTTP/1.1 200 OK\r\nContent-Type: application/json\r\nContent-Length: 11\r\n\r\n{\"ok\":true}";
 
 /// Twice that.
 #[rattlefmt::skip]
-fn done_twice() -> &'static [u8] {
-    b"HTTP/1.1 200 OK\r\nContent-Type: application/json\r\nContent-Length: 11\r\n\r\n{\"ok\":true}HTTP/1.1 200 OK\r\nContent-Type: application/json\r\nContent-Length: 11\r\n\r\n{\"ok\":true}"
-}
+static DONE_TWICE: &[u8] =
+    b"HTTP/1.1 200 OK\r\nContent-Type: application/json\r\nContent-Length: 11\r\n\r\n{\"ok\":true}HTTP/1.1 200 OK\r\nContent-Type: application/json\r\nContent-Length: 11\r\n\r\n{\"ok\":true}";
 
 /// Messages that read S1 and S9.
 #[rattlefmt::skip]
-fn get_two() -> &'static [u8] {
-    b"GET /students/S1 HTTP/1.1\r\n\r\nGET /students/S9 HTTP/1.1\r\n\r\n"
-}
+static GET_TWO: &[u8] =
+    b"GET /students/S1 HTTP/1.1\r\n\r\nGET /students/S9 HTTP/1.1\r\n\r\n";
 
 /// Their answers, where S1 is Ann and nobody is S9.
 #[rattlefmt::skip]
-fn ann_and_nobody() -> &'static [u8] {
-    b"HTTP/1.1 200 OK\r\nContent-Type: application/json\r\nContent-Length: 40\r\n\r\n{\"list\":null,\"name\":\"Ann\",\"placed\":null}HTTP/1.1 404 Not Found\r\nContent-Type: application/json\r\nContent-Length: 38\r\n\r\n{\"fault\":\"UnknownStudent\",\"number\":15}"
+static ANN_AND_NOBODY: &[u8] =
+    b"HTTP/1.1 200 OK\r\nContent-Type: application/json\r\nContent-Length: 40\r\n\r\n{\"list\":null,\"name\":\"Ann\",\"placed\":null}HTTP/1.1 404 Not Found\r\nContent-Type: application/json\r\nContent-Length: 38\r\n\r\n{\"fault\":\"UnknownStudent\",\"number\":15}";
+
+/// Puts S1.
+fn put_one(alloc: Global, rt: &impl Abort, name: usize, desk: &mut Desk<MemStore>) {
+    let put = served(alloc, desk, PUT_ANN, 100, 100);
+    compare(rt, name, &put, DONE, 1, End::Closed);
+    assert_eq!(rt; put.written.len(), 82);
+}
+
+/// Reads S1 and S9.
+fn read_two(alloc: Global, rt: &impl Abort, name: usize, desk: &mut Desk<MemStore>) {
+    let got = served(alloc, desk, GET_TWO, 100, 100);
+    compare(rt, name, &got, ANN_AND_NOBODY, 2, End::Closed);
+}
+
+/// Serves no bytes.
+fn serve_none(alloc: Global, rt: &impl Abort, desk: &mut Desk<MemStore>) {
+    let none = served(alloc, desk, b"", 9, 9);
+    compare(rt, 0, &none, b"", 0, End::Closed);
 }
 
 #[test]
 fn what_is_put_is_stored_and_read(rt: HostRuntime) -> Result<(), Fail> {
     let alloc = rt.alloc();
     let mut desk = new_desk(alloc, &rt)?;
-    let none = served(alloc, &mut desk, b"", 9, 9);
-    compare(&rt, 0, &none, b"", 0, End::Closed);
-    let put = served(alloc, &mut desk, put_ann(), 100, 100);
-    compare(&rt, 1, &put, done(), 1, End::Closed);
-    assert_eq!(rt; put.written.len(), 82);
-    let got = served(alloc, &mut desk, get_two(), 100, 100);
-    compare(&rt, 2, &got, ann_and_nobody(), 2, End::Closed);
+    serve_none(alloc, &rt, &mut desk);
+    put_one(alloc, &rt, 1, &mut desk);
+    read_two(alloc, &rt, 2, &mut desk);
     let mut again = stored(alloc, &rt, desk, 1)?;
-    let got = served(alloc, &mut again, get_two(), 100, 100);
-    compare(&rt, 3, &got, ann_and_nobody(), 2, End::Closed);
+    read_two(alloc, &rt, 3, &mut again);
     Ok(())
+}
+
+/// Serves messages in pieces at a desk of their own, which stores as many students as it answers messages.
+fn compare_stored(
+    alloc: Global,
+    rt: &impl Abort,
+    bytes: &[u8],
+    piece: usize,
+    written: &[u8],
+    answered: u32,
+    end: End,
+) -> Result<(), Fail> {
+    let mut desk = new_desk(alloc, rt)?;
+    let outcome = served(alloc, &mut desk, bytes, piece, piece);
+    compare(rt, piece, &outcome, written, answered, end);
+    stored(alloc, rt, desk, i64::from(answered))?;
+    Ok(())
+}
+
+/// All but the last byte.
+fn without_last(bytes: &[u8]) -> &[u8] {
+    match bytes.split_last() {
+        Some((_last, most)) => most,
+        None => bytes,
+    }
 }
 
 /// Serves two messages in pieces, and then all of them but the last byte.
 fn compare_pieces(alloc: Global, rt: &impl Abort, bytes: &[u8], piece: usize) -> Result<(), Fail> {
-    let mut desk = new_desk(alloc, rt)?;
-    let both = served(alloc, &mut desk, bytes, piece, piece);
-    compare(rt, piece, &both, done_twice(), 2, End::Closed);
-    stored(alloc, rt, desk, 2)?;
-    let mut desk = new_desk(alloc, rt)?;
-    let most = bytes.split_last().map_or(bytes, |(_last, most)| most);
-    let cut = served(alloc, &mut desk, most, piece, piece);
-    compare(rt, piece, &cut, done(), 1, End::Unfinished);
-    stored(alloc, rt, desk, 1)?;
-    Ok(())
+    compare_stored(alloc, rt, bytes, piece, DONE_TWICE, 2, End::Closed)?;
+    let most = without_last(bytes);
+    compare_stored(alloc, rt, most, piece, DONE, 1, End::Unfinished)
 }
 
 #[test]
 fn streams_come_in_pieces(rt: HostRuntime) -> Result<(), Fail> {
-    compare_pieces(rt.alloc(), &rt, put_two(), 1)?;
-    compare_pieces(rt.alloc(), &rt, put_two(), 200)
+    compare_pieces(rt.alloc(), &rt, PUT_TWO, 1)?;
+    compare_pieces(rt.alloc(), &rt, PUT_TWO, 200)
 }
 
 /// Serves the messages cut into two pieces after each byte in turn.
 fn compare_cuts(alloc: Global, rt: &impl Abort, desk: &mut Desk<MemStore>, bytes: &[u8]) {
     for cut in 1..bytes.len() {
         let both = served(alloc, desk, bytes, cut, 200);
-        compare(rt, cut, &both, done_twice(), 2, End::Closed);
+        compare(rt, cut, &both, DONE_TWICE, 2, End::Closed);
     }
 }
 
 #[test]
 fn streams_are_cut_after_each_byte(rt: HostRuntime) -> Result<(), Fail> {
     let mut desk = new_desk(rt.alloc(), &rt)?;
-    compare_cuts(rt.alloc(), &rt, &mut desk, put_two());
+    compare_cuts(rt.alloc(), &rt, &mut desk, PUT_TWO);
     stored(rt.alloc(), &rt, desk, 2)?;
     Ok(())
+}
+
+/// Serves a message by a reader that then fails.
+fn read_to_failure(alloc: Global, rt: &impl Abort, desk: &mut Desk<MemStore>) {
+    let reader = Pieces {
+        bytes: PUT_ANN,
+        first: 10,
+        piece: 10,
+        fails: true,
+    };
+    let read = served_by(alloc, desk, reader, 100_000, false);
+    assert_eq!(rt; read.result, Err(StreamFault::Read));
+    assert!(rt; read.failed_reads == 1 && read.failed_writes == 0);
+    assert_eq!(rt; read.written.as_slice(), DONE);
+    assert_eq!(rt; read.written.len(), 82);
 }
 
 // A reader fails after the first message.
 #[test]
 fn a_reader_fails(rt: HostRuntime) -> Result<(), Fail> {
-    let alloc = rt.alloc();
-    let mut desk = new_desk(alloc, &rt)?;
-    let reader = Pieces {
-        bytes: put_ann(),
-        first: 10,
-        piece: 10,
-        fails: true,
-    };
-    let read = served_by(alloc, &mut desk, reader, 100_000, false);
-    assert_eq!(rt; read.result, Err(StreamFault::Read));
-    assert!(rt; read.failed_reads == 1 && read.failed_writes == 0);
-    assert_eq!(rt; read.written.as_slice(), done());
-    assert_eq!(rt; read.written.len(), 82);
-    stored(alloc, &rt, desk, 1)?;
+    let mut desk = new_desk(rt.alloc(), &rt)?;
+    read_to_failure(rt.alloc(), &rt, &mut desk);
+    stored(rt.alloc(), &rt, desk, 1)?;
     Ok(())
 }
 
-/// Serves two messages to a writer that takes so many bytes and then fails, or takes none. So many students are stored,
-/// and the next stream is served as ever.
+/// Serves two messages to a writer that takes so many bytes and then fails, or takes none.
+fn write_to_failure(
+    alloc: Global,
+    rt: &impl Abort,
+    desk: &mut Desk<MemStore>,
+    room: usize,
+    fails: bool,
+) {
+    let reader = Pieces {
+        bytes: PUT_TWO,
+        first: 200,
+        piece: 200,
+        fails: false,
+    };
+    let write = served_by(alloc, desk, reader, room, fails);
+    assert_eq!(rt; write.result, Err(StreamFault::Write));
+    assert!(rt; write.failed_reads == 0 && write.failed_writes == 1);
+    assert_eq!(rt; write.written.len(), room);
+    assert!(rt; DONE_TWICE.starts_with(&write.written));
+}
+
+/// The same, after which so many students are stored and the next stream is served as ever.
 fn compare_narrow(
     alloc: Global,
     rt: &impl Abort,
@@ -254,22 +303,10 @@ fn compare_narrow(
     students: i64,
 ) -> Result<(), Fail> {
     let mut desk = new_desk(alloc, rt)?;
-    let reader = Pieces {
-        bytes: put_two(),
-        first: 200,
-        piece: 200,
-        fails: false,
-    };
-    let write = served_by(alloc, &mut desk, reader, room, fails);
-    assert_eq!(rt; write.result, Err(StreamFault::Write));
-    assert!(rt; write.failed_reads == 0 && write.failed_writes == 1);
-    assert_eq!(rt; write.written.len(), room);
-    assert!(rt; done_twice().starts_with(&write.written));
-    let next = served(alloc, &mut desk, get_two(), 200, 200);
-    compare(rt, room, &next, ann_and_nobody(), 2, End::Closed);
+    write_to_failure(alloc, rt, &mut desk, room, fails);
+    read_two(alloc, rt, room, &mut desk);
     let mut again = stored(alloc, rt, desk, students)?;
-    let next = served(alloc, &mut again, put_ann(), 200, 200);
-    compare(rt, room, &next, done(), 1, End::Closed);
+    put_one(alloc, rt, room, &mut again);
     Ok(())
 }
 
@@ -281,7 +318,7 @@ fn a_writer_fails(rt: HostRuntime) -> Result<(), Fail> {
 
 // Each after those before it: method and path, body, status, and body of the answer.
 #[rattlefmt::skip]
-fn exchanges() -> &'static str {
+static EXCHANGES: &str =
     r#"GET /desks          |                                             | 404 Not Found          | {"fault":"NoRoute","number":5}
        GET /students/      |                                             | 404 Not Found          | {"fault":"NoRoute","number":5}
        GET /students/S1/   |                                             | 404 Not Found          | {"fault":"NoRoute","number":5}
@@ -314,8 +351,7 @@ fn exchanges() -> &'static str {
        PUT /projects/P     | {"name":"Pumps","quota":2,"supervisor":"K"} | 409 Conflict           | {"fault":"SupervisorFixed","number":16}
        PUT /projects/P     | {"name":"Pumps","quota":2}                  | 400 Bad Request        | {"fault":"Members","number":8}
        GET /projects/P     |                                             | 200 OK                 | {"name":"Pumps","placed":0,"quota":2,"supervisor":"L"}
-       GET /projects/p     |                                             | 404 Not Found          | {"fault":"UnknownProject","number":14}"#
-}
+       GET /projects/p     |                                             | 404 Not Found          | {"fault":"UnknownProject","number":14}"#;
 
 /// The answer with this status and body.
 fn answer(alloc: Global, status: &str, body: &str) -> Result<String, AllocError> {
@@ -323,6 +359,12 @@ fn answer(alloc: Global, status: &str, body: &str) -> Result<String, AllocError>
     format!(in alloc;
         "HTTP/1.1 {status}\r\nContent-Type: application/json\r\nContent-Length: {len}\r\n\r\n{body}"
     )
+}
+
+/// Whether it is this one answer, and this end.
+fn is_answer(outcome: &Outcome, want: &str, end: End) -> bool {
+    outcome.written.as_slice() == want.as_bytes()
+        && outcome.result == Ok(Served { answered: 1, end })
 }
 
 /// Whether the bytes get this one answer, and this end.
@@ -336,7 +378,7 @@ fn is_told(
 ) -> Result<bool, AllocError> {
     let want = answer(alloc, status, body)?;
     let got = served(alloc, desk, bytes, 1000, 1000);
-    Ok(got.written.as_slice() == want.as_bytes() && got.result == Ok(Served { answered: 1, end }))
+    Ok(is_answer(&got, &want, end))
 }
 
 /// The message that asks this with a body.
@@ -381,28 +423,33 @@ fn compare_exchanges(
 #[test]
 fn requests_are_answered(rt: HostRuntime) -> Result<(), Fail> {
     let mut desk = new_desk(rt.alloc(), &rt)?;
-    compare_exchanges(rt.alloc(), &rt, &mut desk, exchanges())
+    compare_exchanges(rt.alloc(), &rt, &mut desk, EXCHANGES)
 }
 
-#[test]
-fn bad_heads_and_large_bodies_end_a_stream(rt: HostRuntime) -> Result<(), Fail> {
-    let alloc = rt.alloc();
-    let mut desk = new_desk(alloc, &rt)?;
+/// Serves a message above the limit, and one with two lengths.
+fn end_streams(alloc: Global, rt: &impl Abort, desk: &mut Desk<MemStore>) -> Result<(), Fail> {
     let long = b"PUT /students/S1 HTTP/1.1\r\nContent-Length: 65537\r\n\r\nGET / HTTP/1.1\r\n\r\n";
     let status = "413 Payload Too Large";
     let large = "{\"fault\":\"TooLarge\",\"number\":4}";
     assert!(rt;
-        is_told(alloc, &mut desk, long, status, large, End::TooLarge)?,
+        is_told(alloc, desk, long, status, large, End::TooLarge)?,
         "too long"
     );
     let twice = b"PUT /students/S1 HTTP/1.1\r\nContent-Length: 14\r\nContent-Length: 14\r\n\r\n{}";
     let status = "400 Bad Request";
     let bad = "{\"fault\":\"BadHead\",\"number\":3}";
     assert!(rt;
-        is_told(alloc, &mut desk, twice, status, bad, End::BadHead)?,
+        is_told(alloc, desk, twice, status, bad, End::BadHead)?,
         "two lengths"
     );
-    stored(alloc, &rt, desk, 0)?;
+    Ok(())
+}
+
+#[test]
+fn bad_heads_and_large_bodies_end_a_stream(rt: HostRuntime) -> Result<(), Fail> {
+    let mut desk = new_desk(rt.alloc(), &rt)?;
+    end_streams(rt.alloc(), &rt, &mut desk)?;
+    stored(rt.alloc(), &rt, desk, 0)?;
     Ok(())
 }
 
@@ -417,21 +464,25 @@ fn deep_lists(alloc: Global) -> Result<Vec<u8>, AllocError> {
     Ok(deep)
 }
 
-#[test]
-fn bodies_that_are_no_json_are_refused(rt: HostRuntime) -> Result<(), Fail> {
-    let alloc = rt.alloc();
-    let mut desk = new_desk(alloc, &rt)?;
+/// Serves a body that is no text, and one that is too deep.
+fn refuse_bodies(alloc: Global, rt: &impl Abort, desk: &mut Desk<MemStore>) -> Result<(), Fail> {
     let status = "400 Bad Request";
     let told = "{\"fault\":\"Json\",\"number\":7}";
     let byte = b"PUT /students/S1 HTTP/1.1\r\nContent-Length: 1\r\n\r\n\xff";
     assert!(rt;
-        is_told(alloc, &mut desk, byte, status, told, End::Closed)?,
+        is_told(alloc, desk, byte, status, told, End::Closed)?,
         "no text"
     );
     let deep = deep_lists(alloc)?;
     assert!(rt;
-        is_told(alloc, &mut desk, &deep, status, told, End::Closed)?,
+        is_told(alloc, desk, &deep, status, told, End::Closed)?,
         "too deep"
     );
     Ok(())
+}
+
+#[test]
+fn bodies_that_are_no_json_are_refused(rt: HostRuntime) -> Result<(), Fail> {
+    let mut desk = new_desk(rt.alloc(), &rt)?;
+    refuse_bodies(rt.alloc(), &rt, &mut desk)
 }

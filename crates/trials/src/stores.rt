@@ -1,9 +1,11 @@
 //! The tables of a store: what is saved is read back, and hand-made tables are judged.
 
+use crate::offices::{Put, row};
+use crate::texts::same_text;
 use office::Office;
-use rolls::{Change, Row, RowKey, Text};
+use rolls::{Change, RowKey, Text};
 use sqlite::{Connection, MemStore};
-use std::alloc::Global;
+use std::alloc::{AllocError, Global};
 use std::process::Abort;
 use std::rt::HostRuntime;
 use std::test::Fail;
@@ -15,28 +17,9 @@ type Sizes = (usize, usize, usize);
 /// What an opening answers, and the connection given back.
 type Opened = (Result<Sizes, StoreFault>, Connection<MemStore>);
 
-fn supervisor(alloc: Global, code: &str, label: &str, quota: u32) -> Result<Change, Fail> {
-    Ok(Change::Put(Row::Supervisor {
-        code: Text::of(alloc, code)?,
-        label: Text::of(alloc, label)?,
-        quota,
-    }))
-}
-
-fn project(alloc: Global, code: &str, supervisor: &str, quota: u32) -> Result<Change, Fail> {
-    Ok(Change::Put(Row::Project {
-        code: Text::of(alloc, code)?,
-        label: Text::of(alloc, "Pumps")?,
-        supervisor: Text::of(alloc, supervisor)?,
-        quota,
-    }))
-}
-
-fn student(alloc: Global, code: &str, label: &str) -> Result<Change, Fail> {
-    Ok(Change::Put(Row::Student {
-        code: Text::of(alloc, code)?,
-        label: Text::of(alloc, label)?,
-    }))
+/// The change that puts it.
+fn put(alloc: Global, put: Put) -> Result<Change, AllocError> {
+    Ok(Change::Put(row(alloc, put)?))
 }
 
 fn sizes(office: &Office) -> Sizes {
@@ -72,38 +55,61 @@ fn open(
 }
 
 /// The number that a query answers.
-fn count(conn: &mut Connection<MemStore>, sql: &str) -> Result<i64, Fail> {
+pub(crate) fn count(conn: &mut Connection<MemStore>, sql: &str) -> Result<i64, Fail> {
     Ok(conn.query_row(sql, &[])?.get(0)?)
 }
 
 /// Six changes: Ann is renamed, and Bob is taken away again.
 fn changes(alloc: Global) -> Result<Vec<Change>, Fail> {
     let mut changes = Vec::new(alloc);
-    changes.push(supervisor(alloc, "L", "Lee", 5)?)?;
-    changes.push(project(alloc, "P", "L", 1)?)?;
-    changes.push(student(alloc, "S1", "Ann")?)?;
-    changes.push(student(alloc, "S2", "Bob")?)?;
-    changes.push(student(alloc, "S1", "Anne")?)?;
+    changes.push(put(alloc, Put::Supervisor("L", "Lee", 5))?)?;
+    changes.push(put(alloc, Put::Project("P", "Pumps", 1, "L"))?)?;
+    changes.push(put(alloc, Put::Student("S1", "Ann"))?)?;
+    changes.push(put(alloc, Put::Student("S2", "Bob"))?)?;
+    changes.push(put(alloc, Put::Student("S1", "Anne"))?)?;
     changes.push(Change::Take(RowKey::Student(Text::of(alloc, "S2")?)))?;
     Ok(changes)
 }
 
-/// Loads the office, which has one entry in each roll and Anne as its student.
-fn loads_anne(rt: &impl Abort, store: &mut Store<MemStore>) -> Result<(), Fail> {
-    let office = store.load()?;
-    assert_eq!(rt; sizes(&office), (1, 1, 1));
+/// The office has one entry in each roll and Anne as its student.
+fn has_anne(rt: &impl Abort, office: &Office) {
+    assert_eq!(rt; sizes(office), (1, 1, 1));
     for student in office.students() {
-        assert_eq!(rt; student.label.as_str(), "Anne");
+        same_text(rt, student.label.as_str(), "Anne");
     }
+}
+
+/// A student, and a project of an unknown supervisor.
+fn refused(alloc: Global) -> Result<Vec<Change>, Fail> {
+    let mut refused = Vec::new(alloc);
+    refused.push(put(alloc, Put::Student("S3", "Cy"))?)?;
+    refused.push(put(alloc, Put::Project("Q", "Pumps", 1, "K"))?)?;
+    Ok(refused)
+}
+
+/// Compares what saving the changes answers.
+fn compare_save(
+    rt: &impl Abort,
+    store: &mut Store<MemStore>,
+    changes: &[Change],
+    want: Result<(), StoreFault>,
+) {
+    assert_eq!(rt; store.save(changes), want);
+}
+
+/// The changes are saved and loaded. The project is refused by its table, and the change before it is undone.
+fn save_and_load(alloc: Global, rt: &impl Abort, store: &mut Store<MemStore>) -> Result<(), Fail> {
+    compare_save(rt, store, &changes(alloc)?, Ok(()));
+    has_anne(rt, &store.load()?);
+    compare_save(rt, store, &refused(alloc)?, Err(StoreFault::Storage));
     Ok(())
 }
 
-/// A project of an unknown supervisor is refused by its table, and the change before it is undone.
-fn is_undone(alloc: Global, rt: &impl Abort, store: &mut Store<MemStore>) -> Result<(), Fail> {
-    let mut refused = Vec::new(alloc);
-    refused.push(student(alloc, "S3", "Cy")?)?;
-    refused.push(project(alloc, "Q", "K", 1)?)?;
-    assert_eq!(rt; store.save(&refused), Err(StoreFault::Storage));
+/// The tables have one student, and the quota of the project.
+fn are_saved(rt: &impl Abort, conn: &mut Connection<MemStore>) -> Result<(), Fail> {
+    assert_eq!(rt; count(conn, "SELECT count(*) FROM student")?, 1);
+    let quota = count(conn, "SELECT quota FROM project WHERE code = 'P'")?;
+    assert_eq!(rt; quota, 1);
     Ok(())
 }
 
@@ -112,13 +118,9 @@ fn saved_changes_are_read_back(rt: HostRuntime) -> Result<(), Fail> {
     let alloc = rt.alloc();
     let conn = Connection::open_in_memory(alloc)?;
     let mut store = open(alloc, &rt, conn, (0, 0, 0))?;
-    assert_eq!(rt; store.save(&changes(alloc)?), Ok(()));
-    loads_anne(&rt, &mut store)?;
-    is_undone(alloc, &rt, &mut store)?;
+    save_and_load(alloc, &rt, &mut store)?;
     let mut conn = store.into_connection();
-    assert_eq!(rt; count(&mut conn, "SELECT count(*) FROM student")?, 1);
-    let quota = count(&mut conn, "SELECT quota FROM project WHERE code = 'P'")?;
-    assert_eq!(rt; quota, 1);
+    are_saved(&rt, &mut conn)?;
     let (answer, _conn) = opened(alloc, conn);
     assert_eq!(rt; answer, Ok((1, 1, 1)));
     Ok(())
@@ -126,34 +128,30 @@ fn saved_changes_are_read_back(rt: HostRuntime) -> Result<(), Fail> {
 
 /// Another table and the four of an office, with nobody on its rolls.
 #[rattlefmt::skip]
-fn tables() -> [&'static str; 6] {
-    [
-        "CREATE TABLE other (a INTEGER);",
-        "CREATE TABLE edition (id INTEGER NOT NULL PRIMARY KEY CHECK (id = 1), number INTEGER NOT NULL) STRICT;",
-        "CREATE TABLE supervisor (code TEXT NOT NULL PRIMARY KEY, label TEXT NOT NULL, quota INTEGER NOT NULL) STRICT;",
-        "CREATE TABLE project (code TEXT NOT NULL PRIMARY KEY, label TEXT NOT NULL, supervisor TEXT NOT NULL REFERENCES supervisor (code), quota INTEGER NOT NULL) STRICT;",
-        "create table student (code text primary key not null, label text not null) strict;",
-        "INSERT INTO edition VALUES (1, 1);",
-    ]
-}
+static TABLES: [&str; 6] = [
+    "CREATE TABLE other (a INTEGER);",
+    "CREATE TABLE edition (id INTEGER NOT NULL PRIMARY KEY CHECK (id = 1), number INTEGER NOT NULL) STRICT;",
+    "CREATE TABLE supervisor (code TEXT NOT NULL PRIMARY KEY, label TEXT NOT NULL, quota INTEGER NOT NULL) STRICT;",
+    "CREATE TABLE project (code TEXT NOT NULL PRIMARY KEY, label TEXT NOT NULL, supervisor TEXT NOT NULL REFERENCES supervisor (code), quota INTEGER NOT NULL) STRICT;",
+    "create table student (code text primary key not null, label text not null) strict;",
+    "INSERT INTO edition VALUES (1, 1);",
+];
 
 type HandMade = (&'static str, &'static str, Result<Sizes, StoreFault>);
 
 /// What is added to these tables, and what opening answers.
 #[rattlefmt::skip]
-fn hand_made() -> [HandMade; 9] {
-    [
-        ("fit",              "INSERT INTO supervisor VALUES ('L', 'Lee', 500); INSERT INTO project VALUES ('P', 'Pumps', 'L', 0); INSERT INTO student VALUES ('S1', 'Ann')", Ok((1, 1, 1))),
-        ("empty label",      "INSERT INTO student VALUES ('S1', '')", Err(StoreFault::Damaged)),
-        ("label not UTF-8",  "INSERT INTO student VALUES ('S1', CAST(x'41FF' AS TEXT))", Err(StoreFault::Damaged)),
-        ("code not UTF-8",   "INSERT INTO student VALUES (CAST(x'53C3' AS TEXT), 'Ann')", Err(StoreFault::Damaged)),
-        ("no code",          "INSERT INTO student VALUES ('-A', 'Ann')", Err(StoreFault::Damaged)),
-        ("quota of 501",     "INSERT INTO supervisor VALUES ('L', 'Lee', 501)", Err(StoreFault::Damaged)),
-        ("quota below 0",    "INSERT INTO supervisor VALUES ('L', 'Lee', -1)", Err(StoreFault::Damaged)),
-        ("another edition",  "UPDATE edition SET number = 9", Err(StoreFault::Damaged)),
-        ("a table missing",  "DROP TABLE student", Err(StoreFault::Damaged)),
-    ]
-}
+static HAND_MADE: [HandMade; 9] = [
+    ("fit",              "INSERT INTO supervisor VALUES ('L', 'Lee', 500); INSERT INTO project VALUES ('P', 'Pumps', 'L', 0); INSERT INTO student VALUES ('S1', 'Ann')", Ok((1, 1, 1))),
+    ("empty label",      "INSERT INTO student VALUES ('S1', '')", Err(StoreFault::Damaged)),
+    ("label not UTF-8",  "INSERT INTO student VALUES ('S1', CAST(x'41FF' AS TEXT))", Err(StoreFault::Damaged)),
+    ("code not UTF-8",   "INSERT INTO student VALUES (CAST(x'53C3' AS TEXT), 'Ann')", Err(StoreFault::Damaged)),
+    ("no code",          "INSERT INTO student VALUES ('-A', 'Ann')", Err(StoreFault::Damaged)),
+    ("quota of 501",     "INSERT INTO supervisor VALUES ('L', 'Lee', 501)", Err(StoreFault::Damaged)),
+    ("quota below 0",    "INSERT INTO supervisor VALUES ('L', 'Lee', -1)", Err(StoreFault::Damaged)),
+    ("another edition",  "UPDATE edition SET number = 9", Err(StoreFault::Damaged)),
+    ("a table missing",  "DROP TABLE student", Err(StoreFault::Damaged)),
+];
 
 /// Executes each statement.
 fn execute_all(conn: &mut Connection<MemStore>, statements: &[&'static str]) -> Result<(), Fail> {
@@ -172,7 +170,7 @@ fn compare_opened(
     want: &Result<Sizes, StoreFault>,
 ) -> Result<(), Fail> {
     let mut conn = Connection::open_in_memory(alloc)?;
-    execute_all(&mut conn, tables().as_slice())?;
+    execute_all(&mut conn, TABLES.as_slice())?;
     conn.execute_batch(added)?;
     let before = count(&mut conn, "SELECT count(*) FROM sqlite_schema")?;
     let (answer, mut conn) = opened(alloc, conn);
@@ -192,7 +190,7 @@ fn compare_hand_made(alloc: Global, rt: &impl Abort, rows: &[HandMade]) -> Resul
 
 #[test]
 fn hand_made_tables_are_judged(rt: HostRuntime) -> Result<(), Fail> {
-    compare_hand_made(rt.alloc(), &rt, hand_made().as_slice())
+    compare_hand_made(rt.alloc(), &rt, HAND_MADE.as_slice())
 }
 
 /// The empty office's tables beside another table, which is as it was.
@@ -205,22 +203,38 @@ fn beside_another(alloc: Global, rt: &impl Abort) -> Result<Connection<MemStore>
     Ok(conn)
 }
 
+/// Ann, and a table whose rows go with a student's.
+fn add_pets(conn: &mut Connection<MemStore>) -> Result<(), Fail> {
+    conn.execute_batch(
+        "CREATE TABLE pet (of TEXT REFERENCES student (code) ON DELETE CASCADE); INSERT INTO student VALUES ('S1', 'Ann');",
+    )?;
+    Ok(())
+}
+
+/// Over that table nothing is saved: a second student is refused.
+fn refuses_bob(alloc: Global, rt: &impl Abort, store: &mut Store<MemStore>) -> Result<(), Fail> {
+    let mut changes = Vec::new(alloc);
+    changes.push(put(alloc, Put::Student("S2", "Bob"))?)?;
+    compare_save(rt, store, &changes, Err(StoreFault::Storage));
+    Ok(())
+}
+
+/// The tables still have one student. A transaction is begun.
+fn begin_with_one(rt: &impl Abort, conn: &mut Connection<MemStore>) -> Result<(), Fail> {
+    assert_eq!(rt; count(conn, "SELECT count(*) FROM student")?, 1);
+    conn.execute_batch("BEGIN")?;
+    Ok(())
+}
+
 #[test]
 fn other_tables_are_left_alone(rt: HostRuntime) -> Result<(), Fail> {
     let alloc = rt.alloc();
     let mut conn = beside_another(alloc, &rt)?;
-
-    // A table whose rows go with a student's: nothing is saved over it.
-    conn.execute_batch(
-        "CREATE TABLE pet (of TEXT REFERENCES student (code) ON DELETE CASCADE); INSERT INTO student VALUES ('S1', 'Ann');",
-    )?;
+    add_pets(&mut conn)?;
     let mut store = open(alloc, &rt, conn, (0, 0, 1))?;
-    let mut changes = Vec::new(alloc);
-    changes.push(student(alloc, "S2", "Bob")?)?;
-    assert_eq!(rt; store.save(&changes), Err(StoreFault::Storage));
+    refuses_bob(alloc, &rt, &mut store)?;
     let mut conn = store.into_connection();
-    assert_eq!(rt; count(&mut conn, "SELECT count(*) FROM student")?, 1);
-    conn.execute_batch("BEGIN")?;
+    begin_with_one(&rt, &mut conn)?;
     let (answer, _conn) = opened(alloc, conn);
     assert_eq!(rt; answer, Err(StoreFault::Storage));
     Ok(())

@@ -2,7 +2,7 @@
 ghost use Rattle.std.specs.Prelude.{⊤};
 
 use arrayvec::ArrayVec;
-use std::alloc::Global;
+use std::alloc::{AllocError, Global};
 use std::io;
 use std::io::Read;
 use std::process::Abort;
@@ -49,9 +49,8 @@ fn served(alloc: Global, bytes: &[u8]) -> Result<Served, StreamFault> {
 
 /// Two messages, of 63 bytes each.
 #[rattlefmt::skip]
-fn two() -> &'static [u8] {
-    b"PUT /students/S1 HTTP/1.1\r\nContent-Length: 14\r\n\r\n{\"name\":\"Ann\"}PUT /students/S2 HTTP/1.1\r\nContent-Length: 14\r\n\r\n{\"name\":\"Bob\"}"
-}
+static TWO: &[u8] =
+    b"PUT /students/S1 HTTP/1.1\r\nContent-Length: 14\r\n\r\n{\"name\":\"Ann\"}PUT /students/S2 HTTP/1.1\r\nContent-Length: 14\r\n\r\n{\"name\":\"Bob\"}";
 
 /// How many of the two messages the first bytes have, and how they end.
 fn end_of(n: usize) -> Served {
@@ -74,28 +73,26 @@ fn compare_prefixes(alloc: Global, rt: &impl Abort, bytes: &[u8]) {
 
 #[test]
 fn prefixes(rt: HostRuntime) {
-    compare_prefixes(rt.alloc(), &rt, two());
+    compare_prefixes(rt.alloc(), &rt, TWO);
 }
 
 type Head = (&'static str, u32, End);
 
 #[rattlefmt::skip]
-fn all_heads() -> [Head; 12] {
-    [
-        ("PUT /a HTTP/1.1\r\nContent-Length: 65537\r\n\r\n", 1, End::TooLarge),
-        ("PUT /a HTTP/1.1\r\nContent-Length: 14\r\ncontent-length: 14\r\n\r\n", 1, End::BadHead),
-        ("PUT /a HTTP/1.1\r\nContent-Length: +14\r\n\r\n", 1, End::BadHead),
-        ("PUT /a HTTP/1.1\r\nContent-Length:\r\n\r\n", 1, End::BadHead),
-        ("PUT /a HTTP/1.1\r\nContent-Length: 00014\r\n\r\n{\"name\":\"Ann\"}", 1, End::Closed),
-        ("PUT /a HTTP/1.1\r\nContent-Length: 999999999999999999999999999999\r\n\r\n", 1, End::TooLarge),
-        ("PUT /a HTTP/1.1\r\nTransfer-Encoding: chunked\r\n\r\n", 1, End::BadHead),
-        ("PUT /a HTTP/1.0\r\n\r\n", 1, End::BadHead),
-        ("GET /a HTTP/1.1\r\n\r\nPUT /a HTTP/1.0\r\n\r\n", 2, End::BadHead),
-        ("GET\n", 1, End::BadHead),
-        ("GET", 0, End::Unfinished),
-        ("", 0, End::Closed),
-    ]
-}
+static ALL_HEADS: [Head; 12] = [
+    ("PUT /a HTTP/1.1\r\nContent-Length: 65537\r\n\r\n", 1, End::TooLarge),
+    ("PUT /a HTTP/1.1\r\nContent-Length: 14\r\ncontent-length: 14\r\n\r\n", 1, End::BadHead),
+    ("PUT /a HTTP/1.1\r\nContent-Length: +14\r\n\r\n", 1, End::BadHead),
+    ("PUT /a HTTP/1.1\r\nContent-Length:\r\n\r\n", 1, End::BadHead),
+    ("PUT /a HTTP/1.1\r\nContent-Length: 00014\r\n\r\n{\"name\":\"Ann\"}", 1, End::Closed),
+    ("PUT /a HTTP/1.1\r\nContent-Length: 999999999999999999999999999999\r\n\r\n", 1, End::TooLarge),
+    ("PUT /a HTTP/1.1\r\nTransfer-Encoding: chunked\r\n\r\n", 1, End::BadHead),
+    ("PUT /a HTTP/1.0\r\n\r\n", 1, End::BadHead),
+    ("GET /a HTTP/1.1\r\n\r\nPUT /a HTTP/1.0\r\n\r\n", 2, End::BadHead),
+    ("GET\n", 1, End::BadHead),
+    ("GET", 0, End::Unfinished),
+    ("", 0, End::Closed),
+];
 
 /// Compares what is answered to each row.
 fn compare_heads(alloc: Global, rt: &impl Abort, rows: &[Head]) {
@@ -110,36 +107,40 @@ fn compare_heads(alloc: Global, rt: &impl Abort, rows: &[Head]) {
 
 #[test]
 fn heads(rt: HostRuntime) {
-    compare_heads(rt.alloc(), &rt, all_heads().as_slice());
+    compare_heads(rt.alloc(), &rt, ALL_HEADS.as_slice());
+}
+
+/// This start, so many times the piece, and this end.
+fn repeated(
+    alloc: Global,
+    start: &[u8],
+    piece: &[u8],
+    times: usize,
+    end: &[u8],
+) -> Result<Vec<u8>, AllocError> {
+    let mut bytes = Vec::from_slice(alloc, start)?;
+    for _piece in 0..times {
+        bytes.extend_from_slice(piece)?;
+    }
+    bytes.extend_from_slice(end)?;
+    Ok(bytes)
 }
 
 /// A head with a field of this many letters.
-fn long_head(alloc: Global, letters: usize) -> Result<Vec<u8>, Fail> {
-    let mut head = Vec::from_slice(alloc, b"GET /students/S1 HTTP/1.1\r\nX: ")?;
-    for _letter in 0..letters {
-        head.push(b'a')?;
-    }
-    head.extend_from_slice(b"\r\n\r\n")?;
-    Ok(head)
+fn long_head(alloc: Global, letters: usize) -> Result<Vec<u8>, AllocError> {
+    let start = b"GET /students/S1 HTTP/1.1\r\nX: ";
+    repeated(alloc, start, b"a", letters, b"\r\n\r\n")
 }
 
 /// A head with this many fields.
-fn head_of_fields(alloc: Global, fields: usize) -> Result<Vec<u8>, Fail> {
-    let mut head = Vec::from_slice(alloc, b"GET /students/S1 HTTP/1.1\r\n")?;
-    for _field in 0..fields {
-        head.extend_from_slice(b"X: a\r\n")?;
-    }
-    head.extend_from_slice(b"\r\n")?;
-    Ok(head)
+fn head_of_fields(alloc: Global, fields: usize) -> Result<Vec<u8>, AllocError> {
+    let start = b"GET /students/S1 HTTP/1.1\r\n";
+    repeated(alloc, start, b"X: a\r\n", fields, b"\r\n")
 }
 
 /// This many messages.
-fn messages(alloc: Global, n: usize) -> Result<Vec<u8>, Fail> {
-    let mut many = Vec::new(alloc);
-    for _message in 0..n {
-        many.extend_from_slice(b"GET / HTTP/1.1\r\n\r\n")?;
-    }
-    Ok(many)
+fn messages(alloc: Global, n: usize) -> Result<Vec<u8>, AllocError> {
+    repeated(alloc, b"", b"GET / HTTP/1.1\r\n\r\n", n, b"")
 }
 
 /// Compares what is answered to the bytes.

@@ -9,31 +9,39 @@ use std::test::Fail;
 
 // Expected values worked out by hand, from the forms.
 #[rattlefmt::skip]
-fn codes() -> [(&'static str, bool); 10] {
-    [
-        ("S1",                true),
-        ("A-0",               true),
-        ("9",                 true),
-        ("A234567890123456",  true),
-        ("A2345678901234567", false),
-        ("",                  false),
-        ("-A",                false),
-        ("s1",                false),
-        ("S 1",               false),
-        ("Ä",                 false),
-    ]
-}
+static CODES: [(&str, bool); 10] = [
+    ("S1",                true),
+    ("A-0",               true),
+    ("9",                 true),
+    ("A234567890123456",  true),
+    ("A2345678901234567", false),
+    ("",                  false),
+    ("-A",                false),
+    ("s1",                false),
+    ("S 1",               false),
+    ("Ä",                 false),
+];
 
 #[rattlefmt::skip]
-fn labels() -> [(&'static str, bool); 6] {
-    [
-        ("Ann",       true),
-        (" ",         true),
-        ("Zoë Müller", true),
-        ("",          false),
-        ("a\nb",      false),
-        ("a\u{7f}",   false),
-    ]
+static LABELS: [(&str, bool); 6] = [
+    ("Ann",       true),
+    (" ",         true),
+    ("Zoë Müller", true),
+    ("",          false),
+    ("a\nb",      false),
+    ("a\u{7f}",   false),
+];
+
+/// The text is the wanted one. It stands by itself since each comparison of texts takes long to prove.
+pub(crate) fn same_text(rt: &impl Abort, found: &str, want: &str) {
+    assert_eq!(rt; found, want);
+}
+
+/// The code and its copy have this text.
+fn is_code(rt: &impl Abort, code: &Code, text: &str) -> Result<(), Fail> {
+    same_text(rt, code.as_str(), text);
+    same_text(rt, code.copy()?.as_str(), text);
+    Ok(())
 }
 
 /// Whether each text is read as a code, as it should or should not.
@@ -47,8 +55,7 @@ fn compare_codes(
         match Code::read(alloc, text) {
             Ok(code) => {
                 assert!(rt; *want, "{text}");
-                assert_eq!(rt; code.as_str(), *text);
-                assert_eq!(rt; code.copy()?.as_str(), *text);
+                is_code(rt, &code, text)?;
             }
             Err(fault) => assert!(rt; !*want && fault == TextFault::Form, "{text}"),
         }
@@ -58,7 +65,14 @@ fn compare_codes(
 
 #[test]
 fn codes_are_told_by_their_form(rt: HostRuntime) -> Result<(), Fail> {
-    compare_codes(rt.alloc(), &rt, codes().as_slice())
+    compare_codes(rt.alloc(), &rt, CODES.as_slice())
+}
+
+/// The label and its copy have this text.
+fn is_label(rt: &impl Abort, label: &Label, text: &str) -> Result<(), Fail> {
+    same_text(rt, label.as_str(), text);
+    same_text(rt, label.copy()?.as_str(), text);
+    Ok(())
 }
 
 /// Whether each text is read as a label, as it should or should not.
@@ -72,8 +86,7 @@ fn compare_labels(
         match Label::read(alloc, text) {
             Ok(label) => {
                 assert!(rt; *want, "{text}");
-                assert_eq!(rt; label.as_str(), *text);
-                assert_eq!(rt; label.copy()?.as_str(), *text);
+                is_label(rt, &label, text)?;
             }
             Err(fault) => assert!(rt; !*want && fault == TextFault::Form, "{text}"),
         }
@@ -83,7 +96,7 @@ fn compare_labels(
 
 #[test]
 fn labels_are_told_by_their_form(rt: HostRuntime) -> Result<(), Fail> {
-    compare_labels(rt.alloc(), &rt, labels().as_slice())
+    compare_labels(rt.alloc(), &rt, LABELS.as_slice())
 }
 
 fn row(size: i64, first: i64, last: i64) -> [i64; PLACES] {
