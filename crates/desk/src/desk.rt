@@ -172,6 +172,7 @@ impl<S: Alter> Desk<S> {
         ensures alone { HasCleanDisk (state S.Store self.new.store) → OnOk result (LeavesAlone (state S.Store self.new.store)) }
         ensures acted_on { AreActedOn (state S.Store self.old.store).now.schema → IsErr result }
     {
+        self.keeps();
         let mut next = self.office.copy()?;
         match next.apply(plain) {
             Ok(done) => self.settle(&mut next, done),

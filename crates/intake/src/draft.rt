@@ -43,7 +43,7 @@ fn read_list(
     }
     let mut list = Vec::new(alloc);
     for field in fields {
-        let Some(code) = read_code(alloc, field)? else {
+        let Some(code) = read_code(field) else {
             return Ok(None);
         };
         if position_of(projects, code.as_str()).is_none() {
@@ -148,7 +148,7 @@ impl Draft {
         let [code, quota] = fields else {
             return Ok(false);
         };
-        let Some(code) = read_code(alloc, code)? else {
+        let Some(code) = read_code(code) else {
             return Ok(false);
         };
         let Some(quota) = read_quota(quota) else {
@@ -175,10 +175,10 @@ impl Draft {
         let [code, supervisor, quota] = fields else {
             return Ok(false);
         };
-        let Some(code) = read_code(alloc, code)? else {
+        let Some(code) = read_code(code) else {
             return Ok(false);
         };
-        let Some(supervisor) = read_code(alloc, supervisor)? else {
+        let Some(supervisor) = read_code(supervisor) else {
             return Ok(false);
         };
         let Some(quota) = read_quota(quota) else {
@@ -208,7 +208,7 @@ impl Draft {
         let Some((code, list)) = fields.split_first() else {
             return Ok(false);
         };
-        let Some(code) = read_code(alloc, code)? else {
+        let Some(code) = read_code(code) else {
             return Ok(false);
         };
         if self.students.len() >= MOST_STUDENTS {
@@ -235,10 +235,10 @@ impl Draft {
         let [student, project] = fields else {
             return Ok(false);
         };
-        let Some(student) = read_code(alloc, student)? else {
+        let Some(student) = read_code(student) else {
             return Ok(false);
         };
-        let Some(project) = read_code(alloc, project)? else {
+        let Some(project) = read_code(project) else {
             return Ok(false);
         };
         let Some(position) = position_of(&self.students, student.as_str()) else {

@@ -8,7 +8,7 @@ ghost use Rattle.spa.specs.Text.{is_code};
 ghost use Rattle.verdict.specs.Rows.{InRange};
 ghost use Rattle.intake.specs.Parts.{IsPrice};
 
-use spa::{Code, MOST_PLACES, PLACES, TextFault};
+use spa::{Code, MOST_PLACES, PLACES};
 use std::alloc::{AllocError, Global};
 use std::str;
 use verdict::LIMIT;
@@ -25,17 +25,13 @@ pub(crate) fn pieces<'a>(
 }
 
 /// The code that a field is.
-pub(crate) fn read_code(alloc: Global, field: &[u8]) -> Result<Option<Code>, AllocError>
-    ensures { IfOk result (λ o. MatchOption o (is_code field.now ≡ false) (λ c. (c ≡ field.now) × IsTrue (is_code field.now))) }
+pub(crate) fn read_code(field: &[u8]) -> Option<Code>
+    ensures { MatchOption result (is_code field.now ≡ false) (λ c. (c ≡ field.now) × IsTrue (is_code field.now)) }
 {
     let Ok(text) = str::from_utf8(field) else {
-        return Ok(None);
+        return None;
     };
-    match Code::read(alloc, text) {
-        Ok(code) => Ok(Some(code)),
-        Err(TextFault::Form) => Ok(None),
-        Err(TextFault::Memory) => Err(AllocError),
-    }
+    Code::read(text).ok()
 }
 
 /// Whether a field is the one text of a quota: no sign, and no zero before it.

@@ -3,10 +3,19 @@ use Rattle.std.specs.Prelude.{Bool, not, ◌&&◌, nat_le, List, [], ◌∷◌, 
 use Rattle.std.specs.List.{list_all}
 use Rattle.std.specs.Option.{option_and_then}
 use Rattle.spa.specs.Text.{is_code, is_label}
+use Rattle.spa.specs.declared.text.TextFault.{TextFault}
+use Rattle.spa.specs.declared.text.TextFault.TheVariants.{Memory as NoMemory, Form}
+use Rattle.office.specs.declared.draft.RowsFault.{RowsFault}
+use Rattle.office.specs.declared.draft.RowsFault.TheVariants.{Memory, Unfit}
 use Rattle.rolls.specs.declared.row.Row.{Row}
 use Rattle.rolls.specs.declared.row.Row.TheVariants as row
 use Rattle.rolls.specs.Roll.{put}
 use Rattle.rolls.specs.State.{State, supervisor_key, project_key, student_key, has_supervisor, has_project, has_student}
+
+-- a text of a row that is no code or label stands in no office
+abbrev pub fault_of_text : TextFault → RowsFault
+fault_of_text NoMemory = Memory
+fault_of_text Form = Unfit
 
 -- what is held with one more row; none where the row has another form than an entry's, or its key is held already
 abbrev pub taken_in : State → Row → Option State

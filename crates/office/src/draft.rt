@@ -6,9 +6,8 @@ ghost use Rattle.rolls.specs.State.{empty, has_supervisor};
 ghost use Rattle.office.specs.Gathering.{gathered, taken_in, is_whole};
 ghost use Rattle.office.specs.View.{drafted};
 
-use crate::making::{code_of, label_of};
-use rolls::{Project, Refusal, Row, Student, Supervisor, Table, Text};
-use spa::{is_code_text, is_label_text};
+use rolls::{Project, Row, Student, Supervisor, Table, Text};
+use spa::{Code, Label, MOST_PLACES, MOST_PROJECTS, MOST_STUDENTS, MOST_SUPERVISORS, TextFault};
 use std::alloc::{AllocError, Global};
 
 /// Why rows are not those of an office.
@@ -28,6 +27,20 @@ impl From<AllocError> for RowsFault {
 
     fn from(_error: AllocError) -> Self {
         RowsFault::Memory
+    }
+}
+
+impl From<TextFault> for RowsFault {
+    ghost use Rattle.std.specs.Prelude.{◌≡◌};
+    ghost use Rattle.office.specs.Gathering.{fault_of_text};
+
+    ghost from_gives = { λ fault e. e ≡ fault_of_text fault };
+
+    fn from(fault: TextFault) -> Self {
+        match fault {
+            TextFault::Memory => RowsFault::Memory,
+            TextFault::Form => RowsFault::Unfit,
+        }
     }
 }
 
@@ -51,24 +64,14 @@ impl Draft {
         ensures taken { OnOk result (taken_in (drafted self.old) (Row.Supervisor code.now label.now quota) ≡ Some (drafted self.new)) }
         ensures unfit { result ≡ Err RowsFault.Unfit → taken_in (drafted self.old) (Row.Supervisor code.now label.now quota) ≡ None }
     {
-        if !is_code_text(code.as_str()) {
-            return Err(RowsFault::Unfit);
-        }
-        if !is_label_text(label.as_str()) {
-            return Err(RowsFault::Unfit);
-        }
-        if quota > 500 {
+        let code = Code::read(code.as_str())?;
+        let label = Label::read(alloc, label.as_str())?;
+        if quota > MOST_PLACES {
             return Err(RowsFault::Unfit);
         }
         if self.supervisors.find(0, code.as_str()).is_some() {
             return Err(RowsFault::Unfit);
         }
-        let (Ok(code), Ok(label)) = (
-            code_of(alloc, code.as_str()),
-            label_of(alloc, label.as_str()),
-        ) else {
-            return Err(RowsFault::Memory);
-        };
         self.supervisors.put(Supervisor { code, label, quota })?;
         Ok(())
     }
@@ -85,28 +88,15 @@ impl Draft {
         ensures taken { OnOk result (taken_in (drafted self.old) (Row.Project code.now label.now supervisor.now quota) ≡ Some (drafted self.new)) }
         ensures unfit { result ≡ Err RowsFault.Unfit → taken_in (drafted self.old) (Row.Project code.now label.now supervisor.now quota) ≡ None }
     {
-        if !is_code_text(code.as_str()) {
-            return Err(RowsFault::Unfit);
-        }
-        if !is_label_text(label.as_str()) {
-            return Err(RowsFault::Unfit);
-        }
-        if !is_code_text(supervisor.as_str()) {
-            return Err(RowsFault::Unfit);
-        }
-        if quota > 500 {
+        let code = Code::read(code.as_str())?;
+        let label = Label::read(alloc, label.as_str())?;
+        let supervisor = Code::read(supervisor.as_str())?;
+        if quota > MOST_PLACES {
             return Err(RowsFault::Unfit);
         }
         if self.projects.find(0, code.as_str()).is_some() {
             return Err(RowsFault::Unfit);
         }
-        let (Ok(code), Ok(label), Ok(supervisor)) = (
-            code_of(alloc, code.as_str()),
-            label_of(alloc, label.as_str()),
-            code_of(alloc, supervisor.as_str()),
-        ) else {
-            return Err(RowsFault::Memory);
-        };
         self.projects.put(Project {
             code,
             label,
@@ -121,21 +111,11 @@ impl Draft {
         ensures taken { OnOk result (taken_in (drafted self.old) (Row.Student code.now label.now) ≡ Some (drafted self.new)) }
         ensures unfit { result ≡ Err RowsFault.Unfit → taken_in (drafted self.old) (Row.Student code.now label.now) ≡ None }
     {
-        if !is_code_text(code.as_str()) {
-            return Err(RowsFault::Unfit);
-        }
-        if !is_label_text(label.as_str()) {
-            return Err(RowsFault::Unfit);
-        }
+        let code = Code::read(code.as_str())?;
+        let label = Label::read(alloc, label.as_str())?;
         if self.students.find(0, code.as_str()).is_some() {
             return Err(RowsFault::Unfit);
         }
-        let (Ok(code), Ok(label)) = (
-            code_of(alloc, code.as_str()),
-            label_of(alloc, label.as_str()),
-        ) else {
-            return Err(RowsFault::Memory);
-        };
         self.students.put(Student { code, label })?;
         Ok(())
     }
@@ -163,13 +143,13 @@ impl Draft {
     pub fn is_whole(&self) -> bool
         ensures { result ≡ is_whole (drafted self.now) }
     {
-        if self.supervisors.entries().len() > 100 {
+        if self.supervisors.entries().len() > MOST_SUPERVISORS {
             return false;
         }
-        if self.projects.entries().len() > 400 {
+        if self.projects.entries().len() > MOST_PROJECTS {
             return false;
         }
-        if self.students.entries().len() > 500 {
+        if self.students.entries().len() > MOST_STUDENTS {
             return false;
         }
         self.are_offered()

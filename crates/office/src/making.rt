@@ -8,15 +8,11 @@ use spa::{Code, Label};
 use std::alloc::{AllocError, Global};
 
 /// A code of a text that was judged to be one.
-pub fn code_of(alloc: Global, text: &str) -> Result<Code, Refusal>
+pub fn code_of(text: &str) -> Code
     requires { IsTrue (is_code text.now) }
-    ensures code { IfOk result (λ code. code ≡ text.now) }
-    ensures memory { IfErr result (λ refusal. refusal ≡ Refusal.Memory) }
+    ensures { result ≡ text.now }
 {
-    match Code::read(alloc, text) {
-        Ok(code) => Ok(code),
-        Err(_) => Err(Refusal::Memory),
-    }
+    Code::read(text).unwrap()
 }
 
 /// A label of a text that was judged to be one.
@@ -59,7 +55,7 @@ pub fn new_supervisor(
         quota,
     };
     let changes = put_of_row(alloc, row)?;
-    let code = code_of(alloc, code)?;
+    let code = code_of(code);
     let label = label_of(alloc, label)?;
     Ok((Supervisor { code, label, quota }, changes))
 }
@@ -86,9 +82,9 @@ pub fn new_project(
         quota,
     };
     let changes = put_of_row(alloc, row)?;
-    let code = code_of(alloc, code)?;
+    let code = code_of(code);
     let label = label_of(alloc, label)?;
-    let supervisor = code_of(alloc, supervisor)?;
+    let supervisor = code_of(supervisor);
     Ok((
         Project {
             code,
@@ -117,7 +113,7 @@ pub fn new_student(
         label: Text::of(alloc, label)?,
     };
     let changes = put_of_row(alloc, row)?;
-    let code = code_of(alloc, code)?;
+    let code = code_of(code);
     let label = label_of(alloc, label)?;
     Ok((Student { code, label }, changes))
 }

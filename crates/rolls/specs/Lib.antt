@@ -1,5 +1,6 @@
 pub mod Roll
 pub mod Place
+pub mod Shared
 pub mod State
 pub mod Fit
 pub mod Asked

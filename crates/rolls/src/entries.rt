@@ -82,7 +82,7 @@ impl Keyed for Student {
 impl Duplicate for Supervisor {
     fn duplicate(&self, _alloc: Global) -> Result<Self, AllocError> {
         Ok(Supervisor {
-            code: self.code.copy()?,
+            code: self.code.copy(),
             label: self.label.copy()?,
             quota: self.quota,
         })
@@ -92,9 +92,9 @@ impl Duplicate for Supervisor {
 impl Duplicate for Project {
     fn duplicate(&self, _alloc: Global) -> Result<Self, AllocError> {
         Ok(Project {
-            code: self.code.copy()?,
+            code: self.code.copy(),
             label: self.label.copy()?,
-            supervisor: self.supervisor.copy()?,
+            supervisor: self.supervisor.copy(),
             quota: self.quota,
         })
     }
@@ -103,7 +103,7 @@ impl Duplicate for Project {
 impl Duplicate for Student {
     fn duplicate(&self, _alloc: Global) -> Result<Self, AllocError> {
         Ok(Student {
-            code: self.code.copy()?,
+            code: self.code.copy(),
             label: self.label.copy()?,
         })
     }

@@ -7,6 +7,7 @@ ghost use Rattle.rolls.specs.Place.{IsAt, IsGapFor};
 use std::alloc::{AllocError, Global};
 use std::cmp::Ordering;
 use std::marker::Model;
+use std::rc::Rc;
 
 /// A part of the office's table: its key is a round, or 0, and a code.
 pub trait Keyed {
@@ -25,21 +26,23 @@ pub trait Duplicate: Sized {
         ensures { IfOk result (λ copy. copy ≡ self.now) };
 }
 
-/// Entries in the order of their keys.
+/// Entries in the order of their keys. Copies of a table share them until one of the copies is changed.
 #[derive(Drop)]
 pub struct Table<E: Keyed> {
-    entries: Vec<E>,
+    alloc: Global,
+    entries: Option<Rc<Vec<E>>>,
 }
 
 impl<E: Keyed> Model for Table<E> {
     ghost use Rattle.std.specs.Prelude.{List, IsTrue};
     ghost use Rattle.rolls.specs.Roll.{rises};
+    ghost use Rattle.rolls.specs.Shared.{held};
 
     ghost Value = { List E };
 
-    ghost view = { λ t. t.entries.items };
+    ghost view = { λ t. held t.entries (λ shared. shared.value.items) };
 
-    ghost invariant = { λ t. IsTrue (rises E.key t.entries.items) };
+    ghost invariant = { λ t. IsTrue (rises E.key (held t.entries (λ shared. shared.value.items))) };
 }
 
 /// How the key of an entry compares with another.
@@ -58,12 +61,54 @@ fn search<E: Keyed>(entries: &[E], round: u32, code: &str) -> Result<usize, usiz
     entries.binary_search_by(|entry| compare(entry, round, code))
 }
 
+/// Puts an entry in its place, over one with its key.
+fn put_in<E: Keyed + Drop>(entries: &mut Vec<E>, entry: E) -> Result<(), AllocError>
+    requires { IsTrue (rises E.key entries.old.items) }
+    ensures ok { OnOk result (entries.new.items ≡ put E.key entry entries.old.items) }
+    ensures err { OnErr result (entries.new.items ≡ entries.old.items) }
+    ensures sorted { IsTrue (rises E.key entries.new.items) }
+{
+    match search(entries, entry.round(), entry.code()) {
+        Ok(at) => {
+            entries[at] = entry;
+            Ok(())
+        }
+        Err(at) => {
+            entries.insert(at, entry)?;
+            Ok(())
+        }
+    }
+}
+
+/// Takes out the entry with the key, if there is one.
+fn take_from<E: Keyed + Drop>(entries: &mut Vec<E>, round: u32, code: &str)
+    requires { IsTrue (rises E.key entries.old.items) }
+    ensures taken { entries.new.items ≡ take_out E.key (round, code.now) entries.old.items }
+    ensures sorted { IsTrue (rises E.key entries.new.items) }
+{
+    if let Ok(at) = search(entries, round, code) {
+        entries.remove(at);
+    }
+}
+
+/// The same entries, in memory of their own.
+fn copied<E: Duplicate + Drop>(alloc: Global, from: &[E]) -> Result<Vec<E>, AllocError>
+    ensures { IfOk result (λ copy. copy.items ≡ from.now) }
+{
+    let mut entries = Vec::with_capacity(alloc, from.len())?;
+    for entry in from {
+        entries.push(entry.duplicate(alloc)?)?;
+    }
+    Ok(entries)
+}
+
 impl<E: Keyed> Table<E> {
     pub fn new(alloc: Global) -> Self
         ensures { result ≡ [] }
     {
         Table {
-            entries: Vec::new(alloc),
+            alloc,
+            entries: None,
         }
     }
 
@@ -72,59 +117,74 @@ impl<E: Keyed> Table<E> {
         ensures all { result.now ≡ self.now }
         ensures sorted { IsTrue (rises E.key self.now) }
     {
-        &self.entries
+        match &self.entries {
+            Some(shared) => shared.as_ref().as_slice(),
+            None => &[],
+        }
     }
 
     pub fn find(&self, round: u32, code: &str) -> Option<&E>
         ensures { option_copied result ≡ find E.key (round, code.now) self.now }
     {
-        let entries: &[E] = &self.entries;
+        let entries = self.entries();
         match search(entries, round, code) {
             Ok(at) => Some(&entries[at]),
             Err(_) => None,
         }
     }
 
-    /// Puts an entry in its place, over one with its key.
+    /// Puts an entry in its place, over one with its key. Entries that a copy shares are copied first.
     pub fn put(&mut self, entry: E) -> Result<(), AllocError>
     where
-        E: Drop,
+        E: Duplicate + Drop,
         ensures ok { OnOk result (self.new ≡ put E.key entry self.old) }
         ensures err { OnErr result (self.new ≡ self.old) }
     {
-        match search(&self.entries, entry.round(), entry.code()) {
-            Ok(at) => {
-                self.entries[at] = entry;
-                Ok(())
-            }
-            Err(at) => {
-                self.entries.insert(at, entry)?;
-                Ok(())
+        if let Some(shared) = &mut self.entries {
+            if let Some(own) = Rc::get_mut(shared) {
+                return put_in(own, entry);
             }
         }
+        let mut own = copied(self.alloc, self.entries())?;
+        put_in(&mut own, entry)?;
+        self.entries = Some(Rc::new(self.alloc, own)?);
+        Ok(())
     }
 
-    /// Takes out the entry with the key, if there is one.
-    pub fn take_out(&mut self, round: u32, code: &str)
+    /// Takes out the entry with the key, if there is one. Entries that a copy shares are copied first.
+    pub fn take_out(&mut self, round: u32, code: &str) -> Result<(), AllocError>
     where
-        E: Drop,
-        ensures { self.new ≡ take_out E.key (round, code.now) self.old }
+        E: Duplicate + Drop,
+        ensures ok { OnOk result (self.new ≡ take_out E.key (round, code.now) self.old) }
+        ensures err { OnErr result (self.new ≡ self.old) }
     {
-        if let Ok(at) = search(&self.entries, round, code) {
-            self.entries.remove(at);
+        if search(self.entries(), round, code).is_err() {
+            return Ok(());
         }
+        if let Some(shared) = &mut self.entries {
+            if let Some(own) = Rc::get_mut(shared) {
+                take_from(own, round, code);
+                return Ok(());
+            }
+        }
+        let mut own = copied(self.alloc, self.entries())?;
+        take_from(&mut own, round, code);
+        self.entries = Some(Rc::new(self.alloc, own)?);
+        Ok(())
     }
 
+    /// The same table. Both share the entries, and it takes no memory.
     pub fn duplicate(&self, alloc: Global) -> Result<Self, AllocError>
     where
         E: Duplicate + Drop,
         ensures { IfOk result (λ copy. copy ≡ self.now) }
     {
-        let from: &[E] = &self.entries;
-        let mut entries = Vec::with_capacity(alloc, from.len())?;
-        for entry in from {
-            entries.push(entry.duplicate(alloc)?)?;
+        match &self.entries {
+            Some(shared) => Ok(Table {
+                alloc,
+                entries: Some(shared.clone()?),
+            }),
+            None => Ok(Table::new(alloc)),
         }
-        Ok(Table { entries })
     }
 }

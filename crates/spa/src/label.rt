@@ -7,22 +7,24 @@ ghost use Rattle.spa.specs.Text.{is_label};
 use crate::text::{TextFault, is_label_text};
 use std::alloc::{AllocError, Global};
 use std::marker::Model;
+use std::rc::RcStr;
 
 /// What a person or a project is called.
 #[derive(Debug, Drop)]
 pub struct Label {
-    text: String,
+    text: RcStr,
 }
 
 impl Model for Label {
-    ghost use Rattle.std.specs.Prelude.{ℕ, List, string_bytes, IsTrue};
+    ghost use Rattle.std.specs.Prelude.{ℕ, List, IsTrue};
+    ghost use Rattle.std.specs.Rc.{rc_str_bytes};
     ghost use Rattle.spa.specs.Text.{is_label};
 
     ghost Value = { List ℕ };
 
-    ghost view = { λ a. string_bytes a.text };
+    ghost view = { λ a. rc_str_bytes a.text };
 
-    ghost invariant = { λ a. IsTrue (is_label (string_bytes a.text)) };
+    ghost invariant = { λ a. IsTrue (is_label (rc_str_bytes a.text)) };
 }
 
 impl Label {
@@ -36,7 +38,7 @@ impl Label {
         if !is_label_text(text) {
             return Err(TextFault::Form);
         }
-        match String::from_str(alloc, text) {
+        match RcStr::from_str(alloc, text) {
             Ok(text) => Ok(Label { text }),
             Err(_) => Err(TextFault::Memory),
         }
@@ -51,7 +53,7 @@ impl Label {
         text.as_str()
     }
 
-    /// The same label in memory of its own.
+    /// The same label: both share its bytes, and it takes no memory.
     pub fn copy(&self) -> Result<Self, AllocError>
         ensures { IfOk result (λ label. label ≡ self.now) }
     {

@@ -9,7 +9,7 @@ pub(crate) fn supervisors(alloc: Global, text: &str) -> Result<Vec<(Code, u32)>,
     let mut roll = Vec::new(alloc);
     for entry in text.split_whitespace() {
         let mut fields = entry.split(':');
-        let code = Code::read(alloc, fields.next().unwrap_or(""))?;
+        let code = Code::read(fields.next().unwrap_or(""))?;
         let quota = fields.next().unwrap_or("").parse()?;
         roll.push((code, quota))?;
     }
@@ -21,8 +21,8 @@ pub(crate) fn projects(alloc: Global, text: &str) -> Result<Vec<(Code, Code, u32
     let mut roll = Vec::new(alloc);
     for entry in text.split_whitespace() {
         let mut fields = entry.split(':');
-        let code = Code::read(alloc, fields.next().unwrap_or(""))?;
-        let supervisor = Code::read(alloc, fields.next().unwrap_or(""))?;
+        let code = Code::read(fields.next().unwrap_or(""))?;
+        let supervisor = Code::read(fields.next().unwrap_or(""))?;
         let quota = fields.next().unwrap_or("").parse()?;
         roll.push((code, supervisor, quota))?;
     }
@@ -34,10 +34,10 @@ pub(crate) fn students(alloc: Global, text: &str) -> Result<Vec<(Code, Vec<Code>
     let mut roll = Vec::new(alloc);
     for entry in text.split_whitespace() {
         let mut fields = entry.split(':');
-        let code = Code::read(alloc, fields.next().unwrap_or(""))?;
+        let code = Code::read(fields.next().unwrap_or(""))?;
         let mut list = Vec::new(alloc);
         for field in fields {
-            list.push(Code::read(alloc, field)?)?;
+            list.push(Code::read(field)?)?;
         }
         roll.push((code, list))?;
     }

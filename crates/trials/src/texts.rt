@@ -38,34 +38,28 @@ pub(crate) fn same_text(rt: &impl Abort, found: &str, want: &str) {
 }
 
 /// The code and its copy have this text.
-fn is_code(rt: &impl Abort, code: &Code, text: &str) -> Result<(), Fail> {
+fn is_code(rt: &impl Abort, code: &Code, text: &str) {
     same_text(rt, code.as_str(), text);
-    same_text(rt, code.copy()?.as_str(), text);
-    Ok(())
+    same_text(rt, code.copy().as_str(), text);
 }
 
 /// Whether each text is read as a code, as it should or should not.
-fn compare_codes(
-    alloc: Global,
-    rt: &impl Abort,
-    rows: &[(&'static str, bool)],
-) -> Result<(), Fail> {
+fn compare_codes(rt: &impl Abort, rows: &[(&'static str, bool)]) {
     for (text, want) in rows {
         assert_eq!(rt; is_code_text(text), *want, "{text}");
-        match Code::read(alloc, text) {
+        match Code::read(text) {
             Ok(code) => {
                 assert!(rt; *want, "{text}");
-                is_code(rt, &code, text)?;
+                is_code(rt, &code, text);
             }
             Err(fault) => assert!(rt; !*want && fault == TextFault::Form, "{text}"),
         }
     }
-    Ok(())
 }
 
 #[test]
-fn codes_are_told_by_their_form(rt: HostRuntime) -> Result<(), Fail> {
-    compare_codes(rt.alloc(), &rt, CODES.as_slice())
+fn codes_are_told_by_their_form(rt: HostRuntime) {
+    compare_codes(&rt, CODES.as_slice());
 }
 
 /// The label and its copy have this text.

@@ -7,7 +7,9 @@ ghost use Rattle.rolls.specs.Refusing.{put_refusal, is_moved};
 
 use super::Office;
 use rolls::Refusal;
-use spa::{is_code_text, is_label_text};
+use spa::{
+    MOST_PLACES, MOST_PROJECTS, MOST_STUDENTS, MOST_SUPERVISORS, is_code_text, is_label_text,
+};
 
 impl Office {
     /// How many students are placed with a supervisor.
@@ -34,13 +36,15 @@ impl Office {
         if !is_label_text(label) {
             return Some(Refusal::Label);
         }
-        if quota > 500 {
+        if quota > MOST_PLACES {
             return Some(Refusal::Quota);
         }
         if quota < self.placed_with_supervisor(code) {
             return Some(Refusal::BelowPlaced);
         }
-        if self.supervisors.find(0, code).is_none() && self.supervisors.entries().len() >= 100 {
+        if self.supervisors.find(0, code).is_none()
+            && self.supervisors.entries().len() >= MOST_SUPERVISORS
+        {
             return Some(Refusal::RollFull);
         }
         None
@@ -65,7 +69,7 @@ impl Office {
         if !is_label_text(label) {
             return Some(Refusal::Label);
         }
-        if quota > 500 {
+        if quota > MOST_PLACES {
             return Some(Refusal::Quota);
         }
         if self.supervisors.find(0, supervisor).is_none() {
@@ -77,7 +81,7 @@ impl Office {
         if quota < self.placed_in_project(code) {
             return Some(Refusal::BelowPlaced);
         }
-        if self.projects.find(0, code).is_none() && self.projects.entries().len() >= 400 {
+        if self.projects.find(0, code).is_none() && self.projects.entries().len() >= MOST_PROJECTS {
             return Some(Refusal::RollFull);
         }
         None
@@ -93,7 +97,7 @@ impl Office {
         if !is_label_text(label) {
             return Some(Refusal::Label);
         }
-        if self.students.find(0, code).is_none() && self.students.entries().len() >= 500 {
+        if self.students.find(0, code).is_none() && self.students.entries().len() >= MOST_STUDENTS {
             return Some(Refusal::RollFull);
         }
         None

@@ -36,7 +36,7 @@ impl Office {
             return Err(Refusal::UnknownProject);
         };
         let name = project.label.copy()?;
-        let supervisor = project.supervisor.copy()?;
+        let supervisor = project.supervisor.copy();
         Ok(Reply::Project {
             name,
             placed: self.placed_in_project(code),

@@ -10,7 +10,7 @@ returns-in_default c = λ sound.
     let fs : List (List ℕ) = map (λ f. f.now) c.args.fields.now in
     let k : ℕ = c.loop-field.field-index in
     let h : k < length fs = omega (arith, length-map c.args.fields.now (λ (f : Bor (List ℕ)). f.now), c.loop-field-test.true) in
-    let other = rw c.in_default.is at c.in_ok-code.ensures in
+    let other = rw c.in_default.is at c.read_code.ensures in
     let form = known_form (map (λ e. e.0) c.args.projects.now) fs k (get_or c.args.fields.now k blank).now c.requires sound h (field_at c.args.fields.now k c.loop-field-test.true) in
     cc
 
@@ -21,7 +21,7 @@ returns-then-is_none c = λ sound.
     let h : k < length fs = omega (arith, length-map c.args.fields.now (λ (f : Bor (List ℕ)). f.now), c.loop-field-test.true) in
     let codes : List (List ℕ) = map (λ e. e.0) c.args.projects.now in
     let code : List ℕ = c.as_str.result.now in
-    let text = (rw c.in-Some.is at c.in_ok-code.ensures).0 in
+    let text = (rw c.in-Some.is at c.read_code.ensures).0 in
     let here : slice_get fs k ≡ Some code = field_at c.args.fields.now k c.loop-field-test.true ∙ ap Some (sym (c.as_str.ensures.value ∙ text)) in
     let none : c.position_of.result ≡ None = found_none c.position_of.result (c.is_none.ensures ∙ ap not c.if-is_none.true) in
     unknown_code codes fs (length c.args.projects.now) k code (sym (length-map c.args.projects.now (λ e. e.0))) sound h here (subst (λ (r : Option ℕ). Finds codes (length c.args.projects.now) code r) none c.position_of.ensures)
@@ -33,7 +33,7 @@ returns-then-is_some c = λ sound.
     let h : k < length fs = omega (arith, length-map c.args.fields.now (λ (f : Bor (List ℕ)). f.now), c.loop-field-test.true) in
     let codes : List (List ℕ) = map (λ e. e.0) c.args.projects.now in
     let code : List ℕ = c.as_str-in-loop-field.result.now in
-    let text = (rw c.in-Some.is at c.in_ok-code.ensures).0 in
+    let text = (rw c.in-Some.is at c.read_code.ensures).0 in
     let here : slice_get fs k ≡ Some code = field_at c.args.fields.now k c.loop-field-test.true ∙ ap Some (sym (c.as_str-in-loop-field.ensures.value ∙ text)) in
     let some = found_some c.place_of.result (sym c.is_some.ensures ∙ c.if-is_some.true) in
     repeated_code codes fs c.deref.result.now k some.0 code sound h here (c.deref.ensures.value ∙ c.loop-field.invariant.read) (subst (λ (r : Option ℕ). Finds c.deref.result.now (length c.deref.result.now) code r) some.1 c.place_of.ensures)
@@ -44,7 +44,7 @@ loop-field-preserved c =
     let k : ℕ = c.loop-field.field-index in
     let h : k < length fs = omega (arith, length-map c.args.fields.now (λ (f : Bor (List ℕ)). f.now), c.loop-field-test.true) in
     let codes : List (List ℕ) = map (λ e. e.0) c.args.projects.now in
-    let text = (rw c.in-Some.is at c.in_ok-code.ensures).0 in
+    let text = (rw c.in-Some.is at c.read_code.ensures).0 in
     let code : List ℕ = c.as_str-in-loop-field.result.now in
     let here : slice_get fs k ≡ Some code = field_at c.args.fields.now k c.loop-field-test.true ∙ ap Some (sym (c.as_str-in-loop-field.ensures.value ∙ text)) in
     let seen : c.deref.result.now ≡ take k fs = c.deref.ensures.value ∙ c.loop-field.invariant.read in

@@ -10,17 +10,17 @@ use Rattle.intake.proofs.Rolls.{student_keys}
 use Rattle.intake.proofs.Pairing.{refers, nowhere, one_place, student_at, listed_at, small_place, get_mapped, same_found}
 use Rattle.intake.proofs.draft.Draft.add_pair.Goals as goal
 
-pub returns-in_default-2 : goal.returns-in_default-2
-returns-in_default-2 c = λ s k t.
+pub returns-in_default-read_code : goal.returns-in_default-read_code
+returns-in_default-read_code c = λ s k t.
     let r = refers _ _ s k _ _ c.requires t (two_fields c.args.fields.now c.in-len2.len_at_least c.in-len2.len_below) in
-    let other = rw c.in_default-2.is at c.in_ok-student.ensures in
+    let other = rw c.in_default-read_code.is at c.read_code.ensures in
     let form = r.student_form in
     cc
 
-pub returns-in_default-3 : goal.returns-in_default-3
-returns-in_default-3 c = λ s k t.
+pub returns-in_default-read_code-2 : goal.returns-in_default-read_code-2
+returns-in_default-read_code-2 c = λ s k t.
     let r = refers _ _ s k _ _ c.requires t (two_fields c.args.fields.now c.in-len2.len_at_least c.in-len2.len_below) in
-    let other = rw c.in_default-3.is at c.in_ok-project.ensures in
+    let other = rw c.in_default-read_code-2.is at c.read_code-2.ensures in
     let form = r.project_form in
     cc
 
@@ -30,7 +30,7 @@ position_of-requires c = subst Rise (student_keys c.args.self.now.students.items
 pub returns-in_default-position_of : goal.returns-in_default-position_of
 returns-in_default-position_of c = λ s k t.
     let r = refers _ _ s k _ _ c.requires t (two_fields c.args.fields.now c.in-len2.len_at_least c.in-len2.len_below) in
-    let text = (rw c.in-Some.is at c.in_ok-student.ensures).0 in
+    let text = (rw c.in-Some.is at c.read_code.ensures).0 in
     let keys = student_keys c.args.self.now.students.items ∙ ap (map (λ e. e.0)) (sym c.deref.ensures.value) in
     nowhere (map (λ e. e.0) c.deref.result.now) (length c.deref.result.now) s c.as_str.result.now _ (sym (length-map c.deref.result.now (λ e. e.0))) (c.as_str.ensures.value ∙ text)
     c.in_default-position_of.ensures (ap (λ (l : List (List ℕ)). slice_get l s) (sym keys) ∙ r.code)
@@ -38,7 +38,7 @@ returns-in_default-position_of c = λ s k t.
 pub returns-then-position-len : goal.returns-then-position-len
 returns-then-position-len c = λ s k t.
     let r = refers _ _ s k _ _ c.requires t (two_fields c.args.fields.now c.in-len2.len_at_least c.in-len2.len_below) in
-    let text = (rw c.in-Some.is at c.in_ok-student.ensures).0 in
+    let text = (rw c.in-Some.is at c.read_code.ensures).0 in
     let keys = student_keys c.args.self.now.students.items ∙ ap (map (λ e. e.0)) (sym c.deref.ensures.value) in
     let same : c.in-Some-position_of.position ≡ s = one_place _ c.in-Some-position_of.position s _ c.requires.students.rise
     (ap (λ (l : List (List ℕ)). slice_get l c.in-Some-position_of.position) keys ∙ c.in-Some-position_of.ensures.1 ∙ ap Some (c.as_str.ensures.value ∙ text)) r.code in
@@ -48,8 +48,8 @@ returns-then-position-len c = λ s k t.
 pub returns-in_default-place_of : goal.returns-in_default-place_of
 returns-in_default-place_of c = λ s k t.
     let r = refers _ _ s k _ _ c.requires t (two_fields c.args.fields.now c.in-len2.len_at_least c.in-len2.len_below) in
-    let text = (rw c.in-Some.is at c.in_ok-student.ensures).0 in
-    let text2 = (rw c.in-Some-2.is at c.in_ok-project.ensures).0 in
+    let text = (rw c.in-Some.is at c.read_code.ensures).0 in
+    let text2 = (rw c.in-Some-read_code.is at c.read_code-2.ensures).0 in
     let keys = student_keys c.args.self.now.students.items ∙ ap (map (λ e. e.0)) (sym c.deref.ensures.value) in
     let same : c.in-Some-position_of.position ≡ s = one_place _ c.in-Some-position_of.position s _ c.requires.students.rise
     (ap (λ (l : List (List ℕ)). slice_get l c.in-Some-position_of.position) keys ∙ c.in-Some-position_of.ensures.1 ∙ ap Some (c.as_str.ensures.value ∙ text)) r.code in
@@ -69,8 +69,8 @@ pub returns : goal.returns
 returns c =
     let s : ℕ = c.in-Some-position_of.position in
     let k : ℕ = c.in-Some-place_of.place in
-    let text = (rw c.in-Some.is at c.in_ok-student.ensures).0 in
-    let text2 = (rw c.in-Some-2.is at c.in_ok-project.ensures).0 in
+    let text = (rw c.in-Some.is at c.read_code.ensures).0 in
+    let text2 = (rw c.in-Some-read_code.is at c.read_code-2.ensures).0 in
     let within : s < length c.args.self.now.students.items = omega (arith, c.in-Some-position_of.ensures.0, ap length c.deref.ensures.value) in
     let keys = student_keys c.args.self.now.students.items ∙ ap (map (λ e. e.0)) (sym c.deref.ensures.value) in
     let here = student_at c.args.self.now.students.items s c.index.result.now within c.index.ensures in

@@ -16,7 +16,7 @@ is_next-requires c = subst Rise (project_keys c.args.self.now.projects.items ∙
 
 pub returns-then-not-is_next : goal.returns-then-not-is_next
 returns-then-not-is_next c = λ e t.
-    let text = (rw c.in-Some.is at c.in_ok-code.ensures).0 in
+    let text = (rw c.in-Some.is at c.read_code.ensures).0 in
     let code : c.as_str.result.now ≡ e.code = c.as_str.ensures.value ∙ text ∙ first_field _ _ _ _ (sym (three_fields c.args.fields.now c.in-len3.len_at_least c.in-len3.len_below) ∙ t.is) in
     let keys = project_keys c.args.self.now.projects.items ∙ ap (map (λ e. e.0)) (sym c.deref.ensures.value) in
     let yes = c.is_next.ensures.1 (rise_moved _ _ _ _ keys (sym code) t.next) in
@@ -28,7 +28,7 @@ position_of-requires c = subst Rise (supervisor_keys c.args.self.now.supervisors
 
 pub returns-then-is_none : goal.returns-then-is_none
 returns-then-is_none c = λ e t.
-    let text = (rw c.in-Some-2.is at c.in_ok-supervisor.ensures).0 in
+    let text = (rw c.in-Some-read_code.is at c.read_code-2.ensures).0 in
     let row : (get_or c.args.fields.now 0 blank).now ∷ (get_or c.args.fields.now 1 blank).now ∷ (get_or c.args.fields.now 2 blank).now ∷ [] ≡ e.code ∷ e.supervisor ∷ decimal e.quota ∷ [] = sym (three_fields c.args.fields.now c.in-len3.len_at_least c.in-len3.len_below) ∙ t.is in
     let second : (get_or c.args.fields.now 1 blank).now ≡ e.supervisor = cc in
     let same : c.as_str-2.result.now ≡ e.supervisor = c.as_str-2.ensures.value ∙ text ∙ second in
@@ -41,29 +41,29 @@ returns-then-is_none c = λ e t.
 
 pub returns : goal.returns
 returns c =
-    let text = rw c.in-Some.is at c.in_ok-code.ensures in
+    let text = rw c.in-Some.is at c.read_code.ensures in
     let code : c.in-Some.code ≡ (get_or c.args.fields.now 0 blank).now = text.0 in
-    let text2 = rw c.in-Some-2.is at c.in_ok-supervisor.ensures in
-    let supervisor : c.in-Some-2.supervisor ≡ (get_or c.args.fields.now 1 blank).now = text2.0 in
+    let text2 = rw c.in-Some-read_code.is at c.read_code-2.ensures in
+    let supervisor : c.in-Some-read_code.supervisor ≡ (get_or c.args.fields.now 1 blank).now = text2.0 in
     let none : length c.args.self.now.students.items ≡ 0 = search (rules) in
     let many : c.len.result ≡ length c.args.self.now.projects.items = search (rules) in
     let keys = ap (map (λ e. e.0)) c.deref.ensures.value ∙ sym (project_keys c.args.self.now.projects.items) in
     let known = found_some c.position_of.result (c.is_none.ensures ∙ ap not c.if-is_none.false) in
     let at : slice_get (map (λ e. e.0) c.deref-2.result.now) known.0 ≡ Some c.as_str-2.result.now = (subst (λ (r : Option ℕ). Finds (map (λ e. e.0) c.deref-2.result.now) (length c.deref-2.result.now) c.as_str-2.result.now r) known.1 c.position_of.ensures).1 in
     let owners = ap (map (λ e. e.0)) c.deref-2.ensures.value ∙ sym (supervisor_keys c.args.self.now.supervisors.items) in (
-      record { code = c.in-Some.code; supervisor = c.in-Some-2.supervisor; quota = c.in-Some-read_quota.quota },
+      record { code = c.in-Some.code; supervisor = c.in-Some-read_code.supervisor; quota = c.in-Some-read_quota.quota },
       record {
         turn = ap (λ l. students_of (map (λ e. (e.0, e.1.items)) l)) (nil_from_length c.args.self.now.students.items none);
         prices = c.has_no_prices.ensures.0 c.if-not-has_no_prices.false;
         is = three_fields c.args.fields.now c.in-len3.len_at_least c.in-len3.len_below
             ∙ ap (λ (x : List ℕ). x ∷ (get_or c.args.fields.now 1 blank).now ∷ (get_or c.args.fields.now 2 blank).now ∷ []) (sym code)
             ∙ ap (λ (x : List ℕ). c.in-Some.code ∷ x ∷ (get_or c.args.fields.now 2 blank).now ∷ []) (sym supervisor)
-            ∙ ap (λ (x : List ℕ). c.in-Some.code ∷ c.in-Some-2.supervisor ∷ x ∷ []) c.in-Some-read_quota.ensures.1;
+            ∙ ap (λ (x : List ℕ). c.in-Some.code ∷ c.in-Some-read_code.supervisor ∷ x ∷ []) c.in-Some-read_quota.ensures.1;
         form = subst (λ (x : List ℕ). IsTrue (is_code x)) (sym code) text.1;
         quota = c.in-Some-read_quota.ensures.0;
-        known = contained _ known.0 c.in-Some-2.supervisor (ap (λ (l : List (List ℕ)). slice_get l known.0) (sym owners) ∙ at ∙ ap Some c.as_str-2.ensures.value);
+        known = contained _ known.0 c.in-Some-read_code.supervisor (ap (λ (l : List (List ℕ)). slice_get l known.0) (sym owners) ∙ at ∙ ap Some c.as_str-2.ensures.value);
         few = omega (arith, c.if-len-ge-MOST_PROJECTS.false, many, length-map c.args.self.now.projects.items (λ (e : List ℕ × List ℕ × ℕ). let s : Project = record { code = e.0; supervisor = e.1; quota = e.2 } in s));
         next = rise_moved _ _ _ _ keys c.as_str.ensures.value (c.is_next.ensures.0 c.if-not-is_next.false);
       },
-      project_added c.args.self.now.supervisors.items c.args.self.now.projects.items c.push.new.self.items (map (λ e. (e.0, e.1.items)) c.args.self.now.students.items) c.args.self.now.places.items _ _ _ c.in-Some.code c.in-Some-2.supervisor c.in-Some-read_quota.quota c.in_ok-push.ensures.items,
+      project_added c.args.self.now.supervisors.items c.args.self.now.projects.items c.push.new.self.items (map (λ e. (e.0, e.1.items)) c.args.self.now.students.items) c.args.self.now.places.items _ _ _ c.in-Some.code c.in-Some-read_code.supervisor c.in-Some-read_quota.quota c.in_ok-push.ensures.items,
     )

@@ -14,7 +14,7 @@ is_next-requires c = subst Rise (supervisor_keys c.args.self.now.supervisors.ite
 
 pub returns-then-not-is_next : goal.returns-then-not-is_next
 returns-then-not-is_next c = λ e t.
-    let text = (rw c.in-Some.is at c.in_ok-code.ensures).0 in
+    let text = (rw c.in-Some.is at c.read_code.ensures).0 in
     let code : c.as_str.result.now ≡ e.code = c.as_str.ensures.value ∙ text ∙ first_field _ _ _ _ (sym (two_fields c.args.fields.now c.in-len2.len_at_least c.in-len2.len_below) ∙ t.is) in
     let keys = supervisor_keys c.args.self.now.supervisors.items ∙ ap (map (λ e. e.0)) (sym c.deref.ensures.value) in
     let yes = c.is_next.ensures.1 (rise_moved _ _ _ _ keys (sym code) t.next) in
@@ -23,7 +23,7 @@ returns-then-not-is_next c = λ e t.
 
 pub returns : goal.returns
 returns c =
-    let text = rw c.in-Some.is at c.in_ok-code.ensures in
+    let text = rw c.in-Some.is at c.read_code.ensures in
     let code : c.in-Some.code ≡ (get_or c.args.fields.now 0 blank).now = text.0 in
     let none : length c.args.self.now.projects.items ≡ 0 = search (rules) in
     let many : c.len.result ≡ length c.args.self.now.supervisors.items = search (rules) in
