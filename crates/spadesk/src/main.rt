@@ -1,16 +1,11 @@
 //! The program: it serves standard input to standard output over a new database in memory, or does one line.
 //!
-//! Without words it prints nothing but the answers, and ends with status 0, or with 1 where the stream broke off. With
-//! words it does what they say: `solve FILE` and `check FILE`. The work is done by the crates below: here standard input,
-//! standard output, files and a database are handed to them.
+//! Without arguments it prints nothing but the answers, and ends with status 0, or with 1 where the stream broke off. With
+//! arguments it does the line that they stand for. The work is done by the crates below: here standard input, standard
+//! output and a database are handed to them.
 #![tactic(auto)]
 
-mod files;
-mod rounds;
-mod run;
-mod words;
-
-use crate::run::line;
+use cli::line;
 use desk::Desk;
 use sqlite::Connection;
 use std::process::ExitCode;
@@ -44,6 +39,3 @@ fn main(rt: HostRuntime) -> ExitCode {
         _ => ExitCode::FAILURE,
     }
 }
-
-#[cfg(test)]
-mod tests;

@@ -1,8 +1,7 @@
-//! The tests of the crates below, from `spa` to `web`: worked examples of what no clause says, each through public calls
+//! The tests of the crates below: worked examples of what no clause says, each through public calls
 //! alone.
 //!
-//! They stand in one crate above all others, so that none of those is proved once more for its tests. The program has its
-//! own beside it.
+//! They stand in one crate above all others, so that none of those is proved once more for its tests.
 #![tactic(auto)]
 
 #[cfg(test)]
@@ -15,6 +14,8 @@ mod desks;
 mod exchanges;
 #[cfg(test)]
 mod instances;
+#[cfg(test)]
+mod lines;
 #[cfg(test)]
 mod offices;
 #[cfg(test)]

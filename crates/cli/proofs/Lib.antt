@@ -1,0 +1,2 @@
+mod Limited
+pub mod Subcommands

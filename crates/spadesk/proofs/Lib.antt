@@ -1,3 +1,0 @@
-mod Counted
-mod Limited
-pub mod Subcommands
