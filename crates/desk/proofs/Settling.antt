@@ -10,9 +10,9 @@ use Rattle.rolls.specs.declared.row.Change.{Change}
 use Rattle.rolls.specs.declared.request.Done.{Done}
 use Rattle.rolls.specs.State.{State}
 use Rattle.rolls.specs.Rows.{row_of, after_changes, Turns}
-use Rattle.rolls.specs.Asked.{Put, Plain, is_read, PutSupervisor, PutProject, PutStudent, GetSupervisor, GetProject, GetStudent}
+use Rattle.rolls.specs.declared.request.Plain.{Plain}
+use Rattle.rolls.specs.declared.request.Request.TheVariants as request
 use Rattle.rolls.specs.Answers.{IsDone}
-use Rattle.rolls.specs.Stepping.{after_put}
 use Rattle.store.specs.Tables.{TablesHold, StandsFor, Opens}
 use Rattle.store.specs.Saving.{Saves}
 use Rattle.desk.specs.Keeping.{Keeps, Leads}
@@ -66,25 +66,16 @@ survives_weaker old new P Q weaker s = record {
 }
 
 -- saved changes of a request lead to an office that the request makes
-pub done_leads : (put : Put) (office next : State) (done : Done) (old new : Database) → IsDone put office next done → Saves done.changes.items old new → Leads office (Plain put) old new
+pub done_leads : (plain : Plain) (office next : State) (done : Done) (old new : Database) → IsDone plain office next done → Saves done.changes.items old new → Leads office (request.Plain plain) old new
 unfolding Leads
-done_leads put office next done old new is saves stands =
+done_leads plain office next done old new is saves stands =
     (done.reply, next, (is.allowed, (is.reply, is.after)), stands_after done.changes.items office next old new is.changes saves stands)
 
 -- what a crash may leave of saved changes is what it may leave of the request
-pub left_leads : (put : Put) (office next : State) (done : Done) (old : Database) → IsDone put office next done → (trees : Trees) → IsLeft (Saves done.changes.items) old trees → IsLeft (Leads office (Plain put)) old trees
-left_leads put office next done old is trees left = (left.0, done_leads put office next done old left.0 is left.1, left.2)
+pub left_leads : (plain : Plain) (office next : State) (done : Done) (old : Database) → IsDone plain office next done → (trees : Trees) → IsLeft (Saves done.changes.items) old trees → IsLeft (Leads office (request.Plain plain)) old trees
+left_leads plain office next done old is trees left = (left.0, done_leads plain office next done old left.0 is left.1, left.2)
 
 -- an office that was opened is one that the tables stand for
 pub opened_stands : (old new : Database) (office : State) → Opens old new office → StandsFor new office
 opened_stands old new office (inl made) = subst (λ (o : State). StandsFor new o) (sym made.1) made.2
 opened_stands old new office (inr found) = subst (λ (db : Database). StandsFor db office) (sym found.0) found.1
-
--- a read leaves the office as it was
-pub read_keeps : (put : Put) (office : State) → is_read put ≡ true → after_put put office ≡ office
-read_keeps (PutSupervisor code label quota) office h = cc
-read_keeps (PutProject code label supervisor quota) office h = cc
-read_keeps (PutStudent code label) office h = cc
-read_keeps (GetSupervisor code) office h = refl
-read_keeps (GetProject code) office h = refl
-read_keeps (GetStudent code) office h = refl

@@ -6,7 +6,8 @@ use Rattle.sqlite.specs.Held.{state}
 use Rattle.sqlite_trees.specs.declared.store.Store.{Ghosts}
 use Rattle.rolls.specs.declared.request.Reply.{Reply}
 use Rattle.rolls.specs.State.{State}
-use Rattle.rolls.specs.Asked.{Asked, Plain, is_read}
+use Rattle.rolls.specs.declared.request.Request.{Request}
+use Rattle.rolls.specs.Reads.{changes_nothing}
 use Rattle.rolls.specs.Refusing.{refusal}
 use Rattle.rolls.specs.Run.{Step}
 use Rattle.desk.specs.Kept.{Kept}
@@ -23,14 +24,10 @@ pub record IsKeeping {S : Type 0} (ghosts : Ghosts S) (kept : Kept S) : Type 0 w
   pub ended : kept.store.in_transaction ≡ false
 
 -- tables that stood for the office come to stand for one that the request makes of it
-unfoldable pub Leads : State → Asked → Database → Database → Type 0
-Leads office asked old new =
-    StandsFor old office → (reply : Reply) × (next : State) × Step office asked (Ok reply) next × StandsFor new next
+unfoldable pub Leads : State → Request → Database → Database → Type 0
+Leads office request old new =
+    StandsFor old office → (reply : Reply) × (next : State) × Step office request (Ok reply) next × StandsFor new next
 
--- whether the request changes nothing, whatever the office
-abbrev pub only_reads : Asked → Bool
-only_reads (Plain put) = is_read put
-
--- whether no table is needed: the office refuses the request, or the request only reads
-abbrev pub needs_no_table : State → Asked → Bool
-needs_no_table office asked = is_some (refusal office asked) || only_reads asked
+-- whether no table is needed: the office refuses the request, or the request changes nothing of it
+abbrev pub needs_no_table : State → Request → Bool
+needs_no_table office request = is_some (refusal office request) || changes_nothing office request

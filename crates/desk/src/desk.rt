@@ -1,18 +1,18 @@
 //! The desk.
 
-ghost use Rattle.std.specs.Prelude.{◌≡◌, ◌≢◌, ◌⊎◌, Err, IfOk, IfErr, IsErr, IfSome, OnOk, OnErr, map, false, true};
+ghost use Rattle.std.specs.Prelude.{◌≡◌, ◌≢◌, ◌⊎◌, Err, IfOk, IfErr, IsErr, IfSome, IsTrue, OnOk, OnErr, None, false, true};
 ghost use Rattle.sqlite.specs.State.{HasCleanDisk, Survives};
 ghost use Rattle.sqlite.specs.Held.{state};
 ghost use Rattle.tables.specs.Steps.{IsKept, IsLeft};
-ghost use Rattle.rolls.specs.Answers.{Answers, IsDone};
+ghost use Rattle.rolls.specs.Answers.{IsDone};
 ghost use Rattle.rolls.specs.Rows.{Turns};
 ghost use Rattle.store.specs.Saving.{AreActedOn, Saves};
-ghost use Rattle.rolls.specs.Asked.{asked_of, put_of, is_read, Plain as ThePlain};
-ghost use Rattle.rolls.specs.Refusing.{refusal};
+ghost use Rattle.rolls.specs.Reads.{is_read, changes_nothing};
+ghost use Rattle.rolls.specs.Refusing.{plain_refusal, refusal};
 ghost use Rattle.rolls.specs.Run.{Step, Run};
 ghost use Rattle.store.specs.Tables.{Opens, Founds, HasNone, LeavesAlone};
 ghost use Rattle.store.specs.Reading.{IsDamaged};
-ghost use Rattle.desk.specs.Keeping.{Keeps, Leads, needs_no_table, only_reads};
+ghost use Rattle.desk.specs.Keeping.{Keeps, Leads, needs_no_table};
 
 use office::Office;
 use rolls::{Done, Plain, Refusal, Reply, Request};
@@ -108,7 +108,7 @@ impl<S: Alter> Desk<S> {
     /// All the requests in turn, each answered by a step. Want of memory for the answers comes before the first request
     /// is asked.
     pub fn run(&mut self, requests: Vec<Request>) -> Result<Vec<Result<Reply, Refusal>>, AllocError>
-        ensures run { IfOk result (λ answers. Run self.old.office (map asked_of requests.items) answers.items self.new.office) }
+        ensures run { IfOk result (λ answers. Run self.old.office requests.items answers.items self.new.office) }
         ensures tables { Keeps (state S.Store self.new.store) self.new.office }
         ensures err { OnErr result (self.new ≡ self.old) }
     {
@@ -122,19 +122,22 @@ impl<S: Alter> Desk<S> {
 
     /// One step of the office.
     pub fn ask(&mut self, request: Request) -> Result<Reply, Refusal>
-        ensures step { Step self.old.office (asked_of request) result self.new.office }
+        ensures step { Step self.old.office request result self.new.office }
         ensures tables { Keeps (state S.Store self.new.store) self.new.office }
-        ensures quiet { needs_no_table self.old.office (asked_of request) ≡ true → self.new.store ≡ self.old.store }
-        ensures named { IfSome (refusal self.old.office (asked_of request)) (λ r. result ≡ Err r) }
-        ensures storage { result ≡ Err Refusal.Storage → only_reads (asked_of request) ≡ false }
+        ensures quiet { needs_no_table self.old.office request ≡ true → self.new.store ≡ self.old.store }
+        ensures named { IfSome (refusal self.old.office request) (λ r. result ≡ Err r) }
+        ensures storage { result ≡ Err Refusal.Storage → changes_nothing self.old.office request ≡ false }
 
         // What a crash leaves: what it could leave before, or the tables of an office that the request makes; after an
         // answered change the tables after it alone.
-        ensures crash { Survives (state S.Store self.old.store) (state S.Store self.new.store) (IsLeft (Leads self.old.office (asked_of request)) (state S.Store self.old.store).now) }
-        ensures alone { only_reads (asked_of request) ≡ false → HasCleanDisk (state S.Store self.new.store) → OnOk result (LeavesAlone (state S.Store self.new.store)) }
+        ensures crash { Survives (state S.Store self.old.store) (state S.Store self.new.store) (IsLeft (Leads self.old.office request) (state S.Store self.old.store).now) }
+        ensures alone { changes_nothing self.old.office request ≡ false → HasCleanDisk (state S.Store self.new.store) → OnOk result (LeavesAlone (state S.Store self.new.store)) }
+
+        // After an answered change the connection is open, so that the tables stand for the office.
+        ensures stays_open { changes_nothing self.old.office request ≡ false → HasCleanDisk (state S.Store self.new.store) → OnOk result (IsTrue (state S.Store self.new.store).is_open) }
 
         // Where a foreign key would write other rows too, no change is made.
-        ensures acted_on { only_reads (asked_of request) ≡ false → AreActedOn (state S.Store self.old.store).now.schema → IsErr result }
+        ensures acted_on { changes_nothing self.old.office request ≡ false → AreActedOn (state S.Store self.old.store).now.schema → IsErr result }
     {
         if let Some(refusal) = self.office.refusal_of(&request) {
             return Err(refusal);
@@ -152,32 +155,30 @@ impl<S: Alter> Desk<S> {
 
     /// A request that only reads is answered from the office.
     fn read(&mut self, plain: Plain) -> Result<Reply, Refusal>
-        requires read { is_read (put_of plain) ≡ true }
-        ensures step { Step self.old.office (ThePlain (put_of plain)) result self.new.office }
+        requires read { is_read plain ≡ true }
+        requires allowed { plain_refusal self.old.office plain ≡ None }
+        ensures step { Step self.old.office (Request.Plain plain) result self.new.office }
         ensures store { self.new.store ≡ self.old.store }
         ensures tables { Keeps (state S.Store self.new.store) self.new.office }
         ensures storage { result ≢ Err Refusal.Storage }
     {
-        match self.office.apply(plain) {
-            Ok(done) => Ok(done.reply),
-            Err(refusal) => Err(refusal),
-        }
+        Ok(self.office.make(plain)?.reply)
     }
 
     /// A change is made on a copy, which becomes the office once its changes are saved.
     fn change(&mut self, plain: Plain) -> Result<Reply, Refusal>
-        ensures step { Step self.old.office (ThePlain (put_of plain)) result self.new.office }
+        requires allowed { plain_refusal self.old.office plain ≡ None }
+        ensures step { Step self.old.office (Request.Plain plain) result self.new.office }
         ensures tables { Keeps (state S.Store self.new.store) self.new.office }
-        ensures crash { Survives (state S.Store self.old.store) (state S.Store self.new.store) (IsLeft (Leads self.old.office (ThePlain (put_of plain))) (state S.Store self.old.store).now) }
+        ensures crash { Survives (state S.Store self.old.store) (state S.Store self.new.store) (IsLeft (Leads self.old.office (Request.Plain plain)) (state S.Store self.old.store).now) }
         ensures alone { HasCleanDisk (state S.Store self.new.store) → OnOk result (LeavesAlone (state S.Store self.new.store)) }
+        ensures stays_open { HasCleanDisk (state S.Store self.new.store) → OnOk result (IsTrue (state S.Store self.new.store).is_open) }
         ensures acted_on { AreActedOn (state S.Store self.old.store).now.schema → IsErr result }
     {
         self.keeps();
         let mut next = self.office.copy()?;
-        match next.apply(plain) {
-            Ok(done) => self.settle(&mut next, done),
-            Err(refusal) => Err(refusal),
-        }
+        let done = next.make(plain)?;
+        self.settle(&mut next, done)
     }
 
     /// The changes are saved, and then the office and the next one are exchanged.
@@ -188,6 +189,7 @@ impl<S: Alter> Desk<S> {
         ensures tables { Keeps (state S.Store self.new.store) self.new.office }
         ensures crash { let changes = done.changes in Survives (state S.Store self.old.store) (state S.Store self.new.store) (IsLeft (Saves changes.items) (state S.Store self.old.store).now) }
         ensures alone { HasCleanDisk (state S.Store self.new.store) → OnOk result (LeavesAlone (state S.Store self.new.store)) }
+        ensures stays_open { HasCleanDisk (state S.Store self.new.store) → OnOk result (IsTrue (state S.Store self.new.store).is_open) }
         ensures acted_on { AreActedOn (state S.Store self.old.store).now.schema → IsErr result }
     {
         match self.store.save(&done.changes) {

@@ -3,13 +3,13 @@ use Rattle.std.proofs.Common.{◌≡◌, [], None, refl, sym, subst}
 use Rattle.rolls.specs.declared.request.Done.{Done}
 use Rattle.rolls.specs.State.{State}
 use Rattle.rolls.specs.Rows.{Turns}
-use Rattle.rolls.specs.Asked.{Put}
-use Rattle.rolls.specs.Refusing.{put_refusal}
-use Rattle.rolls.specs.Stepping.{after_put, put_reply}
+use Rattle.rolls.specs.declared.request.Plain.{Plain}
+use Rattle.rolls.specs.Refusing.{plain_refusal}
+use Rattle.rolls.specs.Stepping.{after_plain, plain_reply}
 use Rattle.rolls.specs.Answers.{IsDone}
 
 -- the step of a read
-pub read_done : (q : Put) (o : State) (done : Done) → put_refusal o q ≡ None → o ≡ after_put q o → done.reply ≡ put_reply q o → done.changes.items ≡ [] → IsDone q o o done
+pub read_done : (q : Plain) (o : State) (done : Done) → plain_refusal o q ≡ None → o ≡ after_plain q o → done.reply ≡ plain_reply q o → done.changes.items ≡ [] → IsDone q o o done
 read_done q o done none after answer unchanged = record {
   allowed = none;
   after = after;
@@ -18,5 +18,5 @@ read_done q o done none after answer unchanged = record {
 }
 
 -- the same, where the request is named in two ways
-pub read_named : (p q : Put) → p ≡ q → (o : State) (done : Done) → put_refusal o q ≡ None → o ≡ after_put q o → done.reply ≡ put_reply q o → done.changes.items ≡ [] → IsDone p o o done
-read_named p q same o done none after answer unchanged = subst (λ (p : Put). IsDone p o o done) (sym same) (read_done q o done none after answer unchanged)
+pub read_named : (p q : Plain) → p ≡ q → (o : State) (done : Done) → plain_refusal o q ≡ None → o ≡ after_plain q o → done.reply ≡ plain_reply q o → done.changes.items ≡ [] → IsDone p o o done
+read_named p q same o done none after answer unchanged = subst (λ (p : Plain). IsDone p o o done) (sym same) (read_done q o done none after answer unchanged)

@@ -1,14 +1,14 @@
 //! New entries, each with its row.
 
-ghost use Rattle.std.specs.Prelude.{◌≡◌, ℕ, List, [], ◌∷◌, IfOk, IfErr, IsTrue};
+ghost use Rattle.std.specs.Prelude.{◌≡◌, ℕ, List, [], ◌∷◌, IfOk, IsTrue};
 ghost use Rattle.spa.specs.Text.{is_code, is_label};
 
-use rolls::{Change, Project, Refusal, Row, Student, Supervisor, Text};
+use rolls::{Change, Project, Row, Student, Supervisor, Text};
 use spa::{Code, Label};
 use std::alloc::{AllocError, Global};
 
 /// A code of a text that was judged to be one.
-pub fn code_of(text: &str) -> Code
+fn code_of(text: &str) -> Code
     requires { IsTrue (is_code text.now) }
     ensures { result ≡ text.now }
 {
@@ -16,14 +16,13 @@ pub fn code_of(text: &str) -> Code
 }
 
 /// A label of a text that was judged to be one.
-pub fn label_of(alloc: Global, text: &str) -> Result<Label, Refusal>
+fn label_of(alloc: Global, text: &str) -> Result<Label, AllocError>
     requires { IsTrue (is_label text.now) }
-    ensures label { IfOk result (λ label. label ≡ text.now) }
-    ensures memory { IfErr result (λ refusal. refusal ≡ Refusal.Memory) }
+    ensures { IfOk result (λ label. label ≡ text.now) }
 {
     match Label::read(alloc, text) {
         Ok(label) => Ok(label),
-        Err(_) => Err(Refusal::Memory),
+        Err(_) => Err(AllocError),
     }
 }
 
@@ -39,81 +38,69 @@ fn put_of_row(alloc: Global, row: Row) -> Result<Vec<Change>, AllocError>
 /// A supervisor, and the change that puts the row.
 pub fn new_supervisor(
     alloc: Global,
-    code: &str,
-    label: &str,
+    code: Text,
+    label: Text,
     quota: u32,
-) -> Result<(Supervisor, Vec<Change>), Refusal>
-    requires code_form { IsTrue (is_code code.now) }
-    requires label_form { IsTrue (is_label label.now) }
-    ensures made { IfOk result (λ made. made.0 ≡ record { code = code.now; label = label.now; quota = quota }) }
-    ensures changes { IfOk result (λ made. let changes = made.1 in changes.items ≡ Change.Put (Row.Supervisor code.now label.now quota) ∷ []) }
-    ensures memory { IfErr result (λ refusal. refusal ≡ Refusal.Memory) }
+) -> Result<(Supervisor, Vec<Change>), AllocError>
+    requires code_form { IsTrue (is_code code) }
+    requires label_form { IsTrue (is_label label) }
+    ensures made { IfOk result (λ made. made.0 ≡ record { code = code; label = label; quota = quota }) }
+    ensures changes { IfOk result (λ made. let changes = made.1 in changes.items ≡ Change.Put (Row.Supervisor code label quota) ∷ []) }
 {
-    let row = Row::Supervisor {
-        code: Text::of(alloc, code)?,
-        label: Text::of(alloc, label)?,
+    let supervisor = Supervisor {
+        code: code_of(code.as_str()),
+        label: label_of(alloc, label.as_str())?,
         quota,
     };
-    let changes = put_of_row(alloc, row)?;
-    let code = code_of(code);
-    let label = label_of(alloc, label)?;
-    Ok((Supervisor { code, label, quota }, changes))
+    let changes = put_of_row(alloc, Row::Supervisor { code, label, quota })?;
+    Ok((supervisor, changes))
 }
 
 /// A project, and the change that puts the row.
 pub fn new_project(
     alloc: Global,
-    code: &str,
-    label: &str,
-    supervisor: &str,
+    code: Text,
+    label: Text,
+    supervisor: Text,
     quota: u32,
-) -> Result<(Project, Vec<Change>), Refusal>
-    requires code_form { IsTrue (is_code code.now) }
-    requires label_form { IsTrue (is_label label.now) }
-    requires supervisor_form { IsTrue (is_code supervisor.now) }
-    ensures made { IfOk result (λ made. made.0 ≡ record { code = code.now; label = label.now; supervisor = supervisor.now; quota = quota }) }
-    ensures changes { IfOk result (λ made. let changes = made.1 in changes.items ≡ Change.Put (Row.Project code.now label.now supervisor.now quota) ∷ []) }
-    ensures memory { IfErr result (λ refusal. refusal ≡ Refusal.Memory) }
+) -> Result<(Project, Vec<Change>), AllocError>
+    requires code_form { IsTrue (is_code code) }
+    requires label_form { IsTrue (is_label label) }
+    requires supervisor_form { IsTrue (is_code supervisor) }
+    ensures made { IfOk result (λ made. made.0 ≡ record { code = code; label = label; supervisor = supervisor; quota = quota }) }
+    ensures changes { IfOk result (λ made. let changes = made.1 in changes.items ≡ Change.Put (Row.Project code label supervisor quota) ∷ []) }
 {
+    let project = Project {
+        code: code_of(code.as_str()),
+        label: label_of(alloc, label.as_str())?,
+        supervisor: code_of(supervisor.as_str()),
+        quota,
+    };
     let row = Row::Project {
-        code: Text::of(alloc, code)?,
-        label: Text::of(alloc, label)?,
-        supervisor: Text::of(alloc, supervisor)?,
+        code,
+        label,
+        supervisor,
         quota,
     };
     let changes = put_of_row(alloc, row)?;
-    let code = code_of(code);
-    let label = label_of(alloc, label)?;
-    let supervisor = code_of(supervisor);
-    Ok((
-        Project {
-            code,
-            label,
-            supervisor,
-            quota,
-        },
-        changes,
-    ))
+    Ok((project, changes))
 }
 
 /// A student, and the change that puts the row.
 pub fn new_student(
     alloc: Global,
-    code: &str,
-    label: &str,
-) -> Result<(Student, Vec<Change>), Refusal>
-    requires code_form { IsTrue (is_code code.now) }
-    requires label_form { IsTrue (is_label label.now) }
-    ensures made { IfOk result (λ made. made.0 ≡ record { code = code.now; label = label.now }) }
-    ensures changes { IfOk result (λ made. let changes = made.1 in changes.items ≡ Change.Put (Row.Student code.now label.now) ∷ []) }
-    ensures memory { IfErr result (λ refusal. refusal ≡ Refusal.Memory) }
+    code: Text,
+    label: Text,
+) -> Result<(Student, Vec<Change>), AllocError>
+    requires code_form { IsTrue (is_code code) }
+    requires label_form { IsTrue (is_label label) }
+    ensures made { IfOk result (λ made. made.0 ≡ record { code = code; label = label }) }
+    ensures changes { IfOk result (λ made. let changes = made.1 in changes.items ≡ Change.Put (Row.Student code label) ∷ []) }
 {
-    let row = Row::Student {
-        code: Text::of(alloc, code)?,
-        label: Text::of(alloc, label)?,
+    let student = Student {
+        code: code_of(code.as_str()),
+        label: label_of(alloc, label.as_str())?,
     };
-    let changes = put_of_row(alloc, row)?;
-    let code = code_of(code);
-    let label = label_of(alloc, label)?;
-    Ok((Student { code, label }, changes))
+    let changes = put_of_row(alloc, Row::Student { code, label })?;
+    Ok((student, changes))
 }

@@ -4,12 +4,11 @@ mod judging;
 mod puts;
 mod reads;
 
-ghost use Rattle.std.specs.Prelude.{◌≡◌, IfOk, Err, []};
+ghost use Rattle.std.specs.Prelude.{◌≡◌, IfOk, OnErr, Err, None, []};
 ghost use Rattle.rolls.specs.State.{State, empty};
 ghost use Rattle.rolls.specs.Fit.{IsFit};
-ghost use Rattle.rolls.specs.Asked.{put_of, asked_of};
-ghost use Rattle.rolls.specs.Refusing.{put_refusal, refusal};
-ghost use Rattle.rolls.specs.Answers.{Answers};
+ghost use Rattle.rolls.specs.Refusing.{plain_refusal, refusal};
+ghost use Rattle.rolls.specs.Answers.{Answers, IsDone};
 ghost use Rattle.rolls.specs.From.{AreRowsOf};
 
 use crate::draft::{RowsFault, gather};
@@ -114,7 +113,7 @@ impl Office {
 
     /// The first refusal that applies to a request, if any. Takes no memory.
     pub fn refusal_of(&self, request: &Request) -> Option<Refusal>
-        ensures refusal { result ≡ refusal self.now (asked_of request.now) }
+        ensures refusal { result ≡ refusal self.now request.now }
     {
         match request {
             Request::Plain(plain) => self.plain_refusal(plain),
@@ -123,19 +122,29 @@ impl Office {
 
     /// Makes the step of a plain request, or refuses it and stays as it was.
     pub fn apply(&mut self, request: Plain) -> Result<Done, Refusal>
-        ensures step { Answers (put_of request) self.old self.new result }
+        ensures step { Answers request self.old self.new result }
+    {
+        if let Some(refusal) = self.plain_refusal(&request) {
+            return Err(refusal);
+        }
+        Ok(self.make(request)?)
+    }
+
+    /// Makes the step of a plain request that was judged and is not refused. Out of memory it stays as it was.
+    pub fn make(&mut self, request: Plain) -> Result<Done, AllocError>
+        requires allowed { plain_refusal self.old request ≡ None }
+        ensures done { IfOk result (IsDone request self.old self.new) }
+        ensures memory { OnErr result (self.new ≡ self.old) }
     {
         match request {
-            Plain::PutSupervisor { code, label, quota } => {
-                self.put_supervisor(code.as_str(), label.as_str(), quota)
-            }
+            Plain::PutSupervisor { code, label, quota } => self.put_supervisor(code, label, quota),
             Plain::PutProject {
                 code,
                 label,
                 supervisor,
                 quota,
-            } => self.put_project(code.as_str(), label.as_str(), supervisor.as_str(), quota),
-            Plain::PutStudent { code, label } => self.put_student(code.as_str(), label.as_str()),
+            } => self.put_project(code, label, supervisor, quota),
+            Plain::PutStudent { code, label } => self.put_student(code, label),
             Plain::GetSupervisor { code } => Ok(self.answered(self.get_supervisor(code.as_str())?)),
             Plain::GetProject { code } => Ok(self.answered(self.get_project(code.as_str())?)),
             Plain::GetStudent { code } => Ok(self.answered(self.get_student(code.as_str())?)),
@@ -155,7 +164,7 @@ impl Office {
 
     /// The first refusal of a plain request.
     fn plain_refusal(&self, plain: &Plain) -> Option<Refusal>
-        ensures { result ≡ put_refusal self.now (put_of plain.now) }
+        ensures { result ≡ plain_refusal self.now plain.now }
     {
         match plain {
             Plain::PutSupervisor { code, label, quota } => {

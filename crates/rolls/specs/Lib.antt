@@ -3,7 +3,7 @@ pub mod Place
 pub mod Shared
 pub mod State
 pub mod Fit
-pub mod Asked
+pub mod Reads
 pub mod Numbers
 pub mod Refusing
 pub mod Stepping

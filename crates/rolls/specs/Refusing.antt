@@ -6,7 +6,10 @@ use Rattle.spa.specs.Text.{is_code, is_label}
 use Rattle.rolls.specs.declared.refusal.Refusal.{Refusal}
 use Rattle.rolls.specs.declared.refusal.Refusal.TheVariants as no
 use Rattle.rolls.specs.State.{State, project_of, has_supervisor, has_project, has_student, placed_in_project, placed_with_supervisor}
-use Rattle.rolls.specs.Asked.{Put, Asked, PutSupervisor, PutProject, PutStudent, GetSupervisor, GetProject, GetStudent, Plain}
+use Rattle.rolls.specs.declared.request.Plain.{Plain}
+use Rattle.rolls.specs.declared.request.Plain.TheVariants.{PutSupervisor, PutProject, PutStudent, GetSupervisor, GetProject, GetStudent}
+use Rattle.rolls.specs.declared.request.Request.{Request}
+use Rattle.rolls.specs.declared.request.Request.TheVariants as request
 
 -- the first refusal whose condition holds
 abbrev pub first : List (Bool × Refusal) → Option Refusal
@@ -49,14 +52,14 @@ student_tests o code label =
     ∷ []
 
 -- the first refusal of a plain request
-abbrev pub put_refusal : State → Put → Option Refusal
-put_refusal o (PutSupervisor code label quota) = first (supervisor_tests o code label quota)
-put_refusal o (PutProject code label supervisor quota) = first (project_tests o code label supervisor quota)
-put_refusal o (PutStudent code label) = first (student_tests o code label)
-put_refusal o (GetSupervisor code) = first ((not (has_supervisor o code), no.UnknownSupervisor) ∷ [])
-put_refusal o (GetProject code) = first ((not (has_project o code), no.UnknownProject) ∷ [])
-put_refusal o (GetStudent code) = first ((not (has_student o code), no.UnknownStudent) ∷ [])
+abbrev pub plain_refusal : State → Plain → Option Refusal
+plain_refusal o (PutSupervisor code label quota) = first (supervisor_tests o code label quota)
+plain_refusal o (PutProject code label supervisor quota) = first (project_tests o code label supervisor quota)
+plain_refusal o (PutStudent code label) = first (student_tests o code label)
+plain_refusal o (GetSupervisor code) = first ((not (has_supervisor o code), no.UnknownSupervisor) ∷ [])
+plain_refusal o (GetProject code) = first ((not (has_project o code), no.UnknownProject) ∷ [])
+plain_refusal o (GetStudent code) = first ((not (has_student o code), no.UnknownStudent) ∷ [])
 
 -- the first refusal of a request
-abbrev pub refusal : State → Asked → Option Refusal
-refusal o (Plain p) = put_refusal o p
+abbrev pub refusal : State → Request → Option Refusal
+refusal o (request.Plain p) = plain_refusal o p

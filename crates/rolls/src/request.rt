@@ -1,9 +1,10 @@
 //! Requests, and what comes of them.
 
 ghost use Rattle.std.specs.Prelude.{◌≡◌};
-ghost use Rattle.rolls.specs.Asked.{is_read, put_of};
+ghost use Rattle.rolls.specs.Reads.{is_read};
 
 use crate::row::Change;
+use crate::text::Text;
 use spa::{Code, Label};
 
 /// A request that needs nothing but the office. Texts and quotas come as they were sent, for the office
@@ -12,40 +13,40 @@ use spa::{Code, Label};
 pub enum Plain {
     /// Makes the supervisor's entry this one.
     PutSupervisor {
-        code: String,
-        label: String,
+        code: Text,
+        label: Text,
         quota: u32,
     },
     /// Makes the project's entry this one.
     PutProject {
-        code: String,
-        label: String,
-        supervisor: String,
+        code: Text,
+        label: Text,
+        supervisor: Text,
         quota: u32,
     },
     /// Makes the student's entry this one.
     PutStudent {
-        code: String,
-        label: String,
+        code: Text,
+        label: Text,
     },
     /// Reads a supervisor's entry.
     GetSupervisor {
-        code: String,
+        code: Text,
     },
     /// Reads a project's entry.
     GetProject {
-        code: String,
+        code: Text,
     },
     /// Reads a student's entry.
     GetStudent {
-        code: String,
+        code: Text,
     },
 }
 
 impl Plain {
     /// Whether the request only reads: it changes no office.
     pub fn is_read(&self) -> bool
-        ensures read { result ≡ is_read (put_of self.now) }
+        ensures read { result ≡ is_read self.now }
     {
         match self {
             Plain::PutSupervisor { .. } | Plain::PutProject { .. } | Plain::PutStudent { .. } => {

@@ -3,7 +3,7 @@
 use crate::offices::{Put, plain};
 use crate::texts::same_text;
 use desk::Desk;
-use rolls::{Plain, Refusal, Reply, Request};
+use rolls::{Plain, Refusal, Reply, Request, Text};
 use sqlite::{Connection, MemStore};
 use std::alloc::Global;
 use std::process::Abort;
@@ -29,7 +29,7 @@ pub(crate) fn new_desk(alloc: Global, rt: &impl Abort) -> Result<Desk<MemStore>,
 }
 
 fn get_student(alloc: Global, code: &str) -> Result<Request, Fail> {
-    let code = String::from_str(alloc, code)?;
+    let code = Text::of(alloc, code)?;
     Ok(Request::Plain(Plain::GetStudent { code }))
 }
 

@@ -19,8 +19,8 @@ pub(crate) enum Put {
 /// The request that puts a supervisor.
 fn put_supervisor(alloc: Global, code: &str, label: &str, quota: u32) -> Result<Plain, AllocError> {
     Ok(Plain::PutSupervisor {
-        code: String::from_str(alloc, code)?,
-        label: String::from_str(alloc, label)?,
+        code: Text::of(alloc, code)?,
+        label: Text::of(alloc, label)?,
         quota,
     })
 }
@@ -34,9 +34,9 @@ fn put_project(
     supervisor: &str,
 ) -> Result<Plain, AllocError> {
     Ok(Plain::PutProject {
-        code: String::from_str(alloc, code)?,
-        label: String::from_str(alloc, label)?,
-        supervisor: String::from_str(alloc, supervisor)?,
+        code: Text::of(alloc, code)?,
+        label: Text::of(alloc, label)?,
+        supervisor: Text::of(alloc, supervisor)?,
         quota,
     })
 }
@@ -44,8 +44,8 @@ fn put_project(
 /// The request that puts a student.
 fn put_student(alloc: Global, code: &str, label: &str) -> Result<Plain, AllocError> {
     Ok(Plain::PutStudent {
-        code: String::from_str(alloc, code)?,
-        label: String::from_str(alloc, label)?,
+        code: Text::of(alloc, code)?,
+        label: Text::of(alloc, label)?,
     })
 }
 
@@ -151,7 +151,7 @@ fn are_pipes(rt: &impl Abort, done: &Done) {
 
 /// Reads P, which is as it was put last.
 fn reads_pipes(alloc: Global, rt: &impl Abort, office: &mut Office) -> Result<(), Fail> {
-    let code = String::from_str(alloc, "P")?;
+    let code = Text::of(alloc, "P")?;
     match office.apply(Plain::GetProject { code }) {
         Ok(done) => are_pipes(rt, &done),
         Err(refusal) => assert!(rt; false, "refused {}", refusal.number()),
@@ -161,7 +161,7 @@ fn reads_pipes(alloc: Global, rt: &impl Abort, office: &mut Office) -> Result<()
 
 /// Reads S9, who is not on the roll.
 fn reads_nobody(alloc: Global, rt: &impl Abort, office: &mut Office) -> Result<(), Fail> {
-    let code = String::from_str(alloc, "S9")?;
+    let code = Text::of(alloc, "S9")?;
     match office.apply(Plain::GetStudent { code }) {
         Ok(_done) => assert!(rt; false, "S9 is not on the roll"),
         Err(refusal) => assert!(rt; refusal == Refusal::UnknownStudent),

@@ -2,8 +2,8 @@
 
 ghost use Rattle.std.specs.Prelude.{◌≡◌, Some, None};
 ghost use Rattle.rolls.specs.State.{placed_with_supervisor, placed_in_project};
-ghost use Rattle.rolls.specs.Asked as ask;
-ghost use Rattle.rolls.specs.Refusing.{put_refusal, is_moved};
+ghost use Rattle.rolls.specs.declared.request.Plain.TheVariants as ask;
+ghost use Rattle.rolls.specs.Refusing.{plain_refusal, is_moved};
 
 use super::Office;
 use rolls::Refusal;
@@ -28,7 +28,7 @@ impl Office {
 
     /// Why a supervisor can't be put.
     pub fn supervisor_refusal(&self, code: &str, label: &str, quota: u32) -> Option<Refusal>
-        ensures { result ≡ put_refusal self.now (ask.PutSupervisor code.now label.now quota) }
+        ensures { result ≡ plain_refusal self.now (ask.PutSupervisor code.now label.now quota) }
     {
         if !is_code_text(code) {
             return Some(Refusal::Code);
@@ -58,7 +58,7 @@ impl Office {
         supervisor: &str,
         quota: u32,
     ) -> Option<Refusal>
-        ensures { result ≡ put_refusal self.now (ask.PutProject code.now label.now supervisor.now quota) }
+        ensures { result ≡ plain_refusal self.now (ask.PutProject code.now label.now supervisor.now quota) }
     {
         if !is_code_text(code) {
             return Some(Refusal::Code);
@@ -89,7 +89,7 @@ impl Office {
 
     /// Why a student can't be put.
     pub fn student_refusal(&self, code: &str, label: &str) -> Option<Refusal>
-        ensures { result ≡ put_refusal self.now (ask.PutStudent code.now label.now) }
+        ensures { result ≡ plain_refusal self.now (ask.PutStudent code.now label.now) }
     {
         if !is_code_text(code) {
             return Some(Refusal::Code);

@@ -1,20 +1,27 @@
 //! Requests that put an entry.
 
-ghost use Rattle.rolls.specs.Asked as ask;
-ghost use Rattle.rolls.specs.Answers.{Answers};
+ghost use Rattle.std.specs.Prelude.{◌≡◌, None, IfOk, OnErr};
+ghost use Rattle.rolls.specs.declared.request.Plain.TheVariants as ask;
+ghost use Rattle.rolls.specs.Refusing.{plain_refusal};
+ghost use Rattle.rolls.specs.Answers.{IsDone};
 
 use super::Office;
 use crate::making::{new_project, new_student, new_supervisor};
-use rolls::{Done, Refusal, Reply};
+use rolls::{Done, Reply, Text};
+use std::alloc::AllocError;
 
 impl Office {
     /// Puts a supervisor on the roll.
-    pub fn put_supervisor(&mut self, code: &str, label: &str, quota: u32) -> Result<Done, Refusal>
-        ensures { Answers (ask.PutSupervisor code.now label.now quota) self.old self.new result }
+    pub fn put_supervisor(
+        &mut self,
+        code: Text,
+        label: Text,
+        quota: u32,
+    ) -> Result<Done, AllocError>
+        requires allowed { plain_refusal self.old (ask.PutSupervisor code label quota) ≡ None }
+        ensures ok { IfOk result (IsDone (ask.PutSupervisor code label quota) self.old self.new) }
+        ensures err { OnErr result (self.new ≡ self.old) }
     {
-        if let Some(refusal) = self.supervisor_refusal(code, label, quota) {
-            return Err(refusal);
-        }
         let (supervisor, changes) = new_supervisor(self.alloc, code, label, quota)?;
         self.supervisors.put(supervisor)?;
         Ok(Done {
@@ -26,16 +33,15 @@ impl Office {
     /// Puts a project on the roll.
     pub fn put_project(
         &mut self,
-        code: &str,
-        label: &str,
-        supervisor: &str,
+        code: Text,
+        label: Text,
+        supervisor: Text,
         quota: u32,
-    ) -> Result<Done, Refusal>
-        ensures { Answers (ask.PutProject code.now label.now supervisor.now quota) self.old self.new result }
+    ) -> Result<Done, AllocError>
+        requires allowed { plain_refusal self.old (ask.PutProject code label supervisor quota) ≡ None }
+        ensures ok { IfOk result (IsDone (ask.PutProject code label supervisor quota) self.old self.new) }
+        ensures err { OnErr result (self.new ≡ self.old) }
     {
-        if let Some(refusal) = self.project_refusal(code, label, supervisor, quota) {
-            return Err(refusal);
-        }
         let (project, changes) = new_project(self.alloc, code, label, supervisor, quota)?;
         self.projects.put(project)?;
         Ok(Done {
@@ -45,12 +51,11 @@ impl Office {
     }
 
     /// Puts a student on the roll.
-    pub fn put_student(&mut self, code: &str, label: &str) -> Result<Done, Refusal>
-        ensures { Answers (ask.PutStudent code.now label.now) self.old self.new result }
+    pub fn put_student(&mut self, code: Text, label: Text) -> Result<Done, AllocError>
+        requires allowed { plain_refusal self.old (ask.PutStudent code label) ≡ None }
+        ensures ok { IfOk result (IsDone (ask.PutStudent code label) self.old self.new) }
+        ensures err { OnErr result (self.new ≡ self.old) }
     {
-        if let Some(refusal) = self.student_refusal(code, label) {
-            return Err(refusal);
-        }
         let (student, changes) = new_student(self.alloc, code, label)?;
         self.students.put(student)?;
         Ok(Done {

@@ -1,7 +1,6 @@
-use Rattle.std.proofs.Common.{◌≡◌, Option, Some, Err, IfSome, Result, refl, sym, ap, subst, ◌∙◌}
+use Rattle.std.proofs.Common.{◌≡◌, Option, Some, Err, IfSome, Result, refl, sym, ap, subst, ◌∙◌, rules}
 use Rattle.rolls.specs.declared.request.Reply.{Reply}
 use Rattle.rolls.specs.declared.refusal.Refusal.{Refusal}
-use Rattle.rolls.specs.Asked.{asked_of}
 use Rattle.rolls.specs.Refusing.{refusal}
 use Rattle.desk.proofs.desk.Desk.ask.Goals as goal
 
@@ -11,11 +10,11 @@ due found r e = subst (λ (o : Option Refusal). IfSome o (λ (s : Refusal). ◌�
 
 pub returns-in-Some-clause-named : goal.returns-in-Some-clause-named
 returns-in-Some-clause-named g c =
-    due (refusal c.args.self.now.office (asked_of c.args.request)) c.in-Some.refusal
-    (sym (c.refusal_of.ensures.refusal ∙ ap (λ k. refusal k.office (asked_of c.args.request)) c.self.view_is) ∙ c.in-Some.is)
+    due (refusal c.args.self.now.office c.args.request) c.in-Some.refusal
+    (sym (c.refusal_of.ensures.refusal ∙ ap (λ k. refusal k.office c.args.request) c.self.view_is) ∙ c.in-Some.is)
 
 pub read-requires : goal.read-requires
-read-requires g c = record { read = sym c.if-is_read.ensures.read }
+read-requires g c = record { read = sym c.if-is_read.ensures.read; allowed = search rules }
 
 pub returns-then-is_read-clause-quiet : goal.returns-then-is_read-clause-quiet
 returns-then-is_read-clause-quiet g c = λ _. c.read.ensures.store

@@ -4,7 +4,6 @@ use Rattle.rolls.specs.declared.request.Reply.{Reply}
 use Rattle.rolls.specs.declared.refusal.Refusal.{Refusal}
 use Rattle.rolls.specs.declared.request.Request.{Request}
 use Rattle.rolls.specs.State.{State}
-use Rattle.rolls.specs.Asked.{Asked, asked_of}
 use Rattle.rolls.specs.Run.{Step, Run}
 use Rattle.desk.proofs.desk.Desk.run.Goals as goal
 
@@ -13,23 +12,23 @@ no_items [] h = refl
 no_items (request ∷ requests) h = absurd (omega (arith, h))
 
 -- a run of nothing
-stays : (o : State) (requests : List Request) → requests ≡ [] → Run o (map asked_of requests) [] o
-stays o requests none = subst (λ (xs : List Request). Run o (map asked_of xs) [] o) (sym none) refl
+stays : (o : State) (requests : List Request) → requests ≡ [] → Run o requests [] o
+stays o requests none = subst (λ (xs : List Request). Run o xs [] o) (sym none) refl
 
 pub returns-clause-run : goal.returns-clause-run
 returns-clause-run g c =
     let none : length c.loop-request.request-iterator.rest.items ≡ 0 = search rules in
-    subst (λ (answers : List (Result Reply Refusal)). Run c.args.self.now.office (map asked_of c.args.requests.items) answers c.loop-request.self.office) (append-nil _)
+    subst (λ (answers : List (Result Reply Refusal)). Run c.args.self.now.office c.args.requests.items answers c.loop-request.self.office) (append-nil _)
     (c.loop-request.invariant.rest [] _ (stays _ _ (no_items _ none)))
 
 -- one more answer is that of the next request
-one_more : (all : List Asked) (first o m : State) (left rest : List Request) (request : Request) (answer : Result Reply Refusal) (given answers : List (Result Reply Refusal))
-    → left ≡ request ∷ rest → Step o (asked_of request) answer m → answers ≡ given ++ (answer ∷ [])
-    → ((more : List (Result Reply Refusal)) (n : State) → Run o (map asked_of left) more n → Run first all (given ++ more) n)
-    → (more : List (Result Reply Refusal)) (n : State) → Run m (map asked_of rest) more n → Run first all (answers ++ more) n
+one_more : (all : List Request) (first o m : State) (left rest : List Request) (request : Request) (answer : Result Reply Refusal) (given answers : List (Result Reply Refusal))
+    → left ≡ request ∷ rest → Step o request answer m → answers ≡ given ++ (answer ∷ [])
+    → ((more : List (Result Reply Refusal)) (n : State) → Run o left more n → Run first all (given ++ more) n)
+    → (more : List (Result Reply Refusal)) (n : State) → Run m rest more n → Run first all (answers ++ more) n
 one_more all first o m left rest request answer given answers e step added runs more n run =
     subst (λ (xs : List (Result Reply Refusal)). Run first all xs n) (sym (ap (λ xs. xs ++ more) added ∙ append_assoc given (answer ∷ []) more))
-    (runs (answer ∷ more) n (subst (λ (xs : List Request). Run o (map asked_of xs) (answer ∷ more) n) (sym e) (m, step, run)))
+    (runs (answer ∷ more) n (subst (λ (xs : List Request). Run o xs (answer ∷ more) n) (sym e) (m, step, run)))
 
 -- each answer that is left has room
 room_left : (n more room greater : ℕ) (left rest : List Request) (request : Request) → left ≡ request ∷ rest → more ≡ n + 1 → room ≤ greater → n + length left ≤ room → more + length rest ≤ greater
@@ -37,7 +36,7 @@ room_left n more room greater left rest request e one great had = let shorter = 
 
 pub loop-request-preserved : goal.loop-request-preserved
 loop-request-preserved g c = record {
-  rest = one_more (map asked_of c.args.requests.items) c.args.self.now.office c.loop-request.self.office c.ask-answer.new.self.office c.loop-request.request-iterator.rest.items c.next.new.self.rest.items
+  rest = one_more c.args.requests.items c.args.self.now.office c.loop-request.self.office c.ask-answer.new.self.office c.loop-request.request-iterator.rest.items c.next.new.self.rest.items
       c.in-Some.request c.ask-answer.result c.loop-request.answers.items c.push.new.self.items c.in-Some.ensures.steps.0 c.ask-answer.ensures.step c.in_ok-push.ensures.items c.loop-request.invariant.rest;
   tables = c.ask-answer.ensures.tables;
   room = room_left _ _ _ _ c.loop-request.request-iterator.rest.items c.next.new.self.rest.items c.in-Some.request c.in-Some.ensures.steps.0 c.in_ok-push.ensures.len c.in_ok-push.ensures.capacity

@@ -1,12 +1,10 @@
-use Rattle.std.proofs.Common.{sym, ◌∙◌, refl}
+use Rattle.std.proofs.Common.{sym, refl}
 use Rattle.office.specs.View.{state_of}
 use Rattle.office.proofs.Puts.{project_fit, project_done}
 use Rattle.office.proofs.office.Office.put_project.Goals as goal
 
 pub invariant_of-self-2 : goal.invariant_of-self-2
-invariant_of-self-2 c =
-    project_fit (state_of c.self.inside) c.args.self.now c.self.view_is c.args.code.now c.args.label.now c.args.supervisor.now c.args.quota c.in_ok-project.project _ c.in_ok-project.ensures.made c.in_ok-put.ensures.ok (sym c.in_default.is ∙ c.project_refusal.ensures) c.self.invariant
+invariant_of-self-2 c = project_fit (state_of c.self.inside) c.args.self.now c.self.view_is c.args.code c.args.label c.args.supervisor c.args.quota c.in_ok-project.project _ c.in_ok-project.ensures.made c.in_ok-put.ensures.ok (sym c.requires.allowed) c.self.invariant
 
-pub returns : goal.returns
-returns c =
-    project_done (state_of c.self.inside) c.args.self.now c.self.view_is c.args.code.now c.args.label.now c.args.supervisor.now c.args.quota c.in_ok-project.project _ c.in_ok-project.ensures.made c.in_ok-put.ensures.ok (sym c.in_default.is ∙ c.project_refusal.ensures) _ refl c.in_ok-project.ensures.changes
+pub returns-clause-ok : goal.returns-clause-ok
+returns-clause-ok c = project_done (state_of c.self.inside) c.args.self.now c.self.view_is c.args.code c.args.label c.args.supervisor c.args.quota c.in_ok-project.project _ c.in_ok-project.ensures.made c.in_ok-put.ensures.ok (sym c.requires.allowed) _ refl c.in_ok-project.ensures.changes

@@ -1,12 +1,10 @@
-use Rattle.std.proofs.Common.{sym, ◌∙◌, refl}
+use Rattle.std.proofs.Common.{sym, refl}
 use Rattle.office.specs.View.{state_of}
 use Rattle.office.proofs.Puts.{student_fit, student_done}
 use Rattle.office.proofs.office.Office.put_student.Goals as goal
 
 pub invariant_of-self-2 : goal.invariant_of-self-2
-invariant_of-self-2 c =
-    student_fit (state_of c.self.inside) c.args.self.now c.self.view_is c.args.code.now c.args.label.now c.in_ok-student.student _ c.in_ok-student.ensures.made c.in_ok-put.ensures.ok (sym c.in_default.is ∙ c.student_refusal.ensures) c.self.invariant
+invariant_of-self-2 c = student_fit (state_of c.self.inside) c.args.self.now c.self.view_is c.args.code c.args.label c.in_ok-student.student _ c.in_ok-student.ensures.made c.in_ok-put.ensures.ok (sym c.requires.allowed) c.self.invariant
 
-pub returns : goal.returns
-returns c =
-    student_done (state_of c.self.inside) c.args.self.now c.self.view_is c.args.code.now c.args.label.now c.in_ok-student.student _ c.in_ok-student.ensures.made c.in_ok-put.ensures.ok (sym c.in_default.is ∙ c.student_refusal.ensures) _ refl c.in_ok-student.ensures.changes
+pub returns-clause-ok : goal.returns-clause-ok
+returns-clause-ok c = student_done (state_of c.self.inside) c.args.self.now c.self.view_is c.args.code c.args.label c.in_ok-student.student _ c.in_ok-student.ensures.made c.in_ok-put.ensures.ok (sym c.requires.allowed) _ refl c.in_ok-student.ensures.changes
