@@ -4,6 +4,7 @@ use Rattle.std.specs.Prelude.{IsTrue, AllPairs}
 use Rattle.std.specs.List.{AllZip}
 use Rattle.std.proofs.lemmas.List.{length-map, get_or_default}
 use Rattle.std.proofs.lemmas.List.Elements.{All-nil, All-cons, All-head, All-tail}
+use Rattle.spa.specs.Shape.{IsPlaceOf}
 use Rattle.spa.specs.declared.TheConstants.{PLACES, RANKS, MOST_PLACES}
 use Rattle.spa.specs.Text.{is_code}
 use Rattle.spa.specs.Codes.{code_at, AreApart}
@@ -81,7 +82,7 @@ listed_named codes (c ∷ cs) (l ∷ ls) apart some few known distinct =
     (listed_named codes cs ls apart (All-tail (λ (xs : List ℕ). 0 < length xs) l ls some) (All-tail (λ (xs : List ℕ). length xs ≤ RANKS) l ls few) (All-tail (λ (xs : List ℕ). All (λ p. p < length codes) xs) l ls known) (All-tail (λ (xs : List ℕ). AllPairs (λ p q. p ≢ q) xs) l ls distinct))
 
 -- places of lists are places of the students
-placed_named : (codes cs ls : List (List ℕ)) (ks : List (Option ℕ)) → length cs ≡ length ls → length ks ≡ length ls → ((s k : ℕ) → slice_get ks s ≡ Some (Some k) → k < length (get_or ls s [])) → AllZip IsPlace (students_named codes cs ls) ks
+placed_named : (codes cs ls : List (List ℕ)) (ks : List (Option ℕ)) → length cs ≡ length ls → length ks ≡ length ls → ((s k : ℕ) → slice_get ks s ≡ Some (Some k) → IsPlaceOf (get_or ls s []) k) → AllZip IsPlace (students_named codes cs ls) ks
 placed_named codes [] [] [] h i at = tt
 placed_named codes [] [] (k ∷ ks) h i at = absurd (omega arith)
 placed_named codes [] (l ∷ ls) ks h i at = absurd (omega arith)
@@ -89,9 +90,9 @@ placed_named codes (c ∷ cs) [] ks h i at = absurd (omega arith)
 placed_named codes (c ∷ cs) (l ∷ ls) [] h i at = absurd (omega arith)
 placed_named codes (c ∷ cs) (l ∷ ls) (None ∷ ks) h i at = (tt, placed_named codes cs ls ks (omega arith) (omega arith) (λ s k e. at (suc s) k e))
 placed_named codes (c ∷ cs) (l ∷ ls) (Some k ∷ ks) h i at =
-    let here : k < length l = at 0 k refl in
+    let here : IsPlaceOf l k = at 0 k refl in
     let many : length (map (code_at codes) l) ≡ length l = length-map l (code_at codes) in
-    (omega arith, placed_named codes cs ls ks (omega arith) (omega arith) (λ s k e. at (suc s) k e))
+    (record { first = omega arith; last = omega arith }, placed_named codes cs ls ks (omega arith) (omega arith) (λ s k e. at (suc s) k e))
 
 -- nobody has a place
 unplaced_named : (codes cs ls : List (List ℕ)) → length cs ≡ length ls → AllZip IsPlace (students_named codes cs ls) (map (λ e. None) ls)

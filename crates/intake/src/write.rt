@@ -78,7 +78,7 @@ fn write_pairs(
     let projects = instance.project_codes();
     for s in 0..places.len() {
         if let Some(place) = places[s] {
-            let project = instance.list(s)[place as usize];
+            let project = instance.choice(s, place as usize);
             push_pair(out, codes[s].as_str(), projects[project].as_str())?;
         }
     }

@@ -1,5 +1,5 @@
 -- what an admission does, in the words of a caller
-use Rattle.std.proofs.Common.{◌≡◌, ℕ, ◌+◌, ◌*◌, ◌^◌, ◌<◌, ◌≤◌, List, [], ◌∷◌, ◌++◌, length, map, Some, Bool, slice_get, refl, arith, sym, ◌∙◌, ap, sum_by}
+use Rattle.std.proofs.Common.{◌≡◌, ℕ, zero, suc, ◌+◌, ◌*◌, ◌^◌, ◌<◌, ◌≤◌, List, [], ◌∷◌, ◌++◌, length, map, Option, Some, None, Bool, slice_get, refl, arith, sym, ◌∙◌, ap, sum_by}
 use Rattle.std.specs.declared.vec.Vec.{Vec}
 use Rattle.std.specs.declared.alloc.Global.{Global}
 use Rattle.std.proofs.lemmas.List.{length-append, length-map, map-append}
@@ -9,10 +9,17 @@ use Rattle.network.specs.Arcs.{sink_of, flow_arcs}
 use Rattle.network.specs.Fair.{IsLow}
 use Rattle.network.specs.Push.{IsPushed}
 use Rattle.network.specs.Seen.{is_place, node_count, arc_count, IsPriced, IsAdmission}
-use Rattle.network.specs.View.{seen, row_of, IsReady}
+use Rattle.network.specs.View.{seen, row_of, place_of, IsReady}
 use Rattle.network.proofs.Append.{slice_get-last}
 use Rattle.network.proofs.Costs.{entries_few, entries_same, cost_within, cost_small}
 use Rattle.network.specs.declared.flow.Flow.{Flow}
+
+-- callers see a place exactly where there is an entry
+place_seen : (ks : List (Option ℕ)) (s : ℕ) → is_place (slice_get ks s) ≡ is_place (slice_get (map place_of ks) s)
+place_seen [] s = refl
+place_seen (None ∷ ks) zero = refl
+place_seen (Some k ∷ ks) zero = refl
+place_seen (x ∷ ks) (suc s) = place_seen ks s
 
 module _ {G : Type 0} {o : Ops G} (f n : Flow G) (steps x : ℕ) (placed : Bool) (row : Vec (ℕ × G) Global) (list : List (ℕ × G)) (row_is : row.items ≡ list)
     (ready : IsReady o f steps) (pushed : IsPushed o n) (low : IsLow o n)
@@ -63,7 +70,7 @@ module _ {G : Type 0} {o : Ops G} (f n : Flow G) (steps x : ℕ) (placed : Bool)
     priced = priced;
     placed_is =
         let l : length (map row_of f.lists.items) ≡ length f.lists.items = length-map f.lists.items row_of in
-        placed_is ∙ ap (λ z. is_place (slice_get n.places.items z)) (sym l);
+        placed_is ∙ ap (λ z. is_place (slice_get n.places.items z)) (sym l) ∙ place_seen n.places.items (length (map row_of f.lists.items));
     bound =
         let e : arc_count (seen n (steps + x)) ≡ flow_arcs n = (let d = entries_same n.lists.items in let c : length (map row_of n.lists.items) ≡ length n.lists.items = length-map n.lists.items row_of in omega (arith, d, c)) in
         let s : sink_of n + 2 ≤ node_count (seen n (steps + x)) + 1 = omega arith in

@@ -1,5 +1,5 @@
 -- The prices of a flow in the words of callers.
-use Rattle.std.proofs.Common.{◌≡◌, ℕ, zero, suc, ◌<◌, ◌≤◌, inl, inr, List, [], ◌∷◌, length, map, Option, Some, None, refl, sym, ap, ◌∙◌, subst, arith, slice_get, slice_index}
+use Rattle.std.proofs.Common.{◌≡◌, ℕ, zero, suc, ◌<◌, ◌≤◌, inl, inr, List, [], ◌∷◌, length, map, Option, Some, None, refl, sym, ap, ◌∙◌, subst, arith, slice_get, slice_index, slice_index_or}
 use Rattle.std.specs.declared.vec.Vec.{Vec}
 use Rattle.std.specs.declared.alloc.Global.{Global}
 use Rattle.std.specs.List.{range_with_len}
@@ -14,7 +14,7 @@ use Rattle.network.specs.Arcs.{HasEntry}
 use Rattle.network.specs.Fair.{IsLow}
 use Rattle.network.specs.Push.{IsPushed}
 use Rattle.network.specs.Seen.{shape_of, price, multiple, sum_of, price_total, worth_at, total_worth, ArePrices, IsPriced}
-use Rattle.network.specs.View.{row_of, seen, IsReady}
+use Rattle.network.specs.View.{row_of, place_of, seen, IsReady}
 use Rattle.network.specs.Prices.{at_entry, at_place, student_price, project_price, supervisor_price, quota_at, PotentialPrices}
 use Rattle.network.proofs.Group.{at_most_refl, zero_left}
 use Rattle.network.proofs.GroupSums.{sum_of_same, sum_of_zero, sum_of_front}
@@ -44,23 +44,26 @@ module _ {G : Type 0} {o : Ops G} (laws : IsWorth o) where
   ]
 
   -- the worth of an entry
-  entry_worth : (xs : List (ℕ × G)) (k : ℕ) → at_entry o (λ p w. w) (slice_get xs k) ≡ worth_at o xs k
-  entry_worth [] k = refl
-  entry_worth (x ∷ xs) zero = refl
-  entry_worth (x ∷ xs) (suc k) = entry_worth xs k
+  entry_worth : (xs : List (ℕ × G)) (k : ℕ) → at_entry o (λ p w. w) (slice_get xs k) ≡ worth_at o xs (suc k)
+  entry_worth xs k = at xs k ∙ ap (λ (n : ℕ). (slice_index_or xs n (0, o.zero)).1) (omega arith)
+    where
+      at : (xs : List (ℕ × G)) (k : ℕ) → at_entry o (λ p w. w) (slice_get xs k) ≡ (slice_index_or xs k (0, o.zero)).1
+      at [] k = refl
+      at (x ∷ xs) zero = refl
+      at (x ∷ xs) (suc k) = at xs k
 
   -- the worths of the places, student by student
   worth_from : (rows : List (Vec (ℕ × G) Global)) (ks : List (Option ℕ))
-      → sum_of o (length rows) (λ s. at_place o (λ p w. w) (slice_get ks s) (slice_get rows s)) ≡ total_worth o (map row_of rows) ks
+      → sum_of o (length rows) (λ s. at_place o (λ p w. w) (slice_get ks s) (slice_get rows s)) ≡ total_worth o (map row_of rows) (map place_of ks)
   worth_from [] ks = refl
   worth_from (r ∷ rows) [] = sum_of_zero laws (length (r ∷ rows)) (λ s. o.zero) (λ s lt. refl)
   worth_from (r ∷ rows) (None ∷ ks) =
       sum_of_front laws (length rows) (λ s. at_place o (λ p w. w) (slice_get (None ∷ ks) s) (slice_get (r ∷ rows) s))
-      ∙ ap (o.plus o.zero) (worth_from rows ks) ∙ zero_left laws (total_worth o (map row_of rows) ks)
+      ∙ ap (o.plus o.zero) (worth_from rows ks) ∙ zero_left laws (total_worth o (map row_of rows) (map place_of ks))
   worth_from (r ∷ rows) (Some k ∷ ks) =
       sum_of_front laws (length rows) (λ s. at_place o (λ p w. w) (slice_get (Some k ∷ ks) s) (slice_get (r ∷ rows) s))
       ∙ ap (o.plus (at_entry o (λ p w. w) (slice_get r.items k))) (worth_from rows ks)
-      ∙ ap (λ x. o.plus x (total_worth o (map row_of rows) ks)) (entry_worth r.items k)
+      ∙ ap (λ x. o.plus x (total_worth o (map row_of rows) (map place_of ks))) (entry_worth r.items k)
 
   module _ (f : Flow G) (steps : ℕ) (pushed : IsPushed o f) (low : IsLow o f) where
     -- the instance that callers see
@@ -95,7 +98,7 @@ module _ {G : Type 0} {o : Ops G} (laws : IsWorth o) where
           (λ l lt. ap (multiple o (supervisor_quota i l)) (z_is l (omega (arith, lt, z_long))))
 
       -- all of them, and the worths of the places
-      all_paid : price_total o i (price o u) (price o y) (price o z) ≡ total_worth o (map row_of f.lists.items) f.places.items
+      all_paid : price_total o i (price o u) (price o y) (price o z) ≡ total_worth o (map row_of f.lists.items) (map place_of f.places.items)
       all_paid =
           ap (λ a. o.plus (o.plus a (sum_of o (length i.projects) (λ p. multiple o (project_quota i p) (price o y p)))) (sum_of o (length i.supervisors) (λ l. multiple o (supervisor_quota i l) (price o z l)))) students_sum
           ∙ ap (λ a. o.plus (o.plus (sum_of o (length f.lists.items) (student_price o f)) a) (sum_of o (length i.supervisors) (λ l. multiple o (supervisor_quota i l) (price o z l)))) projects_sum

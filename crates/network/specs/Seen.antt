@@ -1,5 +1,5 @@
 -- What callers see of a network: the rolls, the lists admitted so far with a best matching of them, and prices.
-use Rattle.std.specs.Prelude.{◌≡◌, ℕ, zero, suc, ◌+◌, ◌*◌, ◌≤◌, List, [], ◌∷◌, ◌++◌, map, length, sum_by, slice_get, slice_index_or, Option, Some, None, Bool, true, false}
+use Rattle.std.specs.Prelude.{◌≡◌, ℕ, zero, suc, ◌+◌, ◌-◌, ◌*◌, ◌≤◌, List, [], ◌∷◌, ◌++◌, map, length, sum_by, slice_get, slice_index_or, Option, Some, None, Bool, true, false}
 use Rattle.spa.specs.Laws.{Ops, AtMost}
 use Rattle.spa.specs.Shape.{Shape, supervisor_of, project_quota, supervisor_quota}
 use Rattle.spa.specs.Matched.{IsMatched}
@@ -13,7 +13,7 @@ pub record Seen (G : Type 0) : Type 0 where
   pub projects : List (ℕ × ℕ)
   -- each student's projects with the worth of each pair, in the order of admission
   pub lists : List (List (ℕ × G))
-  -- each student's place in the list, or none
+  -- each student's place in the list, from 1, or none
   pub places : List (Option ℕ)
   -- the relaxations since the start
   pub steps : ℕ
@@ -44,9 +44,9 @@ price_total o i u y z =
     (sum_of o (length i.projects) (λ p. multiple o (project_quota i p) (y p))))
     (sum_of o (length i.supervisors) (λ l. multiple o (supervisor_quota i l) (z l)))
 
--- the worth at a place of a list
+-- the worth at a place of a list: that of the entry with k - 1 before it
 abbrev pub worth_at : {G : Type 0} → Ops G → List (ℕ × G) → ℕ → G
-worth_at o list k = (slice_index_or list k (0, o.zero)).1
+worth_at o list k = (slice_index_or list (k - 1) (0, o.zero)).1
 
 -- the worths of the places added up
 abbrev pub total_worth : {G : Type 0} → Ops G → List (List (ℕ × G)) → List (Option ℕ) → G

@@ -206,12 +206,15 @@ impl<G: Worth> Network<G> {
         priced(&self.flow, self.steps);
     }
 
-    /// The student's place in the list, from 0, or none. Students count from 0, in the order of admission.
+    /// The student's place in the list, from 1, or none. Students count from 0, in the order of admission.
     pub fn place_of(&self, student: usize) -> Option<usize>
         requires { student < length self.now.lists }
         ensures { slice_get self.now.places student ≡ Some result }
     {
-        place_of(&self.flow, student)
+        match place_of(&self.flow, student) {
+            None => None,
+            Some(position) => Some(position + 1),
+        }
     }
 
     /// The relaxations since the start.

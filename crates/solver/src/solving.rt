@@ -36,7 +36,7 @@ fn admit_all(alloc: Global, instance: &Instance) -> Result<Network<Lex>, AllocEr
     Ok(network)
 }
 
-/// A place as a matching has it.
+/// A place as a matching keeps it.
 fn narrow(place: Option<usize>) -> Option<u8>
     requires { IfSome place (λ k. k < 256) }
     ensures { result ≡ place }

@@ -1,6 +1,6 @@
 -- A matching as the code keeps it, a place in the list or none for each student, and what can be wrong with it.
 use Rattle.std.specs.Prelude.{◌≡◌, ◌≢◌, ℕ, ◌<◌, ◌≤◌, ◌==◌, List, All, length, slice_get, count_by, Option, Some}
-use Rattle.spa.specs.Shape.{Shape, list_of, supervisor_of, project_quota, supervisor_quota}
+use Rattle.spa.specs.Shape.{Shape, list_of, IsPlaceOf, supervisor_of, project_quota, supervisor_quota}
 use Rattle.spa.specs.Matching.{Pair, IsMatching, pairs_from, rank}
 use Rattle.spa.specs.declared.matching.MatchFault.{MatchFault}
 use Rattle.spa.specs.declared.matching.MatchFault.TheVariants.{Length, Place, ProjectOver, SupervisorOver}
@@ -12,7 +12,7 @@ pairs i ks = pairs_from 0 i.students ks
 -- a place or none for each student, and each place is one of the student's list
 pub record HasPlaces (i : Shape) (ks : List (Option ℕ)) : Type 0 where
   pub one_each : length ks ≡ length i.students
-  pub in_list : (s k : ℕ) → slice_get ks s ≡ Some (Some k) → k < length (list_of i s)
+  pub in_list : (s k : ℕ) → slice_get ks s ≡ Some (Some k) → IsPlaceOf (list_of i s) k
 
 -- the places stand for a matching
 pub record IsMatched (i : Shape) (ks : List (Option ℕ)) : Type 0 where
@@ -27,13 +27,13 @@ in_project i ks p = count_by (λ e. e.project == p) (pairs i ks)
 abbrev pub with_supervisor : Shape → List (Option ℕ) → ℕ → ℕ
 with_supervisor i ks l = count_by (λ e. supervisor_of i e.project == l) (pairs i ks)
 
--- the student at s is the first whose place is past the list
+-- the student at s is the first whose place is none of the list
 pub record IsFirstBadPlace (i : Shape) (ks : List (Option ℕ)) (s : ℕ) : Type 0 where
   pub one_each : length ks ≡ length i.students
   pub place : ℕ
   pub at : slice_get ks s ≡ Some (Some place)
-  pub past : length (list_of i s) ≤ place
-  pub before : (r k : ℕ) → r < s → slice_get ks r ≡ Some (Some k) → k < length (list_of i r)
+  pub outside : ¬ IsPlaceOf (list_of i s) place
+  pub before : (r k : ℕ) → r < s → slice_get ks r ≡ Some (Some k) → IsPlaceOf (list_of i r) k
 
 -- of n numbers each within its quota but the one at p, p is the first that is not
 pub record IsFirstOver (placed quota : ℕ → ℕ) (n p : ℕ) : Type 0 where

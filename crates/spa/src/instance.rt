@@ -2,7 +2,7 @@
 #![tactic(auto)]
 
 ghost use Rattle.std.specs.Prelude.{◌≡◌, ◌<◌, length, map, IfOk, IfErr};
-ghost use Rattle.spa.specs.Shape.{list_of, supervisor_of, project_quota, supervisor_quota};
+ghost use Rattle.spa.specs.Shape.{IsPlaceOf, list_of, choice_at, supervisor_of, project_quota, supervisor_quota};
 ghost use Rattle.spa.specs.Instance.{given};
 ghost use Rattle.spa.specs.Named.{IsFit, instance_of};
 ghost use Rattle.spa.specs.Made.{IsFirstInstanceFault};
@@ -114,6 +114,14 @@ impl Instance {
         ensures { result.now ≡ list_of self.now.shape student }
     {
         &self.students[student]
+    }
+
+    /// The project, by position, at this place of a student's list. Places count from 1.
+    pub fn choice(&self, student: usize, place: usize) -> usize
+        requires { IsPlaceOf (list_of self.now.shape student) place }
+        ensures { result ≡ choice_at (list_of self.now.shape student) place }
+    {
+        self.students[student][place - 1]
     }
 
     /// Who offers a project, by position.

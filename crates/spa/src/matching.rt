@@ -15,7 +15,7 @@ use crate::instance::Instance;
 pub enum MatchFault {
     /// There is not one place or none for each student.
     Length,
-    /// This student's place is past the list.
+    /// This student's place is none of the list.
     Place(usize),
     /// More pairs have this project than its quota.
     ProjectOver(usize),
@@ -23,7 +23,7 @@ pub enum MatchFault {
     SupervisorOver(usize),
 }
 
-/// For each student the place in the list, from 0, or none.
+/// For each student the place in the list, from 1, or none: the rank of the pair.
 #[derive(Debug, Drop)]
 pub struct Matching {
     pub places: Vec<Option<u8>>,
@@ -37,7 +37,7 @@ fn placed_in_project(instance: &Instance, places: &[Option<u8>], project: usize)
     let mut placed = 0;
     for student in 0..places.len() {
         if let Some(place) = places[student] {
-            if instance.list(student)[place as usize] == project {
+            if instance.choice(student, place as usize) == project {
                 placed += 1;
             }
         }
@@ -54,7 +54,7 @@ fn placed_with_supervisor(instance: &Instance, places: &[Option<u8>], supervisor
     let mut placed = 0;
     for student in 0..places.len() {
         if let Some(place) = places[student] {
-            let project = instance.list(student)[place as usize];
+            let project = instance.choice(student, place as usize);
             if instance.supervisor_of(project) == supervisor {
                 placed += 1;
             }
@@ -63,14 +63,14 @@ fn placed_with_supervisor(instance: &Instance, places: &[Option<u8>], supervisor
     placed
 }
 
-/// The first student whose place is past the list.
+/// The first student whose place is none of the list.
 fn first_bad_place(instance: &Instance, places: &[Option<u8>]) -> Option<usize>
     requires { length places.now ≡ length instance.now.shape.students }
     ensures { MatchOption result (HasPlaces instance.now.shape places.now) (λ s. IsFirstBadPlace instance.now.shape places.now s) }
 {
     for student in 0..places.len() {
         if let Some(place) = places[student] {
-            if place as usize >= instance.list(student).len() {
+            if place == 0 || place as usize > instance.list(student).len() {
                 return Some(student);
             }
         }
@@ -155,7 +155,7 @@ fn ranked(instance: &Instance, places: &[Option<u8>], rank: usize) -> usize
     let mut ranked = 0;
     for student in 0..places.len() {
         if let Some(place) = places[student] {
-            if place as usize + 1 == rank {
+            if place as usize == rank {
                 ranked += 1;
             }
         }

@@ -1,7 +1,7 @@
 -- When prices prove a matching best, in five conditions, and which of them is the first that fails.
-use Rattle.std.specs.Prelude.{◌≡◌, ℕ, ◌+◌, ◌<◌, ℤ, pos, List, length, slice_index, Option, Contains}
+use Rattle.std.specs.Prelude.{◌≡◌, ℕ, ◌<◌, ◌≤◌, ℤ, pos, List, length, Option, Contains}
 use Rattle.spa.specs.Order.{RowOrder, plus}
-use Rattle.spa.specs.Shape.{Shape, list_of, supervisor_of}
+use Rattle.spa.specs.Shape.{Shape, IsPlaceOf, list_of, choice_at, supervisor_of}
 use Rattle.spa.specs.Matching.{rank_in, weight, weight_row}
 use Rattle.spa.specs.Prices.{value}
 use Rattle.spa.specs.Matched.{pairs, IsMatched}
@@ -38,17 +38,17 @@ IsUncovered order i p s q = order (paid i p s q) (λ t. pos (weight (rank_in (li
 abbrev pub AllCovered : RowOrder → Shape → Prices → Type 0
 AllCovered order i p = (s q : ℕ) → Contains (list_of i s) q → ¬ IsUncovered order i p s q
 
--- the same of a project by its place k in the list
+-- the same of the project at place k of the list
 abbrev pub IsUncoveredAt : RowOrder → Shape → Prices → ℕ → ℕ → Type 0
-IsUncoveredAt order i p s k = IsUncovered order i p s (slice_index (list_of i s) k)
+IsUncoveredAt order i p s k = IsUncovered order i p s (choice_at (list_of i s) k)
 
 -- the student s is the first with an uncovered place in the list, and k is the first of them
 pub record IsFirstUncovered (order : RowOrder) (i : Shape) (p : Prices) (s k : ℕ) : Type 0 where
   pub known : s < length i.students
-  pub listed : k < length (list_of i s)
+  pub listed : IsPlaceOf (list_of i s) k
   pub uncovered : IsUncoveredAt order i p s k
-  pub places_before : (j : ℕ) → j < k → ¬ IsUncoveredAt order i p s j
-  pub students_before : (r j : ℕ) → r < s → j < length (list_of i r) → ¬ IsUncoveredAt order i p r j
+  pub places_before : (j : ℕ) → 1 ≤ j → j < k → ¬ IsUncoveredAt order i p s j
+  pub students_before : (r j : ℕ) → r < s → IsPlaceOf (list_of i r) j → ¬ IsUncoveredAt order i p r j
 
 -- the prices add up to the matching's total weight
 abbrev pub IsEqual : Shape → List (Option ℕ) → Prices → Type 0
@@ -63,12 +63,12 @@ pub record IsProvedBest (order : RowOrder) (i : Shape) (ks : List (Option ℕ)) 
   pub covered : AllCovered order i p
   pub equal : IsEqual i ks p
 
--- the fault names the first condition that fails; a place counts from 1
+-- the fault names the first condition that fails
 abbrev pub IsFirstFailure : RowOrder → Shape → List (Option ℕ) → Prices → CheckFault → Type 0
 IsFirstFailure order i ks p NotMatching = ¬ IsMatched i ks
 IsFirstFailure order i ks p NoShape = IsMatched i ks × (¬ HasShape i p)
 IsFirstFailure order i ks p Below = IsMatched i ks × HasShape i p × (¬ IsAbove order p)
-IsFirstFailure order i ks p (Uncovered s n) =
-    IsMatched i ks × HasShape i p × IsAbove order p × ((k : ℕ) × (n ≡ k + 1) × IsFirstUncovered order i p s k)
+IsFirstFailure order i ks p (Uncovered s k) =
+    IsMatched i ks × HasShape i p × IsAbove order p × IsFirstUncovered order i p s k
 IsFirstFailure order i ks p Unequal =
     IsMatched i ks × HasShape i p × IsAbove order p × AllCovered order i p × (¬ IsEqual i ks p)

@@ -51,7 +51,7 @@ pub fn check(instance: &Instance, matching: &Matching, prices: &Prices) -> Resul
         return Err(CheckFault::Below);
     }
     if let Some((student, place)) = first_uncovered(instance, prices) {
-        return Err(CheckFault::Uncovered(student, place + 1));
+        return Err(CheckFault::Uncovered(student, place));
     }
     if !is_equal(instance, matching, prices) {
         return Err(CheckFault::Unequal);

@@ -1,4 +1,4 @@
-use Rattle.std.proofs.Common.{◌≡◌, ℕ, ◌<◌, refl, sym, ◌∙◌, List, true, false, IsTrue}
+use Rattle.std.proofs.Common.{refl, sym, List}
 use Rattle.std.proofs.lemmas.Bool.{false≢true}
 use Rattle.spa.specs.Order.{greedy}
 use Rattle.spa.specs.Row.{at}

@@ -2,8 +2,8 @@ use Rattle.std.proofs.Common.{◌≡◌, ◌<◌, ◌≤◌, ◌+◌, ◌∙◌,
 use Rattle.std.proofs.lemmas.List.{take_more, map-append}
 use Rattle.spa.specs.Shape.{Shape, list_of}
 use Rattle.spa.specs.Places.{Places, lex_ops}
-use Rattle.spa.specs.declared.TheConstants.{PLACES, RANKS}
-use Rattle.solver.specs.Weights.{worth_of, weighed}
+use Rattle.spa.specs.declared.TheConstants.{PLACES}
+use Rattle.solver.specs.Weights.{weighed}
 use Rattle.solver.proofs.Weighing.{length-weighed_from, all-weighed}
 use Rattle.solver.proofs.Reading.{worth_small}
 use Rattle.solver.proofs.solving.admit_all.Goals as goal
@@ -33,7 +33,7 @@ admit-requires-clause-small c =
     let list : List ℕ = list_of i c.loop-student.student in
     let entries : c.deref.result.now ≡ weighed list = c.deref.ensures.value ∙ c.in_ok-weigh.ensures ∙ ap weighed c.list.ensures in
     let P : ℕ × Places PLACES → Type 0 = λ e. (lex_ops PLACES).span e.1 ≤ 1 in
-    subst (λ es. All P es) (sym entries) (all-weighed P list (λ k d h. worth_small c.lex_law.ensures k))
+    subst (λ es. All P es) (sym entries) (all-weighed P list (λ k d h. worth_small c.lex_law.ensures (k + 1)))
 
 pub loop-student-preserved : goal.loop-student-preserved
 loop-student-preserved c =

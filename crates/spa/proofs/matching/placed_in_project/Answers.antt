@@ -4,14 +4,11 @@ use Rattle.spa.specs.Matching.{Pair}
 use Rattle.spa.specs.Matched.{in_project}
 use Rattle.spa.proofs.Places.{rest_end, count_none, count_yes, count_no, slice_get_at}
 use Rattle.spa.proofs.matching.placed_in_project.Goals as goal
-use Rattle.spa.proofs.matching.placed_in_project.Goals.{in-Some+then-list-place, in-Some+else-list-place, in_default}
+use Rattle.spa.proofs.matching.placed_in_project.Goals.{in-Some+then-choice-project, in-Some+else-choice-project, in_default}
 
-pub list-requires : goal.list-requires
-list-requires c = let e = c.requires.one_each in omega arith
-
-pub bounds-list-place : goal.bounds-list-place
-bounds-list-place c =
-    rw c.list.ensures (c.requires.in_list c.loop-student.student c.in-Some.place (slice_get_at c.args.places.now c.loop-student.student None (Some c.in-Some.place) c.loop-student-test.true c.in-Some.is))
+pub choice-requires : goal.choice-requires
+choice-requires c =
+    c.requires.in_list c.loop-student.student c.in-Some.place (slice_get_at c.args.places.now c.loop-student.student None (Some c.in-Some.place) c.loop-student-test.true c.in-Some.is)
 
 pub loop-student-preserved : goal.loop-student-preserved
 loop-student-preserved c =
@@ -23,11 +20,11 @@ loop-student-preserved c =
     let known : s < length i.students = omega arith in
     let so_far = c.loop-student.invariant.so_far in
     elim c.match-places-student.branch [
-      | in-Some+then-list-place w ↦
-          let read = rw w.list.ensures at w.if-list-place.true in
+      | in-Some+then-choice-project w ↦
+          let read = rw w.choice.ensures at w.if-choice-project.true in
           record { so_far = rw w.placed-is (count_yes test s w.in-Some.place c.loop-student.placed total i.students c.args.places.now known c.loop-student-test.true so_far w.in-Some.is (eq-eqb _ _ read)); small = omega arith }
-      | in-Some+else-list-place w ↦
-          let read = rw w.list.ensures at w.if-list-place.false in
+      | in-Some+else-choice-project w ↦
+          let read = rw w.choice.ensures at w.if-choice-project.false in
           record { so_far = rw w.placed-is (count_no test s w.in-Some.place c.loop-student.placed total i.students c.args.places.now known c.loop-student-test.true so_far w.in-Some.is (ne_eqb _ _ read)); small = omega arith }
       | in_default w ↦
           record { so_far = rw w.placed-is (count_none test s c.loop-student.placed total i.students c.args.places.now known c.loop-student-test.true so_far w.in_default.is); small = omega arith }

@@ -17,10 +17,10 @@ loop-student-preserved c =
     let so_far = c.loop-student.invariant.so_far in
     elim c.match-places-student.branch [
       | in-Some+then-supervisor_of-supervisor w ↦
-          let read = rw (w.supervisor_of.ensures, w.list.ensures) at w.if-supervisor_of-supervisor.true in
+          let read = rw (w.supervisor_of.ensures, w.choice-project.ensures) at w.if-supervisor_of-supervisor.true in
           record { so_far = rw w.placed-is (count_yes test s w.in-Some.place c.loop-student.placed total i.students c.args.places.now known c.loop-student-test.true so_far w.in-Some.is (eq-eqb _ _ read)); small = omega arith }
       | in-Some+else-supervisor_of-supervisor w ↦
-          let read = rw (w.supervisor_of.ensures, w.list.ensures) at w.if-supervisor_of-supervisor.false in
+          let read = rw (w.supervisor_of.ensures, w.choice-project.ensures) at w.if-supervisor_of-supervisor.false in
           record { so_far = rw w.placed-is (count_no test s w.in-Some.place c.loop-student.placed total i.students c.args.places.now known c.loop-student-test.true so_far w.in-Some.is (ne_eqb _ _ read)); small = omega arith }
       | in_default w ↦
           record { so_far = rw w.placed-is (count_none test s c.loop-student.placed total i.students c.args.places.now known c.loop-student-test.true so_far w.in_default.is); small = omega arith }

@@ -1,5 +1,5 @@
-use Rattle.std.proofs.Common.{◌≡◌, ℕ, ◌+◌, ◌<◌, ◌==◌, arith, length, slice_index, Some, None, get_or, eq-eqb, ne_eqb, sym, ◌∙◌, []}
-use Rattle.spa.specs.Shape.{Shape, list_of}
+use Rattle.std.proofs.Common.{◌≡◌, ℕ, ◌<◌, ◌==◌, arith, length, Some, None, get_or, eq-eqb, ne_eqb, sym, ◌∙◌, []}
+use Rattle.spa.specs.Shape.{Shape, list_of, choice_at}
 use Rattle.spa.specs.Matching.{Pair, rank, rank_in}
 use Rattle.spa.specs.Matched.{with_rank}
 use Rattle.spa.proofs.Places.{count_none, count_yes, count_no, slice_get_at, rank_at}
@@ -15,7 +15,7 @@ loop-student-preserved c =
     let e = c.requires.places.one_each in
     let known : s < length i.students = omega arith in
     let so_far = c.loop-student.invariant.so_far in
-    let ranks : (k : ℕ) → get_or c.args.places.now s None ≡ Some k → rank_in (list_of i s) (slice_index (list_of i s) k) ≡ k + 1 =
+    let ranks : (k : ℕ) → get_or c.args.places.now s None ≡ Some k → rank_in (list_of i s) (choice_at (list_of i s) k) ≡ k =
     λ k is. rank_at (list_of i s) k (c.requires.fit.sound.distinct s [] known) (c.requires.places.in_list s k (slice_get_at c.args.places.now s None (Some k) c.loop-student-test.true is)) in
     elim c.match-places-student.branch [
       | in-Some+then-place-rank w ↦

@@ -63,5 +63,5 @@ returns-in-Some-clause-failed c = (
   c.fault.ensures.none.0 (sym c.is_some.ensures ∙ c.if-is_some.false),
   c.if-not-has_shape.ensures.0 refl,
   c.if-not-is_above.ensures.0 refl,
-  (c.in-Some.place, refl, c.in-Some.ensures),
+  c.in-Some.ensures,
 )
