@@ -4,6 +4,8 @@ use Rattle.std.specs.declared.vec.Vec.{Vec}
 use Rattle.std.specs.declared.alloc.Global.{Global}
 use Rattle.std.proofs.lemmas.List.{length-append, length-map, map-append}
 use Rattle.std.proofs.lemmas.List.Sums.{sum_by-cons, sum_by-append}
+use Rattle.spa.specs.declared.TheConstants.{MOST_STUDENTS}
+use Rattle.network.specs.declared.TheConstants.{MOST_ARCS}
 use Rattle.spa.specs.Laws.{Ops}
 use Rattle.network.specs.Arcs.{sink_of, flow_arcs}
 use Rattle.network.specs.Fair.{IsLow}
@@ -35,7 +37,7 @@ module _ {G : Type 0} {o : Ops G} (f n : Flow G) (steps x : ℕ) (placed : Bool)
   last_row = ap (λ z. slice_get z (length f.lists.items)) lists ∙ slice_get-last f.lists.items row
 
   -- arcs are few at the limits
-  few_arcs : flow_arcs n ≤ 7500
+  few_arcs : flow_arcs n ≤ MOST_ARCS
   few_arcs = omega (arith, entries_few n.lists.items pushed.formed.short, pushed.formed.few_students, pushed.formed.few_projects, pushed.formed.few_supervisors)
 
   -- so are the relaxations of one admission
@@ -47,7 +49,7 @@ module _ {G : Type 0} {o : Ops G} (f n : Flow G) (steps x : ℕ) (placed : Bool)
   admitted_ready = record { pushed = pushed; low = low; counted = omega (arith, ready.counted, small, longer) }
 
   -- 500 students and their relaxations are far from the end of the counter
-  pub steps_fit : length f.lists.items < 500 → steps + x < 2 ^ 32
+  pub steps_fit : length f.lists.items < MOST_STUDENTS → steps + x < 2 ^ 32
   steps_fit few = omega (arith, ready.counted, small, few)
 
   -- what a list counts among the arcs

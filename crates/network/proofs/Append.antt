@@ -4,6 +4,7 @@ use Rattle.std.specs.declared.vec.Vec.{Vec}
 use Rattle.std.specs.declared.alloc.Global.{Global}
 use Rattle.std.proofs.lemmas.List.{length-append}
 use Rattle.std.proofs.lemmas.Option.{slice_get_within, same_Some}
+use Rattle.spa.specs.declared.TheConstants.{MOST_STUDENTS, RANKS}
 use Rattle.spa.specs.Laws.{Ops}
 use Rattle.network.specs.Arcs.{HasEntry, Holds, sink_of, project_count, IsFormed}
 use Rattle.network.specs.Fair.{IsFairBut}
@@ -35,7 +36,7 @@ slice_get-either (x ∷ xs) y z (suc i) e = elim (slice_get-either xs y z i e) [
 module _ {G : Type 0} {o : Ops G} (f : Flow G) (pushed : IsPushed o f)
     (L : Vec (Vec (ℕ × G) Global) Global) (P : Vec (Option ℕ) Global) (row : Vec (ℕ × G) Global)
     (lists_are : L.items ≡ f.lists.items ++ row ∷ []) (places_are : P.items ≡ f.places.items ++ None ∷ [])
-    (few : length f.lists.items < 500) (short : length row.items ≤ 12)
+    (few : length f.lists.items < MOST_STUDENTS) (short : length row.items ≤ RANKS)
     (known : (k p : ℕ) (w : G) → slice_get row.items k ≡ Some (p, w) → (p < project_count f) × (o.span w ≤ 1)) where
   -- the flow with one more student
   abbrev pub A : Flow G
@@ -143,7 +144,7 @@ module _ {G : Type 0} {o : Ops G} (f : Flow G) (pushed : IsPushed o f)
     few_supervisors = pushed.formed.few_supervisors;
     short = λ s r e. elim (row_cases s r e) [
       | inl h ↦ pushed.formed.short s r h
-      | inr h ↦ subst (λ (z : Vec (ℕ × G) Global). length z.items ≤ 12) h short
+      | inr h ↦ subst (λ (z : Vec (ℕ × G) Global). length z.items ≤ RANKS) h short
     ];
   }
 

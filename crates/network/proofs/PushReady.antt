@@ -3,6 +3,7 @@ use Rattle.std.proofs.Common.{◌≡◌, ℕ, ◌<◌, ◌⊎◌, inl, inr, List
 use Rattle.std.specs.Prelude.{slice_index, nat_eq}
 use Rattle.std.proofs.lemmas.Bool.{eq-eqb}
 use Rattle.std.proofs.lemmas.Option.{slice_get_within}
+use Rattle.spa.specs.declared.TheConstants.{MOST_PLACES}
 use Rattle.spa.specs.Laws.{Ops, IsWorth}
 use Rattle.network.specs.Marks.{mark_at, is_seen}
 use Rattle.network.specs.Arcs.{HasEntry, EntryArc, LeaveArc, OfferArc, SwapArc, RoomArc, OfStudent}
@@ -66,9 +67,9 @@ module _ {G : Type 0} {o : Ops G} (laws : IsWorth o) (f : Flow G) (marks : List 
     go (inr h) = let arc : LeaveArc o f h.before s h.worth hole = rw origin at h.along in slice_get_within f.places.items s _ arc.holds.placed
 
   -- a project that led there has room
-  pub offer_ready : (p : ℕ) → (mark_at o marks hole).origin ≡ Offer p → (p < length f.filled.items) × (slice_index f.filled.items p < 500)
+  pub offer_ready : (p : ℕ) → (mark_at o marks hole).origin ≡ Offer p → (p < length f.filled.items) × (slice_index f.filled.items p < MOST_PLACES)
   offer_ready p origin = go step_here where
-    go : IsFirst o f marks fresh top hole ⊎ IsStep o f marks (length marks) hole → (p < length f.filled.items) × (slice_index f.filled.items p < 500)
+    go : IsFirst o f marks fresh top hole ⊎ IsStep o f marks (length marks) hole → (p < length f.filled.items) × (slice_index f.filled.items p < MOST_PLACES)
     go (inl h) = let off : OfStudent o f fresh o.zero (Offer p) (mark_at o marks hole).label hole = rw origin at h.offered in absurd off
     go (inr h) = let arc : OfferArc o f h.before p h.worth hole = rw origin at h.along in
         let lt = slice_get_within f.projects.items p _ arc.project in
@@ -85,9 +86,9 @@ module _ {G : Type 0} {o : Ops G} (laws : IsWorth o) (f : Flow G) (marks : List 
         (omega (arith, lt, pushing.formed.filled), (let c = pushing.counted.project hole lt in omega (arith, c, one)), pushing.formed.projects hole l arc.quota arc.project)
 
   -- a supervisor that led there has room
-  pub room_ready : (l : ℕ) → (mark_at o marks hole).origin ≡ Room l → (l < length f.load.items) × (slice_index f.load.items l < 500) × (l < length f.supervisors.items)
+  pub room_ready : (l : ℕ) → (mark_at o marks hole).origin ≡ Room l → (l < length f.load.items) × (slice_index f.load.items l < MOST_PLACES) × (l < length f.supervisors.items)
   room_ready l origin = go step_here where
-    go : IsFirst o f marks fresh top hole ⊎ IsStep o f marks (length marks) hole → (l < length f.load.items) × (slice_index f.load.items l < 500) × (l < length f.supervisors.items)
+    go : IsFirst o f marks fresh top hole ⊎ IsStep o f marks (length marks) hole → (l < length f.load.items) × (slice_index f.load.items l < MOST_PLACES) × (l < length f.supervisors.items)
     go (inl h) = let off : OfStudent o f fresh o.zero (Room l) (mark_at o marks hole).label hole = rw origin at h.offered in absurd off
     go (inr h) = let arc : RoomArc o f h.before l h.worth hole = rw origin at h.along in
         (omega (arith, arc.known, pushing.formed.load), omega (arith, arc.room, pushing.formed.loads l arc.known), arc.known)

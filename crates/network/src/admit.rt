@@ -1,6 +1,7 @@
 //! A student who was added finds a place.
 
 ghost use Rattle.std.specs.Prelude.{◌≡◌, ℕ, ◌+◌, ◌*◌, ◌<◌, ◌≤◌, ◌^◌, length, slice_get, Some, None, false};
+ghost use Rattle.spa.specs.declared.TheConstants.{RANKS};
 ghost use Rattle.network.specs.Marks.{mark_at};
 ghost use Rattle.network.specs.Labels.{AreLabels, AreBlank};
 ghost use Rattle.network.specs.Kept.{IsKept};
@@ -76,7 +77,7 @@ fn gains<G: Worth>(flow: &Flow<G>, student: usize, count: &mut u64) -> bool
     requires count { count.old < 2 ^ 29 }
     ensures none { result ≡ false → (k p : ℕ) (w : G) → HasEntry flow.now.lists.items student k p w → AtMost G.ops (G.ops.plus w (potential G.ops flow.now p)) G.ops.zero }
     ensures cost { (row : _) → slice_get flow.now.lists.items student ≡ Some row → count.new ≤ count.old + length row.items }
-    ensures small { count.new ≤ count.old + 12 }
+    ensures small { count.new ≤ count.old + RANKS }
 {
     for place in 0..list_len(flow, student) {
         *count += 1;

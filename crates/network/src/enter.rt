@@ -2,6 +2,7 @@
 
 ghost use Rattle.std.specs.Prelude.{◌≡◌, ◌+◌, ◌*◌, ◌<◌, ◌≤◌, [], ◌∷◌, ◌++◌, length, slice_get, Some, None, OnOk};
 ghost use Rattle.std.specs.Vec.{vec_len, vec_capacity};
+ghost use Rattle.spa.specs.declared.TheConstants.{MOST_STUDENTS, RANKS};
 ghost use Rattle.network.specs.Labels.{AreBlank};
 ghost use Rattle.network.specs.Kept.{IsKept};
 ghost use Rattle.network.specs.Arcs.{project_count, sink_of, flow_arcs};
@@ -70,8 +71,8 @@ pub(crate) fn enter<G: Worth>(
 ) -> Admitted
     requires pushed { IsPushed G.ops flow.old }
     requires low { IsLow G.ops flow.old }
-    requires few { length flow.old.lists.items < 500 }
-    requires short { length row.items ≤ 12 }
+    requires few { length flow.old.lists.items < MOST_STUDENTS }
+    requires short { length row.items ≤ RANKS }
     requires known { IsKnownList G.ops (project_count flow.old) row.items }
     requires list_room { vec_len flow.old.lists < vec_capacity flow.old.lists }
     requires place_room { vec_len flow.old.places < vec_capacity flow.old.places }

@@ -1,6 +1,7 @@
 //! A push along the walk that a search found, from the sink back to the new student.
 
 ghost use Rattle.std.specs.Prelude.{◌≡◌, ◌+◌, ◌-◌, ◌<◌, length, slice_index, slice_set, Some, None, IfSome, IfNone};
+ghost use Rattle.spa.specs.declared.TheConstants.{MOST_PLACES};
 ghost use Rattle.network.specs.declared.marks.Origin.TheVariants.{Entry, Leave, Offer, Swap, Room};
 ghost use Rattle.network.specs.Marks.{mark_at};
 ghost use Rattle.network.specs.Arcs.{project_count};
@@ -25,7 +26,7 @@ fn set_place<G>(flow: &mut Flow<G>, student: usize, place: Option<usize>)
 /// A project counts one more.
 fn count_up<G>(flow: &mut Flow<G>, project: usize)
     requires project { project < length flow.old.filled.items }
-    requires room { slice_index flow.old.filled.items project < 500 }
+    requires room { slice_index flow.old.filled.items project < MOST_PLACES }
     ensures filled { flow.new.filled.items ≡ slice_set flow.old.filled.items project (slice_index flow.old.filled.items project + 1) }
     ensures rest { flow.new ≡ record flow.old { filled = flow.new.filled } }
 {
@@ -45,7 +46,7 @@ fn count_down<G>(flow: &mut Flow<G>, project: usize)
 /// A supervisor counts one more.
 fn load_up<G>(flow: &mut Flow<G>, supervisor: usize)
     requires supervisor { supervisor < length flow.old.load.items }
-    requires room { slice_index flow.old.load.items supervisor < 500 }
+    requires room { slice_index flow.old.load.items supervisor < MOST_PLACES }
     ensures load { flow.new.load.items ≡ slice_set flow.old.load.items supervisor (slice_index flow.old.load.items supervisor + 1) }
     ensures rest { flow.new ≡ record flow.old { load = flow.new.load } }
 {
@@ -138,7 +139,7 @@ fn push_offer<G: Worth>(
     requires pushing { IsPushing G.ops flow.old labels.now.marks.items fresh top hole }
     requires origin { (mark_at G.ops labels.now.marks.items hole).origin ≡ Offer project }
     requires project { project < length flow.old.filled.items }
-    requires room { slice_index flow.old.filled.items project < 500 }
+    requires room { slice_index flow.old.filled.items project < MOST_PLACES }
     ensures next { IsNext G.ops flow.new labels.now.marks.items fresh top hole project }
     ensures same { flow.new ≡ record flow.old { filled = flow.new.filled } }
     ensures rest { flow.new ≡ record flow.old { places = flow.new.places; filled = flow.new.filled; load = flow.new.load } }
@@ -178,7 +179,7 @@ fn push_room<G: Worth>(
     requires pushing { IsPushing G.ops flow.old labels.now.marks.items fresh top hole }
     requires origin { (mark_at G.ops labels.now.marks.items hole).origin ≡ Room supervisor }
     requires supervisor { supervisor < length flow.old.load.items }
-    requires room { slice_index flow.old.load.items supervisor < 500 }
+    requires room { slice_index flow.old.load.items supervisor < MOST_PLACES }
     ensures next { IsNext G.ops flow.new labels.now.marks.items fresh top hole (project_count flow.new + supervisor) }
     ensures same { flow.new ≡ record flow.old { load = flow.new.load } }
     ensures rest { flow.new ≡ record flow.old { places = flow.new.places; filled = flow.new.filled; load = flow.new.load } }

@@ -1,6 +1,8 @@
 //! The relaxations of the arcs out of one node.
 
 ghost use Rattle.std.specs.Prelude.{◌≡◌, ℕ, ◌+◌, ◌*◌, ◌<◌, ◌≤◌, ◌^◌, length, slice_get, slice_index, Some, IfSome, IfNone, sum_by, nat_lt, List};
+ghost use Rattle.spa.specs.declared.TheConstants.{MOST_STUDENTS, RANKS};
+ghost use Rattle.network.specs.declared.TheConstants.{MOST_OFFERS};
 ghost use Rattle.network.specs.Labels.{AreLabels};
 ghost use Rattle.network.specs.Kept.{numbers_at, IsKept};
 ghost use Rattle.network.specs.Search.{Relaxes, OffersOf};
@@ -25,7 +27,7 @@ pub(crate) fn list_len<G: Worth>(flow: &Flow<G>, student: usize) -> usize
     requires formed { IsFormed G.ops flow.now }
     requires student { student < length flow.now.lists.items }
     ensures row { (row : _) → slice_get flow.now.lists.items student ≡ Some row → result ≡ length row.items }
-    ensures short { result ≤ 12 }
+    ensures short { result ≤ RANKS }
 {
     flow.lists[student].len()
 }
@@ -85,10 +87,10 @@ pub(crate) fn relax_entries<G: Worth>(
     ensures kept { AreLabels G.ops labels.new }
     ensures relaxes { Relaxes G.ops (OfStudent G.ops flow.now student label) labels.old.marks.items labels.new.marks.items }
     ensures count { (row : _) → slice_get flow.now.lists.items student ≡ Some row → count.new ≡ count.old + length row.items + 1 }
-    ensures small { count.new ≤ count.old + 13 }
+    ensures small { count.new ≤ count.old + MOST_OFFERS }
 {
-    let places = list_len(flow, student);
-    for k in 0..places {
+    let entries = list_len(flow, student);
+    for k in 0..entries {
         relax_entry(flow, student, k, label, labels, count);
     }
     relax(labels, sink(flow), label, Origin::Leave(student), count);
@@ -128,7 +130,7 @@ fn relax_student<G: Worth>(
     ensures kept { AreLabels G.ops labels.new }
     ensures relaxes { (m : _) (xs : List ℕ) (i : ℕ) → slice_get xs i ≡ Some student → Relaxes G.ops (StudentsAmong G.ops flow.now project label xs i) m labels.old.marks.items → Relaxes G.ops (StudentsAmong G.ops flow.now project label xs (i + 1)) m labels.new.marks.items }
     ensures cost { count.new ≤ count.old + list_cost flow.now.lists.items student }
-    ensures small { count.new ≤ count.old + 13 }
+    ensures small { count.new ≤ count.old + MOST_OFFERS }
 {
     match held(flow, student, project) {
         None => {}
@@ -155,7 +157,7 @@ fn relax_students<G: Worth>(
     ensures kept { AreLabels G.ops labels.new }
     ensures relaxes { Relaxes G.ops (StudentsAmong G.ops flow.now project label (numbers_at kept.now.seated.items project) (length (numbers_at kept.now.seated.items project))) labels.old.marks.items labels.new.marks.items }
     ensures cost { count.new ≤ count.old + sum_by (λ row. length row.items + 1) flow.now.lists.items }
-    ensures small { count.new ≤ count.old + 13 * 500 }
+    ensures small { count.new ≤ count.old + MOST_STUDENTS * MOST_OFFERS }
 {
     let students = students_at(kept, project);
     for i in 0..students.len() {
@@ -216,7 +218,7 @@ pub(crate) fn relax_project<G: Worth>(
     ensures kept { AreLabels G.ops labels.new }
     ensures relaxes { Relaxes G.ops (OffersOf G.ops (Arc G.ops flow.now) at label) labels.old.marks.items labels.new.marks.items }
     ensures cost { count.new ≤ count.old + sum_by (λ row. length row.items + 1) flow.now.lists.items + 1 }
-    ensures small { count.new ≤ count.old + 6501 }
+    ensures small { count.new ≤ count.old + MOST_STUDENTS * MOST_OFFERS + 1 }
 {
     relax_students(flow, kept, at, label, labels, count);
     let (supervisor, quota) = project(flow, at);

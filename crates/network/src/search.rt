@@ -5,6 +5,7 @@ ghost use Rattle.spa.specs.Laws.{AtMost};
 ghost use Rattle.network.specs.Marks.{mark_at, potential_at, key_at, blank, settled_as, is_open_mark};
 ghost use Rattle.network.specs.Labels.{AreLabels};
 ghost use Rattle.network.specs.Kept.{IsKept};
+ghost use Rattle.network.specs.declared.TheConstants.{MOST_OFFERS, MOST_ARCS};
 ghost use Rattle.network.specs.Search.{Relaxes, OffersOf, Feasible, IsFound, IsRunning};
 ghost use Rattle.network.specs.Arcs.{Arc, IsFormed, OfStudent, sink_of, flow_arcs};
 
@@ -41,7 +42,7 @@ fn relax_node<G: Worth>(
     ensures kept { AreLabels G.ops labels.new }
     ensures relaxes { Relaxes G.ops (OffersOf G.ops (Arc G.ops flow.now) node label) labels.old.marks.items labels.new.marks.items }
     ensures cost { count.new ≤ count.old + flow_arcs flow.now }
-    ensures small { count.new ≤ count.old + 7600 }
+    ensures small { count.new ≤ count.old + MOST_ARCS }
 {
     let projects = flow.projects.len();
     if node < projects {
@@ -71,7 +72,7 @@ fn expand<G: Worth>(
     ensures kept { AreLabels G.ops labels.new }
     ensures relaxes { Relaxes G.ops (OffersOf G.ops (Arc G.ops flow.now) node (mark_at G.ops labels.old.marks.items node).label) (slice_set labels.old.marks.items node (settled_as (mark_at G.ops labels.old.marks.items node) rank)) labels.new.marks.items }
     ensures cost { count.new ≤ count.old + flow_arcs flow.now }
-    ensures small { count.new ≤ count.old + 7600 }
+    ensures small { count.new ≤ count.old + MOST_ARCS }
 {
     let label = label_of(labels, node);
     settle(labels, node, rank);
@@ -113,7 +114,7 @@ fn advance<G: Worth>(
     ensures kept { AreLabels G.ops labels.new }
     ensures running { IsRunning G.ops (OfStudent G.ops flow.now student G.ops.zero) (Arc G.ops flow.now) flow.now.potentials.items (sink_of flow.now) labels.new.marks.items (rank + 1) result }
     ensures cost { count.new ≤ count.old + flow_arcs flow.now }
-    ensures small { count.new ≤ count.old + 7600 }
+    ensures small { count.new ≤ count.old + MOST_ARCS }
 {
     expand(flow, kept, node, rank, labels, count);
     choose(flow, labels)
@@ -131,7 +132,7 @@ fn begin<G: Worth>(flow: &Flow<G>, student: usize, labels: &mut Labels<G>, count
     ensures kept { AreLabels G.ops labels.new }
     ensures running { IsRunning G.ops (OfStudent G.ops flow.now student G.ops.zero) (Arc G.ops flow.now) flow.now.potentials.items (sink_of flow.now) labels.new.marks.items 0 result }
     ensures cost { (row : _) → slice_get flow.now.lists.items student ≡ Some row → count.new ≡ count.old + length row.items + 1 }
-    ensures small { count.new ≤ count.old + 13 }
+    ensures small { count.new ≤ count.old + MOST_OFFERS }
 {
     relax_entries(flow, student, G::zero(), labels, count);
     choose(flow, labels)
