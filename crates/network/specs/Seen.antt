@@ -97,7 +97,7 @@ node_count v = length v.lists + length v.projects + length v.supervisors + 1
 abbrev pub arc_count : {G : Type 0} → Seen G → ℕ
 arc_count v = sum_by length v.lists + length v.lists + 2 * length v.projects + 2 * length v.supervisors
 
--- a student was admitted with this list, and the places are a best matching again
+-- a student was admitted with this list, each entry of which was compared, and the places are a best matching again
 pub record IsAdmission {G : Type 0} (o : Ops G) (old new : Seen G) (list : List (ℕ × G)) (placed : Bool) (relaxations : ℕ) : Type 0 where
   pub lists : new.lists ≡ old.lists ++ list ∷ []
   pub projects : new.projects ≡ old.projects
@@ -105,4 +105,5 @@ pub record IsAdmission {G : Type 0} (o : Ops G) (old new : Seen G) (list : List 
   pub priced : IsPriced o new
   pub placed_is : placed ≡ is_placed new (length old.lists)
   pub counted : new.steps ≡ old.steps + relaxations
+  pub compared : length list ≤ relaxations
   pub bound : relaxations ≤ (node_count new + 1) * arc_count new

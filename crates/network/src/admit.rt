@@ -59,6 +59,7 @@ fn place_best<G: Worth>(
     ensures pushed { IsPushed G.ops flow.new }
     ensures low { IsLow G.ops flow.new }
     ensures rest { flow.new ≡ record flow.old { places = flow.new.places; filled = flow.new.filled; load = flow.new.load; potentials = flow.new.potentials } }
+    ensures least { (row : _) → slice_get flow.old.lists.items fresh ≡ Some row → count.old + length row.items + 1 ≤ count.new }
     ensures cost { (row : _) → slice_get flow.old.lists.items fresh ≡ Some row → count.new ≤ count.old + length row.items + 1 + sink_of flow.old * flow_arcs flow.old }
 {
     search(flow, kept, fresh, labels, count);
@@ -76,12 +77,14 @@ fn gains<G: Worth>(flow: &Flow<G>, student: usize, count: &mut u64) -> bool
     requires student { student < length flow.now.lists.items }
     requires count { count.old < 2 ^ 29 }
     ensures none { result ≡ false → (k p : ℕ) (w : G) → HasEntry flow.now.lists.items student k p w → AtMost G.ops (G.ops.plus w (potential G.ops flow.now p)) G.ops.zero }
+    ensures all { result ≡ false → (row : _) → slice_get flow.now.lists.items student ≡ Some row → count.new ≡ count.old + length row.items }
+    ensures grows { count.old ≤ count.new }
     ensures cost { (row : _) → slice_get flow.now.lists.items student ≡ Some row → count.new ≤ count.old + length row.items }
     ensures small { count.new ≤ count.old + RANKS }
 {
-    for place in 0..list_len(flow, student) {
+    for k in 0..list_len(flow, student) {
         *count += 1;
-        let (project, worth) = entry(flow, student, place);
+        let (project, worth) = entry(flow, student, k);
         if exceeds(worth.plus(potential_of(flow, project)), G::zero()) {
             return true;
         }
@@ -110,6 +113,7 @@ pub(crate) fn place_new<G: Worth>(
     ensures pushed { IsPushed G.ops flow.new }
     ensures low { IsLow G.ops flow.new }
     ensures rest { flow.new ≡ record flow.old { places = flow.new.places; filled = flow.new.filled; load = flow.new.load; potentials = flow.new.potentials } }
+    ensures least { (row : _) → slice_get flow.old.lists.items fresh ≡ Some row → count.old + length row.items ≤ count.new }
     ensures cost { (row : _) → slice_get flow.old.lists.items fresh ≡ Some row → count.new ≤ count.old + 2 * length row.items + 1 + sink_of flow.old * flow_arcs flow.old }
 {
     if gains(flow, fresh, count) {

@@ -86,6 +86,7 @@ pub(crate) fn enter<G: Worth>(
     ensures projects { flow.new.projects ≡ flow.old.projects }
     ensures supervisors { flow.new.supervisors ≡ flow.old.supervisors }
     ensures placed { result.placed ≡ is_place (slice_get flow.new.places.items (length flow.old.lists.items)) }
+    ensures compared { length row.items ≤ result.relaxations }
     ensures cost { result.relaxations ≤ 2 * length row.items + 1 + sink_of flow.new * flow_arcs flow.new }
 {
     let student = flow.lists.len();

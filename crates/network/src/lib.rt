@@ -26,10 +26,9 @@ mod push;
 mod relaxes;
 mod search;
 
-use spa::{MOST_PROJECTS, MOST_STUDENTS, MOST_SUPERVISORS, RANKS};
-
 pub use enter::Admitted;
 pub use network::Network;
+use spa::{MOST_PROJECTS, MOST_STUDENTS, MOST_SUPERVISORS, RANKS};
 
 /// The greatest span of a price.
 pub const LARGEST_PRICE: u64 = 4012;

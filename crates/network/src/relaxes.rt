@@ -129,6 +129,7 @@ fn relax_student<G: Worth>(
     requires count { count.old < 2 ^ 32 }
     ensures kept { AreLabels G.ops labels.new }
     ensures relaxes { (m : _) (xs : List ℕ) (i : ℕ) → slice_get xs i ≡ Some student → Relaxes G.ops (StudentsAmong G.ops flow.now project label xs i) m labels.old.marks.items → Relaxes G.ops (StudentsAmong G.ops flow.now project label xs (i + 1)) m labels.new.marks.items }
+    ensures grows { count.old ≤ count.new }
     ensures cost { count.new ≤ count.old + list_cost flow.now.lists.items student }
     ensures small { count.new ≤ count.old + MOST_OFFERS }
 {
@@ -156,6 +157,7 @@ fn relax_students<G: Worth>(
     requires count { count.old < 2 ^ 31 }
     ensures kept { AreLabels G.ops labels.new }
     ensures relaxes { Relaxes G.ops (StudentsAmong G.ops flow.now project label (numbers_at kept.now.seated.items project) (length (numbers_at kept.now.seated.items project))) labels.old.marks.items labels.new.marks.items }
+    ensures grows { count.old ≤ count.new }
     ensures cost { count.new ≤ count.old + sum_by (λ row. length row.items + 1) flow.now.lists.items }
     ensures small { count.new ≤ count.old + MOST_STUDENTS * MOST_OFFERS }
 {
@@ -217,6 +219,7 @@ pub(crate) fn relax_project<G: Worth>(
     requires count { count.old < 2 ^ 31 }
     ensures kept { AreLabels G.ops labels.new }
     ensures relaxes { Relaxes G.ops (OffersOf G.ops (Arc G.ops flow.now) at label) labels.old.marks.items labels.new.marks.items }
+    ensures grows { count.old ≤ count.new }
     ensures cost { count.new ≤ count.old + sum_by (λ row. length row.items + 1) flow.now.lists.items + 1 }
     ensures small { count.new ≤ count.old + MOST_STUDENTS * MOST_OFFERS + 1 }
 {
@@ -250,6 +253,7 @@ fn relax_swaps<G: Worth>(
     requires count { count.old < 2 ^ 31 }
     ensures kept { AreLabels G.ops labels.new }
     ensures relaxes { Relaxes G.ops (ProjectsAmong G.ops flow.now supervisor label (numbers_at kept.now.offered.items supervisor) (length (numbers_at kept.now.offered.items supervisor))) labels.old.marks.items labels.new.marks.items }
+    ensures grows { count.old ≤ count.new }
     ensures cost { count.new ≤ count.old + length flow.now.projects.items }
 {
     let projects = projects_at(kept, supervisor);
@@ -276,6 +280,7 @@ pub(crate) fn relax_supervisor<G: Worth>(
     requires count { count.old < 2 ^ 31 }
     ensures kept { AreLabels G.ops labels.new }
     ensures relaxes { Relaxes G.ops (OffersOf G.ops (Arc G.ops flow.now) (length flow.now.projects.items + supervisor) label) labels.old.marks.items labels.new.marks.items }
+    ensures grows { count.old ≤ count.new }
     ensures cost { count.new ≤ count.old + length flow.now.projects.items + 1 }
 {
     relax_swaps(flow, kept, supervisor, label, labels, count);

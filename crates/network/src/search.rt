@@ -41,6 +41,7 @@ fn relax_node<G: Worth>(
     requires count { count.old < 2 ^ 31 }
     ensures kept { AreLabels G.ops labels.new }
     ensures relaxes { Relaxes G.ops (OffersOf G.ops (Arc G.ops flow.now) node label) labels.old.marks.items labels.new.marks.items }
+    ensures grows { count.old ≤ count.new }
     ensures cost { count.new ≤ count.old + flow_arcs flow.now }
     ensures small { count.new ≤ count.old + MOST_ARCS }
 {
@@ -71,6 +72,7 @@ fn expand<G: Worth>(
     requires count { count.old < 2 ^ 31 }
     ensures kept { AreLabels G.ops labels.new }
     ensures relaxes { Relaxes G.ops (OffersOf G.ops (Arc G.ops flow.now) node (mark_at G.ops labels.old.marks.items node).label) (slice_set labels.old.marks.items node (settled_as (mark_at G.ops labels.old.marks.items node) rank)) labels.new.marks.items }
+    ensures grows { count.old ≤ count.new }
     ensures cost { count.new ≤ count.old + flow_arcs flow.now }
     ensures small { count.new ≤ count.old + MOST_ARCS }
 {
@@ -113,6 +115,7 @@ fn advance<G: Worth>(
     requires count { count.old < 2 ^ 31 }
     ensures kept { AreLabels G.ops labels.new }
     ensures running { IsRunning G.ops (OfStudent G.ops flow.now student G.ops.zero) (Arc G.ops flow.now) flow.now.potentials.items (sink_of flow.now) labels.new.marks.items (rank + 1) result }
+    ensures grows { count.old ≤ count.new }
     ensures cost { count.new ≤ count.old + flow_arcs flow.now }
     ensures small { count.new ≤ count.old + MOST_ARCS }
 {
@@ -158,6 +161,7 @@ pub(crate) fn search<G: Worth>(
     ensures kept { AreLabels G.ops labels.new }
     ensures found { IsFound G.ops (OfStudent G.ops flow.now student G.ops.zero) (Arc G.ops flow.now) flow.now.potentials.items labels.new.marks.items (sink_of flow.now) }
     ensures len { length labels.new.marks.items ≡ length labels.old.marks.items }
+    ensures least { (row : _) → slice_get flow.now.lists.items student ≡ Some row → count.old + length row.items + 1 ≤ count.new }
     ensures cost { (row : _) → slice_get flow.now.lists.items student ≡ Some row → count.new ≤ count.old + length row.items + 1 + sink_of flow.now * flow_arcs flow.now }
 {
     let mut node = begin(flow, student, labels, count);
