@@ -99,11 +99,18 @@ known_from n m (r ∷ rows) (Some k ∷ ks) a known =
     )
 
 -- behind a place that callers see is the entry before it
-entry_behind : (ks : List (Option ℕ)) (s k : ℕ) → slice_get (map place_of ks) s ≡ Some (Some k) → (j : ℕ) × (k ≡ suc j) × (slice_get ks s ≡ Some (Some j))
+pub entry_behind : (ks : List (Option ℕ)) (s k : ℕ) → slice_get (map place_of ks) s ≡ Some (Some k) → (j : ℕ) × (k ≡ suc j) × (slice_get ks s ≡ Some (Some j))
 entry_behind [] s k e = cc
 entry_behind (None ∷ ks) zero k e = cc
 entry_behind (Some j ∷ ks) zero k e = (j, (cc), refl)
 entry_behind (x ∷ ks) (suc s) k e = entry_behind ks s k e
+
+-- and behind none is none
+pub none_behind : (ks : List (Option ℕ)) (s : ℕ) → slice_get (map place_of ks) s ≡ Some None → slice_get ks s ≡ Some None
+none_behind [] s e = cc
+none_behind (None ∷ ks) zero e = refl
+none_behind (Some j ∷ ks) zero e = cc
+none_behind (x ∷ ks) (suc s) e = none_behind ks s e
 
 module _ {G : Type 0} {o : Ops G} (f : Flow G) (steps : ℕ) (pushed : IsPushed o f) where
   -- the instance that callers see

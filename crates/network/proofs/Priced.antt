@@ -11,16 +11,16 @@ use Rattle.spa.specs.Laws.{Ops, IsWorth, AtMost}
 use Rattle.spa.specs.Shape.{Shape, supervisor_of, project_quota, supervisor_quota}
 use Rattle.spa.specs.Matched.{QuotasSuffice}
 use Rattle.network.specs.Arcs.{HasEntry}
-use Rattle.network.specs.Fair.{IsLow}
+use Rattle.network.specs.Fair.{IsLow, potential}
 use Rattle.network.specs.Push.{IsPushed}
-use Rattle.network.specs.Seen.{shape_of, price, multiple, sum_of, price_total, worth_at, total_worth, ArePrices, IsPriced}
+use Rattle.network.specs.Seen.{shape_of, price, multiple, sum_of, price_total, worth_at, total_worth, ArePrices, FollowPotentials, IsPriced}
 use Rattle.network.specs.View.{row_of, place_of, seen, IsReady}
-use Rattle.network.specs.Prices.{at_entry, at_place, student_price, project_price, supervisor_price, quota_at, PotentialPrices}
+use Rattle.network.specs.Prices.{at_entry, at_place, student_price, project_price_at, project_price, supervisor_price, quota_at, PotentialPrices}
 use Rattle.network.proofs.Group.{at_most_refl, zero_left}
 use Rattle.network.proofs.GroupSums.{sum_of_same, sum_of_zero, sum_of_front}
 use Rattle.network.proofs.Duals.{prices_hold}
 use Rattle.network.proofs.Lists.{row_behind}
-use Rattle.network.proofs.Matched.{matched, students_seen}
+use Rattle.network.proofs.Matched.{matched, students_seen, entry_behind, none_behind}
 use Rattle.network.specs.declared.flow.Flow.{Flow}
 
 -- a list of values by position
@@ -137,6 +137,27 @@ module _ {G : Type 0} {o : Ops G} (laws : IsWorth o) where
         supervisors_small = each_price (λ x. o.span x ≤ 4012) z (supervisor_price o f) z_is (λ l lt. omega (arith, hold.supervisor_spans l)) zero_small;
         equal = all_paid;
       }
+
+      -- and they follow the potentials
+      pub prices_follow : FollowPotentials o (seen f steps) u y z
+      prices_follow = record {
+        unplaced = λ s e.
+            let none = none_behind f.places.items s e in
+            let here = slice_get_within f.places.items s None none in
+            u_is s (omega (arith, here, u_long, pushed.formed.students)) ∙ ap (λ q. at_place o paid q (slice_get f.lists.items s)) none;
+        placed = λ s k p w list e d h.
+            let b = entry_behind f.places.items s (suc k) d in
+            let held : slice_get f.places.items s ≡ Some (Some k) = subst (λ (n : ℕ). slice_get f.places.items s ≡ Some (Some n)) (omega (arith, b.1)) b.2 in
+            let r = row_behind f.lists.items s list e in
+            let here = slice_get_within f.lists.items s r.0 r.1 in
+            u_is s (omega (arith, here, u_long)) ∙ ap (λ q. at_place o paid q (slice_get f.lists.items s)) held ∙ ap (at_place o paid (Some (Some k))) r.1
+            ∙ ap (at_entry o paid) (ap (λ q. slice_get q k) r.2 ∙ h);
+        projects = λ p lt. y_is p (omega (arith, lt, y_long)) ∙ ap (project_price_at o f p) (project_seen p lt);
+        supervisors = λ l lt. z_is l (omega (arith, lt, z_long));
+      }
+        where
+          paid : ℕ → G → G
+          paid p w = o.plus w (potential o f p)
 
   -- between two calls the places are a matching that has prices
   pub priced : QuotasSuffice → (f : Flow G) (steps : ℕ) → IsReady o f steps → IsPriced o (seen f steps)

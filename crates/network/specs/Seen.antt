@@ -1,5 +1,5 @@
 -- What callers see of a network: the rolls, the lists admitted so far with a best matching of them, and prices.
-use Rattle.std.specs.Prelude.{◌≡◌, ℕ, zero, suc, ◌+◌, ◌-◌, ◌*◌, ◌≤◌, List, [], ◌∷◌, ◌++◌, map, length, sum_by, slice_get, slice_index_or, Option, Some, None, Bool, true, false}
+use Rattle.std.specs.Prelude.{◌≡◌, ℕ, zero, suc, ◌+◌, ◌-◌, ◌*◌, ◌<◌, ◌≤◌, List, [], ◌∷◌, ◌++◌, map, length, sum_by, slice_get, slice_index_or, Option, Some, None, Bool, true, false}
 use Rattle.spa.specs.Laws.{Ops, AtMost}
 use Rattle.spa.specs.Shape.{Shape, supervisor_of, project_quota, supervisor_quota}
 use Rattle.spa.specs.Matched.{IsMatched}
@@ -15,6 +15,8 @@ pub record Seen (G : Type 0) : Type 0 where
   pub lists : List (List (ℕ × G))
   -- each student's place in the list, from 1, or none
   pub places : List (Option ℕ)
+  -- the potential of each project, of each supervisor and of the sink, which prices are made of
+  pub potentials : List G
   -- the relaxations since the start
   pub steps : ℕ
 
@@ -70,6 +72,16 @@ pub record ArePrices {G : Type 0} (o : Ops G) (v : Seen G) (u y z : List G) : Ty
   pub projects_small : (p : ℕ) → o.span (price o y p) ≤ LARGEST_PRICE
   pub supervisors_small : (l : ℕ) → o.span (price o z l) ≤ LARGEST_PRICE
   pub equal : price_total o (shape_of v) (price o u) (price o y) (price o z) ≡ total_worth o v.lists v.places
+
+-- the prices are those that the potentials make. A student's is the pair's worth with the project's potential, and zero
+-- without a place; a project's is what its potential leaves to its supervisor's, and a supervisor's what it leaves to zero
+pub record FollowPotentials {G : Type 0} (o : Ops G) (v : Seen G) (u y z : List G) : Type 0 where
+  pub unplaced : (s : ℕ) → slice_get v.places s ≡ Some None → price o u s ≡ o.zero
+  pub placed : (s k p : ℕ) (w : G) (list : List (ℕ × G)) → slice_get v.lists s ≡ Some list → slice_get v.places s ≡ Some (Some (suc k)) → slice_get list k ≡ Some (p, w)
+      → price o u s ≡ o.plus w (price o v.potentials p)
+  pub projects : (p : ℕ) → p < length v.projects
+      → price o y p ≡ o.minus (price o v.potentials (length v.projects + supervisor_of (shape_of v) p)) (price o v.potentials p)
+  pub supervisors : (l : ℕ) → l < length v.supervisors → price o z l ≡ o.minus o.zero (price o v.potentials (length v.projects + l))
 
 -- the places are a matching of the lists, and there are prices that show it to be a best one
 pub record IsPriced {G : Type 0} (o : Ops G) (v : Seen G) : Type 0 where

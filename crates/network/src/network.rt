@@ -6,7 +6,7 @@ ghost use Rattle.network.specs.Arcs.{project_count};
 ghost use Rattle.network.specs.Marks.{potential_at};
 ghost use Rattle.network.specs.Labels.{AreBlank};
 ghost use Rattle.network.specs.Kept.{IsKept};
-ghost use Rattle.network.specs.Seen.{ArePrices, IsPriced, IsAdmission};
+ghost use Rattle.network.specs.Seen.{ArePrices, FollowPotentials, IsPriced, IsAdmission};
 ghost use Rattle.network.specs.View.{seen, IsReady};
 
 use crate::enter::{Admitted, enter, grow};
@@ -180,7 +180,7 @@ impl<G: Worth> Network<G> {
 
     /// One more student is admitted, with a list of projects, by position, and the worth of each pair; the places change
     /// along one best walk, or not at all where no walk is worth more than nothing. After an `Err`, which is want of
-    /// memory, nobody was admitted and nothing has changed.
+    /// memory, nobody was admitted and nothing has changed, the potentials and so the prices neither.
     pub fn admit(&mut self, list: &[(usize, G)]) -> Result<Admitted, AllocError>
         requires few { length self.old.lists < MOST_STUDENTS }
         requires short { length list.now ≤ RANKS }
@@ -228,6 +228,7 @@ impl<G: Worth> Network<G> {
     /// to be a best one. An `Err` is want of memory.
     pub fn prices(&self) -> Result<(Vec<G>, Vec<G>, Vec<G>), AllocError>
         ensures prices { IfOk result (λ r. ArePrices G.ops self.now r.0.items r.1.items r.2.items) }
+        ensures follow { IfOk result (λ r. FollowPotentials G.ops self.now r.0.items r.1.items r.2.items) }
     {
         all_prices(&self.flow, self.steps, self.alloc)
     }

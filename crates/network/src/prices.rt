@@ -4,7 +4,7 @@ ghost use Rattle.std.specs.Prelude.{◌≡◌, ℕ, ◌<◌, length, Some, None,
 ghost use Rattle.network.specs.Marks.{potential_at};
 ghost use Rattle.network.specs.Arcs.{IsFormed};
 ghost use Rattle.network.specs.Fair.{IsLow};
-ghost use Rattle.network.specs.Seen.{ArePrices};
+ghost use Rattle.network.specs.Seen.{ArePrices, FollowPotentials};
 ghost use Rattle.network.specs.View.{seen, IsReady};
 ghost use Rattle.network.specs.Prices.{student_price, project_price, supervisor_price};
 
@@ -102,7 +102,8 @@ pub(crate) fn all_prices<G: Worth>(
     alloc: Global,
 ) -> Result<(Vec<G>, Vec<G>, Vec<G>), AllocError>
     requires { IsReady G.ops flow.now steps }
-    ensures { IfOk result (λ r. ArePrices G.ops (seen flow.now steps) r.0.items r.1.items r.2.items) }
+    ensures prices { IfOk result (λ r. ArePrices G.ops (seen flow.now steps) r.0.items r.1.items r.2.items) }
+    ensures follow { IfOk result (λ r. FollowPotentials G.ops (seen flow.now steps) r.0.items r.1.items r.2.items) }
 {
     let students = student_prices(flow, alloc)?;
     let projects = project_prices(flow, alloc)?;
