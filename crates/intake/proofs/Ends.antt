@@ -16,7 +16,7 @@ use Rattle.spa.specs.Made.{IsSoundList, IsFirstUnknown, IsListFault, IsFirstList
 use Rattle.intake.proofs.Found.{slice_get_at}
 use Rattle.intake.proofs.Pairing.{one_place, all_found}
 use Rattle.intake.proofs.Rolls.{within_get}
-use Rattle.intake.specs.Parts.{Parts, Rise, IsPlace, IsPrice, ArePrices, IsRoundParts}
+use Rattle.intake.specs.Parts.{Parts, Rise, IsPlace, IsPrice, ArePricesOrNone, IsRoundParts}
 use Rattle.intake.specs.Lines.{Row, choice_code, line, round_lines, pair_rows, price_rows}
 use Rattle.intake.specs.Reading.{Begins}
 use Rattle.intake.specs.Draft.{IsDraft, IsWhole, ArePlaces, ArePricesUpTo, NoneOrAll}
@@ -58,7 +58,7 @@ pub placed_lines : (p : Parts) → round_lines (placed p) ≡ round_lines p
 placed_lines p = ap (λ (l : List Row). seven (S p) (P p) (C p) (map (line (codes "M")) l) (U p) (Y p) (Z p)) (no_more_pairs p.instance.students p.places (length p.instance.students - length p.places))
 
 -- prices up to all of them are all or none
-priced : (n : ℕ) (vs : List (List ℤ)) → ArePricesUpTo n vs → NoneOrAll n vs → ArePrices n vs
+priced : (n : ℕ) (vs : List (List ℤ)) → ArePricesUpTo n vs → NoneOrAll n vs → ArePricesOrNone n vs
 priced n vs a w = record { none_or_all = w; prices = a.prices }
 
 -- a draft that may end is the parts of its text

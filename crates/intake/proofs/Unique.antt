@@ -15,7 +15,7 @@ use Rattle.verdict.specs.Rows.{InRange}
 use Rattle.intake.specs.declared.round.RoundParts.{RoundParts}
 use Rattle.intake.specs.declared.round.RoundFault.{RoundFault}
 use Rattle.intake.specs.declared.round.RoundFault.TheVariants.{Memory, TooLarge, Line}
-use Rattle.intake.specs.Parts.{Parts, Rise, IsPlace, IsPrice, ArePrices, IsRoundParts}
+use Rattle.intake.specs.Parts.{Parts, Rise, IsPlace, IsPrice, ArePricesOrNone, IsRoundParts}
 use Rattle.intake.specs.Lines.{choice_code, sections, round_lines, round_text, supervisor_row, project_row, pair_rows, price_rows}
 use Rattle.intake.specs.Reading.{IsReading, IsReadBack}
 use Rattle.intake.specs.View.{parts_of}
@@ -133,11 +133,11 @@ same_prices (c ∷ cs) (u ∷ us) (v ∷ vs) h i a b e =
     ∙ ap (λ (l : List (List ℤ)). v ∷ l) (same_prices cs us vs (omega arith) (omega arith) (All-tail IsPrice u us a) (All-tail IsPrice v vs b) rest)
 
 -- there are no more prices than codes
-few_prices : {X : Type 0} (code : X → List ℕ) (es : List X) (vs : List (List ℤ)) → ArePrices (length es) vs → length vs ≤ length (map code es)
+few_prices : {X : Type 0} (code : X → List ℕ) (es : List X) (vs : List (List ℤ)) → ArePricesOrNone (length es) vs → length vs ≤ length (map code es)
 few_prices code es vs a = elim a.none_or_all [ inl none ↦ omega arith | inr all ↦ omega (arith, length-map es code) ]
 
 -- prices of one roll with the same rows are the same
-same_priced : {X : Type 0} (code : X → List ℕ) (es fs : List X) (us vs : List (List ℤ)) → es ≡ fs → ArePrices (length es) us → ArePrices (length fs) vs → price_rows (map code es) us ≡ price_rows (map code fs) vs → us ≡ vs
+same_priced : {X : Type 0} (code : X → List ℕ) (es fs : List X) (us vs : List (List ℤ)) → es ≡ fs → ArePricesOrNone (length es) us → ArePricesOrNone (length fs) vs → price_rows (map code es) us ≡ price_rows (map code fs) vs → us ≡ vs
 same_priced {X = X} code es fs us vs e a b rows =
     same_prices (map code fs) us vs (subst (λ (l : List X). length us ≤ length (map code l)) e (few_prices code es us a)) (few_prices code fs vs b) a.prices b.prices
     (ap (λ (l : List X). price_rows (map code l) us) (sym e) ∙ rows)

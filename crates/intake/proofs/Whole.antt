@@ -15,7 +15,7 @@ use Rattle.spa.specs.Matched.{HasPlaces}
 use Rattle.verdict.specs.Rows.{EachInRange, AllInRange}
 use Rattle.verdict.specs.Verdict.{HasShape}
 use Rattle.verdict.specs.declared.prices.Prices.{Prices}
-use Rattle.intake.specs.Parts.{Rise, IsRoll, IsPlace, ArePrices, IsRoundParts}
+use Rattle.intake.specs.Parts.{Rise, IsRoll, IsPlace, ArePricesOrNone, IsRoundParts}
 use Rattle.intake.specs.View.{alone, proved}
 use Rattle.intake.proofs.Found.{slice_get_at}
 use Rattle.intake.proofs.Pairing.{get_mapped}
@@ -102,14 +102,14 @@ unplaced_named codes (c ∷ cs) [] h = absurd (omega arith)
 unplaced_named codes (c ∷ cs) (l ∷ ls) h = (tt, unplaced_named codes cs ls (omega arith))
 
 -- prices of as many entries
-priced : (m n : ℕ) (vs : List (List ℤ)) → m ≡ n → length vs ≡ n → All (λ v. length v ≡ PLACES) vs → AllInRange vs → ArePrices m vs
+priced : (m n : ℕ) (vs : List (List ℤ)) → m ≡ n → length vs ≡ n → All (λ v. length v ≡ PLACES) vs → AllInRange vs → ArePricesOrNone m vs
 priced m n vs e h numbers range = record {
   none_or_all = inr (omega arith);
   prices = λ k d l. record { numbers = numbers k d l; range = subst EachInRange (get_or_default vs k [] d l) (range k l) };
 }
 
 -- there are none
-unpriced : (m : ℕ) → ArePrices m []
+unpriced : (m : ℕ) → ArePricesOrNone m []
 unpriced m = record { none_or_all = inl refl; prices = λ k d h. absurd (omega arith) }
 
 -- each code of the three rolls has the form

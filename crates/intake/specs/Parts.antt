@@ -43,7 +43,7 @@ pub record IsPrice (v : List ℤ) : Type 0 where
   pub range : EachInRange v
 
 -- no price, or one for each of n entries
-pub record ArePrices (n : ℕ) (vs : List (List ℤ)) : Type 0 where
+pub record ArePricesOrNone (n : ℕ) (vs : List (List ℤ)) : Type 0 where
   pub none_or_all : (length vs ≡ 0) ⊎ (length vs ≡ n)
   pub prices : All IsPrice vs
 
@@ -56,6 +56,6 @@ pub record IsRoundParts (p : Parts) : Type 0 where
   pub offered : All (λ e. Contains (supervisor_codes p.instance) e.supervisor) p.instance.projects
   pub listed : All (λ e. IsSoundList (project_codes p.instance) e.list) p.instance.students
   pub places : AllZip IsPlace p.instance.students p.places
-  pub student_prices : ArePrices (length p.instance.students) p.student_prices
-  pub project_prices : ArePrices (length p.instance.projects) p.project_prices
-  pub supervisor_prices : ArePrices (length p.instance.supervisors) p.supervisor_prices
+  pub student_prices : ArePricesOrNone (length p.instance.students) p.student_prices
+  pub project_prices : ArePricesOrNone (length p.instance.projects) p.project_prices
+  pub supervisor_prices : ArePricesOrNone (length p.instance.supervisors) p.supervisor_prices

@@ -26,7 +26,7 @@ place_seen (x ∷ ks) (suc s) = place_seen ks s
 module _ {G : Type 0} {o : Ops G} (f n : Flow G) (steps x : ℕ) (placed : Bool) (row : Vec (ℕ × G) Global) (list : List (ℕ × G)) (row_is : row.items ≡ list)
     (ready : IsReady o f steps) (pushed : IsPushed o n) (low : IsLow o n)
     (lists : n.lists.items ≡ f.lists.items ++ row ∷ []) (projects : n.projects.items ≡ f.projects.items) (supervisors : n.supervisors.items ≡ f.supervisors.items)
-    (placed_is : placed ≡ is_place (slice_get n.places.items (length f.lists.items)))
+    (placed_is : placed ≡ is_place (slice_get n.held.items (length f.lists.items)))
     (compared : length row.items ≤ x) (cost : x ≤ 2 * length row.items + 1 + sink_of n * flow_arcs n) where
   -- one student more
   longer : length n.lists.items ≡ length f.lists.items + 1
@@ -72,7 +72,7 @@ module _ {G : Type 0} {o : Ops G} (f n : Flow G) (steps x : ℕ) (placed : Bool)
     priced = priced;
     placed_is =
         let l : length (map row_of f.lists.items) ≡ length f.lists.items = length-map f.lists.items row_of in
-        placed_is ∙ ap (λ z. is_place (slice_get n.places.items z)) (sym l) ∙ place_seen n.places.items (length (map row_of f.lists.items));
+        placed_is ∙ ap (λ z. is_place (slice_get n.held.items z)) (sym l) ∙ place_seen n.held.items (length (map row_of f.lists.items));
     compared = (let l = ap length row_is in omega (arith, compared, l));
     bound =
         let e : arc_count (seen n (steps + x)) ≡ flow_arcs n = (let d = entries_same n.lists.items in let c : length (map row_of n.lists.items) ≡ length n.lists.items = length-map n.lists.items row_of in omega (arith, d, c)) in

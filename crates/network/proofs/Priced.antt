@@ -98,12 +98,12 @@ module _ {G : Type 0} {o : Ops G} (laws : IsWorth o) where
           (λ l lt. ap (multiple o (supervisor_quota i l)) (z_is l (omega (arith, lt, z_long))))
 
       -- all of them, and the worths of the places
-      all_paid : price_total o i (price o u) (price o y) (price o z) ≡ total_worth o (map row_of f.lists.items) (map place_of f.places.items)
+      all_paid : price_total o i (price o u) (price o y) (price o z) ≡ total_worth o (map row_of f.lists.items) (map place_of f.held.items)
       all_paid =
           ap (λ a. o.plus (o.plus a (sum_of o (length i.projects) (λ p. multiple o (project_quota i p) (price o y p)))) (sum_of o (length i.supervisors) (λ l. multiple o (supervisor_quota i l) (price o z l)))) students_sum
           ∙ ap (λ a. o.plus (o.plus (sum_of o (length f.lists.items) (student_price o f)) a) (sum_of o (length i.supervisors) (λ l. multiple o (supervisor_quota i l) (price o z l)))) projects_sum
           ∙ ap (o.plus (o.plus (sum_of o (length f.lists.items) (student_price o f)) (sum_of o (length f.projects.items) (λ p. multiple o (quota_at (slice_get f.projects.items p)) (project_price o f p))))) supervisors_sum
-          ∙ hold.equal ∙ worth_from f.lists.items f.places.items
+          ∙ hold.equal ∙ worth_from f.lists.items f.held.items
 
       -- each listed pair pays its worth
       covers : (s k p : ℕ) (w : G) (list : List (ℕ × G)) → slice_get (map row_of f.lists.items) s ≡ Some list → slice_get list k ≡ Some (p, w)
@@ -128,9 +128,9 @@ module _ {G : Type 0} {o : Ops G} (laws : IsWorth o) where
         student_each = u_long ∙ sym (length-map f.lists.items row_of);
         project_each = y_long;
         supervisor_each = z_long;
-        students_above = each_price (λ x. AtMost o o.zero x) u (student_price o f) u_is (λ s lt. hold.students s) (at_most_refl laws o.zero);
-        projects_above = each_price (λ x. AtMost o o.zero x) y (project_price o f) y_is (λ p lt. hold.projects p) (at_most_refl laws o.zero);
-        supervisors_above = each_price (λ x. AtMost o o.zero x) z (supervisor_price o f) z_is (λ l lt. hold.supervisors l (omega (arith, lt, z_long))) (at_most_refl laws o.zero);
+        students_not_below = each_price (λ x. AtMost o o.zero x) u (student_price o f) u_is (λ s lt. hold.students s) (at_most_refl laws o.zero);
+        projects_not_below = each_price (λ x. AtMost o o.zero x) y (project_price o f) y_is (λ p lt. hold.projects p) (at_most_refl laws o.zero);
+        supervisors_not_below = each_price (λ x. AtMost o o.zero x) z (supervisor_price o f) z_is (λ l lt. hold.supervisors l (omega (arith, lt, z_long))) (at_most_refl laws o.zero);
         covered = covers;
         students_small = each_price (λ x. o.span x ≤ 4012) u (student_price o f) u_is (λ s lt. omega (arith, hold.student_spans s)) zero_small;
         projects_small = each_price (λ x. o.span x ≤ 4012) y (project_price o f) y_is (λ p lt. hold.project_spans p) zero_small;
@@ -142,12 +142,12 @@ module _ {G : Type 0} {o : Ops G} (laws : IsWorth o) where
       pub prices_follow : FollowPotentials o (seen f steps) u y z
       prices_follow = record {
         unplaced = λ s e.
-            let none = none_behind f.places.items s e in
-            let here = slice_get_within f.places.items s None none in
+            let none = none_behind f.held.items s e in
+            let here = slice_get_within f.held.items s None none in
             u_is s (omega (arith, here, u_long, pushed.formed.students)) ∙ ap (λ q. at_place o paid q (slice_get f.lists.items s)) none;
         placed = λ s k p w list e d h.
-            let b = entry_behind f.places.items s (suc k) d in
-            let held : slice_get f.places.items s ≡ Some (Some k) = subst (λ (n : ℕ). slice_get f.places.items s ≡ Some (Some n)) (omega (arith, b.1)) b.2 in
+            let b = entry_behind f.held.items s (suc k) d in
+            let held : slice_get f.held.items s ≡ Some (Some k) = subst (λ (n : ℕ). slice_get f.held.items s ≡ Some (Some n)) (omega (arith, b.1)) b.2 in
             let r = row_behind f.lists.items s list e in
             let here = slice_get_within f.lists.items s r.0 r.1 in
             u_is s (omega (arith, here, u_long)) ∙ ap (λ q. at_place o paid q (slice_get f.lists.items s)) held ∙ ap (at_place o paid (Some (Some k))) r.1

@@ -36,12 +36,12 @@ module _ {G : Type 0} {o : Ops G} (laws : IsWorth o) (f : Flow G) (marks : List 
   never_unseen e = let z : false ≡ true = sym (ap is_seen e) ∙ pushing.seen in cc
 
   -- a student whose entry led there is known
-  pub entry_within : (s k : ℕ) → (mark_at o marks hole).origin ≡ Entry s k → s < length f.places.items
+  pub entry_within : (s k : ℕ) → (mark_at o marks hole).origin ≡ Entry s k → s < length f.held.items
   entry_within s k origin = go step_here where
-    go : IsFirst o f marks fresh top hole ⊎ IsStep o f marks (length marks) hole → s < length f.places.items
+    go : IsFirst o f marks fresh top hole ⊎ IsStep o f marks (length marks) hole → s < length f.held.items
     go (inl h) = let off : OfStudent o f fresh o.zero (Entry s k) (mark_at o marks hole).label hole = rw origin at h.offered in
-        let w = slice_get_within f.places.items fresh _ pushing.waiting in rw off.0 w
-    go (inr h) = let arc : EntryArc o f h.before s k h.worth hole = rw origin at h.along in slice_get_within f.places.items s _ arc.holds.placed
+        let w = slice_get_within f.held.items fresh _ pushing.waiting in rw off.0 w
+    go (inr h) = let arc : EntryArc o f h.before s k h.worth hole = rw origin at h.along in slice_get_within f.held.items s _ arc.holds.placed
 
   -- and the entry names the hole
   pub entry_listed : (s k : ℕ) → (mark_at o marks hole).origin ≡ Entry s k → (w : G) × HasEntry f.lists.items s k hole w
@@ -59,12 +59,12 @@ module _ {G : Type 0} {o : Ops G} (laws : IsWorth o) (f : Flow G) (marks : List 
       (lt, λ l q at. let within = pushing.counted.project_within hole l q at in omega (arith, within, one, pushing.counted.project hole lt))
 
   -- and one who gives up a place
-  pub leave_within : (s : ℕ) → (mark_at o marks hole).origin ≡ Leave s → s < length f.places.items
+  pub leave_within : (s : ℕ) → (mark_at o marks hole).origin ≡ Leave s → s < length f.held.items
   leave_within s origin = go step_here where
-    go : IsFirst o f marks fresh top hole ⊎ IsStep o f marks (length marks) hole → s < length f.places.items
+    go : IsFirst o f marks fresh top hole ⊎ IsStep o f marks (length marks) hole → s < length f.held.items
     go (inl h) = let off : OfStudent o f fresh o.zero (Leave s) (mark_at o marks hole).label hole = rw origin at h.offered in
-        let w = slice_get_within f.places.items fresh _ pushing.waiting in rw off.0 w
-    go (inr h) = let arc : LeaveArc o f h.before s h.worth hole = rw origin at h.along in slice_get_within f.places.items s _ arc.holds.placed
+        let w = slice_get_within f.held.items fresh _ pushing.waiting in rw off.0 w
+    go (inr h) = let arc : LeaveArc o f h.before s h.worth hole = rw origin at h.along in slice_get_within f.held.items s _ arc.holds.placed
 
   -- a project that led there has room
   pub offer_ready : (p : ℕ) → (mark_at o marks hole).origin ≡ Offer p → (p < length f.filled.items) × (slice_index f.filled.items p < MOST_PLACES)

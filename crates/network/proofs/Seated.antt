@@ -62,14 +62,14 @@ module _ {G : Type 0} {o : Ops G} (f : Flow G) (formed : IsFormed o f) (k : Kept
     seated_known j s e = elim (slice_get_cases f.lists.items s).1 [
       | inl h ↦ h.1
       | inr h ↦
-          (let z = place_none (slice_get f.places.items s) (slice_get f.lists.items s) p h.1 in
+          (let z = place_none (slice_get f.held.items s) (slice_get f.lists.items s) p h.1 in
           let c = stands S j s e in
           absurd (omega (arith, z, c, kept.seated.students p s known)))
     ]
 
     -- and stands once
     once : (s : ℕ) → count_of S s ≤ 1
-    once s = omega (arith, kept.seated.students p s known, place_most (slice_get f.places.items s) (slice_get f.lists.items s) p)
+    once s = omega (arith, kept.seated.students p s known, place_most (slice_get f.held.items s) (slice_get f.lists.items s) p)
 
     -- so there are no more than students
     pub seated_few : length S ≤ MOST_STUDENTS

@@ -23,7 +23,7 @@ place_of (Some k) = Some (suc k)
 
 -- what callers see of a flow and its relaxations
 abbrev pub seen : {G : Type 0} → Flow G → ℕ → Seen G
-seen f steps = record { supervisors = f.supervisors.items; projects = f.projects.items; lists = map row_of f.lists.items; places = map place_of f.places.items; potentials = f.potentials.items; steps = steps }
+seen f steps = record { supervisors = f.supervisors.items; projects = f.projects.items; lists = map row_of f.lists.items; places = map place_of f.held.items; potentials = f.potentials.items; steps = steps }
 
 -- each entry names a known project, and its worth is small
 abbrev pub IsKnownList : {G : Type 0} → Ops G → ℕ → List (ℕ × G) → Type 0

@@ -25,8 +25,8 @@ fn lower_flow<G: Worth>(flow: &mut Flow<G>, fresh: usize, labels: &Labels<G>, to
     requires formed { IsFormed G.ops flow.old }
     requires fair { IsFairBut G.ops flow.old fresh }
     requires counted { IsCounted flow.old (sink_of flow.old) }
-    requires waiting { slice_get flow.old.places.items fresh ≡ Some None }
-    requires kept { AreLabels G.ops labels.now }
+    requires waiting { slice_get flow.old.held.items fresh ≡ Some None }
+    requires labels { AreLabels G.ops labels.now }
     requires marks { length labels.now.marks.items ≡ length flow.old.potentials.items }
     requires found { IsFound G.ops (OfStudent G.ops flow.old fresh G.ops.zero) (Arc G.ops flow.old) flow.old.potentials.items labels.now.marks.items (sink_of flow.old) }
     requires top { top ≡ (mark_at G.ops labels.now.marks.items (sink_of flow.old)).label }
@@ -49,7 +49,7 @@ fn place_best<G: Worth>(
     requires formed { IsFormed G.ops flow.old }
     requires fair { IsFairBut G.ops flow.old fresh }
     requires counted { IsCounted flow.old (sink_of flow.old) }
-    requires waiting { slice_get flow.old.places.items fresh ≡ Some None }
+    requires waiting { slice_get flow.old.held.items fresh ≡ Some None }
     requires kept { IsKept flow.old kept.old }
     requires blank { AreBlank G.ops labels.old (length flow.old.potentials.items) }
     requires low { IsLow G.ops flow.old }
@@ -58,7 +58,7 @@ fn place_best<G: Worth>(
     ensures blank { AreBlank G.ops labels.new (length flow.new.potentials.items) }
     ensures pushed { IsPushed G.ops flow.new }
     ensures low { IsLow G.ops flow.new }
-    ensures rest { flow.new ≡ record flow.old { places = flow.new.places; filled = flow.new.filled; load = flow.new.load; potentials = flow.new.potentials } }
+    ensures rest { flow.new ≡ record flow.old { held = flow.new.held; filled = flow.new.filled; load = flow.new.load; potentials = flow.new.potentials } }
     ensures least { (row : _) → slice_get flow.old.lists.items fresh ≡ Some row → count.old + length row.items + 1 ≤ count.new }
     ensures cost { (row : _) → slice_get flow.old.lists.items fresh ≡ Some row → count.new ≤ count.old + length row.items + 1 + sink_of flow.old * flow_arcs flow.old }
 {
@@ -103,7 +103,7 @@ pub(crate) fn place_new<G: Worth>(
     requires formed { IsFormed G.ops flow.old }
     requires fair { IsFairBut G.ops flow.old fresh }
     requires counted { IsCounted flow.old (sink_of flow.old) }
-    requires waiting { slice_get flow.old.places.items fresh ≡ Some None }
+    requires waiting { slice_get flow.old.held.items fresh ≡ Some None }
     requires kept { IsKept flow.old kept.old }
     requires blank { AreBlank G.ops labels.old (length flow.old.potentials.items) }
     requires low { IsLow G.ops flow.old }
@@ -112,7 +112,7 @@ pub(crate) fn place_new<G: Worth>(
     ensures blank { AreBlank G.ops labels.new (length flow.new.potentials.items) }
     ensures pushed { IsPushed G.ops flow.new }
     ensures low { IsLow G.ops flow.new }
-    ensures rest { flow.new ≡ record flow.old { places = flow.new.places; filled = flow.new.filled; load = flow.new.load; potentials = flow.new.potentials } }
+    ensures rest { flow.new ≡ record flow.old { held = flow.new.held; filled = flow.new.filled; load = flow.new.load; potentials = flow.new.potentials } }
     ensures least { (row : _) → slice_get flow.old.lists.items fresh ≡ Some row → count.old + length row.items ≤ count.new }
     ensures cost { (row : _) → slice_get flow.old.lists.items fresh ≡ Some row → count.new ≤ count.old + 2 * length row.items + 1 + sink_of flow.old * flow_arcs flow.old }
 {

@@ -10,7 +10,7 @@ ghost use Rattle.network.specs.Seen.{ArePrices, FollowPotentials, IsPriced, IsAd
 ghost use Rattle.network.specs.View.{seen, IsReady};
 
 use crate::enter::{Admitted, enter, grow};
-use crate::flow::{Flow, place_of};
+use crate::flow::{Flow, held_by};
 use crate::kept::{Kept, all_offered, empty_seats};
 use crate::marks::{Labels, blank_labels};
 use crate::prices::all_prices;
@@ -57,7 +57,7 @@ fn start_flow<G: Worth>(
     ensures supervisors { IfOk result (λ f. f.supervisors.items ≡ supervisors.now) }
     ensures projects { IfOk result (λ f. f.projects.items ≡ projects.now) }
     ensures lists { IfOk result (λ f. f.lists.items ≡ []) }
-    ensures places { IfOk result (λ f. f.places.items ≡ []) }
+    ensures held { IfOk result (λ f. f.held.items ≡ []) }
 {
     let potentials = flat(alloc, projects.len() + supervisors.len() + 1)?;
     let filled = zeros(alloc, projects.len())?;
@@ -68,7 +68,7 @@ fn start_flow<G: Worth>(
         supervisors: rolls,
         projects: offers,
         lists: Vec::new(alloc),
-        places: Vec::new(alloc),
+        held: Vec::new(alloc),
         filled,
         load,
         potentials,
@@ -77,7 +77,7 @@ fn start_flow<G: Worth>(
 
 /// The lists beside a flow with no students.
 fn start_kept<G: Worth>(alloc: Global, flow: &Flow<G>) -> Result<Kept, AllocError>
-    requires { flow.now.places.items ≡ [] }
+    requires { flow.now.held.items ≡ [] }
     ensures { IfOk result (λ k. IsKept flow.now k) }
 {
     let seated = empty_seats(alloc, &flow.projects)?;
@@ -211,7 +211,7 @@ impl<G: Worth> Network<G> {
         requires { student < length self.now.lists }
         ensures { slice_get self.now.places student ≡ Some result }
     {
-        match place_of(&self.flow, student) {
+        match held_by(&self.flow, student) {
             None => None,
             Some(position) => Some(position + 1),
         }

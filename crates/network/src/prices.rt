@@ -8,7 +8,7 @@ ghost use Rattle.network.specs.Seen.{ArePrices, FollowPotentials};
 ghost use Rattle.network.specs.View.{seen, IsReady};
 ghost use Rattle.network.specs.Prices.{student_price, project_price, supervisor_price};
 
-use crate::flow::{Flow, place_of, potential_of};
+use crate::flow::{Flow, held_by, potential_of};
 use crate::relaxes::{entry, project, supervisor_node};
 use spa::Worth;
 use std::alloc::{AllocError, Global};
@@ -17,13 +17,13 @@ use std::alloc::{AllocError, Global};
 fn price_of_student<G: Worth>(flow: &Flow<G>, student: usize) -> G
     requires formed { IsFormed G.ops flow.now }
     requires low { IsLow G.ops flow.now }
-    requires student { student < length flow.now.places.items }
+    requires student { student < length flow.now.held.items }
     ensures { result ≡ student_price G.ops flow.now student }
 {
-    match place_of(flow, student) {
+    match held_by(flow, student) {
         None => G::zero(),
-        Some(place) => {
-            let (project, worth) = entry(flow, student, place);
+        Some(held) => {
+            let (project, worth) = entry(flow, student, held);
             worth.plus(potential_of(flow, project))
         }
     }

@@ -8,19 +8,19 @@ ghost use Rattle.network.specs.Arcs.{project_count};
 ghost use Rattle.network.specs.Kept.{IsKept};
 ghost use Rattle.network.specs.Push.{IsPushing, IsPushed, IsNext};
 
-use crate::flow::{Flow, place_of};
+use crate::flow::{Flow, held_by};
 use crate::kept::{Kept, seat, unseat};
 use crate::marks::{Labels, Origin};
 use crate::relaxes::{entry, sink, supervisor_node};
 use spa::Worth;
 
-/// Writes a student's place.
-fn set_place<G>(flow: &mut Flow<G>, student: usize, place: Option<usize>)
-    requires { student < length flow.old.places.items }
-    ensures places { flow.new.places.items ≡ slice_set flow.old.places.items student place }
-    ensures rest { flow.new ≡ record flow.old { places = flow.new.places } }
+/// Writes what a student holds.
+fn set_held<G>(flow: &mut Flow<G>, student: usize, entry: Option<usize>)
+    requires { student < length flow.old.held.items }
+    ensures held { flow.new.held.items ≡ slice_set flow.old.held.items student entry }
+    ensures rest { flow.new ≡ record flow.old { held = flow.new.held } }
 {
-    flow.places[student] = place;
+    flow.held[student] = entry;
 }
 
 /// A project counts one more.
@@ -70,26 +70,26 @@ fn push_entry<G: Worth>(
     top: G,
     hole: usize,
     student: usize,
-    place: usize,
+    to: usize,
 ) -> Option<usize>
     requires kept { IsKept flow.old kept.old }
     requires pushing { IsPushing G.ops flow.old labels.now.marks.items fresh top hole }
-    requires origin { (mark_at G.ops labels.now.marks.items hole).origin ≡ Entry student place }
-    requires student { student < length flow.old.places.items }
+    requires origin { (mark_at G.ops labels.now.marks.items hole).origin ≡ Entry student to }
+    requires student { student < length flow.old.held.items }
     ensures kept { IsKept flow.new kept.new }
     ensures more { IfSome result (λ next. IsNext G.ops flow.new labels.now.marks.items fresh top hole next) }
     ensures done { IfNone result (IsPushed G.ops flow.new) }
-    ensures rest { flow.new ≡ record flow.old { places = flow.new.places; filled = flow.new.filled; load = flow.new.load } }
+    ensures rest { flow.new ≡ record flow.old { held = flow.new.held; filled = flow.new.filled; load = flow.new.load } }
 {
-    match place_of(flow, student) {
+    match held_by(flow, student) {
         None => {
-            set_place(flow, student, Some(place));
+            set_held(flow, student, Some(to));
             seat(kept, hole, student);
             None
         }
         Some(old) => {
             let (from, _) = entry(flow, student, old);
-            set_place(flow, student, Some(place));
+            set_held(flow, student, Some(to));
             unseat(kept, from, student);
             seat(kept, hole, student);
             Some(from)
@@ -110,17 +110,17 @@ fn push_leave<G: Worth>(
     requires kept { IsKept flow.old kept.old }
     requires pushing { IsPushing G.ops flow.old labels.now.marks.items fresh top hole }
     requires origin { (mark_at G.ops labels.now.marks.items hole).origin ≡ Leave student }
-    requires student { student < length flow.old.places.items }
+    requires student { student < length flow.old.held.items }
     ensures kept { IsKept flow.new kept.new }
     ensures more { IfSome result (λ next. IsNext G.ops flow.new labels.now.marks.items fresh top hole next) }
     ensures done { IfNone result (IsPushed G.ops flow.new) }
-    ensures rest { flow.new ≡ record flow.old { places = flow.new.places; filled = flow.new.filled; load = flow.new.load } }
+    ensures rest { flow.new ≡ record flow.old { held = flow.new.held; filled = flow.new.filled; load = flow.new.load } }
 {
-    match place_of(flow, student) {
+    match held_by(flow, student) {
         None => None,
         Some(old) => {
             let (from, _) = entry(flow, student, old);
-            set_place(flow, student, None);
+            set_held(flow, student, None);
             unseat(kept, from, student);
             Some(from)
         }
@@ -142,7 +142,7 @@ fn push_offer<G: Worth>(
     requires room { slice_index flow.old.filled.items project < MOST_PLACES }
     ensures next { IsNext G.ops flow.new labels.now.marks.items fresh top hole project }
     ensures same { flow.new ≡ record flow.old { filled = flow.new.filled } }
-    ensures rest { flow.new ≡ record flow.old { places = flow.new.places; filled = flow.new.filled; load = flow.new.load } }
+    ensures rest { flow.new ≡ record flow.old { held = flow.new.held; filled = flow.new.filled; load = flow.new.load } }
 {
     count_up(flow, project);
 }
@@ -162,7 +162,7 @@ fn push_swap<G: Worth>(
     requires some { 0 < slice_index flow.old.filled.items hole }
     ensures next { IsNext G.ops flow.new labels.now.marks.items fresh top hole (project_count flow.new + supervisor) }
     ensures same { flow.new ≡ record flow.old { filled = flow.new.filled } }
-    ensures rest { flow.new ≡ record flow.old { places = flow.new.places; filled = flow.new.filled; load = flow.new.load } }
+    ensures rest { flow.new ≡ record flow.old { held = flow.new.held; filled = flow.new.filled; load = flow.new.load } }
 {
     count_down(flow, hole);
 }
@@ -182,7 +182,7 @@ fn push_room<G: Worth>(
     requires room { slice_index flow.old.load.items supervisor < MOST_PLACES }
     ensures next { IsNext G.ops flow.new labels.now.marks.items fresh top hole (project_count flow.new + supervisor) }
     ensures same { flow.new ≡ record flow.old { load = flow.new.load } }
-    ensures rest { flow.new ≡ record flow.old { places = flow.new.places; filled = flow.new.filled; load = flow.new.load } }
+    ensures rest { flow.new ≡ record flow.old { held = flow.new.held; filled = flow.new.filled; load = flow.new.load } }
 {
     load_up(flow, supervisor);
 }
@@ -201,13 +201,13 @@ fn step<G: Worth>(
     ensures kept { IsKept flow.new kept.new }
     ensures more { IfSome result (λ next. IsNext G.ops flow.new labels.now.marks.items fresh top hole next) }
     ensures done { IfNone result (IsPushed G.ops flow.new) }
-    ensures rest { flow.new ≡ record flow.old { places = flow.new.places; filled = flow.new.filled; load = flow.new.load } }
+    ensures rest { flow.new ≡ record flow.old { held = flow.new.held; filled = flow.new.filled; load = flow.new.load } }
 {
     match origin_of(labels, hole) {
         Origin::Unseen => unreachable!(),
-        Origin::Entry(student, place) => push_entry(
-            flow, kept, labels, fresh, top, hole, student, place,
-        ),
+        Origin::Entry(student, to) => {
+            push_entry(flow, kept, labels, fresh, top, hole, student, to)
+        }
         Origin::Leave(student) => push_leave(flow, kept, labels, fresh, top, hole, student),
         Origin::Offer(project) => {
             push_offer(flow, labels, fresh, top, hole, project);
@@ -237,7 +237,7 @@ pub(crate) fn push<G: Worth>(
     requires pushing { IsPushing G.ops flow.old labels.now.marks.items fresh top from }
     ensures kept { IsKept flow.new kept.new }
     ensures pushed { IsPushed G.ops flow.new }
-    ensures rest { flow.new ≡ record flow.old { places = flow.new.places; filled = flow.new.filled; load = flow.new.load } }
+    ensures rest { flow.new ≡ record flow.old { held = flow.new.held; filled = flow.new.filled; load = flow.new.load } }
 {
     let mut hole = from;
     while let Some(next) = step(flow, kept, labels, fresh, top, hole) {

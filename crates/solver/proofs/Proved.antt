@@ -14,8 +14,8 @@ use Rattle.spa.specs.Prices.{value}
 use Rattle.spa.specs.Laws.{AtMost}
 use Rattle.spa.specs.Places.{Places, lex_ops, row}
 use Rattle.spa.specs.LexLaw.{IsLexicographic}
-use Rattle.verdict.specs.Rows.{price, IsWithin, AllInRange, AllAbove}
-use Rattle.verdict.specs.Verdict.{HasShape, IsAbove, paid, AllCovered, IsEqual, IsProvedBest}
+use Rattle.verdict.specs.Rows.{price, IsBoundedBy, AllInRange, AreNotBelowZero}
+use Rattle.verdict.specs.Verdict.{HasShape, IsNotBelowZero, paid, AllCovered, IsEqual, IsProvedBest}
 use Rattle.verdict.specs.declared.prices.Prices.{Prices}
 use Rattle.network.specs.declared.TheConstants.{LARGEST_PRICE}
 use Rattle.network.specs.Seen.{Seen, shape_of, IsPriced, price as worth_price, price_total, total_worth}
@@ -46,7 +46,7 @@ list_short i sound s =
     ]
 
 -- a small number is within the limits
-within : (x : ℤ) → unsigned_abs x ≤ 4012 → IsWithin 1000000 x
+within : (x : ℤ) → unsigned_abs x ≤ 4012 → IsBoundedBy 1000000 x
 within (pos n) h = (omega (arith, ints, h), omega (arith, ints, h))
 within (negsuc n) h = (omega (arith, ints, h), omega (arith, ints, h))
 
@@ -58,7 +58,7 @@ row_of (xs ∷ xss) (suc s) h = row_of xss s (omega arith)
 
 module _ (law : IsLexicographic PLACES) (order : IsSettled greedy) where
   -- rows of worths that are not below zero are not
-  above : (rows : List (List ℤ)) (worths : List (Places PLACES)) → AreRowsOf rows worths → ((n : ℕ) → AtMost (lex_ops PLACES) (lex_ops PLACES).zero (worth_price (lex_ops PLACES) worths n)) → AllAbove greedy rows
+  above : (rows : List (List ℤ)) (worths : List (Places PLACES)) → AreRowsOf rows worths → ((n : ℕ) → AtMost (lex_ops PLACES) (lex_ops PLACES).zero (worth_price (lex_ops PLACES) worths n)) → AreNotBelowZero greedy rows
   above rows worths r a n h =
       let x : Places PLACES = worth_price (lex_ops PLACES) worths n in
       order.same (row PLACES (lex_ops PLACES).zero) none (row PLACES x) (price rows n) (λ t _. law.zero t) (λ t _. sym (r.same n t)) ((law.at_most (lex_ops PLACES).zero x).0 (a n))
@@ -69,7 +69,7 @@ module _ (law : IsLexicographic PLACES) (order : IsSettled greedy) where
       let x : Places PLACES = worth_price (lex_ops PLACES) worths n in
       let s : (lex_ops PLACES).span x ≤ 4012 = small n in
       let w : unsigned_abs (row PLACES x t) ≤ (lex_ops PLACES).span x = law.within_span x t in
-      subst (IsWithin 1000000) (sym (r.same n t)) (within (row PLACES x t) (omega (arith, s, w)))
+      subst (IsBoundedBy 1000000) (sym (r.same n t)) (within (row PLACES x t) (omega (arith, s, w)))
 
   module _ (i : Shape) (v : Seen (Places PLACES)) (p : Prices) (sound : IsSound i) (is : IsOf i v) (of : ArePricesOf v p) where
     -- as many prices as the rolls have entries
@@ -84,11 +84,11 @@ module _ (law : IsLexicographic PLACES) (order : IsSettled greedy) where
     }
 
     -- none is below zero
-    not_below : IsAbove greedy p
-    not_below = record {
-      students = above p.students.items of.students of.student_rows of.prices.students_above;
-      projects = above p.projects.items of.projects of.project_rows of.prices.projects_above;
-      supervisors = above p.supervisors.items of.supervisors of.supervisor_rows of.prices.supervisors_above;
+    none_below : IsNotBelowZero greedy p
+    none_below = record {
+      students = above p.students.items of.students of.student_rows of.prices.students_not_below;
+      projects = above p.projects.items of.projects of.project_rows of.prices.projects_not_below;
+      supervisors = above p.supervisors.items of.supervisors of.supervisor_rows of.prices.supervisors_not_below;
     }
 
     -- a listed pair pays its weight at least
@@ -148,7 +148,7 @@ module _ (law : IsLexicographic PLACES) (order : IsSettled greedy) where
         record {
           matched = matched;
           shape = shape;
-          above = not_below;
+          not_below = none_below;
           covered = covered student rank;
           equal = equal matched rank;
         }

@@ -9,7 +9,7 @@ ghost use Rattle.verdict.specs.Verdict.{IsProvedBest, IsFirstFailure};
 ghost use Rattle.verdict.specs.declared.prices.Prices.{Prices};
 
 use crate::cover::first_uncovered;
-use crate::prices::{Prices, has_shape, is_above};
+use crate::prices::{Prices, has_shape, is_not_below_zero};
 use crate::totals::is_equal;
 use spa::{Instance, Matching, greedy_law, list_law, price_law};
 use thiserror::Error;
@@ -47,7 +47,7 @@ pub fn check(instance: &Instance, matching: &Matching, prices: &Prices) -> Resul
     if !has_shape(instance, prices) {
         return Err(CheckFault::Shape);
     }
-    if !is_above(prices) {
+    if !is_not_below_zero(prices) {
         return Err(CheckFault::Below);
     }
     if let Some((student, place)) = first_uncovered(instance, prices) {

@@ -8,7 +8,7 @@ ghost use Rattle.spa.specs.Shape.{project_quota, supervisor_quota};
 ghost use Rattle.spa.specs.Matching.{weight_row};
 ghost use Rattle.spa.specs.Prices.{value};
 ghost use Rattle.spa.specs.Matched.{pairs, HasPlaces};
-ghost use Rattle.verdict.specs.Rows.{price, AllInRange, EachInRange, IsWithin};
+ghost use Rattle.verdict.specs.Rows.{price, AllInRange, EachInRange, IsBoundedBy};
 ghost use Rattle.verdict.specs.Verdict.{HasShape, IsEqual};
 
 use crate::prices::Prices;
@@ -20,7 +20,7 @@ fn students_total(prices: &[[i64; PLACES]], t: usize) -> i64
     requires few { length prices.now ≤ 500 }
     requires range { AllInRange prices.now }
     ensures value { result ≡ sum_below (length prices.now) (λ n. price prices.now n t) }
-    ensures bounded { IsWithin (500 * 1000000) result }
+    ensures bounded { IsBoundedBy (500 * 1000000) result }
 {
     let mut total = 0;
     for n in 0..prices.len() {
@@ -35,7 +35,7 @@ fn multiple(quota: u32, price: &[i64; PLACES], t: usize) -> i64
     requires place { t < PLACES }
     requires range { EachInRange price.now }
     ensures value { result ≡ pos quota *ℤ at price.now t }
-    ensures bounded { IsWithin 500000000 result }
+    ensures bounded { IsBoundedBy 500000000 result }
 {
     i64::from(quota) * price[t]
 }
@@ -46,7 +46,7 @@ fn projects_total(instance: &Instance, prices: &[[i64; PLACES]], t: usize) -> i6
     requires shape { length prices.now ≡ length instance.now.shape.projects }
     requires range { AllInRange prices.now }
     ensures value { result ≡ sum_below (length instance.now.shape.projects) (λ p. pos (project_quota instance.now.shape p) *ℤ price prices.now p t) }
-    ensures bounded { IsWithin (400 * 500000000) result }
+    ensures bounded { IsBoundedBy (400 * 500000000) result }
 {
     instance.fit();
     let mut total = 0;
@@ -62,7 +62,7 @@ fn supervisors_total(instance: &Instance, prices: &[[i64; PLACES]], t: usize) ->
     requires shape { length prices.now ≡ length instance.now.shape.supervisors }
     requires range { AllInRange prices.now }
     ensures value { result ≡ sum_below (length instance.now.shape.supervisors) (λ l. pos (supervisor_quota instance.now.shape l) *ℤ price prices.now l t) }
-    ensures bounded { IsWithin (100 * 500000000) result }
+    ensures bounded { IsBoundedBy (100 * 500000000) result }
 {
     instance.fit();
     let mut total = 0;
