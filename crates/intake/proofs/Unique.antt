@@ -16,6 +16,7 @@ use Rattle.intake.specs.declared.round.RoundParts.{RoundParts}
 use Rattle.intake.specs.declared.round.RoundFault.{RoundFault}
 use Rattle.intake.specs.declared.round.RoundFault.TheVariants.{Memory, TooLarge, Line}
 use Rattle.intake.specs.Parts.{Parts, Rise, IsPlace, IsPrice, ArePricesOrNone, IsRoundParts}
+use Rattle.intake.proofs.Size.{text_small}
 use Rattle.intake.specs.Lines.{choice_code, sections, round_lines, round_text, supervisor_row, project_row, pair_rows, price_rows}
 use Rattle.intake.specs.Reading.{IsReading, IsReadBack}
 use Rattle.intake.specs.View.{parts_of}
@@ -176,5 +177,5 @@ one_text p q v w e =
 pub read_back : (p : Parts) (r : Result RoundParts RoundFault) → IsRoundParts p → IsReading (round_text p) r → IsReadBack p r
 read_back p (Ok r) v h = sym (one_text p (parts_of r) v h.0 h.1)
 read_back p (Err Memory) v h = tt
-read_back p (Err TooLarge) v h = h
+read_back p (Err TooLarge) v h = let small = text_small p v in absurd (omega (arith, small, h))
 read_back p (Err (Line n)) v h = h.1.refused p v refl

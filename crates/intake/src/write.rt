@@ -1,13 +1,14 @@
 //! Round texts, written.
 #![tactic(auto)]
 
-ghost use Rattle.std.specs.Prelude.{◌≡◌, ◌++◌, map, flat_map, take, drop, codes, IfOk, IfSome, OnOk, string_bytes, length, All, IsTrue};
+ghost use Rattle.std.specs.Prelude.{◌≡◌, ◌≤◌, ◌++◌, map, flat_map, take, drop, codes, IfOk, IfSome, OnOk, string_bytes, length, All, IsTrue};
 ghost use Rattle.spa.specs.Text.{is_code};
 ghost use Rattle.spa.specs.declared.TheConstants.{PLACES};
 ghost use Rattle.spa.specs.Instance.{supervisor_codes, project_codes, student_codes};
 ghost use Rattle.spa.specs.Named.{Named, instance_of};
 ghost use Rattle.spa.specs.Matched.{IsMatched, HasPlaces};
 ghost use Rattle.verdict.specs.Verdict.{HasShape};
+ghost use Rattle.intake.specs.declared.TheConstants.{MOST_BYTES};
 ghost use Rattle.intake.specs.Parts.{Rise, IsRoundParts};
 ghost use Rattle.intake.specs.Lines.{Section, supervisor_row, project_row, student_row, pair_rows, price_rows, sections, section_lines, ended, round_text};
 ghost use Rattle.intake.specs.View.{alone, proved, written};
@@ -151,6 +152,9 @@ pub fn write_round(
     requires shape { IfSome proof (λ p. HasShape instance.now.shape p.1.now) }
 
     ensures text { IfOk result (λ text. string_bytes text ≡ round_text (written instance.now proof.entry)) }
+
+    // It is never too large to be read.
+    ensures small { IfOk result (λ text. length (string_bytes text) ≤ MOST_BYTES) }
 
     // So the law of round texts holds of them.
     ensures parts { OnOk result (IsRoundParts (written instance.now proof.entry)) }
