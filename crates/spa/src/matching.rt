@@ -3,12 +3,13 @@
 
 ghost use Rattle.std.specs.Prelude.{◌≡◌, ℕ, ◌+◌, ◌<◌, ◌≤◌, ◌↔◌, length, slice_index, slice_index_or, Some, None, IsNone, IsSome, IfSome, IfNone, MatchOption};
 ghost use Rattle.spa.specs.Shape.{list_of, supervisor_of, project_quota, supervisor_quota};
-ghost use Rattle.spa.specs.Matching.{profile};
+ghost use Rattle.spa.specs.Matching.{profile, weight_row};
+ghost use Rattle.spa.specs.Row.{at};
 ghost use Rattle.spa.specs.Named.{IsFit};
-ghost use Rattle.spa.specs.Matched.{pairs, HasPlaces, IsMatched, in_project, with_supervisor, with_rank, IsFirstBadPlace, IsFirstOver, IsFirstFault};
+ghost use Rattle.spa.specs.Matched.{pairs, HasPlaces, IsMatched, in_project, with_supervisor, IsFirstBadPlace, IsFirstOver, IsFirstFault};
 
-use crate::RANKS;
 use crate::instance::Instance;
+use crate::{PLACES, RANKS};
 
 /// What is wrong with a matching, by position.
 #[derive(Clone, Copy, Debug, PartialEq, Eq, Drop)]
@@ -145,22 +146,20 @@ fn paired(instance: &Instance, places: &[Option<u8>]) -> usize
     paired
 }
 
-/// How many pairs have this rank.
-fn ranked(instance: &Instance, places: &[Option<u8>], rank: usize) -> usize
+/// How many pairs have rank 1 and so on.
+fn ranked(instance: &Instance, places: &[Option<u8>]) -> [u32; RANKS]
     requires fit { IsFit instance.now }
     requires places { HasPlaces instance.now.shape places.now }
-    ensures count { result ≡ with_rank instance.now.shape places.now rank }
-    ensures few { result ≤ length places.now }
+    ensures profile { (k : ℕ) → k < RANKS → slice_index result k ≡ profile instance.now.shape (pairs instance.now.shape places.now) k }
+    ensures few { (k : ℕ) → k < RANKS → slice_index result k ≤ length places.now }
 {
-    let mut ranked = 0;
+    let mut counts = [0; RANKS];
     for student in 0..places.len() {
         if let Some(place) = places[student] {
-            if place as usize == rank {
-                ranked += 1;
-            }
+            counts[place as usize - 1] += 1;
         }
     }
-    ranked
+    counts
 }
 
 impl Matching {
@@ -182,9 +181,19 @@ pub fn profile(instance: &Instance, matching: &Matching) -> [u32; RANKS]
     ensures few { (k : ℕ) → k < RANKS → slice_index result k ≤ 500 }
 {
     instance.fit();
-    let mut counts = [0; RANKS];
+    ranked(instance, &matching.places)
+}
+
+/// The total weight of a matching: its size, then how many pairs have rank 1 and so on.
+pub fn total_weight(instance: &Instance, matching: &Matching) -> [i64; PLACES]
+    requires { HasPlaces instance.now.shape matching.now.places.items }
+    ensures { (t : ℕ) → t < PLACES → at result t ≡ weight_row instance.now.shape (pairs instance.now.shape matching.now.places.items) t }
+{
+    let counts = profile(instance, matching);
+    let mut weight = [0; PLACES];
+    weight[0] = matching.size(instance) as i64;
     for k in 0..RANKS {
-        counts[k] = ranked(instance, &matching.places, k + 1) as u32;
+        weight[k + 1] = i64::from(counts[k]);
     }
-    counts
+    weight
 }

@@ -12,7 +12,7 @@ ghost use Rattle.verdict.specs.Rows.{price, AllInRange, EachInRange, IsBoundedBy
 ghost use Rattle.verdict.specs.Verdict.{HasShape, IsEqual};
 
 use crate::prices::Prices;
-use spa::{Instance, Matching, PLACES, profile};
+use spa::{Instance, Matching, PLACES, total_weight};
 
 /// What the prices of the students add up to at a place.
 fn students_total(prices: &[[i64; PLACES]], t: usize) -> i64
@@ -89,27 +89,15 @@ fn total_at(instance: &Instance, prices: &Prices, t: usize) -> i64
     students + projects + supervisors
 }
 
-/// What a matching weighs at a place.
-fn weight_total(instance: &Instance, matching: &Matching, t: usize) -> i64
-    requires place { t < PLACES }
-    requires places { HasPlaces instance.now.shape matching.now.places.items }
-    ensures { result ≡ weight_row instance.now.shape (pairs instance.now.shape matching.now.places.items) t }
-{
-    if t == 0 {
-        matching.size(instance) as i64
-    } else {
-        i64::from(profile(instance, matching)[t - 1])
-    }
-}
-
 /// Whether the prices add up to the matching's total weight.
 pub(crate) fn is_equal(instance: &Instance, matching: &Matching, prices: &Prices) -> bool
     requires places { HasPlaces instance.now.shape matching.now.places.items }
     requires shape { HasShape instance.now.shape prices.now }
     ensures { IsTrue result ↔ IsEqual instance.now.shape matching.now.places.items prices.now }
 {
+    let weight = total_weight(instance, matching);
     for t in 0..PLACES {
-        if total_at(instance, prices, t) != weight_total(instance, matching, t) {
+        if total_at(instance, prices, t) != weight[t] {
             return false;
         }
     }
