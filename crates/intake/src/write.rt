@@ -23,7 +23,6 @@ fn write_supervisors(out: &mut String, instance: &Instance) -> Result<(), AllocE
     ensures text { OnOk result (string_bytes out.new ≡ string_bytes out.old ++ ended (section_lines (record { letter = codes "S"; rows = map supervisor_row (instance_of instance.now).supervisors }))) }
     ensures form { OnOk result (All (λ c. IsTrue (is_code c)) instance.now.supervisor_codes) }
 {
-    instance.fit();
     let codes = instance.supervisor_codes();
     for l in 0..codes.len() {
         push_supervisor(out, codes[l].as_str(), instance.supervisor_quota(l))?;
@@ -36,7 +35,6 @@ fn write_projects(out: &mut String, instance: &Instance) -> Result<(), AllocErro
     ensures text { OnOk result (string_bytes out.new ≡ string_bytes out.old ++ ended (section_lines (record { letter = codes "P"; rows = map project_row (instance_of instance.now).projects }))) }
     ensures form { OnOk result (All (λ c. IsTrue (is_code c)) instance.now.project_codes) }
 {
-    instance.fit();
     let codes = instance.project_codes();
     let supervisors = instance.supervisor_codes();
     for p in 0..codes.len() {
@@ -56,7 +54,6 @@ fn write_students(out: &mut String, instance: &Instance) -> Result<(), AllocErro
     ensures text { OnOk result (string_bytes out.new ≡ string_bytes out.old ++ ended (section_lines (record { letter = codes "C"; rows = map student_row (instance_of instance.now).students }))) }
     ensures form { OnOk result (All (λ c. IsTrue (is_code c)) instance.now.student_codes) }
 {
-    instance.fit();
     let codes = instance.student_codes();
     let projects = instance.project_codes();
     for s in 0..codes.len() {
@@ -74,7 +71,6 @@ fn write_pairs(
     requires { HasPlaces instance.now.shape places.now }
     ensures { OnOk result (string_bytes out.new ≡ string_bytes out.old ++ ended (section_lines (record { letter = codes "M"; rows = pair_rows (instance_of instance.now).students places.now }))) }
 {
-    instance.fit();
     let codes = instance.student_codes();
     let projects = instance.project_codes();
     for s in 0..places.len() {

@@ -114,7 +114,6 @@ impl Matching {
         ensures none { IsNone result ↔ IsMatched instance.now.shape self.now.places.items }
         ensures fault { IfSome result (λ f. IsFirstFault instance.now.shape self.now.places.items f) }
     {
-        instance.fit();
         if self.places.len() != instance.student_count() {
             return Some(MatchFault::Length);
         }

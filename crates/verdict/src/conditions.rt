@@ -37,7 +37,6 @@ pub fn check(instance: &Instance, matching: &Matching, prices: &Prices) -> Resul
     // A yes proves the matching best against every matching of the instance.
     ensures greedy_maximum { OnOk result (IsGreedyMaximum instance.now.shape (pairs instance.now.shape matching.now.places.items)) }
 {
-    instance.fit();
     list_law(instance);
     greedy_law(instance);
     price_law(instance);

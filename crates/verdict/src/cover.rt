@@ -49,7 +49,6 @@ fn is_uncovered(instance: &Instance, prices: &Prices, student: usize, place: usi
     requires listed { IsPlaceOf (list_of instance.now.shape student) place }
     ensures { IsTrue result ↔ IsUncoveredAt greedy instance.now.shape prices.now student place }
 {
-    instance.fit();
     list_law(instance);
     let project = instance.choice(student, place);
     let supervisor = instance.supervisor_of(project);

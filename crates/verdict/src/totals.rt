@@ -15,16 +15,16 @@ use crate::prices::Prices;
 use spa::{Instance, Matching, PLACES, total_weight};
 
 /// What the prices of the students add up to at a place.
-fn students_total(prices: &[[i64; PLACES]], t: usize) -> i64
+fn students_total(instance: &Instance, prices: &[[i64; PLACES]], t: usize) -> i64
     requires place { t < PLACES }
-    requires few { length prices.now ≤ 500 }
+    requires shape { length prices.now ≡ length instance.now.shape.students }
     requires range { AllInRange prices.now }
-    ensures value { result ≡ sum_below (length prices.now) (λ n. price prices.now n t) }
+    ensures value { result ≡ sum_below (length instance.now.shape.students) (λ s. price prices.now s t) }
     ensures bounded { IsBoundedBy (500 * 1000000) result }
 {
     let mut total = 0;
-    for n in 0..prices.len() {
-        total += prices[n][t];
+    for student in 0..instance.student_count() {
+        total += prices[student][t];
     }
     total
 }
@@ -48,7 +48,6 @@ fn projects_total(instance: &Instance, prices: &[[i64; PLACES]], t: usize) -> i6
     ensures value { result ≡ sum_below (length instance.now.shape.projects) (λ p. pos (project_quota instance.now.shape p) *ℤ price prices.now p t) }
     ensures bounded { IsBoundedBy (400 * 500000000) result }
 {
-    instance.fit();
     let mut total = 0;
     for project in 0..instance.project_count() {
         total += multiple(instance.project_quota(project), &prices[project], t);
@@ -64,7 +63,6 @@ fn supervisors_total(instance: &Instance, prices: &[[i64; PLACES]], t: usize) ->
     ensures value { result ≡ sum_below (length instance.now.shape.supervisors) (λ l. pos (supervisor_quota instance.now.shape l) *ℤ price prices.now l t) }
     ensures bounded { IsBoundedBy (100 * 500000000) result }
 {
-    instance.fit();
     let mut total = 0;
     for supervisor in 0..instance.supervisor_count() {
         total += multiple(
@@ -82,8 +80,7 @@ fn total_at(instance: &Instance, prices: &Prices, t: usize) -> i64
     requires shape { HasShape instance.now.shape prices.now }
     ensures { result ≡ value instance.now.shape (price prices.now.students.items) (price prices.now.projects.items) (price prices.now.supervisors.items) t }
 {
-    instance.fit();
-    let students = students_total(&prices.students, t);
+    let students = students_total(instance, &prices.students, t);
     let projects = projects_total(instance, &prices.projects, t);
     let supervisors = supervisors_total(instance, &prices.supervisors, t);
     students + projects + supervisors

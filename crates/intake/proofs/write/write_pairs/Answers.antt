@@ -11,7 +11,7 @@ pub loop-s-preserved : goal.loop-s-preserved
 loop-s-preserved c =
     let i = c.args.instance.now in
     let s : ℕ = c.loop-s.s in
-    let fit = c.fit.ensures in
+    let fit = c.student_codes-codes.ensures.fit in
     let within : s < length c.args.places.now = c.loop-s-test.true in
     let listed : s < length i.shape.students = omega (arith, c.requires.one_each) in
     let coded : s < length i.student_codes = omega (arith, fit.students.one_each) in
@@ -25,8 +25,8 @@ loop-s-preserved c =
           let named : q < length i.project_codes = omega (arith, fit.projects.one_each) in
           let student : List ℕ = w.as_str.result.now in
           let project : List ℕ = w.as_str-in-Some.result.now in
-          let student_is : get_or i.student_codes s [] ≡ student = sym (w.as_str.ensures.value ∙ get_or_read i.student_codes s w.index-codes-s.result coded (rw c.student_codes-codes.ensures at w.index-codes-s.is) []) in
-          let project_is : get_or i.project_codes q [] ≡ project = sym (w.as_str-in-Some.ensures.value ∙ get_or_read i.project_codes q w.index-projects-project.result named (rw (c.project_codes-projects.ensures, w.choice-project.ensures) at w.index-projects-project.is) []) in
+          let student_is : get_or i.student_codes s [] ≡ student = sym (w.as_str.ensures.value ∙ get_or_read i.student_codes s w.index-codes-s.result coded (rw c.student_codes-codes.ensures.codes at w.index-codes-s.is) []) in
+          let project_is : get_or i.project_codes q [] ≡ project = sym (w.as_str-in-Some.ensures.value ∙ get_or_read i.project_codes q w.index-projects-project.result named (rw (c.project_codes-projects.ensures.codes, w.choice-project.ensures.choice) at w.index-projects-project.is) []) in
           let some = pairs_some i.project_codes i.student_codes i.shape.students c.args.places.now s k q student project coded listed within here few refl student_is project_is in
           ap (λ out. string_bytes out ++ pair_text i.project_codes (drop (s + 1) i.student_codes) (drop (s + 1) i.shape.students) (drop (s + 1) c.args.places.now)) w.out-is
           ∙ next (string_bytes c.loop-s.out) (string_bytes w.push_pair.new.out) (line (codes "M") (student ∷ project ∷ []) ++ 10 ∷ [])

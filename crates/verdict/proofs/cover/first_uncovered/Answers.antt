@@ -12,4 +12,4 @@ loop-student-preserved c =
     λ r k h l. below_more (λ r. (k : ℕ) → IsPlaceOf (list_of c.args.instance.now.shape r) k → ¬ IsUncoveredAt greedy c.args.instance.now.shape c.args.prices.now r k) c.loop-student.student (λ r h k. c.loop-student.invariant r k h) c.in_default.ensures r h k l
 
 pub returns : goal.returns
-returns c = λ s k h. let n = c.student_count-student-end.ensures in c.loop-student.invariant s k (omega arith)
+returns c = λ s k h. let n = c.student_count-student-end.ensures.count in c.loop-student.invariant s k (omega arith)

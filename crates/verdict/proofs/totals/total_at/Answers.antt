@@ -11,7 +11,7 @@ returns c =
     let y = rw c.deref-2.ensures.value at c.projects_total-projects.ensures in
     let z = rw c.deref-3.ensures.value at c.supervisors_total-supervisors.ensures in
     let us : c.students_total-students.result ≡ sum_below (length c.args.instance.now.shape.students) (λ s. price c.args.prices.now.students.items s c.args.t) =
-    subst (λ (m : ℕ). c.students_total-students.result ≡ sum_below m (λ s. price c.args.prices.now.students.items s c.args.t)) c.requires.shape.students u.value in
+    u.value in
     let ys : c.projects_total-projects.result ≡ sum_below (length c.args.instance.now.shape.projects) (λ p. pos (project_quota c.args.instance.now.shape p) *ℤ price c.args.prices.now.projects.items p c.args.t) = y.value in
     let zs : c.supervisors_total-supervisors.result ≡ sum_below (length c.args.instance.now.shape.supervisors) (λ l. pos (supervisor_quota c.args.instance.now.shape l) *ℤ price c.args.prices.now.supervisors.items l c.args.t) = z.value in
     rw (sym us, sym ys, sym zs) (sum_fits c.students_total-students.result c.projects_total-projects.result c.supervisors_total-supervisors.result u.bounded y.bounded z.bounded)
