@@ -1,11 +1,8 @@
 //! Whether a matching is greedy maximum, and a better one where it is not.
 #![tactic(auto)]
 
-ghost use Rattle.std.specs.Prelude.{◌≡◌, ℕ, ◌<◌, IfOk};
-ghost use Rattle.spa.specs.Row.{at};
-ghost use Rattle.spa.specs.Matching.{weight_row};
-ghost use Rattle.spa.specs.Matched.{pairs, HasPlaces, IsMatched};
-ghost use Rattle.spa.specs.declared.TheConstants.{PLACES};
+ghost use Rattle.std.specs.Prelude.{IfOk};
+ghost use Rattle.spa.specs.Matched.{IsMatched};
 ghost use Rattle.solver.specs.Audited.{IsAudit};
 
 use crate::outcome::Audit;

@@ -1,8 +1,8 @@
 //! Matchings: for each student a place in the list, or none.
 #![tactic(auto)]
 
-ghost use Rattle.std.specs.Prelude.{◌≡◌, ℕ, ◌+◌, ◌<◌, ◌≤◌, ◌↔◌, length, slice_index, slice_index_or, Some, None, IsNone, IsSome, IfSome, IfNone, MatchOption};
-ghost use Rattle.spa.specs.Shape.{list_of, supervisor_of, project_quota, supervisor_quota};
+ghost use Rattle.std.specs.Prelude.{◌≡◌, ℕ, ◌+◌, ◌<◌, ◌≤◌, ◌↔◌, length, slice_index, Some, None, IsNone, IfSome, MatchOption};
+ghost use Rattle.spa.specs.Shape.{supervisor_of, project_quota, supervisor_quota};
 ghost use Rattle.spa.specs.Matching.{profile, weight_row};
 ghost use Rattle.spa.specs.Row.{at};
 ghost use Rattle.spa.specs.Named.{IsFit};

@@ -5,9 +5,8 @@ ghost use Rattle.std.specs.Prelude.{◌≡◌, ◌*◌, ◌<◌, ◌≤◌, ◌�
 ghost use Rattle.spa.specs.Order.{sum_below};
 ghost use Rattle.spa.specs.Row.{at};
 ghost use Rattle.spa.specs.Shape.{project_quota, supervisor_quota};
-ghost use Rattle.spa.specs.Matching.{weight_row};
 ghost use Rattle.spa.specs.Prices.{value};
-ghost use Rattle.spa.specs.Matched.{pairs, HasPlaces};
+ghost use Rattle.spa.specs.Matched.{HasPlaces};
 ghost use Rattle.verdict.specs.Rows.{price, AllInRange, EachInRange, IsBoundedBy};
 ghost use Rattle.verdict.specs.Verdict.{HasShape, IsEqual};
 
