@@ -1,5 +1,5 @@
 -- Runs of a desk over the messages of a stream.
-use Rattle.std.specs.Prelude.{◌≡◌, codes, ℕ, ◌+◌, List, [], ◌∷◌, slice_range, Option, Some, None, IfSome, Result, Ok, Err}
+use Rattle.std.specs.Prelude.{◌≡◌, codes, ℕ, ◌+◌, List, [], ◌∷◌, slice_range, Option, Some, None, Result, Ok, Err}
 use Rattle.wire.specs.declared.outcome.StreamFault.{StreamFault}
 use Rattle.wire.specs.declared.outcome.StreamFault.TheVariants.{Memory, Read, Write}
 use Rattle.wire.specs.declared.outcome.End.{End}
@@ -33,10 +33,6 @@ Run {S} step s [] [] t = s ≡ t
 Run {S} step s (m ∷ messages) (a ∷ answers) t = (u : S) × step s (said m) a u × Run step u messages answers t
 Run {S} step s [] (a ∷ answers) t = ⊥
 Run {S} step s (m ∷ messages) [] t = ⊥
-
--- the bytes are these, where they are known
-abbrev pub Tells : Option (List ℕ) → List ℕ → Type 0
-Tells known bytes = IfSome known (λ xs. xs ≡ bytes)
 
 -- the bytes that are left, none where they are not known
 abbrev pub unread : Option (List ℕ) → List ℕ

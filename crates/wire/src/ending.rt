@@ -1,5 +1,5 @@
 //! What is written at a stream's end.
-ghost use Rattle.std.specs.Prelude.{◌≡◌, ℕ, ◌+◌, ◌-◌, ◌^◌, ◌<◌, take, IfOk, OnOk, OnErr, IfErr};
+ghost use Rattle.std.specs.Prelude.{◌≡◌, ℕ, ◌+◌, ◌-◌, ◌^◌, ◌<◌, length, take, IfOk, OnOk, OnErr, IfErr};
 ghost use Rattle.std.specs.Io.KnownBytes.{Appends};
 ghost use Rattle.wire.specs.Run.{last_words, last_count};
 
@@ -38,8 +38,8 @@ pub fn finish<W: Sink>(writer: &mut W, end: End, answered: u32) -> Result<Served
     requires few { answered < 100 }
     ensures ok { IfOk result (λ s. s ≡ record { answered = answered + last_count end; end = end }) }
     ensures wrote { OnOk result (Appends (W.written writer.old) (W.written writer.new) (last_words end)) }
-    ensures err { OnErr result
-        ((n : ℕ) × Appends (W.written writer.old) (W.written writer.new) (take n (last_words end))) }
+    ensures err { OnErr result ((n : ℕ) × (n < length (last_words end))
+        × Appends (W.written writer.old) (W.written writer.new) (take n (last_words end))) }
     ensures fault { IfErr result (λ e. e ≡ StreamFault.Write) }
     ensures count_ok { OnOk result (W.failures writer.new ≡ W.failures writer.old) }
     ensures count_err { OnErr result (W.failures writer.new ≡ W.failures writer.old + 1) }

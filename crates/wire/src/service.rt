@@ -47,7 +47,7 @@ fn serve_one<D, H: Handler<D>, W: Sink>(
     ensures ok { OnOk result ((a : List ℕ) × H.step desk.old (said_at buffer.old.items parts) a desk.new
         × Appends (W.written writer.old) (W.written writer.new) a) }
     ensures err { OnErr result ((a : List ℕ) × H.step desk.old (said_at buffer.old.items parts) a desk.new
-        × (n : ℕ) × Appends (W.written writer.old) (W.written writer.new) (take n a)) }
+        × (n : ℕ) × (n < length a) × Appends (W.written writer.old) (W.written writer.new) (take n a)) }
     ensures holds { H.holds desk.new }
     ensures taken { OnOk result (buffer.new.items ≡ drop (parts.head + parts.body) buffer.old.items) }
     ensures capacity { vec_capacity buffer.new ≡ vec_capacity buffer.old }
@@ -122,8 +122,8 @@ fn serve_messages<D, H: Handler<D>, R: Source, W: Sink>(
     requires capacity { MOST ≤ vec_capacity buffer.old }
     requires empty { buffer.old.items ≡ [] }
     requires fields { length headers.old ≡ FIELDS }
-    ensures served { IfOk result (λ served. ServedTo H.step desk.old
-        (R.left reader.old) (W.written writer.old) (W.written writer.new) served desk.new) }
+    ensures served { IfOk result (λ served. ServedTo H.step desk.old (R.left reader.old) (W.written writer.old)
+        (R.left reader.new) (W.written writer.new) served desk.new) }
     ensures broken { IfErr result (λ fault. BrokeOff H.step desk.old (R.left reader.old) (W.written writer.old)
         (R.left reader.new) (W.written writer.new) desk.new fault) }
     ensures holds { H.holds desk.new }
@@ -158,8 +158,8 @@ pub fn serve_stream<D, H: Handler<D>, R: Source, W: Sink>(
     requires read_failures { R.failures reader.old < 2 ^ 64 - 1 }
     requires write_failures { W.failures writer.old < 2 ^ 64 - 1 }
     requires holds { H.holds desk.old }
-    ensures served { IfOk result (λ served. ServedTo H.step desk.old
-        (R.left reader.old) (W.written writer.old) (W.written writer.new) served desk.new) }
+    ensures served { IfOk result (λ served. ServedTo H.step desk.old (R.left reader.old) (W.written writer.old)
+        (R.left reader.new) (W.written writer.new) served desk.new) }
     ensures broken { IfErr result (λ fault. BrokeOff H.step desk.old (R.left reader.old) (W.written writer.old)
         (R.left reader.new) (W.written writer.new) desk.new fault) }
 

@@ -70,7 +70,7 @@ returns-in-Some-clause-broken g c =
 
 -- a hundred messages were answered
 hundred : {S : Type 0} (step : S → Said → List ℕ → S → Type 0) (before now : S) (left0 w0 left w : Option (List ℕ)) (rest : List ℕ) (count : ℕ)
-    → SoFar step before left0 w0 left w rest count now → count ≡ 100 → ServedTo step before left0 w0 w (record { answered = 100; end = Hundred }) now
+    → SoFar step before left0 w0 left w rest count now → count ≡ 100 → ServedTo step before left0 w0 left w (record { answered = 100; end = Hundred }) now
 hundred step before now left0 w0 left w rest count so e =
     hundred_here step before now left0 w0 left w rest (subst (λ (k : ℕ). SoFar step before left0 w0 left w rest k now) e so)
 

@@ -28,7 +28,7 @@ returns-in-Err-serve_one-clause-breaks g c =
     (g.W.Sink.written c.serve_one.new.writer) c.args.buffer.now.items c.read_next.new.buffer.items c.args.desk.now c.serve_one.new.desk c.in-Err-serve_one.fault
     c.in-Message.parts said.0 said.2 c.in-Ok.ensures.grows
     (found_as c.read_next.new.buffer.items (g.R.Source.left c.read_next.new.reader) c.in-Ok.found (Message c.in-Message.parts) c.in-Message.is c.in-Ok.ensures.finds)
-    said.1 said.3 c.in-Err-serve_one.ensures.fault
+    said.1 said.3 said.4 c.in-Err-serve_one.ensures.fault
 
 pub returns-in-Ok-serve_one-clause-answers : goal.returns-in-Ok-serve_one-clause-answers
 returns-in-Ok-serve_one-clause-answers g c =
