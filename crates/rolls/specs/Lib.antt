@@ -3,7 +3,7 @@ pub mod Place
 pub mod State
 pub mod Fit
 pub mod Asked
-pub mod Numbers
+pub mod Told
 pub mod Refusing
 pub mod Stepping
 pub mod Rows
