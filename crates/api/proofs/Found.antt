@@ -1,11 +1,8 @@
--- The path of each entry finds its row in the router.
-use Rattle.std.proofs.Common.{◌≡◌, ℕ, zero, suc, ◌+◌, ◌-◌, ◌==◌, ◌⊎◌, inl, inr, Bool, true, false, cond, List, [], ◌∷◌, ◌++◌, length, Option, Some, None, refl, sym, ap, ◌∙◌, arith, codes}
+-- What a path finds in the rows of a router.
+use Rattle.std.proofs.Common.{◌≡◌, ℕ, zero, suc, ◌-◌, ◌==◌, ◌⊎◌, inl, inr, Bool, true, false, cond, not, List, [], ◌∷◌, ◌++◌, length, Option, Some, None, refl, ap, ◌∙◌, arith}
 use Rattle.matchit.specs.Seek.{first, seek, param_step, or_else, has_slash, own, step, slash}
 use Rattle.matchit.specs.Rows.{RowsOf}
-use Rattle.matchit.specs.Router.{RouteOf}
-use Rattle.web.specs.Paths.{row, all_routes, front_of, is_empty}
-use Rattle.web.specs.declared.routes.Kind.{Kind}
-use Rattle.web.specs.declared.routes.Kind.TheVariants.{Supervisor, Project, Student}
+use Rattle.api.specs.Routes.{is_segment}
 
 -- the rows that go on with these bytes
 abbrev pub steps : {K : Type 0} → List ℕ → RowsOf K → RowsOf K
@@ -39,7 +36,7 @@ neither : {K : Type 0} (o p : Option K) → o ≡ None → p ≡ None → or_els
 neither o p e f = ap (λ v. or_else v (or_else p None)) e ∙ ap (λ v. or_else v None) f
 
 -- no rows find nothing
-nothing_else : {K : Type 0} (k : ℕ) (path : List ℕ) → seek {K = K} k [] path ≡ None
+pub nothing_else : {K : Type 0} (k : ℕ) (path : List ℕ) → seek {K = K} k [] path ≡ None
 unfolding seek param_step
 nothing_else k [] = refl
 nothing_else (suc k) (b ∷ path) = nothing_else k path
@@ -67,33 +64,17 @@ beside true k path = ended k path
 beside false k path = inl (nothing_else 0 path)
 
 -- a parameter at the end takes a segment
-pub param_leaf : {K : Type 0} (k : K) (text : List ℕ) → is_empty text ≡ false → has_slash text ≡ false → first ((256 ∷ [], k) ∷ []) text ≡ Some k
+pub param_leaf : {K : Type 0} (k : K) (text : List ℕ) → is_segment text ≡ true → first ((256 ∷ [], k) ∷ []) text ≡ Some k
 unfolding seek param_step
-param_leaf k [] some plain = absurd (let e : true ≡ false = some in cc)
-param_leaf {K} k (b ∷ text) some plain =
+param_leaf k [] segment = absurd (let e : false ≡ true = segment in cc)
+param_leaf {K} k (b ∷ text) segment =
     let rest : RowsOf K = ([], k) ∷ [] in
     let both : Bool → ℕ × RowsOf K = λ v. cond v (0, []) (suc (length text), rest) in
     let one : suc (length text) - 1 ≡ length text = omega arith in
     second (seek 0 (cond (256 == b) rest []) text) (seek ((both (cond (b == slash) true (has_slash text))).0 - 1) (both (cond (b == slash) true (has_slash text))).1 text) k
     (beside (256 == b) k text)
-    (ap (λ v. seek ((both v).0 - 1) (both v).1 text) plain ∙ ap (λ n. seek n rest text) one ∙ skip_all rest text)
-
--- the row of a kind
-pub row_of : Kind → RouteOf Kind
-row_of Supervisor = (row (codes "/supervisors/" ++ 256 ∷ []) (codes "/supervisors/{code}") ((14, 18) ∷ []) Supervisor).1
-row_of Project = (row (codes "/projects/" ++ 256 ∷ []) (codes "/projects/{code}") ((11, 15) ∷ []) Project).1
-row_of Student = (row (codes "/students/" ++ 256 ∷ []) (codes "/students/{code}") ((11, 15) ∷ []) Student).1
-
--- the value of a kind's row
-pub row_of-value : (kind : Kind) → (row_of kind).value ≡ kind
-unfolding row_of
-row_of-value Supervisor = refl
-row_of-value Project = refl
-row_of-value Student = refl
-
--- the path of each entry finds its row
-pub finds_row : (kind : Kind) (code : List ℕ) → is_empty code ≡ false → has_slash code ≡ false → first all_routes (front_of kind ++ code) ≡ Some (row_of kind)
-unfolding all_routes row_of
-finds_row Supervisor code some plain = found_along (codes "/supervisors/") all_routes code (row_of Supervisor) (param_leaf (row_of Supervisor) code some plain)
-finds_row Project code some plain = found_along (codes "/projects/") all_routes code (row_of Project) (param_leaf (row_of Project) code some plain)
-finds_row Student code some plain = found_along (codes "/students/") all_routes code (row_of Student) (param_leaf (row_of Student) code some plain)
+    (ap (λ v. seek ((both v).0 - 1) (both v).1 text) (plain (cond (b == slash) true (has_slash text)) segment) ∙ ap (λ n. seek n rest text) one ∙ skip_all rest text)
+  where
+    plain : (v : Bool) → not v ≡ true → v ≡ false
+    plain true e = absurd (let f : false ≡ true = e in cc)
+    plain false e = refl

@@ -1,15 +1,18 @@
 -- The request of a message.
-use Rattle.std.specs.Prelude.{List, [], ◌∷◌, ℕ, Option, Some, None, option_map, Result, Ok, Err, codes, if◌then◌else◌}
-use Rattle.std.specs.Str.{bytes_eq, is_utf8}
+use Rattle.std.specs.Prelude.{◌≡◌, ◌⊎◌, List, [], ◌∷◌, ℕ, Option, Some, None, option_map, Result, Ok, Err, codes, if◌then◌else◌}
+use Rattle.std.specs.Str.{bytes_eq}
 use Rattle.serde_json.specs.Data.{Data}
 use Rattle.rolls.specs.declared.refusal.Refusal.{Refusal}
 use Rattle.rolls.specs.declared.refusal.Refusal.TheVariants as no
 use Rattle.rolls.specs.Asked.{Asked, Plain, Put, PutSupervisor, PutProject, PutStudent, GetSupervisor, GetProject, GetStudent}
 use Rattle.wire.specs.Run.{Said}
-use Rattle.web.specs.declared.routes.Kind.{Kind}
-use Rattle.web.specs.declared.routes.Kind.TheVariants.{Supervisor, Project, Student}
-use Rattle.web.specs.Paths.{place_of}
-use Rattle.web.specs.Members.{json_of, name_of, supervisor_members, project_members}
+use Rattle.api.specs.declared.routes.Methods.{Methods}
+use Rattle.api.specs.declared.routes.Form.{Form}
+use Rattle.api.specs.declared.routes.Form.TheVariants.{Empty, Object}
+use Rattle.api.specs.declared.routes.Kind.{Kind}
+use Rattle.api.specs.declared.routes.Kind.TheVariants.{Supervisor, Project, Student}
+use Rattle.api.specs.Routes.{Names, IsNowhere}
+use Rattle.api.specs.Members.{json_of, name_of, supervisor_members, project_members}
 
 -- what the members of a body ask to be put under a code
 abbrev pub put_by : Kind → List ℕ → Data → Option Put
@@ -28,28 +31,47 @@ abbrev pub asked_or : Option Put → Result Asked Refusal
 asked_or None = Err no.Members
 asked_or (Some p) = Ok (Plain p)
 
--- what a PUT asks, by what its body is in JSON
-abbrev pub put_asked : Kind → List ℕ → Option Data → Result Asked Refusal
-put_asked kind code None = Err no.Json
-put_asked kind code (Some d) = asked_or (put_by kind code d)
+-- what is asked by members, by what the body is in JSON
+abbrev pub object_asks : (Data → Option Put) → Option Data → Result Asked Refusal
+object_asks put None = Err no.Json
+object_asks put (Some d) = asked_or (put d)
 
--- what a GET asks, whose body is to be empty
-abbrev pub get_asked : Kind → List ℕ → List ℕ → Result Asked Refusal
-get_asked kind code [] = Ok (Plain (get_by kind code))
-get_asked kind code (b ∷ body) = Err no.Members
+-- what is asked by an empty body
+abbrev pub empty_asks : Put → List ℕ → Result Asked Refusal
+empty_asks p [] = Ok (Plain p)
+empty_asks p (b ∷ body) = Err no.Members
 
--- what is asked of a place: its methods are PUT and GET
-abbrev pub asked_at : Option (Kind × List ℕ) → List ℕ → List ℕ → Result Asked Refusal
-asked_at None method body = Err no.NoRoute
-asked_at (Some place) method body =
-    if bytes_eq method (codes "PUT") then put_asked place.0 place.1 (json_of body)
-    else if bytes_eq method (codes "GET") then get_asked place.0 place.1 body
-    else Err no.WrongMethod
+-- what a body asks
+abbrev pub by_body : Form → List ℕ → List ℕ → Result Asked Refusal
+by_body (Empty kind) code body = empty_asks (get_by kind code) body
+by_body (Object kind) code body = object_asks (put_by kind code) (json_of body)
 
--- what a target names, if it is a text
-abbrev pub target_place : List ℕ → Option (Kind × List ℕ)
-target_place target = if is_utf8 target then place_of target else None
+-- what a method asks of a path
+abbrev pub by_method : Methods → List ℕ → Option Form
+by_method methods method =
+    if bytes_eq method (codes "GET") then methods.get
+    else if bytes_eq method (codes "PUT") then methods.put
+    else if bytes_eq method (codes "POST") then methods.post
+    else if bytes_eq method (codes "DELETE") then methods.delete
+    else None
 
--- the request of a message, or the refusal by its path, its method and its body, in this order
-abbrev pub request_of : Said → Result Asked Refusal
-request_of said = asked_at (target_place said.target) said.method said.body
+-- what is asked, where the path has the method
+abbrev pub asked_by : Option Form → List ℕ → List ℕ → Result Asked Refusal
+asked_by None code body = Err no.WrongMethod
+asked_by (Some form) code body = by_body form code body
+
+-- the text that stands for the first parameter of a path
+abbrev pub first_of : List (List ℕ) → List ℕ
+first_of [] = []
+first_of (v ∷ values) = v
+
+-- a message asks this of a route that its path names
+pub record AsksRoute (said : Said) (asked : Result Asked Refusal) : Type 0 where
+  pub methods : Methods
+  pub values : List (List ℕ)
+  pub path : Names said.target methods values
+  pub request : asked ≡ asked_by (by_method methods said.method) (first_of values) said.body
+
+-- what a message asks, or its refusal: by its path, its method and its body, in this order
+abbrev pub Asks : Said → Result Asked Refusal → Type 0
+Asks said asked = AsksRoute said asked ⊎ (IsNowhere said.target × (asked ≡ Err no.NoRoute))

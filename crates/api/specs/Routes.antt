@@ -1,58 +1,72 @@
--- What a path names, and the rows of the router.
-use Rattle.std.specs.Prelude.{ℕ, ◌==◌, Bool, true, false, not, ◌&&◌, List, [], ◌∷◌, ◌++◌, Option, Some, None, option_map, codes, if◌then◌else◌}
-use Rattle.std.specs.Str.{bytes_eq}
+-- The routes, and what a path names.
+use Rattle.std.specs.Prelude.{◌≡◌, ◌⊎◌, ℕ, ◌+◌, ◌==◌, Bool, true, false, not, List, [], ◌∷◌, ◌++◌, length, Option, Some, None, option_map, codes, if◌then◌else◌}
+use Rattle.std.specs.Str.{IsUtf8}
+use Rattle.matchit.specs.Seek.{has_slash}
 use Rattle.matchit.specs.Rows.{RowsOf}
 use Rattle.matchit.specs.Router.{RouteOf}
-use Rattle.web.specs.declared.routes.Kind.{Kind}
-use Rattle.web.specs.declared.routes.Kind.TheVariants.{Supervisor, Project, Student}
+use Rattle.api.specs.declared.routes.Methods.{Methods}
+use Rattle.api.specs.declared.routes.Form.TheVariants.{Empty, Object}
+use Rattle.api.specs.declared.routes.Kind.{Kind}
+use Rattle.api.specs.declared.routes.Kind.TheVariants.{Supervisor, Project, Student}
 
--- a byte at the front of the first of these texts
-abbrev pub onto_first : ℕ → List (List ℕ) → List (List ℕ)
-onto_first b [] = (b ∷ []) ∷ []
-onto_first b (text ∷ texts) = (b ∷ text) ∷ texts
+-- an entry of the rolls is put and read
+abbrev pub entry : Kind → Methods
+entry kind = record { get = Some (Empty kind); put = Some (Object kind); post = None; delete = None }
 
--- the parts of a path between its slashes
-abbrev pub segments : List ℕ → List (List ℕ)
-segments [] = [] ∷ []
-segments (b ∷ path) = if b == 47 then [] ∷ segments path else onto_first b (segments path)
+-- a row of the router: what comes before the one parameter of a path, and its name; 256 stands for the parameter
+abbrev pub row : List ℕ → List ℕ → Methods → List ℕ × RouteOf Methods
+row front name methods = (
+  front ++ 256 ∷ [],
+  record {
+    pattern = front ++ 256 ∷ [];
+    text = front ++ 123 ∷ name ++ 125 ∷ [];
+    names = (length front + 1, length front + 1 + length name) ∷ [];
+    value = methods;
+  },
+)
 
--- a text without a byte
-abbrev pub is_empty : List ℕ → Bool
-is_empty [] = true
-is_empty (b ∷ text) = false
-
--- the kind of entry that a word names
-abbrev pub kind_of : List ℕ → Option Kind
-kind_of word =
-    if bytes_eq word (codes "supervisors") then Some Supervisor
-    else if bytes_eq word (codes "projects") then Some Project
-    else if bytes_eq word (codes "students") then Some Student
-    else None
-
--- what these segments name: the word of a kind, and a code that is not empty
-abbrev pub place_at : List (List ℕ) → Option (Kind × List ℕ)
-place_at (root ∷ word ∷ code ∷ []) =
-    if is_empty root && not (is_empty code) then option_map (λ kind. (kind, code)) (kind_of word) else None
-place_at _ = None
-
--- what a path names
-abbrev pub place_of : List ℕ → Option (Kind × List ℕ)
-place_of path = place_at (segments path)
-
--- what stands before the code in the path of an entry
-abbrev pub front_of : Kind → List ℕ
-front_of Supervisor = codes "/supervisors/"
-front_of Project = codes "/projects/"
-front_of Student = codes "/students/"
-
--- a row of the router
-abbrev pub row : List ℕ → List ℕ → List (ℕ × ℕ) → Kind → List ℕ × RouteOf Kind
-row pattern text names kind = (pattern, record { pattern = pattern; text = text; names = names; value = kind })
-
--- the rows of the router; 256 stands for a parameter
-unfoldable pub all_routes : RowsOf (RouteOf Kind)
+-- the routes, in the router's order
+unfoldable pub all_routes : RowsOf (RouteOf Methods)
 all_routes =
-    row (codes "/projects/" ++ 256 ∷ []) (codes "/projects/{code}") ((11, 15) ∷ []) Project
-    ∷ row (codes "/students/" ++ 256 ∷ []) (codes "/students/{code}") ((11, 15) ∷ []) Student
-    ∷ row (codes "/supervisors/" ++ 256 ∷ []) (codes "/supervisors/{code}") ((14, 18) ∷ []) Supervisor
+    row (codes "/projects/") (codes "code") (entry Project)
+    ∷ row (codes "/students/") (codes "code") (entry Student)
+    ∷ row (codes "/supervisors/") (codes "code") (entry Supervisor)
     ∷ []
+
+-- a pattern with these texts put in for its parameters, in order
+abbrev pub fill : List ℕ → List (List ℕ) → Option (List ℕ)
+fill [] [] = Some []
+fill [] (v ∷ values) = None
+fill (x ∷ pattern) [] = if x == 256 then None else option_map (λ path. x ∷ path) (fill pattern [])
+fill (x ∷ pattern) (v ∷ values) =
+    if x == 256 then option_map (λ path. v ++ path) (fill pattern values)
+    else option_map (λ path. x ∷ path) (fill pattern (v ∷ values))
+
+-- a part of a path between slashes, not empty
+abbrev pub is_segment : List ℕ → Bool
+is_segment [] = false
+is_segment (b ∷ text) = not (has_slash (b ∷ text))
+
+-- each of them is one
+abbrev pub AreSegments : List (List ℕ) → Type 0
+AreSegments [] = Unit {0}
+AreSegments (v ∷ values) = (is_segment v ≡ true) × AreSegments values
+
+-- one of the rows has this pattern and this value
+abbrev pub HasRow : {K : Type 0} → List ℕ → K → RowsOf K → Type 0
+HasRow pattern value [] = ⊥
+HasRow pattern value ((p, k) ∷ rows) = ((pattern ≡ p) × (value ≡ k)) ⊎ HasRow pattern value rows
+
+-- the path is a text, the pattern of a route with these segments for its parameters
+pub record Names (path : List ℕ) (methods : Methods) (values : List (List ℕ)) : Type 0 where
+  pub pattern : List ℕ
+  pub route : RouteOf Methods
+  pub listed : HasRow pattern route all_routes
+  pub value : methods ≡ route.value
+  pub text : IsUtf8 path
+  pub filled : fill pattern values ≡ Some path
+  pub segments : AreSegments values
+
+-- no route has the path
+abbrev pub IsNowhere : List ℕ → Type 0
+IsNowhere path = (methods : Methods) (values : List (List ℕ)) → Names path methods values → ⊥

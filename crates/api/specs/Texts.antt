@@ -3,57 +3,14 @@ use Rattle.std.specs.Prelude.{ℕ, List, Result, Ok, Err, codes}
 use Rattle.serde_json.specs.Data.{Data, null, number, unsigned, string, object, member, no_members}
 use Rattle.serde_json.specs.Written.{compact_text}
 use Rattle.rolls.specs.declared.refusal.Refusal.{Refusal}
-use Rattle.rolls.specs.declared.refusal.Refusal.TheVariants as no
 use Rattle.rolls.specs.declared.request.Reply.{Reply}
 use Rattle.rolls.specs.declared.request.Reply.TheVariants as reply
-use Rattle.rolls.specs.Numbers.{number_of}
-use Rattle.wire.specs.Text.{json_answer, fault_answer}
-
--- the name of a refusal
-abbrev pub refusal_name : Refusal → List ℕ
-refusal_name no.Memory = codes "Memory"
-refusal_name no.Storage = codes "Storage"
-refusal_name no.BadHead = codes "BadHead"
-refusal_name no.TooLarge = codes "TooLarge"
-refusal_name no.NoRoute = codes "NoRoute"
-refusal_name no.WrongMethod = codes "WrongMethod"
-refusal_name no.Json = codes "Json"
-refusal_name no.Members = codes "Members"
-refusal_name no.Code = codes "Code"
-refusal_name no.Label = codes "Label"
-refusal_name no.Quota = codes "Quota"
-refusal_name no.RollFull = codes "RollFull"
-refusal_name no.UnknownSupervisor = codes "UnknownSupervisor"
-refusal_name no.UnknownProject = codes "UnknownProject"
-refusal_name no.UnknownStudent = codes "UnknownStudent"
-refusal_name no.SupervisorFixed = codes "SupervisorFixed"
-refusal_name no.BelowPlaced = codes "BelowPlaced"
-refusal_name no.Damaged = codes "Damaged"
-
--- the status of a refusal; the last is of an opening and never answered
-abbrev pub refusal_status : Refusal → ℕ
-refusal_status no.Memory = 503
-refusal_status no.Storage = 503
-refusal_status no.BadHead = 400
-refusal_status no.TooLarge = 413
-refusal_status no.NoRoute = 404
-refusal_status no.WrongMethod = 405
-refusal_status no.Json = 400
-refusal_status no.Members = 400
-refusal_status no.Code = 400
-refusal_status no.Label = 400
-refusal_status no.Quota = 400
-refusal_status no.RollFull = 409
-refusal_status no.UnknownSupervisor = 404
-refusal_status no.UnknownProject = 404
-refusal_status no.UnknownStudent = 404
-refusal_status no.SupervisorFixed = 409
-refusal_status no.BelowPlaced = 409
-refusal_status no.Damaged = 503
+use Rattle.rolls.specs.Told.{number_of, status_of, name_of}
+use Rattle.api.specs.Text.{json_answer, fault_answer}
 
 -- the answer of a refusal
 abbrev pub refusal_text : Refusal → List ℕ
-refusal_text refusal = fault_answer (refusal_status refusal) (refusal_name refusal) (number_of refusal)
+refusal_text refusal = fault_answer (status_of refusal) (name_of refusal) (number_of refusal)
 
 -- a supervisor in JSON
 abbrev pub supervisor_data : List ℕ → ℕ → ℕ → Data

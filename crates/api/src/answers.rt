@@ -1,13 +1,14 @@
 //! Answers in a fixed array, which take no memory.
 ghost use Rattle.std.specs.Prelude.{◌≡◌, ◌+◌, ◌≤◌, ◌++◌, length, decimal};
 ghost use Rattle.arrayvec.specs.ArrayVec.{array_vec_len};
-ghost use Rattle.wire.specs.Text.{reason_of, status_line, json_fields, json_head, json_answer, fault_body, fault_answer};
+ghost use Rattle.api.specs.Text.{reason_of, status_line, json_fields, json_head, json_answer, fault_body, fault_answer};
 
 use arrayvec::ArrayVec;
 use http::StatusCode;
+use wire::ShortText;
 
 /// Appends bytes.
-fn push(out: &mut ArrayVec<u8, 320>, bytes: &[u8])
+fn push(out: &mut ShortText, bytes: &[u8])
     requires { array_vec_len out.old + length bytes.now ≤ 320 }
     ensures { out.new.items ≡ out.old.items ++ bytes.now }
 {
@@ -15,7 +16,7 @@ fn push(out: &mut ArrayVec<u8, 320>, bytes: &[u8])
 }
 
 /// Appends a number's digits.
-fn push_number(out: &mut ArrayVec<u8, 320>, number: u64)
+fn push_number(out: &mut ShortText, number: u64)
     requires { array_vec_len out.old + 20 ≤ 320 }
     ensures items { out.new.items ≡ out.old.items ++ decimal number }
     ensures len { array_vec_len out.new ≤ array_vec_len out.old + 20 }
@@ -25,7 +26,7 @@ fn push_number(out: &mut ArrayVec<u8, 320>, number: u64)
 }
 
 /// Appends a label and a number.
-fn push_labelled(out: &mut ArrayVec<u8, 320>, label: &[u8], number: u64)
+fn push_labelled(out: &mut ShortText, label: &[u8], number: u64)
     requires { array_vec_len out.old + (length label.now + 20) ≤ 320 }
     ensures items { out.new.items ≡ out.old.items ++ (label.now ++ decimal number) }
     ensures len { array_vec_len out.new ≤ array_vec_len out.old + (length label.now + 20) }
@@ -35,7 +36,7 @@ fn push_labelled(out: &mut ArrayVec<u8, 320>, label: &[u8], number: u64)
 }
 
 /// Appends a refusal's body.
-fn push_fault(out: &mut ArrayVec<u8, 320>, name: &str, number: u64)
+fn push_fault(out: &mut ShortText, name: &str, number: u64)
     requires { array_vec_len out.old + (length name.now + 42) ≤ 320 }
     ensures items { out.new.items ≡ out.old.items ++ fault_body name.now number }
     ensures len { array_vec_len out.new ≤ array_vec_len out.old + (length name.now + 42) }
@@ -59,7 +60,7 @@ fn reason(status: StatusCode) -> &'static str
 }
 
 /// Appends the first line.
-fn push_status_line(out: &mut ArrayVec<u8, 320>, status: StatusCode)
+fn push_status_line(out: &mut ShortText, status: StatusCode)
     requires { array_vec_len out.old + (length (reason_of status) + 32) ≤ 320 }
     ensures items { out.new.items ≡ out.old.items ++ status_line status }
     ensures len { array_vec_len out.new ≤ array_vec_len out.old + (length (reason_of status) + 32) }
@@ -72,7 +73,7 @@ fn push_status_line(out: &mut ArrayVec<u8, 320>, status: StatusCode)
 }
 
 /// Appends the fields, and the empty line.
-fn push_json_fields(out: &mut ArrayVec<u8, 320>, len: u64)
+fn push_json_fields(out: &mut ShortText, len: u64)
     requires { array_vec_len out.old + 72 ≤ 320 }
     ensures items { out.new.items ≡ out.old.items ++ json_fields len }
     ensures len { array_vec_len out.new ≤ array_vec_len out.old + 72 }
@@ -86,7 +87,7 @@ fn push_json_fields(out: &mut ArrayVec<u8, 320>, len: u64)
 }
 
 /// What comes before the body of an answer in JSON.
-pub fn json_head(status: StatusCode, len: usize) -> ArrayVec<u8, 320>
+pub fn json_head(status: StatusCode, len: usize) -> ShortText
     requires { length (reason_of status) ≤ 32 }
     ensures items { result.items ≡ json_head status len }
     ensures len { array_vec_len result ≤ 136 }
@@ -98,7 +99,7 @@ pub fn json_head(status: StatusCode, len: usize) -> ArrayVec<u8, 320>
 }
 
 /// An answer in JSON whose body is short.
-pub fn json(status: StatusCode, body: &[u8]) -> ArrayVec<u8, 320>
+pub fn json(status: StatusCode, body: &[u8]) -> ShortText
     requires reason { length (reason_of status) ≤ 32 }
     requires body { length body.now ≤ 184 }
     ensures { result.items ≡ json_answer status body.now }
@@ -109,7 +110,7 @@ pub fn json(status: StatusCode, body: &[u8]) -> ArrayVec<u8, 320>
 }
 
 /// The answer of a refusal.
-pub fn refused(status: StatusCode, name: &str, number: u32) -> ArrayVec<u8, 320>
+pub fn refused(status: StatusCode, name: &str, number: u32) -> ShortText
     requires reason { length (reason_of status) ≤ 32 }
     requires name { length name.now ≤ 100 }
     ensures { result.items ≡ fault_answer status name.now number }

@@ -2,7 +2,7 @@
 ghost use Rattle.std.specs.Prelude.{◌≡◌, ◌⊎◌, Some, None, IfOk, IfErr, option_map, option_and_then, codes};
 ghost use Rattle.serde_json.specs.View.{view};
 ghost use Rattle.serde_json.specs.Find.{as_object, as_number, get};
-ghost use Rattle.web.specs.Members.{json_of, count, has_size, text_in, quota_at_most, quota_in, name_of, name_and_quota, supervisor_members, project_members};
+ghost use Rattle.api.specs.Members.{json_of, count, has_size, text_in, quota_at_most, quota_in, name_of, name_and_quota, supervisor_members, project_members};
 
 use rolls::Refusal;
 use serde_json::Value;

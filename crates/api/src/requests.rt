@@ -1,19 +1,18 @@
 //! What a message asks.
-ghost use Rattle.std.specs.Prelude.{◌≡◌, ◌⊎◌, IfOk, IfErr, option_map};
+ghost use Rattle.std.specs.Prelude.{◌≡◌, ◌⊎◌, [], ◌∷◌, IfOk, IfErr, MatchOption};
 ghost use Rattle.std.specs.Str.{bytes_eq};
 ghost use Rattle.serde_json.specs.View.{view};
 ghost use Rattle.rolls.specs.Asked.{Plain as AskedPlain, put_of, asked_of};
-ghost use Rattle.web.specs.Members.{json_of};
-ghost use Rattle.web.specs.Paths.{all_routes};
-ghost use Rattle.web.specs.Requests.{put_by, put_asked, get_asked, asked_at, target_place, request_of};
+ghost use Rattle.api.specs.Routes.{all_routes, Names, IsNowhere};
+ghost use Rattle.api.specs.Requests.{put_by, by_body, by_method, asked_by, Asks};
 
 use crate::members::{name_of, project_members, read_json, supervisor_members};
-use crate::routes::{Kind, Place, place_of};
+use crate::routes::{Form, Kind, Methods, Place, place_of, router};
 use http::Method;
 use matchit::Router;
 use rolls::{Plain, Refusal, Request};
 use serde_json::Value;
-use std::alloc::Global;
+use std::alloc::{AllocError, Global};
 use std::str;
 
 /// The put of a supervisor.
@@ -64,49 +63,59 @@ fn put_student(alloc: Global, code: &str, value: &Value) -> Result<Plain, Refusa
     }
 }
 
-/// The put of an entry, by the members of its body.
-fn put_by(alloc: Global, place: &Place, value: &Value) -> Result<Plain, Refusal>
-    ensures ok { IfOk result (λ plain.
-        put_by place.now.kind place.now.code.now (view value.now) ≡ Some (put_of plain)) }
+/// What is put, by the members of a body.
+fn put_by(alloc: Global, kind: Kind, code: &str, value: &Value) -> Result<Plain, Refusal>
+    ensures ok { IfOk result (λ plain. put_by kind code.now (view value.now) ≡ Some (put_of plain)) }
     ensures err { IfErr result (λ refusal. (refusal ≡ Refusal.Memory)
-        ⊎ ((refusal ≡ Refusal.Members) × (put_by place.now.kind place.now.code.now (view value.now) ≡ None))) }
+        ⊎ ((refusal ≡ Refusal.Members) × (put_by kind code.now (view value.now) ≡ None))) }
 {
-    match place.kind {
-        Kind::Supervisor => put_supervisor(alloc, place.code, value),
-        Kind::Project => put_project(alloc, place.code, value),
-        Kind::Student => put_student(alloc, place.code, value),
+    match kind {
+        Kind::Supervisor => put_supervisor(alloc, code, value),
+        Kind::Project => put_project(alloc, code, value),
+        Kind::Student => put_student(alloc, code, value),
     }
 }
 
-/// What a PUT asks.
-fn put_asked(alloc: Global, place: &Place, body: &[u8]) -> Result<Plain, Refusal>
+/// What a body of members asks.
+fn object_asks(alloc: Global, kind: Kind, code: &str, body: &[u8]) -> Result<Plain, Refusal>
     ensures ok { IfOk result (λ plain.
-        put_asked place.now.kind place.now.code.now (json_of body.now) ≡ Ok (AskedPlain (put_of plain))) }
+        by_body (Form.Object kind) code.now body.now ≡ Ok (AskedPlain (put_of plain))) }
     ensures err { IfErr result (λ refusal. (refusal ≡ Refusal.Memory)
-        ⊎ (put_asked place.now.kind place.now.code.now (json_of body.now) ≡ Err refusal)) }
+        ⊎ (by_body (Form.Object kind) code.now body.now ≡ Err refusal)) }
 {
     match read_json(alloc, body) {
         Err(refusal) => Err(refusal),
-        Ok(value) => put_by(alloc, place, &value),
+        Ok(value) => put_by(alloc, kind, code, &value),
     }
 }
 
-/// What a GET asks.
-fn get_asked(alloc: Global, place: &Place, body: &[u8]) -> Result<Plain, Refusal>
+/// What an empty body asks.
+fn empty_asks(alloc: Global, kind: Kind, code: &str, body: &[u8]) -> Result<Plain, Refusal>
     ensures ok { IfOk result (λ plain.
-        get_asked place.now.kind place.now.code.now body.now ≡ Ok (AskedPlain (put_of plain))) }
+        by_body (Form.Empty kind) code.now body.now ≡ Ok (AskedPlain (put_of plain))) }
     ensures err { IfErr result (λ refusal. (refusal ≡ Refusal.Memory)
-        ⊎ (get_asked place.now.kind place.now.code.now body.now ≡ Err refusal)) }
+        ⊎ (by_body (Form.Empty kind) code.now body.now ≡ Err refusal)) }
 {
     if !body.is_empty() {
         return Err(Refusal::Members);
     }
-    let code = String::from_str(alloc, place.code)?;
-    Ok(match place.kind {
+    let code = String::from_str(alloc, code)?;
+    Ok(match kind {
         Kind::Supervisor => Plain::GetSupervisor { code },
         Kind::Project => Plain::GetProject { code },
         Kind::Student => Plain::GetStudent { code },
     })
+}
+
+/// What a body asks.
+fn by_body(alloc: Global, form: Form, code: &str, body: &[u8]) -> Result<Plain, Refusal>
+    ensures ok { IfOk result (λ plain. by_body form code.now body.now ≡ Ok (AskedPlain (put_of plain))) }
+    ensures err { IfErr result (λ refusal. (refusal ≡ Refusal.Memory) ⊎ (by_body form code.now body.now ≡ Err refusal)) }
+{
+    match form {
+        Form::Empty(kind) => empty_asks(alloc, kind, code, body),
+        Form::Object(kind) => object_asks(alloc, kind, code, body),
+    }
 }
 
 /// Whether a method is this one.
@@ -116,26 +125,28 @@ fn is_method(method: &[u8], known: &Method) -> bool
     method == known.as_str().as_bytes()
 }
 
-/// What is asked of a place.
-fn asked_at(alloc: Global, place: &Place, method: &[u8], body: &[u8]) -> Result<Plain, Refusal>
-    ensures ok { IfOk result (λ plain.
-        asked_at (Some (place.now.kind, place.now.code.now)) method.now body.now ≡ Ok (AskedPlain (put_of plain))) }
-    ensures err { IfErr result (λ refusal. (refusal ≡ Refusal.Memory)
-        ⊎ (asked_at (Some (place.now.kind, place.now.code.now)) method.now body.now ≡ Err refusal)) }
+/// What a method asks of a path.
+fn by_method(methods: Methods, method: &[u8]) -> Option<Form>
+    ensures { result ≡ by_method methods method.now }
 {
-    if is_method(method, &Method::PUT) {
-        return put_asked(alloc, place, body);
-    }
     if is_method(method, &Method::GET) {
-        return get_asked(alloc, place, body);
+        methods.get
+    } else if is_method(method, &Method::PUT) {
+        methods.put
+    } else if is_method(method, &Method::POST) {
+        methods.post
+    } else if is_method(method, &Method::DELETE) {
+        methods.delete
+    } else {
+        None
     }
-    Err(Refusal::WrongMethod)
 }
 
 /// What a target names.
-fn target_place<'t>(router: &Router<Kind>, target: &'t [u8]) -> Option<Place<'t>>
+fn by_path<'t>(router: &Router<Methods>, target: &'t [u8]) -> Option<Place<'t>>
     requires { router.now ≡ all_routes }
-    ensures { option_map (λ place. (place.kind, place.code.now)) result ≡ target_place target.now }
+    ensures { MatchOption result (IsNowhere target.now)
+        (λ place. Names target.now place.methods (place.code.now ∷ [])) }
 {
     match str::from_utf8(target) {
         Err(_) => None,
@@ -143,25 +154,49 @@ fn target_place<'t>(router: &Router<Kind>, target: &'t [u8]) -> Option<Place<'t>
     }
 }
 
-/// What a message asks, or why it asks nothing.
-pub fn request_of(
-    alloc: Global,
-    router: &Router<Kind>,
-    method: &[u8],
-    target: &[u8],
-    body: &[u8],
-) -> Result<Request, Refusal>
-    requires { router.now ≡ all_routes }
-    ensures ok { IfOk result (λ request.
-        request_of (record { method = method.now; target = target.now; body = body.now }) ≡ Ok (asked_of request)) }
+/// What is asked of a place.
+fn asked_at(alloc: Global, place: &Place, method: &[u8], body: &[u8]) -> Result<Plain, Refusal>
+    ensures ok { IfOk result (λ plain. asked_by (by_method place.now.methods method.now) place.now.code.now body.now
+        ≡ Ok (AskedPlain (put_of plain))) }
     ensures err { IfErr result (λ refusal. (refusal ≡ Refusal.Memory)
-        ⊎ (request_of (record { method = method.now; target = target.now; body = body.now }) ≡ Err refusal)) }
+        ⊎ (asked_by (by_method place.now.methods method.now) place.now.code.now body.now ≡ Err refusal)) }
 {
-    match target_place(router, target) {
-        None => Err(Refusal::NoRoute),
-        Some(place) => match asked_at(alloc, &place, method, body) {
-            Err(refusal) => Err(refusal),
-            Ok(plain) => Ok(Request::Plain(plain)),
-        },
+    match by_method(place.methods, method) {
+        None => Err(Refusal::WrongMethod),
+        Some(form) => by_body(alloc, form, place.code, body),
+    }
+}
+
+/// The routes of the office.
+#[derive(Drop)]
+pub struct Routes {
+    alloc: Global,
+    router: Router<Methods>,
+    ghost routes: { router ≡ all_routes },
+}
+
+impl Routes {
+    /// Takes the memory that the routes need.
+    pub fn new(alloc: Global) -> Result<Routes, AllocError> {
+        match router(alloc) {
+            Ok(router) => Ok(Routes { alloc, router }),
+            Err(_) => Err(AllocError),
+        }
+    }
+
+    /// What a message asks, or why it asks nothing.
+    pub fn request(&self, method: &[u8], target: &[u8], body: &[u8]) -> Result<Request, Refusal>
+        ensures ok { IfOk result (λ request.
+            Asks (record { method = method.now; target = target.now; body = body.now }) (Ok (asked_of request))) }
+        ensures err { IfErr result (λ refusal. (refusal ≡ Refusal.Memory)
+            ⊎ Asks (record { method = method.now; target = target.now; body = body.now }) (Err refusal)) }
+    {
+        match by_path(&self.router, target) {
+            None => Err(Refusal::NoRoute),
+            Some(place) => match asked_at(self.alloc, &place, method, body) {
+                Err(refusal) => Err(refusal),
+                Ok(plain) => Ok(Request::Plain(plain)),
+            },
+        }
     }
 }

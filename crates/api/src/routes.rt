@@ -1,12 +1,11 @@
 //! What the paths of messages name.
-ghost use Rattle.std.specs.Prelude.{◌≡◌, ℕ, List, [], ◌++◌, length, MatchOption, IfOk, IfErr, OnOk, false, option_map, codes};
-ghost use Rattle.matchit.specs.Seek.{has_slash};
-ghost use Rattle.web.specs.Paths.{place_of, front_of, all_routes, is_empty};
+ghost use Rattle.std.specs.Prelude.{◌≡◌, ℕ, List, [], ◌∷◌, MatchOption, IfOk, IfErr, OnOk, codes};
+ghost use Rattle.api.specs.Routes.{entry, all_routes, Names, IsNowhere};
 
 use matchit::{InsertError, Router};
 use std::alloc::Global;
 
-/// What a path names.
+/// A roll of the office.
 #[derive(Clone, Copy, Debug, PartialEq, Eq)]
 pub enum Kind {
     Supervisor,
@@ -14,15 +13,45 @@ pub enum Kind {
     Student,
 }
 
-/// An entry of the rolls, named by a path.
+/// What a method asks of a path, by the body that it takes.
+#[derive(Clone, Copy)]
+pub enum Form {
+    /// An empty body: to read the entry.
+    Empty(Kind),
+    /// A body of members: to put the entry.
+    Object(Kind),
+}
+
+/// What each method asks of a path, where the path has the method.
+#[derive(Clone, Copy)]
+pub struct Methods {
+    pub get: Option<Form>,
+    pub put: Option<Form>,
+    pub post: Option<Form>,
+    pub delete: Option<Form>,
+}
+
+/// What a path names: a route, and the text that stands for its parameter.
 #[derive(Drop)]
 pub struct Place<'p> {
-    pub kind: Kind,
+    pub methods: Methods,
     pub code: &'p str,
 }
 
+/// An entry of the rolls is put and read.
+fn entry(kind: Kind) -> Methods
+    ensures { result ≡ entry kind }
+{
+    Methods {
+        get: Some(Form::Empty(kind)),
+        put: Some(Form::Object(kind)),
+        post: None,
+        delete: None,
+    }
+}
+
 /// The router of all paths. It fails for want of memory alone.
-pub fn router(alloc: Global) -> Result<Router<Kind>, InsertError>
+pub fn router(alloc: Global) -> Result<Router<Methods>, InsertError>
     ensures routes { IfOk result (λ router. router ≡ all_routes) }
     ensures memory { IfErr result (λ error. error ≡ InsertError.OutOfMemory) }
 {
@@ -33,69 +62,30 @@ pub fn router(alloc: Global) -> Result<Router<Kind>, InsertError>
     }
 }
 
-/// The paths, put into a router that has none.
-fn insert_routes(router: &mut Router<Kind>) -> Result<(), InsertError>
+/// The routes, put into a router that has none.
+fn insert_routes(router: &mut Router<Methods>) -> Result<(), InsertError>
     requires { router.old ≡ [] }
     ensures routes { OnOk result (router.new ≡ all_routes) }
     ensures memory { IfErr result (λ error. error ≡ InsertError.OutOfMemory) }
 {
-    router.insert("/supervisors/{code}", Kind::Supervisor)?;
-    router.insert("/projects/{code}", Kind::Project)?;
-    router.insert("/students/{code}", Kind::Student)?;
+    router.insert("/supervisors/{code}", entry(Kind::Supervisor))?;
+    router.insert("/projects/{code}", entry(Kind::Project))?;
+    router.insert("/students/{code}", entry(Kind::Student))?;
     Ok(())
 }
 
-/// What stands before the code in a path.
-fn front_of(kind: Kind) -> &'static str
-    ensures { result.now ≡ front_of kind }
+/// What a path names.
+pub fn place_of<'p>(router: &Router<Methods>, path: &'p str) -> Option<Place<'p>>
+    requires { router.now ≡ all_routes }
+    ensures { MatchOption result (IsNowhere path.now)
+        (λ place. Names path.now place.methods (place.code.now ∷ [])) }
 {
-    match kind {
-        Kind::Supervisor => "/supervisors/",
-        Kind::Project => "/projects/",
-        Kind::Student => "/students/",
-    }
-}
-
-/// Whether the text has a slash.
-fn has_slash(text: &[u8]) -> bool
-    ensures { result ≡ has_slash text.now }
-{
-    for b in text {
-        if *b == b'/' {
-            return true;
-        }
-    }
-    false
-}
-
-/// The one segment, not empty, that follows a front.
-fn segment_after<'p>(path: &'p str, front: &str) -> Option<&'p str>
-    ensures { MatchOption result
-        ((rest : List ℕ) → path.now ≡ front.now ++ rest → is_empty rest ≡ false → has_slash rest ≡ false → ⊥)
-        (λ rest. (path.now ≡ front.now ++ rest.now) × (is_empty rest.now ≡ false) × (has_slash rest.now ≡ false)) }
-{
-    let Some(rest) = path.strip_prefix(front) else {
+    let Ok(found) = router.at(path) else {
         return None;
     };
-    if rest.is_empty() || has_slash(rest.as_bytes()) {
-        return None;
-    }
-    Some(rest)
-}
-
-/// What a path names.
-pub fn place_of<'p>(router: &Router<Kind>, path: &'p str) -> Option<Place<'p>>
-    requires { router.now ≡ all_routes }
-    ensures { option_map (λ place. (place.kind, place.code.now)) result ≡ place_of path.now }
-{
-    match router.at(path) {
-        Err(_) => None,
-        Ok(found) => {
-            let kind = *found.value;
-            match segment_after(path, front_of(kind)) {
-                None => None,
-                Some(code) => Some(Place { kind, code }),
-            }
-        }
-    }
+    let code = found.params.get("code")?;
+    Some(Place {
+        methods: *found.value,
+        code,
+    })
 }

@@ -1,81 +1,40 @@
 //! The bytes of answers.
 ghost use Rattle.std.specs.Prelude.{◌≡◌, ◌≤◌, ◌⊎◌, ◌++◌, length, IfOk, OnErr, string_bytes};
+ghost use Rattle.rolls.specs.Told.{status_of};
 ghost use Rattle.serde_json.specs.View.{view};
 ghost use Rattle.serde_json.specs.Written.{compact_text};
 ghost use Rattle.wire.specs.Answers.{answer_bytes};
-ghost use Rattle.wire.specs.Text.{reason_of, json_answer};
-ghost use Rattle.web.specs.Texts.{refusal_name, refusal_status, refusal_text, supervisor_data, project_data, student_data, reply_body, text_of, IsRead};
+ghost use Rattle.api.specs.Text.{reason_of, json_answer};
+ghost use Rattle.api.specs.Texts.{refusal_text, supervisor_data, project_data, student_data, reply_body, text_of, IsRead};
 
-use arrayvec::ArrayVec;
+use crate::answers::{json, json_head, refused};
 use http::StatusCode;
 use rolls::{Refusal, Reply};
 use serde_json::{Value, json};
 use std::alloc::{AllocError, Global};
-use wire::{Answer, json, json_head, refused};
-
-/// The name of a refusal.
-fn name_of(refusal: Refusal) -> &'static str
-    ensures value { result.now ≡ refusal_name refusal }
-    ensures short { length result.now ≤ 100 }
-{
-    match refusal {
-        Refusal::Memory => "Memory",
-        Refusal::Storage => "Storage",
-        Refusal::BadHead => "BadHead",
-        Refusal::TooLarge => "TooLarge",
-        Refusal::NoRoute => "NoRoute",
-        Refusal::WrongMethod => "WrongMethod",
-        Refusal::Json => "Json",
-        Refusal::Members => "Members",
-        Refusal::Code => "Code",
-        Refusal::Label => "Label",
-        Refusal::Quota => "Quota",
-        Refusal::RollFull => "RollFull",
-        Refusal::UnknownSupervisor => "UnknownSupervisor",
-        Refusal::UnknownProject => "UnknownProject",
-        Refusal::UnknownStudent => "UnknownStudent",
-        Refusal::SupervisorFixed => "SupervisorFixed",
-        Refusal::BelowPlaced => "BelowPlaced",
-        Refusal::Damaged => "Damaged",
-    }
-}
+use wire::{Answer, ShortText};
 
 /// The status of a refusal.
-#[tactic(auto, unfolding(wire::specs::Text::reason_of))]
 fn status_of(refusal: Refusal) -> StatusCode
-    ensures value { result ≡ refusal_status refusal }
+    ensures value { result ≡ status_of refusal }
     ensures short { length (reason_of result) ≤ 32 }
 {
-    match refusal {
-        Refusal::Memory | Refusal::Storage | Refusal::Damaged => StatusCode::SERVICE_UNAVAILABLE,
-        Refusal::TooLarge => StatusCode::PAYLOAD_TOO_LARGE,
-        Refusal::NoRoute
-        | Refusal::UnknownSupervisor
-        | Refusal::UnknownProject
-        | Refusal::UnknownStudent => StatusCode::NOT_FOUND,
-        Refusal::WrongMethod => StatusCode::METHOD_NOT_ALLOWED,
-        Refusal::RollFull | Refusal::SupervisorFixed | Refusal::BelowPlaced => {
-            StatusCode::CONFLICT
-        }
-        Refusal::BadHead
-        | Refusal::Json
-        | Refusal::Members
-        | Refusal::Code
-        | Refusal::Label
-        | Refusal::Quota => StatusCode::BAD_REQUEST,
+    match StatusCode::from_u16(refusal.status()) {
+        Ok(status) => status,
+        Err(_) => StatusCode::SERVICE_UNAVAILABLE,
     }
 }
 
 /// The answer of a refusal, which takes no memory.
-pub fn refusal_answer(refusal: Refusal) -> ArrayVec<u8, 320>
+pub fn refusal_answer(refusal: Refusal) -> ShortText
     ensures { result.items ≡ refusal_text refusal }
 {
-    refused(status_of(refusal), name_of(refusal), refusal.number())
+    refused(status_of(refusal), refusal.name(), refusal.number())
 }
 
 /// The answer of a change, which takes no memory.
-#[tactic(auto, unfolding(wire::specs::Text::reason_of))]
-fn done_answer() -> ArrayVec<u8, 320>
+#[tactic(auto, unfolding(crate::specs::Text::reason_of))]
+fn done_answer() -> ShortText
     ensures { result.items ≡ text_of (Ok Reply.Done) }
 {
     json(StatusCode::OK, b"{\"ok\":true}")
@@ -142,7 +101,7 @@ fn student_text(alloc: Global, name: &str) -> Result<String, AllocError>
 }
 
 /// The answer of success with a body.
-#[tactic(auto, unfolding(wire::specs::Text::reason_of))]
+#[tactic(auto, unfolding(crate::specs::Text::reason_of))]
 fn with_head(alloc: Global, body: &str) -> Result<Answer, AllocError>
     ensures { IfOk result (λ answer. answer_bytes answer ≡ json_answer 200 body.now) }
 {

@@ -102,14 +102,14 @@ ends_at count rest TooLarge few stops = (few, stops)
 ends_at count rest Hundred few stops = absurd stops
 
 -- the stream is at an end, and its last words are written
-pub ends_here : {S : Type 0} (step : S → Said → List ℕ → S → Type 0) (before now : S) (left0 w0 left w w' : Option (List ℕ)) (rest : List ℕ) (count : ℕ) (end : End)
-    → SoFar step before left0 w0 left w rest count now → count < 100 → Stops (rest ++ unread left) end → Appends w w' (last_words end)
-    → ServedTo step before left0 w0 left w' (record { answered = count + last_count end; end = end }) now
-ends_here step before now left0 w0 left w w' rest count end so few stops wrote = record {
+pub ends_here : {S : Type 0} (step : S → Said → List ℕ → S → Type 0) (refusal : End → List ℕ) (before now : S) (left0 w0 left w w' : Option (List ℕ)) (rest : List ℕ) (count : ℕ) (end : End)
+    → SoFar step before left0 w0 left w rest count now → count < 100 → Stops (rest ++ unread left) end → Appends w w' (last_words refusal end)
+    → ServedTo step refusal before left0 w0 left w' (record { answered = count + last_count end; end = end }) now
+ends_here step refusal before now left0 w0 left w w' rest count end so few stops wrote = record {
   given = so.given;
   read = so.read;
-  out = concat so.answers ++ last_words end;
-  wrote = appends_compose w0 w w' (concat so.answers) (last_words end) so.wrote wrote;
+  out = concat so.answers ++ last_words refusal end;
+  wrote = appends_compose w0 w w' (concat so.answers) (last_words refusal end) so.wrote wrote;
   serves = record {
     messages = so.messages;
     of_stream = record {
@@ -125,10 +125,10 @@ ends_here step before now left0 w0 left w w' rest count end so few stops wrote =
 }
 
 -- a hundred messages were answered
-pub hundred_here : {S : Type 0} (step : S → Said → List ℕ → S → Type 0) (before now : S) (left0 w0 left w : Option (List ℕ)) (rest : List ℕ)
+pub hundred_here : {S : Type 0} (step : S → Said → List ℕ → S → Type 0) (refusal : End → List ℕ) (before now : S) (left0 w0 left w : Option (List ℕ)) (rest : List ℕ)
     → SoFar step before left0 w0 left w rest 100 now
-    → ServedTo step before left0 w0 left w (record { answered = 100; end = Hundred }) now
-hundred_here step before now left0 w0 left w rest so = record {
+    → ServedTo step refusal before left0 w0 left w (record { answered = 100; end = Hundred }) now
+hundred_here step refusal before now left0 w0 left w rest so = record {
   given = so.given;
   read = so.read;
   out = concat so.answers;

@@ -1,5 +1,5 @@
 use Rattle.std.proofs.Common.{◌≡◌, ℕ, List, ◌++◌, codes, decimal, append_assoc}
-use Rattle.wire.proofs.answers.push_json_fields.Goals as goal
+use Rattle.api.proofs.answers.push_json_fields.Goals as goal
 
 -- the same pieces, grouped otherwise
 regroup : (o l n e : List ℕ) → (o ++ (l ++ n)) ++ e ≡ o ++ (l ++ n ++ e)

@@ -1,5 +1,5 @@
 use Rattle.std.proofs.Common.{append_assoc}
-use Rattle.wire.proofs.answers.push_status_line.Goals as goal
+use Rattle.api.proofs.answers.push_status_line.Goals as goal
 
 pub returns-clause-items : goal.returns-clause-items
 returns-clause-items c =

@@ -1,6 +1,6 @@
 use Rattle.std.proofs.Common.{◌≡◌, List, ℕ, [], ◌++◌, ap, ◌∙◌}
-use Rattle.wire.specs.Text.{fault_body, json_answer}
-use Rattle.wire.proofs.answers.refused.Goals as goal
+use Rattle.api.specs.Text.{fault_body, json_answer}
+use Rattle.api.proofs.answers.refused.Goals as goal
 
 -- what was appended to an empty body
 appended : (name start : List ℕ) (number wide : ℕ) → start ≡ [] → wide ≡ number → start ++ fault_body name wide ≡ fault_body name number

@@ -1,8 +1,8 @@
 use Rattle.std.proofs.Common.{rules, ◌≡◌, None, Bool, true, if◌then◌else◌, sym, ap, ◌∙◌, codes}
 use Rattle.serde_json.specs.Data.{Data}
 use Rattle.serde_json.specs.View.{view}
-use Rattle.web.specs.Members.{has_size, text_in, name_of}
-use Rattle.web.proofs.members.name_of.Goals as goal
+use Rattle.api.specs.Members.{has_size, text_in, name_of}
+use Rattle.api.proofs.members.name_of.Goals as goal
 
 -- the name of an object of one member
 named : (d : Data) → has_size 1 d ≡ true → text_in (codes "name") d ≡ name_of d

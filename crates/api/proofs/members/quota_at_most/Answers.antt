@@ -1,7 +1,7 @@
 use Rattle.std.proofs.Common.{◌≡◌, ℕ, ◌≤◌, Some, sym, ap, ◌∙◌, arith}
 use Rattle.std.proofs.lemmas.Bool.Decides.{nat_tests}
-use Rattle.web.specs.Members.{quota_at_most}
-use Rattle.web.proofs.members.quota_at_most.Goals as goal
+use Rattle.api.specs.Members.{quota_at_most}
+use Rattle.api.proofs.members.quota_at_most.Goals as goal
 
 -- a great number is no quota
 great : (n : ℕ) → 10000 ≤ n → 9999 ≡ quota_at_most (Some n)

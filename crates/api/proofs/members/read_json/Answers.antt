@@ -1,7 +1,7 @@
 use Rattle.std.proofs.Common.{◌≡◌, Bool, true, false, inr, refl, sym, ◌∙◌}
-use Rattle.web.proofs.Json.{json_of-read, json_of-unread}
+use Rattle.api.proofs.Json.{json_of-read, json_of-unread}
 use Rattle.serde_json.specs.View.{view}
-use Rattle.web.proofs.members.read_json.Goals as goal
+use Rattle.api.proofs.members.read_json.Goals as goal
 
 pub returns-in-Ok-clause-ok : goal.returns-in-Ok-clause-ok
 returns-in-Ok-clause-ok c = json_of-read c.args.body.now (view c.in-Ok.value) c.in-Ok.ensures.ok.0 c.in-Ok.ensures.ok.1

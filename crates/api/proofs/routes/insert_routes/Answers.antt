@@ -5,13 +5,13 @@ use Rattle.matchit.specs.Router.{RouteOf, Refused, nearest}
 use Rattle.matchit.specs.declared.error.InsertError.{InsertError}
 use Rattle.matchit.specs.declared.error.InsertError.TheVariants.{Conflict, InvalidParam, InvalidParamSegment, InvalidCatchAll, OutOfMemory}
 use Rattle.matchit.proofs.OnLiterals.{matchit_on_literals}
-use Rattle.web.specs.declared.routes.Kind.{Kind}
-use Rattle.web.specs.declared.routes.Kind.TheVariants.{Supervisor, Project}
-use Rattle.web.specs.Paths.{all_routes, row}
-use Rattle.web.proofs.routes.insert_routes.Goals as goal
+use Rattle.api.specs.declared.routes.Methods.{Methods}
+use Rattle.api.specs.declared.routes.Kind.TheVariants.{Supervisor, Project}
+use Rattle.api.specs.Routes.{all_routes, row, entry}
+use Rattle.api.proofs.routes.insert_routes.Goals as goal
 
 -- where no row conflicts with a pattern, it is refused for want of memory alone
-no_conflict : (pattern : List ℕ) (rows : RowsOf (RouteOf Kind)) (error : InsertError) → nearest pattern rows ≡ None → Refused pattern rows error → error ≡ OutOfMemory
+no_conflict : (pattern : List ℕ) (rows : RowsOf (RouteOf Methods)) (error : InsertError) → nearest pattern rows ≡ None → Refused pattern rows error → error ≡ OutOfMemory
 no_conflict pattern rows OutOfMemory none h = refl
 no_conflict pattern rows (Conflict with) none h = absurd (let found = h.1 in cc)
 no_conflict pattern rows InvalidParamSegment none h = absurd h
@@ -19,12 +19,12 @@ no_conflict pattern rows InvalidParam none h = absurd h
 no_conflict pattern rows InvalidCatchAll none h = absurd h
 
 -- the first row that is put in
-abbrev supervisors : List ℕ × RouteOf Kind
-supervisors = row (codes "/supervisors/" ++ 256 ∷ []) (codes "/supervisors/{code}") ((14, 18) ∷ []) Supervisor
+abbrev supervisors : List ℕ × RouteOf Methods
+supervisors = row (codes "/supervisors/") (codes "code") (entry Supervisor)
 
 -- the second one
-abbrev projects : List ℕ × RouteOf Kind
-projects = row (codes "/projects/" ++ 256 ∷ []) (codes "/projects/{code}") ((11, 15) ∷ []) Project
+abbrev projects : List ℕ × RouteOf Methods
+projects = row (codes "/projects/") (codes "code") (entry Project)
 
 pub returns-in_err-insert-clause-memory : goal.returns-in_err-insert-clause-memory
 unfolding matchit_on_literals
@@ -46,4 +46,4 @@ returns-in_err-insert-3-clause-memory c =
 
 pub returns-clause-routes : goal.returns-clause-routes
 unfolding matchit_on_literals all_routes
-returns-clause-routes c = rw (c.in_ok-insert-2.ensures.1, c.in_ok-insert.ensures.1, c.requires) at c.in_ok-insert-3.ensures.1
+returns-clause-routes c = rw (c.entry-3.ensures, c.in_ok-insert-2.ensures.1, c.entry-2.ensures, c.in_ok-insert.ensures.1, c.entry.ensures, c.requires) at c.in_ok-insert-3.ensures.1

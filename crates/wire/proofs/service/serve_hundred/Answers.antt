@@ -8,7 +8,7 @@ use Rattle.wire.specs.Run.{Said, write_failed}
 use Rattle.wire.specs.Served.{SoFar, ServedTo}
 use Rattle.wire.proofs.Runs.{nothing_yet, hundred_here}
 use Rattle.wire.proofs.Turns.{finished, unfinished}
-use Rattle.wire.proofs.service.serve_messages.Goals as goal
+use Rattle.wire.proofs.service.serve_hundred.Goals as goal
 
 -- at first nothing was read, asked or written
 starts : {S : Type 0} (step : S → Said → List ℕ → S → Type 0) (before : S) (left w : Option (List ℕ)) (rest : List ℕ) → rest ≡ []
@@ -26,7 +26,6 @@ loop-answered-init g c = record {
   capacity = c.requires.capacity;
   reads = refl;
   writes = refl;
-  holds = c.requires.holds;
 }
 
 pub turn-requires-clause-write_failures : goal.turn-requires-clause-write_failures
@@ -52,7 +51,7 @@ at_end P found end e h = subst (λ (o : Option End). IfSome o P) e h
 
 pub returns-in-Some-clause-served : goal.returns-in-Some-clause-served
 returns-in-Some-clause-served g c =
-    finished g.H.Handler.step c.args.desk.now c.turn.new.desk c.loop-answered.desk (g.R.Source.left c.args.reader.now) (g.W.Sink.written c.args.writer.now)
+    finished g.H.Handler.step g.H.Handler.refusal c.args.desk.now c.turn.new.desk c.loop-answered.desk (g.R.Source.left c.args.reader.now) (g.W.Sink.written c.args.writer.now)
     (g.R.Source.left c.loop-answered.reader) (g.R.Source.left c.turn.new.reader) (g.W.Sink.written c.loop-answered.writer) (g.W.Sink.written c.turn.new.writer)
     (g.W.Sink.written c.finish.new.writer)
     c.loop-answered.buffer.items c.turn.new.buffer.items c.loop-answered.answered c.in-Some.end c.finish.result
@@ -61,7 +60,7 @@ returns-in-Some-clause-served g c =
 
 pub returns-in-Some-clause-broken : goal.returns-in-Some-clause-broken
 returns-in-Some-clause-broken g c =
-    unfinished g.H.Handler.step c.args.desk.now c.turn.new.desk c.loop-answered.desk (g.R.Source.left c.args.reader.now) (g.W.Sink.written c.args.writer.now)
+    unfinished g.H.Handler.step g.H.Handler.refusal c.args.desk.now c.turn.new.desk c.loop-answered.desk (g.R.Source.left c.args.reader.now) (g.W.Sink.written c.args.writer.now)
     (g.R.Source.left c.loop-answered.reader) (g.R.Source.left c.turn.new.reader) (g.W.Sink.written c.loop-answered.writer) (g.W.Sink.written c.turn.new.writer)
     (g.W.Sink.written c.finish.new.writer)
     c.loop-answered.buffer.items c.turn.new.buffer.items c.loop-answered.answered c.in-Some.end c.finish.result
@@ -69,14 +68,14 @@ returns-in-Some-clause-broken g c =
     (at_end _ c.in-Ok.found c.in-Some.end c.in-Some.is c.in-Ok.ensures.ends) c.finish.ensures.fault c.finish.ensures.err
 
 -- a hundred messages were answered
-hundred : {S : Type 0} (step : S → Said → List ℕ → S → Type 0) (before now : S) (left0 w0 left w : Option (List ℕ)) (rest : List ℕ) (count : ℕ)
-    → SoFar step before left0 w0 left w rest count now → count ≡ 100 → ServedTo step before left0 w0 left w (record { answered = 100; end = Hundred }) now
-hundred step before now left0 w0 left w rest count so e =
-    hundred_here step before now left0 w0 left w rest (subst (λ (k : ℕ). SoFar step before left0 w0 left w rest k now) e so)
+hundred : {S : Type 0} (step : S → Said → List ℕ → S → Type 0) (refusal : End → List ℕ) (before now : S) (left0 w0 left w : Option (List ℕ)) (rest : List ℕ) (count : ℕ)
+    → SoFar step before left0 w0 left w rest count now → count ≡ 100 → ServedTo step refusal before left0 w0 left w (record { answered = 100; end = Hundred }) now
+hundred step refusal before now left0 w0 left w rest count so e =
+    hundred_here step refusal before now left0 w0 left w rest (subst (λ (k : ℕ). SoFar step before left0 w0 left w rest k now) e so)
 
 pub returns-clause-served : goal.returns-clause-served
 returns-clause-served g c =
-    hundred g.H.Handler.step c.args.desk.now c.loop-answered.desk (g.R.Source.left c.args.reader.now) (g.W.Sink.written c.args.writer.now)
+    hundred g.H.Handler.step g.H.Handler.refusal c.args.desk.now c.loop-answered.desk (g.R.Source.left c.args.reader.now) (g.W.Sink.written c.args.writer.now)
     (g.R.Source.left c.loop-answered.reader) (g.W.Sink.written c.loop-answered.writer) c.loop-answered.buffer.items c.loop-answered.answered
     c.loop-answered.invariant.so_far (omega (arith, c.loop-answered-test.false))
 
@@ -98,6 +97,5 @@ loop-answered-preserved g c = record {
   size = c.in-Ok.ensures.size;
   capacity = c.in-Ok.ensures.capacity;
   reads = stays _ _ _ c.in-Ok.ensures.read_count c.loop-answered.invariant.reads;
-  holds = c.in-Ok.ensures.holds;
   writes = stays _ _ _ c.in-Ok.ensures.write_count c.loop-answered.invariant.writes;
 }

@@ -1,6 +1,6 @@
 use Rattle.std.proofs.Common.{◌≡◌, ◌≤◌, vec_len, vec_capacity}
 use Rattle.wire.specs.Served.{SoFar}
-use Rattle.wire.proofs.service.serve_messages.Given as goal
+use Rattle.wire.proofs.service.serve_hundred.Given as goal
 
 abbrev pub invariant-loop-answered : goal.invariant-loop-answered
 invariant-loop-answered g l = record {
@@ -9,6 +9,5 @@ invariant-loop-answered g l = record {
   size : vec_len l.buffer ≤ 73728;
   capacity : 73728 ≤ vec_capacity l.buffer;
   reads : g.R.Source.failures l.reader ≡ g.R.Source.failures l.initial.reader;
-  holds : g.H.Handler.holds l.desk;
   writes : g.W.Sink.failures l.writer ≡ g.W.Sink.failures l.initial.writer;
 }

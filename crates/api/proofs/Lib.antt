@@ -1,0 +1,5 @@
+pub mod Json
+pub mod Found
+pub mod Sound
+pub mod Named
+pub mod Short
