@@ -3,3 +3,4 @@ pub mod Found
 pub mod Sound
 pub mod Named
 pub mod Short
+pub mod Asking

@@ -13,7 +13,7 @@ use Rattle.api.specs.declared.routes.Methods.{Methods}
 use Rattle.api.specs.declared.routes.Kind.TheVariants.{Supervisor, Project, Student}
 use Rattle.api.specs.Routes.{row, entry, all_routes, fill, AreSegments, HasRow, Names, IsNowhere}
 use Rattle.api.proofs.Found.{steps, found_along, param_leaf}
-use Rattle.api.proofs.Sound.{Makes, makes, AllPlain}
+use Rattle.api.proofs.Sound.{Makes, makes, AllPlain, plain_all}
 
 -- each token is a byte
 is_literal : List ℕ → Bool
@@ -190,7 +190,22 @@ row_taken front methods stands path route utf8 m is =
 -- the rows are plain
 rows_plain : AllPlain all_routes
 unfolding all_routes
-rows_plain = (refl, (refl, (refl, tt)))
+rows_plain = plain_all all_routes refl
+
+-- a row of the router stands, with its front and its methods
+record Standing (pattern : List ℕ) (route : RouteOf Methods) : Type 0 where
+  pub front : List ℕ
+  pub methods : Methods
+  pub stands : Stands front methods
+  pub is : (pattern ≡ front ++ 256 ∷ []) × (route ≡ (row front (codes "code") methods).1)
+
+-- each row does
+standing : (pattern : List ℕ) (route : RouteOf Methods) → HasRow pattern route all_routes → Standing pattern route
+unfolding all_routes
+standing pattern route (inl is) = record { front = codes "/projects/"; methods = entry Project; stands = projects; is = is }
+standing pattern route (inr (inl is)) = record { front = codes "/students/"; methods = entry Student; stands = students; is = is }
+standing pattern route (inr (inr (inl is))) = record { front = codes "/supervisors/"; methods = entry Supervisor; stands = supervisors; is = is }
+standing pattern route (inr (inr (inr none))) = absurd none
 
 -- what a path names under its name is its code
 pub coded : (path : List ℕ) (route : RouteOf Methods) (text : List ℕ) → (t : Taken path route) → named (codes "code") (walk route.pattern route.text path route.names 0 0) ≡ Some text
@@ -200,11 +215,8 @@ coded path route text t e = let f : Some t.code ≡ Some text = sym t.value ∙ 
 -- a path that is a route's finds it
 found : (pattern : List ℕ) (route : RouteOf Methods) (values : List (List ℕ)) (path : List ℕ) → HasRow pattern route all_routes → fill pattern values ≡ Some path → AreSegments values
     → first all_routes path ≡ Some route
-unfolding all_routes
-found pattern route values path (inl is) f s = row_found (codes "/projects/") (entry Project) projects pattern route values path is f s
-found pattern route values path (inr (inl is)) f s = row_found (codes "/students/") (entry Student) students pattern route values path is f s
-found pattern route values path (inr (inr (inl is))) f s = row_found (codes "/supervisors/") (entry Supervisor) supervisors pattern route values path is f s
-found pattern route values path (inr (inr (inr none))) f s = absurd none
+found pattern route values path listed filled segments =
+    let s = standing pattern route listed in row_found s.front s.methods s.stands pattern route values path s.is filled segments
 
 -- a path that finds no row is nowhere
 pub nowhere : (router : RowsOf (RouteOf Methods)) (path : List ℕ) → router ≡ all_routes → first router path ≡ None → IsNowhere path
@@ -214,13 +226,48 @@ nowhere router path e lost methods values names =
 
 -- a path that finds a row has its code
 pub taken : (router : RowsOf (RouteOf Methods)) (path : List ℕ) (route : RouteOf Methods) → router ≡ all_routes → IsUtf8 path → first router path ≡ Some route → Taken path route
-unfolding all_routes
 taken router path route e utf8 at =
     let m = makes path 0 all_routes route rows_plain (ap (λ rows. first rows path) (sym e) ∙ at) in
-    by m m.listed
-  where
-    by : (m : Makes all_routes path route) → HasRow m.pattern route all_routes → Taken path route
-    by m (inl is) = row_taken (codes "/projects/") (entry Project) projects path route utf8 m is
-    by m (inr (inl is)) = row_taken (codes "/students/") (entry Student) students path route utf8 m is
-    by m (inr (inr (inl is))) = row_taken (codes "/supervisors/") (entry Supervisor) supervisors path route utf8 m is
-    by m (inr (inr (inr none))) = absurd none
+    let s = standing m.pattern route m.listed in
+    row_taken s.front s.methods s.stands path route utf8 m s.is
+
+-- a path that is named has one text for its parameter
+record Read (path : List ℕ) (route : RouteOf Methods) (values : List (List ℕ)) : Type 0 where
+  pub at : first all_routes path ≡ Some route
+  pub code : List ℕ
+  pub one : values ≡ code ∷ []
+  pub taken : named (codes "code") (walk route.pattern route.text path route.names 0 0) ≡ Some code
+
+-- where it is one row's
+row_read : (front : List ℕ) (methods : Methods) → Stands front methods → (path : List ℕ) (route : RouteOf Methods) (pattern : List ℕ) (values : List (List ℕ))
+    → (pattern ≡ front ++ 256 ∷ []) × (route ≡ (row front (codes "code") methods).1) → fill pattern values ≡ Some path → AreSegments values → Read path route values
+row_read front methods stands path route pattern values is filled segments =
+    let b = behind front values path stands.literal (subst (λ p. fill p values ≡ Some path) is.0 filled) in
+    let r = (row front (codes "code") methods).1 in
+    record {
+      at = row_found front methods stands pattern route values path is filled segments;
+      code = b.text;
+      one = b.one;
+      taken =
+          ap (named (codes "code"))
+          (subst (λ p. walk route.pattern route.text p route.names 0 0 ≡ (codes "code", b.text) ∷ []) (sym b.whole)
+          (subst (λ (k : RouteOf Methods). walk k.pattern k.text (front ++ b.text) k.names 0 0 ≡ (codes "code", b.text) ∷ []) (sym is.1)
+          (walk_behind front r.text b.text (length front + 1) (length front + 1 + 4) stands.literal ∙ ap (λ (t : List ℕ). (t, b.text) ∷ []) stands.label)));
+    }
+
+-- in any row
+read : (path : List ℕ) (route : RouteOf Methods) (pattern : List ℕ) (values : List (List ℕ)) → HasRow pattern route all_routes → fill pattern values ≡ Some path → AreSegments values
+    → Read path route values
+read path route pattern values listed filled segments =
+    let s = standing pattern route listed in row_read s.front s.methods s.stands path route pattern values s.is filled segments
+
+-- two readings of a path are one
+pub one_name : (path : List ℕ) (methods others : Methods) (values texts : List (List ℕ)) → Names path methods values → Names path others texts → (methods ≡ others) × (values ≡ texts)
+one_name path methods others values texts m n =
+    let a = read path m.route m.pattern values m.listed m.filled m.segments in
+    let b = read path n.route n.pattern texts n.listed n.filled n.segments in
+    let found : Some m.route ≡ Some n.route = sym a.at ∙ b.at in
+    let route : m.route ≡ n.route = cc in
+    let there : Some a.code ≡ Some b.code = sym (subst (λ (r : RouteOf Methods). named (codes "code") (walk r.pattern r.text path r.names 0 0) ≡ Some a.code) route a.taken) ∙ b.taken in
+    let code : a.code ≡ b.code = cc in
+    (m.value ∙ ap (λ (r : RouteOf Methods). r.value) route ∙ sym n.value, a.one ∙ ap (λ (t : List ℕ). t ∷ []) code ∙ sym b.one)

@@ -22,6 +22,11 @@ abbrev pub AllPlain : {K : Type 0} → RowsOf K → Type 0
 AllPlain [] = Unit {0}
 AllPlain ((t, k) ∷ rs) = (is_plain t ≡ true) × AllPlain rs
 
+-- which can be tested
+abbrev pub all_plain : {K : Type 0} → RowsOf K → Bool
+all_plain [] = true
+all_plain ((t, k) ∷ rs) = is_plain t && all_plain rs
+
 -- each row is at the end of a segment
 AllEnd : {K : Type 0} → RowsOf K → Type 0
 AllEnd [] = Unit {0}
@@ -31,6 +36,11 @@ AllEnd ((t, k) ∷ rs) = (ends_segment t ≡ true) × AllEnd rs
 both : (a b : Bool) → (a && b) ≡ true → (a ≡ true) × (b ≡ true)
 both true b e = (refl, e)
 both false b e = absurd (let f : false ≡ true = e in cc)
+
+-- rows that pass the test are plain
+pub plain_all : {K : Type 0} (rs : RowsOf K) → all_plain rs ≡ true → AllPlain rs
+plain_all [] e = tt
+plain_all ((t, k) ∷ rs) e = let b = both (is_plain t) (all_plain rs) e in (b.0, plain_all rs b.1)
 
 -- what follows a token of a plain pattern is plain
 plain_tail : (x : ℕ) (t : List ℕ) → is_plain (x ∷ t) ≡ true → is_plain t ≡ true

@@ -1,5 +1,5 @@
 -- What the members of a body say.
-use Rattle.std.specs.Prelude.{ℕ, suc, ◌==◌, nat_lt, Bool, false, List, Option, Some, None, option_and_then, option_map, codes, if◌then◌else◌}
+use Rattle.std.specs.Prelude.{ℕ, suc, ◌==◌, min, Bool, false, List, Option, Some, None, option_and_then, option_map, codes, if◌then◌else◌}
 use Rattle.std.specs.Option.{option_map_or}
 use Rattle.std.specs.Str.{is_utf8}
 use Rattle.serde_json.specs.Data.{Data, Members, no_members, member}
@@ -27,14 +27,18 @@ of_size n f d = if has_size n d then f d else None
 abbrev pub text_in : List ℕ → Data → Option (List ℕ)
 text_in name d = option_and_then as_str (get name d)
 
--- a whole number below ten thousand, and 9,999 for any other
-abbrev pub quota_at_most : Option ℕ → ℕ
-quota_at_most None = 9999
-quota_at_most (Some n) = if nat_lt n 10000 then n else 9999
+-- what is handed on in place of a number that is no quota, so that the office refuses it
+abbrev pub no_quota : ℕ
+no_quota = 9999
+
+-- the quota that a number is: a whole number up to that, or none
+abbrev pub quota_of : Option ℕ → ℕ
+quota_of None = no_quota
+quota_of (Some n) = min n no_quota
 
 -- the number of the member `quota`, of which a quota is taken
 abbrev pub quota_in : Data → Option ℕ
-quota_in d = option_map (λ n. quota_at_most (as_u64 n)) (option_and_then as_number (get (codes "quota") d))
+quota_in d = option_map (λ n. quota_of (as_u64 n)) (option_and_then as_number (get (codes "quota") d))
 
 -- a name alone
 abbrev pub name_of : Data → Option (List ℕ)

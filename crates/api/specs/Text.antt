@@ -14,17 +14,21 @@ reason_of status = unwrap_or (reason_phrase status) []
 abbrev pub status_line : ℕ → List ℕ
 status_line status = codes "HTTP/1.1 " ++ decimal status ++ codes " " ++ reason_of status ++ crlf
 
--- the fields of an answer in JSON, whose body has so many bytes, and the empty line
-abbrev pub json_fields : ℕ → List ℕ
-json_fields n = codes "Content-Type: application/json\r\nContent-Length: " ++ decimal n ++ codes "\r\n\r\n"
+-- the fields of an answer whose body is of a type and has so many bytes, and the empty line
+abbrev pub fields : List ℕ → ℕ → List ℕ
+fields type n = codes "Content-Type: " ++ type ++ codes "\r\nContent-Length: " ++ decimal n ++ codes "\r\n\r\n"
 
--- what comes before the body of an answer in JSON, of so many bytes
-abbrev pub json_head : ℕ → ℕ → List ℕ
-json_head status n = status_line status ++ json_fields n
+-- what comes before the body of an answer, of a type and so many bytes
+abbrev pub answer_head : ℕ → List ℕ → ℕ → List ℕ
+answer_head status type n = status_line status ++ fields type n
+
+-- the type of a body in JSON
+abbrev pub json_type : List ℕ
+json_type = codes "application/json"
 
 -- an answer in JSON
 abbrev pub json_answer : ℕ → List ℕ → List ℕ
-json_answer status body = json_head status (length body) ++ body
+json_answer status body = answer_head status json_type (length body) ++ body
 
 -- the body of a refusal with this name and number
 abbrev pub fault_body : List ℕ → ℕ → List ℕ

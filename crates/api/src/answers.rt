@@ -1,7 +1,7 @@
 //! Answers in a fixed array, which take no memory.
 ghost use Rattle.std.specs.Prelude.{◌≡◌, ◌+◌, ◌≤◌, ◌++◌, length, decimal};
 ghost use Rattle.arrayvec.specs.ArrayVec.{array_vec_len};
-ghost use Rattle.api.specs.Text.{reason_of, status_line, json_fields, json_head, json_answer, fault_body, fault_answer};
+ghost use Rattle.api.specs.Text.{reason_of, status_line, fields, answer_head, json_answer, fault_body, fault_answer};
 
 use arrayvec::ArrayVec;
 use http::StatusCode;
@@ -73,30 +73,32 @@ fn push_status_line(out: &mut ShortText, status: StatusCode)
 }
 
 /// Appends the fields, and the empty line.
-fn push_json_fields(out: &mut ShortText, len: u64)
-    requires { array_vec_len out.old + 72 ≤ 320 }
-    ensures items { out.new.items ≡ out.old.items ++ json_fields len }
-    ensures len { array_vec_len out.new ≤ array_vec_len out.old + 72 }
+fn push_fields(out: &mut ShortText, kind: &str, len: u64)
+    requires { array_vec_len out.old + (length kind.now + 56) ≤ 320 }
+    ensures items { out.new.items ≡ out.old.items ++ fields kind.now len }
+    ensures len { array_vec_len out.new ≤ array_vec_len out.old + (length kind.now + 56) }
 {
-    push_labelled(
-        out,
-        b"Content-Type: application/json\r\nContent-Length: ",
-        len,
-    );
+    push(out, b"Content-Type: ");
+    push(out, kind.as_bytes());
+    push_labelled(out, b"\r\nContent-Length: ", len);
     push(out, b"\r\n\r\n");
 }
 
-/// What comes before the body of an answer in JSON.
-pub fn json_head(status: StatusCode, len: usize) -> ShortText
-    requires { length (reason_of status) ≤ 32 }
-    ensures items { result.items ≡ json_head status len }
-    ensures len { array_vec_len result ≤ 136 }
+/// What comes before the body of an answer of a type.
+pub fn answer_head(status: StatusCode, kind: &str, len: usize) -> ShortText
+    requires reason { length (reason_of status) ≤ 32 }
+    requires kind { length kind.now ≤ 40 }
+    ensures items { result.items ≡ answer_head status kind.now len }
+    ensures len { array_vec_len result ≤ length kind.now + 120 }
 {
     let mut out = ArrayVec::new();
     push_status_line(&mut out, status);
-    push_json_fields(&mut out, len as u64);
+    push_fields(&mut out, kind, len as u64);
     out
 }
+
+/// The type of a body in JSON.
+pub const JSON: &str = "application/json";
 
 /// An answer in JSON whose body is short.
 pub fn json(status: StatusCode, body: &[u8]) -> ShortText
@@ -104,7 +106,7 @@ pub fn json(status: StatusCode, body: &[u8]) -> ShortText
     requires body { length body.now ≤ 184 }
     ensures { result.items ≡ json_answer status body.now }
 {
-    let mut out = json_head(status, body.len());
+    let mut out = answer_head(status, JSON, body.len());
     push(&mut out, body);
     out
 }

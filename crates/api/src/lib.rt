@@ -10,10 +10,12 @@
 #![tactic(auto)]
 
 mod answers;
+mod laws;
 mod members;
 mod requests;
 mod routes;
 mod texts;
 
+pub use laws::one_request;
 pub use requests::Routes;
 pub use texts::{answer_of, refusal_answer};

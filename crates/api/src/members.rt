@@ -2,11 +2,14 @@
 ghost use Rattle.std.specs.Prelude.{◌≡◌, ◌⊎◌, Some, None, IfOk, IfErr, option_map, option_and_then, codes};
 ghost use Rattle.serde_json.specs.View.{view};
 ghost use Rattle.serde_json.specs.Find.{as_object, as_number, get};
-ghost use Rattle.api.specs.Members.{json_of, count, has_size, text_in, quota_at_most, quota_in, name_of, name_and_quota, supervisor_members, project_members};
+ghost use Rattle.api.specs.Members.{json_of, count, has_size, text_in, quota_of, quota_in, name_of, name_and_quota, supervisor_members, project_members};
 
 use rolls::Refusal;
 use serde_json::Value;
 use std::alloc::Global;
+
+/// Handed on in place of a number that is no quota; the office refuses it as too great.
+const NO_QUOTA: u32 = 9999;
 
 /// A name and a quota.
 #[derive(Drop)]
@@ -71,13 +74,13 @@ fn text_in<'v>(value: &'v Value, name: &str) -> Option<&'v str>
     }
 }
 
-/// A whole number below ten thousand, and 9,999 for any other.
-fn quota_at_most(number: Option<u64>) -> u32
-    ensures { result ≡ quota_at_most number }
+/// The quota that a number is: a whole number up to `NO_QUOTA`, or that.
+fn quota_of(number: Option<u64>) -> u32
+    ensures { result ≡ quota_of number }
 {
     match number {
-        None => 9999,
-        Some(n) => { if n < 10000 { n as u32 } else { 9999 } }
+        None => NO_QUOTA,
+        Some(n) => n.min(u64::from(NO_QUOTA)) as u32,
     }
 }
 
@@ -89,7 +92,7 @@ fn quota_in(value: &Value) -> Option<u32>
         None => None,
         Some(member) => match member.as_number() {
             None => None,
-            Some(number) => Some(quota_at_most(number.as_u64())),
+            Some(number) => Some(quota_of(number.as_u64())),
         },
     }
 }

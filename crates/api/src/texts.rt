@@ -7,7 +7,7 @@ ghost use Rattle.wire.specs.Answers.{answer_bytes};
 ghost use Rattle.api.specs.Text.{reason_of, json_answer};
 ghost use Rattle.api.specs.Texts.{refusal_text, supervisor_data, project_data, student_data, reply_body, text_of, IsRead};
 
-use crate::answers::{json, json_head, refused};
+use crate::answers::{JSON, answer_head, json, refused};
 use http::StatusCode;
 use rolls::{Refusal, Reply};
 use serde_json::{Value, json};
@@ -105,7 +105,7 @@ fn student_text(alloc: Global, name: &str) -> Result<String, AllocError>
 fn with_head(alloc: Global, body: &str) -> Result<Answer, AllocError>
     ensures { IfOk result (λ answer. answer_bytes answer ≡ json_answer 200 body.now) }
 {
-    let head = json_head(StatusCode::OK, body.len());
+    let head = answer_head(StatusCode::OK, JSON, body.len());
     let mut bytes = Vec::from_slice(alloc, head.as_slice())?;
     bytes.extend_from_slice(body.as_bytes())?;
     Ok(Answer::Long(bytes))
