@@ -82,8 +82,11 @@ fn compare(
     end: End,
 ) {
     let outcome = served(alloc, bytes, piece);
-    let answered = marks.len() as u32;
-    assert_eq!(rt; outcome.result, Ok(Served { answered, end }), "{name}");
+    let is_served = match &outcome.result {
+        Ok(served) => served.answered as usize == marks.len() && served.end == end,
+        Err(_) => false,
+    };
+    assert!(rt; is_served, "{name}");
     assert_eq!(rt; outcome.written.as_slice(), marks.as_bytes(), "{name}");
 }
 
