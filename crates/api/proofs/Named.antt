@@ -13,17 +13,12 @@ use Rattle.api.specs.declared.routes.Methods.{Methods}
 use Rattle.api.specs.declared.routes.Kind.TheVariants.{Supervisor, Project, Student}
 use Rattle.api.specs.Routes.{row, entry, all_routes, fill, AreSegments, HasRow, Names, IsNowhere}
 use Rattle.api.proofs.Found.{steps, found_along, param_leaf}
-use Rattle.api.proofs.Sound.{Makes, makes, AllPlain, plain_all}
+use Rattle.api.proofs.Sound.{both, makes, AllPlain, plain_all}
 
 -- each token is a byte
 is_literal : List ℕ → Bool
 is_literal [] = true
 is_literal (x ∷ front) = ltb x 256 && is_literal front
-
--- both tests hold
-both : (a b : Bool) → (a && b) ≡ true → (a ≡ true) × (b ≡ true)
-both true b e = (refl, e)
-both false b e = absurd (let f : false ≡ true = e in cc)
 
 -- a byte is no parameter
 no_param : (x : ℕ) → ltb x 256 ≡ true → (x == 256) ≡ false
@@ -160,33 +155,6 @@ row_found front methods stands pattern route values path is filled segments =
     ∙ found_along front all_routes b.text (row front (codes "code") methods).1 (subst (λ rs. first rs b.text ≡ Some (row front (codes "code") methods).1) (sym stands.alone) leaf)
     ∙ ap Some (sym is.1)
 
--- the row that a path found takes its code
-row_taken : (front : List ℕ) (methods : Methods) → Stands front methods → (path : List ℕ) (route : RouteOf Methods) → IsUtf8 path → (m : Makes all_routes path route)
-    → (m.pattern ≡ front ++ 256 ∷ []) × (route ≡ (row front (codes "code") methods).1) → Taken path route
-unfolding lib.Utf8.encode
-row_taken front methods stands path route utf8 m is =
-    let b = behind front m.values path stands.literal (subst (λ p. fill p m.values ≡ Some path) is.0 m.filled) in
-    let r = (row front (codes "code") methods).1 in
-    let walked : walk route.pattern route.text path route.names 0 0 ≡ (codes "code", b.text) ∷ [] =
-    subst (λ p. walk route.pattern route.text p route.names 0 0 ≡ (codes "code", b.text) ∷ []) (sym b.whole)
-    (subst (λ (k : RouteOf Methods). walk k.pattern k.text (front ++ b.text) k.names 0 0 ≡ (codes "code", b.text) ∷ []) (sym is.1)
-    (walk_behind front r.text b.text (length front + 1) (length front + 1 + 4) stands.literal ∙ ap (λ (t : List ℕ). (t, b.text) ∷ []) stands.label)) in
-    let text : IsUtf8 b.text = stands.utf8 b.text (subst IsUtf8 b.whole utf8) in
-    record {
-      code = b.text;
-      names = record {
-        pattern = m.pattern;
-        route = route;
-        listed = m.listed;
-        value = refl;
-        text = utf8;
-        filled = subst (λ vs. fill m.pattern vs ≡ Some path) b.one m.filled;
-        segments = subst AreSegments b.one m.segments;
-      };
-      texts = subst AllText (sym walked) ((codes "code", (refl, refl)), text, tt);
-      value = ap (named (codes "code")) walked;
-    }
-
 -- the rows are plain
 rows_plain : AllPlain all_routes
 unfolding all_routes
@@ -207,36 +175,13 @@ standing pattern route (inr (inl is)) = record { front = codes "/students/"; met
 standing pattern route (inr (inr (inl is))) = record { front = codes "/supervisors/"; methods = entry Supervisor; stands = supervisors; is = is }
 standing pattern route (inr (inr (inr none))) = absurd none
 
--- what a path names under its name is its code
-pub coded : (path : List ℕ) (route : RouteOf Methods) (text : List ℕ) → (t : Taken path route) → named (codes "code") (walk route.pattern route.text path route.names 0 0) ≡ Some text
-    → Names path route.value (text ∷ [])
-coded path route text t e = let f : Some t.code ≡ Some text = sym t.value ∙ e in let g : t.code ≡ text = cc in subst (λ (c : List ℕ). Names path route.value (c ∷ [])) g t.names
-
--- a path that is a route's finds it
-found : (pattern : List ℕ) (route : RouteOf Methods) (values : List (List ℕ)) (path : List ℕ) → HasRow pattern route all_routes → fill pattern values ≡ Some path → AreSegments values
-    → first all_routes path ≡ Some route
-found pattern route values path listed filled segments =
-    let s = standing pattern route listed in row_found s.front s.methods s.stands pattern route values path s.is filled segments
-
--- a path that finds no row is nowhere
-pub nowhere : (router : RowsOf (RouteOf Methods)) (path : List ℕ) → router ≡ all_routes → first router path ≡ None → IsNowhere path
-nowhere router path e lost methods values names =
-    let there : None ≡ Some names.route = sym lost ∙ ap (λ rows. first rows path) e ∙ found names.pattern names.route values path names.listed names.filled names.segments in
-    absurd (let f : None ≡ Some names.route = there in cc)
-
--- a path that finds a row has its code
-pub taken : (router : RowsOf (RouteOf Methods)) (path : List ℕ) (route : RouteOf Methods) → router ≡ all_routes → IsUtf8 path → first router path ≡ Some route → Taken path route
-taken router path route e utf8 at =
-    let m = makes path 0 all_routes route rows_plain (ap (λ rows. first rows path) (sym e) ∙ at) in
-    let s = standing m.pattern route m.listed in
-    row_taken s.front s.methods s.stands path route utf8 m s.is
-
--- a path that is named has one text for its parameter
+-- what a path of a route has for its parameter
 record Read (path : List ℕ) (route : RouteOf Methods) (values : List (List ℕ)) : Type 0 where
   pub at : first all_routes path ≡ Some route
   pub code : List ℕ
   pub one : values ≡ code ∷ []
-  pub taken : named (codes "code") (walk route.pattern route.text path route.names 0 0) ≡ Some code
+  pub utf8 : IsUtf8 path → IsUtf8 code
+  pub walked : walk route.pattern route.text path route.names 0 0 ≡ (codes "code", code) ∷ []
 
 -- where it is one row's
 row_read : (front : List ℕ) (methods : Methods) → Stands front methods → (path : List ℕ) (route : RouteOf Methods) (pattern : List ℕ) (values : List (List ℕ))
@@ -248,11 +193,11 @@ row_read front methods stands path route pattern values is filled segments =
       at = row_found front methods stands pattern route values path is filled segments;
       code = b.text;
       one = b.one;
-      taken =
-          ap (named (codes "code"))
-          (subst (λ p. walk route.pattern route.text p route.names 0 0 ≡ (codes "code", b.text) ∷ []) (sym b.whole)
+      utf8 = λ u. stands.utf8 b.text (subst IsUtf8 b.whole u);
+      walked =
+          subst (λ p. walk route.pattern route.text p route.names 0 0 ≡ (codes "code", b.text) ∷ []) (sym b.whole)
           (subst (λ (k : RouteOf Methods). walk k.pattern k.text (front ++ b.text) k.names 0 0 ≡ (codes "code", b.text) ∷ []) (sym is.1)
-          (walk_behind front r.text b.text (length front + 1) (length front + 1 + 4) stands.literal ∙ ap (λ (t : List ℕ). (t, b.text) ∷ []) stands.label)));
+          (walk_behind front r.text b.text (length front + 1) (length front + 1 + 4) stands.literal ∙ ap (λ (t : List ℕ). (t, b.text) ∷ []) stands.label));
     }
 
 -- in any row
@@ -261,6 +206,38 @@ read : (path : List ℕ) (route : RouteOf Methods) (pattern : List ℕ) (values 
 read path route pattern values listed filled segments =
     let s = standing pattern route listed in row_read s.front s.methods s.stands path route pattern values s.is filled segments
 
+-- what a path names under its name is its code
+pub coded : (path : List ℕ) (route : RouteOf Methods) (text : List ℕ) → (t : Taken path route) → named (codes "code") (walk route.pattern route.text path route.names 0 0) ≡ Some text
+    → Names path route.value (text ∷ [])
+coded path route text t e = let f : Some t.code ≡ Some text = sym t.value ∙ e in let g : t.code ≡ text = cc in subst (λ (c : List ℕ). Names path route.value (c ∷ [])) g t.names
+
+-- a path that finds no row is nowhere
+pub nowhere : (router : RowsOf (RouteOf Methods)) (path : List ℕ) → router ≡ all_routes → first router path ≡ None → IsNowhere path
+nowhere router path e lost methods values names =
+    let there : None ≡ Some names.route = sym lost ∙ ap (λ rows. first rows path) e ∙ (read path names.route names.pattern values names.listed names.filled names.segments).at in
+    absurd (let f : None ≡ Some names.route = there in cc)
+
+-- a path that finds a row has its code
+pub taken : (router : RowsOf (RouteOf Methods)) (path : List ℕ) (route : RouteOf Methods) → router ≡ all_routes → IsUtf8 path → first router path ≡ Some route → Taken path route
+unfolding lib.Utf8.encode
+taken router path route e utf8 at =
+    let m = makes path 0 all_routes route rows_plain (ap (λ rows. first rows path) (sym e) ∙ at) in
+    let r = read path route m.pattern m.values m.listed m.filled m.segments in
+    record {
+      code = r.code;
+      names = record {
+        pattern = m.pattern;
+        route = route;
+        listed = m.listed;
+        value = refl;
+        text = utf8;
+        filled = subst (λ vs. fill m.pattern vs ≡ Some path) r.one m.filled;
+        segments = subst AreSegments r.one m.segments;
+      };
+      texts = subst AllText (sym r.walked) ((codes "code", (refl, refl)), r.utf8 utf8, tt);
+      value = ap (named (codes "code")) r.walked;
+    }
+
 -- two readings of a path are one
 pub one_name : (path : List ℕ) (methods others : Methods) (values texts : List (List ℕ)) → Names path methods values → Names path others texts → (methods ≡ others) × (values ≡ texts)
 one_name path methods others values texts m n =
@@ -268,6 +245,7 @@ one_name path methods others values texts m n =
     let b = read path n.route n.pattern texts n.listed n.filled n.segments in
     let found : Some m.route ≡ Some n.route = sym a.at ∙ b.at in
     let route : m.route ≡ n.route = cc in
-    let there : Some a.code ≡ Some b.code = sym (subst (λ (r : RouteOf Methods). named (codes "code") (walk r.pattern r.text path r.names 0 0) ≡ Some a.code) route a.taken) ∙ b.taken in
+    let walked = subst (λ (r : RouteOf Methods). walk r.pattern r.text path r.names 0 0 ≡ (codes "code", a.code) ∷ []) route a.walked in
+    let there : Some a.code ≡ Some b.code = ap (named (codes "code")) (sym walked ∙ b.walked) in
     let code : a.code ≡ b.code = cc in
     (m.value ∙ ap (λ (r : RouteOf Methods). r.value) route ∙ sym n.value, a.one ∙ ap (λ (t : List ℕ). t ∷ []) code ∙ sym b.one)

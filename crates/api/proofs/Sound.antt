@@ -33,7 +33,7 @@ AllEnd [] = Unit {0}
 AllEnd ((t, k) ∷ rs) = (ends_segment t ≡ true) × AllEnd rs
 
 -- both tests hold
-both : (a b : Bool) → (a && b) ≡ true → (a ≡ true) × (b ≡ true)
+pub both : (a b : Bool) → (a && b) ≡ true → (a ≡ true) × (b ≡ true)
 both true b e = (refl, e)
 both false b e = absurd (let f : false ≡ true = e in cc)
 
