@@ -9,14 +9,9 @@ use Rattle.rolls.specs.declared.row.Change.{Change}
 use Rattle.rolls.specs.Rows.{after_change, after_changes}
 use Rattle.sqlite.specs.Tree.{Trees}
 use Rattle.tables.specs.Steps.{HasStepped, HasSaved, IsLeft, Stays}
-use Rattle.tables.proofs.Runs.{stepped_as, stays_none, stays_then}
+use Rattle.tables.proofs.Runs.{stays_none, stays_then}
 use Rattle.store.specs.Tables.{TablesHold}
 use Rattle.store.specs.Saving.{AreInert, Applies, AppliesOne, Saves}
-
--- the same call, in another word
-pub as_step : {E : Type 0} (P Q : Database → Database → Type 0) (a b : State) (r : Result (Unit {0}) E) → (P a.now b.now → Q a.now b.now) → OnOk r (HasStepped P a b) → OnOk r (HasStepped Q a b)
-as_step P Q a b (Ok u) weaker h = stepped_as P Q a b weaker h
-as_step P Q a b (Err e) weaker h = h
 
 -- no change applies nothing
 pub applies_none : (db : Database) → Applies [] db db

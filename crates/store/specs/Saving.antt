@@ -1,34 +1,33 @@
 -- What saving changes does to the tables.
 use Rattle.std.specs.Prelude.{◌≡◌, List, Option}
 use Rattle.sqlite.specs.Schema.{Schema}
-use Rattle.sqlite.specs.Table.{Table}
+use Rattle.tables.specs.declared.table.Table.{Table}
 use Rattle.sqlite.specs.Effect.{Database}
 use Rattle.rolls.specs.declared.row.Row.{Row}
 use Rattle.rolls.specs.declared.row.RowKey.{RowKey}
 use Rattle.rolls.specs.declared.row.Change.{Change}
 use Rattle.rolls.specs.Rows.{after_change, after_changes}
-use Rattle.tables.specs.Table.{Place, Lists}
-use Rattle.store.specs.Rows.{table_of}
-use Rattle.store.specs.declared.roll.Roll.{Roll}
+use Rattle.tables.specs.Table.{Place, Lists, table_at}
+use Rattle.store.specs.Rows.{IsRoll}
 use Rattle.tables.specs.Writes.{IsInert}
 use Rattle.tables.specs.Inert.{IsActedOn}
 use Rattle.store.specs.Tables.{TablesHold}
 
 -- no foreign key acts on this table, wherever it is listed
-abbrev pub IsLeftAlone : (Place → Table) → Schema → Type 0
-IsLeftAlone table schema = (place : Place) → Lists schema (table place) → IsInert schema place.tree
+abbrev pub IsLeftAlone : Table → Schema → Type 0
+IsLeftAlone table schema = (place : Place) → Lists schema (table_at table place) → IsInert schema place.tree
 
--- no foreign key of another table acts on the product's tables
+-- no foreign key of another table acts on the tables of the rolls
 abbrev pub AreInert : Schema → Type 0
-AreInert schema = (roll : Roll) → IsLeftAlone (table_of roll) schema
+AreInert schema = (table : Table) → IsRoll table → IsLeftAlone table schema
 
--- a foreign key acts on the table of this roll
-abbrev pub IsActedOnAt : Roll → Schema → Type 0
-IsActedOnAt roll schema = (place : Place) × Lists schema (table_of roll place) × IsActedOn schema.tables place.tree
+-- a foreign key acts on this table
+abbrev pub IsActedOnAt : Table → Schema → Type 0
+IsActedOnAt table schema = (place : Place) × Lists schema (table_at table place) × IsActedOn schema.tables place.tree
 
--- a foreign key of another table acts on one of the product's tables
+-- a foreign key of another table acts on one of the tables of the rolls
 abbrev pub AreActedOn : Schema → Type 0
-AreActedOn schema = (roll : Roll) × IsActedOnAt roll schema
+AreActedOn schema = (table : Table) × IsRoll table × IsActedOnAt table schema
 
 -- whatever rows the tables held, they hold those after the changes
 unfoldable pub Saves : List Change → Database → Database → Type 0

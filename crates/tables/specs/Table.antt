@@ -1,10 +1,11 @@
 -- The tables of the product, as a schema lists them, and the rows that they hold.
-use Rattle.std.specs.Prelude.{◌≡◌, true, false, None, Some, [], ◌∷◌, codes, List, ℕ, map, drop, slice_get}
+use Rattle.std.specs.Prelude.{◌≡◌, ◌&&◌, ◌==◌, ℕ, zero, suc, Bool, true, false, IsTrue, None, Some, Option, [], ◌∷◌, codes, List, map, drop, take, length, slice_get}
+use Rattle.std.specs.Borrow.{Bor}
 use Rattle.std.specs.List.Sorted.{IsPermutation}
 use Rattle.sqlite.specs.declared.types.Value.TheVariants.{Null}
 use Rattle.sqlite.specs.Order.{Row}
 use Rattle.sqlite.specs.Collation.TheVariants.{Binary}
-use Rattle.sqlite.specs.Table.{Table}
+use Rattle.sqlite.specs.Table.{Table as AnyTable}
 use Rattle.sqlite.specs.Schema.{Schema}
 use Rattle.sqlite.specs.Kind.{Kind}
 use Rattle.sqlite.specs.Kind.TheVariants.{Integer, Text}
@@ -15,85 +16,209 @@ use Rattle.sqlite_schema.specs.declared.schema.Column.{Column}
 use Rattle.sqlite_schema.specs.declared.schema.Reference.{Reference}
 use Rattle.sqlite_schema.specs.declared.schema.Action.TheVariants.{NoAction}
 use Rattle.sqlite_schema.specs.Names.{table_named}
+use Rattle.sqlite_schema.specs.Rules.{kind_code, kind_of}
 use Rattle.sqlite_value.specs.Keys.{plain}
+use Rattle.sqlite_value.specs.declared.keys.Order.{Order}
+use Rattle.tables.specs.declared.table.Table.{Table}
+use Rattle.tables.specs.declared.table.Table.TheVariants.{Edition, Supervisor, Project, Student}
+use Rattle.tables.specs.declared.table.Shape.{Shape as Given}
+use Rattle.tables.specs.declared.table.Told.{Told}
+use Rattle.tables.specs.declared.table.Link.{Link}
+
+-- A table as it is told: its name and its columns; the position of the column that is the rowid, if one is; its key,
+-- columns that no two rows share, and how many those are together, and references, all by columns counted from 1, with 0
+-- for the rowid; how many of the first columns a removal names; and the texts of its statements.
+pub record Shape : Type 0 where
+  pub name : List ℕ
+  pub columns : List (List ℕ × Kind)
+  pub key : Option ℕ
+  pub primary : List ℕ
+  pub uniques : List (List ℕ)
+  pub orders : ℕ
+  pub links : List (ℕ × List ℕ × List ℕ)
+  pub named : ℕ
+  pub create : List ℕ
+  pub insert : List ℕ
+  pub update : List ℕ
+  pub delete : List ℕ
+  pub select : List ℕ
+
+-- what the program tells of a column
+abbrev pub column_by : Told → List ℕ × Kind
+column_by told = (told.name.now, told.kind)
+
+-- of a reference
+abbrev pub link_by : Link → ℕ × List ℕ × List ℕ
+link_by link = (link.column, link.parent.now, link.parent_column.now)
+
+-- of columns that no two rows share
+abbrev pub places_by : Bor (List ℕ) → List ℕ
+places_by places = places.now
+
+-- and of a table
+abbrev pub told_by : Given → Shape
+told_by given = record {
+  name = given.name.now;
+  columns = map column_by given.columns.now;
+  key = given.key;
+  primary = given.primary.now;
+  uniques = map places_by given.uniques.now;
+  orders = given.orders;
+  links = map link_by given.links.now;
+  named = given.named;
+  create = given.create.now;
+  insert = given.insert.now;
+  update = given.update.now;
+  delete = given.delete.now;
+  select = given.select.now;
+}
+
+-- the tables, row by row
+abbrev pub shape_of : Table → Shape
+shape_of Edition = record {
+  name = codes "edition";
+  columns = (codes "id", Integer) ∷ (codes "number", Integer) ∷ [];
+  key = Some 0;
+  primary = 0 ∷ [];
+  uniques = [];
+  orders = 0;
+  links = [];
+  named = 1;
+  create = codes "CREATE TABLE edition (id INTEGER NOT NULL PRIMARY KEY CHECK (id = 1), number INTEGER NOT NULL) STRICT";
+  insert = codes "INSERT INTO edition (id, number) VALUES (?1, ?2)";
+  update = codes "UPDATE edition SET number = ?2 WHERE id = ?1";
+  delete = codes "DELETE FROM edition WHERE id = ?1";
+  select = codes "SELECT rowid, * FROM edition";
+}
+shape_of Supervisor = record {
+  name = codes "supervisor";
+  columns = (codes "code", Text) ∷ (codes "label", Text) ∷ (codes "quota", Integer) ∷ [];
+  key = None;
+  primary = 1 ∷ [];
+  uniques = (1 ∷ []) ∷ [];
+  orders = 1;
+  links = [];
+  named = 1;
+  create = codes "CREATE TABLE supervisor (code TEXT NOT NULL PRIMARY KEY, label TEXT NOT NULL, quota INTEGER NOT NULL CHECK (quota BETWEEN 0 AND 500)) STRICT";
+  insert = codes "INSERT INTO supervisor (code, label, quota) VALUES (?1, ?2, ?3)";
+  update = codes "UPDATE supervisor SET code = ?1, label = ?2, quota = ?3 WHERE code = ?1";
+  delete = codes "DELETE FROM supervisor WHERE code = ?1";
+  select = codes "SELECT rowid, * FROM supervisor";
+}
+shape_of Project = record {
+  name = codes "project";
+  columns = (codes "code", Text) ∷ (codes "label", Text) ∷ (codes "supervisor", Text) ∷ (codes "quota", Integer) ∷ [];
+  key = None;
+  primary = 1 ∷ [];
+  uniques = (1 ∷ []) ∷ [];
+  orders = 1;
+  links = (3, codes "supervisor", codes "code") ∷ [];
+  named = 1;
+  create = codes "CREATE TABLE project (code TEXT NOT NULL PRIMARY KEY, label TEXT NOT NULL, supervisor TEXT NOT NULL REFERENCES supervisor (code), quota INTEGER NOT NULL CHECK (quota BETWEEN 0 AND 500)) STRICT";
+  insert = codes "INSERT INTO project (code, label, supervisor, quota) VALUES (?1, ?2, ?3, ?4)";
+  update = codes "UPDATE project SET code = ?1, label = ?2, supervisor = ?3, quota = ?4 WHERE code = ?1";
+  delete = codes "DELETE FROM project WHERE code = ?1";
+  select = codes "SELECT rowid, * FROM project";
+}
+shape_of Student = record {
+  name = codes "student";
+  columns = (codes "code", Text) ∷ (codes "label", Text) ∷ [];
+  key = None;
+  primary = 1 ∷ [];
+  uniques = (1 ∷ []) ∷ [];
+  orders = 1;
+  links = [];
+  named = 1;
+  create = codes "CREATE TABLE student (code TEXT NOT NULL PRIMARY KEY, label TEXT NOT NULL) STRICT";
+  insert = codes "INSERT INTO student (code, label) VALUES (?1, ?2)";
+  update = codes "UPDATE student SET code = ?1, label = ?2 WHERE code = ?1";
+  delete = codes "DELETE FROM student WHERE code = ?1";
+  select = codes "SELECT rowid, * FROM student";
+}
 
 -- what may differ from one database to another: the table's tree, and its CHECK rules, which are taken as they were made
 pub record Place : Type 0 where
   pub tree : ℕ
   pub checks : List Term
 
+-- each table has a number of its own
+abbrev pub number_of : Table → ℕ
+number_of Edition = 0
+number_of Supervisor = 1
+number_of Project = 2
+number_of Student = 3
+
+-- whether two tables are one
+abbrev pub same_table : Table → Table → Bool
+same_table a b = number_of a == number_of b
+
 -- a column of a STRICT table that is NOT NULL and has no default
-abbrev pub required : List ℕ → Kind → Column
-required name kind = record { name = name; kind = kind; is_strict = true; not_null = true; default = Null; collation = Binary }
+abbrev pub required : List ℕ × Kind → Column
+required told = record { name = told.0; kind = told.1; is_strict = true; not_null = true; default = Null; collation = Binary }
 
--- a table whose first column is its key, a text
-abbrev pub coded_table : List ℕ → List Column → List Reference → Place → Table
-coded_table name columns references place = record {
-  name = name;
+-- a reference from this column to a column of another table, with NO ACTION
+abbrev pub referring : ℕ × List ℕ × List ℕ → Reference
+referring link = record { columns = link.0 ∷ []; parent = link.1; parent_columns = link.2 ∷ []; on_delete = NoAction; on_update = NoAction; is_deferred = false }
+
+-- so many ascending orders
+abbrev pub ascending : ℕ → List Order
+ascending zero = []
+ascending (suc count) = plain ∷ ascending count
+
+-- the table of this shape, as a schema lists it
+abbrev pub made_at : Shape → Place → AnyTable
+made_at shape place = record {
+  name = shape.name;
   tree = place.tree;
-  columns = columns;
-  key = None;
-  primary = 1 ∷ [];
-  uniques = (1 ∷ []) ∷ [];
-  orders = plain ∷ [];
+  columns = map required shape.columns;
+  key = shape.key;
+  primary = shape.primary;
+  uniques = shape.uniques;
+  orders = ascending shape.orders;
   checks = place.checks;
-  references = references;
+  references = map referring shape.links;
   computed = [];
   stamps = record { places = []; terms = []; formats = [] };
   is_counted = false;
 }
 
--- `edition`: its number, under the id 1
-abbrev pub edition_table : Place → Table
-edition_table place = record {
-  name = codes "edition";
-  tree = place.tree;
-  columns = required (codes "id") Integer ∷ required (codes "number") Integer ∷ [];
-  key = Some 0;
-  primary = 0 ∷ [];
-  uniques = [];
-  orders = [];
-  checks = place.checks;
-  references = [];
-  computed = [];
-  stamps = record { places = []; terms = []; formats = [] };
-  is_counted = false;
-}
-
--- `student`: code and label
-abbrev pub student_table : Place → Table
-student_table = coded_table (codes "student") (required (codes "code") Text ∷ required (codes "label") Text ∷ []) []
-
--- `supervisor`: code, label and quota
-abbrev pub supervisor_table : Place → Table
-supervisor_table = coded_table (codes "supervisor") (required (codes "code") Text ∷ required (codes "label") Text ∷ required (codes "quota") Integer ∷ []) []
-
--- the third column of `project` is the code of a supervisor
-abbrev pub to_supervisor : Reference
-to_supervisor = record {
-  columns = 3 ∷ [];
-  parent = codes "supervisor";
-  parent_columns = codes "code" ∷ [];
-  on_delete = NoAction;
-  on_update = NoAction;
-  is_deferred = false;
-}
-
--- `project`: code, label, the code of its supervisor, and quota
-abbrev pub project_table : Place → Table
-project_table = coded_table (codes "project")
-    (required (codes "code") Text ∷ required (codes "label") Text ∷ required (codes "supervisor") Text ∷ required (codes "quota") Integer ∷ []) (to_supervisor ∷ [])
+-- a table of the product, as a schema lists it
+abbrev pub table_at : Table → Place → AnyTable
+table_at table = made_at (shape_of table)
 
 -- the schema's first table of this name is this one
-pub record Lists (schema : Schema) (table : Table) : Type 0 where
+pub record Lists (schema : Schema) (table : AnyTable) : Type 0 where
   pub at : ℕ
   pub named : table_named schema table.name ≡ Some at
   pub there : slice_get schema.tables at ≡ Some table
 
 -- the columns of a row, as a query shows them
-abbrev pub cells : Table → Row → Row
+abbrev pub cells : AnyTable → Row → Row
 cells table row = drop 1 (shown table row)
 
 -- the table holds these rows, in whatever order
-abbrev pub Holds : Database → Table → List Row → Type 0
+abbrev pub Holds : Database → AnyTable → List Row → Type 0
 Holds db table rows = IsPermutation rows (map (cells table) (db.trees table.tree))
+
+-- the values are of these kinds, one each
+abbrev pub are_of : List Kind → Row → Bool
+are_of [] [] = true
+are_of (kind ∷ kinds) (value ∷ row) = (kind_code kind == kind_code (kind_of value)) && are_of kinds row
+are_of [] (value ∷ row) = false
+are_of (kind ∷ kinds) [] = false
+
+-- the kinds of the columns of a table
+abbrev pub kinds_of : Table → List Kind
+kinds_of table = map (λ (told : List ℕ × Kind). told.1) (shape_of table).columns
+
+-- the values may be a row of the table
+abbrev pub IsRowOf : Table → Row → Type 0
+IsRowOf table row = IsTrue (are_of (kinds_of table) row)
+
+-- the values may be what a removal from the table names
+abbrev pub IsKeyOf : Table → Row → Type 0
+IsKeyOf table key = IsTrue (are_of (take (shape_of table).named (kinds_of table)) key)
+
+-- the key of a row
+abbrev pub key_in : Table → Row → Row
+key_in table row = take (length (shape_of table).primary) row
