@@ -1,7 +1,8 @@
 -- The tables that were made stand for the empty office.
-use Rattle.std.proofs.Common.{◌≡◌, ◌≢◌, ◌⊎◌, ◌+◌, ◌<◌, ◌≤◌, ◌++◌, ℕ, List, [], ◌∷◌, length, get_or, take, inl, inr, refl, sym, subst, ◌∙◌}
+use Rattle.std.proofs.Common.{◌≡◌, ◌≢◌, ◌⊎◌, ◌+◌, ◌<◌, ◌≤◌, ◌++◌, ℕ, List, [], ◌∷◌, length, get_or, take, inl, inr, refl, sym, ap, subst, ◌∙◌}
 use Rattle.std.proofs.lemmas.List.{take_more, take_all}
 use Rattle.sqlite.specs.Effect.{Database}
+use Rattle.sqlite.specs.Schema.{Schema}
 use Rattle.sqlite.specs.Table.{Table as AnyTable}
 use Rattle.sqlite.specs.State.{State as Seen}
 use Rattle.sqlite.specs.Tree.{Trees}
@@ -15,13 +16,13 @@ use Rattle.rolls.specs.From.{row_in}
 use Rattle.rolls.specs.State.{State, empty}
 use Rattle.tables.specs.declared.table.Table.{Table}
 use Rattle.tables.specs.declared.table.Table.TheVariants.{Edition}
-use Rattle.tables.specs.Table.{Place, table_at}
+use Rattle.tables.specs.Table.{Place, Lists, checks_of, table_at}
 use Rattle.tables.specs.Keyed.{Stands}
 use Rattle.tables.specs.Writes.{Makes, Adds}
 use Rattle.tables.specs.Steps.{HasStepped, IsLeft, Stays}
-use Rattle.tables.proofs.Runs.{stands_apart, stands_beside, stays_none, stays_then, stays_stepped, decide_table}
+use Rattle.tables.proofs.Runs.{listed_once, stands_apart, stands_beside, stays_none, stays_then, stays_stepped, decide_table}
 use Rattle.store.specs.Rows.{kept, AreRowsAt}
-use Rattle.store.specs.Tables.{MakesTables, StandsFor, Empties, Founds, HasNone, Opens, first_edition}
+use Rattle.store.specs.Tables.{AreRuled, MakesTables, StandsFor, Empties, Founds, HasNone, Opens, first_edition}
 use Rattle.store.proofs.Columns.{apart_edition, among_rolls}
 
 no_row : (k : RowKey) → row_in [] k ≡ row_of empty k
@@ -34,9 +35,9 @@ no_rows = record { apart = refl; each = no_row }
 
 -- no table was made yet
 pub made_none : (s : Seen) → Stays (MakesTables []) s s
-made_none s = stays_none (MakesTables []) s (record { places = λ table. record { tree = 0; checks = [] }; stand = λ table h. absurd h; apart = λ a b h. absurd h; others = λ t listed. (listed, refl, λ table h. absurd h) })
+made_none s = stays_none (MakesTables []) s (record { places = λ table. record { tree = 0; checks = [] }; ruled = λ table h. absurd h; stand = λ table h. absurd h; apart = λ a b h. absurd h; others = λ t listed. (listed, refl, λ table h. absurd h) })
 
-module _ (done : List Table) (q : Table) (a b c : Database) (m : MakesTables done a b) (n : Makes (table_at q) [] b c) where
+module _ (done : List Table) (q : Table) (a b c : Database) (m : MakesTables done a b) (n : Makes (table_at q) (checks_of q) [] b c) where
   -- where a table stands: the last one at its new place
   at : (table : Table) → (table ≡ q) ⊎ (table ≢ q) → Place
   at table (inl same) = n.place
@@ -46,7 +47,12 @@ module _ (done : List Table) (q : Table) (a b c : Database) (m : MakesTables don
   before table other h = elim (has_either done (q ∷ []) table h) [ inl early ↦ early | inr (inl same) ↦ absurd (other same) | inr (inr none) ↦ absurd none ]
 
   beside : (table : Table) → Has done table → Stands (table_at table) (m.places table) [] c × ((m.places table).tree ≢ n.place.tree)
-  beside table early = stands_beside (table_at table) (m.places table) refl [] (table_at q) [] b c n (m.stand table early)
+  beside table early = stands_beside (table_at table) (m.places table) refl [] (table_at q) (checks_of q) [] b c n (m.stand table early)
+
+  ruled_at : (table : Table) (d : (table ≡ q) ⊎ (table ≢ q)) → Has (done ++ q ∷ []) table → (at table d).checks ≡ checks_of table
+  unfolding at
+  ruled_at table (inl same) h = n.ruled ∙ sym (ap checks_of same)
+  ruled_at table (inr other) h = m.ruled table (before table other h)
 
   stand_at : (table : Table) (d : (table ≡ q) ⊎ (table ≢ q)) → Has (done ++ q ∷ []) table → Stands (table_at table) (at table d) [] c
   unfolding at
@@ -70,6 +76,7 @@ module _ (done : List Table) (q : Table) (a b c : Database) (m : MakesTables don
   made_then : MakesTables (done ++ q ∷ []) a c
   made_then = record {
     places = λ table. at table (decide_table table q);
+    ruled = λ table. ruled_at table (decide_table table q);
     stand = λ table. stand_at table (decide_table table q);
     apart = λ x y. apart_at x y (decide_table x q) (decide_table y q);
     others = λ t listed.
@@ -79,12 +86,12 @@ module _ (done : List Table) (q : Table) (a b c : Database) (m : MakesTables don
   }
 
 -- the same of the statements that make them
-pub made_more : (i : ℕ) (all : List Table) (d : Table) (a b c : Seen) → i < length all → Stays (MakesTables (take i all)) a b → HasStepped (Makes (table_at (get_or all i d)) []) b c
+pub made_more : (i : ℕ) (all : List Table) (d : Table) (a b c : Seen) → i < length all → Stays (MakesTables (take i all)) a b → HasStepped (Makes (table_at (get_or all i d)) (checks_of (get_or all i d)) []) b c
     → Stays (MakesTables (take (i + 1) all)) a c
 made_more i all d a b c low p n =
     let q = get_or all i d in
     subst (λ rs. Stays (MakesTables rs) a c) (sym (take_more all i d low))
-    (stays_then (MakesTables (take i all)) (Makes (table_at q) []) (MakesTables (take i all ++ q ∷ [])) a b c (made_then (take i all) q a.now b.now c.now) p n)
+    (stays_then (MakesTables (take i all)) (Makes (table_at q) (checks_of q) []) (MakesTables (take i all ++ q ∷ [])) a b c (made_then (take i all) q a.now b.now c.now) p n)
 
 -- each of them was made
 pub made_all : (i : ℕ) (all : List Table) (a b : Seen) → length all ≤ i → Stays (MakesTables (take i all)) a b → Stays (MakesTables all) a b
@@ -107,17 +114,26 @@ empty_stands row is a b c m n =
           stands_apart (table_at table) (m.places table) refl [] (m.places Edition).tree b c (m.apart table Edition (inr (among_rolls table among)) first (apart_edition table among)) done.1 (m.stand table (inr (among_rolls table among)));
     }
 
+-- and that they have the rules
+ruled_so : (row : List Value) (a b c : Database) → MakesTables kept a b → Adds (table_at Edition) row b c → AreRuled c.schema
+unfolding AreRuled
+ruled_so row a b c m n table among place listed =
+    let first : Has kept Edition = inl refl in
+    let done = n (m.places Edition) [] (m.stand Edition first) in
+    let here = subst (λ (s : Schema). Lists s (table_at table (m.places table))) (sym done.1.schema) (m.stand table among).listed in
+    ap (λ (t : AnyTable). t.checks) (listed_once c.schema (table_at table) place (m.places table) refl listed here) ∙ m.ruled table among
+
 -- the tables were made one after the other, and then the edition was written
 pub founded : (row : List Value) → row ∷ [] ≡ first_edition → (a b c : Seen) → Stays (MakesTables kept) a b → HasStepped (Adds (table_at Edition) row) b c → HasStepped Empties a c
 unfolding Empties
-founded row is a b c m n = stays_stepped (MakesTables kept) (Adds (table_at Edition) row) Empties a b c (empty_stands row is a.now b.now c.now) m n
+founded row is a b c m n = stays_stepped (MakesTables kept) (Adds (table_at Edition) row) Empties a b c (λ p q. (empty_stands row is a.now b.now c.now p q, ruled_so row a.now b.now c.now p q)) m n
 
 -- the tables were made where there were none
 pub opens_new : (old new : Database) (office : State) → HasNone old.schema → office ≡ empty → Empties old new → Opens old new office
 unfolding Empties
-opens_new old new office none is made = inl (none, is, made)
+opens_new old new office none is made = inl (none, is, made.0, made.1)
 
 -- what a crash leaves of the making
 pub founds_left : (old : Database) (trees : Trees) → HasNone old.schema → IsLeft Empties old trees → IsLeft Founds old trees
 unfolding Empties
-founds_left old trees none h = (h.0, record { none = none; stands = h.1 }, h.2)
+founds_left old trees none h = (h.0, record { none = none; stands = h.1.0; ruled = h.1.1 }, h.2)

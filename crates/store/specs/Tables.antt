@@ -15,7 +15,7 @@ use Rattle.rolls.specs.Rows.{row_of}
 use Rattle.rolls.specs.State.{State, empty}
 use Rattle.tables.specs.declared.table.Table.{Table}
 use Rattle.tables.specs.declared.table.Table.TheVariants.{Edition}
-use Rattle.tables.specs.Table.{Place, Lists, shape_of, table_at}
+use Rattle.tables.specs.Table.{Place, Lists, checks_of, shape_of, table_at}
 use Rattle.tables.specs.Keyed.{Stands}
 use Rattle.store.specs.Rows.{AreRowsAt, IsRoll, columns_of, kept}
 
@@ -43,10 +43,15 @@ StandsFor db office = TablesHold db (row_of office)
 abbrev pub HasNone : Schema → Type 0
 HasNone schema = (table : Table) → Has kept table → is_some (table_named schema (shape_of table).name) ≡ false
 
--- Each of these tables was made, with no rows, in a tree of its own, while the tables that the schema had are
+-- the tables of the store have the CHECK rules that are made here
+unfoldable pub AreRuled : Schema → Type 0
+AreRuled schema = (table : Table) → Has kept table → (place : Place) → Lists schema (table_at table place) → place.checks ≡ checks_of table
+
+-- Each of these tables was made, with its CHECK rules and no rows, in a tree of its own, while the tables that the schema had are
 -- listed as before, with their rows.
 pub record MakesTables (tables : List Table) (old new : Database) : Type 0 where
   pub places : Table → Place
+  pub ruled : (table : Table) → Has tables table → (places table).checks ≡ checks_of table
   pub stand : (table : Table) → Has tables table → Stands (table_at table) (places table) [] new
   pub apart : (a b : Table) → Has tables a → Has tables b → a ≢ b → (places a).tree ≢ (places b).tree
   pub others : (t : AnyTable) → Lists old.schema t → Lists new.schema t × (new.trees t.tree ≡ old.trees t.tree) × ((table : Table) → Has tables table → t.tree ≢ (places table).tree)
@@ -55,14 +60,15 @@ pub record MakesTables (tables : List Table) (old new : Database) : Type 0 where
 pub record Founds (old new : Database) : Type 0 where
   pub none : HasNone old.schema
   pub stands : StandsFor new empty
+  pub ruled : AreRuled new.schema
 
--- a database comes to stand for the empty office
+-- a database comes to stand for the empty office, in tables with the CHECK rules that are made here
 unfoldable pub Empties : Database → Database → Type 0
-Empties old new = StandsFor new empty
+Empties old new = StandsFor new empty × AreRuled new.schema
 
 -- what was opened: the empty office where none of the tables was there, and else the office that they stand for
 abbrev pub Opens : Database → Database → State → Type 0
-Opens old new office = (HasNone old.schema × (office ≡ empty) × StandsFor new empty) ⊎ ((new ≡ old) × StandsFor old office)
+Opens old new office = (HasNone old.schema × (office ≡ empty) × StandsFor new empty × AreRuled new.schema) ⊎ ((new ≡ old) × StandsFor old office)
 
 -- a crash leaves what is seen, and nothing else
 abbrev pub LeavesAlone : Seen → Type 0

@@ -74,7 +74,9 @@ fn row_with(alloc: Global, table: Table, cells: &Cells) -> Result<Row, StoreFaul
             })
         }
         Table::Student => Ok(Row::Student { code, label }),
-        Table::Edition => Err(StoreFault::Storage),
+        Table::Edition | Table::Round | Table::Choice | Table::Placement | Table::Import => Err(
+            StoreFault::Storage,
+        ),
     }
 }
 

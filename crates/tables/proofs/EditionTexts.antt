@@ -19,7 +19,7 @@ use Rattle.sqlite.specs.Cast.{cast_row}
 use Rattle.sqlite_trees.specs.View.{is_int}
 use Rattle.sqlite_sql.specs.Term.{eval_all}
 use Rattle.tables.specs.declared.table.Table.TheVariants.{Edition}
-use Rattle.tables.specs.Table.{Place, Lists, shape_of, table_at, kinds_of, are_of, cells}
+use Rattle.tables.specs.Table.{Place, Lists, checks_of, shape_of, table_at, kinds_of, are_of, cells}
 use Rattle.tables.specs.Writes.{begins_with}
 use Rattle.tables.proofs.Places.{nowhere}
 use Rattle.tables.proofs.Creating.{IsCreate, made_command}
@@ -37,7 +37,7 @@ abbrev id_test : Expr
 id_test = is_parameter (codes "id") 1
 
 -- the text that makes the table
-pub edition_create : IsCreate (shape_of Edition).create edition
+pub edition_create : IsCreate (shape_of Edition).create edition (checks_of Edition)
 unfolding everything listing_schema
 edition_create = record {
   p = record { statement = written.CreateTable _; names = []; formats = []; start = 0; end = 101; tail = 101 };
@@ -47,7 +47,6 @@ edition_create = record {
   shows = λ schema. refl;
   commands = λ schema. made_command schema (codes "edition");
   whole = refl;
-  checks = _;
   defined = refl;
   named = refl;
 }

@@ -21,4 +21,8 @@ mod StudentTexts
 mod SupervisorTexts
 mod ProjectTexts
 mod EditionTexts
+mod RoundTexts
+mod ChoiceTexts
+mod PlacementTexts
+mod ImportTexts
 mod Told

@@ -23,7 +23,7 @@ use Rattle.sqlite.specs.Cast.{cast_row}
 use Rattle.sqlite_trees.specs.View.{is_int}
 use Rattle.sqlite_sql.specs.Term.{eval_all}
 use Rattle.tables.specs.declared.table.Table.TheVariants.{Project}
-use Rattle.tables.specs.Table.{Place, Lists, shape_of, table_at, kinds_of, are_of, cells}
+use Rattle.tables.specs.Table.{Place, Lists, checks_of, shape_of, table_at, kinds_of, are_of, cells}
 use Rattle.tables.specs.Writes.{begins_with}
 use Rattle.tables.proofs.Places.{nowhere}
 use Rattle.tables.proofs.Creating.{IsCreate, made_command}
@@ -41,7 +41,7 @@ abbrev code_test : Expr
 code_test = is_parameter (codes "code") 1
 
 -- the text that makes the table
-pub project_create : IsCreate (shape_of Project).create project
+pub project_create : IsCreate (shape_of Project).create project (checks_of Project)
 unfolding everything listing_schema
 project_create = record {
   p = record { statement = written.CreateTable _; names = []; formats = []; start = 0; end = 192; tail = 192 };
@@ -51,7 +51,6 @@ project_create = record {
   shows = λ schema. refl;
   commands = λ schema. made_command schema (codes "project");
   whole = refl;
-  checks = _;
   defined = refl;
   named = refl;
 }

@@ -9,18 +9,19 @@ use Rattle.std.specs.List.Sorted.{IsPermutation}
 use Rattle.sqlite.specs.Order.{Row}
 use Rattle.sqlite.specs.Schema.{Schema}
 use Rattle.sqlite.specs.Table.{Table}
+use Rattle.sqlite.specs.Term.{Term}
 use Rattle.sqlite.specs.Effect.{Database}
 use Rattle.sqlite.specs.State.{State, HasCleanDisk, KeepsCommit, Executes, Survives}
 use Rattle.sqlite.proofs.StateLemmas.{survives_then}
 use Rattle.sqlite.specs.Tree.{Trees}
 use Rattle.sqlite_rules.proofs.ListLemmas.{all_has, all_from, has_got}
 use Rattle.tables.specs.declared.table.Table.{Table as Ours}
-use Rattle.tables.specs.declared.table.Table.TheVariants.{Edition, Supervisor, Project, Student}
+use Rattle.tables.specs.declared.table.Table.TheVariants.{Edition, Supervisor, Project, Student, Round, Choice, Placement, Import}
 use Rattle.tables.specs.Table.{Place, Lists, cells, table_at, number_of, same_table}
 use Rattle.std.proofs.lemmas.Bool.{cases_Bool}
 use Rattle.std.proofs.lemmas.Bool.Decides.{Decides-eqb}
 use Rattle.tables.specs.Keyed.{IsKeyed, Stands}
-use Rattle.tables.specs.Writes.{WritesOnly, Adds, Makes}
+use Rattle.tables.specs.Writes.{WritesOnly, Makes}
 use Rattle.tables.specs.Steps.{Does, HasRun, HasStepped, IsPart, Stays, Rests}
 use Rattle.tables.proofs.Places.{listed_along}
 
@@ -55,25 +56,10 @@ stands_apart table place same rows tree old new apart only stands =
     let kept : new.trees t.tree ≡ old.trees t.tree = all_has _ old.schema.tables t only.others (has_got old.schema.tables stands.listed.at t stands.listed.there) (λ e. apart (sym same ∙ e)) in
     stands_kept table place same rows old new (listed_along old.schema new.schema t only.schema stands.listed) kept stands
 
--- a table that is made, and then gets a row
-pub made_with : (table : Place → Table) (row : Row) (a b c : Database) → Makes table [] a b → Adds table row b c → Makes table (row ∷ []) a c
-made_with table row a b c made adds =
-    let grown = adds made.place [] made.stands in
-    record {
-      place = made.place;
-      stands = grown.0;
-      others = λ t listed.
-          let was = made.others t listed in (
-            listed_along b.schema c.schema t grown.1.schema was.0,
-            all_has _ b.schema.tables t grown.1.others (has_got b.schema.tables was.0.at t was.0.there) was.2 ∙ was.1,
-            was.2,
-          );
-    }
-
 -- so it does where another is made, and is another
-pub stands_beside : (table : Place → Table) (place : Place) (same : (table place).tree ≡ place.tree) (rows : List Row) (other : Place → Table) (given : List Row) (old new : Database)
-    → (made : Makes other given old new) → Stands table place rows old → Stands table place rows new × (place.tree ≢ made.place.tree)
-stands_beside table place same rows other given old new made stands =
+pub stands_beside : (table : Place → Table) (place : Place) (same : (table place).tree ≡ place.tree) (rows : List Row) (other : Place → Table) (checks : List Term) (given : List Row) (old new : Database)
+    → (made : Makes other checks given old new) → Stands table place rows old → Stands table place rows new × (place.tree ≢ made.place.tree)
+stands_beside table place same rows other checks given old new made stands =
     let kept = made.others (table place) stands.listed in
     (stands_kept table place same rows old new kept.0 kept.1 stands, λ e. kept.2 (same ∙ e))
 
@@ -169,13 +155,17 @@ pub listed_at_one : (table : Ours) (schema : Schema) (p q : Place) → Lists sch
 listed_at_one table schema p q l m = ap (λ (t : Table). t.tree) (listed_once schema (table_at table) p q refl l m)
 
 abbrev table_numbered : ℕ → Ours
-table_numbered n = get_or (Edition ∷ Supervisor ∷ Project ∷ Student ∷ []) n Edition
+table_numbered n = get_or (Edition ∷ Supervisor ∷ Project ∷ Student ∷ Round ∷ Choice ∷ Placement ∷ Import ∷ []) n Edition
 
 numbered_back : (table : Ours) → table_numbered (number_of table) ≡ table
 numbered_back Edition = refl
 numbered_back Supervisor = refl
 numbered_back Project = refl
 numbered_back Student = refl
+numbered_back Round = refl
+numbered_back Choice = refl
+numbered_back Placement = refl
+numbered_back Import = refl
 
 -- tables that are tested to be one are one
 pub same_table_is : (a b : Ours) → same_table a b ≡ true → a ≡ b

@@ -18,7 +18,7 @@ use Rattle.sqlite.specs.Cast.{cast_row}
 use Rattle.sqlite_trees.specs.View.{is_int}
 use Rattle.sqlite_sql.specs.Term.{eval_all}
 use Rattle.tables.specs.declared.table.Table.TheVariants.{Student}
-use Rattle.tables.specs.Table.{Place, Lists, shape_of, table_at, kinds_of, are_of, cells}
+use Rattle.tables.specs.Table.{Place, Lists, checks_of, shape_of, table_at, kinds_of, are_of, cells}
 use Rattle.tables.specs.Writes.{begins_with}
 use Rattle.tables.proofs.Places.{nowhere}
 use Rattle.tables.proofs.Creating.{IsCreate, made_command}
@@ -36,7 +36,7 @@ abbrev code_test : Expr
 code_test = is_parameter (codes "code") 1
 
 -- the text that makes the table
-pub student_create : IsCreate (shape_of Student).create student
+pub student_create : IsCreate (shape_of Student).create student (checks_of Student)
 unfolding everything listing_schema
 student_create = record {
   p = record { statement = written.CreateTable _; names = []; formats = []; start = 0; end = 81; tail = 81 };
@@ -46,7 +46,6 @@ student_create = record {
   shows = λ schema. refl;
   commands = λ schema. made_command schema (codes "student");
   whole = refl;
-  checks = _;
   defined = refl;
   named = refl;
 }

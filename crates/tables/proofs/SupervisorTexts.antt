@@ -18,7 +18,7 @@ use Rattle.sqlite.specs.Cast.{cast_row}
 use Rattle.sqlite_trees.specs.View.{is_int}
 use Rattle.sqlite_sql.specs.Term.{eval_all}
 use Rattle.tables.specs.declared.table.Table.TheVariants.{Supervisor}
-use Rattle.tables.specs.Table.{Place, Lists, shape_of, table_at, kinds_of, are_of, cells}
+use Rattle.tables.specs.Table.{Place, Lists, checks_of, shape_of, table_at, kinds_of, are_of, cells}
 use Rattle.tables.specs.Writes.{begins_with}
 use Rattle.tables.proofs.Places.{nowhere}
 use Rattle.tables.proofs.Creating.{IsCreate, made_command}
@@ -36,7 +36,7 @@ abbrev code_test : Expr
 code_test = is_parameter (codes "code") 1
 
 -- the text that makes the table
-pub supervisor_create : IsCreate (shape_of Supervisor).create supervisor
+pub supervisor_create : IsCreate (shape_of Supervisor).create supervisor (checks_of Supervisor)
 unfolding everything listing_schema
 supervisor_create = record {
   p = record { statement = written.CreateTable _; names = []; formats = []; start = 0; end = 140; tail = 140 };
@@ -46,7 +46,6 @@ supervisor_create = record {
   shows = λ schema. refl;
   commands = λ schema. made_command schema (codes "supervisor");
   whole = refl;
-  checks = _;
   defined = refl;
   named = refl;
 }

@@ -81,7 +81,7 @@ is_untimed t = (length t.computed == 0) && (length t.stamps.places == 0) && (len
 
 -- the keys of the table are those that are told
 abbrev pub has_keys : Shape → AnyTable → Bool
-has_keys shape t = same_key t.key shape.key && bytes_eq t.primary shape.primary && are_same shape.uniques t.uniques && are_plain shape.orders t.orders
+has_keys shape t = same_key t.key shape.key && bytes_eq t.primary shape.primary && are_same shape.uniques t.uniques && are_plain (length shape.uniques) t.orders
 
 -- the table is as one of this shape is made
 abbrev pub has_shape : Shape → AnyTable → Bool

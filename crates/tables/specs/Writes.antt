@@ -2,6 +2,7 @@
 use Rattle.std.specs.Prelude.{◌≡◌, ◌≢◌, [], ◌∷◌, ◌++◌, ◌&&◌, List, Bool, true, ℕ, map, filter, drop, not, length}
 use Rattle.std.specs.List.{AllByRecursion}
 use Rattle.sqlite.specs.Order.{Row, column}
+use Rattle.sqlite.specs.Term.{Term}
 use Rattle.sqlite.specs.Collation.TheVariants.{Binary}
 use Rattle.sqlite.specs.Table.{Table as AnyTable}
 use Rattle.sqlite.specs.Schema.{Schema}
@@ -21,9 +22,10 @@ pub record WritesOnly (tree : ℕ) (old new : Database) : Type 0 where
 abbrev pub IsInert : Schema → ℕ → Type 0
 IsInert schema tree = (olds news : List Row) → works schema Enforced 0 tree olds news ≡ []
 
--- a table more, which holds these rows, while the tables that the schema had are listed as before, with their rows
-pub record Makes (table : Place → AnyTable) (rows : List Row) (old new : Database) : Type 0 where
+-- a table more, with these CHECK rules, which holds these rows, while the tables that the schema had are listed as before, with their rows
+pub record Makes (table : Place → AnyTable) (checks : List Term) (rows : List Row) (old new : Database) : Type 0 where
   pub place : Place
+  pub ruled : place.checks ≡ checks
   pub stands : Stands table place rows new
   pub others : (t : AnyTable) → Lists old.schema t → Lists new.schema t × (new.trees t.tree ≡ old.trees t.tree) × (t.tree ≢ place.tree)
 

@@ -131,7 +131,7 @@ fn has_keys(table: &Listed, shape: &Shape) -> bool
     table.key == shape.key
         && table.primary.as_slice() == shape.primary
         && are_same(table.uniques.as_slice(), shape.uniques)
-        && are_plain(table.orders.as_slice(), shape.orders)
+        && are_plain(table.orders.as_slice(), shape.uniques.len())
 }
 
 /// Whether a table is as one of this shape is made.

@@ -9,9 +9,9 @@
 //! were; a reading shows the rows, and changes nothing. The words are in `specs/Table.antt` (the tables as
 //! a schema lists them), `specs/Writes.antt` and `specs/Steps.antt`; begin there.
 //!
-//! A table's CHECK rules are taken as they were made. A further table is a variant of `Table`, its row in
-//! `table.rt` and in `specs/Table.antt`, and the reading of its five texts, as `proofs/StudentTexts.antt` has
-//! it: what statements do is proved for all.
+//! A table that is made has the CHECK rules that are told; one that is found keeps those that it has. A
+//! further table is a variant of `Table`, its row in `table.rt` and in `specs/Table.antt`, and the reading of
+//! its five texts, as `proofs/StudentTexts.antt` has it: what statements do is proved for all.
 #![tactic(auto)]
 
 pub mod fault;

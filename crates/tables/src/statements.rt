@@ -4,7 +4,7 @@ ghost use Rattle.std.specs.Prelude.{◌≡◌, [], IfOk, false};
 ghost use Rattle.sqlite.specs.State.{HasCleanDisk, Survives};
 ghost use Rattle.sqlite.specs.Values.{bound};
 ghost use Rattle.sqlite.specs.Held.{state};
-ghost use Rattle.tables.specs.Table.{IsRowOf, IsKeyOf, key_in, table_at};
+ghost use Rattle.tables.specs.Table.{IsRowOf, IsKeyOf, checks_of, key_in, table_at};
 ghost use Rattle.tables.specs.Writes.{Adds, Makes, Puts, Removes, Replaces};
 ghost use Rattle.tables.specs.Steps.{Does, HasStepped, IsPart, Rests, Shows};
 
@@ -18,7 +18,7 @@ use sqlite_value::value::ValueRef;
 /// Makes the table.
 pub fn make<S: Alter>(tx: &mut Transaction<'_, S>, table: Table) -> Result<(), TableFault>
     ensures same_reference { tx.new.conn.ghost_name ≡ tx.old.conn.ghost_name }
-    ensures step { Does (HasStepped (Makes (table_at table) [])) result (state S.Store tx.old.conn.now) (state S.Store tx.new.conn.now) }
+    ensures step { Does (HasStepped (Makes (table_at table) (checks_of table) [])) result (state S.Store tx.old.conn.now) (state S.Store tx.new.conn.now) }
 {
     write(tx, table.shape().create, &[])?;
     Ok(())

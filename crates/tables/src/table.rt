@@ -12,6 +12,10 @@ pub enum Table {
     Supervisor,
     Project,
     Student,
+    Round,
+    Choice,
+    Placement,
+    Import,
 }
 
 /// A column of a table: NOT NULL, with no default.
@@ -37,8 +41,6 @@ pub(crate) struct Shape {
     pub primary: &'static [usize],
     /// Columns that no two rows share, the key among them unless it is the rowid.
     pub uniques: &'static [&'static [usize]],
-    /// How many columns those are together.
-    pub orders: usize,
     pub links: &'static [Link],
     /// How many of the first columns a removal names.
     pub named: usize,
@@ -77,7 +79,6 @@ impl Table {
                 key: Some(0),
                 primary: &[0],
                 uniques: &[],
-                orders: 0,
                 links: &[],
                 named: 1,
                 create: "CREATE TABLE edition (id INTEGER NOT NULL PRIMARY KEY CHECK (id = 1), number INTEGER NOT NULL) STRICT",
@@ -105,7 +106,6 @@ impl Table {
                 key: None,
                 primary: &[1],
                 uniques: &[&[1]],
-                orders: 1,
                 links: &[],
                 named: 1,
                 create: "CREATE TABLE supervisor (code TEXT NOT NULL PRIMARY KEY, label TEXT NOT NULL, quota INTEGER NOT NULL CHECK (quota BETWEEN 0 AND 500)) STRICT",
@@ -137,7 +137,6 @@ impl Table {
                 key: None,
                 primary: &[1],
                 uniques: &[&[1]],
-                orders: 1,
                 links: &[Link {
                     column: 3,
                     parent: "supervisor",
@@ -165,7 +164,6 @@ impl Table {
                 key: None,
                 primary: &[1],
                 uniques: &[&[1]],
-                orders: 1,
                 links: &[],
                 named: 1,
                 create: "CREATE TABLE student (code TEXT NOT NULL PRIMARY KEY, label TEXT NOT NULL) STRICT",
@@ -173,6 +171,154 @@ impl Table {
                 update: "UPDATE student SET code = ?1, label = ?2 WHERE code = ?1",
                 delete: "DELETE FROM student WHERE code = ?1",
                 select: "SELECT rowid, * FROM student",
+            },
+            Table::Round => &Shape {
+                name: "round",
+                columns: &[
+                    Told {
+                        name: "number",
+                        kind: Kind::Integer,
+                    },
+                    Told {
+                        name: "open",
+                        kind: Kind::Integer,
+                    },
+                ],
+                key: Some(0),
+                primary: &[0],
+                uniques: &[],
+                links: &[],
+                named: 1,
+                create: "CREATE TABLE round (number INTEGER NOT NULL PRIMARY KEY, open INTEGER NOT NULL CHECK (open IN (0, 1))) STRICT",
+                insert: "INSERT INTO round (number, open) VALUES (?1, ?2)",
+                update: "UPDATE round SET open = ?2 WHERE number = ?1",
+                delete: "DELETE FROM round WHERE number = ?1",
+                select: "SELECT rowid, * FROM round",
+            },
+            Table::Choice => &Shape {
+                name: "choice",
+                columns: &[
+                    Told {
+                        name: "round",
+                        kind: Kind::Integer,
+                    },
+                    Told {
+                        name: "student",
+                        kind: Kind::Text,
+                    },
+                    Told {
+                        name: "place",
+                        kind: Kind::Integer,
+                    },
+                    Told {
+                        name: "project",
+                        kind: Kind::Text,
+                    },
+                ],
+                key: None,
+                primary: &[1, 2, 3],
+                uniques: &[&[1, 2, 3], &[1, 2, 4]],
+                links: &[
+                    Link {
+                        column: 1,
+                        parent: "round",
+                        parent_column: "number",
+                    },
+                    Link {
+                        column: 2,
+                        parent: "student",
+                        parent_column: "code",
+                    },
+                    Link {
+                        column: 4,
+                        parent: "project",
+                        parent_column: "code",
+                    },
+                ],
+                named: 2,
+                create: "CREATE TABLE choice (round INTEGER NOT NULL REFERENCES round (number), student TEXT NOT NULL REFERENCES student (code), place INTEGER NOT NULL CHECK (place BETWEEN 1 AND 8), project TEXT NOT NULL REFERENCES project (code), PRIMARY KEY (round, student, place), UNIQUE (round, student, project)) STRICT",
+                insert: "INSERT INTO choice (round, student, place, project) VALUES (?1, ?2, ?3, ?4)",
+                update: "UPDATE choice SET round = ?1, student = ?2, place = ?3, project = ?4 WHERE round = ?1 AND student = ?2 AND place = ?3",
+                delete: "DELETE FROM choice WHERE round = ?1 AND student = ?2",
+                select: "SELECT rowid, * FROM choice",
+            },
+            Table::Placement => &Shape {
+                name: "placement",
+                columns: &[
+                    Told {
+                        name: "student",
+                        kind: Kind::Text,
+                    },
+                    Told {
+                        name: "round",
+                        kind: Kind::Integer,
+                    },
+                    Told {
+                        name: "project",
+                        kind: Kind::Text,
+                    },
+                    Told {
+                        name: "rank",
+                        kind: Kind::Integer,
+                    },
+                ],
+                key: None,
+                primary: &[1],
+                uniques: &[&[1]],
+                links: &[
+                    Link {
+                        column: 1,
+                        parent: "student",
+                        parent_column: "code",
+                    },
+                    Link {
+                        column: 2,
+                        parent: "round",
+                        parent_column: "number",
+                    },
+                    Link {
+                        column: 3,
+                        parent: "project",
+                        parent_column: "code",
+                    },
+                ],
+                named: 1,
+                create: "CREATE TABLE placement (student TEXT NOT NULL PRIMARY KEY REFERENCES student (code), round INTEGER NOT NULL REFERENCES round (number), project TEXT NOT NULL REFERENCES project (code), rank INTEGER NOT NULL CHECK (rank BETWEEN 1 AND 8)) STRICT",
+                insert: "INSERT INTO placement (student, round, project, rank) VALUES (?1, ?2, ?3, ?4)",
+                update: "UPDATE placement SET student = ?1, round = ?2, project = ?3, rank = ?4 WHERE student = ?1",
+                delete: "DELETE FROM placement WHERE student = ?1",
+                select: "SELECT rowid, * FROM placement",
+            },
+            Table::Import => &Shape {
+                name: "import",
+                columns: &[
+                    Told {
+                        name: "id",
+                        kind: Kind::Text,
+                    },
+                    Told {
+                        name: "kind",
+                        kind: Kind::Text,
+                    },
+                    Told {
+                        name: "bytes",
+                        kind: Kind::Blob,
+                    },
+                    Told {
+                        name: "rows",
+                        kind: Kind::Integer,
+                    },
+                ],
+                key: None,
+                primary: &[1],
+                uniques: &[&[1]],
+                links: &[],
+                named: 1,
+                create: "CREATE TABLE import (id TEXT NOT NULL PRIMARY KEY, kind TEXT NOT NULL CHECK (kind IN ('supervisors', 'projects', 'students', 'lists')), bytes BLOB NOT NULL, rows INTEGER NOT NULL) STRICT",
+                insert: "INSERT INTO import (id, kind, bytes, rows) VALUES (?1, ?2, ?3, ?4)",
+                update: "UPDATE import SET id = ?1, kind = ?2, bytes = ?3, rows = ?4 WHERE id = ?1",
+                delete: "DELETE FROM import WHERE id = ?1",
+                select: "SELECT rowid, * FROM import",
             },
         }
     }
