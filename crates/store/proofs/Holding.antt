@@ -3,7 +3,6 @@ use Rattle.std.proofs.Common.{◌≡◌, ◌≢◌, inl, inr, List, ◌∷◌, O
 use Rattle.std.proofs.lemmas.Bool.{false_from_ne_true}
 use Rattle.sqlite.specs.Effect.{Database}
 use Rattle.sqlite.specs.Order.{Row as Cells}
-use Rattle.sqlite_rules.specs.Lists.{Has}
 use Rattle.rolls.specs.declared.row.Row.{Row}
 use Rattle.rolls.specs.declared.row.RowKey.{RowKey}
 use Rattle.rolls.specs.declared.row.Change.TheVariants.{Put, Take}
@@ -16,7 +15,8 @@ use Rattle.tables.specs.Writes.{Puts, Removes, WritesOnly, with_row, without}
 use Rattle.tables.proofs.Runs.{stands_apart, decide_table}
 use Rattle.store.specs.Rows.{IsRoll, columns, columns_of, table_of}
 use Rattle.store.specs.Tables.{TablesHold, first_edition}
-use Rattle.store.specs.Saving.{AppliesOne}
+use Rattle.sqlite_rules.proofs.ListLemmas.{all_has}
+use Rattle.store.specs.Saving.{AppliesOne, Spares}
 use Rattle.store.proofs.Keys.{dropped, rows_put, rows_taken}
 use Rattle.store.proofs.Columns.{table_at_key, key_columns, same_tables, in_rolls, is_of, columns_without, columns_beside, columns_more, columns_same}
 
@@ -35,6 +35,10 @@ module _ (old new : Database) (rows : RowKey → Option Row) (t : TablesHold old
         let there = stands_apart (table_at table) (t.places table) refl (columns_of table t.list) (t.places q).tree old new (t.apart table q among kept other) only (t.rolls table among) in
         subst (λ all. Stands (table_at table) (t.places table) all new) (sym (others table other)) there
   ]
+
+  -- what is written spares the other tables
+  spared : Spares old new
+  spared = record { schema = only.schema; others = λ any h apart. all_has _ old.schema.tables any only.others h (apart q kept (t.places q) (t.rolls q kept).listed) }
 
 -- a row that was put in its table
 pub hold_put : (r : Row) (old new : Database) → Puts (table_at (table_of r)) (key_columns (key_of r)) (columns r) old new → AppliesOne (Put r) old new
@@ -59,7 +63,7 @@ hold_put r old new puts inert rows t =
         editions = edition_stays old new rows t q kept done.1;
         rolls = rolls_are old new rows t q kept done.1 list (with_row (key_columns k) (columns r) (columns_of q t.list)) done.0 own others;
       },
-      done.1.schema,
+      spared old new rows t q kept done.1,
     )
 
 -- a row that was taken out of its table
@@ -80,5 +84,5 @@ hold_take k old new removes inert rows t =
         editions = edition_stays old new rows t q kept done.1;
         rolls = rolls_are old new rows t q kept done.1 list (without (key_columns k) (columns_of q t.list)) done.0 (columns_without k t.list) (λ table other. columns_beside table k t.list other);
       },
-      done.1.schema,
+      spared old new rows t q kept done.1,
     )

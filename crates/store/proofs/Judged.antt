@@ -18,7 +18,7 @@ use Rattle.rolls.specs.Rows.{row_of}
 use Rattle.rolls.specs.From as from
 use Rattle.tables.specs.declared.table.Table.{Table}
 use Rattle.tables.specs.declared.table.Table.TheVariants.{Edition}
-use Rattle.store.specs.Rows.{IsRoll, columns_of, rolls}
+use Rattle.store.specs.Rows.{IsRoll, columns_of}
 use Rattle.office.specs.declared.draft.RowsFault.{RowsFault}
 use Rattle.office.specs.declared.draft.RowsFault.TheVariants.{Unfit}
 use Rattle.office.specs.declared.draft.RowsFault.TheVariants as why

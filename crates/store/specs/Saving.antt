@@ -1,6 +1,8 @@
 -- What saving changes does to the tables.
-use Rattle.std.specs.Prelude.{◌≡◌, List, Option}
+use Rattle.std.specs.Prelude.{◌≡◌, ◌≢◌, List, Option}
 use Rattle.sqlite.specs.Schema.{Schema}
+use Rattle.sqlite.specs.Table.{Table as AnyTable}
+use Rattle.sqlite_rules.specs.Lists.{Has}
 use Rattle.tables.specs.declared.table.Table.{Table}
 use Rattle.sqlite.specs.Effect.{Database}
 use Rattle.rolls.specs.declared.row.Row.{Row}
@@ -33,12 +35,22 @@ AreActedOn schema = (table : Table) × IsRoll table × IsActedOnAt table schema
 unfoldable pub Saves : List Change → Database → Database → Type 0
 Saves changes old new = (rows : RowKey → Option Row) → TablesHold old rows → TablesHold new (after_changes changes rows)
 
--- the same, of a run of statements: the schema stays as it is
+-- the schema is as it was, and so is each table of it in whose tree no roll is listed
+pub record Spares (old new : Database) : Type 0 where
+  pub schema : new.schema ≡ old.schema
+  pub others : (t : AnyTable) → Has old.schema.tables t → ((table : Table) → IsRoll table → (place : Place) → Lists old.schema (table_at table place) → t.tree ≢ place.tree)
+      → new.trees t.tree ≡ old.trees t.tree
+
+-- where the tables held rows, the other tables are left alone
+unfoldable pub LeavesOthers : Database → Database → Type 0
+LeavesOthers old new = (rows : RowKey → Option Row) → TablesHold old rows → Spares old new
+
+-- the same, of a run of statements, which spare the other tables
 unfoldable pub Applies : List Change → Database → Database → Type 0
 Applies changes old new =
-    AreInert old.schema → (rows : RowKey → Option Row) → TablesHold old rows → TablesHold new (after_changes changes rows) × (new.schema ≡ old.schema)
+    AreInert old.schema → (rows : RowKey → Option Row) → TablesHold old rows → TablesHold new (after_changes changes rows) × Spares old new
 
 -- the same, of one change
 unfoldable pub AppliesOne : Change → Database → Database → Type 0
 AppliesOne change old new =
-    AreInert old.schema → (rows : RowKey → Option Row) → TablesHold old rows → TablesHold new (after_change change rows) × (new.schema ≡ old.schema)
+    AreInert old.schema → (rows : RowKey → Option Row) → TablesHold old rows → TablesHold new (after_change change rows) × Spares old new

@@ -131,6 +131,7 @@ fn read_rows<S: Alter>(alloc: Global, conn: &mut Connection<S>) -> Result<Vec<Ro
 /// The office of the tables, where none is being written.
 pub fn office_of<S: Alter>(alloc: Global, conn: &mut Connection<S>) -> Result<Office, StoreFault>
     ensures ok { HasCleanDisk (state S.Store conn.new) → IfOk result (λ office. IsUnchanged (state S.Store conn.old) (state S.Store conn.new) × StandsFor (state S.Store conn.old).now office) }
+    ensures unlisted { (AreListed (state S.Store conn.old).now.schema → ⊥) → result ≡ Err StoreFault.Damaged }
     ensures damaged { HasCleanDisk (state S.Store conn.new) → result ≡ Err StoreFault.Damaged → IsDamaged (state S.Store conn.old).now }
     ensures rests { HasCleanDisk (state S.Store conn.new) → Rests (state S.Store conn.old) (state S.Store conn.new) }
     ensures mode { conn.old.in_transaction ≡ false → conn.new.in_transaction ≡ false }

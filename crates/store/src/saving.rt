@@ -4,7 +4,7 @@ ghost use Rattle.std.specs.Prelude.{◌≡◌, ◌≢◌, IsTrue, false, OnOk, O
 ghost use Rattle.sqlite.specs.State.{HasCleanDisk, Survives};
 ghost use Rattle.sqlite.specs.Held.{state};
 ghost use Rattle.tables.specs.Steps.{Does, HasSaved, HasStepped, IsKept, IsLeft, Stays};
-ghost use Rattle.store.specs.Saving.{Applies, AppliesOne, AreActedOn, Saves};
+ghost use Rattle.store.specs.Saving.{Applies, AppliesOne, AreActedOn, LeavesOthers, Saves};
 
 use crate::fault::StoreFault;
 use crate::quiet::are_left;
@@ -103,6 +103,7 @@ pub fn save_changes<S: Alter>(
     changes: &[Change],
 ) -> Result<(), StoreFault>
     ensures ok { HasCleanDisk (state S.Store conn.new) → OnOk result (HasSaved (Saves changes.now) (state S.Store conn.old) (state S.Store conn.new)) }
+    ensures others { HasCleanDisk (state S.Store conn.new) → OnOk result (LeavesOthers (state S.Store conn.old).now (state S.Store conn.new).now) }
     ensures err { HasCleanDisk (state S.Store conn.new) → OnErr result (IsKept (state S.Store conn.old) (state S.Store conn.new)) }
     ensures faults { result ≢ Err StoreFault.Damaged }
     ensures acted_on { AreActedOn (state S.Store conn.old).now.schema → result ≡ Err StoreFault.Storage }
