@@ -7,7 +7,6 @@ ghost use Rattle.tables.specs.Steps.{Does, HasSaved, HasStepped, IsKept, IsLeft,
 ghost use Rattle.store.specs.Saving.{Applies, AppliesOne, AreActedOn, LeavesOthers, Saves};
 
 use crate::fault::StoreFault;
-use crate::quiet::are_left;
 use rolls::{Change, Row, RowKey};
 use sqlite::{Alter, Connection, Transaction, params};
 use tables::Table;
@@ -79,7 +78,7 @@ pub fn apply_all<S: Alter>(
 }
 
 /// Makes the changes in one transaction.
-fn save_all<S: Alter>(conn: &mut Connection<S>, changes: &[Change]) -> Result<(), StoreFault>
+pub fn save_all<S: Alter>(conn: &mut Connection<S>, changes: &[Change]) -> Result<(), StoreFault>
     ensures ok { HasCleanDisk (state S.Store conn.new) → OnOk result (HasSaved (Applies changes.now) (state S.Store conn.old) (state S.Store conn.new)) }
     ensures err { HasCleanDisk (state S.Store conn.new) → OnErr result (IsKept (state S.Store conn.old) (state S.Store conn.new)) }
     ensures faults { result ≢ Err StoreFault.Damaged }
@@ -95,23 +94,4 @@ fn save_all<S: Alter>(conn: &mut Connection<S>, changes: &[Change]) -> Result<()
         Ok(()) => Ok(()),
         Err(error) => Err(TableFault::from(error).into()),
     }
-}
-
-/// Makes the changes in one transaction, where no other table acts on the product's.
-pub fn save_changes<S: Alter>(
-    conn: &mut Connection<S>,
-    changes: &[Change],
-) -> Result<(), StoreFault>
-    ensures ok { HasCleanDisk (state S.Store conn.new) → OnOk result (HasSaved (Saves changes.now) (state S.Store conn.old) (state S.Store conn.new)) }
-    ensures others { HasCleanDisk (state S.Store conn.new) → OnOk result (LeavesOthers (state S.Store conn.old).now (state S.Store conn.new).now) }
-    ensures err { HasCleanDisk (state S.Store conn.new) → OnErr result (IsKept (state S.Store conn.old) (state S.Store conn.new)) }
-    ensures faults { result ≢ Err StoreFault.Damaged }
-    ensures acted_on { AreActedOn (state S.Store conn.old).now.schema → result ≡ Err StoreFault.Storage }
-    ensures crash { Survives (state S.Store conn.old) (state S.Store conn.new) (IsLeft (Saves changes.now) (state S.Store conn.old).now) }
-    ensures ended { conn.old.in_transaction ≡ false → conn.new.in_transaction ≡ false }
-{
-    if !are_left(conn.schema()) {
-        return Err(StoreFault::Storage);
-    }
-    save_all(conn, changes)
 }

@@ -10,8 +10,9 @@ ghost use Rattle.store.specs.Saving.{AreActedOn, LeavesOthers, Saves};
 
 use crate::fault::StoreFault;
 use crate::founding::{found, has_none};
+use crate::quiet::are_left;
 use crate::reading::office_of;
-use crate::saving::save_changes;
+use crate::saving::save_all;
 use office::Office;
 use rolls::Change;
 use sqlite::{Alter, Connection};
@@ -135,7 +136,10 @@ impl<S: Alter> Store<S> {
         ensures crash { Survives (state S.Store self.old) (state S.Store self.new) (IsLeft (Saves changes.now) (state S.Store self.old).now) }
         ensures ended { self.old.in_transaction ≡ false → self.new.in_transaction ≡ false }
     {
-        save_changes(&mut self.conn, changes)
+        if !are_left(self.conn.schema()) {
+            return Err(StoreFault::Storage);
+        }
+        save_all(&mut self.conn, changes)
     }
 
     /// Gives the connection up. Takes no memory.
