@@ -65,5 +65,5 @@ pub fn line<O: Write + Drop, E: Write + Drop>(
 fn refuse<W: Write>(err: &mut W, refusal: Refusal) -> u8
     ensures { result ≡ 1 }
 {
-    failure(writeln!(err, "refused {}: {refusal:?}", refusal.number()))
+    failure(writeln!(err, "refused {}: {}", refusal.number(), refusal.name()))
 }

@@ -7,7 +7,6 @@ use Rattle.spa.specs.declared.TheConstants.{PLACES}
 use Rattle.std.proofs.lemmas.Bool.{cases_lt}
 use Rattle.std.proofs.lemmas.List.{map-append, length-append, length-replicate, length-map, get_or-replicate, nil_from_length}
 use Rattle.std.proofs.lemmas.List.Elements.{All-append, All-replicate, All-map}
-use Rattle.spa.specs.Codes.{code_at}
 use Rattle.spa.specs.Instance.{Instance, Supervisor, Project, Student, supervisor_codes, project_codes, student_codes}
 use Rattle.spa.specs.declared.fault.Roll.TheVariants.{Supervisors, Projects, Students}
 use Rattle.spa.specs.declared.fault.InstanceFault.{InstanceFault}
@@ -17,8 +16,8 @@ use Rattle.spa.specs.Made.{IsSoundList, IsFirstUnknown, IsListFault, IsFirstList
 use Rattle.intake.proofs.Found.{slice_get_at}
 use Rattle.intake.proofs.Pairing.{one_place, all_found}
 use Rattle.intake.proofs.Rolls.{within_get}
-use Rattle.intake.specs.Parts.{Parts, Rise, IsPlace, IsPrice, ArePrices, IsRoundParts}
-use Rattle.intake.specs.Lines.{Row, line, round_lines, pair_rows, price_rows}
+use Rattle.intake.specs.Parts.{Parts, Rise, IsPlace, IsPrice, ArePricesOrNone, IsRoundParts}
+use Rattle.intake.specs.Lines.{Row, choice_code, line, round_lines, pair_rows, price_rows}
 use Rattle.intake.specs.Reading.{Begins}
 use Rattle.intake.specs.Draft.{IsDraft, IsWhole, ArePlaces, ArePricesUpTo, NoneOrAll}
 use Rattle.intake.proofs.Steps.{seven, S, P, C, M, U, Y, Z, prices_none}
@@ -33,7 +32,7 @@ no_more_pairs (e ∷ es) [] (suc n) = no_more_pairs es [] n ∙ none es
     none [] = refl
     none (x ∷ es) = refl
 no_more_pairs (e ∷ es) (None ∷ ks) n = no_more_pairs es ks n
-no_more_pairs (e ∷ es) (Some k ∷ ks) n = ap (λ (l : List Row). (e.code ∷ code_at e.list k ∷ []) ∷ l) (no_more_pairs es ks n)
+no_more_pairs (e ∷ es) (Some k ∷ ks) n = ap (λ (l : List Row). (e.code ∷ choice_code e.list k ∷ []) ∷ l) (no_more_pairs es ks n)
 
 -- there are no more places than students
 pub places_few : (es : List Student) (ks : List (Option ℕ)) → ArePlaces es ks → length ks ≤ length es
@@ -59,7 +58,7 @@ pub placed_lines : (p : Parts) → round_lines (placed p) ≡ round_lines p
 placed_lines p = ap (λ (l : List Row). seven (S p) (P p) (C p) (map (line (codes "M")) l) (U p) (Y p) (Z p)) (no_more_pairs p.instance.students p.places (length p.instance.students - length p.places))
 
 -- prices up to all of them are all or none
-priced : (n : ℕ) (vs : List (List ℤ)) → ArePricesUpTo n vs → NoneOrAll n vs → ArePrices n vs
+priced : (n : ℕ) (vs : List (List ℤ)) → ArePricesUpTo n vs → NoneOrAll n vs → ArePricesOrNone n vs
 priced n vs a w = record { none_or_all = w; prices = a.prices }
 
 -- a draft that may end is the parts of its text
@@ -105,8 +104,10 @@ list_fault p fault d f =
     go (RepeatedCode roll n) s list h sound = absurd h
     go (UnknownSupervisor n) s list h sound = absurd h
     go (ListLength n) s list h sound = absurd (h.1 sound.0)
-    go (UnknownProject n k) s list h sound = absurd (h.3.unknown (sound.1.known k h.3.code (within_get list k h.3.code h.3.here) h.3.here))
-    go (RepeatedProject n k) s list h sound = absurd (sound.1.apart h.3.earlier k h.3.is_before h.3.known h.3.same)
+    go (UnknownProject n zero) s list h sound = absurd h
+    go (UnknownProject n (suc k)) s list h sound = absurd (h.3.unknown (sound.1.known k h.3.code (within_get list k h.3.code h.3.here) h.3.here))
+    go (RepeatedProject n zero) s list h sound = absurd h
+    go (RepeatedProject n (suc k)) s list h sound = absurd (sound.1.apart h.3.earlier k h.3.is_before h.3.known h.3.same)
 
 -- the rolls of a draft have no fault but want of memory
 pub no_fault : (p : Parts) (fault : InstanceFault) → IsDraft p → IsFirstInstanceFault p.instance fault → fault ≡ Memory

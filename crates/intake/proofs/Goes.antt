@@ -1,5 +1,5 @@
 -- A line that goes on is one that the draft takes.
-use Rattle.std.proofs.Common.{◌≡◌, ℕ, zero, suc, ◌+◌, ◌<◌, ◌≤◌, ◌^◌, ◌%◌, ℤ, pos, negsuc, true, false, List, [], ◌∷◌, ◌++◌, length, map, get_or, slice_get, codes, decimal, Option, Some, None, All, Contains, refl, sym, ap, ◌∙◌, arith, append_assoc}
+use Rattle.std.proofs.Common.{◌≡◌, ℕ, zero, suc, ◌+◌, ◌-◌, ◌<◌, ◌≤◌, ◌^◌, ◌%◌, ℤ, pos, negsuc, true, false, List, [], ◌∷◌, ◌++◌, length, map, get_or, slice_get, codes, decimal, Option, Some, None, All, Contains, refl, sym, ap, ◌∙◌, arith, append_assoc}
 use Rattle.std.specs.Fmt.{signed_decimal}
 use Rattle.std.specs.List.{list_all}
 use Rattle.std.specs.Prelude.{◌==◌, IsTrue}
@@ -17,7 +17,7 @@ use Rattle.spa.specs.Instance.{Supervisor, Project, Student, supervisor_codes, p
 use Rattle.spa.specs.Made.{IsSoundList}
 use Rattle.verdict.specs.Rows.{InRange}
 use Rattle.intake.specs.Parts.{Parts, IsRoll, IsPrice, IsRoundParts}
-use Rattle.intake.specs.Lines.{Row, line, sections, round_lines, supervisor_row, project_row, student_row, pair_rows, price_rows}
+use Rattle.intake.specs.Lines.{Row, choice_code, line, sections, round_lines, supervisor_row, project_row, student_row, pair_rows, price_rows}
 use Rattle.intake.specs.Reading.{Begins}
 use Rattle.intake.specs.Draft.{IsDraft, IsField, IsFree}
 use Rattle.spa.proofs.Texts.{code_bytes}
@@ -120,9 +120,9 @@ module _ (c : ℕ) (low : c < 45) where
   pairs_plain known (e ∷ es) [] roll f o = All-nil (PlainRow (codes "M"))
   pairs_plain known (e ∷ es) (None ∷ ks) roll f o = pairs_plain known es ks roll (All-tail (λ x. IsTrue (is_code x)) e.code (map (λ e. e.code) es) f) (All-tail (λ (e : Student). IsSoundList known e.list) e es o)
   pairs_plain known (e ∷ es) (Some k ∷ ks) roll f o =
-      All-cons (PlainRow (codes "M")) (e.code ∷ code_at e.list k ∷ []) (pair_rows es ks)
-      (All-cons (IsFree c) (codes "M") (e.code ∷ code_at e.list k ∷ []) (letter_plain 77 (apart 77 (omega arith))) (All-cons (IsFree c) e.code (code_at e.list k ∷ []) (code_plain e.code (All-head (λ x. IsTrue (is_code x)) e.code (map (λ e. e.code) es) f))
-      (one (code_at e.list k) (at_plain e.list k (list_plain known e.list roll (All-head (λ (e : Student). IsSoundList known e.list) e es o))))))
+      All-cons (PlainRow (codes "M")) (e.code ∷ choice_code e.list k ∷ []) (pair_rows es ks)
+      (All-cons (IsFree c) (codes "M") (e.code ∷ choice_code e.list k ∷ []) (letter_plain 77 (apart 77 (omega arith))) (All-cons (IsFree c) e.code (choice_code e.list k ∷ []) (code_plain e.code (All-head (λ x. IsTrue (is_code x)) e.code (map (λ e. e.code) es) f))
+      (one (choice_code e.list k) (at_plain e.list (k - 1) (list_plain known e.list roll (All-head (λ (e : Student). IsSoundList known e.list) e es o))))))
       (pairs_plain known es ks roll (All-tail (λ x. IsTrue (is_code x)) e.code (map (λ e. e.code) es) f) (All-tail (λ (e : Student). IsSoundList known e.list) e es o))
 
   -- the numbers of a price

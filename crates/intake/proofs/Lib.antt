@@ -11,6 +11,7 @@ mod Pairing
 mod Pieces
 mod Rolls
 mod Sections
+mod Size
 mod Steps
 mod Takes
 mod Unique

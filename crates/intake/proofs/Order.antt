@@ -44,10 +44,6 @@ pub record Searched (keys : List (List ℕ)) (code : List ℕ) (low high : ℕ) 
   pub before : (p : ℕ) (d : List ℕ) → p < low → code_cmp (get_or keys p d) code ≡ Less
   pub after : (p : ℕ) (d : List ℕ) → high ≤ p → p < length keys → code_cmp code (get_or keys p d) ≡ Less
 
--- nothing is searched yet
-pub searched_none : (keys : List (List ℕ)) (code : List ℕ) (n : ℕ) → n ≡ length keys → Searched keys code 0 n
-searched_none keys code n e = record { within = omega arith; before = λ p d h. absurd (omega arith); after = λ p d h l. absurd (omega arith) }
-
 -- the code comes before the one at m
 pub searched_less : (keys : List (List ℕ)) (code : List ℕ) (low high m : ℕ) (d : List ℕ) → Rise keys → m < high → Searched keys code low high → code_cmp code (get_or keys m d) ≡ Less → Searched keys code low m
 searched_less keys code low high m d rise h s e =

@@ -80,10 +80,6 @@ told : (b : Bool) → not b ≡ true → b ≡ false
 told true h = cc
 told false h = refl
 
--- a letter is the same as itself
-letter_itself : (l : List ℕ) → bytes_eq l l ≡ true
-letter_itself l = (bytes_eq-Decides l l).1 refl
-
 -- the first row of a section and those after it
 first_of : (l : List ℕ) (rows : List Row) (rest : List (List (List ℕ))) (x : List ℕ) (b : Row) (more : List (List (List ℕ))) → map (λ r. l ∷ r) rows ++ rest ≡ (x ∷ b) ∷ more → ((rows ≡ []) × (rest ≡ (x ∷ b) ∷ more)) ⊎ (l ≡ x)
 first_of l [] rest x b more e = inl (refl, e)

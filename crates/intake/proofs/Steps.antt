@@ -4,13 +4,14 @@ use Rattle.std.specs.Fmt.{signed_decimal}
 use Rattle.std.specs.Prelude.{IsTrue}
 use Rattle.std.proofs.lemmas.List.{map_push, length_push, length-map}
 use Rattle.std.proofs.lemmas.List.Elements.{All-push, All-nil}
+use Rattle.spa.specs.Shape.{IsPlaceOf}
 use Rattle.spa.specs.declared.TheConstants.{MOST_PLACES}
 use Rattle.spa.specs.Text.{is_code}
 use Rattle.spa.specs.Codes.{code_at}
 use Rattle.spa.specs.Instance.{Supervisor, Project, Student, supervisor_codes, project_codes, student_codes}
 use Rattle.spa.specs.Made.{IsSoundList}
 use Rattle.intake.specs.Parts.{Parts, Rise, IsPrice, IsRoll}
-use Rattle.intake.specs.Lines.{Row, line, round_lines, supervisor_row, project_row, student_row, pair_rows, price_rows}
+use Rattle.intake.specs.Lines.{Row, choice_code, line, round_lines, supervisor_row, project_row, student_row, pair_rows, price_rows}
 use Rattle.intake.specs.Draft.{IsDraft, ArePricesUpTo, ArePlaces, EndsPlaced, TakesSupervisor, TakesProject, TakesStudent, TakesPair, TakesPrice, TakesStudentPrice, TakesProjectPrice, TakesSupervisorPrice, with_supervisor, with_project, with_student, with_pair}
 
 -- the lines of seven sections
@@ -120,17 +121,17 @@ more x xs m n y h = (let e : m + suc n ≡ suc (m + n) = omega arith in subst (�
 
 -- one pair more, after students without a place
 pub pair_rows_push : (es : List Student) (ks : List (Option ℕ)) (n k : ℕ) (e : Student) → slice_get es (n + length ks) ≡ Some e
-    → pair_rows es (ks ++ replicate n None ++ Some k ∷ []) ≡ pair_rows es ks ++ (e.code ∷ code_at e.list k ∷ []) ∷ []
+    → pair_rows es (ks ++ replicate n None ++ Some k ∷ []) ≡ pair_rows es ks ++ (e.code ∷ choice_code e.list k ∷ []) ∷ []
 pair_rows_push [] ks n k e h = cc
-pair_rows_push (x ∷ es) [] zero k e h = (let s : x ≡ e = cc in ap (λ (l : List Row). (x.code ∷ code_at x.list k ∷ []) ∷ l) (no_pair_rows es) ∙ ap (λ (y : Student). (y.code ∷ code_at y.list k ∷ []) ∷ []) s)
-pair_rows_push (x ∷ es) [] (suc n) k e h = pair_rows_push es [] n k e (less x es n 0 e h) ∙ ap (λ (l : List Row). l ++ (e.code ∷ code_at e.list k ∷ []) ∷ []) (no_pair_rows es)
+pair_rows_push (x ∷ es) [] zero k e h = (let s : x ≡ e = cc in ap (λ (l : List Row). (x.code ∷ choice_code x.list k ∷ []) ∷ l) (no_pair_rows es) ∙ ap (λ (y : Student). (y.code ∷ choice_code y.list k ∷ []) ∷ []) s)
+pair_rows_push (x ∷ es) [] (suc n) k e h = pair_rows_push es [] n k e (less x es n 0 e h) ∙ ap (λ (l : List Row). l ++ (e.code ∷ choice_code e.list k ∷ []) ∷ []) (no_pair_rows es)
 pair_rows_push (x ∷ es) (None ∷ ks) n k e h = pair_rows_push es ks n k e (more x es n (length ks) e h)
-pair_rows_push (x ∷ es) (Some j ∷ ks) n k e h = ap (λ (l : List Row). (x.code ∷ code_at x.list j ∷ []) ∷ l) (pair_rows_push es ks n k e (more x es n (length ks) e h))
+pair_rows_push (x ∷ es) (Some j ∷ ks) n k e h = ap (λ (l : List Row). (x.code ∷ choice_code x.list j ∷ []) ∷ l) (pair_rows_push es ks n k e (more x es n (length ks) e h))
 
 -- its places
-pub places_push : (es : List Student) (ks : List (Option ℕ)) (n k : ℕ) (e : Student) → slice_get es (n + length ks) ≡ Some e → ArePlaces es ks → k < length e.list → ArePlaces es (ks ++ replicate n None ++ Some k ∷ [])
+pub places_push : (es : List Student) (ks : List (Option ℕ)) (n k : ℕ) (e : Student) → slice_get es (n + length ks) ≡ Some e → ArePlaces es ks → IsPlaceOf e.list k → ArePlaces es (ks ++ replicate n None ++ Some k ∷ [])
 places_push [] ks n k e h a l = cc
-places_push (x ∷ es) [] zero k e h a l = (let s : x ≡ e = cc in (subst (λ (y : Student). k < length y.list) (sym s) l, tt))
+places_push (x ∷ es) [] zero k e h a l = (let s : x ≡ e = cc in (subst (λ (y : Student). IsPlaceOf y.list k) (sym s) l, tt))
 places_push (x ∷ es) [] (suc n) k e h a l = (tt, places_push es [] n k e (less x es n 0 e h) tt l)
 places_push (x ∷ es) (j ∷ ks) n k e h a l = (a.0, places_push es ks n k e (more x es n (length ks) e h) a.1 l)
 

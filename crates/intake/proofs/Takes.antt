@@ -6,13 +6,14 @@ use Rattle.std.specs.Prelude.{IsTrue}
 use Rattle.std.specs.Str.{bytes_eq}
 use Rattle.std.proofs.lemmas.Slice.Eq.{bytes_eq-Decides}
 use Rattle.std.proofs.lemmas.List.{length-append, length-map, get_or_append_left, nil_from_length}
+use Rattle.spa.specs.Shape.{IsPlaceOf}
 use Rattle.spa.specs.declared.TheConstants.{MOST_PLACES}
 use Rattle.spa.specs.Text.{is_code}
 use Rattle.spa.specs.Codes.{code_at}
 use Rattle.spa.specs.Instance.{Supervisor, Project, Student, supervisor_codes, project_codes, student_codes}
 use Rattle.spa.specs.Made.{IsSoundList}
 use Rattle.intake.specs.Parts.{Parts, Rise, IsPlace, IsPrice, IsRoundParts}
-use Rattle.intake.specs.Lines.{Row, Section, sections, round_lines, supervisor_row, project_row, student_row, pair_rows, price_rows}
+use Rattle.intake.specs.Lines.{Row, choice_code, Section, sections, round_lines, supervisor_row, project_row, student_row, pair_rows, price_rows}
 use Rattle.intake.specs.Draft.{IsDraft, IsWhole, HasNoPrices, NoneOrAll, ArePlaces, EndsPlaced, TakesSupervisor, TakesProject, TakesStudent, TakesPair, TakesPrice, TakesStudentPrice, TakesProjectPrice, TakesSupervisorPrice}
 use Rattle.intake.proofs.Order.{cmp_apart, get_found}
 use Rattle.intake.proofs.Pairing.{all_found, get_mapped}
@@ -226,7 +227,7 @@ pub record PairAt (es : List Student) (ks : List (Option ℕ)) (n : ℕ) (r : Ro
   pub here : slice_get es at ≡ Some student
   pub placed : slice_get ks at ≡ Some (Some place)
   pub later : n ≤ at
-  pub is : r ≡ student.code ∷ code_at student.list place ∷ []
+  pub is : r ≡ student.code ∷ choice_code student.list place ∷ []
 
 -- the same of one student more in front
 behind : (x : Student) (k : Option ℕ) (es : List Student) (ks : List (Option ℕ)) (m n : ℕ) (r : Row) → n ≤ suc m → PairAt es ks m r → PairAt (x ∷ es) (k ∷ ks) n r
@@ -243,7 +244,7 @@ first_pair (x ∷ es) (Some k ∷ ks) r more e = record { at = 0; place = k; stu
 some_pair : (es : List Student) (ks : List (Option ℕ)) → ArePlaces es ks → EndsPlaced ks → 0 < length ks → (r : Row) × (more : List Row) × (pair_rows es ks ≡ r ∷ more)
 some_pair es [] a e h = absurd (omega arith)
 some_pair [] (k ∷ ks) a e h = absurd a
-some_pair (x ∷ es) (Some k ∷ ks) a e h = (x.code ∷ code_at x.list k ∷ [], pair_rows es ks, refl)
+some_pair (x ∷ es) (Some k ∷ ks) a e h = (x.code ∷ choice_code x.list k ∷ [], pair_rows es ks, refl)
 some_pair (x ∷ es) (None ∷ []) a e h = cc
 some_pair (x ∷ es) (None ∷ k ∷ ks) a e h = some_pair es (k ∷ ks) a.1 e (omega arith)
 
@@ -284,11 +285,11 @@ next_pair (x ∷ es) (Some k ∷ ks) (None ∷ ls) r more rise a e h =
     let first = some_pair es ls a.1 (ends_tail None ls e) (ends_none ls e) in
     let pair = first_pair es ls first.0 first.1 first.2 in
     let is = pair.is in
-    let there : (x.code ∷ code_at x.list k ∷ []) ∷ pair_rows es ks ≡ first.0 ∷ (first.1 ++ r ∷ more) = h ∙ ap (λ (l : List Row). l ++ r ∷ more) first.2 in
+    let there : (x.code ∷ choice_code x.list k ∷ []) ∷ pair_rows es ks ≡ first.0 ∷ (first.1 ++ r ∷ more) = h ∙ ap (λ (l : List Row). l ++ r ∷ more) first.2 in
     let same : x.code ≡ pair.student.code = cc in
     absurd (before_others x es pair.at pair.student rise pair.here same)
 next_pair (x ∷ es) (None ∷ ks) (Some l ∷ ls) r more rise a e h =
-    let first = first_pair es ks (x.code ∷ code_at x.list l ∷ []) (pair_rows es ls ++ r ∷ more) h in
+    let first = first_pair es ks (x.code ∷ choice_code x.list l ∷ []) (pair_rows es ls ++ r ∷ more) h in
     let is = first.is in
     let same : x.code ≡ first.student.code = cc in
     absurd (before_others x es first.at first.student rise first.here same)
@@ -297,15 +298,15 @@ next_pair (x ∷ es) (Some k ∷ ks) (Some l ∷ ls) r more rise a e h =
     behind x (Some k) es ks (length ls) (suc (length ls)) r (omega arith) (next_pair es ks ls r more (rise_tail x.code (map (λ (e : Student). e.code) es) rise) a.1 (ends_tail (Some l) ls e) rest)
 
 -- a place of a student is one of the list
-zip_place : (es : List Student) (ks : List (Option ℕ)) (s k : ℕ) (e : Student) → AllZip IsPlace es ks → slice_get es s ≡ Some e → slice_get ks s ≡ Some (Some k) → k < length e.list
+zip_place : (es : List Student) (ks : List (Option ℕ)) (s k : ℕ) (e : Student) → AllZip IsPlace es ks → slice_get es s ≡ Some e → slice_get ks s ≡ Some (Some k) → IsPlaceOf e.list k
 zip_place [] ks s k e z h i = cc
 zip_place (x ∷ es) [] s k e z h i = absurd z
 zip_place (x ∷ es) (None ∷ ks) zero k e z h i = cc
 zip_place (x ∷ es) (Some j ∷ ks) zero k e z h i =
     let student : x ≡ e = cc in
     let place : j ≡ k = cc in
-    let l : j < length x.list = z.0 in
-    subst (λ (y : Student). k < length y.list) student (subst (λ (n : ℕ). n < length x.list) place l)
+    let l : IsPlaceOf x.list j = z.0 in
+    subst (λ (y : Student). IsPlaceOf y.list k) student (subst (λ (n : ℕ). IsPlaceOf x.list n) place l)
 zip_place (x ∷ es) (j ∷ ks) (suc s) k e z h i = zip_place es ks s k e z.1 h i
 
 -- a pair's line goes on only where the draft takes it

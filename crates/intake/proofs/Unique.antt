@@ -1,11 +1,12 @@
 -- The text of parts tells them.
-use Rattle.std.proofs.Common.{◌≡◌, ℕ, suc, ◌<◌, ◌≤◌, inl, inr, ℤ, pos, List, [], ◌∷◌, length, map, get_or, slice_get, Option, Some, None, All, Result, Ok, Err, decimal, refl, sym, ap, ◌∙◌, subst, arith}
+use Rattle.std.proofs.Common.{◌≡◌, ℕ, suc, ◌-◌, ◌<◌, ◌≤◌, inl, inr, ℤ, pos, List, [], ◌∷◌, length, map, get_or, slice_get, Option, Some, None, All, Result, Ok, Err, decimal, refl, sym, ap, ◌∙◌, subst, arith}
 use Rattle.std.specs.Fmt.{signed_decimal}
 use Rattle.std.specs.List.{AllZip}
 use Rattle.std.proofs.lemmas.Bool.{cases_order}
 use Rattle.std.proofs.lemmas.Fmt.{decimal_injective, signed_decimal_injective}
 use Rattle.std.proofs.lemmas.List.{append_cancel_right, length-map}
 use Rattle.std.proofs.lemmas.List.Elements.{All-head, All-tail}
+use Rattle.spa.specs.Shape.{IsPlaceOf}
 use Rattle.spa.specs.declared.TheConstants.{MOST_PLACES}
 use Rattle.spa.specs.Codes.{code_at, AreApart}
 use Rattle.spa.specs.Instance.{Supervisor, Project, Student, project_codes}
@@ -14,8 +15,9 @@ use Rattle.verdict.specs.Rows.{InRange}
 use Rattle.intake.specs.declared.round.RoundParts.{RoundParts}
 use Rattle.intake.specs.declared.round.RoundFault.{RoundFault}
 use Rattle.intake.specs.declared.round.RoundFault.TheVariants.{Memory, TooLarge, Line}
-use Rattle.intake.specs.Parts.{Parts, Rise, IsPlace, IsPrice, ArePrices, IsRoundParts}
-use Rattle.intake.specs.Lines.{sections, round_lines, round_text, supervisor_row, project_row, pair_rows, price_rows}
+use Rattle.intake.specs.Parts.{Parts, Rise, IsPlace, IsPrice, ArePricesOrNone, IsRoundParts}
+use Rattle.intake.proofs.Size.{text_small}
+use Rattle.intake.specs.Lines.{choice_code, sections, round_lines, round_text, supervisor_row, project_row, pair_rows, price_rows}
 use Rattle.intake.specs.Reading.{IsReading, IsReadBack}
 use Rattle.intake.specs.View.{parts_of}
 use Rattle.intake.proofs.Bad.{round_pieces}
@@ -59,7 +61,7 @@ same_projects (x ∷ xs) (y ∷ ys) a b e =
     ∙ ap (λ (q : ℕ). (let s : Project = record { code = y.code; supervisor = y.supervisor; quota = q } in s) ∷ xs) quota
     ∙ ap (λ (l : List Project). y ∷ l) (same_projects xs ys (All-tail (λ q. q ≤ MOST_PLACES) x.quota (map (λ e. e.quota) xs) a) (All-tail (λ q. q ≤ MOST_PLACES) y.quota (map (λ e. e.quota) ys) b) rest)
 
--- a project stands at one place of a list
+-- a project stands at one position of a list
 pub one_listed : (list : List (List ℕ)) (k l : ℕ) → AreApart list (length list) → k < length list → l < length list → code_at list k ≡ code_at list l → k ≡ l
 one_listed list k l apart h i e =
     let a : slice_get list k ≡ Some (code_at list l) = slice_get_at list k [] (code_at list l) h e in
@@ -72,6 +74,10 @@ one_listed list k l apart h i e =
       ]
     ]
 
+-- and so at one place
+one_choice : (list : List (List ℕ)) (k l : ℕ) → AreApart list (length list) → IsPlaceOf list k → IsPlaceOf list l → choice_code list k ≡ choice_code list l → k ≡ l
+one_choice list k l apart h i e = let same = one_listed list (k - 1) (l - 1) apart (omega arith) (omega arith) e in omega (arith, same)
+
 -- places with the same rows of pairs are the same
 same_places : (known : List (List ℕ)) (es : List Student) (ks ls : List (Option ℕ)) → Rise (map (λ e. e.code) es) → All (λ e. IsSoundList known e.list) es → AllZip IsPlace es ks → AllZip IsPlace es ls → pair_rows es ks ≡ pair_rows es ls → ks ≡ ls
 same_places known [] [] [] rise d a b e = refl
@@ -82,20 +88,20 @@ same_places known (x ∷ es) (k ∷ ks) [] rise d a b e = absurd b
 same_places known (x ∷ es) (None ∷ ks) (None ∷ ls) rise d a b e =
     ap (λ (m : List (Option ℕ)). None ∷ m) (same_places known es ks ls (rise_tail x.code (map (λ (e : Student). e.code) es) rise) (All-tail (λ (e : Student). IsSoundList known e.list) x es d) a.1 b.1 e)
 same_places known (x ∷ es) (None ∷ ks) (Some l ∷ ls) rise d a b e =
-    let first = first_pair es ks (x.code ∷ code_at x.list l ∷ []) (pair_rows es ls) e in
+    let first = first_pair es ks (x.code ∷ choice_code x.list l ∷ []) (pair_rows es ls) e in
     let is = first.is in
     let same : x.code ≡ first.student.code = cc in
     absurd (before_others x es first.at first.student rise first.here same)
 same_places known (x ∷ es) (Some k ∷ ks) (None ∷ ls) rise d a b e =
-    let first = first_pair es ls (x.code ∷ code_at x.list k ∷ []) (pair_rows es ks) (sym e) in
+    let first = first_pair es ls (x.code ∷ choice_code x.list k ∷ []) (pair_rows es ks) (sym e) in
     let is = first.is in
     let same : x.code ≡ first.student.code = cc in
     absurd (before_others x es first.at first.student rise first.here same)
 same_places known (x ∷ es) (Some k ∷ ks) (Some l ∷ ls) rise d a b e =
-    let here : code_at x.list k ≡ code_at x.list l = cc in
+    let here : choice_code x.list k ≡ choice_code x.list l = cc in
     let rest : pair_rows es ks ≡ pair_rows es ls = cc in
     let sound : IsSoundList known x.list = All-head (λ (e : Student). IsSoundList known e.list) x es d in
-    ap (λ (n : ℕ). Some n ∷ ks) (one_listed x.list k l sound.1.apart a.0 b.0 here)
+    ap (λ (n : ℕ). Some n ∷ ks) (one_choice x.list k l sound.1.apart a.0 b.0 here)
     ∙ ap (λ (m : List (Option ℕ)). Some l ∷ m) (same_places known es ks ls (rise_tail x.code (map (λ (e : Student). e.code) es) rise) (All-tail (λ (e : Student). IsSoundList known e.list) x es d) a.1 b.1 rest)
 
 -- numbers that are written the same are the same
@@ -128,11 +134,11 @@ same_prices (c ∷ cs) (u ∷ us) (v ∷ vs) h i a b e =
     ∙ ap (λ (l : List (List ℤ)). v ∷ l) (same_prices cs us vs (omega arith) (omega arith) (All-tail IsPrice u us a) (All-tail IsPrice v vs b) rest)
 
 -- there are no more prices than codes
-few_prices : {X : Type 0} (code : X → List ℕ) (es : List X) (vs : List (List ℤ)) → ArePrices (length es) vs → length vs ≤ length (map code es)
+few_prices : {X : Type 0} (code : X → List ℕ) (es : List X) (vs : List (List ℤ)) → ArePricesOrNone (length es) vs → length vs ≤ length (map code es)
 few_prices code es vs a = elim a.none_or_all [ inl none ↦ omega arith | inr all ↦ omega (arith, length-map es code) ]
 
 -- prices of one roll with the same rows are the same
-same_priced : {X : Type 0} (code : X → List ℕ) (es fs : List X) (us vs : List (List ℤ)) → es ≡ fs → ArePrices (length es) us → ArePrices (length fs) vs → price_rows (map code es) us ≡ price_rows (map code fs) vs → us ≡ vs
+same_priced : {X : Type 0} (code : X → List ℕ) (es fs : List X) (us vs : List (List ℤ)) → es ≡ fs → ArePricesOrNone (length es) us → ArePricesOrNone (length fs) vs → price_rows (map code es) us ≡ price_rows (map code fs) vs → us ≡ vs
 same_priced {X = X} code es fs us vs e a b rows =
     same_prices (map code fs) us vs (subst (λ (l : List X). length us ≤ length (map code l)) e (few_prices code es us a)) (few_prices code fs vs b) a.prices b.prices
     (ap (λ (l : List X). price_rows (map code l) us) (sym e) ∙ rows)
@@ -171,5 +177,5 @@ one_text p q v w e =
 pub read_back : (p : Parts) (r : Result RoundParts RoundFault) → IsRoundParts p → IsReading (round_text p) r → IsReadBack p r
 read_back p (Ok r) v h = sym (one_text p (parts_of r) v h.0 h.1)
 read_back p (Err Memory) v h = tt
-read_back p (Err TooLarge) v h = h
+read_back p (Err TooLarge) v h = let small = text_small p v in absurd (omega (arith, small, h))
 read_back p (Err (Line n)) v h = h.1.refused p v refl

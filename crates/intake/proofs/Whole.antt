@@ -4,6 +4,7 @@ use Rattle.std.specs.Prelude.{IsTrue, AllPairs}
 use Rattle.std.specs.List.{AllZip}
 use Rattle.std.proofs.lemmas.List.{length-map, get_or_default}
 use Rattle.std.proofs.lemmas.List.Elements.{All-nil, All-cons, All-head, All-tail}
+use Rattle.spa.specs.Shape.{IsPlaceOf}
 use Rattle.spa.specs.declared.TheConstants.{PLACES, RANKS, MOST_PLACES}
 use Rattle.spa.specs.Text.{is_code}
 use Rattle.spa.specs.Codes.{code_at, AreApart}
@@ -14,7 +15,7 @@ use Rattle.spa.specs.Matched.{HasPlaces}
 use Rattle.verdict.specs.Rows.{EachInRange, AllInRange}
 use Rattle.verdict.specs.Verdict.{HasShape}
 use Rattle.verdict.specs.declared.prices.Prices.{Prices}
-use Rattle.intake.specs.Parts.{Rise, IsRoll, IsPlace, ArePrices, IsRoundParts}
+use Rattle.intake.specs.Parts.{Rise, IsRoll, IsPlace, ArePricesOrNone, IsRoundParts}
 use Rattle.intake.specs.View.{alone, proved}
 use Rattle.intake.proofs.Found.{slice_get_at}
 use Rattle.intake.proofs.Pairing.{get_mapped}
@@ -81,7 +82,7 @@ listed_named codes (c ∷ cs) (l ∷ ls) apart some few known distinct =
     (listed_named codes cs ls apart (All-tail (λ (xs : List ℕ). 0 < length xs) l ls some) (All-tail (λ (xs : List ℕ). length xs ≤ RANKS) l ls few) (All-tail (λ (xs : List ℕ). All (λ p. p < length codes) xs) l ls known) (All-tail (λ (xs : List ℕ). AllPairs (λ p q. p ≢ q) xs) l ls distinct))
 
 -- places of lists are places of the students
-placed_named : (codes cs ls : List (List ℕ)) (ks : List (Option ℕ)) → length cs ≡ length ls → length ks ≡ length ls → ((s k : ℕ) → slice_get ks s ≡ Some (Some k) → k < length (get_or ls s [])) → AllZip IsPlace (students_named codes cs ls) ks
+placed_named : (codes cs ls : List (List ℕ)) (ks : List (Option ℕ)) → length cs ≡ length ls → length ks ≡ length ls → ((s k : ℕ) → slice_get ks s ≡ Some (Some k) → IsPlaceOf (get_or ls s []) k) → AllZip IsPlace (students_named codes cs ls) ks
 placed_named codes [] [] [] h i at = tt
 placed_named codes [] [] (k ∷ ks) h i at = absurd (omega arith)
 placed_named codes [] (l ∷ ls) ks h i at = absurd (omega arith)
@@ -89,9 +90,9 @@ placed_named codes (c ∷ cs) [] ks h i at = absurd (omega arith)
 placed_named codes (c ∷ cs) (l ∷ ls) [] h i at = absurd (omega arith)
 placed_named codes (c ∷ cs) (l ∷ ls) (None ∷ ks) h i at = (tt, placed_named codes cs ls ks (omega arith) (omega arith) (λ s k e. at (suc s) k e))
 placed_named codes (c ∷ cs) (l ∷ ls) (Some k ∷ ks) h i at =
-    let here : k < length l = at 0 k refl in
+    let here : IsPlaceOf l k = at 0 k refl in
     let many : length (map (code_at codes) l) ≡ length l = length-map l (code_at codes) in
-    (omega arith, placed_named codes cs ls ks (omega arith) (omega arith) (λ s k e. at (suc s) k e))
+    (record { first = omega arith; last = omega arith }, placed_named codes cs ls ks (omega arith) (omega arith) (λ s k e. at (suc s) k e))
 
 -- nobody has a place
 unplaced_named : (codes cs ls : List (List ℕ)) → length cs ≡ length ls → AllZip IsPlace (students_named codes cs ls) (map (λ e. None) ls)
@@ -101,14 +102,14 @@ unplaced_named codes (c ∷ cs) [] h = absurd (omega arith)
 unplaced_named codes (c ∷ cs) (l ∷ ls) h = (tt, unplaced_named codes cs ls (omega arith))
 
 -- prices of as many entries
-priced : (m n : ℕ) (vs : List (List ℤ)) → m ≡ n → length vs ≡ n → All (λ v. length v ≡ PLACES) vs → AllInRange vs → ArePrices m vs
+priced : (m n : ℕ) (vs : List (List ℤ)) → m ≡ n → length vs ≡ n → All (λ v. length v ≡ PLACES) vs → AllInRange vs → ArePricesOrNone m vs
 priced m n vs e h numbers range = record {
   none_or_all = inr (omega arith);
   prices = λ k d l. record { numbers = numbers k d l; range = subst EachInRange (get_or_default vs k [] d l) (range k l) };
 }
 
 -- there are none
-unpriced : (m : ℕ) → ArePrices m []
+unpriced : (m : ℕ) → ArePricesOrNone m []
 unpriced m = record { none_or_all = inl refl; prices = λ k d h. absurd (omega arith) }
 
 -- each code of the three rolls has the form

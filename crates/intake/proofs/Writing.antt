@@ -1,6 +1,7 @@
 -- What is left to write.
-use Rattle.std.proofs.Common.{◌≡◌, ℕ, ◌+◌, ◌<◌, ℤ, List, [], ◌∷◌, ◌++◌, length, get_or, map, take, drop, codes, Option, Some, None, flat_map, refl, sym, ap, ◌∙◌, arith, append_assoc, append-nil, add-one, drop-cons}
+use Rattle.std.proofs.Common.{◌≡◌, ℕ, ◌+◌, ◌-◌, ◌<◌, ℤ, List, [], ◌∷◌, ◌++◌, length, get_or, map, take, drop, codes, Option, Some, None, flat_map, refl, sym, ap, ◌∙◌, arith, append_assoc, append-nil, add-one, drop-cons}
 use Rattle.std.proofs.lemmas.List.{get_or-map}
+use Rattle.spa.specs.Shape.{IsPlaceOf, choice_at}
 use Rattle.spa.specs.Codes.{code_at}
 use Rattle.std.proofs.lemmas.List.Concat.{flat_map-append}
 use Rattle.spa.specs.Instance.{Student, supervisor_codes, project_codes, student_codes}
@@ -86,10 +87,11 @@ pairs_none p cs ls ks s h i j e = rw (drop-cons cs s [], drop-cons ls s [], drop
 
 -- a student with a place
 pub pairs_some : (p cs ls : List (List ℕ)) (ks : List (Option ℕ)) (s k q : ℕ) (student project : List ℕ) → s < length cs → s < length ls → s < length ks → get_or ks s None ≡ Some k
-    → k < length (get_or ls s []) → get_or (get_or ls s []) k 0 ≡ q → get_or cs s [] ≡ student → get_or p q [] ≡ project
+    → IsPlaceOf (get_or ls s []) k → choice_at (get_or ls s []) k ≡ q → get_or cs s [] ≡ student → get_or p q [] ≡ project
     → pair_text p (drop s cs) (drop s ls) (drop s ks) ≡ (line (codes "M") (student ∷ project ∷ []) ++ 10 ∷ []) ++ pair_text p (drop (s + 1) cs) (drop (s + 1) ls) (drop (s + 1) ks)
 pairs_some p cs ls ks s k q student project h i j e known listed student_is project_is =
-    let listed_code : get_or (map (code_at p) (get_or ls s [])) k [] ≡ project = get_or-map (code_at p) (get_or ls s []) k 0 [] known ∙ ap (code_at p) listed ∙ project_is in
+    let within : k - 1 < length (get_or ls s []) = omega arith in
+    let listed_code : get_or (map (code_at p) (get_or ls s [])) (k - 1) [] ≡ project = get_or-map (code_at p) (get_or ls s []) (k - 1) 0 [] within ∙ ap (code_at p) listed ∙ project_is in
     rw (drop-cons cs s [], drop-cons ls s [], drop-cons ks s None, e, listed_code, student_is) (simp add-one)
 
 -- the instance's sections, and then those of a matching and prices

@@ -3,12 +3,13 @@ use Rattle.std.specs.Prelude.{◌≡◌, Bool, true, false, replicate, ◌-◌, 
 use Rattle.std.specs.Fmt.{signed_decimal}
 use Rattle.spa.specs.declared.TheConstants.{MOST_SUPERVISORS, MOST_PROJECTS, MOST_STUDENTS, MOST_PLACES}
 use Rattle.spa.specs.Text.{is_code}
+use Rattle.spa.specs.Shape.{IsPlaceOf}
 use Rattle.spa.specs.Codes.{code_at}
 use Rattle.spa.specs.Instance.{Supervisor, Project, Student, given, supervisor_codes, project_codes, student_codes}
 use Rattle.spa.specs.Made.{IsWithin, IsSoundList}
 use Rattle.intake.specs.declared.draft.Draft.{Draft}
 use Rattle.intake.specs.Parts.{Parts, Rise, IsRoll, IsPlace, IsPrice}
-use Rattle.intake.specs.Lines.{Row, line, round_lines, supervisor_row, project_row, student_row}
+use Rattle.intake.specs.Lines.{Row, choice_code, line, round_lines, supervisor_row, project_row, student_row}
 use Rattle.intake.specs.Reading.{Begins}
 
 -- the parts that were read
@@ -101,8 +102,8 @@ pub record TakesPair (p : Parts) (row : Row) (s k : ℕ) : Type 0 where
   pub student : Student
   pub here : slice_get p.instance.students s ≡ Some student
   pub later : length p.places ≤ s
-  pub place : k < length student.list
-  pub is : row ≡ student.code ∷ code_at student.list k ∷ []
+  pub place : IsPlaceOf student.list k
+  pub is : row ≡ student.code ∷ choice_code student.list k ∷ []
 
 -- the row is that of the price of the next of the codes
 pub record TakesPrice (codes : List (List ℕ)) (prices : List (List ℤ)) (row : Row) (v : List ℤ) : Type 0 where

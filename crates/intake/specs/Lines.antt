@@ -1,5 +1,5 @@
 -- The text of a round: its lines in seven sections, each line a letter and fields.
-use Rattle.std.specs.Prelude.{ℕ, ℤ, List, [], ◌∷◌, ◌++◌, map, flat_map, Option, Some, None, codes, decimal}
+use Rattle.std.specs.Prelude.{ℕ, ◌-◌, ℤ, List, [], ◌∷◌, ◌++◌, map, flat_map, Option, Some, None, codes, decimal}
 use Rattle.std.specs.Fmt.{signed_decimal}
 use Rattle.spa.specs.Codes.{code_at}
 use Rattle.spa.specs.Instance.{Supervisor, Project, Student, supervisor_codes, project_codes, student_codes}
@@ -26,12 +26,16 @@ project_row e = e.code ∷ e.supervisor ∷ decimal e.quota ∷ []
 abbrev pub student_row : Student → Row
 student_row e = e.code ∷ e.list
 
+-- the code at a place of a list: the one with k - 1 before it
+abbrev pub choice_code : List (List ℕ) → ℕ → List ℕ
+choice_code list k = code_at list (k - 1)
+
 -- a student's and a project's code for each place
 abbrev pub pair_rows : List Student → List (Option ℕ) → List Row
 pair_rows [] places = []
 pair_rows (e ∷ es) [] = []
 pair_rows (e ∷ es) (None ∷ places) = pair_rows es places
-pair_rows (e ∷ es) (Some k ∷ places) = (e.code ∷ code_at e.list k ∷ []) ∷ pair_rows es places
+pair_rows (e ∷ es) (Some k ∷ places) = (e.code ∷ choice_code e.list k ∷ []) ∷ pair_rows es places
 
 -- for each price the code that has it and its numbers
 abbrev pub price_rows : List (List ℕ) → List (List ℤ) → List Row

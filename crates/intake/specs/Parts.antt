@@ -1,5 +1,5 @@
 -- The parts of a round by codes: an instance, a place in the list or none for each student, and prices.
-use Rattle.std.specs.Prelude.{◌≡◌, ℕ, ◌<◌, ℤ, ◌⊎◌, List, length, Option, IfSome, IsTrue, All, AllPairs, Contains}
+use Rattle.std.specs.Prelude.{◌≡◌, ℕ, ℤ, ◌⊎◌, List, length, Option, IfSome, IsTrue, All, AllPairs, Contains}
 use Rattle.std.specs.List.{AllZip}
 use Rattle.std.specs.declared.cmp.Ordering.TheVariants.{Less}
 use Rattle.std.specs.declared.cmp.Ordering.{Ordering}
@@ -7,11 +7,12 @@ use Rattle.std.specs.Ordering.{nat_cmp}
 use Rattle.std.specs.Cmp.Lexicographic.{slice_cmp}
 use Rattle.spa.specs.declared.TheConstants.{PLACES}
 use Rattle.spa.specs.Text.{is_code}
+use Rattle.spa.specs.Shape.{IsPlaceOf}
 use Rattle.spa.specs.Instance.{Instance, Student, supervisor_codes, project_codes, student_codes}
 use Rattle.spa.specs.Made.{IsWithin, IsSoundList}
 use Rattle.verdict.specs.Rows.{EachInRange}
 
--- the instance, for each student the place in the list from 0 or none, and the prices, each of so many numbers
+-- the instance, for each student the place in the list or none, and the prices, each of so many numbers
 pub record Parts : Type 0 where
   pub instance : Instance
   pub places : List (Option ℕ)
@@ -34,7 +35,7 @@ pub record IsRoll (codes : List (List ℕ)) : Type 0 where
 
 -- the student has no place, or one of the list
 abbrev pub IsPlace : Student → Option ℕ → Type 0
-IsPlace e place = IfSome place (λ k. k < length e.list)
+IsPlace e place = IfSome place (IsPlaceOf e.list)
 
 -- a price has a number for the size and one for each rank, each from -1,000,000 to 1,000,000
 pub record IsPrice (v : List ℤ) : Type 0 where
@@ -42,7 +43,7 @@ pub record IsPrice (v : List ℤ) : Type 0 where
   pub range : EachInRange v
 
 -- no price, or one for each of n entries
-pub record ArePrices (n : ℕ) (vs : List (List ℤ)) : Type 0 where
+pub record ArePricesOrNone (n : ℕ) (vs : List (List ℤ)) : Type 0 where
   pub none_or_all : (length vs ≡ 0) ⊎ (length vs ≡ n)
   pub prices : All IsPrice vs
 
@@ -55,6 +56,6 @@ pub record IsRoundParts (p : Parts) : Type 0 where
   pub offered : All (λ e. Contains (supervisor_codes p.instance) e.supervisor) p.instance.projects
   pub listed : All (λ e. IsSoundList (project_codes p.instance) e.list) p.instance.students
   pub places : AllZip IsPlace p.instance.students p.places
-  pub student_prices : ArePrices (length p.instance.students) p.student_prices
-  pub project_prices : ArePrices (length p.instance.projects) p.project_prices
-  pub supervisor_prices : ArePrices (length p.instance.supervisors) p.supervisor_prices
+  pub student_prices : ArePricesOrNone (length p.instance.students) p.student_prices
+  pub project_prices : ArePricesOrNone (length p.instance.projects) p.project_prices
+  pub supervisor_prices : ArePricesOrNone (length p.instance.supervisors) p.supervisor_prices

@@ -34,10 +34,9 @@ IsReading text (Err Memory) = ⊤
 IsReading text (Err TooLarge) = MOST_BYTES < length text
 IsReading text (Err (Line n)) = (length text ≤ MOST_BYTES) × IsFirstBadLine text n
 
--- what the text of parts may be read as: these parts, or too large a text where it is one; want of memory may take the
--- place of either
+-- what the text of parts may be read as: these parts; want of memory may take their place
 abbrev pub IsReadBack : Parts → Result RoundParts RoundFault → Type 0
 IsReadBack p (Ok r) = parts_of r ≡ p
 IsReadBack p (Err Memory) = ⊤
-IsReadBack p (Err TooLarge) = MOST_BYTES < length (round_text p)
+IsReadBack p (Err TooLarge) = ⊥
 IsReadBack p (Err (Line n)) = ⊥

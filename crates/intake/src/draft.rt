@@ -9,7 +9,7 @@ ghost use Rattle.intake.specs.Lines.{round_lines};
 ghost use Rattle.intake.specs.View.{parts_of};
 
 use crate::fields::{pieces, read_code, read_price, read_quota};
-use crate::lookup::{Coded, is_next, place_of, position_of};
+use crate::lookup::{Coded, is_next, position_in, position_of};
 use crate::round::RoundParts;
 use spa::{
     Code, Instance, InstanceFault, MOST_PROJECTS, MOST_STUDENTS, MOST_SUPERVISORS, Matching,
@@ -49,7 +49,7 @@ fn read_list(
         if position_of(projects, code.as_str()).is_none() {
             return Ok(None);
         }
-        if place_of(&list, code.as_str()).is_some() {
+        if position_in(&list, code.as_str()).is_some() {
             return Ok(None);
         }
         list.push(code)?;
@@ -247,11 +247,12 @@ impl Draft {
         if position < self.places.len() {
             return Ok(false);
         }
-        let Some(place) = place_of(&self.students[position].1, project.as_str()) else {
+        let Some(before) = position_in(&self.students[position].1, project.as_str()) else {
             return Ok(false);
         };
+        let place = before as u8 + 1;
         fill(&mut self.places, position)?;
-        self.places.push(Some(place as u8))?;
+        self.places.push(Some(place))?;
         Ok(true)
     }
 

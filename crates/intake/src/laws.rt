@@ -8,10 +8,10 @@ ghost use Rattle.intake.specs.Reading.{IsReading, IsReadBack};
 ghost use Rattle.intake.specs.declared.round.RoundParts.{RoundParts};
 ghost use Rattle.intake.specs.declared.round.RoundFault.{RoundFault};
 
-/// No two parts have one text, and the text of parts is read as these parts, unless it is too large.
+/// No two parts have one text, and the text of parts is read as these parts.
 pub fn round_law()
     ensures one { (p q : Parts) → IsRoundParts p → IsRoundParts q → round_text p ≡ round_text q → p ≡ q }
 
-    // No line of it is bad.
+    // It is not too large, and no line of it is bad.
     ensures back { (p : Parts) (r : Result RoundParts RoundFault) → IsRoundParts p → IsReading (round_text p) r → IsReadBack p r }
 {}

@@ -70,13 +70,13 @@ pub(crate) fn is_next<E: Coded>(roll: &[E], code: &str) -> bool
     last.code().cmp(code).is_lt()
 }
 
-/// The place of a code in a list.
-pub(crate) fn place_of(list: &[Code], code: &str) -> Option<usize>
+/// The position of a code in a list.
+pub(crate) fn position_in(list: &[Code], code: &str) -> Option<usize>
     ensures { Finds list.now (length list.now) code.now result }
 {
-    for place in 0..list.len() {
-        if list[place].as_str() == code {
-            return Some(place);
+    for position in 0..list.len() {
+        if list[position].as_str() == code {
+            return Some(position);
         }
     }
     None

@@ -1,13 +1,14 @@
 //! Round texts, written.
 #![tactic(auto)]
 
-ghost use Rattle.std.specs.Prelude.{◌≡◌, ◌++◌, map, flat_map, take, drop, codes, IfOk, IfSome, OnOk, string_bytes, length, All, IsTrue};
+ghost use Rattle.std.specs.Prelude.{◌≡◌, ◌≤◌, ◌++◌, map, flat_map, take, drop, codes, IfOk, IfSome, OnOk, string_bytes, length, All, IsTrue};
 ghost use Rattle.spa.specs.Text.{is_code};
 ghost use Rattle.spa.specs.declared.TheConstants.{PLACES};
 ghost use Rattle.spa.specs.Instance.{supervisor_codes, project_codes, student_codes};
 ghost use Rattle.spa.specs.Named.{Named, instance_of};
 ghost use Rattle.spa.specs.Matched.{IsMatched, HasPlaces};
 ghost use Rattle.verdict.specs.Verdict.{HasShape};
+ghost use Rattle.intake.specs.declared.TheConstants.{MOST_BYTES};
 ghost use Rattle.intake.specs.Parts.{Rise, IsRoundParts};
 ghost use Rattle.intake.specs.Lines.{Section, supervisor_row, project_row, student_row, pair_rows, price_rows, sections, section_lines, ended, round_text};
 ghost use Rattle.intake.specs.View.{alone, proved, written};
@@ -22,7 +23,6 @@ fn write_supervisors(out: &mut String, instance: &Instance) -> Result<(), AllocE
     ensures text { OnOk result (string_bytes out.new ≡ string_bytes out.old ++ ended (section_lines (record { letter = codes "S"; rows = map supervisor_row (instance_of instance.now).supervisors }))) }
     ensures form { OnOk result (All (λ c. IsTrue (is_code c)) instance.now.supervisor_codes) }
 {
-    instance.fit();
     let codes = instance.supervisor_codes();
     for l in 0..codes.len() {
         push_supervisor(out, codes[l].as_str(), instance.supervisor_quota(l))?;
@@ -35,7 +35,6 @@ fn write_projects(out: &mut String, instance: &Instance) -> Result<(), AllocErro
     ensures text { OnOk result (string_bytes out.new ≡ string_bytes out.old ++ ended (section_lines (record { letter = codes "P"; rows = map project_row (instance_of instance.now).projects }))) }
     ensures form { OnOk result (All (λ c. IsTrue (is_code c)) instance.now.project_codes) }
 {
-    instance.fit();
     let codes = instance.project_codes();
     let supervisors = instance.supervisor_codes();
     for p in 0..codes.len() {
@@ -55,7 +54,6 @@ fn write_students(out: &mut String, instance: &Instance) -> Result<(), AllocErro
     ensures text { OnOk result (string_bytes out.new ≡ string_bytes out.old ++ ended (section_lines (record { letter = codes "C"; rows = map student_row (instance_of instance.now).students }))) }
     ensures form { OnOk result (All (λ c. IsTrue (is_code c)) instance.now.student_codes) }
 {
-    instance.fit();
     let codes = instance.student_codes();
     let projects = instance.project_codes();
     for s in 0..codes.len() {
@@ -73,12 +71,11 @@ fn write_pairs(
     requires { HasPlaces instance.now.shape places.now }
     ensures { OnOk result (string_bytes out.new ≡ string_bytes out.old ++ ended (section_lines (record { letter = codes "M"; rows = pair_rows (instance_of instance.now).students places.now }))) }
 {
-    instance.fit();
     let codes = instance.student_codes();
     let projects = instance.project_codes();
     for s in 0..places.len() {
         if let Some(place) = places[s] {
-            let project = instance.list(s)[place as usize];
+            let project = instance.choice(s, place as usize);
             push_pair(out, codes[s].as_str(), projects[project].as_str())?;
         }
     }
@@ -151,6 +148,9 @@ pub fn write_round(
     requires shape { IfSome proof (λ p. HasShape instance.now.shape p.1.now) }
 
     ensures text { IfOk result (λ text. string_bytes text ≡ round_text (written instance.now proof.entry)) }
+
+    // It is never too large to be read.
+    ensures small { IfOk result (λ text. length (string_bytes text) ≤ MOST_BYTES) }
 
     // So the law of round texts holds of them.
     ensures parts { OnOk result (IsRoundParts (written instance.now proof.entry)) }

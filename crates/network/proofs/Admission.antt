@@ -1,24 +1,33 @@
 -- what an admission does, in the words of a caller
-use Rattle.std.proofs.Common.{◌≡◌, ℕ, ◌+◌, ◌*◌, ◌^◌, ◌<◌, ◌≤◌, List, [], ◌∷◌, ◌++◌, length, map, Some, Bool, slice_get, refl, arith, sym, ◌∙◌, ap, sum_by}
+use Rattle.std.proofs.Common.{◌≡◌, ℕ, zero, suc, ◌+◌, ◌*◌, ◌^◌, ◌<◌, ◌≤◌, List, [], ◌∷◌, ◌++◌, length, map, Option, Some, None, Bool, slice_get, refl, arith, sym, ◌∙◌, ap, sum_by}
 use Rattle.std.specs.declared.vec.Vec.{Vec}
 use Rattle.std.specs.declared.alloc.Global.{Global}
 use Rattle.std.proofs.lemmas.List.{length-append, length-map, map-append}
 use Rattle.std.proofs.lemmas.List.Sums.{sum_by-cons, sum_by-append}
+use Rattle.spa.specs.declared.TheConstants.{MOST_STUDENTS}
+use Rattle.network.specs.declared.TheConstants.{MOST_ARCS}
 use Rattle.spa.specs.Laws.{Ops}
 use Rattle.network.specs.Arcs.{sink_of, flow_arcs}
 use Rattle.network.specs.Fair.{IsLow}
 use Rattle.network.specs.Push.{IsPushed}
 use Rattle.network.specs.Seen.{is_place, node_count, arc_count, IsPriced, IsAdmission}
-use Rattle.network.specs.View.{seen, row_of, IsReady}
+use Rattle.network.specs.View.{seen, row_of, place_of, IsReady}
 use Rattle.network.proofs.Append.{slice_get-last}
 use Rattle.network.proofs.Costs.{entries_few, entries_same, cost_within, cost_small}
 use Rattle.network.specs.declared.flow.Flow.{Flow}
 
+-- callers see a place exactly where there is an entry
+place_seen : (ks : List (Option ℕ)) (s : ℕ) → is_place (slice_get ks s) ≡ is_place (slice_get (map place_of ks) s)
+place_seen [] s = refl
+place_seen (None ∷ ks) zero = refl
+place_seen (Some k ∷ ks) zero = refl
+place_seen (x ∷ ks) (suc s) = place_seen ks s
+
 module _ {G : Type 0} {o : Ops G} (f n : Flow G) (steps x : ℕ) (placed : Bool) (row : Vec (ℕ × G) Global) (list : List (ℕ × G)) (row_is : row.items ≡ list)
     (ready : IsReady o f steps) (pushed : IsPushed o n) (low : IsLow o n)
     (lists : n.lists.items ≡ f.lists.items ++ row ∷ []) (projects : n.projects.items ≡ f.projects.items) (supervisors : n.supervisors.items ≡ f.supervisors.items)
-    (placed_is : placed ≡ is_place (slice_get n.places.items (length f.lists.items)))
-    (cost : x ≤ 2 * length row.items + 1 + sink_of n * flow_arcs n) where
+    (placed_is : placed ≡ is_place (slice_get n.held.items (length f.lists.items)))
+    (compared : length row.items ≤ x) (cost : x ≤ 2 * length row.items + 1 + sink_of n * flow_arcs n) where
   -- one student more
   longer : length n.lists.items ≡ length f.lists.items + 1
   longer = ap length lists ∙ length-append f.lists.items (row ∷ [])
@@ -28,7 +37,7 @@ module _ {G : Type 0} {o : Ops G} (f n : Flow G) (steps x : ℕ) (placed : Bool)
   last_row = ap (λ z. slice_get z (length f.lists.items)) lists ∙ slice_get-last f.lists.items row
 
   -- arcs are few at the limits
-  few_arcs : flow_arcs n ≤ 7500
+  few_arcs : flow_arcs n ≤ MOST_ARCS
   few_arcs = omega (arith, entries_few n.lists.items pushed.formed.short, pushed.formed.few_students, pushed.formed.few_projects, pushed.formed.few_supervisors)
 
   -- so are the relaxations of one admission
@@ -40,7 +49,7 @@ module _ {G : Type 0} {o : Ops G} (f n : Flow G) (steps x : ℕ) (placed : Bool)
   admitted_ready = record { pushed = pushed; low = low; counted = omega (arith, ready.counted, small, longer) }
 
   -- 500 students and their relaxations are far from the end of the counter
-  pub steps_fit : length f.lists.items < 500 → steps + x < 2 ^ 32
+  pub steps_fit : length f.lists.items < MOST_STUDENTS → steps + x < 2 ^ 32
   steps_fit few = omega (arith, ready.counted, small, few)
 
   -- what a list counts among the arcs
@@ -63,7 +72,8 @@ module _ {G : Type 0} {o : Ops G} (f n : Flow G) (steps x : ℕ) (placed : Bool)
     priced = priced;
     placed_is =
         let l : length (map row_of f.lists.items) ≡ length f.lists.items = length-map f.lists.items row_of in
-        placed_is ∙ ap (λ z. is_place (slice_get n.places.items z)) (sym l);
+        placed_is ∙ ap (λ z. is_place (slice_get n.held.items z)) (sym l) ∙ place_seen n.held.items (length (map row_of f.lists.items));
+    compared = (let l = ap length row_is in omega (arith, compared, l));
     bound =
         let e : arc_count (seen n (steps + x)) ≡ flow_arcs n = (let d = entries_same n.lists.items in let c : length (map row_of n.lists.items) ≡ length n.lists.items = length-map n.lists.items row_of in omega (arith, d, c)) in
         let s : sink_of n + 2 ≤ node_count (seen n (steps + x)) + 1 = omega arith in

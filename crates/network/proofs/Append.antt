@@ -4,6 +4,7 @@ use Rattle.std.specs.declared.vec.Vec.{Vec}
 use Rattle.std.specs.declared.alloc.Global.{Global}
 use Rattle.std.proofs.lemmas.List.{length-append}
 use Rattle.std.proofs.lemmas.Option.{slice_get_within, same_Some}
+use Rattle.spa.specs.declared.TheConstants.{MOST_STUDENTS, RANKS}
 use Rattle.spa.specs.Laws.{Ops}
 use Rattle.network.specs.Arcs.{HasEntry, Holds, sink_of, project_count, IsFormed}
 use Rattle.network.specs.Fair.{IsFairBut}
@@ -34,12 +35,12 @@ slice_get-either (x ∷ xs) y z (suc i) e = elim (slice_get-either xs y z i e) [
 
 module _ {G : Type 0} {o : Ops G} (f : Flow G) (pushed : IsPushed o f)
     (L : Vec (Vec (ℕ × G) Global) Global) (P : Vec (Option ℕ) Global) (row : Vec (ℕ × G) Global)
-    (lists_are : L.items ≡ f.lists.items ++ row ∷ []) (places_are : P.items ≡ f.places.items ++ None ∷ [])
-    (few : length f.lists.items < 500) (short : length row.items ≤ 12)
+    (lists_are : L.items ≡ f.lists.items ++ row ∷ []) (places_are : P.items ≡ f.held.items ++ None ∷ [])
+    (few : length f.lists.items < MOST_STUDENTS) (short : length row.items ≤ RANKS)
     (known : (k p : ℕ) (w : G) → slice_get row.items k ≡ Some (p, w) → (p < project_count f) × (o.span w ≤ 1)) where
   -- the flow with one more student
   abbrev pub A : Flow G
-  A = record f { lists = L; places = P }
+  A = record f { lists = L; held = P }
 
   -- the new student
   abbrev pub last : ℕ
@@ -50,27 +51,27 @@ module _ {G : Type 0} {o : Ops G} (f : Flow G) (pushed : IsPushed o f)
   lists_long = ap length lists_are ∙ length-append f.lists.items (row ∷ [])
 
   -- one place more
-  places_long : length P.items ≡ length f.places.items + 1
-  places_long = ap length places_are ∙ length-append f.places.items (None ∷ [])
+  places_long : length P.items ≡ length f.held.items + 1
+  places_long = ap length places_are ∙ length-append f.held.items (None ∷ [])
 
   -- the new student has no place
   pub no_place_yet : slice_get P.items last ≡ Some None
-  no_place_yet = rw (places_are, pushed.formed.students) (slice_get-last f.places.items None)
+  no_place_yet = rw (places_are, pushed.formed.students) (slice_get-last f.held.items None)
 
   -- the new student has the new list
   pub last_row : slice_get L.items last ≡ Some row
   last_row = rw lists_are (slice_get-last f.lists.items row)
 
   -- who has a place had it before
-  place_old : (s k : ℕ) → slice_get P.items s ≡ Some (Some k) → slice_get f.places.items s ≡ Some (Some k)
-  place_old s k e = elim (slice_get-either f.places.items None (Some k) s (subst (λ z. slice_get z s ≡ Some (Some k)) places_are e)) [
+  place_old : (s k : ℕ) → slice_get P.items s ≡ Some (Some k) → slice_get f.held.items s ≡ Some (Some k)
+  place_old s k e = elim (slice_get-either f.held.items None (Some k) s (subst (λ z. slice_get z s ≡ Some (Some k)) places_are e)) [
     | inl h ↦ h
     | inr h ↦ absurd (let q = h.1 in cc)
   ]
 
   -- another student without a place had none before
-  none_old : (s : ℕ) → (s ≡ last → ⊥) → slice_get P.items s ≡ Some None → slice_get f.places.items s ≡ Some None
-  none_old s ne e = elim (slice_get-either f.places.items None None s (subst (λ z. slice_get z s ≡ Some None) places_are e)) [
+  none_old : (s : ℕ) → (s ≡ last → ⊥) → slice_get P.items s ≡ Some None → slice_get f.held.items s ≡ Some None
+  none_old s ne e = elim (slice_get-either f.held.items None None s (subst (λ z. slice_get z s ≡ Some None) places_are e)) [
     | inl h ↦ h
     | inr h ↦ absurd (ne (h.0 ∙ sym pushed.formed.students))
   ]
@@ -88,7 +89,7 @@ module _ {G : Type 0} {o : Ops G} (f : Flow G) (pushed : IsPushed o f)
 
   -- who has a place is not new
   not_last : (s k : ℕ) → slice_get P.items s ≡ Some (Some k) → s ≡ last → ⊥
-  not_last s k e q = let h = slice_get_within f.places.items s _ (place_old s k e) in omega (arith, h, q, pushed.formed.students)
+  not_last s k e q = let h = slice_get_within f.held.items s _ (place_old s k e) in omega (arith, h, q, pushed.formed.students)
 
   -- a place held is one held before
   holds_old : (s a : ℕ) → Holds A s a → Holds f s a
@@ -143,16 +144,16 @@ module _ {G : Type 0} {o : Ops G} (f : Flow G) (pushed : IsPushed o f)
     few_supervisors = pushed.formed.few_supervisors;
     short = λ s r e. elim (row_cases s r e) [
       | inl h ↦ pushed.formed.short s r h
-      | inr h ↦ subst (λ (z : Vec (ℕ × G) Global). length z.items ≤ 12) h short
+      | inr h ↦ subst (λ (z : Vec (ℕ × G) Global). length z.items ≤ RANKS) h short
     ];
   }
 
   -- the seats of the others are as before
   seat_same : (p s : ℕ) → s < last → seat f p s ≡ seat A p s
   seat_same p s lt =
-      let a : slice_get P.items s ≡ slice_get f.places.items s = ap (λ z. slice_get z s) places_are ∙ slice_get-before f.places.items None s (omega (arith, lt, pushed.formed.students)) in
+      let a : slice_get P.items s ≡ slice_get f.held.items s = ap (λ z. slice_get z s) places_are ∙ slice_get-before f.held.items None s (omega (arith, lt, pushed.formed.students)) in
       let b : slice_get L.items s ≡ slice_get f.lists.items s = ap (λ z. slice_get z s) lists_are ∙ slice_get-before f.lists.items row s lt in
-      sym (ap (λ z. place_at z (slice_get L.items s) p) a ∙ ap (λ z. place_at (slice_get f.places.items s) z p) b)
+      sym (ap (λ z. place_at z (slice_get L.items s) p) a ∙ ap (λ z. place_at (slice_get f.held.items s) z p) b)
 
   -- so each project has as many
   seats_same : (p : ℕ) → seats f p ≡ seats A p

@@ -100,7 +100,7 @@ module _ {G : Type 0} {o : Ops G} (laws : IsWorth o) where
     split_place (Some (Some k)) r = split_row r k
 
     -- the potential of a student's project, by seats
-    seated : (s : ℕ) (x : Option (Option ℕ)) → slice_get f.places.items s ≡ x
+    seated : (s : ℕ) (x : Option (Option ℕ)) → slice_get f.held.items s ≡ x
         → at_place o (λ p w. H p) x (slice_get f.lists.items s) ≡ sum_of o P (λ p. multiple o (place_at x (slice_get f.lists.items s) p) (H p))
     seated s None e = sym (sum_of_zero laws P (λ p. o.zero) (λ p lt. refl))
     seated s (Some None) e = sym (sum_of_zero laws P (λ p. o.zero) (λ p lt. refl))
@@ -121,7 +121,7 @@ module _ {G : Type 0} {o : Ops G} (laws : IsWorth o) where
     -- the potentials by student are those by project, as often as it is filled
     pub potentials_seated : sum_of o S (of_place o f (λ p w. H p)) ≡ sum_of o P (λ p. multiple o (filled p) (H p))
     potentials_seated =
-        sum_of_same laws S (of_place o f (λ p w. H p)) (λ s. sum_of o P (λ p. multiple o (seat f p s) (H p))) (λ s lt. seated s (slice_get f.places.items s) refl)
+        sum_of_same laws S (of_place o f (λ p w. H p)) (λ s. sum_of o P (λ p. multiple o (seat f p s) (H p))) (λ s lt. seated s (slice_get f.held.items s) refl)
         ∙ sum_of_exchange laws S P (λ s p. multiple o (seat f p s) (H p))
         ∙ sum_of_same laws P (λ p. sum_of o S (λ s. multiple o (seat f p s) (H p))) (λ p. multiple o (filled p) (H p))
         (λ p lt. sum_of_times laws S (seat f p) (H p) ∙ ap (λ n. multiple o n (H p)) (seats_filled p lt))
@@ -180,7 +180,7 @@ module _ {G : Type 0} {o : Ops G} (laws : IsWorth o) where
         let Z = sum_of o L (λ l. multiple o (slice_index f.supervisors.items l) (supervisor_price o f l)) in
         let D = sum_of o L (λ l. multiple o (load l) (H (P + l))) in
         let students : sum_of o S (student_price o f) ≡ o.plus W HP =
-        sum_of_same laws S (student_price o f) (λ s. o.plus (of_place o f (λ p w. w) s) (of_place o f (λ p w. H p) s)) (λ s lt. split_place (slice_get f.places.items s) (slice_get f.lists.items s))
+        sum_of_same laws S (student_price o f) (λ s. o.plus (of_place o f (λ p w. w) s) (of_place o f (λ p w. H p) s)) (λ s lt. split_place (slice_get f.held.items s) (slice_get f.lists.items s))
         ∙ sum_of_plus laws S (of_place o f (λ p w. w)) (of_place o f (λ p w. H p)) in
         let projects : o.plus HP Y ≡ D =
         ap (λ z. o.plus z Y) potentials_seated ∙ sym (sum_of_plus laws P (λ p. multiple o (filled p) (H p)) (λ p. multiple o (quota_at (slice_get f.projects.items p)) (project_price o f p))) ∙ projects_balanced in

@@ -30,11 +30,6 @@ module _ {G : Type 0} {o : Ops G} (laws : IsWorth o) where
   past_closed : (marks : List (Mark G)) (w : ℕ) → length marks ≤ w → is_open_mark (mark_at o marks w) ≡ true → ⊥
   past_closed marks w le e = let q : mark_at o marks w ≡ blank o = get_or_past marks w (blank o) le in let e' = rw q at e in cc
 
-  -- what holds of each open node within the marks holds of each open node
-  pub best_of_all : (marks : List (Mark G)) (P : ℕ → Type 0) → ((w : ℕ) → w < length marks → is_open_mark (mark_at o marks w) ≡ true → P w)
-      → (w : ℕ) → is_open_mark (mark_at o marks w) ≡ true → P w
-  best_of_all marks P h w e = elim (cases_lt w (length marks)) [ inl lt ↦ h w lt e | inr le ↦ absurd (past_closed marks w le e) ]
-
   -- an open node is one of the marks
   pub open_within : (marks : List (Mark G)) (w : ℕ) → is_open_mark (mark_at o marks w) ≡ true → w < length marks
   open_within marks w e = elim (cases_lt w (length marks)) [ inl lt ↦ lt | inr le ↦ absurd (past_closed marks w le e) ]

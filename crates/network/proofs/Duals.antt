@@ -27,16 +27,16 @@ module _ {G : Type 0} {o : Ops G} (laws : IsWorth o) where
     H v = potential o f v
 
     -- the price of a student with a place
-    held_price : (s a k : ℕ) (w : G) → slice_get f.places.items s ≡ Some (Some k) → HasEntry f.lists.items s k a w → student_price o f s ≡ o.plus w (H a)
+    held_price : (s a k : ℕ) (w : G) → slice_get f.held.items s ≡ Some (Some k) → HasEntry f.lists.items s k a w → student_price o f s ≡ o.plus w (H a)
     held_price s a k w e h =
         ap (λ z. at_place o (λ p v. o.plus v (H p)) z (slice_get f.lists.items s)) e ∙ ap (λ z. at_row o (λ p v. o.plus v (H p)) z k) h.student ∙ ap (at_entry o (λ p v. o.plus v (H p))) h.place
 
     -- and without one
-    free_price : (s : ℕ) (x : Option (Option ℕ)) → slice_get f.places.items s ≡ x → (x ≡ None → student_price o f s ≡ o.zero) × (x ≡ Some None → student_price o f s ≡ o.zero)
+    free_price : (s : ℕ) (x : Option (Option ℕ)) → slice_get f.held.items s ≡ x → (x ≡ None → student_price o f s ≡ o.zero) × (x ≡ Some None → student_price o f s ≡ o.zero)
     free_price s x e = (λ n. ap (λ z. at_place o (λ p v. o.plus v (H p)) z (slice_get f.lists.items s)) (e ∙ n), λ n. ap (λ z. at_place o (λ p v. o.plus v (H p)) z (slice_get f.lists.items s)) (e ∙ n))
 
     -- a student's price is not below zero
-    student_least : (s : ℕ) (x : Option (Option ℕ)) → slice_get f.places.items s ≡ x → AtMost o o.zero (student_price o f s)
+    student_least : (s : ℕ) (x : Option (Option ℕ)) → slice_get f.held.items s ≡ x → AtMost o o.zero (student_price o f s)
     student_least s None e = rw ((free_price s None e).0 refl) (at_most_refl laws o.zero)
     student_least s (Some None) e = rw ((free_price s (Some None) e).1 refl) (at_most_refl laws o.zero)
     student_least s (Some (Some k)) e =
@@ -44,7 +44,7 @@ module _ {G : Type 0} {o : Ops G} (laws : IsWorth o) where
         rw (held_price s h.0 k h.1 e h.2) (pushed.fair.placed_least s h.0 (record { place = k; worth = h.1; placed = e; entry = h.2 }))
 
     -- nor large
-    student_span : (s : ℕ) (x : Option (Option ℕ)) → slice_get f.places.items s ≡ x → o.span (student_price o f s) ≤ 2007
+    student_span : (s : ℕ) (x : Option (Option ℕ)) → slice_get f.held.items s ≡ x → o.span (student_price o f s) ≤ 2007
     student_span s None e = rw ((free_price s None e).0 refl, laws.span_zero) (omega arith)
     student_span s (Some None) e = rw ((free_price s (Some None) e).1 refl, laws.span_zero) (omega arith)
     student_span s (Some (Some k)) e =
@@ -52,10 +52,10 @@ module _ {G : Type 0} {o : Ops G} (laws : IsWorth o) where
         rw (held_price s h.0 k h.1 e h.2) (omega (arith, laws.span_plus h.1 (H h.0), low h.0, (pushed.formed.entries s k h.0 h.1 h.2).1))
 
     -- what the student may have, for any entry of the list
-    student_covers : (s k p : ℕ) (w : G) (x : Option (Option ℕ)) → slice_get f.places.items s ≡ x → HasEntry f.lists.items s k p w → AtMost o (o.plus w (H p)) (student_price o f s)
+    student_covers : (s k p : ℕ) (w : G) (x : Option (Option ℕ)) → slice_get f.held.items s ≡ x → HasEntry f.lists.items s k p w → AtMost o (o.plus w (H p)) (student_price o f s)
     student_covers s k p w None e h = absurd (
         let lt = slice_get_within f.lists.items s h.row h.student in
-        let some = slice_get-get_or f.places.items s None (omega (arith, lt, pushed.formed.students)) in
+        let some = slice_get-get_or f.held.items s None (omega (arith, lt, pushed.formed.students)) in
         let clash = sym e ∙ some in cc)
     student_covers s k p w (Some None) e h =
         let ne : s ≡ length f.lists.items → ⊥ = λ q. (let lt = slice_get_within f.lists.items s h.row h.student in omega (arith, lt, q)) in
@@ -77,14 +77,14 @@ module _ {G : Type 0} {o : Ops G} (laws : IsWorth o) where
     -- the prices of a pushed flow
     pub prices_hold : PotentialPrices o f
     prices_hold = record {
-      students = λ s. student_least s (slice_get f.places.items s) refl;
+      students = λ s. student_least s (slice_get f.held.items s) refl;
       projects = λ p. project_least p (slice_get f.projects.items p) refl;
       supervisors = λ l lt. rest_least _ _ (pushed.fair.supervisor l lt);
       covered = λ s k p l q w h e.
           let y : project_price o f p ≡ o.minus (H (project_count f + l)) (H p) = ap (project_price_at o f p) e in
           let left = price_left (student_price o f s) (H (project_count f + l)) (H p) in
-          at_most_back laws _ _ (H p) (rw (y, left) (student_covers s k p w (slice_get f.places.items s) refl h));
-      student_spans = λ s. student_span s (slice_get f.places.items s) refl;
+          at_most_back laws _ _ (H p) (rw (y, left) (student_covers s k p w (slice_get f.held.items s) refl h));
+      student_spans = λ s. student_span s (slice_get f.held.items s) refl;
       project_spans = λ p. project_span p (slice_get f.projects.items p);
       supervisor_spans = λ l. omega (arith, laws.span_minus o.zero (H (project_count f + l)), laws.span_zero, low (project_count f + l));
       equal = balanced laws f pushed;

@@ -50,15 +50,15 @@ module _ {G : Type 0} {o : Ops G} (laws : IsWorth o) (f : Flow G) (formed : IsFo
     sink = fair.sink;
   }
 
-  module _ (P : Vec (Option ℕ) Global) (s : ℕ) (x : Option ℕ) (set_is : P.items ≡ set f.places.items s x) where
+  module _ (P : Vec (Option ℕ) Global) (s : ℕ) (x : Option ℕ) (set_is : P.items ≡ set f.held.items s x) where
     -- the flow with this student's place gone
     abbrev pub N : Flow G
-    N = record f { places = P }
+    N = record f { held = P }
 
     -- a placed student gives the place up
     module _ (a : ℕ) (was : Holds f s a) (x_is : x ≡ None) (tight : o.zero ≡ o.plus was.worth (potential o f a)) where
       none_now : slice_get P.items s ≡ Some None
-      none_now = rw set_is (slice_get-set_same f.places.items s x (slice_get_within f.places.items s _ was.placed)) ∙ ap Some x_is
+      none_now = rw set_is (slice_get-set_same f.held.items s x (slice_get_within f.held.items s _ was.placed)) ∙ ap Some x_is
 
       pub leave_fair : (pending : ℕ) (top : G) → IsFair o f pending top → IsFair o N pending top
       leave_fair pending top fair = record {
@@ -86,7 +86,7 @@ module _ {G : Type 0} {o : Ops G} (laws : IsWorth o) (f : Flow G) (formed : IsFo
       pub leave_counted : a < project_count f → IsCounted f (sink_of f) → IsCounted N a
       leave_counted la c = record {
         project = λ p lt.
-            let sl : s < length f.lists.items = (let h = slice_get_within f.places.items s _ was.placed in omega (arith, h, formed.students)) in
+            let sl : s < length f.lists.items = (let h = slice_get_within f.held.items s _ was.placed in omega (arith, h, formed.students)) in
             let change = sum_to_change (length f.lists.items) s (seat f p) (seat N p) sl (λ t ne. ap (λ z. place_at z (slice_get f.lists.items t) p) (sym (place_other laws f formed P s x set_is t ne))) in
             let old = seat_held f p s a was in
             let new : seat N p s ≡ 0 = ap (λ z. place_at z (slice_get f.lists.items s) p) none_now in
@@ -99,10 +99,10 @@ module _ {G : Type 0} {o : Ops G} (laws : IsWorth o) (f : Flow G) (formed : IsFo
       }
 
     -- the new student is placed
-    module _ (top : G) (b k : ℕ) (w : G) (none_was : slice_get f.places.items s ≡ Some None) (entry : HasEntry f.lists.items s k b w) (x_is : x ≡ Some k)
+    module _ (top : G) (b k : ℕ) (w : G) (none_was : slice_get f.held.items s ≡ Some None) (entry : HasEntry f.lists.items s k b w) (x_is : x ≡ Some k)
         (tight : o.plus w (potential o f b) ≡ top) where
       placed_now : slice_get P.items s ≡ Some (Some k)
-      placed_now = rw set_is (slice_get-set_same f.places.items s x (slice_get_within f.places.items s _ none_was)) ∙ ap Some x_is
+      placed_now = rw set_is (slice_get-set_same f.held.items s x (slice_get_within f.held.items s _ none_was)) ∙ ap Some x_is
 
       pub holds_now : Holds N s b
       holds_now = record { place = k; worth = w; placed = placed_now; entry = entry }
@@ -138,7 +138,7 @@ module _ {G : Type 0} {o : Ops G} (laws : IsWorth o) (f : Flow G) (formed : IsFo
       pub place_counted : b < project_count f → IsCounted f b → IsCounted N (sink_of f)
       place_counted lb c = record {
         project = λ p lt.
-            let sl : s < length f.lists.items = (let h = slice_get_within f.places.items s _ none_was in omega (arith, h, formed.students)) in
+            let sl : s < length f.lists.items = (let h = slice_get_within f.held.items s _ none_was in omega (arith, h, formed.students)) in
             let change = sum_to_change (length f.lists.items) s (seat f p) (seat N p) sl (λ t ne. ap (λ z. place_at z (slice_get f.lists.items t) p) (sym (place_other laws f formed P s x set_is t ne))) in
             let old : seat f p s ≡ 0 = ap (λ z. place_at z (slice_get f.lists.items s) p) none_was in
             let new = seat_held N p s b holds_now in

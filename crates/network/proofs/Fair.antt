@@ -30,7 +30,7 @@ module _ {G : Type 0} {o : Ops G} (laws : IsWorth o) (f : Flow G) where
 
 -- what a search finds out of fair potentials
 module _ {G : Type 0} {o : Ops G} (laws : IsWorth o) (f n : Flow G) (formed : IsFormed o f) (fresh : ℕ) (top : G)
-    (lists : n.lists ≡ f.lists) (places : n.places ≡ f.places) (projects : n.projects ≡ f.projects) (supervisors : n.supervisors ≡ f.supervisors) (filled : n.filled ≡ f.filled) (load : n.load ≡ f.load)
+    (lists : n.lists ≡ f.lists) (held : n.held ≡ f.held) (projects : n.projects ≡ f.projects) (supervisors : n.supervisors ≡ f.supervisors) (filled : n.filled ≡ f.filled) (load : n.load ≡ f.load)
     (low : ℕ → G)
     (falls : (v : ℕ) → AtMost o (low v) (potential o f v))
     (feasible : (a : ℕ) (w : Origin) (c : G) (b : ℕ) → Arc o f a w c b → AtMost o (o.plus c (low b)) (low a))

@@ -23,10 +23,6 @@ module _ {G : Type 0} {o : Ops G} (laws : IsWorth o) where
   pub cancel : (x y z : G) → plus x z ≡ plus y z → x ≡ y
   cancel x y z e = laws.same x y (sym (laws.keeps x y z) ∙ ap (λ w. cmp w (plus y z)) e ∙ tied_itself laws.total (plus y z))
 
-  -- what was added is taken away
-  pub minus-plus : (x y : G) → minus (plus x y) y ≡ x
-  minus-plus x y = cancel _ _ y (laws.undo (plus x y) y)
-
   -- each value is at most itself
   pub at_most_refl : (x : G) → AtMost o x x
   at_most_refl x = ap is_gt (tied_itself laws.total x)

@@ -216,7 +216,7 @@ module _ {G : Type 0} {o : Ops G} where
   pub blank_are : (n : Labels G) (nodes : ℕ) → ((b : ℕ) → mark_at o n.marks.items b ≡ blank o) → n.frontier.items ≡ [] → n.settled.items ≡ [] → length n.marks.items ≡ nodes
       → nodes ≤ vec_capacity n.frontier → nodes ≤ vec_capacity n.settled → AreBlank o n nodes
   blank_are n nodes none no_frontier no_settled long frontier_room settled_room = record {
-    kept = record {
+    labels = record {
       frontier = λ b. ap (λ z. count_of z b) no_frontier ∙ sym (ap (λ z. one_if (is_open_mark z)) (none b));
       settled = λ b. ap (λ z. count_of z b) no_settled ∙ sym (ap (λ (z : Mark G). one_if (is_settled z.rank)) (none b));
       blank = λ b. inl (none b);

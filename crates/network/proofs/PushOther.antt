@@ -28,7 +28,7 @@ module _ {G : Type 0} {o : Ops G} (laws : IsWorth o) (f : Flow G) (marks : List 
   step_here = pushing.steps hole pushing.seen (inl refl)
 
   -- the new student keeps no place
-  pub leave_last : (s : ℕ) → (mark_at o marks hole).origin ≡ Leave s → slice_get f.places.items s ≡ Some None → IsPushed o f
+  pub leave_last : (s : ℕ) → (mark_at o marks hole).origin ≡ Leave s → slice_get f.held.items s ≡ Some None → IsPushed o f
   leave_last s origin none = go step_here where
     go : IsFirst o f marks fresh top hole ⊎ IsStep o f marks (length marks) hole → IsPushed o f
     go (inr h) = let arc : LeaveArc o f h.before s h.worth hole = rw origin at h.along in absurd (let z = arc.holds.placed in cc)
@@ -42,13 +42,13 @@ module _ {G : Type 0} {o : Ops G} (laws : IsWorth o) (f : Flow G) (marks : List 
         }
 
   -- a placed student gives the place up
-  pub leave_next : (s old from : ℕ) (v : G) (P : Vec (Option ℕ) Global) → P.items ≡ set f.places.items s None → (mark_at o marks hole).origin ≡ Leave s
-      → slice_get f.places.items s ≡ Some (Some old) → HasEntry f.lists.items s old from v → IsNext o (record f { places = P }) marks fresh top hole from
+  pub leave_next : (s old from : ℕ) (v : G) (P : Vec (Option ℕ) Global) → P.items ≡ set f.held.items s None → (mark_at o marks hole).origin ≡ Leave s
+      → slice_get f.held.items s ≡ Some (Some old) → HasEntry f.lists.items s old from v → IsNext o (record f { held = P }) marks fresh top hole from
   leave_next s old from v P set_is origin placed held = go step_here where
     fresh_other : s ≡ fresh → ⊥
-    fresh_other e = let z = pushing.waiting in let y : slice_get f.places.items fresh ≡ Some (Some old) = rw e at placed in cc
+    fresh_other e = let z = pushing.waiting in let y : slice_get f.held.items fresh ≡ Some (Some old) = rw e at placed in cc
 
-    go : IsFirst o f marks fresh top hole ⊎ IsStep o f marks (length marks) hole → IsNext o (record f { places = P }) marks fresh top hole from
+    go : IsFirst o f marks fresh top hole ⊎ IsStep o f marks (length marks) hole → IsNext o (record f { held = P }) marks fresh top hole from
     go (inl h) = let off : OfStudent o f fresh o.zero (Leave s) (mark_at o marks hole).label hole = rw origin at h.offered in absurd (fresh_other off.0)
     go (inr h) =
         let arc : LeaveArc o f h.before s h.worth hole = rw origin at h.along in
@@ -59,7 +59,7 @@ module _ {G : Type 0} {o : Ops G} (laws : IsWorth o) (f : Flow G) (marks : List 
         let tight : o.zero ≡ o.plus arc.holds.worth (potential o f h.before) = sym at_sink ∙ sym (zero_left laws (potential o f hole)) ∙ both in
         rw same.0 (record {
           pushing = record {
-            formed = placed_formed laws f pushing.formed P s None set_is (slice_get_within f.places.items s _ placed) (λ i e. absurd (cc));
+            formed = placed_formed laws f pushing.formed P s None set_is (slice_get_within f.held.items s _ placed) (λ i e. absurd (cc));
             fair = leave_fair laws f pushing.formed P s None set_is h.before arc.holds refl tight fresh top pushing.fair;
             counted = leave_counted laws f pushing.formed P s None set_is h.before arc.holds refl tight (pushing.formed.entries _ _ _ _ arc.holds.entry).0 (rw (← arc.to_sink) pushing.counted);
             steps = moved_steps laws f pushing.formed P s None set_is h.before arc.holds marks fresh top (length marks) hole h.rank h.settled h.earlier pushing.steps;

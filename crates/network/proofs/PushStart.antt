@@ -33,7 +33,7 @@ module _ {G : Type 0} {o : Ops G} (laws : IsWorth o) (f : Flow G) (fresh : ℕ) 
 
   module _ (formed : IsFormed o f) (marks : List (Mark G)) (len : length marks ≡ length f.potentials.items)
       (found : IsFound o (OfStudent o f fresh o.zero) (Arc o f) f.potentials.items marks (sink_of f))
-      (none : slice_get f.places.items fresh ≡ Some None) (counted : IsCounted f (sink_of f))
+      (none : slice_get f.held.items fresh ≡ Some None) (counted : IsCounted f (sink_of f))
       (H : Vec G Global) (long : length H.items ≡ length f.potentials.items)
       (low_is : (v : ℕ) → potential_at o H.items v ≡ lowered o marks f.potentials.items (mark_at o marks (sink_of f)).label v) where
     -- the flow with the new potentials

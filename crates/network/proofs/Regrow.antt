@@ -12,10 +12,10 @@ use Rattle.network.specs.declared.flow.Flow.{Flow}
 
 module _ {G : Type 0} {o : Ops G} (f : Flow G) (pushed : IsPushed o f)
     (L : Vec (Vec (ℕ × G) Global) Global) (P : Vec (Option ℕ) Global)
-    (lists_are : L.items ≡ f.lists.items) (places_are : P.items ≡ f.places.items) where
+    (lists_are : L.items ≡ f.lists.items) (places_are : P.items ≡ f.held.items) where
   -- the flow over other memory
   abbrev pub R : Flow G
-  R = record f { lists = L; places = P }
+  R = record f { lists = L; held = P }
 
   -- an entry is one of before
   entry_old : (s k p : ℕ) (w : G) → HasEntry L.items s k p w → HasEntry f.lists.items s k p w
@@ -26,7 +26,7 @@ module _ {G : Type 0} {o : Ops G} (f : Flow G) (pushed : IsPushed o f)
   entry_new s k p w e = record { row = e.row; student = ap (λ z. slice_get z s) lists_are ∙ e.student; place = e.place }
 
   -- a place is one of before
-  place_old : (s : ℕ) (x : Option ℕ) → slice_get P.items s ≡ Some x → slice_get f.places.items s ≡ Some x
+  place_old : (s : ℕ) (x : Option ℕ) → slice_get P.items s ≡ Some x → slice_get f.held.items s ≡ Some x
   place_old s x e = sym (ap (λ z. slice_get z s) places_are) ∙ e
 
   -- so is one that is held
@@ -55,7 +55,7 @@ module _ {G : Type 0} {o : Ops G} (f : Flow G) (pushed : IsPushed o f)
 
   -- the seats are the same
   seat_same : (p s : ℕ) → seat f p s ≡ seat R p s
-  seat_same p s = sym (ap (λ z. place_at (slice_get z s) (slice_get L.items s) p) places_are ∙ ap (λ z. place_at (slice_get f.places.items s) (slice_get z s) p) lists_are)
+  seat_same p s = sym (ap (λ z. place_at (slice_get z s) (slice_get L.items s) p) places_are ∙ ap (λ z. place_at (slice_get f.held.items s) (slice_get z s) p) lists_are)
 
   -- so each project has as many
   seats_same : (p : ℕ) → seats f p ≡ seats R p

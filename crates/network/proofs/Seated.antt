@@ -5,6 +5,7 @@ use Rattle.std.specs.declared.vec.Vec.{Vec}
 use Rattle.std.specs.declared.alloc.Global.{Global}
 use Rattle.std.proofs.lemmas.Bool.{cases_eq}
 use Rattle.std.proofs.lemmas.Option.{slice_get_within, slice_get_cases}
+use Rattle.spa.specs.declared.TheConstants.{MOST_STUDENTS}
 use Rattle.spa.specs.Laws.{Ops}
 use Rattle.network.specs.Arcs.{Holds, IsFormed, list_cost}
 use Rattle.network.specs.Push.{one_if, entry_at, row_at, place_at, seat, seats, owner_at}
@@ -61,17 +62,17 @@ module _ {G : Type 0} {o : Ops G} (f : Flow G) (formed : IsFormed o f) (k : Kept
     seated_known j s e = elim (slice_get_cases f.lists.items s).1 [
       | inl h ↦ h.1
       | inr h ↦
-          (let z = place_none (slice_get f.places.items s) (slice_get f.lists.items s) p h.1 in
+          (let z = place_none (slice_get f.held.items s) (slice_get f.lists.items s) p h.1 in
           let c = stands S j s e in
           absurd (omega (arith, z, c, kept.seated.students p s known)))
     ]
 
     -- and stands once
     once : (s : ℕ) → count_of S s ≤ 1
-    once s = omega (arith, kept.seated.students p s known, place_most (slice_get f.places.items s) (slice_get f.lists.items s) p)
+    once s = omega (arith, kept.seated.students p s known, place_most (slice_get f.held.items s) (slice_get f.lists.items s) p)
 
     -- so there are no more than students
-    pub seated_few : length S ≤ 500
+    pub seated_few : length S ≤ MOST_STUDENTS
     seated_few = let h = length_within (length f.lists.items) S seated_known once in omega (arith, h, formed.few_students)
 
     -- and as many as the project's seats

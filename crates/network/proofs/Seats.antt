@@ -20,43 +20,6 @@ module _ (L : List (Vec ℕ Global)) (p : ℕ) (v w : Vec ℕ Global) (was : sli
   there : (q : ℕ) → (q ≡ p → ⊥) → slice_get (set L p v) q ≡ slice_get L q
   there q ne = slice_get-set_other L p q v ne
 
-  -- more in the one list
-  pub counts_more : (n : ℕ) → ((t : ℕ) → count_of v.items t ≡ count_of w.items t + one_if (eqb n t)) → (q t : ℕ)
-      → count_of (numbers_at (set L p v) q) t ≡ count_of (numbers_at L q) t + one_if (eqb p q) * one_if (eqb n t)
-  counts_more n more q t = elim (cases_eq q p) [
-    | inl e ↦
-        (let z : one_if (eqb p q) * one_if (eqb n t) ≡ one_if (eqb n t) = ap (λ x. x * one_if (eqb n t)) (ap one_if (eq-eqb p q (sym e))) ∙ omega arith in
-        let a : count_of (numbers_at (set L p v) q) t ≡ count_of v.items t = ap (λ x. count_of (numbers_at (set L p v) x) t) e ∙ ap (λ x. count_of (numbers_of x) t) here in
-        let b : count_of (numbers_at L q) t ≡ count_of w.items t = ap (λ x. count_of (numbers_at L x) t) e ∙ ap (λ x. count_of (numbers_of x) t) was in
-        omega (arith, a, b, z, more t))
-    | inr ne ↦
-        (let z : one_if (eqb p q) * one_if (eqb n t) ≡ 0 = ap (λ x. x * one_if (eqb n t)) (ap one_if (ne_eqb p q (λ e. ne (sym e)))) ∙ omega arith in
-        let a : count_of (numbers_at (set L p v) q) t ≡ count_of (numbers_at L q) t = ap (λ x. count_of (numbers_of x) t) (there q ne) in
-        omega (arith, a, z))
-  ]
-
-  -- less in the one list
-  pub counts_less : (n : ℕ) → ((t : ℕ) → count_of v.items t + one_if (eqb n t) ≡ count_of w.items t) → (q t : ℕ)
-      → count_of (numbers_at (set L p v) q) t + one_if (eqb p q) * one_if (eqb n t) ≡ count_of (numbers_at L q) t
-  counts_less n less q t = elim (cases_eq q p) [
-    | inl e ↦
-        (let z : one_if (eqb p q) * one_if (eqb n t) ≡ one_if (eqb n t) = ap (λ x. x * one_if (eqb n t)) (ap one_if (eq-eqb p q (sym e))) ∙ omega arith in
-        let a : count_of (numbers_at (set L p v) q) t ≡ count_of v.items t = ap (λ x. count_of (numbers_at (set L p v) x) t) e ∙ ap (λ x. count_of (numbers_of x) t) here in
-        let b : count_of (numbers_at L q) t ≡ count_of w.items t = ap (λ x. count_of (numbers_at L x) t) e ∙ ap (λ x. count_of (numbers_of x) t) was in
-        omega (arith, a, b, z, less t))
-    | inr ne ↦
-        (let z : one_if (eqb p q) * one_if (eqb n t) ≡ 0 = ap (λ x. x * one_if (eqb n t)) (ap one_if (ne_eqb p q (λ e. ne (sym e)))) ∙ omega arith in
-        let a : count_of (numbers_at (set L p v) q) t ≡ count_of (numbers_at L q) t = ap (λ x. count_of (numbers_of x) t) (there q ne) in
-        omega (arith, a, z))
-  ]
-
-  -- the room stays
-  pub room_same : vec_capacity v ≡ vec_capacity w → (q : ℕ) → room_at (set L p v) q ≡ room_at L q
-  room_same same q = elim (cases_eq q p) [
-    | inl e ↦ ap (room_at (set L p v)) e ∙ ap room_of here ∙ same ∙ sym (ap (room_at L) e ∙ ap room_of was)
-    | inr ne ↦ ap room_of (there q ne)
-  ]
-
   -- no list gets longer
   pub all_shorter : length v.items ≤ length w.items → (q : ℕ) → length (numbers_at (set L p v) q) ≤ length (numbers_at L q)
   all_shorter less q = elim (cases_eq q p) [

@@ -17,7 +17,7 @@ module _ {G : Type 0} {o : Ops G} (laws : IsWorth o) (f : Flow G)
     (few_supervisors : length f.supervisors.items ≤ 100) (few_projects : length f.projects.items ≤ 400)
     (known : (p l q : ℕ) → slice_get f.projects.items p ≡ Some (l, q) → (l < length f.supervisors.items) × (q ≤ 500))
     (quotas : (l : ℕ) → l < length f.supervisors.items → slice_index f.supervisors.items l ≤ 500)
-    (no_lists : f.lists.items ≡ []) (no_places : f.places.items ≡ [])
+    (no_lists : f.lists.items ≡ []) (no_places : f.held.items ≡ [])
     (filled_long : length f.filled.items ≡ length f.projects.items) (filled : (i : ℕ) → slice_index f.filled.items i ≡ 0)
     (load_long : length f.load.items ≡ length f.supervisors.items) (load : (i : ℕ) → slice_index f.load.items i ≡ 0)
     (potentials_long : length f.potentials.items ≡ length f.projects.items + length f.supervisors.items + 1) (potentials : (i : ℕ) → potential_at o f.potentials.items i ≡ o.zero) where
@@ -27,7 +27,7 @@ module _ {G : Type 0} {o : Ops G} (laws : IsWorth o) (f : Flow G)
 
   -- nobody has a place
   none_held : (s a : ℕ) → Holds f s a → ⊥
-  none_held s a h = no_student s _ f.places.items no_places h.placed
+  none_held s a h = no_student s _ f.held.items no_places h.placed
 
   -- or a list
   none_listed : (s k p : ℕ) (w : G) → HasEntry f.lists.items s k p w → ⊥
@@ -47,7 +47,7 @@ module _ {G : Type 0} {o : Ops G} (laws : IsWorth o) (f : Flow G)
         load = load_long;
         potentials = potentials_long;
         entries = λ s k p w h. absurd (none_listed s k p w h);
-        placed = λ s k e. absurd (no_student s (Some k) f.places.items no_places e);
+        placed = λ s k e. absurd (no_student s (Some k) f.held.items no_places e);
         projects = λ p l q e. (known p l q e).0;
         quotas = λ p l q e. (known p l q e).1;
         loads = quotas;

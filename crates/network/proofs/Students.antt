@@ -20,13 +20,13 @@ use Rattle.network.specs.declared.marks.Origin.TheVariants.{Unseen, Entry, Leave
 use Rattle.network.specs.declared.marks.Mark.{Mark}
 
 -- a student's place is one
-pub holds_same : {G : Type 0} {f : Flow G} {s k p q : ℕ} {w : G} → slice_get f.places.items s ≡ Some (Some k) → HasEntry f.lists.items s k p w → (h : Holds f s q) → (p ≡ q) × (w ≡ h.worth)
+pub holds_same : {G : Type 0} {f : Flow G} {s k p q : ℕ} {w : G} → slice_get f.held.items s ≡ Some (Some k) → HasEntry f.lists.items s k p w → (h : Holds f s q) → (p ≡ q) × (w ≡ h.worth)
 holds_same {G} {f} {s} {k} {p} {q} {w} e g h =
     let same : k ≡ h.place = same_Some _ _ (same_Some _ _ (sym e ∙ h.placed)) in
     entry_same (rw same at g) h.entry
 
 -- two places of one student are the same
-pub holds_along : {G : Type 0} {f : Flow G} {s t k p q : ℕ} {w : G} → s ≡ t → slice_get f.places.items s ≡ Some (Some k) → HasEntry f.lists.items s k p w → (h : Holds f t q) → (p ≡ q) × (w ≡ h.worth)
+pub holds_along : {G : Type 0} {f : Flow G} {s t k p q : ℕ} {w : G} → s ≡ t → slice_get f.held.items s ≡ Some (Some k) → HasEntry f.lists.items s k p w → (h : Holds f t q) → (p ≡ q) × (w ≡ h.worth)
 holds_along {G} {f} {s} {t} {k} {p} {q} {w} e g n h = holds_same (rw e at g) (rw e at n) h
 
 -- who is among the first is among one more

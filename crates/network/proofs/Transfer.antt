@@ -44,14 +44,14 @@ pub seat_held : {G : Type 0} (f : Flow G) (p s a : ℕ) → Holds f s a → seat
 seat_held f p s a h = rw (h.placed, h.entry.student, h.entry.place) refl
 
 module _ {G : Type 0} {o : Ops G} (laws : IsWorth o) (f : Flow G) (formed : IsFormed o f) (P : Vec (Option ℕ) Global) (s : ℕ) (x : Option ℕ)
-    (set_is : P.items ≡ set f.places.items s x) where
+    (set_is : P.items ≡ set f.held.items s x) where
   -- the flow with the student's new place
   abbrev pub N : Flow G
-  N = record f { places = P }
+  N = record f { held = P }
 
   -- the other places are as before
-  pub place_other : (t : ℕ) → (t ≡ s → ⊥) → slice_get P.items t ≡ slice_get f.places.items t
-  place_other t ne = rw set_is (slice_get-set_other f.places.items s t x ne)
+  pub place_other : (t : ℕ) → (t ≡ s → ⊥) → slice_get P.items t ≡ slice_get f.held.items t
+  place_other t ne = rw set_is (slice_get-set_other f.held.items s t x ne)
 
   -- a place that another holds was held before
   pub holds_before : (t p : ℕ) → (t ≡ s → ⊥) → Holds N t p → Holds f t p
@@ -107,12 +107,12 @@ module _ {G : Type 0} {o : Ops G} (laws : IsWorth o) (f : Flow G) (formed : IsFo
   module _ (a b k : ℕ) (w : G) (was : Holds f s a) (entry : HasEntry f.lists.items s k b w) (x_is : x ≡ Some k)
       (tight : o.plus w (potential o f b) ≡ o.plus was.worth (potential o f a)) where
     -- the student is known
-    s_within : s < length f.places.items
-    s_within = slice_get_within f.places.items s _ was.placed
+    s_within : s < length f.held.items
+    s_within = slice_get_within f.held.items s _ was.placed
 
     -- the student's place is the new one
     placed_now : slice_get P.items s ≡ Some (Some k)
-    placed_now = rw set_is (slice_get-set_same f.places.items s x s_within) ∙ ap Some x_is
+    placed_now = rw set_is (slice_get-set_same f.held.items s x s_within) ∙ ap Some x_is
 
     -- so it is held
     pub holds_now : Holds N s b

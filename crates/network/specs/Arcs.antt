@@ -2,6 +2,7 @@
 use Rattle.std.specs.Prelude.{◌≡◌, ℕ, ◌+◌, ◌*◌, ◌≤◌, ◌<◌, List, length, slice_index, slice_get, Option, Some, None, sum_by}
 use Rattle.std.specs.declared.vec.Vec.{Vec}
 use Rattle.std.specs.declared.alloc.Global.{Global}
+use Rattle.spa.specs.declared.TheConstants.{MOST_SUPERVISORS, MOST_PROJECTS, MOST_STUDENTS, MOST_PLACES, RANKS}
 use Rattle.spa.specs.Laws.{Ops}
 use Rattle.network.specs.Among.{Among}
 use Rattle.network.specs.declared.marks.Origin.{Origin}
@@ -18,7 +19,7 @@ pub record HasEntry {G : Type 0} (lists : List (Vec (ℕ × G) Global)) (s k p :
 pub record Holds {G : Type 0} (f : Flow G) (s p : ℕ) : Type 0 where
   pub place : ℕ
   pub worth : G
-  pub placed : slice_get f.places.items s ≡ Some (Some place)
+  pub placed : slice_get f.held.items s ≡ Some (Some place)
   pub entry : HasEntry f.lists.items s place p worth
 
 -- how many projects there are, and so the node of the first supervisor
@@ -87,19 +88,19 @@ OfStudent o f student label (Room l) x b = ⊥
 
 -- a flow's parts belong together, and are within the limits
 pub record IsFormed {G : Type 0} (o : Ops G) (f : Flow G) : Type 0 where
-  pub students : length f.lists.items ≡ length f.places.items
+  pub students : length f.lists.items ≡ length f.held.items
   pub filled : length f.filled.items ≡ length f.projects.items
   pub load : length f.load.items ≡ length f.supervisors.items
   pub potentials : length f.potentials.items ≡ sink_of f + 1
   pub entries : (s k p : ℕ) (w : G) → HasEntry f.lists.items s k p w → (p < project_count f) × (o.span w ≤ 1)
-  pub placed : (s k : ℕ) → slice_get f.places.items s ≡ Some (Some k) → (p : ℕ) × (w : G) × HasEntry f.lists.items s k p w
+  pub placed : (s k : ℕ) → slice_get f.held.items s ≡ Some (Some k) → (p : ℕ) × (w : G) × HasEntry f.lists.items s k p w
   pub projects : (p l q : ℕ) → slice_get f.projects.items p ≡ Some (l, q) → l < length f.supervisors.items
-  pub quotas : (p l q : ℕ) → slice_get f.projects.items p ≡ Some (l, q) → q ≤ 500
-  pub loads : (l : ℕ) → l < length f.supervisors.items → slice_index f.supervisors.items l ≤ 500
-  pub few_students : length f.lists.items ≤ 500
-  pub few_projects : project_count f ≤ 400
-  pub few_supervisors : length f.supervisors.items ≤ 100
-  pub short : (s : ℕ) (row : Vec (ℕ × G) Global) → slice_get f.lists.items s ≡ Some row → length row.items ≤ 12
+  pub quotas : (p l q : ℕ) → slice_get f.projects.items p ≡ Some (l, q) → q ≤ MOST_PLACES
+  pub loads : (l : ℕ) → l < length f.supervisors.items → slice_index f.supervisors.items l ≤ MOST_PLACES
+  pub few_students : length f.lists.items ≤ MOST_STUDENTS
+  pub few_projects : project_count f ≤ MOST_PROJECTS
+  pub few_supervisors : length f.supervisors.items ≤ MOST_SUPERVISORS
+  pub short : (s : ℕ) (row : Vec (ℕ × G) Global) → slice_get f.lists.items s ≡ Some row → length row.items ≤ RANKS
 
 -- the offers of the student's first entries
 abbrev pub EntriesBelow : {G : Type 0} → Ops G → Flow G → ℕ → G → ℕ → Origin → G → ℕ → Type 0

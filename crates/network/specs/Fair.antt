@@ -13,7 +13,7 @@ potential o f v = potential_at o f.potentials.items v
 pub record IsFair {G : Type 0} (o : Ops G) (f : Flow G) (pending : ℕ) (top : G) : Type 0 where
   pub placed : (s a k p : ℕ) (w : G) (h : Holds f s a) → HasEntry f.lists.items s k p w → AtMost o (o.plus w (potential o f p)) (o.plus h.worth (potential o f a))
   pub placed_least : (s a : ℕ) (h : Holds f s a) → AtMost o o.zero (o.plus h.worth (potential o f a))
-  pub unplaced : (s k p : ℕ) (w : G) → (s ≡ pending → ⊥) → slice_get f.places.items s ≡ Some None → HasEntry f.lists.items s k p w → AtMost o (o.plus w (potential o f p)) o.zero
+  pub unplaced : (s k p : ℕ) (w : G) → (s ≡ pending → ⊥) → slice_get f.held.items s ≡ Some None → HasEntry f.lists.items s k p w → AtMost o (o.plus w (potential o f p)) o.zero
   pub waiting : (k p : ℕ) (w : G) → HasEntry f.lists.items pending k p w → AtMost o (o.plus w (potential o f p)) top
   pub waiting_least : AtMost o o.zero top
   pub project : (p l q : ℕ) → slice_get f.projects.items p ≡ Some (l, q) → AtMost o (potential o f p) (potential o f (project_count f + l))
@@ -26,7 +26,7 @@ pub record IsFair {G : Type 0} (o : Ops G) (f : Flow G) (pending : ℕ) (top : G
 pub record IsFairBut {G : Type 0} (o : Ops G) (f : Flow G) (fresh : ℕ) : Type 0 where
   pub placed : (s a k p : ℕ) (w : G) (h : Holds f s a) → HasEntry f.lists.items s k p w → AtMost o (o.plus w (potential o f p)) (o.plus h.worth (potential o f a))
   pub placed_least : (s a : ℕ) (h : Holds f s a) → AtMost o o.zero (o.plus h.worth (potential o f a))
-  pub unplaced : (s k p : ℕ) (w : G) → (s ≡ fresh → ⊥) → slice_get f.places.items s ≡ Some None → HasEntry f.lists.items s k p w → AtMost o (o.plus w (potential o f p)) o.zero
+  pub unplaced : (s k p : ℕ) (w : G) → (s ≡ fresh → ⊥) → slice_get f.held.items s ≡ Some None → HasEntry f.lists.items s k p w → AtMost o (o.plus w (potential o f p)) o.zero
   pub project : (p l q : ℕ) → slice_get f.projects.items p ≡ Some (l, q) → AtMost o (potential o f p) (potential o f (project_count f + l))
   pub project_room : (p l q : ℕ) → slice_get f.projects.items p ≡ Some (l, q) → slice_index f.filled.items p < q → AtMost o (potential o f (project_count f + l)) (potential o f p)
   pub supervisor : (l : ℕ) → l < length f.supervisors.items → AtMost o (potential o f (project_count f + l)) o.zero

@@ -1,4 +1,4 @@
--- Who is placed at each project and what each supervisor offers, kept beside the places and the projects.
+-- Who is placed at each project and what each supervisor offers, kept beside what students hold and the projects.
 use Rattle.std.specs.Prelude.{◌≡◌, ℕ, ◌<◌, ◌≤◌, List, [], length, Option, Some, None, slice_get}
 use Rattle.std.specs.Vec.{vec_capacity}
 use Rattle.std.specs.declared.vec.Vec.{Vec}
@@ -27,9 +27,9 @@ abbrev pub room_at : List (Vec ℕ Global) → ℕ → ℕ
 room_at lists n = room_of (slice_get lists n)
 
 -- each student placed at a project stands once in the project's list, and nobody else; there is room for the quota
-pub record AreSeated {G : Type 0} (lists : List (Vec (ℕ × G) Global)) (places : List (Option ℕ)) (projects : List (ℕ × ℕ)) (seated : List (Vec ℕ Global)) : Type 0 where
+pub record AreSeated {G : Type 0} (lists : List (Vec (ℕ × G) Global)) (held : List (Option ℕ)) (projects : List (ℕ × ℕ)) (seated : List (Vec ℕ Global)) : Type 0 where
   pub one_each : length seated ≡ length projects
-  pub students : (p s : ℕ) → p < length projects → count_of (numbers_at seated p) s ≡ place_at (slice_get places s) (slice_get lists s) p
+  pub students : (p s : ℕ) → p < length projects → count_of (numbers_at seated p) s ≡ place_at (slice_get held s) (slice_get lists s) p
   pub room : (p l q : ℕ) → slice_get projects p ≡ Some (l, q) → q ≤ room_at seated p
 
 -- each project stands once in its supervisor's list, and nowhere else
@@ -39,5 +39,5 @@ pub record AreOffered (supervisors : List ℕ) (projects : List (ℕ × ℕ)) (o
 
 -- both lists are right for the flow
 pub record IsKept {G : Type 0} (f : Flow G) (k : Kept) : Type 0 where
-  pub seated : AreSeated f.lists.items f.places.items f.projects.items k.seated.items
+  pub seated : AreSeated f.lists.items f.held.items f.projects.items k.seated.items
   pub offered : AreOffered f.supervisors.items f.projects.items k.offered.items

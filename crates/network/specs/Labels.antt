@@ -20,6 +20,6 @@ pub record AreLabels {G : Type 0} (o : Ops G) (l : Labels G) : Type 0 where
 
 -- no node was reached, and there is a mark for each
 pub record AreBlank {G : Type 0} (o : Ops G) (l : Labels G) (nodes : ℕ) : Type 0 where
-  pub kept : AreLabels o l
+  pub labels : AreLabels o l
   pub blank : (b : ℕ) → mark_at o l.marks.items b ≡ blank o
   pub long : length l.marks.items ≡ nodes

@@ -13,12 +13,12 @@ abbrev pub at_entry : {G : Type 0} → Ops G → (ℕ → G → G) → Option (�
 at_entry o v None = o.zero
 at_entry o v (Some e) = v e.0 e.1
 
--- a value of the entry at a place of a list
+-- a value of the k-th entry of a list
 abbrev pub at_row : {G : Type 0} → Ops G → (ℕ → G → G) → Option (Vec (ℕ × G) Global) → ℕ → G
 at_row o v None k = o.zero
 at_row o v (Some row) k = at_entry o v (slice_get row.items k)
 
--- a value of the entry at the place of a student, zero without a place
+-- a value of the entry that a student holds, zero without one
 abbrev pub at_place : {G : Type 0} → Ops G → (ℕ → G → G) → Option (Option ℕ) → Option (Vec (ℕ × G) Global) → G
 at_place o v None row = o.zero
 at_place o v (Some None) row = o.zero
@@ -26,7 +26,7 @@ at_place o v (Some (Some k)) row = at_row o v row k
 
 -- a value of the student's project and the pair's worth, or zero without a place
 abbrev pub of_place : {G : Type 0} → Ops G → Flow G → (ℕ → G → G) → ℕ → G
-of_place o f v s = at_place o v (slice_get f.places.items s) (slice_get f.lists.items s)
+of_place o f v s = at_place o v (slice_get f.held.items s) (slice_get f.lists.items s)
 
 -- the price of a student, of a project and of a supervisor
 abbrev pub student_price : {G : Type 0} → Ops G → Flow G → ℕ → G

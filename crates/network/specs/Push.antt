@@ -25,12 +25,12 @@ abbrev pub entry_at : {G : Type 0} → Option (ℕ × G) → ℕ → ℕ
 entry_at None p = 0
 entry_at (Some e) p = one_if (nat_eq e.0 p)
 
--- 1 where the entry at a place of the list does
+-- 1 where the k-th entry of the list does
 abbrev pub row_at : {G : Type 0} → Option (Vec (ℕ × G) Global) → ℕ → ℕ → ℕ
 row_at None k p = 0
 row_at (Some row) k p = entry_at (slice_get row.items k) p
 
--- 1 where the entry at the student's place does
+-- 1 where the entry that the student holds does
 abbrev pub place_at : {G : Type 0} → Option (Option ℕ) → Option (Vec (ℕ × G) Global) → ℕ → ℕ
 place_at None row p = 0
 place_at (Some None) row p = 0
@@ -38,7 +38,7 @@ place_at (Some (Some k)) row p = row_at row k p
 
 -- 1 where the student is placed at the project, else 0
 abbrev pub seat : {G : Type 0} → Flow G → ℕ → ℕ → ℕ
-seat f p s = place_at (slice_get f.places.items s) (slice_get f.lists.items s) p
+seat f p s = place_at (slice_get f.held.items s) (slice_get f.lists.items s) p
 
 -- how many students are placed at the project
 abbrev pub seats : {G : Type 0} → Flow G → ℕ → ℕ
@@ -87,7 +87,7 @@ pub record IsPushing {G : Type 0} (o : Ops G) (f : Flow G) (marks : List (Mark G
   pub fair : IsFair o f fresh top
   pub counted : IsCounted f hole
   pub steps : HasSteps o f marks fresh top (length marks) hole
-  pub waiting : slice_get f.places.items fresh ≡ Some None
+  pub waiting : slice_get f.held.items fresh ≡ Some None
   pub seen : is_seen (mark_at o marks hole).origin ≡ true
   pub ranked : (b r : ℕ) → (mark_at o marks b).rank ≡ Some r → (r < length marks) × (is_seen (mark_at o marks b).origin ≡ true)
 

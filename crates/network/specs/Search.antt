@@ -32,7 +32,7 @@ pub record Relaxes {G : Type 0} (o : Ops G) (offer : Origin → G → ℕ → Ty
   pub moves : (b : ℕ) → (mark_at o new b ≡ mark_at o old b) ⊎ Replaced o offer b (mark_at o old b) (mark_at o new b)
   pub taken : (w : Origin) (x : G) (b : ℕ) → offer w x b → Taken o new b x
 
--- the place in the order of settling, or k where a node is not settled
+-- the turn in which a node was settled, or k where it is not
 abbrev pub rank_or : ℕ → Option ℕ → ℕ
 rank_or k None = k
 rank_or k (Some r) = r

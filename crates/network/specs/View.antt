@@ -1,5 +1,5 @@
 -- How a clause sees the fields of a `Network`, and what holds of them between two calls.
-use Rattle.std.specs.Prelude.{◌≡◌, ℕ, ◌*◌, ◌≤◌, ◌<◌, ◌^◌, List, map, length, Some, slice_get}
+use Rattle.std.specs.Prelude.{◌≡◌, ℕ, suc, Option, Some, None, ◌*◌, ◌≤◌, ◌<◌, ◌^◌, List, map, length, slice_get}
 use Rattle.std.specs.declared.vec.Vec.{Vec}
 use Rattle.std.specs.declared.alloc.Global.{Global}
 use Rattle.spa.specs.Laws.{Ops}
@@ -16,9 +16,14 @@ use Rattle.network.specs.declared.marks.Labels.{Labels}
 abbrev pub row_of : {G : Type 0} → Vec (ℕ × G) Global → List (ℕ × G)
 row_of r = r.items
 
+-- the place of an entry that the flow keeps by its position: one more
+abbrev pub place_of : Option ℕ → Option ℕ
+place_of None = None
+place_of (Some k) = Some (suc k)
+
 -- what callers see of a flow and its relaxations
 abbrev pub seen : {G : Type 0} → Flow G → ℕ → Seen G
-seen f steps = record { supervisors = f.supervisors.items; projects = f.projects.items; lists = map row_of f.lists.items; places = f.places.items; steps = steps }
+seen f steps = record { supervisors = f.supervisors.items; projects = f.projects.items; lists = map row_of f.lists.items; places = map place_of f.held.items; potentials = f.potentials.items; steps = steps }
 
 -- each entry names a known project, and its worth is small
 abbrev pub IsKnownList : {G : Type 0} → Ops G → ℕ → List (ℕ × G) → Type 0

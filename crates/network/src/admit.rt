@@ -1,6 +1,7 @@
 //! A student who was added finds a place.
 
 ghost use Rattle.std.specs.Prelude.{◌≡◌, ℕ, ◌+◌, ◌*◌, ◌<◌, ◌≤◌, ◌^◌, length, slice_get, Some, None, false};
+ghost use Rattle.spa.specs.declared.TheConstants.{RANKS};
 ghost use Rattle.network.specs.Marks.{mark_at};
 ghost use Rattle.network.specs.Labels.{AreLabels, AreBlank};
 ghost use Rattle.network.specs.Kept.{IsKept};
@@ -24,8 +25,8 @@ fn lower_flow<G: Worth>(flow: &mut Flow<G>, fresh: usize, labels: &Labels<G>, to
     requires formed { IsFormed G.ops flow.old }
     requires fair { IsFairBut G.ops flow.old fresh }
     requires counted { IsCounted flow.old (sink_of flow.old) }
-    requires waiting { slice_get flow.old.places.items fresh ≡ Some None }
-    requires kept { AreLabels G.ops labels.now }
+    requires waiting { slice_get flow.old.held.items fresh ≡ Some None }
+    requires labels { AreLabels G.ops labels.now }
     requires marks { length labels.now.marks.items ≡ length flow.old.potentials.items }
     requires found { IsFound G.ops (OfStudent G.ops flow.old fresh G.ops.zero) (Arc G.ops flow.old) flow.old.potentials.items labels.now.marks.items (sink_of flow.old) }
     requires top { top ≡ (mark_at G.ops labels.now.marks.items (sink_of flow.old)).label }
@@ -48,7 +49,7 @@ fn place_best<G: Worth>(
     requires formed { IsFormed G.ops flow.old }
     requires fair { IsFairBut G.ops flow.old fresh }
     requires counted { IsCounted flow.old (sink_of flow.old) }
-    requires waiting { slice_get flow.old.places.items fresh ≡ Some None }
+    requires waiting { slice_get flow.old.held.items fresh ≡ Some None }
     requires kept { IsKept flow.old kept.old }
     requires blank { AreBlank G.ops labels.old (length flow.old.potentials.items) }
     requires low { IsLow G.ops flow.old }
@@ -57,7 +58,8 @@ fn place_best<G: Worth>(
     ensures blank { AreBlank G.ops labels.new (length flow.new.potentials.items) }
     ensures pushed { IsPushed G.ops flow.new }
     ensures low { IsLow G.ops flow.new }
-    ensures rest { flow.new ≡ record flow.old { places = flow.new.places; filled = flow.new.filled; load = flow.new.load; potentials = flow.new.potentials } }
+    ensures rest { flow.new ≡ record flow.old { held = flow.new.held; filled = flow.new.filled; load = flow.new.load; potentials = flow.new.potentials } }
+    ensures least { (row : _) → slice_get flow.old.lists.items fresh ≡ Some row → count.old + length row.items + 1 ≤ count.new }
     ensures cost { (row : _) → slice_get flow.old.lists.items fresh ≡ Some row → count.new ≤ count.old + length row.items + 1 + sink_of flow.old * flow_arcs flow.old }
 {
     search(flow, kept, fresh, labels, count);
@@ -75,12 +77,14 @@ fn gains<G: Worth>(flow: &Flow<G>, student: usize, count: &mut u64) -> bool
     requires student { student < length flow.now.lists.items }
     requires count { count.old < 2 ^ 29 }
     ensures none { result ≡ false → (k p : ℕ) (w : G) → HasEntry flow.now.lists.items student k p w → AtMost G.ops (G.ops.plus w (potential G.ops flow.now p)) G.ops.zero }
+    ensures all { result ≡ false → (row : _) → slice_get flow.now.lists.items student ≡ Some row → count.new ≡ count.old + length row.items }
+    ensures grows { count.old ≤ count.new }
     ensures cost { (row : _) → slice_get flow.now.lists.items student ≡ Some row → count.new ≤ count.old + length row.items }
-    ensures small { count.new ≤ count.old + 12 }
+    ensures small { count.new ≤ count.old + RANKS }
 {
-    for place in 0..list_len(flow, student) {
+    for k in 0..list_len(flow, student) {
         *count += 1;
-        let (project, worth) = entry(flow, student, place);
+        let (project, worth) = entry(flow, student, k);
         if exceeds(worth.plus(potential_of(flow, project)), G::zero()) {
             return true;
         }
@@ -99,7 +103,7 @@ pub(crate) fn place_new<G: Worth>(
     requires formed { IsFormed G.ops flow.old }
     requires fair { IsFairBut G.ops flow.old fresh }
     requires counted { IsCounted flow.old (sink_of flow.old) }
-    requires waiting { slice_get flow.old.places.items fresh ≡ Some None }
+    requires waiting { slice_get flow.old.held.items fresh ≡ Some None }
     requires kept { IsKept flow.old kept.old }
     requires blank { AreBlank G.ops labels.old (length flow.old.potentials.items) }
     requires low { IsLow G.ops flow.old }
@@ -108,7 +112,8 @@ pub(crate) fn place_new<G: Worth>(
     ensures blank { AreBlank G.ops labels.new (length flow.new.potentials.items) }
     ensures pushed { IsPushed G.ops flow.new }
     ensures low { IsLow G.ops flow.new }
-    ensures rest { flow.new ≡ record flow.old { places = flow.new.places; filled = flow.new.filled; load = flow.new.load; potentials = flow.new.potentials } }
+    ensures rest { flow.new ≡ record flow.old { held = flow.new.held; filled = flow.new.filled; load = flow.new.load; potentials = flow.new.potentials } }
+    ensures least { (row : _) → slice_get flow.old.lists.items fresh ≡ Some row → count.old + length row.items ≤ count.new }
     ensures cost { (row : _) → slice_get flow.old.lists.items fresh ≡ Some row → count.new ≤ count.old + 2 * length row.items + 1 + sink_of flow.old * flow_arcs flow.old }
 {
     if gains(flow, fresh, count) {

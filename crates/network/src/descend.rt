@@ -20,9 +20,9 @@ fn lower_one<G: Worth>(potentials: &mut [G], labels: &Labels<G>, top: G, node: u
 
 /// The potentials of the settled nodes fall.
 pub(crate) fn lower<G: Worth>(potentials: &mut [G], labels: &Labels<G>, top: G)
-    requires kept { AreLabels G.ops labels.now }
+    requires labels { AreLabels G.ops labels.now }
     requires marks { length labels.now.marks.items ≡ length potentials.old }
-    requires labels { (v : ℕ) → G.ops.span (mark_at G.ops labels.now.marks.items v).label ≤ 2 ^ 20 }
+    requires spans { (v : ℕ) → G.ops.span (mark_at G.ops labels.now.marks.items v).label ≤ 2 ^ 20 }
     requires top { G.ops.span top ≤ 2 ^ 20 }
     ensures { (v : ℕ) → potential_at G.ops potentials.new v ≡ lowered G.ops labels.now.marks.items potentials.old top v }
 {

@@ -28,6 +28,13 @@ mod search;
 
 pub use enter::Admitted;
 pub use network::Network;
+use spa::{MOST_PROJECTS, MOST_STUDENTS, MOST_SUPERVISORS, RANKS};
 
 /// The greatest span of a price.
 pub const LARGEST_PRICE: u64 = 4012;
+
+/// How many offers a student makes at most: each entry of the list, and the sink.
+const MOST_OFFERS: usize = RANKS + 1;
+
+/// How many arcs there are at most: all students' offers, and each project and supervisor in two directions.
+const MOST_ARCS: usize = MOST_STUDENTS * MOST_OFFERS + 2 * (MOST_PROJECTS + MOST_SUPERVISORS);

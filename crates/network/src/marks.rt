@@ -5,7 +5,7 @@
 pub enum Origin {
     /// Not reached yet.
     Unseen,
-    /// A project, by the entry at a place of a student's list.
+    /// A project, by an entry of a student's list.
     Entry(usize, usize),
     /// The sink, by a student who gives up the place.
     Leave(usize),
@@ -24,7 +24,7 @@ pub struct Mark<G> {
     pub label: G,
     /// The last arc of that walk.
     pub origin: Origin,
-    /// The place in the order of settling, where the node is settled.
+    /// The turn in which the node was settled.
     pub rank: Option<usize>,
 }
 

@@ -6,11 +6,11 @@ ghost use Rattle.network.specs.Arcs.{project_count};
 ghost use Rattle.network.specs.Marks.{potential_at};
 ghost use Rattle.network.specs.Labels.{AreBlank};
 ghost use Rattle.network.specs.Kept.{IsKept};
-ghost use Rattle.network.specs.Seen.{ArePrices, IsPriced, IsAdmission};
+ghost use Rattle.network.specs.Seen.{ArePrices, FollowPotentials, IsPriced, IsAdmission};
 ghost use Rattle.network.specs.View.{seen, IsReady};
 
 use crate::enter::{Admitted, enter, grow};
-use crate::flow::{Flow, place_of};
+use crate::flow::{Flow, held_by};
 use crate::kept::{Kept, all_offered, empty_seats};
 use crate::marks::{Labels, blank_labels};
 use crate::prices::all_prices;
@@ -57,7 +57,7 @@ fn start_flow<G: Worth>(
     ensures supervisors { IfOk result (λ f. f.supervisors.items ≡ supervisors.now) }
     ensures projects { IfOk result (λ f. f.projects.items ≡ projects.now) }
     ensures lists { IfOk result (λ f. f.lists.items ≡ []) }
-    ensures places { IfOk result (λ f. f.places.items ≡ []) }
+    ensures held { IfOk result (λ f. f.held.items ≡ []) }
 {
     let potentials = flat(alloc, projects.len() + supervisors.len() + 1)?;
     let filled = zeros(alloc, projects.len())?;
@@ -68,7 +68,7 @@ fn start_flow<G: Worth>(
         supervisors: rolls,
         projects: offers,
         lists: Vec::new(alloc),
-        places: Vec::new(alloc),
+        held: Vec::new(alloc),
         filled,
         load,
         potentials,
@@ -77,7 +77,7 @@ fn start_flow<G: Worth>(
 
 /// The lists beside a flow with no students.
 fn start_kept<G: Worth>(alloc: Global, flow: &Flow<G>) -> Result<Kept, AllocError>
-    requires { flow.now.places.items ≡ [] }
+    requires { flow.now.held.items ≡ [] }
     ensures { IfOk result (λ k. IsKept flow.now k) }
 {
     let seated = empty_seats(alloc, &flow.projects)?;
@@ -180,7 +180,7 @@ impl<G: Worth> Network<G> {
 
     /// One more student is admitted, with a list of projects, by position, and the worth of each pair; the places change
     /// along one best walk, or not at all where no walk is worth more than nothing. After an `Err`, which is want of
-    /// memory, nobody was admitted and nothing has changed.
+    /// memory, nobody was admitted and nothing has changed, the potentials and so the prices neither.
     pub fn admit(&mut self, list: &[(usize, G)]) -> Result<Admitted, AllocError>
         requires few { length self.old.lists < MOST_STUDENTS }
         requires short { length list.now ≤ RANKS }
@@ -206,12 +206,15 @@ impl<G: Worth> Network<G> {
         priced(&self.flow, self.steps);
     }
 
-    /// The student's place in the list, from 0, or none. Students count from 0, in the order of admission.
+    /// The student's place in the list, from 1, or none. Students count from 0, in the order of admission.
     pub fn place_of(&self, student: usize) -> Option<usize>
         requires { student < length self.now.lists }
         ensures { slice_get self.now.places student ≡ Some result }
     {
-        place_of(&self.flow, student)
+        match held_by(&self.flow, student) {
+            None => None,
+            Some(position) => Some(position + 1),
+        }
     }
 
     /// The relaxations since the start.
@@ -225,6 +228,7 @@ impl<G: Worth> Network<G> {
     /// to be a best one. An `Err` is want of memory.
     pub fn prices(&self) -> Result<(Vec<G>, Vec<G>, Vec<G>), AllocError>
         ensures prices { IfOk result (λ r. ArePrices G.ops self.now r.0.items r.1.items r.2.items) }
+        ensures follow { IfOk result (λ r. FollowPotentials G.ops self.now r.0.items r.1.items r.2.items) }
     {
         all_prices(&self.flow, self.steps, self.alloc)
     }

@@ -4,11 +4,11 @@ ghost use Rattle.std.specs.Prelude.{◌≡◌, ℕ, ◌<◌, length, Some, None,
 ghost use Rattle.network.specs.Marks.{potential_at};
 ghost use Rattle.network.specs.Arcs.{IsFormed};
 ghost use Rattle.network.specs.Fair.{IsLow};
-ghost use Rattle.network.specs.Seen.{ArePrices};
+ghost use Rattle.network.specs.Seen.{ArePrices, FollowPotentials};
 ghost use Rattle.network.specs.View.{seen, IsReady};
 ghost use Rattle.network.specs.Prices.{student_price, project_price, supervisor_price};
 
-use crate::flow::{Flow, place_of, potential_of};
+use crate::flow::{Flow, held_by, potential_of};
 use crate::relaxes::{entry, project, supervisor_node};
 use spa::Worth;
 use std::alloc::{AllocError, Global};
@@ -17,13 +17,13 @@ use std::alloc::{AllocError, Global};
 fn price_of_student<G: Worth>(flow: &Flow<G>, student: usize) -> G
     requires formed { IsFormed G.ops flow.now }
     requires low { IsLow G.ops flow.now }
-    requires student { student < length flow.now.places.items }
+    requires student { student < length flow.now.held.items }
     ensures { result ≡ student_price G.ops flow.now student }
 {
-    match place_of(flow, student) {
+    match held_by(flow, student) {
         None => G::zero(),
-        Some(place) => {
-            let (project, worth) = entry(flow, student, place);
+        Some(held) => {
+            let (project, worth) = entry(flow, student, held);
             worth.plus(potential_of(flow, project))
         }
     }
@@ -102,7 +102,8 @@ pub(crate) fn all_prices<G: Worth>(
     alloc: Global,
 ) -> Result<(Vec<G>, Vec<G>, Vec<G>), AllocError>
     requires { IsReady G.ops flow.now steps }
-    ensures { IfOk result (λ r. ArePrices G.ops (seen flow.now steps) r.0.items r.1.items r.2.items) }
+    ensures prices { IfOk result (λ r. ArePrices G.ops (seen flow.now steps) r.0.items r.1.items r.2.items) }
+    ensures follow { IfOk result (λ r. FollowPotentials G.ops (seen flow.now steps) r.0.items r.1.items r.2.items) }
 {
     let students = student_prices(flow, alloc)?;
     let projects = project_prices(flow, alloc)?;

@@ -1,31 +1,32 @@
 //! A push along the walk that a search found, from the sink back to the new student.
 
 ghost use Rattle.std.specs.Prelude.{◌≡◌, ◌+◌, ◌-◌, ◌<◌, length, slice_index, slice_set, Some, None, IfSome, IfNone};
+ghost use Rattle.spa.specs.declared.TheConstants.{MOST_PLACES};
 ghost use Rattle.network.specs.declared.marks.Origin.TheVariants.{Entry, Leave, Offer, Swap, Room};
 ghost use Rattle.network.specs.Marks.{mark_at};
 ghost use Rattle.network.specs.Arcs.{project_count};
 ghost use Rattle.network.specs.Kept.{IsKept};
 ghost use Rattle.network.specs.Push.{IsPushing, IsPushed, IsNext};
 
-use crate::flow::{Flow, place_of};
+use crate::flow::{Flow, held_by};
 use crate::kept::{Kept, seat, unseat};
 use crate::marks::{Labels, Origin};
 use crate::relaxes::{entry, sink, supervisor_node};
 use spa::Worth;
 
-/// Writes a student's place.
-fn set_place<G>(flow: &mut Flow<G>, student: usize, place: Option<usize>)
-    requires { student < length flow.old.places.items }
-    ensures places { flow.new.places.items ≡ slice_set flow.old.places.items student place }
-    ensures rest { flow.new ≡ record flow.old { places = flow.new.places } }
+/// Writes what a student holds.
+fn set_held<G>(flow: &mut Flow<G>, student: usize, entry: Option<usize>)
+    requires { student < length flow.old.held.items }
+    ensures held { flow.new.held.items ≡ slice_set flow.old.held.items student entry }
+    ensures rest { flow.new ≡ record flow.old { held = flow.new.held } }
 {
-    flow.places[student] = place;
+    flow.held[student] = entry;
 }
 
 /// A project counts one more.
 fn count_up<G>(flow: &mut Flow<G>, project: usize)
     requires project { project < length flow.old.filled.items }
-    requires room { slice_index flow.old.filled.items project < 500 }
+    requires room { slice_index flow.old.filled.items project < MOST_PLACES }
     ensures filled { flow.new.filled.items ≡ slice_set flow.old.filled.items project (slice_index flow.old.filled.items project + 1) }
     ensures rest { flow.new ≡ record flow.old { filled = flow.new.filled } }
 {
@@ -45,7 +46,7 @@ fn count_down<G>(flow: &mut Flow<G>, project: usize)
 /// A supervisor counts one more.
 fn load_up<G>(flow: &mut Flow<G>, supervisor: usize)
     requires supervisor { supervisor < length flow.old.load.items }
-    requires room { slice_index flow.old.load.items supervisor < 500 }
+    requires room { slice_index flow.old.load.items supervisor < MOST_PLACES }
     ensures load { flow.new.load.items ≡ slice_set flow.old.load.items supervisor (slice_index flow.old.load.items supervisor + 1) }
     ensures rest { flow.new ≡ record flow.old { load = flow.new.load } }
 {
@@ -69,26 +70,26 @@ fn push_entry<G: Worth>(
     top: G,
     hole: usize,
     student: usize,
-    place: usize,
+    to: usize,
 ) -> Option<usize>
     requires kept { IsKept flow.old kept.old }
     requires pushing { IsPushing G.ops flow.old labels.now.marks.items fresh top hole }
-    requires origin { (mark_at G.ops labels.now.marks.items hole).origin ≡ Entry student place }
-    requires student { student < length flow.old.places.items }
+    requires origin { (mark_at G.ops labels.now.marks.items hole).origin ≡ Entry student to }
+    requires student { student < length flow.old.held.items }
     ensures kept { IsKept flow.new kept.new }
     ensures more { IfSome result (λ next. IsNext G.ops flow.new labels.now.marks.items fresh top hole next) }
     ensures done { IfNone result (IsPushed G.ops flow.new) }
-    ensures rest { flow.new ≡ record flow.old { places = flow.new.places; filled = flow.new.filled; load = flow.new.load } }
+    ensures rest { flow.new ≡ record flow.old { held = flow.new.held; filled = flow.new.filled; load = flow.new.load } }
 {
-    match place_of(flow, student) {
+    match held_by(flow, student) {
         None => {
-            set_place(flow, student, Some(place));
+            set_held(flow, student, Some(to));
             seat(kept, hole, student);
             None
         }
         Some(old) => {
             let (from, _) = entry(flow, student, old);
-            set_place(flow, student, Some(place));
+            set_held(flow, student, Some(to));
             unseat(kept, from, student);
             seat(kept, hole, student);
             Some(from)
@@ -109,17 +110,17 @@ fn push_leave<G: Worth>(
     requires kept { IsKept flow.old kept.old }
     requires pushing { IsPushing G.ops flow.old labels.now.marks.items fresh top hole }
     requires origin { (mark_at G.ops labels.now.marks.items hole).origin ≡ Leave student }
-    requires student { student < length flow.old.places.items }
+    requires student { student < length flow.old.held.items }
     ensures kept { IsKept flow.new kept.new }
     ensures more { IfSome result (λ next. IsNext G.ops flow.new labels.now.marks.items fresh top hole next) }
     ensures done { IfNone result (IsPushed G.ops flow.new) }
-    ensures rest { flow.new ≡ record flow.old { places = flow.new.places; filled = flow.new.filled; load = flow.new.load } }
+    ensures rest { flow.new ≡ record flow.old { held = flow.new.held; filled = flow.new.filled; load = flow.new.load } }
 {
-    match place_of(flow, student) {
+    match held_by(flow, student) {
         None => None,
         Some(old) => {
             let (from, _) = entry(flow, student, old);
-            set_place(flow, student, None);
+            set_held(flow, student, None);
             unseat(kept, from, student);
             Some(from)
         }
@@ -138,10 +139,10 @@ fn push_offer<G: Worth>(
     requires pushing { IsPushing G.ops flow.old labels.now.marks.items fresh top hole }
     requires origin { (mark_at G.ops labels.now.marks.items hole).origin ≡ Offer project }
     requires project { project < length flow.old.filled.items }
-    requires room { slice_index flow.old.filled.items project < 500 }
+    requires room { slice_index flow.old.filled.items project < MOST_PLACES }
     ensures next { IsNext G.ops flow.new labels.now.marks.items fresh top hole project }
     ensures same { flow.new ≡ record flow.old { filled = flow.new.filled } }
-    ensures rest { flow.new ≡ record flow.old { places = flow.new.places; filled = flow.new.filled; load = flow.new.load } }
+    ensures rest { flow.new ≡ record flow.old { held = flow.new.held; filled = flow.new.filled; load = flow.new.load } }
 {
     count_up(flow, project);
 }
@@ -161,7 +162,7 @@ fn push_swap<G: Worth>(
     requires some { 0 < slice_index flow.old.filled.items hole }
     ensures next { IsNext G.ops flow.new labels.now.marks.items fresh top hole (project_count flow.new + supervisor) }
     ensures same { flow.new ≡ record flow.old { filled = flow.new.filled } }
-    ensures rest { flow.new ≡ record flow.old { places = flow.new.places; filled = flow.new.filled; load = flow.new.load } }
+    ensures rest { flow.new ≡ record flow.old { held = flow.new.held; filled = flow.new.filled; load = flow.new.load } }
 {
     count_down(flow, hole);
 }
@@ -178,10 +179,10 @@ fn push_room<G: Worth>(
     requires pushing { IsPushing G.ops flow.old labels.now.marks.items fresh top hole }
     requires origin { (mark_at G.ops labels.now.marks.items hole).origin ≡ Room supervisor }
     requires supervisor { supervisor < length flow.old.load.items }
-    requires room { slice_index flow.old.load.items supervisor < 500 }
+    requires room { slice_index flow.old.load.items supervisor < MOST_PLACES }
     ensures next { IsNext G.ops flow.new labels.now.marks.items fresh top hole (project_count flow.new + supervisor) }
     ensures same { flow.new ≡ record flow.old { load = flow.new.load } }
-    ensures rest { flow.new ≡ record flow.old { places = flow.new.places; filled = flow.new.filled; load = flow.new.load } }
+    ensures rest { flow.new ≡ record flow.old { held = flow.new.held; filled = flow.new.filled; load = flow.new.load } }
 {
     load_up(flow, supervisor);
 }
@@ -200,13 +201,13 @@ fn step<G: Worth>(
     ensures kept { IsKept flow.new kept.new }
     ensures more { IfSome result (λ next. IsNext G.ops flow.new labels.now.marks.items fresh top hole next) }
     ensures done { IfNone result (IsPushed G.ops flow.new) }
-    ensures rest { flow.new ≡ record flow.old { places = flow.new.places; filled = flow.new.filled; load = flow.new.load } }
+    ensures rest { flow.new ≡ record flow.old { held = flow.new.held; filled = flow.new.filled; load = flow.new.load } }
 {
     match origin_of(labels, hole) {
         Origin::Unseen => unreachable!(),
-        Origin::Entry(student, place) => push_entry(
-            flow, kept, labels, fresh, top, hole, student, place,
-        ),
+        Origin::Entry(student, to) => {
+            push_entry(flow, kept, labels, fresh, top, hole, student, to)
+        }
         Origin::Leave(student) => push_leave(flow, kept, labels, fresh, top, hole, student),
         Origin::Offer(project) => {
             push_offer(flow, labels, fresh, top, hole, project);
@@ -236,7 +237,7 @@ pub(crate) fn push<G: Worth>(
     requires pushing { IsPushing G.ops flow.old labels.now.marks.items fresh top from }
     ensures kept { IsKept flow.new kept.new }
     ensures pushed { IsPushed G.ops flow.new }
-    ensures rest { flow.new ≡ record flow.old { places = flow.new.places; filled = flow.new.filled; load = flow.new.load } }
+    ensures rest { flow.new ≡ record flow.old { held = flow.new.held; filled = flow.new.filled; load = flow.new.load } }
 {
     let mut hole = from;
     while let Some(next) = step(flow, kept, labels, fresh, top, hole) {

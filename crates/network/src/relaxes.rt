@@ -1,6 +1,8 @@
 //! The relaxations of the arcs out of one node.
 
 ghost use Rattle.std.specs.Prelude.{◌≡◌, ℕ, ◌+◌, ◌*◌, ◌<◌, ◌≤◌, ◌^◌, length, slice_get, slice_index, Some, IfSome, IfNone, sum_by, nat_lt, List};
+ghost use Rattle.spa.specs.declared.TheConstants.{MOST_STUDENTS, RANKS};
+ghost use Rattle.network.specs.declared.TheConstants.{MOST_OFFERS};
 ghost use Rattle.network.specs.Labels.{AreLabels};
 ghost use Rattle.network.specs.Kept.{numbers_at, IsKept};
 ghost use Rattle.network.specs.Search.{Relaxes, OffersOf};
@@ -11,13 +13,13 @@ use crate::kept::{Kept, projects_at, students_at};
 use crate::marks::{Labels, Origin, relax};
 use spa::Worth;
 
-/// The entry at a place of a student's list.
-pub(crate) fn entry<G: Worth>(flow: &Flow<G>, student: usize, place: usize) -> (usize, G)
+/// The entry at a position of a student's list.
+pub(crate) fn entry<G: Worth>(flow: &Flow<G>, student: usize, k: usize) -> (usize, G)
     requires student { student < length flow.now.lists.items }
-    requires place { (row : _) → slice_get flow.now.lists.items student ≡ Some row → place < length row.items }
-    ensures { HasEntry flow.now.lists.items student place result.0 result.1 }
+    requires listed { (row : _) → slice_get flow.now.lists.items student ≡ Some row → k < length row.items }
+    ensures { HasEntry flow.now.lists.items student k result.0 result.1 }
 {
-    flow.lists[student][place]
+    flow.lists[student][k]
 }
 
 /// How many entries a student's list has.
@@ -25,7 +27,7 @@ pub(crate) fn list_len<G: Worth>(flow: &Flow<G>, student: usize) -> usize
     requires formed { IsFormed G.ops flow.now }
     requires student { student < length flow.now.lists.items }
     ensures row { (row : _) → slice_get flow.now.lists.items student ≡ Some row → result ≡ length row.items }
-    ensures short { result ≤ 12 }
+    ensures short { result ≤ RANKS }
 {
     flow.lists[student].len()
 }
@@ -42,28 +44,28 @@ pub(crate) fn sink<G: Worth>(flow: &Flow<G>) -> usize
 fn relax_entry<G: Worth>(
     flow: &Flow<G>,
     student: usize,
-    place: usize,
+    k: usize,
     label: G,
     labels: &mut Labels<G>,
     count: &mut u64,
 )
-    requires kept { AreLabels G.ops labels.old }
+    requires labels { AreLabels G.ops labels.old }
     requires formed { IsFormed G.ops flow.now }
     requires marks { length labels.old.marks.items ≡ length flow.now.potentials.items }
     requires student { student < length flow.now.lists.items }
-    requires place { (row : _) → slice_get flow.now.lists.items student ≡ Some row → place < length row.items }
+    requires listed { (row : _) → slice_get flow.now.lists.items student ≡ Some row → k < length row.items }
     requires label { G.ops.span label < 2 ^ 32 }
     requires count { count.old < 2 ^ 40 }
-    ensures kept { AreLabels G.ops labels.new }
-    ensures relaxes { (m : _) → Relaxes G.ops (EntriesBelow G.ops flow.now student label place) m labels.old.marks.items → Relaxes G.ops (EntriesBelow G.ops flow.now student label (place + 1)) m labels.new.marks.items }
+    ensures labels { AreLabels G.ops labels.new }
+    ensures relaxes { (m : _) → Relaxes G.ops (EntriesBelow G.ops flow.now student label k) m labels.old.marks.items → Relaxes G.ops (EntriesBelow G.ops flow.now student label (k + 1)) m labels.new.marks.items }
     ensures count { count.new ≡ count.old + 1 }
 {
-    let (project, worth) = entry(flow, student, place);
+    let (project, worth) = entry(flow, student, k);
     relax(
         labels,
         project,
         label.plus(worth),
-        Origin::Entry(student, place),
+        Origin::Entry(student, k),
         count,
     );
 }
@@ -76,19 +78,19 @@ pub(crate) fn relax_entries<G: Worth>(
     labels: &mut Labels<G>,
     count: &mut u64,
 )
-    requires kept { AreLabels G.ops labels.old }
+    requires labels { AreLabels G.ops labels.old }
     requires formed { IsFormed G.ops flow.now }
     requires marks { length labels.old.marks.items ≡ length flow.now.potentials.items }
     requires student { student < length flow.now.lists.items }
     requires label { G.ops.span label < 2 ^ 32 }
     requires count { count.old < 2 ^ 32 }
-    ensures kept { AreLabels G.ops labels.new }
+    ensures labels { AreLabels G.ops labels.new }
     ensures relaxes { Relaxes G.ops (OfStudent G.ops flow.now student label) labels.old.marks.items labels.new.marks.items }
     ensures count { (row : _) → slice_get flow.now.lists.items student ≡ Some row → count.new ≡ count.old + length row.items + 1 }
-    ensures small { count.new ≤ count.old + 13 }
+    ensures small { count.new ≤ count.old + MOST_OFFERS }
 {
-    let places = list_len(flow, student);
-    for k in 0..places {
+    let entries = list_len(flow, student);
+    for k in 0..entries {
         relax_entry(flow, student, k, label, labels, count);
     }
     relax(labels, sink(flow), label, Origin::Leave(student), count);
@@ -101,10 +103,10 @@ fn held<G: Worth>(flow: &Flow<G>, student: usize, project: usize) -> Option<G>
     ensures some { IfSome result (λ w. (h : Holds flow.now student project) × (h.worth ≡ w)) }
     ensures none { IfNone result (Holds flow.now student project → ⊥) }
 {
-    match flow.places[student] {
+    match flow.held[student] {
         None => None,
-        Some(place) => {
-            let (at, worth) = entry(flow, student, place);
+        Some(k) => {
+            let (at, worth) = entry(flow, student, k);
             if at == project { Some(worth) } else { None }
         }
     }
@@ -120,15 +122,16 @@ fn relax_student<G: Worth>(
     count: &mut u64,
 )
     requires formed { IsFormed G.ops flow.now }
-    requires kept { AreLabels G.ops labels.old }
+    requires labels { AreLabels G.ops labels.old }
     requires marks { length labels.old.marks.items ≡ length flow.now.potentials.items }
     requires student { student < length flow.now.lists.items }
     requires label { G.ops.span label < 2 ^ 31 }
     requires count { count.old < 2 ^ 32 }
-    ensures kept { AreLabels G.ops labels.new }
+    ensures labels { AreLabels G.ops labels.new }
     ensures relaxes { (m : _) (xs : List ℕ) (i : ℕ) → slice_get xs i ≡ Some student → Relaxes G.ops (StudentsAmong G.ops flow.now project label xs i) m labels.old.marks.items → Relaxes G.ops (StudentsAmong G.ops flow.now project label xs (i + 1)) m labels.new.marks.items }
+    ensures grows { count.old ≤ count.new }
     ensures cost { count.new ≤ count.old + list_cost flow.now.lists.items student }
-    ensures small { count.new ≤ count.old + 13 }
+    ensures small { count.new ≤ count.old + MOST_OFFERS }
 {
     match held(flow, student, project) {
         None => {}
@@ -146,16 +149,17 @@ fn relax_students<G: Worth>(
     count: &mut u64,
 )
     requires formed { IsFormed G.ops flow.now }
-    requires lists { IsKept flow.now kept.now }
-    requires kept { AreLabels G.ops labels.old }
+    requires kept { IsKept flow.now kept.now }
+    requires labels { AreLabels G.ops labels.old }
     requires marks { length labels.old.marks.items ≡ length flow.now.potentials.items }
     requires project { project < length flow.now.projects.items }
     requires label { G.ops.span label < 2 ^ 31 }
     requires count { count.old < 2 ^ 31 }
-    ensures kept { AreLabels G.ops labels.new }
+    ensures labels { AreLabels G.ops labels.new }
     ensures relaxes { Relaxes G.ops (StudentsAmong G.ops flow.now project label (numbers_at kept.now.seated.items project) (length (numbers_at kept.now.seated.items project))) labels.old.marks.items labels.new.marks.items }
+    ensures grows { count.old ≤ count.new }
     ensures cost { count.new ≤ count.old + sum_by (λ row. length row.items + 1) flow.now.lists.items }
-    ensures small { count.new ≤ count.old + 13 * 500 }
+    ensures small { count.new ≤ count.old + MOST_STUDENTS * MOST_OFFERS }
 {
     let students = students_at(kept, project);
     for i in 0..students.len() {
@@ -206,17 +210,18 @@ pub(crate) fn relax_project<G: Worth>(
     labels: &mut Labels<G>,
     count: &mut u64,
 )
-    requires lists { IsKept flow.now kept.now }
-    requires kept { AreLabels G.ops labels.old }
+    requires kept { IsKept flow.now kept.now }
+    requires labels { AreLabels G.ops labels.old }
     requires formed { IsFormed G.ops flow.now }
     requires marks { length labels.old.marks.items ≡ length flow.now.potentials.items }
     requires at { at < length flow.now.projects.items }
     requires label { G.ops.span label < 2 ^ 31 }
     requires count { count.old < 2 ^ 31 }
-    ensures kept { AreLabels G.ops labels.new }
+    ensures labels { AreLabels G.ops labels.new }
     ensures relaxes { Relaxes G.ops (OffersOf G.ops (Arc G.ops flow.now) at label) labels.old.marks.items labels.new.marks.items }
+    ensures grows { count.old ≤ count.new }
     ensures cost { count.new ≤ count.old + sum_by (λ row. length row.items + 1) flow.now.lists.items + 1 }
-    ensures small { count.new ≤ count.old + 6501 }
+    ensures small { count.new ≤ count.old + MOST_STUDENTS * MOST_OFFERS + 1 }
 {
     relax_students(flow, kept, at, label, labels, count);
     let (supervisor, quota) = project(flow, at);
@@ -241,13 +246,14 @@ fn relax_swaps<G: Worth>(
     count: &mut u64,
 )
     requires formed { IsFormed G.ops flow.now }
-    requires lists { IsKept flow.now kept.now }
-    requires kept { AreLabels G.ops labels.old }
+    requires kept { IsKept flow.now kept.now }
+    requires labels { AreLabels G.ops labels.old }
     requires marks { length labels.old.marks.items ≡ length flow.now.potentials.items }
     requires supervisor { supervisor < length flow.now.supervisors.items }
     requires count { count.old < 2 ^ 31 }
-    ensures kept { AreLabels G.ops labels.new }
+    ensures labels { AreLabels G.ops labels.new }
     ensures relaxes { Relaxes G.ops (ProjectsAmong G.ops flow.now supervisor label (numbers_at kept.now.offered.items supervisor) (length (numbers_at kept.now.offered.items supervisor))) labels.old.marks.items labels.new.marks.items }
+    ensures grows { count.old ≤ count.new }
     ensures cost { count.new ≤ count.old + length flow.now.projects.items }
 {
     let projects = projects_at(kept, supervisor);
@@ -265,15 +271,16 @@ pub(crate) fn relax_supervisor<G: Worth>(
     labels: &mut Labels<G>,
     count: &mut u64,
 )
-    requires lists { IsKept flow.now kept.now }
-    requires kept { AreLabels G.ops labels.old }
+    requires kept { IsKept flow.now kept.now }
+    requires labels { AreLabels G.ops labels.old }
     requires formed { IsFormed G.ops flow.now }
     requires marks { length labels.old.marks.items ≡ length flow.now.potentials.items }
     requires supervisor { supervisor < length flow.now.supervisors.items }
     requires label { G.ops.span label < 2 ^ 31 }
     requires count { count.old < 2 ^ 31 }
-    ensures kept { AreLabels G.ops labels.new }
+    ensures labels { AreLabels G.ops labels.new }
     ensures relaxes { Relaxes G.ops (OffersOf G.ops (Arc G.ops flow.now) (length flow.now.projects.items + supervisor) label) labels.old.marks.items labels.new.marks.items }
+    ensures grows { count.old ≤ count.new }
     ensures cost { count.new ≤ count.old + length flow.now.projects.items + 1 }
 {
     relax_swaps(flow, kept, supervisor, label, labels, count);

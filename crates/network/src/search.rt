@@ -5,6 +5,7 @@ ghost use Rattle.spa.specs.Laws.{AtMost};
 ghost use Rattle.network.specs.Marks.{mark_at, potential_at, key_at, blank, settled_as, is_open_mark};
 ghost use Rattle.network.specs.Labels.{AreLabels};
 ghost use Rattle.network.specs.Kept.{IsKept};
+ghost use Rattle.network.specs.declared.TheConstants.{MOST_OFFERS, MOST_ARCS};
 ghost use Rattle.network.specs.Search.{Relaxes, OffersOf, Feasible, IsFound, IsRunning};
 ghost use Rattle.network.specs.Arcs.{Arc, IsFormed, OfStudent, sink_of, flow_arcs};
 
@@ -31,17 +32,18 @@ fn relax_node<G: Worth>(
     labels: &mut Labels<G>,
     count: &mut u64,
 )
-    requires lists { IsKept flow.now kept.now }
-    requires kept { AreLabels G.ops labels.old }
+    requires kept { IsKept flow.now kept.now }
+    requires labels { AreLabels G.ops labels.old }
     requires formed { IsFormed G.ops flow.now }
     requires marks { length labels.old.marks.items ≡ length flow.now.potentials.items }
     requires node { node < sink_of flow.now }
     requires label { G.ops.span label < 2 ^ 31 }
     requires count { count.old < 2 ^ 31 }
-    ensures kept { AreLabels G.ops labels.new }
+    ensures labels { AreLabels G.ops labels.new }
     ensures relaxes { Relaxes G.ops (OffersOf G.ops (Arc G.ops flow.now) node label) labels.old.marks.items labels.new.marks.items }
+    ensures grows { count.old ≤ count.new }
     ensures cost { count.new ≤ count.old + flow_arcs flow.now }
-    ensures small { count.new ≤ count.old + 7600 }
+    ensures small { count.new ≤ count.old + MOST_ARCS }
 {
     let projects = flow.projects.len();
     if node < projects {
@@ -60,18 +62,19 @@ fn expand<G: Worth>(
     labels: &mut Labels<G>,
     count: &mut u64,
 )
-    requires lists { IsKept flow.now kept.now }
-    requires kept { AreLabels G.ops labels.old }
+    requires kept { IsKept flow.now kept.now }
+    requires labels { AreLabels G.ops labels.old }
     requires opened { is_open_mark (mark_at G.ops labels.old.marks.items node) ≡ true }
     requires formed { IsFormed G.ops flow.now }
     requires marks { length labels.old.marks.items ≡ length flow.now.potentials.items }
     requires node { node < sink_of flow.now }
     requires label { G.ops.span (mark_at G.ops labels.old.marks.items node).label < 2 ^ 31 }
     requires count { count.old < 2 ^ 31 }
-    ensures kept { AreLabels G.ops labels.new }
+    ensures labels { AreLabels G.ops labels.new }
     ensures relaxes { Relaxes G.ops (OffersOf G.ops (Arc G.ops flow.now) node (mark_at G.ops labels.old.marks.items node).label) (slice_set labels.old.marks.items node (settled_as (mark_at G.ops labels.old.marks.items node) rank)) labels.new.marks.items }
+    ensures grows { count.old ≤ count.new }
     ensures cost { count.new ≤ count.old + flow_arcs flow.now }
-    ensures small { count.new ≤ count.old + 7600 }
+    ensures small { count.new ≤ count.old + MOST_ARCS }
 {
     let label = label_of(labels, node);
     settle(labels, node, rank);
@@ -80,7 +83,7 @@ fn expand<G: Worth>(
 
 /// The open node whose walk can end highest.
 fn choose<G: Worth>(flow: &Flow<G>, labels: &Labels<G>) -> usize
-    requires kept { AreLabels G.ops labels.now }
+    requires labels { AreLabels G.ops labels.now }
     requires formed { IsFormed G.ops flow.now }
     requires marks { length labels.now.marks.items ≡ length flow.now.potentials.items }
     requires sink_open { is_open_mark (mark_at G.ops labels.now.marks.items (sink_of flow.now)) ≡ true }
@@ -102,18 +105,19 @@ fn advance<G: Worth>(
     labels: &mut Labels<G>,
     count: &mut u64,
 ) -> usize
-    requires lists { IsKept flow.now kept.now }
-    requires kept { AreLabels G.ops labels.old }
+    requires kept { IsKept flow.now kept.now }
+    requires labels { AreLabels G.ops labels.old }
     requires formed { IsFormed G.ops flow.now }
     requires running { IsRunning G.ops (OfStudent G.ops flow.now student G.ops.zero) (Arc G.ops flow.now) flow.now.potentials.items (sink_of flow.now) labels.old.marks.items rank node }
     requires feasible { Feasible G.ops (Arc G.ops flow.now) flow.now.potentials.items }
     requires potentials { (v : ℕ) → G.ops.span (potential_at G.ops flow.now.potentials.items v) ≤ 2 ^ 20 }
     requires node { node < sink_of flow.now }
     requires count { count.old < 2 ^ 31 }
-    ensures kept { AreLabels G.ops labels.new }
+    ensures labels { AreLabels G.ops labels.new }
     ensures running { IsRunning G.ops (OfStudent G.ops flow.now student G.ops.zero) (Arc G.ops flow.now) flow.now.potentials.items (sink_of flow.now) labels.new.marks.items (rank + 1) result }
+    ensures grows { count.old ≤ count.new }
     ensures cost { count.new ≤ count.old + flow_arcs flow.now }
-    ensures small { count.new ≤ count.old + 7600 }
+    ensures small { count.new ≤ count.old + MOST_ARCS }
 {
     expand(flow, kept, node, rank, labels, count);
     choose(flow, labels)
@@ -121,17 +125,17 @@ fn advance<G: Worth>(
 
 /// The first offers, and the first choice.
 fn begin<G: Worth>(flow: &Flow<G>, student: usize, labels: &mut Labels<G>, count: &mut u64) -> usize
-    requires kept { AreLabels G.ops labels.old }
+    requires labels { AreLabels G.ops labels.old }
     requires formed { IsFormed G.ops flow.now }
     requires marks { length labels.old.marks.items ≡ length flow.now.potentials.items }
     requires fresh { (b : ℕ) → mark_at G.ops labels.old.marks.items b ≡ blank G.ops }
     requires student { student < length flow.now.lists.items }
     requires potentials { (v : ℕ) → G.ops.span (potential_at G.ops flow.now.potentials.items v) ≤ 2 ^ 20 }
     requires count { count.old < 2 ^ 31 }
-    ensures kept { AreLabels G.ops labels.new }
+    ensures labels { AreLabels G.ops labels.new }
     ensures running { IsRunning G.ops (OfStudent G.ops flow.now student G.ops.zero) (Arc G.ops flow.now) flow.now.potentials.items (sink_of flow.now) labels.new.marks.items 0 result }
     ensures cost { (row : _) → slice_get flow.now.lists.items student ≡ Some row → count.new ≡ count.old + length row.items + 1 }
-    ensures small { count.new ≤ count.old + 13 }
+    ensures small { count.new ≤ count.old + MOST_OFFERS }
 {
     relax_entries(flow, student, G::zero(), labels, count);
     choose(flow, labels)
@@ -145,8 +149,8 @@ pub(crate) fn search<G: Worth>(
     labels: &mut Labels<G>,
     count: &mut u64,
 )
-    requires lists { IsKept flow.now kept.now }
-    requires kept { AreLabels G.ops labels.old }
+    requires kept { IsKept flow.now kept.now }
+    requires labels { AreLabels G.ops labels.old }
     requires formed { IsFormed G.ops flow.now }
     requires marks { length labels.old.marks.items ≡ length flow.now.potentials.items }
     requires fresh { (b : ℕ) → mark_at G.ops labels.old.marks.items b ≡ blank G.ops }
@@ -154,9 +158,10 @@ pub(crate) fn search<G: Worth>(
     requires feasible { Feasible G.ops (Arc G.ops flow.now) flow.now.potentials.items }
     requires potentials { (v : ℕ) → G.ops.span (potential_at G.ops flow.now.potentials.items v) ≤ 2 ^ 20 }
     requires count { count.old < 2 ^ 30 }
-    ensures kept { AreLabels G.ops labels.new }
+    ensures labels { AreLabels G.ops labels.new }
     ensures found { IsFound G.ops (OfStudent G.ops flow.now student G.ops.zero) (Arc G.ops flow.now) flow.now.potentials.items labels.new.marks.items (sink_of flow.now) }
     ensures len { length labels.new.marks.items ≡ length labels.old.marks.items }
+    ensures least { (row : _) → slice_get flow.now.lists.items student ≡ Some row → count.old + length row.items + 1 ≤ count.new }
     ensures cost { (row : _) → slice_get flow.now.lists.items student ≡ Some row → count.new ≤ count.old + length row.items + 1 + sink_of flow.now * flow_arcs flow.now }
 {
     let mut node = begin(flow, student, labels, count);

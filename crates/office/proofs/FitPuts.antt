@@ -15,7 +15,7 @@ use Rattle.rolls.specs.State.{State, supervisor_key, project_key, student_key, h
 use Rattle.rolls.specs.Fit.{IsFit, SupervisorFits, ProjectFits, StudentFits}
 use Rattle.rolls.specs.Rows.{Turns, supervisor_row, project_row, student_row}
 use Rattle.rolls.proofs.Places.{rises-put}
-use Rattle.rolls.proofs.Laws.{find-put, length-put, all-put, all_weaker, same_code}
+use Rattle.rolls.proofs.Finding.{find-put, length-put, all-put, all_weaker, same_code}
 
 -- the office with a supervisor put
 abbrev pub with_supervisor : State → Supervisor → State

@@ -26,7 +26,7 @@ use Rattle.rolls.specs.Fit.{IsFit, SupervisorFits, ProjectFits, StudentFits}
 use Rattle.rolls.specs.Rows.{row_of, key_of, same_row, supervisor_row, project_row, student_row}
 use Rattle.rolls.specs.From.{row_in, are_apart, AreRowsOf}
 use Rattle.rolls.proofs.Places.{rises-put}
-use Rattle.rolls.proofs.Laws.{all-put}
+use Rattle.rolls.proofs.Finding.{all-put}
 use Rattle.rolls.proofs.Same.{same_found, keys_exact}
 use Rattle.office.specs.Gathering.{taken_in, gathered, is_whole}
 use Rattle.office.proofs.FitPuts.{turns_with_supervisor, turns_with_project, turns_with_student}

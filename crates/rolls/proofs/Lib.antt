@@ -1,4 +1,5 @@
 pub mod Places
-pub mod Laws
+pub mod Finding
 pub mod Same
 pub mod Allowed
+pub mod Determined

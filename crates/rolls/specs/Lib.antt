@@ -4,10 +4,11 @@ pub mod Shared
 pub mod State
 pub mod Fit
 pub mod Reads
-pub mod Numbers
+pub mod Told
 pub mod Refusing
 pub mod Stepping
 pub mod Rows
 pub mod From
 pub mod Answers
 pub mod Run
+pub mod Laws

@@ -5,11 +5,12 @@
 //! crate above takes as given, and `specs/` has the definitions that their contracts cite: begin with
 //! `specs/State.antt` (what the office holds), then `Refusing`, `Stepping` and `Run`.
 //!
-//! Promised: a `Table` is a finite map whose entries are lent in the order of their keys, and each
-//! refusal has its number.
+//! Promised: a `Table` is a finite map whose entries are lent in the order of their keys, copies of it share
+//! them, each refusal has its number, and the rows of an office determine it.
 #![tactic(auto)]
 
 mod entries;
+mod laws;
 mod refusal;
 mod request;
 mod row;
@@ -17,6 +18,7 @@ mod table;
 mod text;
 
 pub use entries::{Project, Student, Supervisor};
+pub use laws::{rows_law, table_law};
 pub use refusal::Refusal;
 pub use request::{Done, Plain, Reply, Request};
 pub use row::{Change, Row, RowKey};

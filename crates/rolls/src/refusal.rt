@@ -1,7 +1,8 @@
 //! Why a request is refused.
 
-ghost use Rattle.std.specs.Prelude.{◌≡◌};
-ghost use Rattle.rolls.specs.Numbers.{number_of};
+ghost use Rattle.std.specs.Prelude.{◌≡◌, ◌==◌, true};
+ghost use Rattle.std.specs.List.{list_any};
+ghost use Rattle.rolls.specs.Told.{told, statuses, number_of, status_of, name_of};
 
 use std::alloc::{AllocError, AllocFailed};
 
@@ -46,31 +47,58 @@ pub enum Refusal {
     Damaged,
 }
 
+/// What is told of a refusal: its number, its status over HTTP, and its name.
+#[derive(Drop, Clone, Copy)]
+struct Told(u32, u16, &'static str);
+
 impl Refusal {
+    /// What is told of it.
+    fn told(self) -> Told
+        ensures row { (result.0, result.1, result.2.now) ≡ told self }
+        ensures status { list_any (λ s. s == result.1) statuses ≡ true }
+    {
+        match self {
+            Refusal::Memory => Told(1, 503, "Memory"),
+            Refusal::Storage => Told(2, 503, "Storage"),
+            Refusal::BadHead => Told(3, 400, "BadHead"),
+            Refusal::TooLarge => Told(4, 413, "TooLarge"),
+            Refusal::NoRoute => Told(5, 404, "NoRoute"),
+            Refusal::WrongMethod => Told(6, 405, "WrongMethod"),
+            Refusal::Json => Told(7, 400, "Json"),
+            Refusal::Members => Told(8, 400, "Members"),
+            Refusal::Code => Told(9, 400, "Code"),
+            Refusal::Label => Told(10, 400, "Label"),
+            Refusal::Quota => Told(11, 400, "Quota"),
+            Refusal::RollFull => Told(12, 409, "RollFull"),
+            Refusal::UnknownSupervisor => Told(13, 404, "UnknownSupervisor"),
+            Refusal::UnknownProject => Told(14, 404, "UnknownProject"),
+            Refusal::UnknownStudent => Told(15, 404, "UnknownStudent"),
+            Refusal::SupervisorFixed => Told(16, 409, "SupervisorFixed"),
+            Refusal::BelowPlaced => Told(17, 409, "BelowPlaced"),
+            Refusal::Damaged => Told(30, 503, "Damaged"),
+        }
+    }
+
     /// The number by which answers and messages name the refusal.
     pub fn number(self) -> u32
         ensures number { result ≡ number_of self }
     {
-        match self {
-            Refusal::Memory => 1,
-            Refusal::Storage => 2,
-            Refusal::BadHead => 3,
-            Refusal::TooLarge => 4,
-            Refusal::NoRoute => 5,
-            Refusal::WrongMethod => 6,
-            Refusal::Json => 7,
-            Refusal::Members => 8,
-            Refusal::Code => 9,
-            Refusal::Label => 10,
-            Refusal::Quota => 11,
-            Refusal::RollFull => 12,
-            Refusal::UnknownSupervisor => 13,
-            Refusal::UnknownProject => 14,
-            Refusal::UnknownStudent => 15,
-            Refusal::SupervisorFixed => 16,
-            Refusal::BelowPlaced => 17,
-            Refusal::Damaged => 30,
-        }
+        self.told().0
+    }
+
+    /// The status of its answer over HTTP.
+    pub fn status(self) -> u16
+        ensures value { result ≡ status_of self }
+        ensures known { list_any (λ s. s == result) statuses ≡ true }
+    {
+        self.told().1
+    }
+
+    /// Its name.
+    pub fn name(self) -> &'static str
+        ensures { result.now ≡ name_of self }
+    {
+        self.told().2
     }
 }
 

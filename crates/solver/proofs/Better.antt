@@ -1,7 +1,6 @@
 -- Comparing the total weights of two matchings, one of them greedy maximum.
 use Rattle.std.proofs.Common.{◌≡◌, ℕ, ◌<◌, ◌<ℤ◌, ℤ, ◌∙◌, sym, subst, arith, List}
-use Rattle.std.proofs.lemmas.Int.{ints}
-use Rattle.spa.specs.Order.{Precedes, greedy, IsSettled}
+use Rattle.spa.specs.Order.{greedy, IsSettled}
 use Rattle.spa.specs.Shape.{Shape}
 use Rattle.spa.specs.Matching.{Pair, IsBest, IsMatching, weight_row}
 use Rattle.spa.specs.declared.TheConstants.{PLACES}

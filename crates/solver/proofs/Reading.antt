@@ -1,5 +1,5 @@
 -- Worths read as rows of numbers.
-use Rattle.std.proofs.Common.{◌≡◌, ℕ, zero, suc, ◌+◌, ◌<◌, ◌≤◌, inl, inr, ℤ, pos, List, [], ◌∷◌, ◌++◌, length, get_or, cond, Bool, true, false, refl, ap, sym, ◌∙◌, arith, subst}
+use Rattle.std.proofs.Common.{◌≡◌, ℕ, zero, suc, ◌<◌, ◌≤◌, inl, inr, ℤ, pos, List, [], ◌∷◌, ◌++◌, length, get_or, cond, Bool, true, false, refl, ap, sym, ◌∙◌, arith, subst}
 use Rattle.std.specs.Prelude.{unsigned_abs}
 use Rattle.std.proofs.lemmas.Bool.{cases_lt}
 use Rattle.std.proofs.lemmas.List.{get_or_append_left, get_or_push, get_or_past, length_push}
@@ -63,6 +63,6 @@ weight_small r zero = omega arith
 weight_small r (suc k) = one_or_none _
 
 -- the worth of a pair is small
-pub worth_small : IsLexicographic PLACES → (k : ℕ) → (lex_ops PLACES).span (worth_of k) ≤ 1
-worth_small law k =
-    law.least_span (worth_of k) 1 (λ t h. subst (λ (x : ℤ). unsigned_abs x ≤ 1) (sym (row-places_of PLACES (λ t. pos (weight (k + 1) t)) t h)) (weight_small (k + 1) t))
+pub worth_small : IsLexicographic PLACES → (r : ℕ) → (lex_ops PLACES).span (worth_of r) ≤ 1
+worth_small law r =
+    law.least_span (worth_of r) 1 (λ t h. subst (λ (x : ℤ). unsigned_abs x ≤ 1) (sym (row-places_of PLACES (λ t. pos (weight r t)) t h)) (weight_small r t))

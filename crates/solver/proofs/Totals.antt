@@ -1,10 +1,10 @@
 -- Sums of worths, place by place.
-use Rattle.std.proofs.Common.{◌≡◌, ℕ, zero, suc, ◌+◌, ◌<◌, ◌==◌, ℤ, pos, ◌+ℤ◌, ◌*ℤ◌, List, [], ◌∷◌, length, map, slice_index, slice_get, get_or, cond, Option, Some, None, refl, ap, sym, ◌∙◌, arith, subst}
+use Rattle.std.proofs.Common.{◌≡◌, ℕ, zero, suc, ◌+◌, ◌-◌, ◌<◌, ◌==◌, ℤ, pos, ◌+ℤ◌, ◌*ℤ◌, List, [], ◌∷◌, length, map, slice_index_or, slice_get, get_or, cond, Option, Some, None, refl, ap, sym, ◌∙◌, arith, subst}
 use Rattle.std.proofs.lemmas.Int.{ints}
 use Rattle.std.proofs.lemmas.List.Sums.{sum_by-cons}
 use Rattle.spa.specs.declared.TheConstants.{PLACES}
 use Rattle.spa.specs.Order.{sum_below}
-use Rattle.spa.specs.Shape.{Shape, list_of, project_quota, supervisor_quota}
+use Rattle.spa.specs.Shape.{Shape, IsPlaceOf, list_of, choice_at, project_quota, supervisor_quota}
 use Rattle.spa.specs.Matching.{Pair, pairs_from, rank, rank_in, weight, weight_row}
 use Rattle.spa.specs.Prices.{value}
 use Rattle.spa.proofs.Sums.{sum_below_same}
@@ -19,11 +19,15 @@ row-places_of zero f t h = absurd (omega arith)
 row-places_of (suc n) f zero h = refl
 row-places_of (suc n) f (suc t) h = row-places_of n (λ k. f (suc k)) t (omega arith)
 
--- the worth at a place of a list with its worths
-pub worth_at-weighed_from : (n k : ℕ) (xs : List ℕ) → k < length xs → worth_at (lex_ops PLACES) (weighed_from n xs) k ≡ worth_of (n + k)
-worth_at-weighed_from n k [] h = absurd (omega arith)
-worth_at-weighed_from n zero (x ∷ xs) h = ap worth_of (omega arith)
-worth_at-weighed_from n (suc k) (x ∷ xs) h = worth_at-weighed_from (suc n) k xs (omega arith) ∙ ap worth_of (omega arith)
+-- the worth of the project with k before it in a list with its worths
+worth_after : (n k : ℕ) (xs : List ℕ) → k < length xs → (slice_index_or (weighed_from n xs) k (0, (lex_ops PLACES).zero)).1 ≡ worth_of (n + k)
+worth_after n k [] h = absurd (omega arith)
+worth_after n zero (x ∷ xs) h = ap worth_of (omega arith)
+worth_after n (suc k) (x ∷ xs) h = worth_after (suc n) k xs (omega arith) ∙ ap worth_of (omega arith)
+
+-- the worth at a place of a list is that of its rank
+worth_at-weighed : (k : ℕ) (xs : List ℕ) → IsPlaceOf xs k → worth_at (lex_ops PLACES) (weighed xs) k ≡ worth_of k
+worth_at-weighed k xs h = worth_after 1 (k - 1) xs (omega arith) ∙ ap worth_of (omega arith)
 
 -- no pairs weigh nothing
 nothing_weighs : (i : Shape) (t : ℕ) → pos 0 ≡ weight_row i [] t
@@ -72,37 +76,37 @@ module _ (law : IsLexicographic PLACES) where
   -- the worths of places in lists add up to the weights of their pairs
   weights_from : (i : Shape) (t : ℕ) → t < PLACES → (n : ℕ) (xss : List (List ℕ)) (ks : List (Option ℕ))
       → ((j : ℕ) → j < length xss → list_of i (n + j) ≡ get_or xss j [])
-      → ((j k : ℕ) → slice_get ks j ≡ Some (Some k) → k < length (list_of i (n + j)))
-      → ((s k : ℕ) → k < length (list_of i s) → rank_in (list_of i s) (slice_index (list_of i s) k) ≡ k + 1)
+      → ((j k : ℕ) → slice_get ks j ≡ Some (Some k) → IsPlaceOf (list_of i (n + j)) k)
+      → ((s k : ℕ) → IsPlaceOf (list_of i s) k → rank_in (list_of i s) (choice_at (list_of i s) k) ≡ k)
       → row PLACES (total_worth (lex_ops PLACES) (map weighed xss) ks) t ≡ weight_row i (pairs_from n xss ks) t
   weights_from i t h n [] ks same small rank = law.zero t ∙ nothing_weighs i t
   weights_from i t h n (xs ∷ xss) [] same small rank = law.zero t ∙ nothing_weighs i t
   weights_from i t h n (xs ∷ xss) (None ∷ ks) same small rank =
       weights_from i t h (suc n) xss ks
       (λ j l. ap (list_of i) (omega arith) ∙ same (suc j) (omega arith))
-      (λ j k e. subst (λ (m : ℕ). k < length (list_of i m)) (omega arith) (small (suc j) k e))
+      (λ j k e. subst (λ (m : ℕ). IsPlaceOf (list_of i m) k) (omega arith) (small (suc j) k e))
       rank
   weights_from i t h n (xs ∷ xss) (Some k ∷ ks) same small rank =
       let o = lex_ops PLACES in
       let rest : row PLACES (total_worth o (map weighed xss) ks) t ≡ weight_row i (pairs_from (suc n) xss ks) t =
       weights_from i t h (suc n) xss ks
       (λ j l. ap (list_of i) (omega arith) ∙ same (suc j) (omega arith))
-      (λ j k e. subst (λ (m : ℕ). k < length (list_of i m)) (omega arith) (small (suc j) k e))
+      (λ j k e. subst (λ (m : ℕ). IsPlaceOf (list_of i m) k) (omega arith) (small (suc j) k e))
       rank in
       let here : list_of i n ≡ xs = ap (list_of i) (omega arith) ∙ same 0 (omega arith) in
-      let inside : k < length (list_of i n) = subst (λ (m : ℕ). k < length (list_of i m)) (omega arith) (small 0 k refl) in
-      let e : Pair = record { student = n; project = slice_index xs k } in
-      let ranked : rank_in (list_of i n) (slice_index xs k) ≡ k + 1 = subst (λ (ys : List ℕ). rank_in (list_of i n) (slice_index ys k) ≡ k + 1) here (rank n k inside) in
-      let worth : worth_at o (weighed xs) k ≡ worth_of k = worth_at-weighed_from 0 k xs (subst (λ (ys : List ℕ). k < length ys) here inside) ∙ ap worth_of (omega arith) in
-      let one : row PLACES (worth_at o (weighed xs) k) t ≡ pos (weight (rank_in (list_of i n) (slice_index xs k)) t) =
-      ap (λ (x : Places PLACES). row PLACES x t) worth ∙ row-places_of PLACES (λ t. pos (weight (k + 1) t)) t h ∙ ap (λ (r : ℕ). pos (weight r t)) (sym ranked) in
+      let inside : IsPlaceOf (list_of i n) k = subst (λ (m : ℕ). IsPlaceOf (list_of i m) k) (omega arith) (small 0 k refl) in
+      let e : Pair = record { student = n; project = choice_at xs k } in
+      let ranked : rank_in (list_of i n) (choice_at xs k) ≡ k = subst (λ (ys : List ℕ). rank_in (list_of i n) (choice_at ys k) ≡ k) here (rank n k inside) in
+      let worth : worth_at o (weighed xs) k ≡ worth_of k = worth_at-weighed k xs (subst (λ (ys : List ℕ). IsPlaceOf ys k) here inside) in
+      let one : row PLACES (worth_at o (weighed xs) k) t ≡ pos (weight (rank_in (list_of i n) (choice_at xs k)) t) =
+      ap (λ (x : Places PLACES). row PLACES x t) worth ∙ row-places_of PLACES (λ t. pos (weight k t)) t h ∙ ap (λ (r : ℕ). pos (weight r t)) (sym ranked) in
       let more = law.plus (worth_at o (weighed xs) k) (total_worth o (map weighed xss) ks) t in
-      more ∙ ap (λ (x : ℤ). x +ℤ row PLACES (total_worth o (map weighed xss) ks) t) one ∙ ap (λ (x : ℤ). pos (weight (rank_in (list_of i n) (slice_index xs k)) t) +ℤ x) rest ∙ pair_weighs i t e (pairs_from (suc n) xss ks)
+      more ∙ ap (λ (x : ℤ). x +ℤ row PLACES (total_worth o (map weighed xss) ks) t) one ∙ ap (λ (x : ℤ). pos (weight (rank_in (list_of i n) (choice_at xs k)) t) +ℤ x) rest ∙ pair_weighs i t e (pairs_from (suc n) xss ks)
 
   -- the worths of all places add up to what their pairs weigh
   pub weight_is : (i : Shape) (ks : List (Option ℕ))
-      → ((s k : ℕ) → slice_get ks s ≡ Some (Some k) → k < length (list_of i s))
-      → ((s k : ℕ) → k < length (list_of i s) → rank_in (list_of i s) (slice_index (list_of i s) k) ≡ k + 1)
+      → ((s k : ℕ) → slice_get ks s ≡ Some (Some k) → IsPlaceOf (list_of i s) k)
+      → ((s k : ℕ) → IsPlaceOf (list_of i s) k → rank_in (list_of i s) (choice_at (list_of i s) k) ≡ k)
       → (t : ℕ) → t < PLACES → row PLACES (total_worth (lex_ops PLACES) (map weighed i.students) ks) t ≡ weight_row i (pairs_from 0 i.students ks) t
   weight_is i ks small rank t h =
-      weights_from i t h 0 i.students ks (λ j l. ap (list_of i) (omega arith)) (λ j k e. subst (λ (m : ℕ). k < length (list_of i m)) (omega arith) (small j k e)) rank
+      weights_from i t h 0 i.students ks (λ j l. ap (list_of i) (omega arith)) (λ j k e. subst (λ (m : ℕ). IsPlaceOf (list_of i m) k) (omega arith) (small j k e)) rank

@@ -1,7 +1,7 @@
 -- Lists with their worths, read by place.
-use Rattle.std.proofs.Common.{◌≡◌, ℕ, zero, suc, ◌+◌, ◌<◌, ◌≤◌, List, [], ◌∷◌, ◌++◌, length, map, take, slice_index, slice_get, get_or, All, Option, Some, None, refl, ap, sym, ◌∙◌, arith, subst}
-use Rattle.spa.specs.Places.{Places, lex_ops}
-use Rattle.spa.specs.declared.TheConstants.{PLACES, RANKS}
+use Rattle.std.proofs.Common.{◌≡◌, ℕ, zero, suc, ◌+◌, ◌<◌, List, [], ◌∷◌, ◌++◌, length, map, take, slice_index, get_or, All, refl, ap, sym, ◌∙◌, arith, subst}
+use Rattle.spa.specs.Places.{Places}
+use Rattle.spa.specs.declared.TheConstants.{PLACES}
 use Rattle.solver.specs.Weights.{worth_of, weighed_from, weighed}
 
 -- one place more
@@ -18,10 +18,10 @@ projects_of-weighed_from n [] = refl
 projects_of-weighed_from n (x ∷ xs) = ap (λ ys. x ∷ ys) (projects_of-weighed_from (suc n) xs)
 
 -- the same from the first place on
-pub weighed-more : (k : ℕ) (xs : List ℕ) → k < length xs → weighed (take (k + 1) xs) ≡ weighed (take k xs) ++ (slice_index xs k, worth_of k) ∷ []
+pub weighed-more : (k : ℕ) (xs : List ℕ) → k < length xs → weighed (take (k + 1) xs) ≡ weighed (take k xs) ++ (slice_index xs k, worth_of (k + 1)) ∷ []
 weighed-more k xs h =
     let one : k + 1 ≡ suc k = omega arith in
-    ap (λ (m : ℕ). weighed (take m xs)) one ∙ weighed_from-more 0 k xs h ∙ ap (λ (m : ℕ). weighed (take k xs) ++ (slice_index xs k, worth_of m) ∷ []) (omega arith)
+    ap (λ (m : ℕ). weighed (take m xs)) one ∙ weighed_from-more 1 k xs h ∙ ap (λ (m : ℕ). weighed (take k xs) ++ (slice_index xs k, worth_of m) ∷ []) (omega arith)
 
 -- as many as the list has
 pub length-weighed_from : (n : ℕ) (xs : List ℕ) → length (weighed_from n xs) ≡ length xs
@@ -36,9 +36,9 @@ entry-weighed_from n (suc k) (x ∷ xs) d h =
     entry-weighed_from (suc n) k xs d (omega arith) ∙ ap (λ (m : ℕ). (get_or xs k d.0, worth_of m)) (omega arith)
 
 -- what holds of the projects and the worths holds of the entries
-pub all-weighed : (P : ℕ × Places PLACES → Type 0) (list : List ℕ) → ((k d : ℕ) → k < length list → P (get_or list k d, worth_of k)) → All P (weighed list)
+pub all-weighed : (P : ℕ × Places PLACES → Type 0) (list : List ℕ) → ((k d : ℕ) → k < length list → P (get_or list k d, worth_of (k + 1))) → All P (weighed list)
 all-weighed P list each =
     λ k d h.
-    let known : k < length list = subst (λ (n : ℕ). k < n) (length-weighed_from 0 list) h in
-    let here : get_or (weighed list) k d ≡ (get_or list k d.0, worth_of k) = entry-weighed_from 0 k list d known ∙ ap (λ (m : ℕ). (get_or list k d.0, worth_of m)) (omega arith) in
+    let known : k < length list = subst (λ (n : ℕ). k < n) (length-weighed_from 1 list) h in
+    let here : get_or (weighed list) k d ≡ (get_or list k d.0, worth_of (k + 1)) = entry-weighed_from 1 k list d known ∙ ap (λ (m : ℕ). (get_or list k d.0, worth_of m)) (omega arith) in
     subst P (sym here) (each k d.0 known)

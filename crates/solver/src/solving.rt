@@ -25,7 +25,6 @@ pub struct Solved {
 fn admit_all(alloc: Global, instance: &Instance) -> Result<Network<Lex>, AllocError>
     ensures { IfOk result (λ n. IsOf instance.now.shape n) }
 {
-    instance.fit();
     lex_law();
     let mut network = Network::start(alloc, instance.supervisors(), instance.projects())?;
     let mut entries = Vec::with_capacity(alloc, RANKS)?;
@@ -36,7 +35,7 @@ fn admit_all(alloc: Global, instance: &Instance) -> Result<Network<Lex>, AllocEr
     Ok(network)
 }
 
-/// A place as a matching has it.
+/// A place as a matching keeps it.
 fn narrow(place: Option<usize>) -> Option<u8>
     requires { IfSome place (λ k. k < 256) }
     ensures { result ≡ place }
@@ -96,7 +95,6 @@ pub fn solve(alloc: Global, instance: &Instance) -> Result<Solved, AllocError>
     ensures proved { IfOk result (λ s. IsProvedBest greedy instance.now.shape s.matching.places.items s.prices) }
     ensures greedy_maximum { IfOk result (λ s. IsGreedyMaximum instance.now.shape (pairs instance.now.shape s.matching.places.items)) }
 {
-    instance.fit();
     list_law(instance);
     order_law();
     lex_law();

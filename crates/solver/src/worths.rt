@@ -10,14 +10,15 @@ ghost use Rattle.solver.specs.Weights.{worth_of, weighed};
 use spa::{Lex, PLACES};
 use std::alloc::{AllocError, Global};
 
-/// The worth of a pair at this place of a list, from 0: one for the size, and one at its rank.
-pub(crate) fn worth_of(place: usize) -> Lex
-    requires { place < RANKS }
-    ensures value { result ≡ worth_of place }
+/// The worth of a pair of this rank: one for the size, and one at the rank.
+pub(crate) fn worth_of(rank: usize) -> Lex
+    requires first { 1 ≤ rank }
+    requires last { rank ≤ RANKS }
+    ensures { result ≡ worth_of rank }
 {
     let mut row = [0; PLACES];
     row[0] = 1;
-    row[place + 1] = 1;
+    row[rank] = 1;
     Lex(row)
 }
 
@@ -27,8 +28,8 @@ pub(crate) fn weigh(list: &[usize], entries: &mut Vec<(usize, Lex)>) -> Result<(
     ensures { OnOk result (entries.new.items ≡ weighed list.now) }
 {
     entries.clear();
-    for place in 0..list.len() {
-        entries.push((list[place], worth_of(place)))?;
+    for before in 0..list.len() {
+        entries.push((list[before], worth_of(before + 1)))?;
     }
     Ok(())
 }

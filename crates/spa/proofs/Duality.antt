@@ -138,5 +138,5 @@ module _ {order : RowOrder} (o : IsSumOrder order) where
     matching = b.matching;
     unbeaten = λ N n.
         o.same (weight_row i N) (weight_row i N) (value i u y z) (weight_row i M) (λ t _. refl) b.equal
-        (weight_bounded i N u y z sound n b.students_above b.projects_above b.supervisors_above b.covered);
+        (weight_bounded i N u y z sound n b.students_not_below b.projects_not_below b.supervisors_not_below b.covered);
   }

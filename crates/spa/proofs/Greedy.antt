@@ -57,7 +57,3 @@ best_from_greedy_maximum i M g = record {
             inr (ap pos same, at_most_from RANKS (λ k. pos (profile i N k)) (λ k. pos (profile i M k)) (g.first N n same))
       ]);
 }
-
--- prices that prove a matching best in the greedy order: it is greedy maximum
-pub greedy_maximum_from_prices : (i : Shape) (M : List Pair) (u y z : ℕ → ℕ → ℤ) → IsSound i → ProveBest greedy i M u y z → IsGreedyMaximum i M
-greedy_maximum_from_prices i M u y z sound b = greedy_maximum_from_best i M (best_from_prices greedy_sums i M u y z sound b)

@@ -1,9 +1,9 @@
 -- The matchings of an instance, their profiles and total weights, and which of them are best.
-use Rattle.std.specs.Prelude.{◌≡◌, ℕ, zero, suc, ◌+◌, ◌≤◌, ◌==◌, not, List, [], ◌∷◌, length, slice_index, count_by, All, Contains, pos, ℤ, Option, Some, None, cond}
+use Rattle.std.specs.Prelude.{◌≡◌, ℕ, zero, suc, ◌+◌, ◌≤◌, ◌==◌, not, List, [], ◌∷◌, length, count_by, All, Contains, pos, ℤ, Option, Some, None, cond}
 use Rattle.std.specs.List.{prefix_len}
 use Rattle.spa.specs.declared.TheConstants.{RANKS}
 use Rattle.spa.specs.Order.{RowOrder, Precedes}
-use Rattle.spa.specs.Shape.{Shape, list_of, supervisor_of, project_quota, supervisor_quota}
+use Rattle.spa.specs.Shape.{Shape, list_of, choice_at, supervisor_of, project_quota, supervisor_quota}
 
 -- a student and a project
 pub record Pair : Type 0 where
@@ -61,4 +61,4 @@ abbrev pub pairs_from : ℕ → List (List ℕ) → List (Option ℕ) → List P
 pairs_from n [] ks = []
 pairs_from n (xs ∷ xss) [] = []
 pairs_from n (xs ∷ xss) (None ∷ ks) = pairs_from (suc n) xss ks
-pairs_from n (xs ∷ xss) (Some k ∷ ks) = record { student = n; project = slice_index xs k } ∷ pairs_from (suc n) xss ks
+pairs_from n (xs ∷ xss) (Some k ∷ ks) = record { student = n; project = choice_at xs k } ∷ pairs_from (suc n) xss ks

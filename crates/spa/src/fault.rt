@@ -12,7 +12,7 @@ pub enum Roll {
     Students,
 }
 
-/// Why rolls make no instance: the first fault that applies, by position from 0.
+/// Why rolls make no instance: the first fault that applies. Positions in rolls count from 0, places in lists from 1.
 #[derive(Clone, Copy, Debug, PartialEq, Eq, Drop, Error)]
 pub enum InstanceFault {
     #[error("no memory for the instance")]
@@ -25,9 +25,9 @@ pub enum InstanceFault {
     UnknownSupervisor(usize),
     #[error("the list of student {0} has too few or too many projects")]
     ListLength(usize),
-    #[error("the list of student {0} has an unknown project at {1}")]
+    #[error("the list of student {0} has an unknown project at place {1}")]
     UnknownProject(usize, usize),
-    #[error("the list of student {0} has a project at {1} that stands before it")]
+    #[error("the list of student {0} has a project at place {1} that stands before it")]
     RepeatedProject(usize, usize),
 }
 

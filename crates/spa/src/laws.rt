@@ -1,9 +1,9 @@
 //! Laws of instances that the crates above rest on: functions with nothing to do, whose contracts are the laws.
 #![tactic(auto)]
 
-ghost use Rattle.std.specs.Prelude.{◌≡◌, ℕ, ℤ, ◌+◌, ◌<◌, ◌↔◌, List, length, slice_index, Contains};
+ghost use Rattle.std.specs.Prelude.{◌≡◌, ℕ, ℤ, ◌<◌, ◌↔◌, List, length, Contains};
 ghost use Rattle.spa.specs.Order.{greedy, IsSettled};
-ghost use Rattle.spa.specs.Shape.{list_of};
+ghost use Rattle.spa.specs.Shape.{IsPlaceOf, list_of, choice_at};
 ghost use Rattle.spa.specs.Matching.{Pair, IsBest, IsGreedyMaximum, rank_in};
 ghost use Rattle.spa.specs.Prices.{ProveBest};
 ghost use Rattle.spa.specs.Matched.{QuotasSuffice};
@@ -11,11 +11,11 @@ ghost use Rattle.spa.specs.Coded.{SaysTheSame};
 
 use crate::instance::Instance;
 
-/// A project that a student lists is known, and so is the student; its rank is one more than its place in the list.
+/// A project that a student lists is known, and so is the student; its place in the list is its rank.
 pub fn list_law(instance: &Instance)
     ensures student { (s p : ℕ) → Contains (list_of instance.now.shape s) p → s < length instance.now.shape.students }
     ensures project { (s p : ℕ) → Contains (list_of instance.now.shape s) p → p < length instance.now.shape.projects }
-    ensures rank { (s k : ℕ) → k < length (list_of instance.now.shape s) → rank_in (list_of instance.now.shape s) (slice_index (list_of instance.now.shape s) k) ≡ k + 1 }
+    ensures rank { (s k : ℕ) → IsPlaceOf (list_of instance.now.shape s) k → rank_in (list_of instance.now.shape s) (choice_at (list_of instance.now.shape s) k) ≡ k }
 {
     instance.fit();
 }

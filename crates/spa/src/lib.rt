@@ -34,7 +34,7 @@ pub use instance::Instance;
 pub use label::Label;
 pub use laws::{code_law, greedy_law, list_law, order_law, place_law, price_law};
 pub use lex::{Lex, lex_law};
-pub use matching::{MatchFault, Matching, profile};
+pub use matching::{MatchFault, Matching, profile, total_weight};
 pub use order::precedes;
 pub use text::{TextFault, is_code_text, is_label_text};
 pub use worth::Worth;

@@ -1,21 +1,22 @@
 //! Matchings: for each student a place in the list, or none.
 #![tactic(auto)]
 
-ghost use Rattle.std.specs.Prelude.{◌≡◌, ℕ, ◌+◌, ◌<◌, ◌≤◌, ◌↔◌, length, slice_index, slice_index_or, Some, None, IsNone, IsSome, IfSome, IfNone, MatchOption};
-ghost use Rattle.spa.specs.Shape.{list_of, supervisor_of, project_quota, supervisor_quota};
-ghost use Rattle.spa.specs.Matching.{profile};
+ghost use Rattle.std.specs.Prelude.{◌≡◌, ℕ, ◌+◌, ◌<◌, ◌≤◌, ◌↔◌, length, slice_index, Some, None, IsNone, IfSome, MatchOption};
+ghost use Rattle.spa.specs.Shape.{supervisor_of, project_quota, supervisor_quota};
+ghost use Rattle.spa.specs.Matching.{profile, weight_row};
+ghost use Rattle.spa.specs.Row.{at};
 ghost use Rattle.spa.specs.Named.{IsFit};
-ghost use Rattle.spa.specs.Matched.{pairs, HasPlaces, IsMatched, in_project, with_supervisor, with_rank, IsFirstBadPlace, IsFirstOver, IsFirstFault};
+ghost use Rattle.spa.specs.Matched.{pairs, HasPlaces, IsMatched, in_project, with_supervisor, IsFirstBadPlace, IsFirstOver, IsFirstFault};
 
-use crate::RANKS;
 use crate::instance::Instance;
+use crate::{PLACES, RANKS};
 
 /// What is wrong with a matching, by position.
 #[derive(Clone, Copy, Debug, PartialEq, Eq, Drop)]
 pub enum MatchFault {
     /// There is not one place or none for each student.
     Length,
-    /// This student's place is past the list.
+    /// This student's place is none of the list.
     Place(usize),
     /// More pairs have this project than its quota.
     ProjectOver(usize),
@@ -23,7 +24,7 @@ pub enum MatchFault {
     SupervisorOver(usize),
 }
 
-/// For each student the place in the list, from 0, or none.
+/// For each student the place in the list, from 1, or none: the rank of the pair.
 #[derive(Debug, Drop)]
 pub struct Matching {
     pub places: Vec<Option<u8>>,
@@ -37,7 +38,7 @@ fn placed_in_project(instance: &Instance, places: &[Option<u8>], project: usize)
     let mut placed = 0;
     for student in 0..places.len() {
         if let Some(place) = places[student] {
-            if instance.list(student)[place as usize] == project {
+            if instance.choice(student, place as usize) == project {
                 placed += 1;
             }
         }
@@ -54,7 +55,7 @@ fn placed_with_supervisor(instance: &Instance, places: &[Option<u8>], supervisor
     let mut placed = 0;
     for student in 0..places.len() {
         if let Some(place) = places[student] {
-            let project = instance.list(student)[place as usize];
+            let project = instance.choice(student, place as usize);
             if instance.supervisor_of(project) == supervisor {
                 placed += 1;
             }
@@ -63,14 +64,14 @@ fn placed_with_supervisor(instance: &Instance, places: &[Option<u8>], supervisor
     placed
 }
 
-/// The first student whose place is past the list.
+/// The first student whose place is none of the list.
 fn first_bad_place(instance: &Instance, places: &[Option<u8>]) -> Option<usize>
     requires { length places.now ≡ length instance.now.shape.students }
     ensures { MatchOption result (HasPlaces instance.now.shape places.now) (λ s. IsFirstBadPlace instance.now.shape places.now s) }
 {
     for student in 0..places.len() {
         if let Some(place) = places[student] {
-            if place as usize >= instance.list(student).len() {
+            if place == 0 || place as usize > instance.list(student).len() {
                 return Some(student);
             }
         }
@@ -113,7 +114,6 @@ impl Matching {
         ensures none { IsNone result ↔ IsMatched instance.now.shape self.now.places.items }
         ensures fault { IfSome result (λ f. IsFirstFault instance.now.shape self.now.places.items f) }
     {
-        instance.fit();
         if self.places.len() != instance.student_count() {
             return Some(MatchFault::Length);
         }
@@ -145,22 +145,20 @@ fn paired(instance: &Instance, places: &[Option<u8>]) -> usize
     paired
 }
 
-/// How many pairs have this rank.
-fn ranked(instance: &Instance, places: &[Option<u8>], rank: usize) -> usize
+/// How many pairs have rank 1 and so on.
+fn ranked(instance: &Instance, places: &[Option<u8>]) -> [u32; RANKS]
     requires fit { IsFit instance.now }
     requires places { HasPlaces instance.now.shape places.now }
-    ensures count { result ≡ with_rank instance.now.shape places.now rank }
-    ensures few { result ≤ length places.now }
+    ensures profile { (k : ℕ) → k < RANKS → slice_index result k ≡ profile instance.now.shape (pairs instance.now.shape places.now) k }
+    ensures few { (k : ℕ) → k < RANKS → slice_index result k ≤ length places.now }
 {
-    let mut ranked = 0;
+    let mut counts = [0; RANKS];
     for student in 0..places.len() {
         if let Some(place) = places[student] {
-            if place as usize + 1 == rank {
-                ranked += 1;
-            }
+            counts[place as usize - 1] += 1;
         }
     }
-    ranked
+    counts
 }
 
 impl Matching {
@@ -182,9 +180,19 @@ pub fn profile(instance: &Instance, matching: &Matching) -> [u32; RANKS]
     ensures few { (k : ℕ) → k < RANKS → slice_index result k ≤ 500 }
 {
     instance.fit();
-    let mut counts = [0; RANKS];
+    ranked(instance, &matching.places)
+}
+
+/// The total weight of a matching: its size, then how many pairs have rank 1 and so on.
+pub fn total_weight(instance: &Instance, matching: &Matching) -> [i64; PLACES]
+    requires { HasPlaces instance.now.shape matching.now.places.items }
+    ensures { (t : ℕ) → t < PLACES → at result t ≡ weight_row instance.now.shape (pairs instance.now.shape matching.now.places.items) t }
+{
+    let counts = profile(instance, matching);
+    let mut weight = [0; PLACES];
+    weight[0] = matching.size(instance) as i64;
     for k in 0..RANKS {
-        counts[k] = ranked(instance, &matching.places, k + 1) as u32;
+        weight[k + 1] = i64::from(counts[k]);
     }
-    counts
+    weight
 }

@@ -9,30 +9,37 @@ use Rattle.rolls.specs.declared.row.Change.{Change}
 use Rattle.rolls.specs.Rows.{after_change, after_changes}
 use Rattle.sqlite.specs.Tree.{Trees}
 use Rattle.tables.specs.Steps.{HasStepped, HasSaved, IsLeft, Stays}
-use Rattle.tables.proofs.Runs.{stepped_as, stays_none, stays_then}
+use Rattle.tables.proofs.Runs.{stays_none, stays_then}
 use Rattle.store.specs.Tables.{TablesHold}
-use Rattle.store.specs.Saving.{AreInert, Applies, AppliesOne, Saves}
-
--- the same call, in another word
-pub as_step : {E : Type 0} (P Q : Database → Database → Type 0) (a b : State) (r : Result (Unit {0}) E) → (P a.now b.now → Q a.now b.now) → OnOk r (HasStepped P a b) → OnOk r (HasStepped Q a b)
-as_step P Q a b (Ok u) weaker h = stepped_as P Q a b weaker h
-as_step P Q a b (Err e) weaker h = h
+use Rattle.sqlite.specs.Schema.{Schema}
+use Rattle.sqlite_rules.specs.Lists.{Has}
+use Rattle.tables.specs.Table.{Lists, table_at}
+use Rattle.store.specs.Saving.{AreInert, Applies, AppliesOne, LeavesOthers, Saves, Spares}
 
 -- no change applies nothing
 pub applies_none : (db : Database) → Applies [] db db
 unfolding Applies
-applies_none db inert rows t = (t, refl)
+applies_none db inert rows t = (t, record { schema = refl; others = λ any h apart. refl })
 
 after_more : (cs : List Change) (c : Change) (rows : RowKey → Option Row) → after_changes (cs ++ c ∷ []) rows ≡ after_change c (after_changes cs rows)
 after_more [] c rows = refl
 after_more (d ∷ cs) c rows = after_more cs c (after_change d rows)
 
+-- what spares the other tables twice spares them
+spares_then : (x y z : Database) → Spares x y → Spares y z → Spares x z
+spares_then x y z p q = record {
+  schema = q.schema ∙ p.schema;
+  others = λ any h apart.
+      q.others any (subst (λ (s : Schema). Has s.tables any) (sym p.schema) h) (λ table among place listed. apart table among place (subst (λ (s : Schema). Lists s (table_at table place)) p.schema listed))
+      ∙ p.others any h apart;
+}
+
 applies_then : (cs : List Change) (c : Change) (x y z : Database) → Applies cs x y → AppliesOne c y z → Applies (cs ++ c ∷ []) x z
 unfolding Applies AppliesOne
 applies_then cs c x y z p q inert rows t =
     let first = p inert rows t in
-    let then = q (subst AreInert (sym first.1) inert) (after_changes cs rows) first.0 in
-    (subst (TablesHold z) (sym (after_more cs c rows)) then.0, then.1 ∙ first.1)
+    let then = q (subst AreInert (sym first.1.schema) inert) (after_changes cs rows) first.0 in
+    (subst (TablesHold z) (sym (after_more cs c rows)) then.0, spares_then x y z first.1 then.1)
 
 -- nothing was changed yet
 pub changes_none : (s : State) → Stays (Applies []) s s
@@ -58,3 +65,13 @@ saves_call changes a b (Err e) inert h = h
 -- and of what a crash leaves
 pub saves_left : (changes : List Change) (old : Database) (trees : Trees) → AreInert old.schema → IsLeft (Applies changes) old trees → IsLeft (Saves changes) old trees
 saves_left changes old trees inert h = (h.0, saves changes old h.0 inert h.1, h.2)
+
+-- changes that were applied left the other tables alone
+pub leaves_others : (changes : List Change) (old new : Database) → AreInert old.schema → Applies changes old new → LeavesOthers old new
+unfolding Applies LeavesOthers
+leaves_others changes old new inert p rows t = (p inert rows t).1
+
+-- the same of a transaction
+pub others_call : {E : Type 0} (changes : List Change) (a b : State) (r : Result (Unit {0}) E) → AreInert a.now.schema → OnOk r (HasSaved (Applies changes) a b) → OnOk r (LeavesOthers a.now b.now)
+others_call changes a b (Ok u) inert h = leaves_others changes a.now b.now inert h.step
+others_call changes a b (Err e) inert h = h

@@ -7,7 +7,7 @@ use Rattle.sqlite.specs.declared.types.Value.{Value}
 use Rattle.sqlite.specs.Order.{Row as Cells, column}
 use Rattle.sqlite_rules.specs.Lists.{Has}
 use Rattle.rolls.specs.declared.row.Row.{Row}
-use Rattle.store.specs.declared.roll.Roll.{Roll}
+use Rattle.tables.specs.declared.table.Table.{Table}
 use Rattle.store.specs.Rows.{columns, is_in}
 use Rattle.store.specs.Reading.{AreRowsOf}
 
@@ -50,15 +50,15 @@ all_push p [] x h is = and_from _ _ is refl
 all_push p (y ∷ xs) x h is = let parts = and_parts _ _ h in and_from _ _ parts.0 (all_push p xs x parts.1 is)
 
 -- nothing was read
-pub rows_none : (roll : Roll) → AreRowsOf roll [] []
-rows_none roll = record { columns = refl; kind = refl }
+pub rows_none : (table : Table) → AreRowsOf table [] []
+rows_none table = record { columns = refl; kind = refl }
 
 -- one row more was read
-pub rows_more : (roll : Roll) (all : List Cells) (i : ℕ) (cells : Cells) (rows : List Row) (row : Row) → i < length all → cells ≡ get_or all i cells → AreRowsOf roll (take i all) rows
-    → is_in roll row ≡ true → columns row ≡ drop 1 cells → AreRowsOf roll (take (i + 1) all) (rows ++ row ∷ [])
-rows_more roll all i cells rows row low is so_far kind same =
+pub rows_more : (table : Table) (all : List Cells) (i : ℕ) (cells : Cells) (rows : List Row) (row : Row) → i < length all → cells ≡ get_or all i cells → AreRowsOf table (take i all) rows
+    → is_in table row ≡ true → columns row ≡ drop 1 cells → AreRowsOf table (take (i + 1) all) (rows ++ row ∷ [])
+rows_more table all i cells rows row low is so_far kind same =
     let all_more : take (i + 1) all ≡ take i all ++ cells ∷ [] = take_more all i cells low ∙ ap (λ x. take i all ++ x ∷ []) (sym is) in
     record {
       columns = map-append columns rows (row ∷ []) ∙ (λ j. so_far.columns j ++ same j ∷ []) ∙ sym (map-append (drop 1) (take i all) (cells ∷ [])) ∙ ap (map (drop 1)) (sym all_more);
-      kind = all_push (is_in roll) rows row so_far.kind kind;
+      kind = all_push (is_in table) rows row so_far.kind kind;
     }

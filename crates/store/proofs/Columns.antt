@@ -1,5 +1,5 @@
 -- The columns of the rows of one table, once a row is put or taken away.
-use Rattle.std.proofs.Common.{◌≡◌, ◌≢◌, ◌⊎◌, inl, inr, ℕ, zero, suc, ◌<◌, List, [], ◌∷◌, length, get_or, take, Bool, true, false, not, ◌&&◌, cond, Some, is_eq, filter, map, refl, sym, ap, ◌∙◌, arith, true≢false}
+use Rattle.std.proofs.Common.{◌≡◌, ◌≢◌, inl, inr, ℕ, zero, suc, ◌<◌, List, [], ◌∷◌, length, get_or, take, Bool, true, false, not, ◌&&◌, cond, Some, is_eq, filter, map, refl, sym, ap, ◌∙◌, arith, true≢false}
 use Rattle.std.specs.List.{list_any}
 use Rattle.std.proofs.lemmas.Bool.{and_parts, not-true}
 use Rattle.std.proofs.lemmas.List.{get_or_default}
@@ -13,15 +13,17 @@ use Rattle.sqlite.specs.Order.{Row as Cells, value_cmp}
 use Rattle.sqlite.specs.Collation.TheVariants.{Binary}
 use Rattle.sqlite_sql.specs.Ops.{binary, is_true, from_truth}
 use Rattle.sqlite_schema.specs.Rules.{equal}
-use Rattle.tables.specs.Writes.{differs_from, without}
+use Rattle.tables.specs.Writes.{begins_with, without}
 use Rattle.rolls.specs.declared.row.Row.{Row}
 use Rattle.rolls.specs.declared.row.Row.TheVariants as row
 use Rattle.rolls.specs.declared.row.RowKey.{RowKey}
 use Rattle.rolls.specs.declared.row.RowKey.TheVariants as key
 use Rattle.rolls.specs.Rows.{key_of, same_row}
-use Rattle.store.specs.declared.roll.Roll.{Roll}
-use Rattle.store.specs.declared.roll.Roll.TheVariants.{Supervisors, Projects, Students}
-use Rattle.store.specs.Rows.{columns, is_in, columns_of, rolls, same_roll}
+use Rattle.tables.specs.declared.table.Table.{Table}
+use Rattle.tables.specs.declared.table.Table.TheVariants.{Edition, Supervisor, Project, Student}
+use Rattle.tables.specs.Table.{same_table}
+use Rattle.tables.proofs.Runs.{same_table_is, same_table_self}
+use Rattle.store.specs.Rows.{IsRoll, columns, is_in, columns_of, rolls, table_of}
 use Rattle.store.proofs.Keys.{dropped}
 
 truth_is : (b : Bool) → is_true (from_truth (Some b)) ≡ b
@@ -36,114 +38,128 @@ pub equal_text : (a b : List ℕ) → equal Binary (Text a) (Text b) ≡ bytes_e
 unfolding binary
 equal_text a b = truth_is _ ∙ text_order a b
 
--- the key of a roll's row with this code
-abbrev pub keyed : Roll → List ℕ → RowKey
-keyed Supervisors code = key.Supervisor code
-keyed Projects code = key.Project code
-keyed Students code = key.Student code
+-- the table of a key
+abbrev pub table_at_key : RowKey → Table
+table_at_key (key.Supervisor code) = Supervisor
+table_at_key (key.Project code) = Project
+table_at_key (key.Student code) = Student
 
--- two rolls are one or two
-pub decide_roll : (a b : Roll) → (a ≡ b) ⊎ (a ≢ b)
-decide_roll Supervisors Supervisors = inl refl
-decide_roll Projects Projects = inl refl
-decide_roll Students Students = inl refl
-decide_roll _ _ = inr (λ e. cc)
+-- the columns of a key
+abbrev pub key_columns : RowKey → Cells
+key_columns (key.Supervisor code) = Text code ∷ []
+key_columns (key.Project code) = Text code ∷ []
+key_columns (key.Student code) = Text code ∷ []
 
--- each roll is one of them
-pub every : (roll : Roll) → Has rolls roll
-every Supervisors = inl refl
-every Projects = inr (inl refl)
-every Students = inr (inr (inl refl))
+-- a row has the table of its key
+pub same_tables : (r : Row) → table_at_key (key_of r) ≡ table_of r
+same_tables (row.Supervisor c l n) = refl
+same_tables (row.Project c l s n) = refl
+same_tables (row.Student c l) = refl
 
--- a roll is itself
-same_self : (roll : Roll) → same_roll roll roll ≡ true
-same_self Supervisors = refl
-same_self Projects = refl
-same_self Students = refl
+-- each key is of the table of a roll
+pub in_rolls : (k : RowKey) → IsRoll (table_at_key k)
+unfolding IsRoll
+in_rolls (key.Supervisor code) = inl refl
+in_rolls (key.Project code) = inr (inl refl)
+in_rolls (key.Student code) = inr (inr (inl refl))
 
-are_once : List Roll → Bool
+are_once : List Table → Bool
 are_once [] = true
-are_once (r ∷ rs) = not (list_any (same_roll r) rs) && are_once rs
+are_once (r ∷ rs) = not (list_any (same_table r) rs) && are_once rs
 
-once_in : (all : List Roll) (d : Roll) → are_once all ≡ true → (i : ℕ) → i < length all → Has (take i all) (get_or all i d) → ⊥
+once_in : (all : List Table) (d : Table) → are_once all ≡ true → (i : ℕ) → i < length all → Has (take i all) (get_or all i d) → ⊥
 unfolding are_once
 once_in [] d once i low h = absurd (omega (arith, low))
 once_in (r ∷ rs) d once zero low h = h
 once_in (r ∷ rs) d once (suc i) low (inl same) =
     let there : Has rs (get_or rs i d) = has_at rs i (get_or rs i d) (omega (arith, low)) (get_or_default rs i d (get_or rs i d) (omega (arith, low))) in
-    true≢false (sym (some_from (same_roll r) rs (get_or rs i d) there (ap (same_roll r) same ∙ same_self r)) ∙ not-true _ (and_parts _ _ once).0)
+    true≢false (sym (some_from (same_table r) rs (get_or rs i d) there (ap (same_table r) same ∙ same_table_self r)) ∙ not-true _ (and_parts _ _ once).0)
 once_in (r ∷ rs) d once (suc i) low (inr h) = once_in rs d (and_parts _ _ once).1 i (omega (arith, low)) h
 
--- a roll does not come twice
-pub not_before : (d : Roll) (i : ℕ) → i < length rolls → Has (take i rolls) (get_or rolls i d) → ⊥
+-- no table comes twice
+pub not_before : (d : Table) (i : ℕ) → i < length rolls → Has (take i rolls) (get_or rolls i d) → ⊥
 unfolding are_once
 not_before d i low h = once_in rolls d refl i low h
 
--- the roll of a row
-pub roll_of : Row → Roll
-roll_of (row.Supervisor c l n) = Supervisors
-roll_of (row.Project c l s n) = Projects
-roll_of (row.Student c l) = Students
+-- a row in a table is of it
+pub is_of : (table : Table) (r : Row) → is_in table r ≡ true → table ≡ table_of r
+is_of table r h = same_table_is table (table_of r) h
 
--- a row in a roll is of it
-pub is_of : (roll : Roll) (r : Row) → is_in roll r ≡ true → roll ≡ roll_of r
-unfolding roll_of
-is_of Supervisors (row.Supervisor c l n) h = refl
-is_of Projects (row.Project c l s n) h = refl
-is_of Students (row.Student c l) h = refl
-is_of _ _ h = absurd (cc)
-
--- a row is of one roll
-pub in_once : (a b : Roll) (r : Row) → is_in a r ≡ true → is_in b r ≡ true → a ≡ b
+-- a row is of one table
+pub in_once : (a b : Table) (r : Row) → is_in a r ≡ true → is_in b r ≡ true → a ≡ b
 in_once a b r p q = is_of a r p ∙ sym (is_of b r q)
 
+beside_true : (b : Bool) → (b && true) ≡ b
+beside_true true = refl
+beside_true false = refl
+
+same_code : (a b : List ℕ) → not (bytes_eq a b) ≡ not (equal Binary (Text a) (Text b) && true)
+same_code a b = ap not (sym (beside_true _ ∙ equal_text a b))
+
 -- in its own table SQL drops the rows that have the key
-drops_own : (q : Roll) (code : List ℕ) (s : Row) → is_in q s ≡ true → not (same_row (key_of s) (keyed q code)) ≡ differs_from code (columns s)
-drops_own Supervisors code (row.Supervisor c l n) h = ap not (sym (equal_text c code))
-drops_own Projects code (row.Project c l s n) h = ap not (sym (equal_text c code))
-drops_own Students code (row.Student c l) h = ap not (sym (equal_text c code))
-drops_own _ code _ h = absurd (cc)
+drops_own : (k : RowKey) (s : Row) → is_in (table_at_key k) s ≡ true → not (same_row (key_of s) k) ≡ not (begins_with (key_columns k) (columns s))
+drops_own (key.Supervisor code) (row.Supervisor c l n) h = same_code c code
+drops_own (key.Project code) (row.Project c l s n) h = same_code c code
+drops_own (key.Student code) (row.Student c l) h = same_code c code
+drops_own _ _ h = absurd (cc)
 
--- a row of another roll has another key
-other_key : (q : Roll) (code : List ℕ) (s : Row) → roll_of s ≢ q → same_row (key_of s) (keyed q code) ≡ false
-unfolding roll_of
-other_key Supervisors code (row.Supervisor c l n) apart = absurd (apart refl)
-other_key Projects code (row.Project c l s n) apart = absurd (apart refl)
-other_key Students code (row.Student c l) apart = absurd (apart refl)
-other_key _ code _ apart = refl
+-- a row of another table has another key
+other_key : (k : RowKey) (s : Row) → table_of s ≢ table_at_key k → same_row (key_of s) k ≡ false
+other_key (key.Supervisor code) (row.Supervisor c l n) apart = absurd (apart refl)
+other_key (key.Project code) (row.Project c l s n) apart = absurd (apart refl)
+other_key (key.Student code) (row.Student c l) apart = absurd (apart refl)
+other_key _ _ apart = refl
 
--- the key of one roll is that of no row of another
-keeps_other : (roll q : Roll) (code : List ℕ) (s : Row) → roll ≢ q → is_in roll s ≡ true → not (same_row (key_of s) (keyed q code)) ≡ true
-keeps_other roll q code s apart h = ap not (other_key q code s (λ e. apart (is_of roll s h ∙ e)))
+-- the key of one table is that of no row of another
+keeps_other : (table : Table) (k : RowKey) (s : Row) → table ≢ table_at_key k → is_in table s ≡ true → not (same_row (key_of s) k) ≡ true
+keeps_other table k s apart h = ap not (other_key k s (λ e. apart (is_of table s h ∙ e)))
 
-module _ (roll : Roll) (key : RowKey) (g : Cells → Bool) (same : (s : Row) → is_in roll s ≡ true → not (same_row (key_of s) key) ≡ g (columns s)) where
-  dropped_go : (s : Row) (rest : List Row) (a b : Bool) → is_in roll s ≡ a → not (same_row (key_of s) key) ≡ b → columns_of roll (dropped key rest) ≡ filter g (columns_of roll rest)
-      → columns_of roll (cond b (s ∷ dropped key rest) (dropped key rest)) ≡ filter g (map columns (cond a (s ∷ filter (is_in roll) rest) (filter (is_in roll) rest)))
+module _ (table : Table) (key : RowKey) (g : Cells → Bool) (same : (s : Row) → is_in table s ≡ true → not (same_row (key_of s) key) ≡ g (columns s)) where
+  dropped_go : (s : Row) (rest : List Row) (a b : Bool) → is_in table s ≡ a → not (same_row (key_of s) key) ≡ b → columns_of table (dropped key rest) ≡ filter g (columns_of table rest)
+      → columns_of table (cond b (s ∷ dropped key rest) (dropped key rest)) ≡ filter g (map columns (cond a (s ∷ filter (is_in table) rest) (filter (is_in table) rest)))
   dropped_go s rest true true kind is later = rw (kind, sym (same s kind) ∙ is) (ap (λ more. columns s ∷ more) later)
   dropped_go s rest true false kind is later = rw (sym (same s kind) ∙ is) later
   dropped_go s rest false true kind is later = rw kind later
   dropped_go s rest false false kind is later = later
 
-  columns_dropped : (list : List Row) → columns_of roll (dropped key list) ≡ filter g (columns_of roll list)
+  columns_dropped : (list : List Row) → columns_of table (dropped key list) ≡ filter g (columns_of table list)
   columns_dropped [] = refl
-  columns_dropped (s ∷ rest) = dropped_go s rest (is_in roll s) (not (same_row (key_of s) key)) refl refl (columns_dropped rest)
+  columns_dropped (s ∷ rest) = dropped_go s rest (is_in table s) (not (same_row (key_of s) key)) refl refl (columns_dropped rest)
 
 all_kept : {X : Type 0} (xs : List X) → filter (λ (_ : X). true) xs ≡ xs
 all_kept [] = refl
 all_kept (x ∷ xs) = ap (λ ys. x ∷ ys) (all_kept xs)
 
--- the columns of the table that lost the rows with a code
-pub columns_without : (q : Roll) (code : List ℕ) (list : List Row) → columns_of q (dropped (keyed q code) list) ≡ without code (columns_of q list)
-columns_without q code list = columns_dropped q (keyed q code) (differs_from code) (drops_own q code) list
+-- the columns of the table that lost the rows with a key
+pub columns_without : (k : RowKey) (list : List Row) → columns_of (table_at_key k) (dropped k list) ≡ without (key_columns k) (columns_of (table_at_key k) list)
+columns_without k list = columns_dropped (table_at_key k) k (λ v. not (begins_with (key_columns k) v)) (drops_own k) list
 
 -- those of another table
-pub columns_beside : (roll q : Roll) (code : List ℕ) (list : List Row) → roll ≢ q → columns_of roll (dropped (keyed q code) list) ≡ columns_of roll list
-columns_beside roll q code list apart = columns_dropped roll (keyed q code) (λ _. true) (λ s. keeps_other roll q code s apart) list ∙ all_kept (columns_of roll list)
+pub columns_beside : (table : Table) (k : RowKey) (list : List Row) → table ≢ table_at_key k → columns_of table (dropped k list) ≡ columns_of table list
+columns_beside table k list apart = columns_dropped table k (λ _. true) (λ s. keeps_other table k s apart) list ∙ all_kept (columns_of table list)
 
 -- a row more in its table
-pub columns_more : (q : Roll) (r : Row) (list : List Row) → is_in q r ≡ true → columns_of q (r ∷ list) ≡ columns r ∷ columns_of q list
-columns_more q r list kind = rw kind refl
+pub columns_more : (r : Row) (list : List Row) → columns_of (table_of r) (r ∷ list) ≡ columns r ∷ columns_of (table_of r) list
+columns_more r list = rw (same_table_self (table_of r)) refl
 
 -- and in none of the others
-pub columns_same : (roll : Roll) (r : Row) (list : List Row) → is_in roll r ≡ false → columns_of roll (r ∷ list) ≡ columns_of roll list
-columns_same roll r list kind = rw kind refl
+pub columns_same : (table : Table) (r : Row) (list : List Row) → is_in table r ≡ false → columns_of table (r ∷ list) ≡ columns_of table list
+columns_same table r list kind = rw kind refl
+
+-- no roll is the edition
+pub apart_edition : (table : Table) → IsRoll table → table ≢ Edition
+unfolding IsRoll
+apart_edition table (inl is) e = let f : Supervisor ≡ Edition = sym is ∙ e in cc
+apart_edition table (inr (inl is)) e = let f : Project ≡ Edition = sym is ∙ e in cc
+apart_edition table (inr (inr (inl is))) e = let f : Student ≡ Edition = sym is ∙ e in cc
+apart_edition table (inr (inr (inr none))) e = absurd none
+
+-- a roll stands in the list
+pub among_rolls : (table : Table) → IsRoll table → Has rolls table
+unfolding IsRoll
+among_rolls table h = h
+
+-- and what stands there is one
+pub is_roll : (table : Table) → Has rolls table → IsRoll table
+unfolding IsRoll
+is_roll table h = h

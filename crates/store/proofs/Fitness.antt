@@ -15,7 +15,7 @@ use Rattle.rolls.specs.State.{State, supervisor_of, project_of, student_of, supe
 use Rattle.rolls.specs.Fit.{IsFit, SupervisorFits, ProjectFits, StudentFits}
 use Rattle.rolls.specs.Rows.{key_of, same_row, row_of, supervisor_row, project_row, student_row}
 use Rattle.rolls.specs.From.{row_in, are_apart}
-use Rattle.store.specs.declared.roll.Roll.{Roll}
+use Rattle.tables.specs.declared.table.Table.{Table}
 use Rattle.store.specs.Rows.{columns, is_in, columns_of, AreRowsAt}
 use Rattle.store.specs.Reading.{IsTyped}
 use Rattle.store.proofs.Keys.{same_row_is, same_row_self}
@@ -86,9 +86,9 @@ unmapped [] cells h = absurd h
 unmapped (r ∷ rows) cells (inl same) = (r, inl refl, same)
 unmapped (r ∷ rows) cells (inr h) = let it = unmapped rows cells h in (it.0, inr it.1, it.2)
 
--- columns of a roll are those of a row of it
-pub row_of_columns : (roll : Roll) (list : List Row) (cells : Cells) → Has (columns_of roll list) cells → (r : Row) × Has list r × (is_in roll r ≡ true) × (cells ≡ columns r)
-row_of_columns roll list cells h =
-    let it = unmapped (filter (is_in roll) list) cells h in
-    let kept = filtered (is_in roll) list it.0 it.1 in
+-- columns of a table are those of a row of it
+pub row_of_columns : (table : Table) (list : List Row) (cells : Cells) → Has (columns_of table list) cells → (r : Row) × Has list r × (is_in table r ≡ true) × (cells ≡ columns r)
+row_of_columns table list cells h =
+    let it = unmapped (filter (is_in table) list) cells h in
+    let kept = filtered (is_in table) list it.0 it.1 in
     (it.0, kept.0, kept.1, it.2)

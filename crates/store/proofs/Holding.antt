@@ -1,5 +1,5 @@
 -- What one statement makes of the tables.
-use Rattle.std.proofs.Common.{◌≡◌, ◌≢◌, inl, inr, ℕ, List, ◌∷◌, true, Option, refl, sym, ap, subst, ◌∙◌}
+use Rattle.std.proofs.Common.{◌≡◌, ◌≢◌, inl, inr, List, ◌∷◌, Option, refl, sym, ap, subst, ◌∙◌}
 use Rattle.std.proofs.lemmas.Bool.{false_from_ne_true}
 use Rattle.sqlite.specs.Effect.{Database}
 use Rattle.sqlite.specs.Order.{Row as Cells}
@@ -7,50 +7,52 @@ use Rattle.rolls.specs.declared.row.Row.{Row}
 use Rattle.rolls.specs.declared.row.RowKey.{RowKey}
 use Rattle.rolls.specs.declared.row.Change.TheVariants.{Put, Take}
 use Rattle.rolls.specs.Rows.{key_of}
-use Rattle.tables.specs.Table.{Place, edition_table}
+use Rattle.tables.specs.declared.table.Table.{Table}
+use Rattle.tables.specs.declared.table.Table.TheVariants.{Edition}
+use Rattle.tables.specs.Table.{table_at}
 use Rattle.tables.specs.Keyed.{Stands}
 use Rattle.tables.specs.Writes.{Puts, Removes, WritesOnly, with_row, without}
-use Rattle.tables.proofs.Runs.{stands_apart}
-use Rattle.store.specs.declared.roll.Roll.{Roll}
-use Rattle.store.specs.declared.roll.Roll.TheVariants.{Supervisors, Projects, Students}
-use Rattle.store.specs.Rows.{columns, is_in, columns_of, table_of}
+use Rattle.tables.proofs.Runs.{stands_apart, decide_table}
+use Rattle.store.specs.Rows.{IsRoll, columns, columns_of, table_of}
 use Rattle.store.specs.Tables.{TablesHold, first_edition}
-use Rattle.store.specs.Saving.{AppliesOne}
+use Rattle.sqlite_rules.proofs.ListLemmas.{all_has}
+use Rattle.store.specs.Saving.{AppliesOne, Spares}
 use Rattle.store.proofs.Keys.{dropped, rows_put, rows_taken}
-use Rattle.store.proofs.Columns.{keyed, decide_roll, in_once, columns_without, columns_beside, columns_more, columns_same}
+use Rattle.store.proofs.Columns.{table_at_key, key_columns, same_tables, in_rolls, is_of, columns_without, columns_beside, columns_more, columns_same}
 
--- a roll's table stands at its place's tree
-pub tree_is : (roll : Roll) (place : Place) → (table_of roll place).tree ≡ place.tree
-tree_is Supervisors place = refl
-tree_is Projects place = refl
-tree_is Students place = refl
-
-module _ (old new : Database) (rows : RowKey → Option Row) (t : TablesHold old rows) (q : Roll) (only : WritesOnly (t.places q).tree old new) where
-  edition_stays : Stands edition_table t.edition first_edition new
-  edition_stays = stands_apart edition_table t.edition refl first_edition (t.places q).tree old new (λ e. t.edition_apart q (sym e)) only t.editions
+module _ (old new : Database) (rows : RowKey → Option Row) (t : TablesHold old rows) (q : Table) (kept : IsRoll q) (only : WritesOnly (t.places q).tree old new) where
+  edition_stays : Stands (table_at Edition) t.edition first_edition new
+  edition_stays = stands_apart (table_at Edition) t.edition refl first_edition (t.places q).tree old new (λ e. t.edition_apart q kept (sym e)) only t.editions
 
   -- the rolls, of which the one that is written holds these
-  rolls_are : (list : List Row) (written : List Cells) → Stands (table_of q) (t.places q) written new → columns_of q list ≡ written
-      → ((roll : Roll) → roll ≢ q → columns_of roll list ≡ columns_of roll t.list) → (roll : Roll) → Stands (table_of roll) (t.places roll) (columns_of roll list) new
-  rolls_are list written stands own others roll = elim (decide_roll roll q) [
+  rolls_are : (list : List Row) (written : List Cells) → Stands (table_at q) (t.places q) written new → columns_of q list ≡ written
+      → ((table : Table) → table ≢ q → columns_of table list ≡ columns_of table t.list) → (table : Table) → IsRoll table → Stands (table_at table) (t.places table) (columns_of table list) new
+  rolls_are list written stands own others table among = elim (decide_table table q) [
     | inl same ↦
-        let here = subst (λ all. Stands (table_of q) (t.places q) all new) (sym own) stands in
-        subst (λ x. Stands (table_of x) (t.places x) (columns_of x list) new) (sym same) here
+        let here = subst (λ all. Stands (table_at q) (t.places q) all new) (sym own) stands in
+        subst (λ x. Stands (table_at x) (t.places x) (columns_of x list) new) (sym same) here
     | inr other ↦
-        let there = stands_apart (table_of roll) (t.places roll) (tree_is roll (t.places roll)) (columns_of roll t.list) (t.places q).tree old new (t.apart roll q other) only (t.rolls roll) in
-        subst (λ all. Stands (table_of roll) (t.places roll) all new) (sym (others roll other)) there
+        let there = stands_apart (table_at table) (t.places table) refl (columns_of table t.list) (t.places q).tree old new (t.apart table q among kept other) only (t.rolls table among) in
+        subst (λ all. Stands (table_at table) (t.places table) all new) (sym (others table other)) there
   ]
 
+  -- what is written spares the other tables
+  spared : Spares old new
+  spared = record { schema = only.schema; others = λ any h apart. all_has _ old.schema.tables any only.others h (apart q kept (t.places q) (t.rolls q kept).listed) }
+
 -- a row that was put in its table
-pub hold_put : (q : Roll) (code : List ℕ) (r : Row) (old new : Database) → key_of r ≡ keyed q code → is_in q r ≡ true → Puts (table_of q) code (columns r) old new → AppliesOne (Put r) old new
+pub hold_put : (r : Row) (old new : Database) → Puts (table_at (table_of r)) (key_columns (key_of r)) (columns r) old new → AppliesOne (Put r) old new
 unfolding AppliesOne Puts
-hold_put q code r old new named kind puts inert rows t =
-    let done = puts (t.places q) (columns_of q t.list) (inert q (t.places q) (t.rolls q).listed) (t.rolls q) in
-    let list : List Row = r ∷ dropped (key_of r) t.list in
-    let own : columns_of q list ≡ with_row code (columns r) (columns_of q t.list) =
-    columns_more q r _ kind ∙ ap (λ more. columns r ∷ more) (ap (λ k. columns_of q (dropped k t.list)) named ∙ columns_without q code t.list) in
-    let others : (roll : Roll) → roll ≢ q → columns_of roll list ≡ columns_of roll t.list = λ roll other.
-    columns_same roll r _ (false_from_ne_true _ (λ h. other (in_once roll q r h kind))) ∙ ap (λ k. columns_of roll (dropped k t.list)) named ∙ columns_beside roll q code t.list other in (
+hold_put r old new puts inert rows t =
+    let q = table_of r in
+    let k = key_of r in
+    let kept : IsRoll q = subst IsRoll (same_tables r) (in_rolls k) in
+    let done = puts (t.places q) (columns_of q t.list) (inert q kept (t.places q) (t.rolls q kept).listed) (t.rolls q kept) in
+    let list : List Row = r ∷ dropped k t.list in
+    let own : columns_of q list ≡ with_row (key_columns k) (columns r) (columns_of q t.list) =
+    columns_more r (dropped k t.list) ∙ ap (λ more. columns r ∷ more) (subst (λ x. columns_of x (dropped k t.list) ≡ without (key_columns k) (columns_of x t.list)) (same_tables r) (columns_without k t.list)) in
+    let others : (table : Table) → table ≢ q → columns_of table list ≡ columns_of table t.list = λ table other.
+    columns_same table r (dropped k t.list) (false_from_ne_true _ (λ h. other (is_of table r h))) ∙ columns_beside table k t.list (λ e. other (e ∙ same_tables r)) in (
       record {
         edition = t.edition;
         places = t.places;
@@ -58,30 +60,29 @@ hold_put q code r old new named kind puts inert rows t =
         apart = t.apart;
         list = list;
         at = rows_put t.list rows r t.at;
-        editions = edition_stays old new rows t q done.1;
-        rolls = rolls_are old new rows t q done.1 list (with_row code (columns r) (columns_of q t.list)) done.0 own others;
+        editions = edition_stays old new rows t q kept done.1;
+        rolls = rolls_are old new rows t q kept done.1 list (with_row (key_columns k) (columns r) (columns_of q t.list)) done.0 own others;
       },
-      done.1.schema,
+      spared old new rows t q kept done.1,
     )
 
 -- a row that was taken out of its table
-pub hold_take : (q : Roll) (code : List ℕ) (key : RowKey) (old new : Database) → key ≡ keyed q code → Removes (table_of q) code old new → AppliesOne (Take key) old new
+pub hold_take : (k : RowKey) (old new : Database) → Removes (table_at (table_at_key k)) (key_columns k) old new → AppliesOne (Take k) old new
 unfolding AppliesOne Removes
-hold_take q code key old new named removes inert rows t =
-    let done = removes (t.places q) (columns_of q t.list) (inert q (t.places q) (t.rolls q).listed) (t.rolls q) in
-    let list : List Row = dropped key t.list in
-    let own : columns_of q list ≡ without code (columns_of q t.list) = ap (λ k. columns_of q (dropped k t.list)) named ∙ columns_without q code t.list in
-    let others : (roll : Roll) → roll ≢ q → columns_of roll list ≡ columns_of roll t.list = λ roll other.
-    ap (λ k. columns_of roll (dropped k t.list)) named ∙ columns_beside roll q code t.list other in (
+hold_take k old new removes inert rows t =
+    let q = table_at_key k in
+    let kept = in_rolls k in
+    let done = removes (t.places q) (columns_of q t.list) (inert q kept (t.places q) (t.rolls q kept).listed) (t.rolls q kept) in
+    let list : List Row = dropped k t.list in (
       record {
         edition = t.edition;
         places = t.places;
         edition_apart = t.edition_apart;
         apart = t.apart;
         list = list;
-        at = rows_taken t.list rows key t.at;
-        editions = edition_stays old new rows t q done.1;
-        rolls = rolls_are old new rows t q done.1 list (without code (columns_of q t.list)) done.0 own others;
+        at = rows_taken t.list rows k t.at;
+        editions = edition_stays old new rows t q kept done.1;
+        rolls = rolls_are old new rows t q kept done.1 list (without (key_columns k) (columns_of q t.list)) done.0 (columns_without k t.list) (λ table other. columns_beside table k t.list other);
       },
-      done.1.schema,
+      spared old new rows t q kept done.1,
     )

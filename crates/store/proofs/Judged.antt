@@ -7,7 +7,7 @@ use Rattle.sqlite.specs.Order.{Row as Cells, column}
 use Rattle.sqlite.specs.declared.types.Value.TheVariants.{Int}
 use Rattle.sqlite.specs.Effect.{Database}
 use Rattle.sqlite.specs.State.{State as Seen, IsLive}
-use Rattle.tables.specs.Table.{Place, Lists, edition_table}
+use Rattle.tables.specs.Table.{Place, Lists, table_at}
 use Rattle.tables.specs.Keyed.{Stands}
 use Rattle.tables.specs.Steps.{Shows}
 use Rattle.tables.proofs.Runs.{low_tree}
@@ -16,8 +16,9 @@ use Rattle.rolls.specs.State.{State}
 use Rattle.rolls.specs.Fit.{IsFit}
 use Rattle.rolls.specs.Rows.{row_of}
 use Rattle.rolls.specs.From as from
-use Rattle.store.specs.declared.roll.Roll.{Roll}
-use Rattle.store.specs.Rows.{columns_of, table_of}
+use Rattle.tables.specs.declared.table.Table.{Table}
+use Rattle.tables.specs.declared.table.Table.TheVariants.{Edition}
+use Rattle.store.specs.Rows.{IsRoll, columns_of}
 use Rattle.office.specs.declared.draft.RowsFault.{RowsFault}
 use Rattle.office.specs.declared.draft.RowsFault.TheVariants.{Unfit}
 use Rattle.office.specs.declared.draft.RowsFault.TheVariants as why
@@ -26,7 +27,6 @@ use Rattle.store.specs.declared.fault.StoreFault.TheVariants.{Damaged}
 use Rattle.store.specs.Tables.{StandsFor, first_edition}
 use Rattle.store.specs.Reading.{AreListed, HoldsCells, HoldsNoRow, IsDamaged}
 use Rattle.store.proofs.Cells.{two_after}
-use Rattle.store.proofs.Holding.{tree_is}
 use Rattle.store.proofs.Permuted.{has_permuted, rows_permuted, permuted_by_rolls}
 use Rattle.store.proofs.Fitness.{is_typed, row_of_columns}
 
@@ -44,7 +44,7 @@ unlisted db none office fit t = none (record {
   edition_apart = t.edition_apart;
   apart = t.apart;
   edition_listed = t.editions.listed;
-  rolls_listed = λ roll. (t.rolls roll).listed;
+  rolls_listed = λ table among. (t.rolls table among).listed;
 })
 
 one_has : (x : Cells) (rows : List Cells) → length rows ≡ 1 → ((y : Cells) → Has rows y → Has (x ∷ []) y) → rows ≡ x ∷ []
@@ -57,38 +57,40 @@ alone : (x : Cells) (rows : List Cells) → IsPermutation rows (x ∷ []) → ro
 alone x rows same = one_has x rows (sym (length_permutation rows (x ∷ []) same)) (has_permuted rows (x ∷ []) same)
 
 module _ (s : Seen) (live : IsLive s) (open_ : IsTrue s.is_open) where
-  low_edition : (place : Place) → Lists s.now.schema (edition_table place) → nat_lt place.tree (2 ^ 31) ≡ true
-  low_edition place listed = low_tree s.now.schema s.now.trees (edition_table place) (live open_).0 listed
+  low_edition : (place : Place) → Lists s.now.schema (table_at Edition place) → nat_lt place.tree (2 ^ 31) ≡ true
+  low_edition place listed = low_tree s.now.schema s.now.trees (table_at Edition place) (live open_).0 listed
 
-  low_roll : (roll : Roll) (place : Place) → Lists s.now.schema (table_of roll place) → nat_lt place.tree (2 ^ 31) ≡ true
-  low_roll roll place listed = subst (λ n. nat_lt n (2 ^ 31) ≡ true) (tree_is roll place) (low_tree s.now.schema s.now.trees (table_of roll place) (live open_).0 listed)
+  low_at : (table : Table) (place : Place) → Lists s.now.schema (table_at table place) → nat_lt place.tree (2 ^ 31) ≡ true
+  low_at table place listed = low_tree s.now.schema s.now.trees (table_at table place) (live open_).0 listed
 
   -- another edition
-  pub other_edition : (rows : List Cells) (new : Seen) → Shows edition_table rows s new → map (drop 1) rows ≢ first_edition → IsDamaged s.now
+  pub other_edition : (rows : List Cells) (new : Seen) → Shows (table_at Edition) rows s new → map (drop 1) rows ≢ first_edition → IsDamaged s.now
   other_edition rows new shows other office fit t =
       let here = shows.stands t.edition t.editions.listed (low_edition t.edition t.editions.listed) in
       other (alone _ (map (drop 1) rows) (IsPermutation-trans _ _ _ here.holds (IsPermutation-sym _ _ t.editions.holds)))
 
-  -- a roll that holds what no row has
-  pub unread : (roll : Roll) → HoldsNoRow roll s.now → IsDamaged s.now
-  unread roll n office fit t =
-      let here = n.holds (t.places roll) (t.rolls roll).listed (low_roll roll (t.places roll) (t.rolls roll).listed) in
-      let same : IsPermutation n.all (columns_of roll t.list) = IsPermutation-trans _ _ _ here.holds (IsPermutation-sym _ _ (t.rolls roll).holds) in
-      let it = row_of_columns roll t.list n.cells (has_permuted _ _ same n.cells n.among) in
+  -- a table that holds what no row has
+  pub unread : (table : Table) → IsRoll table → HoldsNoRow table s.now → IsDamaged s.now
+  unread table among n office fit t =
+      let stands = t.rolls table among in
+      let here = n.holds (t.places table) stands.listed (low_at table (t.places table) stands.listed) in
+      let same : IsPermutation n.all (columns_of table t.list) = IsPermutation-trans _ _ _ here.holds (IsPermutation-sym _ _ stands.holds) in
+      let it = row_of_columns table t.list n.cells (has_permuted _ _ same n.cells n.among) in
       n.none it.0 it.2 (is_typed office t.list it.0 fit t.at it.1) (sym it.3)
 
   -- rows of no office
-  pub unfit : (rows : List Row) → ((roll : Roll) → HoldsCells roll (columns_of roll rows) s.now) → ((o : State) → IsFit o → from.AreRowsOf rows o → ⊥) → IsDamaged s.now
+  pub unfit : (rows : List Row) → ((table : Table) → IsRoll table → HoldsCells table (columns_of table rows) s.now) → ((o : State) → IsFit o → from.AreRowsOf rows o → ⊥) → IsDamaged s.now
   unfit rows holds none office fit t =
-      let each : (roll : Roll) → IsPermutation (columns_of roll t.list) (columns_of roll rows) = λ roll.
-      let here = holds roll (t.places roll) (t.rolls roll).listed (low_roll roll (t.places roll) (t.rolls roll).listed) in
-      IsPermutation-trans _ _ _ (t.rolls roll).holds (IsPermutation-sym _ _ here.holds) in
+      let each : (table : Table) → IsRoll table → IsPermutation (columns_of table t.list) (columns_of table rows) = λ table among.
+      let stands = t.rolls table among in
+      let here = holds table among (t.places table) stands.listed (low_at table (t.places table) stands.listed) in
+      IsPermutation-trans _ _ _ stands.holds (IsPermutation-sym _ _ here.holds) in
       let at = rows_permuted t.list rows (row_of office) (permuted_by_rolls t.list rows each) t.at in
       none office fit (record { apart = at.apart; each = at.each })
 
   -- the office of the rows
-  pub stood : (l : AreListed s.now.schema) (first : List Cells) (mid : Seen) (rows : List Row) (office : State) → Shows edition_table first s mid → map (drop 1) first ≡ first_edition
-      → ((roll : Roll) → HoldsCells roll (columns_of roll rows) s.now) → from.AreRowsOf rows office → StandsFor s.now office
+  pub stood : (l : AreListed s.now.schema) (first : List Cells) (mid : Seen) (rows : List Row) (office : State) → Shows (table_at Edition) first s mid → map (drop 1) first ≡ first_edition
+      → ((table : Table) → IsRoll table → HoldsCells table (columns_of table rows) s.now) → from.AreRowsOf rows office → StandsFor s.now office
   stood l first mid rows office shows is holds are = record {
     edition = l.edition;
     places = l.places;
@@ -96,8 +98,8 @@ module _ (s : Seen) (live : IsLive s) (open_ : IsTrue s.is_open) where
     apart = l.apart;
     list = rows;
     at = record { apart = are.apart; each = are.each };
-    editions = subst (λ all. Stands edition_table l.edition all s.now) is (shows.stands l.edition l.edition_listed (low_edition l.edition l.edition_listed));
-    rolls = λ roll. holds roll (l.places roll) (l.rolls_listed roll) (low_roll roll (l.places roll) (l.rolls_listed roll));
+    editions = subst (λ all. Stands (table_at Edition) l.edition all s.now) is (shows.stands l.edition l.edition_listed (low_edition l.edition l.edition_listed));
+    rolls = λ table among. holds table among (l.places table) (l.rolls_listed table among) (low_at table (l.places table) (l.rolls_listed table among));
   }
 
 -- rows that are refused are those of no office

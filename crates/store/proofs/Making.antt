@@ -1,9 +1,12 @@
 -- The tables that were made stand for the empty office.
-use Rattle.std.proofs.Common.{◌≡◌, ◌≢◌, ◌⊎◌, ◌+◌, ◌<◌, ◌≤◌, ◌++◌, ℕ, List, [], ◌∷◌, length, get_or, take, Result, Ok, Err, OnOk, inl, inr, refl, sym, subst, ◌∙◌}
+use Rattle.std.proofs.Common.{◌≡◌, ◌≢◌, ◌⊎◌, ◌+◌, ◌<◌, ◌≤◌, ◌++◌, ℕ, List, [], ◌∷◌, length, get_or, take, inl, inr, refl, sym, ap, subst, ◌∙◌}
 use Rattle.std.proofs.lemmas.List.{take_more, take_all}
 use Rattle.sqlite.specs.Effect.{Database}
-use Rattle.sqlite.specs.Table.{Table}
+use Rattle.sqlite.specs.Schema.{Schema}
+use Rattle.sqlite.specs.Table.{Table as AnyTable}
 use Rattle.sqlite.specs.State.{State as Seen}
+use Rattle.sqlite.specs.Tree.{Trees}
+use Rattle.sqlite.specs.declared.types.Value.{Value}
 use Rattle.sqlite_rules.specs.Lists.{Has}
 use Rattle.sqlite_rules.proofs.ListLemmas.{has_either}
 use Rattle.rolls.specs.declared.row.RowKey.{RowKey}
@@ -11,17 +14,16 @@ use Rattle.rolls.specs.declared.row.RowKey.TheVariants as key
 use Rattle.rolls.specs.Rows.{row_of}
 use Rattle.rolls.specs.From.{row_in}
 use Rattle.rolls.specs.State.{State, empty}
-use Rattle.tables.specs.Table.{Place, edition_table}
+use Rattle.tables.specs.declared.table.Table.{Table}
+use Rattle.tables.specs.declared.table.Table.TheVariants.{Edition}
+use Rattle.tables.specs.Table.{Place, Lists, checks_of, table_at}
 use Rattle.tables.specs.Keyed.{Stands}
-use Rattle.tables.specs.Writes.{Makes}
-use Rattle.sqlite.specs.Tree.{Trees}
+use Rattle.tables.specs.Writes.{Makes, Adds}
 use Rattle.tables.specs.Steps.{HasStepped, IsLeft, Stays}
-use Rattle.tables.proofs.Runs.{stands_beside, stands_kept, stays_none, stays_then, stepped_stays}
-use Rattle.store.specs.declared.roll.Roll.{Roll}
-use Rattle.store.specs.Rows.{rolls, table_of, AreRowsAt}
-use Rattle.store.specs.Tables.{MakesRolls, StandsFor, Empties, Founds, HasNone, Opens, first_edition}
-use Rattle.store.proofs.Holding.{tree_is}
-use Rattle.store.proofs.Columns.{decide_roll, every}
+use Rattle.tables.proofs.Runs.{listed_once, stands_apart, stands_beside, stays_none, stays_then, stays_stepped, decide_table}
+use Rattle.store.specs.Rows.{kept, AreRowsAt}
+use Rattle.store.specs.Tables.{AreRuled, MakesTables, StandsFor, Empties, Founds, HasNone, Opens, first_edition}
+use Rattle.store.proofs.Columns.{apart_edition, among_rolls}
 
 no_row : (k : RowKey) → row_in [] k ≡ row_of empty k
 no_row (key.Supervisor code) = refl
@@ -32,94 +34,106 @@ no_rows : AreRowsAt [] (row_of empty)
 no_rows = record { apart = refl; each = no_row }
 
 -- no table was made yet
-pub made_none : (s : Seen) → Stays (MakesRolls []) s s
-made_none s = stays_none (MakesRolls []) s (record { places = λ roll. record { tree = 0; checks = [] }; stand = λ roll h. absurd h; apart = λ a b h. absurd h; others = λ t listed. (listed, refl, λ roll h. absurd h) })
+pub made_none : (s : Seen) → Stays (MakesTables []) s s
+made_none s = stays_none (MakesTables []) s (record { places = λ table. record { tree = 0; checks = [] }; ruled = λ table h. absurd h; stand = λ table h. absurd h; apart = λ a b h. absurd h; others = λ t listed. (listed, refl, λ table h. absurd h) })
 
-module _ (done : List Roll) (q : Roll) (a b c : Database) (m : MakesRolls done a b) (n : Makes (table_of q) [] b c) where
-  -- where a roll stands: the last one at its new place
-  at : (roll : Roll) → (roll ≡ q) ⊎ (roll ≢ q) → Place
-  at roll (inl same) = n.place
-  at roll (inr other) = m.places roll
+module _ (done : List Table) (q : Table) (a b c : Database) (m : MakesTables done a b) (n : Makes (table_at q) (checks_of q) [] b c) where
+  -- where a table stands: the last one at its new place
+  at : (table : Table) → (table ≡ q) ⊎ (table ≢ q) → Place
+  at table (inl same) = n.place
+  at table (inr other) = m.places table
 
-  before : (roll : Roll) → roll ≢ q → Has (done ++ q ∷ []) roll → Has done roll
-  before roll other h = elim (has_either done (q ∷ []) roll h) [ inl early ↦ early | inr (inl same) ↦ absurd (other same) | inr (inr none) ↦ absurd none ]
+  before : (table : Table) → table ≢ q → Has (done ++ q ∷ []) table → Has done table
+  before table other h = elim (has_either done (q ∷ []) table h) [ inl early ↦ early | inr (inl same) ↦ absurd (other same) | inr (inr none) ↦ absurd none ]
 
-  beside : (roll : Roll) → Has done roll → Stands (table_of roll) (m.places roll) [] c × ((m.places roll).tree ≢ n.place.tree)
-  beside roll early = stands_beside (table_of roll) (m.places roll) (tree_is roll (m.places roll)) [] (table_of q) [] b c n (m.stand roll early)
+  beside : (table : Table) → Has done table → Stands (table_at table) (m.places table) [] c × ((m.places table).tree ≢ n.place.tree)
+  beside table early = stands_beside (table_at table) (m.places table) refl [] (table_at q) (checks_of q) [] b c n (m.stand table early)
 
-  stand_at : (roll : Roll) (d : (roll ≡ q) ⊎ (roll ≢ q)) → Has (done ++ q ∷ []) roll → Stands (table_of roll) (at roll d) [] c
+  ruled_at : (table : Table) (d : (table ≡ q) ⊎ (table ≢ q)) → Has (done ++ q ∷ []) table → (at table d).checks ≡ checks_of table
   unfolding at
-  stand_at roll (inl same) h = subst (λ r. Stands (table_of r) n.place [] c) (sym same) n.stands
-  stand_at roll (inr other) h = (beside roll (before roll other h)).0
+  ruled_at table (inl same) h = n.ruled ∙ sym (ap checks_of same)
+  ruled_at table (inr other) h = m.ruled table (before table other h)
 
-  apart_at : (x y : Roll) (d : (x ≡ q) ⊎ (x ≢ q)) (e : (y ≡ q) ⊎ (y ≢ q)) → Has (done ++ q ∷ []) x → Has (done ++ q ∷ []) y → x ≢ y → (at x d).tree ≢ (at y e).tree
+  stand_at : (table : Table) (d : (table ≡ q) ⊎ (table ≢ q)) → Has (done ++ q ∷ []) table → Stands (table_at table) (at table d) [] c
+  unfolding at
+  stand_at table (inl same) h = subst (λ r. Stands (table_at r) n.place [] c) (sym same) n.stands
+  stand_at table (inr other) h = (beside table (before table other h)).0
+
+  apart_at : (x y : Table) (d : (x ≡ q) ⊎ (x ≢ q)) (e : (y ≡ q) ⊎ (y ≢ q)) → Has (done ++ q ∷ []) x → Has (done ++ q ∷ []) y → x ≢ y → (at x d).tree ≢ (at y e).tree
   unfolding at
   apart_at x y (inl s) (inl t) h k apart same = absurd (apart (s ∙ sym t))
   apart_at x y (inl s) (inr o) h k apart same = (beside y (before y o k)).1 (sym same)
   apart_at x y (inr o) (inl t) h k apart same = (beside x (before x o h)).1 same
   apart_at x y (inr o) (inr p) h k apart same = m.apart x y (before x o h) (before y p k) apart same
 
-  other_at : (t : Table) → t.tree ≢ n.place.tree → ((roll : Roll) → Has done roll → t.tree ≢ (m.places roll).tree) → (roll : Roll) (d : (roll ≡ q) ⊎ (roll ≢ q)) → Has (done ++ q ∷ []) roll
-      → t.tree ≢ (at roll d).tree
+  other_at : (t : AnyTable) → t.tree ≢ n.place.tree → ((table : Table) → Has done table → t.tree ≢ (m.places table).tree) → (table : Table) (d : (table ≡ q) ⊎ (table ≢ q)) → Has (done ++ q ∷ []) table
+      → t.tree ≢ (at table d).tree
   unfolding at
-  other_at t last early roll (inl same) h = last
-  other_at t last early roll (inr other) h = early roll (before roll other h)
+  other_at t last early table (inl same) h = last
+  other_at t last early table (inr other) h = early table (before table other h)
 
   -- one table more
-  made_then : MakesRolls (done ++ q ∷ []) a c
+  made_then : MakesTables (done ++ q ∷ []) a c
   made_then = record {
-    places = λ roll. at roll (decide_roll roll q);
-    stand = λ roll. stand_at roll (decide_roll roll q);
-    apart = λ x y. apart_at x y (decide_roll x q) (decide_roll y q);
+    places = λ table. at table (decide_table table q);
+    ruled = λ table. ruled_at table (decide_table table q);
+    stand = λ table. stand_at table (decide_table table q);
+    apart = λ x y. apart_at x y (decide_table x q) (decide_table y q);
     others = λ t listed.
         let was = m.others t listed in
         let is = n.others t was.0 in
-        (is.0, is.1 ∙ was.1, λ roll. other_at t is.2 was.2 roll (decide_roll roll q));
+        (is.0, is.1 ∙ was.1, λ table. other_at t is.2 was.2 table (decide_table table q));
   }
 
 -- the same of the statements that make them
-pub made_more : (i : ℕ) (all : List Roll) (d : Roll) (a b c : Seen) → i < length all → Stays (MakesRolls (take i all)) a b → HasStepped (Makes (table_of (get_or all i d)) []) b c
-    → Stays (MakesRolls (take (i + 1) all)) a c
+pub made_more : (i : ℕ) (all : List Table) (d : Table) (a b c : Seen) → i < length all → Stays (MakesTables (take i all)) a b → HasStepped (Makes (table_at (get_or all i d)) (checks_of (get_or all i d)) []) b c
+    → Stays (MakesTables (take (i + 1) all)) a c
 made_more i all d a b c low p n =
     let q = get_or all i d in
-    subst (λ rs. Stays (MakesRolls rs) a c) (sym (take_more all i d low))
-    (stays_then (MakesRolls (take i all)) (Makes (table_of q) []) (MakesRolls (take i all ++ q ∷ [])) a b c (made_then (take i all) q a.now b.now c.now) p n)
+    subst (λ rs. Stays (MakesTables rs) a c) (sym (take_more all i d low))
+    (stays_then (MakesTables (take i all)) (Makes (table_at q) (checks_of q) []) (MakesTables (take i all ++ q ∷ [])) a b c (made_then (take i all) q a.now b.now c.now) p n)
 
 -- each of them was made
-pub made_all : (i : ℕ) (all : List Roll) (a b : Seen) → length all ≤ i → Stays (MakesRolls (take i all)) a b → Stays (MakesRolls all) a b
-made_all i all a b end = subst (λ rs. Stays (MakesRolls rs) a b) (take_all i all end)
+pub made_all : (i : ℕ) (all : List Table) (a b : Seen) → length all ≤ i → Stays (MakesTables (take i all)) a b → Stays (MakesTables all) a b
+made_all i all a b end = subst (λ rs. Stays (MakesTables rs) a b) (take_all i all end)
 
--- the tables of all rolls beside that of the edition
-empty_stands : (a b c : Database) → Makes edition_table first_edition a b → MakesRolls rolls b c → StandsFor c empty
-empty_stands a b c m n =
-    let kept = n.others (edition_table m.place) m.stands.listed in
+-- the tables, once that of the edition has its row
+empty_stands : (row : List Value) → row ∷ [] ≡ first_edition → (a b c : Database) → MakesTables kept a b → Adds (table_at Edition) row b c → StandsFor c empty
+empty_stands row is a b c m n =
+    let first : Has kept Edition = inl refl in
+    let done = n (m.places Edition) [] (m.stand Edition first) in
     record {
-      edition = m.place;
-      places = n.places;
-      edition_apart = λ roll same. kept.2 roll (every roll) (sym same);
-      apart = λ x y. n.apart x y (every x) (every y);
+      edition = m.places Edition;
+      places = m.places;
+      edition_apart = λ table among. m.apart table Edition (inr (among_rolls table among)) first (apart_edition table among);
+      apart = λ x y p q. m.apart x y (inr (among_rolls x p)) (inr (among_rolls y q));
       list = [];
       at = no_rows;
-      editions = stands_kept edition_table m.place refl first_edition b c kept.0 kept.1 m.stands;
-      rolls = λ roll. n.stand roll (every roll);
+      editions = subst (λ all. Stands (table_at Edition) (m.places Edition) all c) is done.0;
+      rolls = λ table among.
+          stands_apart (table_at table) (m.places table) refl [] (m.places Edition).tree b c (m.apart table Edition (inr (among_rolls table among)) first (apart_edition table among)) done.1 (m.stand table (inr (among_rolls table among)));
     }
 
--- the tables were made one after the other
-pub founded : (a b c : Seen) → HasStepped (Makes edition_table first_edition) a b → Stays (MakesRolls rolls) b c → HasStepped Empties a c
-unfolding Empties
-founded a b c m n = stepped_stays (Makes edition_table first_edition) (MakesRolls rolls) Empties a b c (empty_stands a.now b.now c.now) m n
+-- and that they have the rules
+ruled_so : (row : List Value) (a b c : Database) → MakesTables kept a b → Adds (table_at Edition) row b c → AreRuled c.schema
+unfolding AreRuled
+ruled_so row a b c m n table among place listed =
+    let first : Has kept Edition = inl refl in
+    let done = n (m.places Edition) [] (m.stand Edition first) in
+    let here = subst (λ (s : Schema). Lists s (table_at table (m.places table))) (sym done.1.schema) (m.stand table among).listed in
+    ap (λ (t : AnyTable). t.checks) (listed_once c.schema (table_at table) place (m.places table) refl listed here) ∙ m.ruled table among
 
--- the same of a call that made the last of them
-pub founded_call : {E : Type 0} (a b c : Seen) (r : Result (Unit {0}) E) → HasStepped (Makes edition_table first_edition) a b → OnOk r (Stays (MakesRolls rolls) b c) → OnOk r (HasStepped Empties a c)
-founded_call a b c (Ok u) m n = founded a b c m n
-founded_call a b c (Err e) m n = n
+-- the tables were made one after the other, and then the edition was written
+pub founded : (row : List Value) → row ∷ [] ≡ first_edition → (a b c : Seen) → Stays (MakesTables kept) a b → HasStepped (Adds (table_at Edition) row) b c → HasStepped Empties a c
+unfolding Empties
+founded row is a b c m n = stays_stepped (MakesTables kept) (Adds (table_at Edition) row) Empties a b c (λ p q. (empty_stands row is a.now b.now c.now p q, ruled_so row a.now b.now c.now p q)) m n
 
 -- the tables were made where there were none
 pub opens_new : (old new : Database) (office : State) → HasNone old.schema → office ≡ empty → Empties old new → Opens old new office
 unfolding Empties
-opens_new old new office none is made = inl (none, is, made)
+opens_new old new office none is made = inl (none, is, made.0, made.1)
 
 -- what a crash leaves of the making
 pub founds_left : (old : Database) (trees : Trees) → HasNone old.schema → IsLeft Empties old trees → IsLeft Founds old trees
 unfolding Empties
-founds_left old trees none h = (h.0, record { none = none; stands = h.1 }, h.2)
+founds_left old trees none h = (h.0, record { none = none; stands = h.1.0; ruled = h.1.1 }, h.2)

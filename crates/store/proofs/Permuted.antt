@@ -14,9 +14,11 @@ use Rattle.rolls.specs.declared.row.Row.TheVariants as row
 use Rattle.rolls.specs.declared.row.RowKey.{RowKey}
 use Rattle.rolls.specs.Rows.{key_of, same_row}
 use Rattle.rolls.specs.From.{row_in, are_apart}
-use Rattle.store.specs.declared.roll.Roll.{Roll}
-use Rattle.store.specs.declared.roll.Roll.TheVariants.{Supervisors, Projects, Students}
-use Rattle.store.specs.Rows.{columns, is_in, columns_of, rolls, AreRowsAt}
+use Rattle.tables.specs.declared.table.Table.{Table}
+use Rattle.tables.specs.declared.table.Table.TheVariants.{Supervisor, Project}
+use Rattle.store.specs.Rows.{IsRoll, columns, is_in, columns_of, rolls, table_of, AreRowsAt}
+use Rattle.tables.proofs.Runs.{same_table_is}
+use Rattle.store.proofs.Columns.{is_roll}
 use Rattle.store.proofs.Keys.{same_row_is, same_row_by, same_row_turned}
 
 -- ---- what is among permuted rows
@@ -115,56 +117,58 @@ number_in (Real x) = 0
 number_in (Text t) = 0
 number_in (Blob b) = 0
 
--- the row of a roll with these columns
-row_from : Roll → Cells → Row
-row_from Supervisors v = row.Supervisor (text_in (column v 0)) (text_in (column v 1)) (number_in (column v 2))
-row_from Projects v = row.Project (text_in (column v 0)) (text_in (column v 1)) (text_in (column v 2)) (number_in (column v 3))
-row_from Students v = row.Student (text_in (column v 0)) (text_in (column v 1))
+-- the row of a table with these columns
+row_from : Table → Cells → Row
+row_from Supervisor v = row.Supervisor (text_in (column v 0)) (text_in (column v 1)) (number_in (column v 2))
+row_from Project v = row.Project (text_in (column v 0)) (text_in (column v 1)) (text_in (column v 2)) (number_in (column v 3))
+row_from _ v = row.Student (text_in (column v 0)) (text_in (column v 1))
 
-from_columns : (roll : Roll) (r : Row) → is_in roll r ≡ true → row_from roll (columns r) ≡ r
+own_columns : (r : Row) → row_from (table_of r) (columns r) ≡ r
 unfolding row_from text_in number_in natural
-from_columns Supervisors (row.Supervisor c l n) h = refl
-from_columns Projects (row.Project c l s n) h = refl
-from_columns Students (row.Student c l) h = refl
-from_columns _ _ h = absurd (cc)
+own_columns (row.Supervisor c l n) = refl
+own_columns (row.Project c l s n) = refl
+own_columns (row.Student c l) = refl
 
-back_go : (roll : Roll) (r : Row) (rest : List Row) (b : Bool) → is_in roll r ≡ b → map (row_from roll) (map columns (filter (is_in roll) rest)) ≡ filter (is_in roll) rest
-    → map (row_from roll) (map columns (cond b (r ∷ filter (is_in roll) rest) (filter (is_in roll) rest))) ≡ cond b (r ∷ filter (is_in roll) rest) (filter (is_in roll) rest)
-back_go roll r rest true is later = λ i. from_columns roll r is i ∷ later i
-back_go roll r rest false is later = later
+from_columns : (table : Table) (r : Row) → is_in table r ≡ true → row_from table (columns r) ≡ r
+from_columns table r h = subst (λ t. row_from t (columns r) ≡ r) (sym (same_table_is table (table_of r) h)) (own_columns r)
 
-back : (roll : Roll) (rows : List Row) → map (row_from roll) (columns_of roll rows) ≡ filter (is_in roll) rows
-back roll [] = refl
-back roll (r ∷ rest) = back_go roll r rest (is_in roll r) refl (back roll rest)
+back_go : (table : Table) (r : Row) (rest : List Row) (b : Bool) → is_in table r ≡ b → map (row_from table) (map columns (filter (is_in table) rest)) ≡ filter (is_in table) rest
+    → map (row_from table) (map columns (cond b (r ∷ filter (is_in table) rest) (filter (is_in table) rest))) ≡ cond b (r ∷ filter (is_in table) rest) (filter (is_in table) rest)
+back_go table r rest true is later = λ i. from_columns table r is i ∷ later i
+back_go table r rest false is later = later
 
-rolls_permuted : (roll : Roll) (xs ys : List Row) → IsPermutation (columns_of roll xs) (columns_of roll ys) → IsPermutation (filter (is_in roll) xs) (filter (is_in roll) ys)
-rolls_permuted roll xs ys same = subst₂ IsPermutation (back roll xs) (back roll ys) (IsPermutation-map (row_from roll) _ _ same)
+back : (table : Table) (rows : List Row) → map (row_from table) (columns_of table rows) ≡ filter (is_in table) rows
+back table [] = refl
+back table (r ∷ rest) = back_go table r rest (is_in table r) refl (back table rest)
+
+rolls_permuted : (table : Table) (xs ys : List Row) → IsPermutation (columns_of table xs) (columns_of table ys) → IsPermutation (filter (is_in table) xs) (filter (is_in table) ys)
+rolls_permuted table xs ys same = subst₂ IsPermutation (back table xs) (back table ys) (IsPermutation-map (row_from table) _ _ same)
 
 -- the rows of the first of these rolls, then those of the next
-gathered : List Roll → List Row → List Row
+gathered : List Table → List Row → List Row
 gathered [] rows = []
 gathered (q ∷ qs) rows = filter (is_in q) rows ++ gathered qs rows
 
 -- whether the row is of one of the rolls, and of one alone
-is_of_one : List Roll → Row → Bool
+is_of_one : List Table → Row → Bool
 is_of_one [] r = false
 is_of_one (q ∷ qs) r = cond (is_in q r) (not (list_any (λ p. is_in p r) qs)) (is_of_one qs r)
 
-gathered_beside : (qs : List Roll) (r : Row) (rest : List Row) → list_any (λ p. is_in p r) qs ≡ false → gathered qs (r ∷ rest) ≡ gathered qs rest
+gathered_beside : (qs : List Table) (r : Row) (rest : List Row) → list_any (λ p. is_in p r) qs ≡ false → gathered qs (r ∷ rest) ≡ gathered qs rest
 unfolding gathered
 gathered_beside [] r rest none = refl
 gathered_beside (q ∷ qs) r rest none =
     let parts = or_parts _ _ none in
     λ i. cond (parts.0 i) (r ∷ filter (is_in q) rest) (filter (is_in q) rest) ++ gathered_beside qs r rest parts.1 i
 
-more_go : (q : Roll) (qs : List Roll) (r : Row) (rest : List Row) (b : Bool) → cond b (not (list_any (λ p. is_in p r) qs)) (is_of_one qs r) ≡ true
+more_go : (q : Table) (qs : List Table) (r : Row) (rest : List Row) (b : Bool) → cond b (not (list_any (λ p. is_in p r) qs)) (is_of_one qs r) ≡ true
     → (is_of_one qs r ≡ true → IsPermutation (r ∷ gathered qs rest) (gathered qs (r ∷ rest)))
     → IsPermutation (r ∷ (filter (is_in q) rest ++ gathered qs rest)) (cond b (r ∷ filter (is_in q) rest) (filter (is_in q) rest) ++ gathered qs (r ∷ rest))
 more_go q qs r rest true one later =
     subst (λ more. IsPermutation (r ∷ (filter (is_in q) rest ++ gathered qs rest)) (r ∷ (filter (is_in q) rest ++ more))) (sym (gathered_beside qs r rest (not-true _ one))) (IsPermutation-refl _)
 more_go q qs r rest false one later = IsPermutation-trans _ _ _ (IsPermutation-sym _ _ (IsPermutation-middle (filter (is_in q) rest) r _)) (IsPermutation-append_right (filter (is_in q) rest) _ _ (later one))
 
-gathered_more : (qs : List Roll) (r : Row) (rest : List Row) → is_of_one qs r ≡ true → IsPermutation (r ∷ gathered qs rest) (gathered qs (r ∷ rest))
+gathered_more : (qs : List Table) (r : Row) (rest : List Row) → is_of_one qs r ≡ true → IsPermutation (r ∷ gathered qs rest) (gathered qs (r ∷ rest))
 unfolding gathered is_of_one
 gathered_more [] r rest one = absurd (cc)
 gathered_more (q ∷ qs) r rest one = more_go q qs r rest (is_in q r) one (gathered_more qs r rest)
@@ -183,12 +187,12 @@ sorted (r ∷ rest) = IsPermutation-trans _ _ _ (IsPermutation-cons _ _ _ (sorte
 beside : (a b c d : List Row) → IsPermutation a b → IsPermutation c d → IsPermutation (a ++ c) (b ++ d)
 beside a b c d p q = IsPermutation-trans _ _ _ (IsPermutation-append_left c a b p) (IsPermutation-append_right b c d q)
 
-gathered_permuted : (qs : List Roll) (xs ys : List Row) → ((roll : Roll) → IsPermutation (filter (is_in roll) xs) (filter (is_in roll) ys)) → IsPermutation (gathered qs xs) (gathered qs ys)
+gathered_permuted : (qs : List Table) (xs ys : List Row) → ((table : Table) → Has qs table → IsPermutation (filter (is_in table) xs) (filter (is_in table) ys)) → IsPermutation (gathered qs xs) (gathered qs ys)
 unfolding gathered
 gathered_permuted [] xs ys each = IsPermutation-refl _
-gathered_permuted (q ∷ qs) xs ys each = beside _ _ _ _ (each q) (gathered_permuted qs xs ys each)
+gathered_permuted (q ∷ qs) xs ys each = beside _ _ _ _ (each q (inl refl)) (gathered_permuted qs xs ys (λ table h. each table (inr h)))
 
 -- rows whose columns are the same in each table are the same
-pub permuted_by_rolls : (xs ys : List Row) → ((roll : Roll) → IsPermutation (columns_of roll xs) (columns_of roll ys)) → IsPermutation xs ys
+pub permuted_by_rolls : (xs ys : List Row) → ((table : Table) → IsRoll table → IsPermutation (columns_of table xs) (columns_of table ys)) → IsPermutation xs ys
 permuted_by_rolls xs ys same =
-    IsPermutation-trans _ _ _ (sorted xs) (IsPermutation-trans _ _ _ (gathered_permuted rolls xs ys (λ roll. rolls_permuted roll xs ys (same roll))) (IsPermutation-sym _ _ (sorted ys)))
+    IsPermutation-trans _ _ _ (sorted xs) (IsPermutation-trans _ _ _ (gathered_permuted rolls xs ys (λ table among. rolls_permuted table xs ys (same table (is_roll table among)))) (IsPermutation-sym _ _ (sorted ys)))

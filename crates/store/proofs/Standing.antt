@@ -28,8 +28,3 @@ holds_as db rows others same t = record {
 pub stands_after : (changes : List Change) (old new : Database) (office then : State) → Turns changes office then → Saves changes old new → StandsFor old office → StandsFor new then
 unfolding Saves
 stands_after changes old new office then turns saves t = holds_as new (after_changes changes (row_of office)) (row_of then) turns (saves (row_of office) t)
-
--- so does what a crash leaves of them
-pub left_after : (changes : List Change) (old : Database) (trees : Trees) (office then : State) → Turns changes office then → StandsFor old office → IsLeft (Saves changes) old trees
-    → (db : Database) × (trees ≡ db.trees) × StandsFor db then
-left_after changes old trees office then turns t h = (h.0, h.2, stands_after changes old h.0 office then turns h.1 t)

@@ -7,12 +7,13 @@ use Rattle.rolls.specs.declared.row.Row.{Row}
 use Rattle.rolls.specs.declared.row.Row.TheVariants as row
 use Rattle.rolls.specs.State.{State}
 use Rattle.rolls.specs.Fit.{IsFit}
-use Rattle.store.specs.declared.roll.Roll.{Roll}
-use Rattle.store.specs.Rows.{columns, is_in, columns_of, rolls, table_of}
+use Rattle.tables.specs.declared.table.Table.{Table}
+use Rattle.tables.specs.declared.table.Table.TheVariants.{Edition}
+use Rattle.store.specs.Rows.{IsRoll, columns, is_in, columns_of, rolls}
 use Rattle.sqlite.specs.Schema.{Schema}
 use Rattle.sqlite.specs.State.{State as Seen, IsUnchanged}
 use Rattle.sqlite_rules.specs.Lists.{Has}
-use Rattle.tables.specs.Table.{Place, Lists, edition_table}
+use Rattle.tables.specs.Table.{Place, Lists, table_at}
 use Rattle.tables.specs.Keyed.{Stands}
 use Rattle.store.specs.Tables.{StandsFor}
 
@@ -22,72 +23,72 @@ IsTyped (row.Supervisor code label quota) = IsUtf8 code × IsUtf8 label × (quot
 IsTyped (row.Project code label supervisor quota) = IsUtf8 code × IsUtf8 label × IsUtf8 supervisor × (quota < 2 ^ 32)
 IsTyped (row.Student code label) = IsUtf8 code × IsUtf8 label
 
--- no row of the roll that the program can have has these columns
-abbrev pub IsNoRow : Roll → Cells → Type 0
-IsNoRow roll cells = (row : Row) → is_in roll row ≡ true → IsTyped row → columns row ≢ cells
+-- no row of the table that the program can have has these columns
+abbrev pub IsNoRow : Table → Cells → Type 0
+IsNoRow table cells = (row : Row) → is_in table row ≡ true → IsTyped row → columns row ≢ cells
 
--- the rows of the roll whose columns these are, each after its rowid
-pub record AreRowsOf (roll : Roll) (cells : List Cells) (rows : List Row) : Type 0 where
+-- the rows of the table whose columns these are, each after its rowid
+pub record AreRowsOf (table : Table) (cells : List Cells) (rows : List Row) : Type 0 where
   pub columns : map columns rows ≡ map (drop 1) cells
-  pub kind : list_all (is_in roll) rows ≡ true
+  pub kind : list_all (is_in table) rows ≡ true
 
--- the product's tables are listed with their columns and rules, each in a tree of its own
+-- the tables of the store are listed with their columns and rules, each in a tree of its own
 pub record AreListed (schema : Schema) : Type 0 where
   pub edition : Place
-  pub places : Roll → Place
-  pub edition_apart : (roll : Roll) → (places roll).tree ≢ edition.tree
-  pub apart : (a b : Roll) → a ≢ b → (places a).tree ≢ (places b).tree
-  pub edition_listed : Lists schema (edition_table edition)
-  pub rolls_listed : (roll : Roll) → Lists schema (table_of roll (places roll))
+  pub places : Table → Place
+  pub edition_apart : (table : Table) → IsRoll table → (places table).tree ≢ edition.tree
+  pub apart : (a b : Table) → IsRoll a → IsRoll b → a ≢ b → (places a).tree ≢ (places b).tree
+  pub edition_listed : Lists schema (table_at Edition edition)
+  pub rolls_listed : (table : Table) → IsRoll table → Lists schema (table_at table (places table))
 
--- the table of this roll is not listed in this tree
-abbrev pub IsElsewhere : Roll → ℕ → Schema → Type 0
-IsElsewhere roll tree schema = (place : Place) → Lists schema (table_of roll place) → place.tree ≢ tree
+-- the table is not listed in this tree
+abbrev pub IsElsewhere : Table → ℕ → Schema → Type 0
+IsElsewhere table tree schema = (place : Place) → Lists schema (table_at table place) → place.tree ≢ tree
 
 -- no table of another roll is listed in this tree
-abbrev pub IsAlone : Roll → ℕ → Schema → Type 0
-IsAlone roll tree schema = (other : Roll) → other ≢ roll → IsElsewhere other tree schema
+abbrev pub IsAlone : Table → ℕ → Schema → Type 0
+IsAlone table tree schema = (other : Table) → IsRoll other → other ≢ table → IsElsewhere other tree schema
 
--- the table of the roll is listed with its columns and rules, and in its tree is neither that of the edition nor one of another roll
-pub record IsListedAlone (edition : ℕ) (schema : Schema) (roll : Roll) : Type 0 where
+-- the table is listed with its columns and rules, and in its tree is neither that of the edition nor one of another roll
+pub record IsListedAlone (edition : ℕ) (schema : Schema) (table : Table) : Type 0 where
   pub place : Place
-  pub listed : Lists schema (table_of roll place)
+  pub listed : Lists schema (table_at table place)
   pub from_edition : place.tree ≢ edition
-  pub alone : IsAlone roll place.tree schema
+  pub alone : IsAlone table place.tree schema
 
--- wherever the table of the roll is listed it holds these columns
-abbrev pub HoldsCells : Roll → List Cells → Database → Type 0
-HoldsCells roll cells db = (place : Place) → Lists db.schema (table_of roll place) → nat_lt place.tree (2 ^ 31) ≡ true → Stands (table_of roll) place cells db
+-- wherever the table is listed it holds these columns
+abbrev pub HoldsCells : Table → List Cells → Database → Type 0
+HoldsCells table cells db = (place : Place) → Lists db.schema (table_at table place) → nat_lt place.tree (2 ^ 31) ≡ true → Stands (table_at table) place cells db
 
--- a roll was read, and nothing has changed
-pub record ReadsRoll (roll : Roll) (rows : List Row) (old new : Seen) : Type 0 where
+-- a table was read, and nothing has changed
+pub record ReadsTable (table : Table) (rows : List Row) (old new : Seen) : Type 0 where
   pub same : IsUnchanged old new
-  pub kind : list_all (is_in roll) rows ≡ true
-  pub holds : HoldsCells roll (map columns rows) old.now
+  pub kind : list_all (is_in table) rows ≡ true
+  pub holds : HoldsCells table (map columns rows) old.now
 
--- the table of a roll holds columns that no row has
-pub record HoldsNoRow (roll : Roll) (db : Database) : Type 0 where
+-- a table holds columns that no row has
+pub record HoldsNoRow (table : Table) (db : Database) : Type 0 where
   pub all : List Cells
   pub cells : Cells
   pub among : Has all cells
-  pub none : IsNoRow roll cells
-  pub holds : HoldsCells roll all db
+  pub none : IsNoRow table cells
+  pub holds : HoldsCells table all db
 
 -- each roll was read, and nothing has changed
 pub record ReadsAll (rows : List Row) (old new : Seen) : Type 0 where
   pub same : IsUnchanged old new
-  pub holds : (roll : Roll) → HoldsCells roll (columns_of roll rows) old.now
+  pub holds : (table : Table) → IsRoll table → HoldsCells table (columns_of table rows) old.now
 
 -- so many of the rolls were read, if any, and nothing has changed
 pub record ReadsSome (count : ℕ) (rows : List Row) (old new : Seen) : Type 0 where
   pub opened : ((count ≡ 0) × (new.is_open ≡ old.is_open)) ⊎ IsTrue old.is_open
   pub same : IsTrue old.is_open → IsUnchanged old new
-  pub holds : (roll : Roll) → Has (take count rolls) roll → HoldsCells roll (columns_of roll rows) old.now
-  pub others : (roll : Roll) → (Has (take count rolls) roll → ⊥) → columns_of roll rows ≡ []
+  pub holds : (table : Table) → Has (take count rolls) table → HoldsCells table (columns_of table rows) old.now
+  pub others : (table : Table) → (Has (take count rolls) table → ⊥) → columns_of table rows ≡ []
 
 -- one of the rolls holds columns that no row has
 abbrev pub HoldsUnread : Seen → Type 0
-HoldsUnread old = IsTrue old.is_open × (roll : Roll) × HoldsNoRow roll old.now
+HoldsUnread old = IsTrue old.is_open × (table : Table) × IsRoll table × HoldsNoRow table old.now
 
 -- the tables stand for no fit office
 abbrev pub IsDamaged : Database → Type 0

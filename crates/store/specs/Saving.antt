@@ -1,45 +1,56 @@
 -- What saving changes does to the tables.
-use Rattle.std.specs.Prelude.{◌≡◌, List, Option}
+use Rattle.std.specs.Prelude.{◌≡◌, ◌≢◌, List, Option}
 use Rattle.sqlite.specs.Schema.{Schema}
-use Rattle.sqlite.specs.Table.{Table}
+use Rattle.sqlite.specs.Table.{Table as AnyTable}
+use Rattle.sqlite_rules.specs.Lists.{Has}
+use Rattle.tables.specs.declared.table.Table.{Table}
 use Rattle.sqlite.specs.Effect.{Database}
 use Rattle.rolls.specs.declared.row.Row.{Row}
 use Rattle.rolls.specs.declared.row.RowKey.{RowKey}
 use Rattle.rolls.specs.declared.row.Change.{Change}
 use Rattle.rolls.specs.Rows.{after_change, after_changes}
-use Rattle.tables.specs.Table.{Place, Lists}
-use Rattle.store.specs.Rows.{table_of}
-use Rattle.store.specs.declared.roll.Roll.{Roll}
+use Rattle.tables.specs.Table.{Place, Lists, table_at}
+use Rattle.store.specs.Rows.{IsRoll}
 use Rattle.tables.specs.Writes.{IsInert}
 use Rattle.tables.specs.Inert.{IsActedOn}
 use Rattle.store.specs.Tables.{TablesHold}
 
 -- no foreign key acts on this table, wherever it is listed
-abbrev pub IsLeftAlone : (Place → Table) → Schema → Type 0
-IsLeftAlone table schema = (place : Place) → Lists schema (table place) → IsInert schema place.tree
+abbrev pub IsLeftAlone : Table → Schema → Type 0
+IsLeftAlone table schema = (place : Place) → Lists schema (table_at table place) → IsInert schema place.tree
 
--- no foreign key of another table acts on the product's tables
+-- no foreign key of another table acts on the tables of the rolls
 abbrev pub AreInert : Schema → Type 0
-AreInert schema = (roll : Roll) → IsLeftAlone (table_of roll) schema
+AreInert schema = (table : Table) → IsRoll table → IsLeftAlone table schema
 
--- a foreign key acts on the table of this roll
-abbrev pub IsActedOnAt : Roll → Schema → Type 0
-IsActedOnAt roll schema = (place : Place) × Lists schema (table_of roll place) × IsActedOn schema.tables place.tree
+-- a foreign key acts on this table
+abbrev pub IsActedOnAt : Table → Schema → Type 0
+IsActedOnAt table schema = (place : Place) × Lists schema (table_at table place) × IsActedOn schema.tables place.tree
 
--- a foreign key of another table acts on one of the product's tables
+-- a foreign key of another table acts on one of the tables of the rolls
 abbrev pub AreActedOn : Schema → Type 0
-AreActedOn schema = (roll : Roll) × IsActedOnAt roll schema
+AreActedOn schema = (table : Table) × IsRoll table × IsActedOnAt table schema
 
 -- whatever rows the tables held, they hold those after the changes
 unfoldable pub Saves : List Change → Database → Database → Type 0
 Saves changes old new = (rows : RowKey → Option Row) → TablesHold old rows → TablesHold new (after_changes changes rows)
 
--- the same, of a run of statements: the schema stays as it is
+-- the schema is as it was, and so is each table of it in whose tree no roll is listed
+pub record Spares (old new : Database) : Type 0 where
+  pub schema : new.schema ≡ old.schema
+  pub others : (t : AnyTable) → Has old.schema.tables t → ((table : Table) → IsRoll table → (place : Place) → Lists old.schema (table_at table place) → t.tree ≢ place.tree)
+      → new.trees t.tree ≡ old.trees t.tree
+
+-- where the tables held rows, the other tables are left alone
+unfoldable pub LeavesOthers : Database → Database → Type 0
+LeavesOthers old new = (rows : RowKey → Option Row) → TablesHold old rows → Spares old new
+
+-- the same, of a run of statements, which spare the other tables
 unfoldable pub Applies : List Change → Database → Database → Type 0
 Applies changes old new =
-    AreInert old.schema → (rows : RowKey → Option Row) → TablesHold old rows → TablesHold new (after_changes changes rows) × (new.schema ≡ old.schema)
+    AreInert old.schema → (rows : RowKey → Option Row) → TablesHold old rows → TablesHold new (after_changes changes rows) × Spares old new
 
 -- the same, of one change
 unfoldable pub AppliesOne : Change → Database → Database → Type 0
 AppliesOne change old new =
-    AreInert old.schema → (rows : RowKey → Option Row) → TablesHold old rows → TablesHold new (after_change change rows) × (new.schema ≡ old.schema)
+    AreInert old.schema → (rows : RowKey → Option Row) → TablesHold old rows → TablesHold new (after_change change rows) × Spares old new

@@ -1,9 +1,9 @@
 -- When the tables of a database hold the rows of an office.
-use Rattle.std.specs.Prelude.{◌≡◌, ◌≢◌, ◌⊎◌, pos, false, List, [], ◌∷◌, Option, is_some, codes}
+use Rattle.std.specs.Prelude.{◌≡◌, ◌≢◌, ◌⊎◌, pos, false, List, [], ◌∷◌, Option, is_some}
 use Rattle.sqlite.specs.declared.types.Value.TheVariants.{Int}
 use Rattle.sqlite.specs.Order.{Row as Cells}
 use Rattle.sqlite.specs.Schema.{Schema}
-use Rattle.sqlite.specs.Table.{Table}
+use Rattle.sqlite.specs.Table.{Table as AnyTable}
 use Rattle.sqlite.specs.Tree.{Trees}
 use Rattle.sqlite.specs.Effect.{Database}
 use Rattle.sqlite.specs.State.{State as Seen}
@@ -13,58 +13,62 @@ use Rattle.rolls.specs.declared.row.Row.{Row}
 use Rattle.rolls.specs.declared.row.RowKey.{RowKey}
 use Rattle.rolls.specs.Rows.{row_of}
 use Rattle.rolls.specs.State.{State, empty}
-use Rattle.tables.specs.Table.{Place, Lists, edition_table}
+use Rattle.tables.specs.declared.table.Table.{Table}
+use Rattle.tables.specs.declared.table.Table.TheVariants.{Edition}
+use Rattle.tables.specs.Table.{Place, Lists, checks_of, shape_of, table_at}
 use Rattle.tables.specs.Keyed.{Stands}
-use Rattle.store.specs.Rows.{AreRowsAt, columns_of, table_of}
-use Rattle.store.specs.declared.roll.Roll.{Roll}
+use Rattle.store.specs.Rows.{AreRowsAt, IsRoll, columns_of, kept}
 
 -- the one row of `edition`: its number is 1
 abbrev pub first_edition : List Cells
 first_edition = (Int (pos 1) ∷ Int (pos 1) ∷ []) ∷ []
 
--- The product's tables are listed with their columns and rules, each in a tree of its own, and at each key
+-- The tables of the store are listed with their columns and rules, each in a tree of its own, and at each key
 -- there is exactly this row. What else the schema lists is not looked at.
 pub record TablesHold (db : Database) (rows : RowKey → Option Row) : Type 0 where
   pub edition : Place
-  pub places : Roll → Place
-  pub edition_apart : (roll : Roll) → (places roll).tree ≢ edition.tree
-  pub apart : (a b : Roll) → a ≢ b → (places a).tree ≢ (places b).tree
+  pub places : Table → Place
+  pub edition_apart : (table : Table) → IsRoll table → (places table).tree ≢ edition.tree
+  pub apart : (a b : Table) → IsRoll a → IsRoll b → a ≢ b → (places a).tree ≢ (places b).tree
   pub list : List Row
   pub at : AreRowsAt list rows
-  pub editions : Stands edition_table edition first_edition db
-  pub rolls : (roll : Roll) → Stands (table_of roll) (places roll) (columns_of roll list) db
+  pub editions : Stands (table_at Edition) edition first_edition db
+  pub rolls : (table : Table) → IsRoll table → Stands (table_at table) (places table) (columns_of table list) db
 
 -- the tables hold the rows of this office, and nothing else
 abbrev pub StandsFor : Database → State → Type 0
 StandsFor db office = TablesHold db (row_of office)
 
--- none of the product's tables is there
-pub record HasNone (schema : Schema) : Type 0 where
-  pub edition : is_some (table_named schema (codes "edition")) ≡ false
-  pub supervisor : is_some (table_named schema (codes "supervisor")) ≡ false
-  pub project : is_some (table_named schema (codes "project")) ≡ false
-  pub student : is_some (table_named schema (codes "student")) ≡ false
+-- none of the tables of the store is there
+abbrev pub HasNone : Schema → Type 0
+HasNone schema = (table : Table) → Has kept table → is_some (table_named schema (shape_of table).name) ≡ false
 
--- Each of these rolls has got its table, with no rows, in a tree of its own, while the tables that the schema had are
+-- the tables of the store have the CHECK rules that are made here
+unfoldable pub AreRuled : Schema → Type 0
+AreRuled schema = (table : Table) → Has kept table → (place : Place) → Lists schema (table_at table place) → place.checks ≡ checks_of table
+
+-- Each of these tables was made, with its CHECK rules and no rows, in a tree of its own, while the tables that the schema had are
 -- listed as before, with their rows.
-pub record MakesRolls (rolls : List Roll) (old new : Database) : Type 0 where
-  pub places : Roll → Place
-  pub stand : (roll : Roll) → Has rolls roll → Stands (table_of roll) (places roll) [] new
-  pub apart : (a b : Roll) → Has rolls a → Has rolls b → a ≢ b → (places a).tree ≢ (places b).tree
-  pub others : (t : Table) → Lists old.schema t → Lists new.schema t × (new.trees t.tree ≡ old.trees t.tree) × ((roll : Roll) → Has rolls roll → t.tree ≢ (places roll).tree)
+pub record MakesTables (tables : List Table) (old new : Database) : Type 0 where
+  pub places : Table → Place
+  pub ruled : (table : Table) → Has tables table → (places table).checks ≡ checks_of table
+  pub stand : (table : Table) → Has tables table → Stands (table_at table) (places table) [] new
+  pub apart : (a b : Table) → Has tables a → Has tables b → a ≢ b → (places a).tree ≢ (places b).tree
+  pub others : (t : AnyTable) → Lists old.schema t → Lists new.schema t × (new.trees t.tree ≡ old.trees t.tree) × ((table : Table) → Has tables table → t.tree ≢ (places table).tree)
 
 -- a database with none of the tables comes to stand for the empty office
 pub record Founds (old new : Database) : Type 0 where
   pub none : HasNone old.schema
   pub stands : StandsFor new empty
+  pub ruled : AreRuled new.schema
 
--- a database comes to stand for the empty office
+-- a database comes to stand for the empty office, in tables with the CHECK rules that are made here
 unfoldable pub Empties : Database → Database → Type 0
-Empties old new = StandsFor new empty
+Empties old new = StandsFor new empty × AreRuled new.schema
 
 -- what was opened: the empty office where none of the tables was there, and else the office that they stand for
 abbrev pub Opens : Database → Database → State → Type 0
-Opens old new office = (HasNone old.schema × (office ≡ empty) × StandsFor new empty) ⊎ ((new ≡ old) × StandsFor old office)
+Opens old new office = (HasNone old.schema × (office ≡ empty) × StandsFor new empty × AreRuled new.schema) ⊎ ((new ≡ old) × StandsFor old office)
 
 -- a crash leaves what is seen, and nothing else
 abbrev pub LeavesAlone : Seen → Type 0

@@ -1,71 +1,51 @@
 //! Making the tables.
 
-ghost use Rattle.std.specs.Prelude.{◌≡◌, ◌≢◌, [], IsTrue, false, OnOk, OnErr};
-ghost use Rattle.sqlite.specs.State.{HasCleanDisk, KeepsCommit, Survives};
+ghost use Rattle.std.specs.Prelude.{◌≡◌, ◌≢◌, IsTrue, false, OnOk, OnErr};
+ghost use Rattle.sqlite.specs.State.{HasCleanDisk, Survives};
 ghost use Rattle.sqlite.specs.Held.{state};
-ghost use Rattle.tables.specs.Steps.{HasSaved, HasStepped, IsKept, IsLeft, Stays};
-ghost use Rattle.tables.specs.Writes.{Makes};
-ghost use Rattle.store.specs.Rows.{table_of};
-ghost use Rattle.store.specs.Tables.{Empties, HasNone, MakesRolls};
+ghost use Rattle.tables.specs.Steps.{Does, HasSaved, HasStepped, IsKept, IsLeft, Stays};
+ghost use Rattle.store.specs.Tables.{Empties, HasNone, MakesTables};
 
 use crate::fault::StoreFault;
-use crate::roll::{ROLLS, Roll};
-use sqlite::{Alter, Connection, Transaction};
+use crate::kept::TABLES;
+use sqlite::{Alter, Connection, Transaction, params};
 use sqlite_schema::schema::Schema;
-use tables::edition::make_edition;
+use tables::Table;
 use tables::fault::TableFault;
 use tables::layout::has_table;
-use tables::project::create_project;
-use tables::student::create_student;
-use tables::supervisor::create_supervisor;
+use tables::statements::{insert, make};
 
 /// Whether none of the tables is there.
 pub fn has_none(schema: &Schema) -> bool
     ensures right { IsTrue result → HasNone schema.now }
     ensures wrong { result ≡ false → HasNone schema.now → ⊥ }
 {
-    !has_table(schema, "edition")
-        && !has_table(schema, "supervisor")
-        && !has_table(schema, "project")
-        && !has_table(schema, "student")
-}
-
-/// Makes the table of a roll.
-fn make_roll<S: Alter>(tx: &mut Transaction<'_, S>, roll: Roll) -> Result<(), TableFault>
-    ensures same_reference { tx.new.conn.ghost_name ≡ tx.old.conn.ghost_name }
-    ensures survives { Survives (state S.Store tx.old.conn.now) (state S.Store tx.new.conn.now) (λ _. ⊥) }
-    ensures stepped { HasCleanDisk (state S.Store tx.new.conn.now) → OnOk result (HasStepped (Makes (table_of roll) []) (state S.Store tx.old.conn.now) (state S.Store tx.new.conn.now)) }
-    ensures kept { HasCleanDisk (state S.Store tx.new.conn.now) → KeepsCommit (state S.Store tx.old.conn.now) (state S.Store tx.new.conn.now) }
-{
-    match roll {
-        Roll::Supervisors => create_supervisor(tx),
-        Roll::Projects => create_project(tx),
-        Roll::Students => create_student(tx),
+    for table in TABLES {
+        if has_table(schema, table) {
+            return false;
+        }
     }
+    true
 }
 
-/// Makes the table of each of these rolls.
-pub fn make_rolls<S: Alter>(tx: &mut Transaction<'_, S>, rolls: &[Roll]) -> Result<(), TableFault>
+/// Makes each of these tables.
+fn make_each<S: Alter>(tx: &mut Transaction<'_, S>, tables: &[Table]) -> Result<(), TableFault>
     ensures same_reference { tx.new.conn.ghost_name ≡ tx.old.conn.ghost_name }
-    ensures survives { Survives (state S.Store tx.old.conn.now) (state S.Store tx.new.conn.now) (λ _. ⊥) }
-    ensures stays { HasCleanDisk (state S.Store tx.new.conn.now) → OnOk result (Stays (MakesRolls rolls.now) (state S.Store tx.old.conn.now) (state S.Store tx.new.conn.now)) }
-    ensures kept { HasCleanDisk (state S.Store tx.new.conn.now) → KeepsCommit (state S.Store tx.old.conn.now) (state S.Store tx.new.conn.now) }
+    ensures step { Does (Stays (MakesTables tables.now)) result (state S.Store tx.old.conn.now) (state S.Store tx.new.conn.now) }
 {
-    for roll in rolls {
-        make_roll(tx, *roll)?;
+    for table in tables {
+        make(tx, *table)?;
     }
     Ok(())
 }
 
-/// Makes each table.
+/// Makes each table, and says that this is edition 1.
 fn make_tables<S: Alter>(tx: &mut Transaction<'_, S>) -> Result<(), TableFault>
     ensures same_reference { tx.new.conn.ghost_name ≡ tx.old.conn.ghost_name }
-    ensures survives { Survives (state S.Store tx.old.conn.now) (state S.Store tx.new.conn.now) (λ _. ⊥) }
-    ensures stepped { HasCleanDisk (state S.Store tx.new.conn.now) → OnOk result (HasStepped Empties (state S.Store tx.old.conn.now) (state S.Store tx.new.conn.now)) }
-    ensures kept { HasCleanDisk (state S.Store tx.new.conn.now) → KeepsCommit (state S.Store tx.old.conn.now) (state S.Store tx.new.conn.now) }
+    ensures step { Does (HasStepped Empties) result (state S.Store tx.old.conn.now) (state S.Store tx.new.conn.now) }
 {
-    make_edition(tx)?;
-    make_rolls(tx, &ROLLS)
+    make_each(tx, &TABLES)?;
+    insert(tx, Table::Edition, params![1, 1])
 }
 
 /// Makes the tables in one transaction.

@@ -8,14 +8,14 @@
 //! one transaction, and touches only the rows that they name; after a fault everything is as before; and each
 //! says what a crash leaves. Other tables are left alone. Begin with `specs/Tables.antt`, then `store.rt`.
 //!
-//! A further table is a roll more: a variant of `Roll` and of `ROLLS`, and an arm of each `match` over rolls.
+//! A further table of rows is one of `TABLES` and of `ROLLS` more, and an arm where rows are read and written.
 #![tactic(auto)]
 
 mod fault;
 mod founding;
+mod kept;
 mod quiet;
 mod reading;
-mod roll;
 mod rows;
 mod saving;
 mod store;

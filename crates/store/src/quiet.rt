@@ -1,44 +1,34 @@
-//! Whether other tables act on the product's.
+//! Whether other tables act on those of the rolls.
 
-ghost use Rattle.std.specs.Prelude.{◌≡◌, ◌↔◌, IsTrue, false, None, IfSome};
-ghost use Rattle.tables.specs.Layout.{IsListed, IsUnlisted};
-ghost use Rattle.store.specs.Rows.{table_of};
+ghost use Rattle.std.specs.Prelude.{◌≡◌, ◌↔◌, IsTrue, false};
 ghost use Rattle.store.specs.Saving.{AreActedOn, AreInert, IsActedOnAt, IsLeftAlone};
 
-use crate::roll::Roll;
+use crate::kept::ROLLS;
 use sqlite_schema::schema::Schema;
+use tables::Table;
 use tables::inert::is_inert;
-use tables::layout::{project_tree, student_tree, supervisor_tree};
+use tables::layout::tree_of;
 
-/// The tree of a roll's table, where it is listed as it is made here.
-pub fn tree_of(schema: &Schema, roll: Roll) -> Option<u32>
-    ensures some { IfSome result (IsListed (table_of roll) schema.now) }
-    ensures none { result ≡ None → IsUnlisted (table_of roll) schema.now }
+/// Whether no foreign key acts on the rows of a table.
+fn is_left(schema: &Schema, table: Table) -> bool
+    ensures sound { IsTrue result → IsLeftAlone table schema.now }
+    ensures exact { (result ≡ false) ↔ IsActedOnAt table schema.now }
 {
-    match roll {
-        Roll::Supervisors => supervisor_tree(schema),
-        Roll::Projects => project_tree(schema),
-        Roll::Students => student_tree(schema),
-    }
-}
-
-/// Whether no foreign key acts on the rows of a roll's table.
-fn is_left(schema: &Schema, roll: Roll) -> bool
-    ensures sound { IsTrue result → IsLeftAlone (table_of roll) schema.now }
-    ensures exact { (result ≡ false) ↔ IsActedOnAt roll schema.now }
-{
-    match tree_of(schema, roll) {
+    match tree_of(schema, table) {
         Some(tree) => is_inert(schema, tree),
         None => true,
     }
 }
 
-/// Whether no foreign key of another table acts on the product's tables.
+/// Whether no foreign key of another table acts on the tables of the rolls.
 pub fn are_left(schema: &Schema) -> bool
     ensures sound { IsTrue result → AreInert schema.now }
     ensures exact { (result ≡ false) ↔ AreActedOn schema.now }
 {
-    is_left(schema, Roll::Supervisors)
-        && is_left(schema, Roll::Projects)
-        && is_left(schema, Roll::Students)
+    for table in ROLLS {
+        if !is_left(schema, table) {
+            return false;
+        }
+    }
+    true
 }

@@ -5,15 +5,14 @@ ghost use Rattle.sqlite.specs.declared.types.Value.TheVariants.{Int};
 ghost use Rattle.sqlite.specs.Order.{column};
 ghost use Rattle.sqlite.specs.State.{HasCleanDisk, IsUnchanged, Survives};
 ghost use Rattle.sqlite.specs.Held.{state};
-ghost use Rattle.tables.specs.Steps.{Rests, Shows};
-ghost use Rattle.store.specs.Rows.{table_of};
+ghost use Rattle.tables.specs.Table.{table_at};
+ghost use Rattle.tables.specs.Steps.{Rests};
 ghost use Rattle.store.specs.Tables.{StandsFor, first_edition};
 ghost use Rattle.tables.specs.Layout.{IsListed};
-ghost use Rattle.store.specs.Reading.{AreListed, IsAlone, IsElsewhere, IsListedAlone, ReadsRoll, HoldsNoRow, ReadsAll, HoldsUnread, IsDamaged};
+ghost use Rattle.store.specs.Reading.{AreListed, IsAlone, IsElsewhere, IsListedAlone, ReadsTable, HoldsNoRow, ReadsAll, HoldsUnread, IsDamaged};
 
 use crate::fault::StoreFault;
-use crate::quiet::tree_of;
-use crate::roll::{ROLLS, Roll};
+use crate::kept::ROLLS;
 use crate::rows::rows_with;
 use office::Office;
 use rolls::Row;
@@ -21,19 +20,16 @@ use sqlite::{Alter, Connection, Row as Cells};
 use sqlite_schema::schema::Schema;
 use sqlite_value::value::ValueRef;
 use std::alloc::Global;
-use tables::edition::read_edition;
-use tables::fault::TableFault;
-use tables::layout::edition_tree;
-use tables::project::read_projects;
-use tables::student::read_students;
-use tables::supervisor::read_supervisors;
+use tables::Table;
+use tables::layout::tree_of;
+use tables::statements::read;
 
-/// Whether the table of another roll is listed in this tree.
-fn shares(schema: &Schema, other: Roll, roll: Roll, tree: u32) -> bool
-    ensures right { IsTrue result → (other ≢ roll) × IsListed (table_of other) schema.now tree }
-    ensures wrong { result ≡ false → other ≢ roll → IsElsewhere other tree schema.now }
+/// Whether another table is listed in this tree.
+fn shares(schema: &Schema, other: Table, table: Table, tree: u32) -> bool
+    ensures right { IsTrue result → (other ≢ table) × IsListed (table_at other) schema.now tree }
+    ensures wrong { result ≡ false → other ≢ table → IsElsewhere other tree schema.now }
 {
-    if other == roll {
+    if other == table {
         return false;
     }
     match tree_of(schema, other) {
@@ -43,12 +39,12 @@ fn shares(schema: &Schema, other: Roll, roll: Roll, tree: u32) -> bool
 }
 
 /// Whether no other roll's table is listed in this tree.
-fn is_alone(schema: &Schema, roll: Roll, tree: u32) -> bool
-    ensures right { IsTrue result → IsAlone roll tree schema.now }
-    ensures wrong { result ≡ false → IsAlone roll tree schema.now → ⊥ }
+fn is_alone(schema: &Schema, table: Table, tree: u32) -> bool
+    ensures right { IsTrue result → IsAlone table tree schema.now }
+    ensures wrong { result ≡ false → IsAlone table tree schema.now → ⊥ }
 {
     for other in ROLLS {
-        if shares(schema, other, roll, tree) {
+        if shares(schema, other, table, tree) {
             return false;
         }
     }
@@ -56,12 +52,12 @@ fn is_alone(schema: &Schema, roll: Roll, tree: u32) -> bool
 }
 
 /// Whether a roll's table is listed as it is made here, in a tree of its own.
-fn is_listed(schema: &Schema, edition: u32, roll: Roll) -> bool
-    ensures right { IsTrue result → IsListedAlone edition schema.now roll }
-    ensures wrong { result ≡ false → IsListedAlone edition schema.now roll → ⊥ }
+fn is_listed(schema: &Schema, edition: u32, table: Table) -> bool
+    ensures right { IsTrue result → IsListedAlone edition schema.now table }
+    ensures wrong { result ≡ false → IsListedAlone edition schema.now table → ⊥ }
 {
-    match tree_of(schema, roll) {
-        Some(tree) => tree != edition && is_alone(schema, roll, tree),
+    match tree_of(schema, table) {
+        Some(tree) => tree != edition && is_alone(schema, table, tree),
         None => false,
     }
 }
@@ -71,11 +67,11 @@ pub fn are_listed(schema: &Schema) -> bool
     ensures right { IsTrue result → AreListed schema.now }
     ensures wrong { result ≡ false → AreListed schema.now → ⊥ }
 {
-    let Some(edition) = edition_tree(schema) else {
+    let Some(edition) = tree_of(schema, Table::Edition) else {
         return false;
     };
-    for roll in ROLLS {
-        if !is_listed(schema, edition, roll) {
+    for table in ROLLS {
+        if !is_listed(schema, edition, table) {
             return false;
         }
     }
@@ -100,34 +96,20 @@ fn are_first(all: &[Cells]) -> bool
     }
 }
 
-/// The rows of a roll's table, each after its rowid.
-fn read_cells<S: Alter>(conn: &mut Connection<S>, roll: Roll) -> Result<Vec<Cells>, TableFault>
-    ensures rows { HasCleanDisk (state S.Store conn.new) → IfOk result (λ rows. Shows (table_of roll) rows.items (state S.Store conn.old) (state S.Store conn.new)) }
-    ensures rests { HasCleanDisk (state S.Store conn.new) → Rests (state S.Store conn.old) (state S.Store conn.new) }
-    ensures mode { conn.old.in_transaction ≡ false → conn.new.in_transaction ≡ false }
-    ensures survives { Survives (state S.Store conn.old) (state S.Store conn.new) (λ _. ⊥) }
-{
-    match roll {
-        Roll::Supervisors => read_supervisors(conn),
-        Roll::Projects => read_projects(conn),
-        Roll::Students => read_students(conn),
-    }
-}
-
-/// The rows of a roll.
-fn read_roll<S: Alter>(
+/// The rows of a table.
+fn read_table<S: Alter>(
     alloc: Global,
     conn: &mut Connection<S>,
-    roll: Roll,
+    table: Table,
 ) -> Result<Vec<Row>, StoreFault>
-    ensures rows { HasCleanDisk (state S.Store conn.new) → IfOk result (λ rows. ReadsRoll roll rows.items (state S.Store conn.old) (state S.Store conn.new)) }
-    ensures damaged { HasCleanDisk (state S.Store conn.new) → result ≡ Err StoreFault.Damaged → IsTrue (state S.Store conn.old).is_open × HoldsNoRow roll (state S.Store conn.old).now }
+    ensures rows { HasCleanDisk (state S.Store conn.new) → IfOk result (λ rows. ReadsTable table rows.items (state S.Store conn.old) (state S.Store conn.new)) }
+    ensures damaged { HasCleanDisk (state S.Store conn.new) → result ≡ Err StoreFault.Damaged → IsTrue (state S.Store conn.old).is_open × HoldsNoRow table (state S.Store conn.old).now }
     ensures rests { HasCleanDisk (state S.Store conn.new) → Rests (state S.Store conn.old) (state S.Store conn.new) }
     ensures mode { conn.old.in_transaction ≡ false → conn.new.in_transaction ≡ false }
     ensures survives { Survives (state S.Store conn.old) (state S.Store conn.new) (λ _. ⊥) }
 {
-    let cells = read_cells(conn, roll)?;
-    rows_with(alloc, roll, cells.as_slice())
+    let cells = read(conn, table)?;
+    rows_with(alloc, table, cells.as_slice())
 }
 
 /// The rows of all rolls.
@@ -139,8 +121,8 @@ fn read_rows<S: Alter>(alloc: Global, conn: &mut Connection<S>) -> Result<Vec<Ro
     ensures survives { Survives (state S.Store conn.old) (state S.Store conn.new) (λ _. ⊥) }
 {
     let mut rows = Vec::new(alloc);
-    for roll in ROLLS {
-        let mut more = read_roll(alloc, conn, roll)?;
+    for table in ROLLS {
+        let mut more = read_table(alloc, conn, table)?;
         rows.append(&mut more)?;
     }
     Ok(rows)
@@ -149,6 +131,7 @@ fn read_rows<S: Alter>(alloc: Global, conn: &mut Connection<S>) -> Result<Vec<Ro
 /// The office of the tables, where none is being written.
 pub fn office_of<S: Alter>(alloc: Global, conn: &mut Connection<S>) -> Result<Office, StoreFault>
     ensures ok { HasCleanDisk (state S.Store conn.new) → IfOk result (λ office. IsUnchanged (state S.Store conn.old) (state S.Store conn.new) × StandsFor (state S.Store conn.old).now office) }
+    ensures unlisted { (AreListed (state S.Store conn.old).now.schema → ⊥) → result ≡ Err StoreFault.Damaged }
     ensures damaged { HasCleanDisk (state S.Store conn.new) → result ≡ Err StoreFault.Damaged → IsDamaged (state S.Store conn.old).now }
     ensures rests { HasCleanDisk (state S.Store conn.new) → Rests (state S.Store conn.old) (state S.Store conn.new) }
     ensures mode { conn.old.in_transaction ≡ false → conn.new.in_transaction ≡ false }
@@ -157,7 +140,7 @@ pub fn office_of<S: Alter>(alloc: Global, conn: &mut Connection<S>) -> Result<Of
     if !are_listed(conn.schema()) {
         return Err(StoreFault::Damaged);
     }
-    let edition = read_edition(conn)?;
+    let edition = read(conn, Table::Edition)?;
     if !are_first(edition.as_slice()) {
         return Err(StoreFault::Damaged);
     }

@@ -4,15 +4,15 @@ ghost use Rattle.std.specs.Prelude.{◌≡◌, ◌≢◌, ◌<◌, ◌^◌, ℕ,
 ghost use Rattle.sqlite.specs.declared.types.Value.TheVariants.{Int, Text as Words};
 ghost use Rattle.sqlite.specs.Order.{Row as AnyCells, column};
 ghost use Rattle.sqlite_rules.specs.Lists.{Has};
-ghost use Rattle.store.specs.Rows.{columns, is_in, width_of};
+ghost use Rattle.store.specs.Rows.{columns, is_in};
 ghost use Rattle.store.specs.Reading.{IsNoRow, AreRowsOf};
 
 use crate::fault::StoreFault;
-use crate::roll::Roll;
 use rolls::{Row, Text};
 use sqlite::Row as Cells;
 use sqlite_value::value::ValueRef;
 use std::alloc::Global;
+use tables::Table;
 
 /// The text in a column.
 fn text_at(alloc: Global, cells: &Cells, at: usize) -> Result<Text, StoreFault>
@@ -48,33 +48,22 @@ fn number_at(cells: &Cells, at: usize) -> Result<u32, StoreFault>
     }
 }
 
-/// How many columns a row of the roll has.
-fn width_of(roll: Roll) -> usize
-    ensures { result ≡ width_of roll }
-{
-    match roll {
-        Roll::Supervisors => 3,
-        Roll::Projects => 4,
-        Roll::Students => 2,
-    }
-}
-
 /// The row with these columns, which come after its rowid.
-fn row_with(alloc: Global, roll: Roll, cells: &Cells) -> Result<Row, StoreFault>
-    ensures row { IfOk result (λ row. (is_in roll row ≡ true) × (columns row ≡ drop 1 cells.now)) }
-    ensures damaged { result ≡ Err StoreFault.Damaged → IsNoRow roll (drop 1 cells.now) }
+fn row_with(alloc: Global, table: Table, cells: &Cells) -> Result<Row, StoreFault>
+    ensures row { IfOk result (λ row. (is_in table row ≡ true) × (columns row ≡ drop 1 cells.now)) }
+    ensures damaged { result ≡ Err StoreFault.Damaged → IsNoRow table (drop 1 cells.now) }
 {
-    if cells.column_count() != width_of(roll) + 1 {
+    if cells.column_count() != table.width() + 1 {
         return Err(StoreFault::Storage);
     }
     let code = text_at(alloc, cells, 1)?;
     let label = text_at(alloc, cells, 2)?;
-    match roll {
-        Roll::Supervisors => {
+    match table {
+        Table::Supervisor => {
             let quota = number_at(cells, 3)?;
             Ok(Row::Supervisor { code, label, quota })
         }
-        Roll::Projects => {
+        Table::Project => {
             let supervisor = text_at(alloc, cells, 3)?;
             let quota = number_at(cells, 4)?;
             Ok(Row::Project {
@@ -84,18 +73,21 @@ fn row_with(alloc: Global, roll: Roll, cells: &Cells) -> Result<Row, StoreFault>
                 quota,
             })
         }
-        Roll::Students => Ok(Row::Student { code, label }),
+        Table::Student => Ok(Row::Student { code, label }),
+        Table::Edition | Table::Round | Table::Choice | Table::Placement | Table::Import => Err(
+            StoreFault::Storage,
+        ),
     }
 }
 
 /// The rows with these columns.
-pub fn rows_with(alloc: Global, roll: Roll, all: &[Cells]) -> Result<Vec<Row>, StoreFault>
-    ensures rows { IfOk result (λ rows. AreRowsOf roll all.now rows.items) }
-    ensures damaged { result ≡ Err StoreFault.Damaged → (cells : AnyCells) × Has all.now cells × IsNoRow roll (drop 1 cells) }
+pub fn rows_with(alloc: Global, table: Table, all: &[Cells]) -> Result<Vec<Row>, StoreFault>
+    ensures rows { IfOk result (λ rows. AreRowsOf table all.now rows.items) }
+    ensures damaged { result ≡ Err StoreFault.Damaged → (cells : AnyCells) × Has all.now cells × IsNoRow table (drop 1 cells) }
 {
     let mut rows = Vec::new(alloc);
     for cells in all {
-        rows.push(row_with(alloc, roll, cells)?)?;
+        rows.push(row_with(alloc, table, cells)?)?;
     }
     Ok(rows)
 }

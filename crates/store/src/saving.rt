@@ -1,67 +1,61 @@
 //! Changes, in a transaction.
 
 ghost use Rattle.std.specs.Prelude.{◌≡◌, ◌≢◌, IsTrue, false, OnOk, OnErr};
-ghost use Rattle.sqlite.specs.State.{HasCleanDisk, KeepsCommit, Survives};
+ghost use Rattle.sqlite.specs.State.{HasCleanDisk, Survives};
 ghost use Rattle.sqlite.specs.Held.{state};
-ghost use Rattle.tables.specs.Steps.{HasSaved, HasStepped, IsKept, IsLeft, Stays};
-ghost use Rattle.store.specs.Saving.{Applies, AppliesOne, AreActedOn, Saves};
+ghost use Rattle.tables.specs.Steps.{Does, HasSaved, HasStepped, IsKept, IsLeft, Stays};
+ghost use Rattle.store.specs.Saving.{Applies, AppliesOne, AreActedOn, LeavesOthers, Saves};
 
 use crate::fault::StoreFault;
-use crate::quiet::are_left;
 use rolls::{Change, Row, RowKey};
-use sqlite::{Alter, Connection, Transaction};
+use sqlite::{Alter, Connection, Transaction, params};
+use tables::Table;
 use tables::fault::TableFault;
-use tables::project::{delete_project, put_project};
-use tables::student::{delete_student, put_student};
-use tables::supervisor::{delete_supervisor, put_supervisor};
+use tables::statements::{delete, put};
 
 /// Puts a row in its table.
 fn put_row<S: Alter>(tx: &mut Transaction<'_, S>, row: &Row) -> Result<(), TableFault>
     ensures same_reference { tx.new.conn.ghost_name ≡ tx.old.conn.ghost_name }
-    ensures survives { Survives (state S.Store tx.old.conn.now) (state S.Store tx.new.conn.now) (λ _. ⊥) }
-    ensures stepped { HasCleanDisk (state S.Store tx.new.conn.now) → OnOk result (HasStepped (AppliesOne (Change.Put row.now)) (state S.Store tx.old.conn.now) (state S.Store tx.new.conn.now)) }
-    ensures kept { HasCleanDisk (state S.Store tx.new.conn.now) → KeepsCommit (state S.Store tx.old.conn.now) (state S.Store tx.new.conn.now) }
+    ensures step { Does (HasStepped (AppliesOne (Change.Put row.now))) result (state S.Store tx.old.conn.now) (state S.Store tx.new.conn.now) }
 {
     match row {
-        Row::Supervisor { code, label, quota } => {
-            put_supervisor(tx, code.as_str(), label.as_str(), *quota)
-        }
+        Row::Supervisor { code, label, quota } => put(
+            tx,
+            Table::Supervisor,
+            params![code.as_str(), label.as_str(), *quota],
+        ),
         Row::Project {
             code,
             label,
             supervisor,
             quota,
-        } => put_project(
+        } => put(
             tx,
-            code.as_str(),
-            label.as_str(),
-            supervisor.as_str(),
-            *quota,
+            Table::Project,
+            params![code.as_str(), label.as_str(), supervisor.as_str(), *quota],
         ),
-        Row::Student { code, label } => put_student(tx, code.as_str(), label.as_str()),
+        Row::Student { code, label } => {
+            put(tx, Table::Student, params![code.as_str(), label.as_str()])
+        }
     }
 }
 
 /// Takes the row with a key out of its table.
 fn take_row<S: Alter>(tx: &mut Transaction<'_, S>, key: &RowKey) -> Result<(), TableFault>
     ensures same_reference { tx.new.conn.ghost_name ≡ tx.old.conn.ghost_name }
-    ensures survives { Survives (state S.Store tx.old.conn.now) (state S.Store tx.new.conn.now) (λ _. ⊥) }
-    ensures stepped { HasCleanDisk (state S.Store tx.new.conn.now) → OnOk result (HasStepped (AppliesOne (Change.Take key.now)) (state S.Store tx.old.conn.now) (state S.Store tx.new.conn.now)) }
-    ensures kept { HasCleanDisk (state S.Store tx.new.conn.now) → KeepsCommit (state S.Store tx.old.conn.now) (state S.Store tx.new.conn.now) }
+    ensures step { Does (HasStepped (AppliesOne (Change.Take key.now))) result (state S.Store tx.old.conn.now) (state S.Store tx.new.conn.now) }
 {
     match key {
-        RowKey::Supervisor(code) => delete_supervisor(tx, code.as_str()),
-        RowKey::Project(code) => delete_project(tx, code.as_str()),
-        RowKey::Student(code) => delete_student(tx, code.as_str()),
+        RowKey::Supervisor(code) => delete(tx, Table::Supervisor, params![code.as_str()]),
+        RowKey::Project(code) => delete(tx, Table::Project, params![code.as_str()]),
+        RowKey::Student(code) => delete(tx, Table::Student, params![code.as_str()]),
     }
 }
 
 /// Makes one change.
 fn apply<S: Alter>(tx: &mut Transaction<'_, S>, change: &Change) -> Result<(), TableFault>
     ensures same_reference { tx.new.conn.ghost_name ≡ tx.old.conn.ghost_name }
-    ensures survives { Survives (state S.Store tx.old.conn.now) (state S.Store tx.new.conn.now) (λ _. ⊥) }
-    ensures stepped { HasCleanDisk (state S.Store tx.new.conn.now) → OnOk result (HasStepped (AppliesOne change.now) (state S.Store tx.old.conn.now) (state S.Store tx.new.conn.now)) }
-    ensures kept { HasCleanDisk (state S.Store tx.new.conn.now) → KeepsCommit (state S.Store tx.old.conn.now) (state S.Store tx.new.conn.now) }
+    ensures step { Does (HasStepped (AppliesOne change.now)) result (state S.Store tx.old.conn.now) (state S.Store tx.new.conn.now) }
 {
     match change {
         Change::Put(row) => put_row(tx, row),
@@ -75,9 +69,7 @@ pub fn apply_all<S: Alter>(
     changes: &[Change],
 ) -> Result<(), TableFault>
     ensures same_reference { tx.new.conn.ghost_name ≡ tx.old.conn.ghost_name }
-    ensures survives { Survives (state S.Store tx.old.conn.now) (state S.Store tx.new.conn.now) (λ _. ⊥) }
-    ensures stays { HasCleanDisk (state S.Store tx.new.conn.now) → OnOk result (Stays (Applies changes.now) (state S.Store tx.old.conn.now) (state S.Store tx.new.conn.now)) }
-    ensures kept { HasCleanDisk (state S.Store tx.new.conn.now) → KeepsCommit (state S.Store tx.old.conn.now) (state S.Store tx.new.conn.now) }
+    ensures step { Does (Stays (Applies changes.now)) result (state S.Store tx.old.conn.now) (state S.Store tx.new.conn.now) }
 {
     for change in changes {
         apply(tx, change)?;
@@ -86,7 +78,7 @@ pub fn apply_all<S: Alter>(
 }
 
 /// Makes the changes in one transaction.
-fn save_all<S: Alter>(conn: &mut Connection<S>, changes: &[Change]) -> Result<(), StoreFault>
+pub fn save_all<S: Alter>(conn: &mut Connection<S>, changes: &[Change]) -> Result<(), StoreFault>
     ensures ok { HasCleanDisk (state S.Store conn.new) → OnOk result (HasSaved (Applies changes.now) (state S.Store conn.old) (state S.Store conn.new)) }
     ensures err { HasCleanDisk (state S.Store conn.new) → OnErr result (IsKept (state S.Store conn.old) (state S.Store conn.new)) }
     ensures faults { result ≢ Err StoreFault.Damaged }
@@ -102,22 +94,4 @@ fn save_all<S: Alter>(conn: &mut Connection<S>, changes: &[Change]) -> Result<()
         Ok(()) => Ok(()),
         Err(error) => Err(TableFault::from(error).into()),
     }
-}
-
-/// Makes the changes in one transaction, where no other table acts on the product's.
-pub fn save_changes<S: Alter>(
-    conn: &mut Connection<S>,
-    changes: &[Change],
-) -> Result<(), StoreFault>
-    ensures ok { HasCleanDisk (state S.Store conn.new) → OnOk result (HasSaved (Saves changes.now) (state S.Store conn.old) (state S.Store conn.new)) }
-    ensures err { HasCleanDisk (state S.Store conn.new) → OnErr result (IsKept (state S.Store conn.old) (state S.Store conn.new)) }
-    ensures faults { result ≢ Err StoreFault.Damaged }
-    ensures acted_on { AreActedOn (state S.Store conn.old).now.schema → result ≡ Err StoreFault.Storage }
-    ensures crash { Survives (state S.Store conn.old) (state S.Store conn.new) (IsLeft (Saves changes.now) (state S.Store conn.old).now) }
-    ensures ended { conn.old.in_transaction ≡ false → conn.new.in_transaction ≡ false }
-{
-    if !are_left(conn.schema()) {
-        return Err(StoreFault::Storage);
-    }
-    save_all(conn, changes)
 }

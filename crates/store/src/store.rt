@@ -1,17 +1,18 @@
 //! The store.
 
-ghost use Rattle.std.specs.Prelude.{◌≡◌, ◌≢◌, IsTrue, false, IfOk, IfErr, OnOk, OnErr};
+ghost use Rattle.std.specs.Prelude.{◌≡◌, ◌≢◌, IsTrue, false, Err, IfOk, IfErr, IsErr, OnOk, OnErr};
 ghost use Rattle.sqlite.specs.State.{HasCleanDisk, Survives};
 ghost use Rattle.sqlite.specs.Held.{state};
 ghost use Rattle.tables.specs.Steps.{HasSaved, IsKept, IsLeft};
 ghost use Rattle.store.specs.Tables.{Founds, HasNone, LeavesAlone, Opens, StandsFor};
-ghost use Rattle.store.specs.Reading.{IsDamaged};
-ghost use Rattle.store.specs.Saving.{AreActedOn, Saves};
+ghost use Rattle.store.specs.Reading.{AreListed, IsDamaged};
+ghost use Rattle.store.specs.Saving.{AreActedOn, LeavesOthers, Saves};
 
 use crate::fault::StoreFault;
 use crate::founding::{found, has_none};
+use crate::quiet::are_left;
 use crate::reading::office_of;
-use crate::saving::save_changes;
+use crate::saving::save_all;
 use office::Office;
 use rolls::Change;
 use sqlite::{Alter, Connection};
@@ -44,6 +45,8 @@ impl<S: Alter> Model for Store<S> {
 fn open_tables<S: Alter>(alloc: Global, conn: &mut Connection<S>) -> Result<Office, StoreFault>
     ensures ok { HasCleanDisk (state S.Store conn.new) → IfOk result (Opens (state S.Store conn.old).now (state S.Store conn.new).now) }
     ensures ended { OnOk result (conn.new.in_transaction ≡ false) }
+    ensures given_back { conn.old.in_transaction ≡ false → conn.new.in_transaction ≡ false }
+    ensures unlisted { conn.old.in_transaction ≡ false → (HasNone (state S.Store conn.old).now.schema → ⊥) → (AreListed (state S.Store conn.old).now.schema → ⊥) → result ≡ Err StoreFault.Damaged }
     ensures alone { HasCleanDisk (state S.Store conn.new) → OnOk result (LeavesAlone (state S.Store conn.new)) }
     ensures damaged { HasCleanDisk (state S.Store conn.new) → result ≡ Err StoreFault.Damaged → IsDamaged (state S.Store conn.old).now }
     ensures some { result ≡ Err StoreFault.Damaged → HasNone (state S.Store conn.old).now.schema → ⊥ }
@@ -63,6 +66,7 @@ fn open_tables<S: Alter>(alloc: Global, conn: &mut Connection<S>) -> Result<Offi
 /// The office of the tables, where no transaction is open.
 fn load_tables<S: Alter>(alloc: Global, conn: &mut Connection<S>) -> Result<Office, StoreFault>
     ensures ok { HasCleanDisk (state S.Store conn.new) → IfOk result (StandsFor (state S.Store conn.old).now) }
+    ensures unlisted { conn.old.in_transaction ≡ false → (AreListed (state S.Store conn.old).now.schema → ⊥) → result ≡ Err StoreFault.Damaged }
     ensures damaged { HasCleanDisk (state S.Store conn.new) → result ≡ Err StoreFault.Damaged → IsDamaged (state S.Store conn.old).now }
     ensures kept { HasCleanDisk (state S.Store conn.new) → IsKept (state S.Store conn.old) (state S.Store conn.new) }
     ensures crash { Survives (state S.Store conn.old) (state S.Store conn.new) (λ _. ⊥) }
@@ -87,6 +91,10 @@ impl<S: Alter> Store<S> {
         ensures alone { IfOk result (λ it. HasCleanDisk (state S.Store it.0) → LeavesAlone (state S.Store it.0)) }
         ensures damaged { IfErr result (λ it. HasCleanDisk (state S.Store it.1) → it.0 ≡ StoreFault.Damaged → IsDamaged (state S.Store conn).now) }
         ensures some { IfErr result (λ it. it.0 ≡ StoreFault.Damaged → HasNone (state S.Store conn).now.schema → ⊥) }
+        ensures given_back { IfErr result (λ it. let back = it.1 in conn.in_transaction ≡ false → back.in_transaction ≡ false) }
+
+        // Tables that are there and are not listed as they are made here are damaged.
+        ensures unlisted { conn.in_transaction ≡ false → (HasNone (state S.Store conn).now.schema → ⊥) → (AreListed (state S.Store conn).now.schema → ⊥) → IsErr result × IfErr result (λ it. it.0 ≡ StoreFault.Damaged) }
         ensures kept { IfErr result (λ it. HasCleanDisk (state S.Store it.1) → IsKept (state S.Store conn) (state S.Store it.1)) }
 
         // A crash at any moment of the call.
@@ -102,6 +110,7 @@ impl<S: Alter> Store<S> {
     /// Reads the office from its tables.
     pub fn load(&mut self) -> Result<Office, StoreFault>
         ensures ok { HasCleanDisk (state S.Store self.new) → IfOk result (StandsFor (state S.Store self.old).now) }
+        ensures unlisted { self.old.in_transaction ≡ false → (AreListed (state S.Store self.old).now.schema → ⊥) → result ≡ Err StoreFault.Damaged }
         ensures damaged { HasCleanDisk (state S.Store self.new) → result ≡ Err StoreFault.Damaged → IsDamaged (state S.Store self.old).now }
         ensures kept { HasCleanDisk (state S.Store self.new) → IsKept (state S.Store self.old) (state S.Store self.new) }
 
@@ -115,6 +124,7 @@ impl<S: Alter> Store<S> {
     /// Makes the changes in one transaction, which touches only the rows that they name.
     pub fn save(&mut self, changes: &[Change]) -> Result<(), StoreFault>
         ensures ok { HasCleanDisk (state S.Store self.new) → OnOk result (HasSaved (Saves changes.now) (state S.Store self.old) (state S.Store self.new)) }
+        ensures others { HasCleanDisk (state S.Store self.new) → OnOk result (LeavesOthers (state S.Store self.old).now (state S.Store self.new).now) }
         ensures alone { HasCleanDisk (state S.Store self.new) → OnOk result (LeavesAlone (state S.Store self.new)) }
         ensures err { HasCleanDisk (state S.Store self.new) → OnErr result (IsKept (state S.Store self.old) (state S.Store self.new)) }
         ensures faults { result ≢ Err StoreFault.Damaged }
@@ -126,7 +136,10 @@ impl<S: Alter> Store<S> {
         ensures crash { Survives (state S.Store self.old) (state S.Store self.new) (IsLeft (Saves changes.now) (state S.Store self.old).now) }
         ensures ended { self.old.in_transaction ≡ false → self.new.in_transaction ≡ false }
     {
-        save_changes(&mut self.conn, changes)
+        if !are_left(self.conn.schema()) {
+            return Err(StoreFault::Storage);
+        }
+        save_all(&mut self.conn, changes)
     }
 
     /// Gives the connection up. Takes no memory.

@@ -9,6 +9,7 @@ use Rattle.sqlite.specs.Order.{Row}
 use Rattle.sqlite.specs.Schema.{Schema}
 use Rattle.sqlite.specs.Table.{Table}
 use Rattle.sqlite.specs.Term.{Term}
+use Rattle.sqlite.specs.Kind.{Kind}
 use Rattle.sqlite.specs.Kind.TheVariants.{Integer}
 use Rattle.sqlite.specs.Cast.{cast, cast_row}
 use Rattle.sqlite.specs.Ops.{unary}
@@ -32,7 +33,7 @@ use Rattle.sqlite_ast.specs.declared.Rows.{Rows}
 use Rattle.sqlite_resolve.specs.Lowering.{Checked}
 use Rattle.sqlite_resolve.specs.declared.compiled.Compiled.{Compiled}
 use Rattle.sqlite.specs.Command.{Command}
-use Rattle.tables.specs.Table.{Place, Lists, cells}
+use Rattle.tables.specs.Table.{Place, Lists, cells, are_of}
 use Rattle.tables.specs.Keyed.{IsKeyed}
 use Rattle.tables.specs.Writes.{Adds}
 use Rattle.tables.proofs.Places.{placed, listed_along}
@@ -81,23 +82,33 @@ compiled_is : (schema : Schema) (sql : List ℕ) (p : Parsed) (formats : List (L
 unfolding compiled planned meaning
 compiled_is schema sql p formats shown c parsed is_timed shows commands = rw (parsed, is_timed, shows, commands) refl
 
--- the text of an INSERT of one row of terms, read under the table alone
-pub record IsInsert (sql : List ℕ) (made : Table) (terms : List Term) (width : ℕ) : Type 0 where
+-- with these parameters the terms are one row, whose columns are given
+pub record IsGiven (made : Table) (params : Row) (terms : List Term) (width : ℕ) (given : Row) : Type 0 where
+  pub source : Row
+  pub one : value_rows params width (length terms / width) terms ≡ source ∷ []
+  pub shown : (here : List Row) → cells made (with_rowid Chosen here (cast_row made source)) ≡ given
+
+-- The text of an INSERT of one row of terms, read under the table alone, and the row that it adds: that of its
+-- parameters, where those are of these kinds.
+pub record IsInsert (sql : List ℕ) (made : Table) (kinds : List Kind) : Type 0 where
   pub p : Parsed
   pub columns : List (List ℕ)
   pub values : Rows
+  pub terms : List Term
+  pub width : ℕ
   pub parsed : first sql ≡ Ok p
   pub statement : p.statement ≡ written.Insert conflict.Abort made.name columns values [] []
   pub plain : p.formats ≡ []
   pub laid : (schema : Schema) (place : Place) → new_rows schema (placed made place) (small p.names + small []) columns values ≡ Ok (Values terms width)
   pub whole : slice_range sql p.start p.end ≡ sql
+  pub given : (row : Row) → are_of kinds row ≡ true → IsGiven made row terms width row
 
-module _ (sql : List ℕ) (t0 : Table) (terms : List Term) (width : ℕ) (it : IsInsert sql t0 terms width) (schema : Schema) (at : ℕ) (place : Place)
+module _ (sql : List ℕ) (t0 : Table) (kinds : List Kind) (it : IsInsert sql t0 kinds) (schema : Schema) (at : ℕ) (place : Place)
     (has : Has schema t0.name at (placed t0 place)) where
   abbrev statement : Statement
   statement = written.Insert conflict.Abort t0.name it.columns it.values [] []
 
-  commands : command schema [] (small it.p.names + small []) statement ≡ Ok (Insert at (Values terms width))
+  commands : command schema [] (small it.p.names + small []) statement ≡ Ok (Insert at (Values it.terms it.width))
   unfolding command insert insert_or_abort
   commands = on_table_is schema t0.name at (placed t0 place) _ has ∙ rw (it.laid schema place) refl
 
@@ -109,31 +120,25 @@ module _ (sql : List ℕ) (t0 : Table) (terms : List Term) (width : ℕ) (it : I
   unfolding returning shows
   shows_none base = refl
 
-  compiles : understood schema sql ≡ Ok (with_command it.p ([], (Insert at (Values terms width), None)))
+  compiles : understood schema sql ≡ Ok (with_command it.p ([], (Insert at (Values it.terms it.width), None)))
   compiles = understood_is schema sql _ (compiled_is schema sql it.p [] None _ it.parsed (rw (it.plain, it.statement) no_time) (rw it.statement (shows_none _)) (rw (it.plain, it.statement) commands))
 
   -- the text means the INSERT at the table's position
-  pub insert_means : Means schema sql (Insert at (Values terms width)) sql
+  pub insert_means : Means schema sql (Insert at (Values it.terms it.width)) sql
   insert_means c h =
-      let is : Ok (with_command it.p ([], (Insert at (Values terms width), None))) ≡ Ok c = sym compiles ∙ h in
-      let same : with_command it.p ([], (Insert at (Values terms width), None)) ≡ c = cc in
+      let is : Ok (with_command it.p ([], (Insert at (Values it.terms it.width), None))) ≡ Ok c = sym compiles ∙ h in
+      let same : with_command it.p ([], (Insert at (Values it.terms it.width), None)) ≡ c = cc in
       (sym (ap (λ (it : Compiled). it.command) same), sym (ap (λ (it : Compiled). it.returning) same), sym (ap (λ (it : Compiled). it.formats) same), sym (ap (text_of sql) same) ∙ it.whole)
 
--- with these parameters the terms are one row, whose columns are given
-pub record IsGiven (made : Table) (params : Row) (terms : List Term) (width : ℕ) (given : Row) : Type 0 where
-  pub source : Row
-  pub one : value_rows params width (length terms / width) terms ≡ source ∷ []
-  pub shown : (here : List Row) → cells made (with_rowid Chosen here (cast_row made source)) ≡ given
-
-module _ (sql : List ℕ) (t0 : Table) (terms : List Term) (width : ℕ) (it : IsInsert sql t0 terms width) where
-  -- an INSERT that went through added the given row, and nothing else
-  pub inserts : (params given : Row) → IsGiven t0 params terms width given → (old new : State) (count : ℕ) → Executes sql params old new (Ok count)
-      → Adds (placed t0) given old.now new.now
-  inserts params given is old new count ran place rows stands =
+module _ (sql : List ℕ) (t0 : Table) (kinds : List Kind) (it : IsInsert sql t0 kinds) where
+  -- an INSERT that went through added the row of its parameters, and nothing else
+  pub inserts : (old new : State) (given : Row) (count : ℕ) → are_of kinds given ≡ true → Executes sql given old new (Ok count) → Adds (placed t0) given old.now new.now
+  inserts old new given count fits ran place rows stands =
+      let is = it.given given fits in
       let t : Table = placed t0 place in
-      let w = runs_by sql params old new count (Insert stands.listed.at (Values terms width)) sql
-      (insert_means sql t0 terms width it old.now.schema stands.listed.at place (has_listed old.now.schema t stands.listed)) ran in
-      let done = insert_does old.step_limit (mode_of old) params old.now new.now sql stands.listed.at t terms width w.tally stands.listed.there w.changed in
+      let w = runs_by sql given old new count (Insert stands.listed.at (Values it.terms it.width)) sql
+      (insert_means sql t0 kinds it old.now.schema stands.listed.at place (has_listed old.now.schema t stands.listed)) ran in
+      let done = insert_does old.step_limit (mode_of old) given old.now new.now sql stands.listed.at t it.terms it.width w.tally stands.listed.there w.changed in
       let applies : Applies old.now.schema Enforced old.now.trees (insert_edit old.now t (is.source ∷ [])) new.now.trees =
       subst (λ all. Applies old.now.schema Enforced old.now.trees (insert_edit old.now t all) new.now.trees) is.one done.1 in
       let here = old.now.trees place.tree in

@@ -71,8 +71,8 @@ or_false : (a b : Bool) → (a || b) ≡ false → a ≡ false
 or_false true b h = absurd (cc)
 or_false false b h = refl
 
--- a text that makes a table, under any schema
-pub record IsCreate (sql : List ℕ) (t0 : Table) : Type 0 where
+-- a text that makes a table with these CHECK rules, under any schema
+pub record IsCreate (sql : List ℕ) (t0 : Table) (checks : List Term) : Type 0 where
   pub p : Parsed
   pub parsed : first sql ≡ Ok p
   pub unlisted : if_select (compiled listing_schema sql) ≡ Err NoSuchTable
@@ -80,7 +80,6 @@ pub record IsCreate (sql : List ℕ) (t0 : Table) : Type 0 where
   pub shows : (schema : Schema) → returning schema (small p.names + small []) p.statement ≡ Ok None
   pub commands : (schema : Schema) (k : Command) → command schema p.formats (small p.names + small []) p.statement ≡ Ok k → k ≡ CreateTable
   pub whole : slice_range sql p.start p.end ≡ sql
-  pub checks : List Term
   pub defined : table_defined_by sql ≡ Ok (placed t0 (record { tree = 0; checks = checks }))
   pub named : same_name t0.name t0.name ≡ true
 
@@ -92,12 +91,12 @@ made_command schema name k h =
     let t = makes (is_attached schema name) (creates false name same other) (Ok CreateTable) k (only_new name same other) h in
     cc
 
-module _ (sql : List ℕ) (t0 : Table) (it : IsCreate sql t0) where
+module _ (sql : List ℕ) (t0 : Table) (checks : List Term) (it : IsCreate sql t0 checks) where
   abbrev first_made : Table
-  first_made = placed t0 (record { tree = 0; checks = it.checks })
+  first_made = placed t0 (record { tree = 0; checks = checks })
 
   abbrev here : Schema → Place
-  here schema = record { tree = next_tree schema; checks = it.checks }
+  here schema = record { tree = next_tree schema; checks = checks }
 
   create_means : (schema : Schema) → Means schema sql CreateTable sql
   create_means schema c h =
@@ -111,6 +110,7 @@ module _ (sql : List ℕ) (t0 : Table) (it : IsCreate sql t0) where
   -- the same, of the schema and the trees alone
   record IsMade (old new : Database) : Type 0 where
     place : Place
+    ruled : place.checks ≡ checks
     listed : Lists new.schema (placed t0 place)
     empty : new.trees place.tree ≡ []
     others : (t : Table) → Lists old.schema t → Lists new.schema t × (new.trees t.tree ≡ old.trees t.tree) × (t.tree ≢ place.tree)
@@ -124,6 +124,7 @@ module _ (sql : List ℕ) (t0 : Table) (it : IsCreate sql t0) where
       or_false _ _ (or_false _ _ (subst (λ (t : Table). is_used db.schema t.name ≡ false) same made.free)) in
       record {
         place = here db.schema;
+        ruled = refl;
         listed = record {
           at = length db.schema.tables;
           named = subst (λ (s : Schema). table_named s t0.name ≡ Some (length db.schema.tables)) (sym is)
@@ -142,6 +143,7 @@ module _ (sql : List ℕ) (t0 : Table) (it : IsCreate sql t0) where
         let more : CreatesTable mid.schema sequence_text mid.trees after.schema after.trees = rw lacks at next in
         record {
           place = made.place;
+          ruled = made.ruled;
           listed = (kept_by mid.schema sequence_text mid.trees after.schema after.trees more _ made.listed).0;
           empty = (kept_by mid.schema sequence_text mid.trees after.schema after.trees more _ made.listed).1 ∙ made.empty;
           others = λ t listed.
@@ -155,7 +157,7 @@ module _ (sql : List ℕ) (t0 : Table) (it : IsCreate sql t0) where
   ]
 
   -- a CREATE that went through made the table, which is empty
-  pub create_makes : (old new : State) (count : ℕ) → Executes sql [] old new (Ok count) → Makes (placed t0) [] old.now new.now
+  pub create_makes : (old new : State) (count : ℕ) → Executes sql [] old new (Ok count) → Makes (placed t0) checks [] old.now new.now
   create_makes old new count ran =
       let w = runs_by sql [] old new count CreateTable sql (create_means old.now.schema) ran in
       let all = went w.changed in
@@ -164,6 +166,7 @@ module _ (sql : List ℕ) (t0 : Table) (it : IsCreate sql t0) where
       let made : IsMade old.now new.now = subst (IsMade old.now) (sym now) (went_on old.now first.0 all.0 (made_first old.now first.0 first.1) first.2) in
       record {
         place = made.place;
+        ruled = made.ruled;
         stands = record {
           listed = made.listed;
           keyed = subst IsKeyed (sym made.empty) (record { ids = tt; apart = tt });

@@ -21,9 +21,20 @@ kept_go p x y xs true later (inl e) = inl e
 kept_go p x y xs true later (inr h) = inr (later h)
 kept_go p x y xs false later h = inr (later h)
 
-kept_has : {X : Type 0} (p : X → Bool) (xs : List X) (y : X) → Has (filter p xs) y → Has xs y
+-- what passes is among what was tested
+pub kept_has : {X : Type 0} (p : X → Bool) (xs : List X) (y : X) → Has (filter p xs) y → Has xs y
 kept_has p [] y h = h
 kept_has p (x ∷ xs) y h = kept_go p x y xs (p x) (kept_has p xs y) h
+
+passes_go : {X : Type 0} (p : X → Bool) (x y : X) (xs : List X) (b : Bool) → p x ≡ b → (Has (filter p xs) y → p y ≡ true) → Has (cond b (x ∷ filter p xs) (filter p xs)) y → p y ≡ true
+passes_go p x y xs true is later (inl e) = ap p e ∙ is
+passes_go p x y xs true is later (inr h) = later h
+passes_go p x y xs false is later h = later h
+
+-- and passes
+pub passes : {X : Type 0} (p : X → Bool) (xs : List X) (y : X) → Has (filter p xs) y → p y ≡ true
+passes p [] y h = absurd h
+passes p (x ∷ xs) y h = passes_go p x y xs (p x) refl (passes p xs y) h
 
 module _ (p : Row → Bool) where
   abbrev Hit : List Row → Row → Bool

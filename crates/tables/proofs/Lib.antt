@@ -8,14 +8,21 @@ mod Adding
 mod Appending
 mod Creating
 mod Selecting
+mod Finding
 mod Deleting
 mod Updating
 pub mod Runs
 mod Putting
 mod Quiet
-mod StudentTexts
-mod EditionTexts
-mod SupervisorTexts
-mod ProjectTexts
 mod Layouts
 mod Rising
+mod Testing
+mod StudentTexts
+mod SupervisorTexts
+mod ProjectTexts
+mod EditionTexts
+mod RoundTexts
+mod ChoiceTexts
+mod PlacementTexts
+mod ImportTexts
+mod Told

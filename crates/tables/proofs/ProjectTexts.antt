@@ -1,6 +1,7 @@
 -- What the texts over `project` mean.
-use Rattle.std.proofs.Common.{◌≡◌, ℕ, pos, List, [], ◌∷◌, codes, Some, None, Ok, Err, refl, true, ◌^◌, nat_lt}
+use Rattle.std.proofs.Common.{◌≡◌, ℕ, List, [], ◌∷◌, codes, Some, None, Ok, Err, refl, true, ◌^◌, nat_lt, take}
 use Rattle.sqlite.specs.declared.types.Value.TheVariants.{Null, Text, Int}
+use Rattle.sqlite.specs.Order.{Row}
 use Rattle.sqlite.specs.Schema.{Schema}
 use Rattle.sqlite.specs.Table.{Table}
 use Rattle.sqlite.specs.Term.{Term, lit, col}
@@ -10,29 +11,37 @@ use Rattle.sqlite.specs.Listing.{listing_schema, if_select}
 use Rattle.sqlite_resolve.specs.declared.error.CompileError.TheVariants.{NoSuchTable}
 use Rattle.sqlite_resolve.specs.declared.scope.Output.{Output}
 use Rattle.sqlite_ast.specs.declared.Statement.TheVariants as written
+use Rattle.sqlite_ast.specs.declared.Select.{out-Select}
 use Rattle.sqlite_ast.specs.declared.Expr.{Expr}
 use Rattle.sqlite_ast.specs.declared.Expr.TheVariants as expr
 use Rattle.sqlite_resolve.specs.Write.{updated, updated_in, assigned, row, picked, over}
 use Rattle.sqlite_resolve.specs.Lowering.{fresh, max_budget}
 use Rattle.sqlite_resolve.specs.Select.{value_of}
 use Rattle.sqlite_resolve.specs.declared.state.State.{State as LState}
-use Rattle.sqlite_ast.specs.declared.Select.{out-Select}
-use Rattle.tables.specs.Table.{Place, Lists, project_table}
+use Rattle.sqlite.specs.Tree.{rowid}
+use Rattle.sqlite.specs.Cast.{cast_row}
+use Rattle.sqlite_trees.specs.View.{is_int}
+use Rattle.sqlite_sql.specs.Term.{eval_all}
+use Rattle.tables.specs.declared.table.Table.TheVariants.{Project}
+use Rattle.tables.specs.Table.{Place, Lists, checks_of, shape_of, table_at, kinds_of, are_of, cells}
+use Rattle.tables.specs.Writes.{begins_with}
 use Rattle.tables.proofs.Places.{nowhere}
 use Rattle.tables.proofs.Creating.{IsCreate, made_command}
 use Rattle.tables.proofs.Adding.{Has, IsInsert, IsGiven, cast_null, cast_int}
-use Rattle.tables.proofs.Deleting.{IsDelete, IsCoded, test}
-use Rattle.tables.proofs.Updating.{IsUpdate, IsSet, draft}
+use Rattle.tables.proofs.Finding.{hit, finding}
+use Rattle.tables.proofs.Deleting.{IsDelete}
+use Rattle.tables.proofs.Updating.{IsUpdate, showing}
+use Rattle.tables.proofs.Testing.{equals, is_parameter}
 use Rattle.tables.proofs.Selecting.{IsPlainSelect, IsResolved, IsSelect, id_out, column_out}
 
-abbrev pub project : Table
-project = project_table nowhere
+abbrev project : Table
+project = table_at Project nowhere
 
-abbrev pub create_project : List ℕ
-create_project = codes "CREATE TABLE project (code TEXT NOT NULL PRIMARY KEY, label TEXT NOT NULL, supervisor TEXT NOT NULL REFERENCES supervisor (code), quota INTEGER NOT NULL CHECK (quota BETWEEN 0 AND 500)) STRICT"
+abbrev code_test : Expr
+code_test = is_parameter (codes "code") 1
 
 -- the text that makes the table
-pub project_create : IsCreate create_project project
+pub project_create : IsCreate (shape_of Project).create project (checks_of Project)
 unfolding everything listing_schema
 project_create = record {
   p = record { statement = written.CreateTable _; names = []; formats = []; start = 0; end = 192; tail = 192 };
@@ -42,111 +51,111 @@ project_create = record {
   shows = λ schema. refl;
   commands = λ schema. made_command schema (codes "project");
   whole = refl;
-  checks = _;
   defined = refl;
   named = refl;
 }
 
-abbrev pub insert_project : List ℕ
-insert_project = codes "INSERT INTO project (code, label, supervisor, quota) VALUES (?1, ?2, ?3, ?4)"
+abbrev terms : List Term
+terms = lit Null ∷ col 0 0 ∷ col 0 1 ∷ col 0 2 ∷ col 0 3 ∷ []
 
-abbrev pub new_project : List Term
-new_project = lit Null ∷ col 0 0 ∷ col 0 1 ∷ col 0 2 ∷ col 0 3 ∷ []
+given : (row : Row) → are_of (kinds_of Project) row ≡ true → IsGiven project row terms 5 row
+given (Text v0 ∷ Text v1 ∷ Text v2 ∷ Int n3 ∷ []) is = record { source = Null ∷ Text v0 ∷ Text v1 ∷ Text v2 ∷ Int n3 ∷ []; one = refl; shown = λ here. rw (cast_null, cast_int n3) refl }
+given _ is = absurd (cc)
 
 -- the text that adds a row
-pub project_insert : IsInsert insert_project project new_project 5
+pub project_insert : IsInsert (shape_of Project).insert project (kinds_of Project)
 unfolding everything
 project_insert = record {
   p = record { statement = written.Insert _ _ _ _ _ _; names = codes "?1" ∷ codes "?2" ∷ codes "?3" ∷ codes "?4" ∷ []; formats = []; start = 0; end = 76; tail = 76 };
   columns = _;
   values = _;
+  terms = terms;
+  width = 5;
   parsed = refl;
   statement = refl;
   plain = refl;
   laid = λ schema place. refl;
   whole = refl;
+  given = given;
 }
 
--- the row that it adds
-pub project_given : (code label supervisor : List ℕ) (quota : ℕ) → IsGiven project (Text code ∷ Text label ∷ Text supervisor ∷ Int (pos quota) ∷ []) new_project 5 (Text code ∷ Text label ∷ Text supervisor ∷ Int (pos quota) ∷ [])
-project_given code label supervisor quota = record { source = Null ∷ Text code ∷ Text label ∷ Text supervisor ∷ Int (pos quota) ∷ []; one = refl; shown = λ here. rw (cast_null, cast_int (pos quota)) refl }
-
--- the code is the first column
-pub project_coded : IsCoded project
-project_coded = record { first = λ r. refl }
-
-abbrev pub delete_project : List ℕ
-delete_project = codes "DELETE FROM project WHERE code = ?1"
+taken : (key : Row) → are_of (take 1 (kinds_of Project)) key ≡ true → (r : Row) → hit (equals 1 0 ∷ []) (col 1 0 ∷ []) key r ≡ begins_with key (cells project r)
+taken (Text v ∷ []) is r = refl
+taken _ is r = absurd (cc)
 
 -- the text that takes a row away by its code
-pub project_delete : IsDelete delete_project project
+pub project_delete : IsDelete (shape_of Project).delete project (take 1 (kinds_of Project))
 unfolding everything listing_schema
 project_delete = record {
-  p = record { statement = written.Delete (codes "project") (Some test) []; names = codes "?1" ∷ []; formats = []; start = 0; end = 35; tail = 35 };
+  p = record { statement = written.Delete (codes "project") (Some code_test) []; names = codes "?1" ∷ []; formats = []; start = 0; end = 35; tail = 35 };
+  test = code_test;
+  tests = equals 1 0 ∷ [];
   parsed = refl;
   statement = refl;
   plain = refl;
-  names = refl;
   whole = refl;
   unlisted = refl;
   draft = λ schema at place has. rw has.there (rw has.there (rw has.there refl));
+  hits = taken;
 }
 
-abbrev pub update_project : List ℕ
-update_project = codes "UPDATE project SET code = ?1, label = ?2, supervisor = ?3, quota = ?4 WHERE code = ?1"
+abbrev values : List Term
+values = col 0 0 ∷ col 0 1 ∷ col 0 2 ∷ col 0 3 ∷ []
 
-abbrev project_sets : List (List ℕ × Expr)
-project_sets = (codes "code", expr.Parameter 1) ∷ (codes "label", expr.Parameter 2) ∷ (codes "supervisor", expr.Parameter 3) ∷ (codes "quota", expr.Parameter 4) ∷ []
+found : (row : Row) → are_of (kinds_of Project) row ≡ true → (r : Row) → hit (equals 1 0 ∷ []) (showing values) row r ≡ begins_with (take 1 row) (cells project r)
+found (Text v0 ∷ Text v1 ∷ Text v2 ∷ Int n3 ∷ []) is r = refl
+found _ is r = absurd (cc)
 
-abbrev project_values : List Term
-project_values = col 0 0 ∷ col 0 1 ∷ col 0 2 ∷ col 0 3 ∷ []
+set : (row : Row) → are_of (kinds_of Project) row ≡ true → (r : Row) → is_int (rowid r) ≡ true → hit (equals 1 0 ∷ []) (showing values) row r ≡ true
+    → cells project (cast_row project (rowid r ∷ eval_all values (row ∷ r ∷ []))) ≡ row
+set (Text v0 ∷ Text v1 ∷ Text v2 ∷ Int n3 ∷ []) is r int same = rw (cast_int n3) refl
+set _ is r int same = absurd (cc)
+
+abbrev sets : List (List ℕ × Expr)
+sets = (codes "code", expr.Parameter 1) ∷ (codes "label", expr.Parameter 2) ∷ (codes "supervisor", expr.Parameter 3) ∷ (codes "quota", expr.Parameter 4) ∷ []
 
 abbrev before_test : LState
 before_test = record (fresh 2 max_budget) { budget = 99996 }
 
 sets_are : (schema : Schema) (at : ℕ) (place : Place)
-    → assigned (over schema at (codes "project")) (project_table place) project_sets (fresh 2 max_budget) ≡ Ok ((1 ∷ 2 ∷ 3 ∷ 4 ∷ [], project_values), before_test)
+    → assigned (over schema at (codes "project")) (table_at Project place) sets (fresh 2 max_budget) ≡ Ok ((1 ∷ 2 ∷ 3 ∷ 4 ∷ [], values), before_test)
 unfolding everything
 sets_are schema at place = refl
 
-row_is : (place : Place) → row (project_table place) None (1 ∷ 2 ∷ 3 ∷ 4 ∷ []) (col 1 0 ∷ []) project_values ≡ Ok (col 1 0 ∷ col 1 0 ∷ project_values)
+row_is : (place : Place) → row (table_at Project place) None (1 ∷ 2 ∷ 3 ∷ 4 ∷ []) (col 1 0 ∷ []) values ≡ Ok (showing values)
 unfolding everything
 row_is place = refl
 
-picked_is : (schema : Schema) (at : ℕ) (place : Place) (project : List Term) → Has schema (codes "project") at (project_table place)
-    → value_of (picked (over schema at (codes "project")) (project_table place) project (Some test) before_test) ≡ Ok (record (draft place.tree []) { project = project })
+picked_is : (schema : Schema) (at : ℕ) (place : Place) (project : List Term) → Has schema (codes "project") at (table_at Project place)
+    → value_of (picked (over schema at (codes "project")) (table_at Project place) project (Some code_test) before_test) ≡ Ok (finding place.tree (equals 1 0 ∷ []) project)
 unfolding everything
 picked_is schema at place project has = rw has.there (rw has.there (rw has.there refl))
 
-updated_is : (schema : Schema) (at : ℕ) (place : Place) → Has schema (codes "project") at (project_table place)
-    → updated schema at (project_table place) project_sets (Some test) ≡ Ok (draft place.tree project_values)
+updated_is : (schema : Schema) (at : ℕ) (place : Place) → Has schema (codes "project") at (table_at Project place)
+    → updated schema at (table_at Project place) sets (Some code_test) ≡ Ok (finding place.tree (equals 1 0 ∷ []) (showing values))
 unfolding updated updated_in
 updated_is schema at place has = rw (sets_are schema at place, row_is place) (picked_is schema at place _ has)
 
 -- the text that sets a row by its code
-pub project_update : IsUpdate update_project project
+pub project_update : IsUpdate (shape_of Project).update project (kinds_of Project) 1
 unfolding everything listing_schema
 project_update = record {
-  p = record { statement = written.Update _ _ (Some test) []; names = codes "?1" ∷ codes "?2" ∷ codes "?3" ∷ codes "?4" ∷ []; formats = []; start = 0; end = 85; tail = 85 };
-  sets = project_sets;
-  values = project_values;
+  p = record { statement = written.Update _ _ (Some code_test) []; names = codes "?1" ∷ codes "?2" ∷ codes "?3" ∷ codes "?4" ∷ []; formats = []; start = 0; end = 85; tail = 85 };
+  sets = sets;
+  test = code_test;
+  tests = equals 1 0 ∷ [];
+  values = values;
   parsed = refl;
   statement = refl;
   plain = refl;
   whole = refl;
   unlisted = refl;
-  draft = updated_is;
+  draft = λ schema at place has. updated_is schema at place has;
+  hits = found;
+  set = set;
 }
 
--- the row that it sets
-pub project_set : (code label supervisor : List ℕ) (quota : ℕ) → IsSet project project_update.values (Text code ∷ Text label ∷ Text supervisor ∷ Int (pos quota) ∷ [])
-unfolding project_update
-project_set code label supervisor quota = record { shows = λ r. refl; set = λ place r. rw (cast_int (pos quota)) refl }
-
-abbrev pub select_project : List ℕ
-select_project = codes "SELECT rowid, * FROM project"
-
-select_plain : IsPlainSelect select_project
+select_plain : IsPlainSelect (shape_of Project).select
 unfolding everything
 select_plain = record {
   p = record { statement = written.Select _; names = []; formats = []; start = 0; end = 28; tail = 28 };
@@ -167,11 +176,11 @@ select_plain = record {
   from = λ q schema lets. refl;
 }
 
-abbrev project_outs : List Output
-project_outs = id_out ∷ column_out (codes "code") 1 ∷ column_out (codes "label") 2 ∷ column_out (codes "supervisor") 3 ∷ column_out (codes "quota") 4 ∷ []
+abbrev outs : List Output
+outs = id_out ∷ column_out (codes "code") 1 ∷ column_out (codes "label") 2 ∷ column_out (codes "supervisor") 3 ∷ column_out (codes "quota") 4 ∷ []
 
-select_resolved : (schema : Schema) (place : Place) (listed : Lists schema (project_table place)) → nat_lt place.tree (2 ^ 31) ≡ true
-    → IsResolved schema (out-Select select_plain.s).first (codes "project") listed.at place.tree 99999 project_outs
+select_resolved : (schema : Schema) (place : Place) (listed : Lists schema (table_at Project place)) → nat_lt place.tree (2 ^ 31) ≡ true
+    → IsResolved schema (out-Select select_plain.s).first (codes "project") listed.at place.tree 99999 outs
 unfolding everything select_plain
 select_resolved schema place listed low = record {
   bounds = rw listed.named refl;
@@ -179,17 +188,17 @@ select_resolved schema place listed low = record {
   joined = rw listed.there refl;
 }
 
-select_listed : if_select (compiled listing_schema select_project) ≡ Err NoSuchTable
+select_listed : if_select (compiled listing_schema (shape_of Project).select) ≡ Err NoSuchTable
 unfolding everything listing_schema
 select_listed = refl
 
 -- the text that reads the table
-pub project_select : IsSelect select_project project
+pub project_select : IsSelect (shape_of Project).select project
 project_select = record {
   plain = select_plain;
   unlisted = select_listed;
   budget = 99999;
-  outs = project_outs;
+  outs = outs;
   resolved = select_resolved;
   shows = λ r. refl;
 }

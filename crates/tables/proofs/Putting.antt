@@ -5,7 +5,7 @@ use Rattle.sqlite.specs.Table.{Table}
 use Rattle.sqlite.specs.State.{State}
 use Rattle.tables.specs.Table.{Place}
 use Rattle.tables.specs.Keyed.{Stands}
-use Rattle.tables.specs.Writes.{Adds, Replaces, Puts, has_code, without}
+use Rattle.tables.specs.Writes.{Adds, Replaces, Puts, begins_with, without}
 use Rattle.tables.specs.Steps.{HasStepped}
 use Rattle.tables.proofs.Runs.{writes_then}
 
@@ -18,20 +18,20 @@ one y [] h = absurd (omega (arith, h))
 one y (x ∷ []) h = refl
 one y (x ∷ z ∷ xs) h = absurd (omega (arith, h))
 
-module _ (table : Place → Table) (code : List ℕ) (given : Row) where
+module _ (table : Place → Table) (key : Row) (given : Row) where
   -- there was one
-  pub puts_once : (count : ℕ) (a b : State) → count ≡ 1 → HasStepped (Replaces table code given count) a b → HasStepped (Puts table code given) a b
+  pub puts_once : (count : ℕ) (a b : State) → count ≡ 1 → HasStepped (Replaces table key given count) a b → HasStepped (Puts table key given) a b
   unfolding Puts
   puts_once count a b some p = record {
     inside = p.inside;
     shown = p.shown;
     step = λ place rows inert stands.
         let it = p.step place rows inert stands in
-        (subst (λ (first : List Row). Stands table place (first ++ without code rows) b.now) (one given (filter (has_code code) rows) (sym some ∙ it.2)) it.0, it.1);
+        (subst (λ (first : List Row). Stands table place (first ++ without key rows) b.now) (one given (filter (begins_with key) rows) (sym some ∙ it.2)) it.0, it.1);
   }
 
   -- there was none
-  pub puts_more : (count : ℕ) (a b c : State) → count ≡ 0 → HasStepped (Replaces table code given count) a b → HasStepped (Adds table given) b c → HasStepped (Puts table code given) a c
+  pub puts_more : (count : ℕ) (a b c : State) → count ≡ 0 → HasStepped (Replaces table key given count) a b → HasStepped (Adds table given) b c → HasStepped (Puts table key given) a c
   unfolding Puts
   puts_more count a b c zero p q = record {
     inside = p.inside;
@@ -44,8 +44,8 @@ module _ (table : Place → Table) (code : List ℕ) (given : Row) where
     };
     step = λ place rows inert stands.
         let it = p.step place rows inert stands in
-        let empty = none (filter (has_code code) rows) (sym zero ∙ it.2) in
-        let mid = subst (λ (first : List Row). Stands table place (map (λ (_ : Row). given) first ++ without code rows) b.now) empty it.0 in
-        let then = q.step place (without code rows) mid in
+        let empty = none (filter (begins_with key) rows) (sym zero ∙ it.2) in
+        let mid = subst (λ (first : List Row). Stands table place (map (λ (_ : Row). given) first ++ without key rows) b.now) empty it.0 in
+        let then = q.step place (without key rows) mid in
         (then.0, writes_then place.tree a.now b.now c.now it.1 then.1);
   }

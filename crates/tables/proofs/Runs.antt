@@ -1,5 +1,5 @@
 -- Statements one after the other, and what they leave alone.
-use Rattle.std.proofs.Common.{◌≡◌, ◌≢◌, inl, inr, arith, ℕ, List, [], ◌∷◌, refl, sym, subst, ◌∙◌, IsTrue, true, false, Bool, map, ap, ◌<◌, ◌^◌, nat_lt, Option, Some, slice_get, Result, Ok, Err, IfOk}
+use Rattle.std.proofs.Common.{◌≡◌, ◌≢◌, ◌⊎◌, inl, inr, arith, ℕ, List, [], ◌∷◌, refl, sym, subst, ◌∙◌, IsTrue, true, false, Bool, map, ap, ◌<◌, ◌^◌, nat_lt, Option, Some, slice_get, Result, Ok, Err, IfOk, get_or}
 use Rattle.std.specs.List.{AllByRecursion, AllZip}
 use Rattle.std.proofs.lemmas.Bool.Decides.{Decides-ltb}
 use Rattle.sqlite_schema.specs.Names.{table_named}
@@ -9,19 +9,21 @@ use Rattle.std.specs.List.Sorted.{IsPermutation}
 use Rattle.sqlite.specs.Order.{Row}
 use Rattle.sqlite.specs.Schema.{Schema}
 use Rattle.sqlite.specs.Table.{Table}
+use Rattle.sqlite.specs.Term.{Term}
 use Rattle.sqlite.specs.Effect.{Database}
-use Rattle.sqlite.specs.State.{State, Executes, Survives}
+use Rattle.sqlite.specs.State.{State, HasCleanDisk, KeepsCommit, Executes, Survives}
+use Rattle.sqlite.proofs.StateLemmas.{survives_then}
 use Rattle.sqlite.specs.Tree.{Trees}
 use Rattle.sqlite_rules.proofs.ListLemmas.{all_has, all_from, has_got}
-use Rattle.tables.specs.Table.{Place, Lists, cells}
+use Rattle.tables.specs.declared.table.Table.{Table as Ours}
+use Rattle.tables.specs.declared.table.Table.TheVariants.{Edition, Supervisor, Project, Student, Round, Choice, Placement, Import}
+use Rattle.tables.specs.Table.{Place, Lists, cells, table_at, number_of, same_table}
+use Rattle.std.proofs.lemmas.Bool.{cases_Bool}
+use Rattle.std.proofs.lemmas.Bool.Decides.{Decides-eqb}
 use Rattle.tables.specs.Keyed.{IsKeyed, Stands}
-use Rattle.tables.specs.Writes.{WritesOnly, Adds, Makes}
-use Rattle.tables.specs.Steps.{HasRun, HasStepped, Stays, Rests}
+use Rattle.tables.specs.Writes.{WritesOnly, Makes}
+use Rattle.tables.specs.Steps.{Does, HasRun, HasStepped, IsPart, Stays, Rests}
 use Rattle.tables.proofs.Places.{listed_along}
-
--- what writes nothing writes only one table
-pub writes_none : (tree : ℕ) (db : Database) → WritesOnly tree db db
-writes_none tree db = record { schema = refl; others = all_from _ db.schema.tables (λ t h apart. refl) }
 
 -- so do two that write it one after the other
 pub writes_then : (tree : ℕ) (a b c : Database) → WritesOnly tree a b → WritesOnly tree b c → WritesOnly tree a c
@@ -50,25 +52,10 @@ stands_apart table place same rows tree old new apart only stands =
     let kept : new.trees t.tree ≡ old.trees t.tree = all_has _ old.schema.tables t only.others (has_got old.schema.tables stands.listed.at t stands.listed.there) (λ e. apart (sym same ∙ e)) in
     stands_kept table place same rows old new (listed_along old.schema new.schema t only.schema stands.listed) kept stands
 
--- a table that is made, and then gets a row
-pub made_with : (table : Place → Table) (row : Row) (a b c : Database) → Makes table [] a b → Adds table row b c → Makes table (row ∷ []) a c
-made_with table row a b c made adds =
-    let grown = adds made.place [] made.stands in
-    record {
-      place = made.place;
-      stands = grown.0;
-      others = λ t listed.
-          let was = made.others t listed in (
-            listed_along b.schema c.schema t grown.1.schema was.0,
-            all_has _ b.schema.tables t grown.1.others (has_got b.schema.tables was.0.at t was.0.there) was.2 ∙ was.1,
-            was.2,
-          );
-    }
-
 -- so it does where another is made, and is another
-pub stands_beside : (table : Place → Table) (place : Place) (same : (table place).tree ≡ place.tree) (rows : List Row) (other : Place → Table) (given : List Row) (old new : Database)
-    → (made : Makes other given old new) → Stands table place rows old → Stands table place rows new × (place.tree ≢ made.place.tree)
-stands_beside table place same rows other given old new made stands =
+pub stands_beside : (table : Place → Table) (place : Place) (same : (table place).tree ≡ place.tree) (rows : List Row) (other : Place → Table) (checks : List Term) (given : List Row) (old new : Database)
+    → (made : Makes other checks given old new) → Stands table place rows old → Stands table place rows new × (place.tree ≢ made.place.tree)
+stands_beside table place same rows other checks given old new made stands =
     let kept = made.others (table place) stands.listed in
     (stands_kept table place same rows old new kept.0 kept.1 stands, λ e. kept.2 (same ∙ e))
 
@@ -88,34 +75,6 @@ stays_then P Q R a b c both p q = record {
   shut = both_open b.is_open c.is_open q.shown.was_open q.shown.is_open ∙ p.shut;
   committed = q.shown.committed_is ∙ p.committed;
   mode = q.shown.mode ∙ sym q.inside ∙ p.mode;
-  step = both p.step q.step;
-}
-
--- two statements
-pub stepped_then : (P Q R : Database → Database → Type 0) (a b c : State) → (P a.now b.now → Q b.now c.now → R a.now c.now) → HasStepped P a b → HasStepped Q b c → HasStepped R a c
-stepped_then P Q R a b c both p q = record {
-  inside = p.inside;
-  shown = record {
-    was_open = p.shown.was_open;
-    is_open = q.shown.is_open;
-    now_is = refl;
-    committed_is = q.shown.committed_is ∙ p.shown.committed_is;
-    mode = q.shown.mode;
-  };
-  step = both p.step q.step;
-}
-
--- a statement, and then a run of them
-pub stepped_stays : (P Q R : Database → Database → Type 0) (a b c : State) → (P a.now b.now → Q b.now c.now → R a.now c.now) → HasStepped P a b → Stays Q b c → HasStepped R a c
-stepped_stays P Q R a b c both p q = record {
-  inside = p.inside;
-  shown = record {
-    was_open = p.shown.was_open;
-    is_open = subst IsTrue (sym q.shut) p.shown.is_open;
-    now_is = refl;
-    committed_is = q.committed ∙ p.shown.committed_is;
-    mode = q.mode ∙ p.shown.mode;
-  };
   step = both p.step q.step;
 }
 
@@ -159,6 +118,38 @@ listed_once schema table p q named l m =
     let both : ◌≡◌ {A = Option Table} (Some (table p)) (Some (table q)) = sym l.there ∙ ap (slice_get schema.tables) at ∙ m.there in
     cc
 
+-- the tree of a table of the product is that of its place, and its name is told
+pub listed_at_one : (table : Ours) (schema : Schema) (p q : Place) → Lists schema (table_at table p) → Lists schema (table_at table q) → p.tree ≡ q.tree
+listed_at_one table schema p q l m = ap (λ (t : Table). t.tree) (listed_once schema (table_at table) p q refl l m)
+
+abbrev table_numbered : ℕ → Ours
+table_numbered n = get_or (Edition ∷ Supervisor ∷ Project ∷ Student ∷ Round ∷ Choice ∷ Placement ∷ Import ∷ []) n Edition
+
+numbered_back : (table : Ours) → table_numbered (number_of table) ≡ table
+numbered_back Edition = refl
+numbered_back Supervisor = refl
+numbered_back Project = refl
+numbered_back Student = refl
+numbered_back Round = refl
+numbered_back Choice = refl
+numbered_back Placement = refl
+numbered_back Import = refl
+
+-- tables that are tested to be one are one
+pub same_table_is : (a b : Ours) → same_table a b ≡ true → a ≡ b
+same_table_is a b h = sym (numbered_back a) ∙ ap table_numbered ((Decides-eqb (number_of a) (number_of b)).0 h) ∙ numbered_back b
+
+-- a table is itself
+pub same_table_self : (a : Ours) → same_table a a ≡ true
+same_table_self a = (Decides-eqb (number_of a) (number_of a)).1 refl
+
+-- two tables are one or two
+pub decide_table : (a b : Ours) → (a ≡ b) ⊎ (a ≢ b)
+decide_table a b = elim (cases_Bool (same_table a b)) [
+  | inl same ↦ inl (same_table_is a b same)
+  | inr other ↦ inr (λ e. absurd (let h = sym (same_table_self a) ∙ ap (same_table a) e ∙ other in cc))
+]
+
 -- what a statement that went through did
 pub stepped_by : (P : Database → Database → Type 0) (sql : List ℕ) (params : Row) (count : ℕ) (old new : State) → (Executes sql params old new (Ok count) → P old.now new.now) → HasRun sql params count old new → HasStepped P old new
 stepped_by P sql params count old new does it = record { inside = it.inside; shown = it.shown; step = does it.ran }
@@ -168,3 +159,50 @@ pub stepped_each : {E : Type 0} (P : ℕ → Database → Database → Type 0) (
     → IfOk r (λ count. HasRun sql params count old new) → IfOk r (λ count. HasStepped (P count) old new)
 stepped_each P sql params old new (Ok count) does it = stepped_by (P count) sql params count old new (does count) it
 stepped_each P sql params old new (Err e) does it = it
+
+-- a call that did one thing did another
+pub part_ok : {A B E F : Type 0} (Q : A → State → State → Type 0) (R : B → State → State → Type 0) (a : A) (b : B) (old new : State) → (Q a old new → R b old new) → IsPart {E = E} Q (Ok a) old new → IsPart {E = F} R (Ok b) old new
+part_ok Q R a b old new weaker it = record { survives = it.survives; did = λ clean. weaker (it.did clean); kept = it.kept }
+
+-- the same of one that may have failed
+pub part_as : {A E : Type 0} (Q R : A → State → State → Type 0) (r : Result A E) (old new : State) → ((a : A) → Q a old new → R a old new) → IsPart Q r old new → IsPart R r old new
+part_as Q R (Ok a) old new weaker it = record { survives = it.survives; did = λ clean. weaker a (it.did clean); kept = it.kept }
+part_as Q R (Err e) old new weaker it = record { survives = it.survives; did = it.did; kept = it.kept }
+
+both_kept : (a b c : State) → (HasCleanDisk c → HasCleanDisk b) → (HasCleanDisk b → KeepsCommit a b) → (HasCleanDisk c → KeepsCommit b c) → HasCleanDisk c → KeepsCommit a c
+both_kept a b c early p q clean =
+    let first = p (early clean) in
+    let then = q clean in
+    record { was_open = λ up. first.was_open (then.was_open up); committed = λ up. then.committed up ∙ first.committed (then.was_open up) }
+
+-- two calls that commit nothing
+pub survives_both : (a b c : State) → Survives a b (λ _. ⊥) → Survives b c (λ _. ⊥) → Survives a c (λ _. ⊥)
+survives_both a b c = survives_then a b c (λ _. ⊥) (λ _. ⊥) (λ _. ⊥) (λ _ db none. none) (λ _ db none. none)
+
+module _ {A B E F : Type 0} (Q : A → State → State → Type 0) (R P : B → State → State → Type 0) (a b c : State) where
+  -- one call after another
+  pub part_then : (x : A) (r : Result B E) → ((y : B) → Q x a b → R y b c → P y a c) → IsPart {E = F} Q (Ok x) a b → IsPart R r b c → IsPart P r a c
+  part_then x (Ok y) both p q =
+      let early : HasCleanDisk c → HasCleanDisk b = λ clean. omega (arith, q.survives.clean) in
+      record { survives = survives_both a b c p.survives q.survives; did = λ clean. both y (p.did (early clean)) (q.did clean); kept = both_kept a b c early p.kept q.kept }
+  part_then x (Err e) both p q =
+      let early : HasCleanDisk c → HasCleanDisk b = λ clean. omega (arith, q.survives.clean) in
+      record { survives = survives_both a b c p.survives q.survives; did = q.did; kept = both_kept a b c early p.kept q.kept }
+
+-- a run of statements, and then one more
+pub stays_stepped : (P Q R : Database → Database → Type 0) (a b c : State) → (P a.now b.now → Q b.now c.now → R a.now c.now) → Stays P a b → HasStepped Q b c → HasStepped R a c
+stays_stepped P Q R a b c both p q = record {
+  inside = sym p.mode ∙ q.inside;
+  shown = record {
+    was_open = subst IsTrue p.shut q.shown.was_open;
+    is_open = q.shown.is_open;
+    now_is = refl;
+    committed_is = q.shown.committed_is ∙ p.committed;
+    mode = q.shown.mode;
+  };
+  step = both p.step q.step;
+}
+
+-- nothing was called yet
+pub part_none : {E : Type 0} (Q : State → State → Type 0) (s : State) → Q s s → Does {E = E} Q (Ok tt) s s
+part_none Q s q = record { survives = survives_none s (λ _. ⊥); did = λ clean. q; kept = λ clean. record { was_open = λ up. up; committed = λ up. refl } }

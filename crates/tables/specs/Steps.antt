@@ -1,7 +1,7 @@
 -- What a statement, a transaction and a crash do, under a relation P between the database before and after.
-use Rattle.std.specs.Prelude.{◌≡◌, ◌⊎◌, ◌^◌, ℕ, IsTrue, true, false, List, [], map, drop, nat_lt, Ok}
+use Rattle.std.specs.Prelude.{◌≡◌, ◌⊎◌, ◌^◌, ℕ, IsTrue, true, false, List, [], map, drop, nat_lt, Result, Ok, IfOk}
 use Rattle.sqlite.specs.Effect.{Database}
-use Rattle.sqlite.specs.State.{State, Executes, IsUnchanged, Shown, FailsToQuery, Shows as Sees}
+use Rattle.sqlite.specs.State.{State, HasCleanDisk, KeepsCommit, Survives, Executes, IsUnchanged, Shown, FailsToQuery, Shows as Sees}
 use Rattle.sqlite.specs.declared.error.Error.{Error}
 use Rattle.sqlite.specs.Order.{Row}
 use Rattle.sqlite.specs.Table.{Table}
@@ -53,3 +53,13 @@ RanQuery sql old new = ((rows : List Row) × Shown sql [] old new rows) ⊎ ((e 
 -- where no transaction was open nothing has changed, unless a fault of the disk has shut the connection
 abbrev pub Rests : State → State → Type 0
 Rests old new = IsTrue new.is_open → IsTrue old.is_open × (old.now ≡ old.committed → (new.now ≡ old.now) × (new.committed ≡ old.committed))
+
+-- A call in a transaction: nothing is committed by it, and where it answers it did this, unless the disk has failed.
+pub record IsPart {A E : Type 0} (Q : A → State → State → Type 0) (result : Result A E) (old new : State) : Type 0 where
+  pub survives : Survives old new (λ _. ⊥)
+  pub did : HasCleanDisk new → IfOk result (λ a. Q a old new)
+  pub kept : HasCleanDisk new → KeepsCommit old new
+
+-- the same of a call that answers nothing else
+abbrev pub Does : {E : Type 0} → (State → State → Type 0) → Result (Unit {0}) E → State → State → Type 0
+Does Q = IsPart (λ _. Q)

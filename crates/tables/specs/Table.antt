@@ -1,99 +1,302 @@
 -- The tables of the product, as a schema lists them, and the rows that they hold.
-use Rattle.std.specs.Prelude.{◌≡◌, true, false, None, Some, [], ◌∷◌, codes, List, ℕ, map, drop, slice_get}
+use Rattle.std.specs.Prelude.{◌≡◌, ◌&&◌, ◌==◌, ℕ, zero, suc, Bool, true, false, IsTrue, None, Some, Option, [], ◌∷◌, codes, List, map, drop, take, length, slice_get, pos}
+use Rattle.std.specs.Borrow.{Bor}
 use Rattle.std.specs.List.Sorted.{IsPermutation}
-use Rattle.sqlite.specs.declared.types.Value.TheVariants.{Null}
+use Rattle.sqlite.specs.declared.types.Value.{Value}
+use Rattle.sqlite.specs.declared.types.Value.TheVariants.{Null, Int, Text as Words}
 use Rattle.sqlite.specs.Order.{Row}
 use Rattle.sqlite.specs.Collation.TheVariants.{Binary}
-use Rattle.sqlite.specs.Table.{Table}
+use Rattle.sqlite.specs.Table.{Table as AnyTable}
 use Rattle.sqlite.specs.Schema.{Schema}
 use Rattle.sqlite.specs.Kind.{Kind}
-use Rattle.sqlite.specs.Kind.TheVariants.{Integer, Text}
+use Rattle.sqlite.specs.Kind.TheVariants.{Integer, Text, Blob}
 use Rattle.sqlite.specs.Effect.{Database}
 use Rattle.sqlite.specs.Rows.{shown}
-use Rattle.sqlite.specs.Term.{Term}
+use Rattle.sqlite_sql.specs.Term.{Term, lit, col, op2}
+use Rattle.sqlite_sql.specs.declared.ops.BinaryOp.TheVariants.{Compare, And, Or}
+use Rattle.sqlite_sql.specs.declared.ops.CompareOp.{CompareOp}
+use Rattle.sqlite_sql.specs.declared.ops.CompareOp.TheVariants.{Eq, Ge, Le}
 use Rattle.sqlite_schema.specs.declared.schema.Column.{Column}
 use Rattle.sqlite_schema.specs.declared.schema.Reference.{Reference}
 use Rattle.sqlite_schema.specs.declared.schema.Action.TheVariants.{NoAction}
 use Rattle.sqlite_schema.specs.Names.{table_named}
+use Rattle.sqlite_schema.specs.Rules.{kind_code, kind_of}
 use Rattle.sqlite_value.specs.Keys.{plain}
+use Rattle.sqlite_value.specs.declared.keys.Order.{Order}
+use Rattle.tables.specs.declared.table.Table.{Table}
+use Rattle.tables.specs.declared.table.Table.TheVariants.{Edition, Supervisor, Project, Student, Round, Choice, Placement, Import}
+use Rattle.tables.specs.declared.table.Shape.{Shape as Given}
+use Rattle.tables.specs.declared.table.Told.{Told}
+use Rattle.tables.specs.declared.table.Link.{Link}
+
+-- A table as it is told: its name and its columns; the position of the column that is the rowid, if one is; its key,
+-- columns that no two rows share, and references, all by columns counted from 1, with 0 for the rowid; how many of the
+-- first columns a removal names; and the texts of its statements.
+pub record Shape : Type 0 where
+  pub name : List ℕ
+  pub columns : List (List ℕ × Kind)
+  pub key : Option ℕ
+  pub primary : List ℕ
+  pub uniques : List (List ℕ)
+  pub links : List (ℕ × List ℕ × List ℕ)
+  pub named : ℕ
+  pub create : List ℕ
+  pub insert : List ℕ
+  pub update : List ℕ
+  pub delete : List ℕ
+  pub select : List ℕ
+
+-- what the program tells of a column
+abbrev pub column_by : Told → List ℕ × Kind
+column_by told = (told.name.now, told.kind)
+
+-- of a reference
+abbrev pub link_by : Link → ℕ × List ℕ × List ℕ
+link_by link = (link.column, link.parent.now, link.parent_column.now)
+
+-- of columns that no two rows share
+abbrev pub places_by : Bor (List ℕ) → List ℕ
+places_by places = places.now
+
+-- and of a table
+abbrev pub told_by : Given → Shape
+told_by given = record {
+  name = given.name.now;
+  columns = map column_by given.columns.now;
+  key = given.key;
+  primary = given.primary.now;
+  uniques = map places_by given.uniques.now;
+  links = map link_by given.links.now;
+  named = given.named;
+  create = given.create.now;
+  insert = given.insert.now;
+  update = given.update.now;
+  delete = given.delete.now;
+  select = given.select.now;
+}
+
+-- the tables, row by row
+abbrev pub shape_of : Table → Shape
+shape_of Edition = record {
+  name = codes "edition";
+  columns = (codes "id", Integer) ∷ (codes "number", Integer) ∷ [];
+  key = Some 0;
+  primary = 0 ∷ [];
+  uniques = [];
+  links = [];
+  named = 1;
+  create = codes "CREATE TABLE edition (id INTEGER NOT NULL PRIMARY KEY CHECK (id = 1), number INTEGER NOT NULL) STRICT";
+  insert = codes "INSERT INTO edition (id, number) VALUES (?1, ?2)";
+  update = codes "UPDATE edition SET number = ?2 WHERE id = ?1";
+  delete = codes "DELETE FROM edition WHERE id = ?1";
+  select = codes "SELECT rowid, * FROM edition";
+}
+shape_of Supervisor = record {
+  name = codes "supervisor";
+  columns = (codes "code", Text) ∷ (codes "label", Text) ∷ (codes "quota", Integer) ∷ [];
+  key = None;
+  primary = 1 ∷ [];
+  uniques = (1 ∷ []) ∷ [];
+  links = [];
+  named = 1;
+  create = codes "CREATE TABLE supervisor (code TEXT NOT NULL PRIMARY KEY, label TEXT NOT NULL, quota INTEGER NOT NULL CHECK (quota BETWEEN 0 AND 500)) STRICT";
+  insert = codes "INSERT INTO supervisor (code, label, quota) VALUES (?1, ?2, ?3)";
+  update = codes "UPDATE supervisor SET code = ?1, label = ?2, quota = ?3 WHERE code = ?1";
+  delete = codes "DELETE FROM supervisor WHERE code = ?1";
+  select = codes "SELECT rowid, * FROM supervisor";
+}
+shape_of Project = record {
+  name = codes "project";
+  columns = (codes "code", Text) ∷ (codes "label", Text) ∷ (codes "supervisor", Text) ∷ (codes "quota", Integer) ∷ [];
+  key = None;
+  primary = 1 ∷ [];
+  uniques = (1 ∷ []) ∷ [];
+  links = (3, codes "supervisor", codes "code") ∷ [];
+  named = 1;
+  create = codes "CREATE TABLE project (code TEXT NOT NULL PRIMARY KEY, label TEXT NOT NULL, supervisor TEXT NOT NULL REFERENCES supervisor (code), quota INTEGER NOT NULL CHECK (quota BETWEEN 0 AND 500)) STRICT";
+  insert = codes "INSERT INTO project (code, label, supervisor, quota) VALUES (?1, ?2, ?3, ?4)";
+  update = codes "UPDATE project SET code = ?1, label = ?2, supervisor = ?3, quota = ?4 WHERE code = ?1";
+  delete = codes "DELETE FROM project WHERE code = ?1";
+  select = codes "SELECT rowid, * FROM project";
+}
+shape_of Student = record {
+  name = codes "student";
+  columns = (codes "code", Text) ∷ (codes "label", Text) ∷ [];
+  key = None;
+  primary = 1 ∷ [];
+  uniques = (1 ∷ []) ∷ [];
+  links = [];
+  named = 1;
+  create = codes "CREATE TABLE student (code TEXT NOT NULL PRIMARY KEY, label TEXT NOT NULL) STRICT";
+  insert = codes "INSERT INTO student (code, label) VALUES (?1, ?2)";
+  update = codes "UPDATE student SET code = ?1, label = ?2 WHERE code = ?1";
+  delete = codes "DELETE FROM student WHERE code = ?1";
+  select = codes "SELECT rowid, * FROM student";
+}
+shape_of Round = record {
+  name = codes "round";
+  columns = (codes "number", Integer) ∷ (codes "open", Integer) ∷ [];
+  key = Some 0;
+  primary = 0 ∷ [];
+  uniques = [];
+  links = [];
+  named = 1;
+  create = codes "CREATE TABLE round (number INTEGER NOT NULL PRIMARY KEY, open INTEGER NOT NULL CHECK (open IN (0, 1))) STRICT";
+  insert = codes "INSERT INTO round (number, open) VALUES (?1, ?2)";
+  update = codes "UPDATE round SET open = ?2 WHERE number = ?1";
+  delete = codes "DELETE FROM round WHERE number = ?1";
+  select = codes "SELECT rowid, * FROM round";
+}
+shape_of Choice = record {
+  name = codes "choice";
+  columns = (codes "round", Integer) ∷ (codes "student", Text) ∷ (codes "place", Integer) ∷ (codes "project", Text) ∷ [];
+  key = None;
+  primary = 1 ∷ 2 ∷ 3 ∷ [];
+  uniques = (1 ∷ 2 ∷ 3 ∷ []) ∷ (1 ∷ 2 ∷ 4 ∷ []) ∷ [];
+  links = (1, codes "round", codes "number") ∷ (2, codes "student", codes "code") ∷ (4, codes "project", codes "code") ∷ [];
+  named = 2;
+  create = codes "CREATE TABLE choice (round INTEGER NOT NULL REFERENCES round (number), student TEXT NOT NULL REFERENCES student (code), place INTEGER NOT NULL CHECK (place BETWEEN 1 AND 8), project TEXT NOT NULL REFERENCES project (code), PRIMARY KEY (round, student, place), UNIQUE (round, student, project)) STRICT";
+  insert = codes "INSERT INTO choice (round, student, place, project) VALUES (?1, ?2, ?3, ?4)";
+  update = codes "UPDATE choice SET round = ?1, student = ?2, place = ?3, project = ?4 WHERE round = ?1 AND student = ?2 AND place = ?3";
+  delete = codes "DELETE FROM choice WHERE round = ?1 AND student = ?2";
+  select = codes "SELECT rowid, * FROM choice";
+}
+shape_of Placement = record {
+  name = codes "placement";
+  columns = (codes "student", Text) ∷ (codes "round", Integer) ∷ (codes "project", Text) ∷ (codes "rank", Integer) ∷ [];
+  key = None;
+  primary = 1 ∷ [];
+  uniques = (1 ∷ []) ∷ [];
+  links = (1, codes "student", codes "code") ∷ (2, codes "round", codes "number") ∷ (3, codes "project", codes "code") ∷ [];
+  named = 1;
+  create = codes "CREATE TABLE placement (student TEXT NOT NULL PRIMARY KEY REFERENCES student (code), round INTEGER NOT NULL REFERENCES round (number), project TEXT NOT NULL REFERENCES project (code), rank INTEGER NOT NULL CHECK (rank BETWEEN 1 AND 8)) STRICT";
+  insert = codes "INSERT INTO placement (student, round, project, rank) VALUES (?1, ?2, ?3, ?4)";
+  update = codes "UPDATE placement SET student = ?1, round = ?2, project = ?3, rank = ?4 WHERE student = ?1";
+  delete = codes "DELETE FROM placement WHERE student = ?1";
+  select = codes "SELECT rowid, * FROM placement";
+}
+shape_of Import = record {
+  name = codes "import";
+  columns = (codes "id", Text) ∷ (codes "kind", Text) ∷ (codes "bytes", Blob) ∷ (codes "rows", Integer) ∷ [];
+  key = None;
+  primary = 1 ∷ [];
+  uniques = (1 ∷ []) ∷ [];
+  links = [];
+  named = 1;
+  create = codes "CREATE TABLE import (id TEXT NOT NULL PRIMARY KEY, kind TEXT NOT NULL CHECK (kind IN ('supervisors', 'projects', 'students', 'lists')), bytes BLOB NOT NULL, rows INTEGER NOT NULL) STRICT";
+  insert = codes "INSERT INTO import (id, kind, bytes, rows) VALUES (?1, ?2, ?3, ?4)";
+  update = codes "UPDATE import SET id = ?1, kind = ?2, bytes = ?3, rows = ?4 WHERE id = ?1";
+  delete = codes "DELETE FROM import WHERE id = ?1";
+  select = codes "SELECT rowid, * FROM import";
+}
 
 -- what may differ from one database to another: the table's tree, and its CHECK rules, which are taken as they were made
 pub record Place : Type 0 where
   pub tree : ℕ
   pub checks : List Term
 
+-- each table has a number of its own
+abbrev pub number_of : Table → ℕ
+number_of Edition = 0
+number_of Supervisor = 1
+number_of Project = 2
+number_of Student = 3
+number_of Round = 4
+number_of Choice = 5
+number_of Placement = 6
+number_of Import = 7
+
+-- whether two tables are one
+abbrev pub same_table : Table → Table → Bool
+same_table a b = number_of a == number_of b
+
 -- a column of a STRICT table that is NOT NULL and has no default
-abbrev pub required : List ℕ → Kind → Column
-required name kind = record { name = name; kind = kind; is_strict = true; not_null = true; default = Null; collation = Binary }
+abbrev pub required : List ℕ × Kind → Column
+required told = record { name = told.0; kind = told.1; is_strict = true; not_null = true; default = Null; collation = Binary }
 
--- a table whose first column is its key, a text
-abbrev pub coded_table : List ℕ → List Column → List Reference → Place → Table
-coded_table name columns references place = record {
-  name = name;
+-- a reference from this column to a column of another table, with NO ACTION
+abbrev pub referring : ℕ × List ℕ × List ℕ → Reference
+referring link = record { columns = link.0 ∷ []; parent = link.1; parent_columns = link.2 ∷ []; on_delete = NoAction; on_update = NoAction; is_deferred = false }
+
+-- so many ascending orders
+abbrev pub ascending : ℕ → List Order
+ascending zero = []
+ascending (suc count) = plain ∷ ascending count
+
+-- the table of this shape, as a schema lists it
+abbrev pub made_at : Shape → Place → AnyTable
+made_at shape place = record {
+  name = shape.name;
   tree = place.tree;
-  columns = columns;
-  key = None;
-  primary = 1 ∷ [];
-  uniques = (1 ∷ []) ∷ [];
-  orders = plain ∷ [];
+  columns = map required shape.columns;
+  key = shape.key;
+  primary = shape.primary;
+  uniques = shape.uniques;
+  orders = ascending (length shape.uniques);
   checks = place.checks;
-  references = references;
+  references = map referring shape.links;
   computed = [];
   stamps = record { places = []; terms = []; formats = [] };
   is_counted = false;
 }
 
--- `edition`: its number, under the id 1
-abbrev pub edition_table : Place → Table
-edition_table place = record {
-  name = codes "edition";
-  tree = place.tree;
-  columns = required (codes "id") Integer ∷ required (codes "number") Integer ∷ [];
-  key = Some 0;
-  primary = 0 ∷ [];
-  uniques = [];
-  orders = [];
-  checks = place.checks;
-  references = [];
-  computed = [];
-  stamps = record { places = []; terms = []; formats = [] };
-  is_counted = false;
-}
+-- a table of the product, as a schema lists it
+abbrev pub table_at : Table → Place → AnyTable
+table_at table = made_at (shape_of table)
 
--- `student`: code and label
-abbrev pub student_table : Place → Table
-student_table = coded_table (codes "student") (required (codes "code") Text ∷ required (codes "label") Text ∷ []) []
+-- the column at a place is compared with this value
+abbrev pub against : CompareOp → ℕ → Value → Term
+against op place value = op2 (Compare op Binary) (col 1 place) (lit value)
 
--- `supervisor`: code, label and quota
-abbrev pub supervisor_table : Place → Table
-supervisor_table = coded_table (codes "supervisor") (required (codes "code") Text ∷ required (codes "label") Text ∷ required (codes "quota") Integer ∷ []) []
+-- it lies between two numbers
+abbrev pub between : ℕ → ℕ → ℕ → Term
+between place low high = op2 And (against Ge place (Int (pos low))) (against Le place (Int (pos high)))
 
--- the third column of `project` is the code of a supervisor
-abbrev pub to_supervisor : Reference
-to_supervisor = record {
-  columns = 3 ∷ [];
-  parent = codes "supervisor";
-  parent_columns = codes "code" ∷ [];
-  on_delete = NoAction;
-  on_update = NoAction;
-  is_deferred = false;
-}
-
--- `project`: code, label, the code of its supervisor, and quota
-abbrev pub project_table : Place → Table
-project_table = coded_table (codes "project")
-    (required (codes "code") Text ∷ required (codes "label") Text ∷ required (codes "supervisor") Text ∷ required (codes "quota") Integer ∷ []) (to_supervisor ∷ [])
+-- the CHECK rules of a table, as it is made here
+abbrev pub checks_of : Table → List Term
+checks_of Edition = against Eq 0 (Int (pos 1)) ∷ []
+checks_of Supervisor = between 3 0 500 ∷ []
+checks_of Project = between 4 0 500 ∷ []
+checks_of Student = []
+checks_of Round = op2 Or (against Eq 2 (Int (pos 0))) (against Eq 2 (Int (pos 1))) ∷ []
+checks_of Choice = between 3 1 8 ∷ []
+checks_of Placement = between 4 1 8 ∷ []
+checks_of Import =
+    op2 Or (op2 Or (against Eq 2 (Words (codes "supervisors"))) (against Eq 2 (Words (codes "projects")))) (op2 Or (against Eq 2 (Words (codes "students"))) (against Eq 2 (Words (codes "lists")))) ∷ []
 
 -- the schema's first table of this name is this one
-pub record Lists (schema : Schema) (table : Table) : Type 0 where
+pub record Lists (schema : Schema) (table : AnyTable) : Type 0 where
   pub at : ℕ
   pub named : table_named schema table.name ≡ Some at
   pub there : slice_get schema.tables at ≡ Some table
 
 -- the columns of a row, as a query shows them
-abbrev pub cells : Table → Row → Row
+abbrev pub cells : AnyTable → Row → Row
 cells table row = drop 1 (shown table row)
 
 -- the table holds these rows, in whatever order
-abbrev pub Holds : Database → Table → List Row → Type 0
+abbrev pub Holds : Database → AnyTable → List Row → Type 0
 Holds db table rows = IsPermutation rows (map (cells table) (db.trees table.tree))
+
+-- the values are of these kinds, one each
+abbrev pub are_of : List Kind → Row → Bool
+are_of [] [] = true
+are_of (kind ∷ kinds) (value ∷ row) = (kind_code kind == kind_code (kind_of value)) && are_of kinds row
+are_of [] (value ∷ row) = false
+are_of (kind ∷ kinds) [] = false
+
+-- the kinds of the columns of a table
+abbrev pub kinds_of : Table → List Kind
+kinds_of table = map (λ (told : List ℕ × Kind). told.1) (shape_of table).columns
+
+-- the values may be a row of the table
+abbrev pub IsRowOf : Table → Row → Type 0
+IsRowOf table row = IsTrue (are_of (kinds_of table) row)
+
+-- the values may be what a removal from the table names
+abbrev pub IsKeyOf : Table → Row → Type 0
+IsKeyOf table key = IsTrue (are_of (take (shape_of table).named (kinds_of table)) key)
+
+-- the key of a row
+abbrev pub key_in : Table → Row → Row
+key_in table row = take (length (shape_of table).primary) row

@@ -1,10 +1,10 @@
 -- What a statement does to the rows of its table, and that it does nothing else.
-use Rattle.std.specs.Prelude.{◌≡◌, ◌≢◌, [], ◌∷◌, ◌++◌, List, Bool, ℕ, map, filter, not, length}
+use Rattle.std.specs.Prelude.{◌≡◌, ◌≢◌, [], ◌∷◌, ◌++◌, ◌&&◌, List, Bool, true, ℕ, map, filter, drop, not, length}
 use Rattle.std.specs.List.{AllByRecursion}
-use Rattle.sqlite.specs.declared.types.Value.TheVariants.{Text as Words}
 use Rattle.sqlite.specs.Order.{Row, column}
+use Rattle.sqlite.specs.Term.{Term}
 use Rattle.sqlite.specs.Collation.TheVariants.{Binary}
-use Rattle.sqlite.specs.Table.{Table}
+use Rattle.sqlite.specs.Table.{Table as AnyTable}
 use Rattle.sqlite.specs.Schema.{Schema}
 use Rattle.sqlite.specs.Effect.{Database}
 use Rattle.sqlite_rules.specs.Action.{works}
@@ -22,46 +22,44 @@ pub record WritesOnly (tree : ℕ) (old new : Database) : Type 0 where
 abbrev pub IsInert : Schema → ℕ → Type 0
 IsInert schema tree = (olds news : List Row) → works schema Enforced 0 tree olds news ≡ []
 
--- a table more, which holds these rows, while the tables that the schema had are listed as before, with their rows
-pub record Makes (table : Place → Table) (rows : List Row) (old new : Database) : Type 0 where
+-- a table more, with these CHECK rules, which holds these rows, while the tables that the schema had are listed as before, with their rows
+pub record Makes (table : Place → AnyTable) (checks : List Term) (rows : List Row) (old new : Database) : Type 0 where
   pub place : Place
+  pub ruled : place.checks ≡ checks
   pub stands : Stands table place rows new
-  pub others : (t : Table) → Lists old.schema t → Lists new.schema t × (new.trees t.tree ≡ old.trees t.tree) × (t.tree ≢ place.tree)
+  pub others : (t : AnyTable) → Lists old.schema t → Lists new.schema t × (new.trees t.tree ≡ old.trees t.tree) × (t.tree ≢ place.tree)
 
 -- a row more in this table, and nothing else
-abbrev pub Adds : (Place → Table) → Row → Database → Database → Type 0
+abbrev pub Adds : (Place → AnyTable) → Row → Database → Database → Type 0
 Adds table row old new = (place : Place) (rows : List Row) → Stands table place rows old → Stands table place (row ∷ rows) new × WritesOnly place.tree old new
 
 -- where no foreign key acts on the table, its rows become what f makes of them, and nothing else changes
-abbrev pub Turns : (Place → Table) → (List Row → List Row) → Database → Database → Type 0
+abbrev pub Turns : (Place → AnyTable) → (List Row → List Row) → Database → Database → Type 0
 Turns table f old new = (place : Place) (rows : List Row) → IsInert old.schema place.tree → Stands table place rows old → Stands table place (f rows) new × WritesOnly place.tree old new
 
--- the first column is not this text, as SQL compares
-abbrev pub differs_from : List ℕ → Row → Bool
-differs_from code v = not (equal Binary (column v 0) (Words code))
+-- the row begins with these values, as SQL compares them
+abbrev pub begins_with : Row → Row → Bool
+begins_with [] row = true
+begins_with (value ∷ key) row = equal Binary (column row 0) value && begins_with key (drop 1 row)
 
--- the first column is this text
-abbrev pub has_code : List ℕ → Row → Bool
-has_code code v = not (differs_from code v)
+-- the rows without those that begin with the key
+abbrev pub without : Row → List Row → List Row
+without key = filter (λ row. not (begins_with key row))
 
--- the rows without those that have this code
-abbrev pub without : List ℕ → List Row → List Row
-without code = filter (differs_from code)
+-- the rows with this one in place of those that have its key
+abbrev pub with_row : Row → Row → List Row → List Row
+with_row key given rows = given ∷ without key rows
 
--- the rows with this one in place of those that have its code
-abbrev pub with_row : List ℕ → Row → List Row → List Row
-with_row code given rows = given ∷ without code rows
-
--- each row with this code is replaced by the given one, and nothing else changes; so many there were
-abbrev pub Replaces : (Place → Table) → List ℕ → Row → ℕ → Database → Database → Type 0
-Replaces table code given count old new =
+-- each row with this key is replaced by the given one, and nothing else changes; so many there were
+abbrev pub Replaces : (Place → AnyTable) → Row → Row → ℕ → Database → Database → Type 0
+Replaces table key given count old new =
     (place : Place) (rows : List Row) → IsInert old.schema place.tree → Stands table place rows old
-    → Stands table place (map (λ (_ : Row). given) (filter (has_code code) rows) ++ without code rows) new × WritesOnly place.tree old new × (count ≡ length (filter (has_code code) rows))
+    → Stands table place (map (λ (_ : Row). given) (filter (begins_with key) rows) ++ without key rows) new × WritesOnly place.tree old new × (count ≡ length (filter (begins_with key) rows))
 
--- the rows with this code are gone
-unfoldable pub Removes : (Place → Table) → List ℕ → Database → Database → Type 0
-Removes table code = Turns table (without code)
+-- the rows that begin with the key are gone
+unfoldable pub Removes : (Place → AnyTable) → Row → Database → Database → Type 0
+Removes table key = Turns table (without key)
 
--- of the rows with this code there is one, the given one
-unfoldable pub Puts : (Place → Table) → List ℕ → Row → Database → Database → Type 0
-Puts table code given = Turns table (with_row code given)
+-- of the rows with this key there is one, the given one
+unfoldable pub Puts : (Place → AnyTable) → Row → Row → Database → Database → Type 0
+Puts table key given = Turns table (with_row key given)

@@ -1,68 +1,121 @@
 //! Whether a schema lists the tables with the columns and the rules that are made here.
 
-ghost use Rattle.std.specs.Prelude.{◌≡◌, ℕ, ◌==◌, ◌&&◌, not, length, is_none, is_some, slice_get, None, Some, IfSome, codes, false};
+ghost use Rattle.std.specs.Prelude.{◌≡◌, ℕ, ◌==◌, ◌&&◌, length, map, is_some, false, slice_get, None, Some, IfSome};
 ghost use Rattle.std.specs.Str.{bytes_eq};
 ghost use Rattle.std.specs.Option.{option_map_or};
+ghost use Rattle.std.specs.List.{list_all};
 ghost use Rattle.sqlite_schema.specs.Names.{table_named};
-ghost use Rattle.tables.specs.Table.{Place, Lists, student_table, supervisor_table, project_table, edition_table};
-ghost use Rattle.tables.specs.Layout.{is_nothing, is_binary, is_required, has_column, is_only, are_plain, has_one_key, is_untimed, is_coded, is_student, is_supervisor, is_to_supervisor, is_project, is_edition, IsNamed, IsListed, IsUnlisted};
+ghost use Rattle.tables.specs.Table.{column_by, link_by, places_by, shape_of, table_at, told_by};
+ghost use Rattle.tables.specs.Layout.{is_required, are_required, is_referring, are_referring, are_same, are_plain, is_untimed, has_keys, has_shape, IsNamed, IsListed, IsUnlisted};
 ghost use Rattle.sqlite.specs.Table.{Table as AnyTable};
-ghost use Rattle.tables.specs.Inert.{is_passive};
 
 use crate::inert::is_passive;
+use crate::table::{Link, Shape, Table, Told};
 use sqlite_items::Items;
 use sqlite_schema::names::same_name;
-use sqlite_schema::schema::{Column, Kind, Reference, Schema, Table};
+use sqlite_schema::schema::{Column, Reference, Schema, Table as Listed};
 use sqlite_value::keys::{Collation, Order};
 use sqlite_value::value::{Bytes, Value};
 
-fn is_required(column: &Column, name: &str, kind: Kind) -> bool
-    ensures { result ≡ is_required name.now kind column.now }
+fn is_required(column: &Column, told: &Told) -> bool
+    ensures { result ≡ is_required (column_by told.now) column.now }
 {
-    column.name.as_slice() == name.as_bytes()
-        && column.kind == kind
+    column.name.as_slice() == told.name.as_bytes()
+        && column.kind == told.kind
         && column.is_strict
         && column.not_null
         && matches!(column.default, Value::Null)
         && matches!(column.collation, Collation::Binary)
 }
 
-fn has_column(table: &Table, at: usize, name: &str, kind: Kind) -> bool
-    ensures { result ≡ has_column table.now at name.now kind }
+fn are_required(columns: &[Column], told: &[Told]) -> bool
+    ensures { result ≡ are_required (map column_by told.now) columns.now }
 {
-    match table.columns.get(at) {
-        Some(column) => is_required(column, name, kind),
-        None => false,
+    let mut rest = columns;
+    let mut more = told;
+    while let [column, columns @ ..] = rest {
+        let [one, others @ ..] = more else {
+            return false;
+        };
+        if !is_required(column, one) {
+            return false;
+        }
+        rest = columns;
+        more = others;
     }
+    matches!(more, [])
 }
 
-fn is_only(place: usize, places: &Items<usize>) -> bool
-    ensures { result ≡ is_only place places.now }
+fn is_alone(names: &Items<Bytes>, name: &str) -> bool
+    ensures { result ≡ ((length names.now == 1) && option_map_or (λ c. bytes_eq c name.now) (slice_get names.now 0) false) }
 {
-    places.as_slice() == [place].as_slice()
-}
-
-fn are_plain(orders: &Items<Order>) -> bool
-    ensures { result ≡ are_plain orders.now }
-{
-    orders.len() == 1
-        && match orders.get(0) {
-            Some(order) => order.digits == 0,
+    names.len() == 1
+        && match names.get(0) {
+            Some(one) => one.as_slice() == name.as_bytes(),
             None => false,
         }
 }
 
-fn has_one_key(uniques: &Items<Items<usize>>) -> bool
-    ensures { result ≡ has_one_key uniques.now }
+fn is_referring(reference: &Reference, link: &Link) -> bool
+    ensures { result ≡ is_referring (link_by link.now) reference.now }
 {
-    uniques.len() == 1
-        && match uniques.get(0) {
-            Some(places) => is_only(1, places),
-            None => false,
-        }
+    reference.columns.as_slice() == [link.column].as_slice()
+        && reference.parent.as_slice() == link.parent.as_bytes()
+        && is_alone(&reference.parent_columns, link.parent_column)
+        && is_passive(reference.on_delete)
+        && is_passive(reference.on_update)
+        && !reference.is_deferred
 }
 
-fn is_untimed(table: &Table) -> bool
+fn are_referring(references: &[Reference], links: &[Link]) -> bool
+    ensures { result ≡ are_referring (map link_by links.now) references.now }
+{
+    let mut rest = references;
+    let mut more = links;
+    while let [reference, references @ ..] = rest {
+        let [link, others @ ..] = more else {
+            return false;
+        };
+        if !is_referring(reference, link) {
+            return false;
+        }
+        rest = references;
+        more = others;
+    }
+    matches!(more, [])
+}
+
+fn are_same(lists: &[Items<usize>], told: &[&[usize]]) -> bool
+    ensures { result ≡ are_same (map places_by told.now) lists.now }
+{
+    let mut rest = lists;
+    let mut more = told;
+    while let [places, lists @ ..] = rest {
+        let [one, others @ ..] = more else {
+            return false;
+        };
+        if places.as_slice() != *one {
+            return false;
+        }
+        rest = lists;
+        more = others;
+    }
+    matches!(more, [])
+}
+
+fn are_ascending(orders: &[Order]) -> bool
+    ensures { result ≡ list_all (λ o. o.digits == 0) orders.now }
+{
+    orders.iter().all(|order| order.digits == 0)
+}
+
+fn are_plain(orders: &[Order], count: usize) -> bool
+    ensures { result ≡ are_plain count orders.now }
+{
+    orders.len() == count && are_ascending(orders)
+}
+
+fn is_untimed(table: &Listed) -> bool
     ensures { result ≡ is_untimed table.now }
 {
     table.computed.len() == 0
@@ -72,94 +125,24 @@ fn is_untimed(table: &Table) -> bool
         && !table.is_counted
 }
 
-fn is_coded(table: &Table, name: &str) -> bool
-    ensures { result ≡ is_coded table.now name.now }
+fn has_keys(table: &Listed, shape: &Shape) -> bool
+    ensures { result ≡ has_keys (told_by shape.now) table.now }
 {
-    table.name.as_slice() == name.as_bytes()
-        && table.key.is_none()
-        && is_only(1, &table.primary)
-        && has_one_key(&table.uniques)
-        && are_plain(&table.orders)
+    table.key == shape.key
+        && table.primary.as_slice() == shape.primary
+        && are_same(table.uniques.as_slice(), shape.uniques)
+        && are_plain(table.orders.as_slice(), shape.uniques.len())
+}
+
+/// Whether a table is as one of this shape is made.
+fn has_shape(table: &Listed, shape: &Shape) -> bool
+    ensures { result ≡ has_shape (told_by shape.now) table.now }
+{
+    table.name.as_slice() == shape.name.as_bytes()
+        && has_keys(table, shape)
+        && are_required(table.columns.as_slice(), shape.columns)
+        && are_referring(table.references.as_slice(), shape.links)
         && is_untimed(table)
-}
-
-fn is_student(table: &Table) -> bool
-    ensures { result ≡ is_student table.now }
-{
-    is_coded(table, "student")
-        && table.columns.len() == 2
-        && table.references.len() == 0
-        && has_column(table, 0, "code", Kind::Text)
-        && has_column(table, 1, "label", Kind::Text)
-}
-
-fn is_supervisor(table: &Table) -> bool
-    ensures { result ≡ is_supervisor table.now }
-{
-    is_coded(table, "supervisor")
-        && table.columns.len() == 3
-        && table.references.len() == 0
-        && has_column(table, 0, "code", Kind::Text)
-        && has_column(table, 1, "label", Kind::Text)
-        && has_column(table, 2, "quota", Kind::Integer)
-}
-
-fn is_code_alone(names: &Items<Bytes>) -> bool
-    ensures { result ≡ ((length names.now == 1) && option_map_or (λ c. bytes_eq c (codes "code")) (slice_get names.now 0) false) }
-{
-    names.len() == 1
-        && match names.get(0) {
-            Some(name) => name.as_slice() == "code".as_bytes(),
-            None => false,
-        }
-}
-
-fn is_to_supervisor(reference: &Reference) -> bool
-    ensures { result ≡ is_to_supervisor reference.now }
-{
-    is_only(3, &reference.columns)
-        && reference.parent.as_slice() == "supervisor".as_bytes()
-        && is_code_alone(&reference.parent_columns)
-        && is_passive(reference.on_delete)
-        && is_passive(reference.on_update)
-        && !reference.is_deferred
-}
-
-fn has_supervisor(table: &Table) -> bool
-    ensures { result ≡ option_map_or is_to_supervisor (slice_get table.now.references 0) false }
-{
-    match table.references.get(0) {
-        Some(reference) => is_to_supervisor(reference),
-        None => false,
-    }
-}
-
-fn is_project(table: &Table) -> bool
-    ensures { result ≡ is_project table.now }
-{
-    is_coded(table, "project")
-        && table.columns.len() == 4
-        && table.references.len() == 1
-        && has_supervisor(table)
-        && has_column(table, 0, "code", Kind::Text)
-        && has_column(table, 1, "label", Kind::Text)
-        && has_column(table, 2, "supervisor", Kind::Text)
-        && has_column(table, 3, "quota", Kind::Integer)
-}
-
-fn is_edition(table: &Table) -> bool
-    ensures { result ≡ is_edition table.now }
-{
-    table.name.as_slice() == "edition".as_bytes()
-        && table.key == Some(0)
-        && is_only(0, &table.primary)
-        && table.uniques.len() == 0
-        && table.orders.len() == 0
-        && table.references.len() == 0
-        && is_untimed(table)
-        && table.columns.len() == 2
-        && has_column(table, 0, "id", Kind::Integer)
-        && has_column(table, 1, "number", Kind::Integer)
 }
 
 fn position_of(schema: &Schema, name: &str) -> Option<usize>
@@ -172,15 +155,8 @@ fn position_of(schema: &Schema, name: &str) -> Option<usize>
         .position(|table| same_name(table.name.as_slice(), name.as_bytes()))
 }
 
-/// Whether a table has this name, but for the case of its letters.
-pub fn has_table(schema: &Schema, name: &str) -> bool
-    ensures { result ≡ is_some (table_named schema.now name.now) }
-{
-    position_of(schema, name).is_some()
-}
-
 /// The first table of this name, but for the case of its letters.
-fn find_table<'a>(schema: &'a Schema, name: &str) -> Option<&'a Table>
+fn find_table<'a>(schema: &'a Schema, name: &str) -> Option<&'a Listed>
     ensures some { IfSome result (λ table. IsNamed schema.now name.now table.now) }
     ensures none { result ≡ None → (at : ℕ) (table : AnyTable) → table_named schema.now name.now ≡ Some at → slice_get schema.now.tables at ≡ Some table → ⊥ }
 {
@@ -188,50 +164,22 @@ fn find_table<'a>(schema: &'a Schema, name: &str) -> Option<&'a Table>
     schema.tables.get(at)
 }
 
-/// The tree of `student`, where it is listed as it is made here.
-pub fn student_tree(schema: &Schema) -> Option<u32>
-    ensures some { IfSome result (IsListed student_table schema.now) }
-    ensures none { result ≡ None → IsUnlisted student_table schema.now }
+/// Whether a table has the name of this one, but for the case of its letters.
+pub fn has_table(schema: &Schema, table: Table) -> bool
+    ensures { result ≡ is_some (table_named schema.now (shape_of table).name) }
 {
-    let table = find_table(schema, "student")?;
-    if !is_student(table) {
-        return None;
-    }
-    Some(table.tree)
+    position_of(schema, table.shape().name).is_some()
 }
 
-/// The tree of `supervisor`, where it is listed as it is made here.
-pub fn supervisor_tree(schema: &Schema) -> Option<u32>
-    ensures some { IfSome result (IsListed supervisor_table schema.now) }
-    ensures none { result ≡ None → IsUnlisted supervisor_table schema.now }
+/// The tree of the table, where it is listed as it is made here.
+pub fn tree_of(schema: &Schema, table: Table) -> Option<u32>
+    ensures some { IfSome result (IsListed (table_at table) schema.now) }
+    ensures none { result ≡ None → IsUnlisted (table_at table) schema.now }
 {
-    let table = find_table(schema, "supervisor")?;
-    if !is_supervisor(table) {
+    let shape = table.shape();
+    let listed = find_table(schema, shape.name)?;
+    if !has_shape(listed, shape) {
         return None;
     }
-    Some(table.tree)
-}
-
-/// The tree of `project`, where it is listed as it is made here.
-pub fn project_tree(schema: &Schema) -> Option<u32>
-    ensures some { IfSome result (IsListed project_table schema.now) }
-    ensures none { result ≡ None → IsUnlisted project_table schema.now }
-{
-    let table = find_table(schema, "project")?;
-    if !is_project(table) {
-        return None;
-    }
-    Some(table.tree)
-}
-
-/// The tree of `edition`, where it is listed as it is made here.
-pub fn edition_tree(schema: &Schema) -> Option<u32>
-    ensures some { IfSome result (IsListed edition_table schema.now) }
-    ensures none { result ≡ None → IsUnlisted edition_table schema.now }
-{
-    let table = find_table(schema, "edition")?;
-    if !is_edition(table) {
-        return None;
-    }
-    Some(table.tree)
+    Some(listed.tree)
 }

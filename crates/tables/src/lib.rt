@@ -1,4 +1,4 @@
-//! The SQL of the product: one function a statement, and what it does to the rows of its table.
+//! The SQL of the product: each table told once, and a function for each statement over any of them.
 //!
 //! Nothing here knows an office. `store`, one crate above, says what the rows mean, and puts the
 //! statements together into transactions. Each function here makes one call of the database, or two,
@@ -9,17 +9,17 @@
 //! were; a reading shows the rows, and changes nothing. The words are in `specs/Table.antt` (the tables as
 //! a schema lists them), `specs/Writes.antt` and `specs/Steps.antt`; begin there.
 //!
-//! A table's CHECK rules are taken as they were made. A further table needs its line in
-//! `specs/Table.antt`, its test in `layout.rt`, its statements beside `student.rt`, and what its texts mean,
-//! as `proofs/StudentTexts.antt` has it: the lemmas on what statements do are the same for all.
+//! A table that is made has the CHECK rules that are told; one that is found keeps those that it has. A
+//! further table is a variant of `Table`, its row in `table.rt` and in `specs/Table.antt`, and the reading of
+//! its five texts, as `proofs/StudentTexts.antt` has it: what statements do is proved for all.
 #![tactic(auto)]
 
-pub mod edition;
 pub mod fault;
 pub mod inert;
 pub mod layout;
-pub mod project;
 mod read;
-pub mod student;
-pub mod supervisor;
+pub mod statements;
+mod table;
 mod write;
+
+pub use table::Table;

@@ -68,7 +68,10 @@ fn are_keyed(rows: &[Row]) -> bool
 }
 
 /// The rows that a query shows, each after its rowid.
-pub(crate) fn read<S: Alter>(conn: &mut Connection<S>, sql: &str) -> Result<Vec<Row>, TableFault>
+pub(crate) fn read_text<S: Alter>(
+    conn: &mut Connection<S>,
+    sql: &str,
+) -> Result<Vec<Row>, TableFault>
     ensures keyed { IfOk result (λ rows. IsKeyed rows.items) }
     ensures shown { HasCleanDisk (state S.Store conn.new) → IfOk result (λ rows. Shown sql.now [] (state S.Store conn.old) (state S.Store conn.new) rows.items) }
     ensures ran { HasCleanDisk (state S.Store conn.new) → RanQuery sql.now (state S.Store conn.old) (state S.Store conn.new) }

@@ -1,10 +1,9 @@
 //! One statement in a transaction.
 
-ghost use Rattle.std.specs.Prelude.{◌≡◌, IfOk};
-ghost use Rattle.sqlite.specs.State.{HasCleanDisk, KeepsCommit, Survives};
+ghost use Rattle.std.specs.Prelude.{◌≡◌};
 ghost use Rattle.sqlite.specs.Values.{bound};
 ghost use Rattle.sqlite.specs.Held.{state};
-ghost use Rattle.tables.specs.Steps.{HasRun};
+ghost use Rattle.tables.specs.Steps.{HasRun, IsPart};
 
 use crate::fault::TableFault;
 use sqlite::{Alter, Transaction};
@@ -17,9 +16,7 @@ pub(crate) fn write<S: Alter>(
     params: &[ValueRef<'_>],
 ) -> Result<usize, TableFault>
     ensures same_reference { tx.new.conn.ghost_name ≡ tx.old.conn.ghost_name }
-    ensures survives { Survives (state S.Store tx.old.conn.now) (state S.Store tx.new.conn.now) (λ _. ⊥) }
-    ensures ran { HasCleanDisk (state S.Store tx.new.conn.now) → IfOk result (λ count. HasRun sql.now (bound params.now) count (state S.Store tx.old.conn.now) (state S.Store tx.new.conn.now)) }
-    ensures kept { HasCleanDisk (state S.Store tx.new.conn.now) → KeepsCommit (state S.Store tx.old.conn.now) (state S.Store tx.new.conn.now) }
+    ensures step { IsPart (λ count. HasRun sql.now (bound params.now) count) result (state S.Store tx.old.conn.now) (state S.Store tx.new.conn.now) }
 {
     Ok(tx.execute(sql, params)?)
 }

@@ -129,11 +129,11 @@ impl Trial {
         Ok(admitted)
     }
 
-    /// The rank, from 1, of the student's project, or 0.
+    /// The rank of the student's project, which is its place, or 0.
     fn rank_of(&self, rt: &impl Abort, student: usize) -> usize {
         assert!(rt; student < self.students);
         match self.network.place_of(student) {
-            Some(place) => place.saturating_add(1),
+            Some(place) => place,
             None => 0,
         }
     }
@@ -142,8 +142,8 @@ impl Trial {
 /// A list with the worth of each rank.
 fn ranked(alloc: Global, projects: &[usize]) -> Result<Vec<(usize, Lex)>, Fail> {
     let mut list = Vec::new(alloc);
-    for place in 0..projects.len() {
-        list.push((projects[place], weight(place.saturating_add(1))))?;
+    for before in 0..projects.len() {
+        list.push((projects[before], weight(before.saturating_add(1))))?;
     }
     Ok(list)
 }

@@ -46,15 +46,15 @@ type Check = (
 #[rattlefmt::skip]
 fn checks() -> [Check; 9] {
     [
-        (Some(1), Some(1), (0, 1, -1), (0, 2, -2),                  (0, 0, 0),         Ok(())),
-        (Some(0), Some(1), (0, 1, -1), (0, 2, -2),                  (0, 0, 0),         Err(CheckFault::NotMatching)),
+        (Some(2), Some(2), (0, 1, -1), (0, 2, -2),                  (0, 0, 0),         Ok(())),
         (Some(1), Some(2), (0, 1, -1), (0, 2, -2),                  (0, 0, 0),         Err(CheckFault::NotMatching)),
-        (Some(1), Some(1), (0, 1, -1), (0, 1_000_000, -1_000_000),  (0, 0, 0),         Ok(())),
-        (Some(1), Some(1), (0, 1, -1), (0, 2, -2),                  (0, 1_000_001, 0), Err(CheckFault::Shape)),
-        (Some(1), Some(1), (0, 1, -1), (-1, 2, -2),                 (0, 0, 0),         Err(CheckFault::Below)),
-        (Some(1), Some(1), (0, 0, 0),  (0, 2, -2),                  (0, 0, 0),         Err(CheckFault::Uncovered(0, 1))),
-        (Some(1), Some(1), (0, 1, -1), (0, 0, 0),                   (0, 0, 0),         Err(CheckFault::Uncovered(1, 1))),
-        (None,    Some(1), (0, 1, -1), (0, 2, -2),                  (0, 0, 0),         Err(CheckFault::Unequal)),
+        (Some(2), Some(3), (0, 1, -1), (0, 2, -2),                  (0, 0, 0),         Err(CheckFault::NotMatching)),
+        (Some(2), Some(2), (0, 1, -1), (0, 1_000_000, -1_000_000),  (0, 0, 0),         Ok(())),
+        (Some(2), Some(2), (0, 1, -1), (0, 2, -2),                  (0, 1_000_001, 0), Err(CheckFault::Shape)),
+        (Some(2), Some(2), (0, 1, -1), (-1, 2, -2),                 (0, 0, 0),         Err(CheckFault::Below)),
+        (Some(2), Some(2), (0, 0, 0),  (0, 2, -2),                  (0, 0, 0),         Err(CheckFault::Uncovered(0, 1))),
+        (Some(2), Some(2), (0, 1, -1), (0, 0, 0),                   (0, 0, 0),         Err(CheckFault::Uncovered(1, 1))),
+        (None,    Some(2), (0, 1, -1), (0, 2, -2),                  (0, 0, 0),         Err(CheckFault::Unequal)),
     ]
 }
 
@@ -86,7 +86,7 @@ fn a_roll_without_prices_is_a_wrong_shape(rt: HostRuntime) -> Result<(), Fail> {
     let alloc = rt.alloc();
     let instance = worked(alloc)?;
     let matching = Matching {
-        places: Vec::from_array(alloc, [Some(1), Some(1)])?,
+        places: Vec::from_array(alloc, [Some(2), Some(2)])?,
     };
     let mut short = prices(alloc, (0, 1, -1), (0, 2, -2), (0, 0, 0))?;
     short.supervisors.clear();

@@ -28,12 +28,12 @@ pub(crate) fn new_desk(alloc: Global, rt: &impl Abort) -> Result<Desk<MemStore>,
     Ok(desk_over(alloc, rt, connection))
 }
 
-fn get_student(alloc: Global, code: &str) -> Result<Request, Fail> {
+pub(crate) fn get_student(alloc: Global, code: &str) -> Result<Request, Fail> {
     let code = Text::of(alloc, code)?;
     Ok(Request::Plain(Plain::GetStudent { code }))
 }
 
-fn is_named(rt: &impl Abort, answer: &Result<Reply, Refusal>, name: &str) {
+pub(crate) fn is_named(rt: &impl Abort, answer: &Result<Reply, Refusal>, name: &str) {
     match answer {
         Ok(Reply::Student { name: found }) => same_text(rt, found.as_str(), name),
         _ => assert!(rt; false, "{name} is on the roll"),

@@ -2,6 +2,7 @@
 
 use crate::desks::{desk_over, new_desk};
 use crate::stores::count;
+use crate::streams::repeated;
 use desk::Desk;
 use sqlite::MemStore;
 use std::alloc::{AllocError, Global};
@@ -18,13 +19,13 @@ struct Pieces<'a> {
     bytes: &'a [u8],
     first: usize,
     piece: usize,
-    fails: bool,
+    fault: Option<io::ErrorKind>,
 }
 
 impl Read for Pieces<'_> {
     fn read(&mut self, buf: &mut [u8]) -> io::Result<usize> {
-        if self.bytes.is_empty() && self.fails {
-            return Err(io::Error::from(io::ErrorKind::ConnectionReset));
+        if let (Some(fault), true) = (self.fault, self.bytes.is_empty()) {
+            return Err(io::Error::from(fault));
         }
         let n = self.first.min(buf.len());
         self.first = self.piece;
@@ -37,13 +38,13 @@ impl Read for Pieces<'_> {
 struct Narrow {
     taken: Vec<u8>,
     room: usize,
-    fails: bool,
+    fault: Option<io::ErrorKind>,
 }
 
 impl Write for Narrow {
     fn write(&mut self, buf: &[u8]) -> io::Result<usize> {
-        if self.room == 0 && self.fails {
-            return Err(io::Error::from(io::ErrorKind::ConnectionReset));
+        if let (Some(fault), true) = (self.fault, self.room == 0) {
+            return Err(io::Error::from(fault));
         }
         let n = self.room.min(buf.len()).min(30);
         self.room -= n;
@@ -70,11 +71,11 @@ fn served_by(
     desk: &mut Desk<MemStore>,
     reader: Pieces,
     room: usize,
-    fails: bool,
+    fault: Option<io::ErrorKind>,
 ) -> Outcome {
     let taken = Vec::new(alloc);
     let mut reader = Watched::new(reader);
-    let mut writer = Watched::new(Narrow { taken, room, fails });
+    let mut writer = Watched::new(Narrow { taken, room, fault });
     let result = serve_stream(alloc, desk, &mut reader, &mut writer);
     let failed_reads = reader.failures();
     let failed_writes = writer.failures();
@@ -99,9 +100,9 @@ fn served(
         bytes,
         first,
         piece,
-        fails: false,
+        fault: None,
     };
-    served_by(alloc, desk, reader, 100_000, false)
+    served_by(alloc, desk, reader, 100_000, None)
 }
 
 /// Asserts what was written, how many messages were answered, and the end.
@@ -249,28 +250,37 @@ fn streams_are_cut_after_each_byte(rt: HostRuntime) -> Result<(), Fail> {
     Ok(())
 }
 
-/// Serves a message by a reader that then fails.
-fn read_to_failure(alloc: Global, rt: &impl Abort, desk: &mut Desk<MemStore>) {
+/// Serves bytes by a reader that then fails, where so many students are stored.
+fn compare_failed_read(
+    alloc: Global,
+    rt: &impl Abort,
+    bytes: &[u8],
+    fault: io::ErrorKind,
+    written: &[u8],
+    students: i64,
+) -> Result<(), Fail> {
+    let mut desk = new_desk(alloc, rt)?;
     let reader = Pieces {
-        bytes: PUT_ANN,
+        bytes,
         first: 10,
         piece: 10,
-        fails: true,
+        fault: Some(fault),
     };
-    let read = served_by(alloc, desk, reader, 100_000, false);
+    let read = served_by(alloc, &mut desk, reader, 100_000, None);
     assert_eq!(rt; read.result, Err(StreamFault::Read));
     assert!(rt; read.failed_reads == 1 && read.failed_writes == 0);
-    assert_eq!(rt; read.written.as_slice(), DONE);
-    assert_eq!(rt; read.written.len(), 82);
+    assert_eq!(rt; read.written.as_slice(), written);
+    stored(alloc, rt, desk, students)?;
+    Ok(())
 }
 
-// A reader fails after the first message.
+// A reader fails after the first message, or within it; a call that was interrupted has failed.
 #[test]
 fn a_reader_fails(rt: HostRuntime) -> Result<(), Fail> {
-    let mut desk = new_desk(rt.alloc(), &rt)?;
-    read_to_failure(rt.alloc(), &rt, &mut desk);
-    stored(rt.alloc(), &rt, desk, 1)?;
-    Ok(())
+    let reset = io::ErrorKind::ConnectionReset;
+    compare_failed_read(rt.alloc(), &rt, PUT_ANN, reset, DONE, 1)?;
+    let stopped = io::ErrorKind::Interrupted;
+    compare_failed_read(rt.alloc(), &rt, without_last(PUT_ANN), stopped, b"", 0)
 }
 
 /// Serves two messages to a writer that takes so many bytes and then fails, or takes none.
@@ -279,15 +289,15 @@ fn write_to_failure(
     rt: &impl Abort,
     desk: &mut Desk<MemStore>,
     room: usize,
-    fails: bool,
+    fault: Option<io::ErrorKind>,
 ) {
     let reader = Pieces {
         bytes: PUT_TWO,
         first: 200,
         piece: 200,
-        fails: false,
+        fault: None,
     };
-    let write = served_by(alloc, desk, reader, room, fails);
+    let write = served_by(alloc, desk, reader, room, fault);
     assert_eq!(rt; write.result, Err(StreamFault::Write));
     assert!(rt; write.failed_reads == 0 && write.failed_writes == 1);
     assert_eq!(rt; write.written.len(), room);
@@ -299,11 +309,11 @@ fn compare_narrow(
     alloc: Global,
     rt: &impl Abort,
     room: usize,
-    fails: bool,
+    fault: Option<io::ErrorKind>,
     students: i64,
 ) -> Result<(), Fail> {
     let mut desk = new_desk(alloc, rt)?;
-    write_to_failure(alloc, rt, &mut desk, room, fails);
+    write_to_failure(alloc, rt, &mut desk, room, fault);
     read_two(alloc, rt, room, &mut desk);
     let mut again = stored(alloc, rt, desk, students)?;
     put_one(alloc, rt, room, &mut again);
@@ -312,8 +322,11 @@ fn compare_narrow(
 
 #[test]
 fn a_writer_fails(rt: HostRuntime) -> Result<(), Fail> {
-    compare_narrow(rt.alloc(), &rt, 100, true, 2)?;
-    compare_narrow(rt.alloc(), &rt, 0, false, 1)
+    let reset = Some(io::ErrorKind::ConnectionReset);
+    compare_narrow(rt.alloc(), &rt, 100, reset, 2)?;
+    compare_narrow(rt.alloc(), &rt, 0, None, 1)?;
+    let stopped = Some(io::ErrorKind::Interrupted);
+    compare_narrow(rt.alloc(), &rt, 50, stopped, 1)
 }
 
 // Each after those before it: method and path, body, status, and body of the answer.
@@ -351,7 +364,18 @@ static EXCHANGES: &str =
        PUT /projects/P     | {"name":"Pumps","quota":2,"supervisor":"K"} | 409 Conflict           | {"fault":"SupervisorFixed","number":16}
        PUT /projects/P     | {"name":"Pumps","quota":2}                  | 400 Bad Request        | {"fault":"Members","number":8}
        GET /projects/P     |                                             | 200 OK                 | {"name":"Pumps","placed":0,"quota":2,"supervisor":"L"}
-       GET /projects/p     |                                             | 404 Not Found          | {"fault":"UnknownProject","number":14}"#;
+       GET /projects/p     |                                             | 404 Not Found          | {"fault":"UnknownProject","number":14}
+       GET /students/S1?a  |                                             | 404 Not Found          | {"fault":"UnknownStudent","number":15}
+       PUT /students/S1?a  | {"name":"Ann"}                              | 400 Bad Request        | {"fault":"Code","number":9}
+       PUT /students/S2    | {"name":"Zoë \"Q\" \\ Łuk\u00e9"}            | 200 OK                 | {"ok":true}
+       GET /students/S2    |                                             | 200 OK                 | {"list":null,"name":"Zoë \"Q\" \\ Łuké","placed":null}"#;
+
+// In a roll of supervisors that is full, S0 to S99.
+#[rattlefmt::skip]
+static FULL: &str =
+    r#"PUT /supervisors/L   | {"name":"Lee","quota":5} | 409 Conflict    | {"fault":"RollFull","number":12}
+       PUT /supervisors/S99 | {"name":"Kim","quota":4} | 200 OK          | {"ok":true}
+       GET /supervisors/S99 |                          | 200 OK          | {"name":"Kim","placed":0,"quota":4}"#;
 
 /// The answer with this status and body.
 fn answer(alloc: Global, status: &str, body: &str) -> Result<String, AllocError> {
@@ -485,4 +509,40 @@ fn refuse_bodies(alloc: Global, rt: &impl Abort, desk: &mut Desk<MemStore>) -> R
 fn bodies_that_are_no_json_are_refused(rt: HostRuntime) -> Result<(), Fail> {
     let mut desk = new_desk(rt.alloc(), &rt)?;
     refuse_bodies(rt.alloc(), &rt, &mut desk)
+}
+
+/// A message whose body has 65,536 bytes.
+fn largest_body(alloc: Global) -> Result<Vec<u8>, AllocError> {
+    let start = "PUT /students/S1 HTTP/1.1\r\nContent-Length: 65536\r\n\r\n{\"name\":\"Ann\"";
+    repeated(alloc, start, " ", 65_522, "}")
+}
+
+#[test]
+fn the_largest_body_is_read(rt: HostRuntime) -> Result<(), Fail> {
+    let mut desk = new_desk(rt.alloc(), &rt)?;
+    let bytes = largest_body(rt.alloc())?;
+    let done = "{\"ok\":true}";
+    assert!(&rt;
+        is_told(rt.alloc(), &mut desk, &bytes, "200 OK", done, End::Closed)?,
+        "65,536 bytes"
+    );
+    Ok(())
+}
+
+/// Puts the supervisors S0 to S99.
+fn fill_supervisors(alloc: Global, rt: &impl Abort, desk: &mut Desk<MemStore>) -> Result<(), Fail> {
+    for n in 0..100 {
+        let asked = format!(in alloc; "PUT /supervisors/S{n}")?;
+        let message = message(alloc, asked.as_str(), "{\"name\":\"Kim\",\"quota\":1}")?;
+        let put = served(alloc, desk, message.as_bytes(), 1000, 1000);
+        compare(rt, n, &put, DONE, 1, End::Closed);
+    }
+    Ok(())
+}
+
+#[test]
+fn a_full_roll_takes_no_more(rt: HostRuntime) -> Result<(), Fail> {
+    let mut desk = new_desk(rt.alloc(), &rt)?;
+    fill_supervisors(rt.alloc(), &rt, &mut desk)?;
+    compare_exchanges(rt.alloc(), &rt, &mut desk, FULL)
 }

@@ -20,11 +20,11 @@ fn faults() -> [(&'static str, &'static str, &'static str, InstanceFault); 14] {
         ("L:5",       "P:L:1 Q:N:1",       "A",                     InstanceFault::UnknownSupervisor(1)),
         ("L:5",       "P:L:1",             "A:P B",                 InstanceFault::ListLength(1)),
         ("L:5",       "P:L:1",             "A:P:P:P:P:P:P:P:P:P",   InstanceFault::ListLength(0)),
-        ("L:5",       "P:L:1",             "A:P:N",                 InstanceFault::UnknownProject(0, 1)),
-        ("L:5",       "P:L:1",             "A:P B:P:N:P",           InstanceFault::UnknownProject(1, 1)),
-        ("L:5",       "P:L:1",             "A:P:P",                 InstanceFault::RepeatedProject(0, 1)),
-        ("L:5",       "P:L:1 Q:L:1",       "A:P B:Q:P:Q C",         InstanceFault::RepeatedProject(1, 2)),
-        ("L:5",       "P:L:1",             "A:N B",                 InstanceFault::UnknownProject(0, 0)),
+        ("L:5",       "P:L:1",             "A:P:N",                 InstanceFault::UnknownProject(0, 2)),
+        ("L:5",       "P:L:1",             "A:P B:P:N:P",           InstanceFault::UnknownProject(1, 2)),
+        ("L:5",       "P:L:1",             "A:P:P",                 InstanceFault::RepeatedProject(0, 2)),
+        ("L:5",       "P:L:1 Q:L:1",       "A:P B:Q:P:Q C",         InstanceFault::RepeatedProject(1, 3)),
+        ("L:5",       "P:L:1",             "A:N B",                 InstanceFault::UnknownProject(0, 1)),
     ]
 }
 
@@ -121,20 +121,21 @@ fn an_instance_lends_its_rolls(rt: HostRuntime) -> Result<(), Fail> {
 // A lists P; B lists R, P; C lists Z, P, R; D lists R, Q, P. P has quota 2, Q and R have 1, Z has 0; L, who offers P, Q
 // and Z, has 2, and K, who offers R, has 1. Places, their first fault, and without one their size and profile.
 #[rattlefmt::skip]
-fn matchings() -> [(&'static str, Option<MatchFault>, usize, [u32; RANKS]); 12] {
+fn matchings() -> [(&'static str, Option<MatchFault>, usize, [u32; RANKS]); 13] {
     [
         ("----", None,                                0, [0, 0, 0, 0, 0, 0, 0, 0]),
-        ("0---", None,                                1, [1, 0, 0, 0, 0, 0, 0, 0]),
-        ("01--", None,                                2, [1, 1, 0, 0, 0, 0, 0, 0]),
-        ("--2-", None,                                1, [0, 0, 1, 0, 0, 0, 0, 0]),
-        ("00-1", None,                                3, [2, 1, 0, 0, 0, 0, 0, 0]),
+        ("1---", None,                                1, [1, 0, 0, 0, 0, 0, 0, 0]),
+        ("12--", None,                                2, [1, 1, 0, 0, 0, 0, 0, 0]),
+        ("--3-", None,                                1, [0, 0, 1, 0, 0, 0, 0, 0]),
+        ("11-2", None,                                3, [2, 1, 0, 0, 0, 0, 0, 0]),
         ("---",  Some(MatchFault::Length),            0, [0, 0, 0, 0, 0, 0, 0, 0]),
-        ("-2-3", Some(MatchFault::Place(1)),          0, [0, 0, 0, 0, 0, 0, 0, 0]),
-        ("--0-", Some(MatchFault::ProjectOver(3)),    0, [0, 0, 0, 0, 0, 0, 0, 0]),
-        ("010-", Some(MatchFault::ProjectOver(3)),    0, [0, 0, 0, 0, 0, 0, 0, 0]),
-        ("01-2", Some(MatchFault::ProjectOver(0)),    0, [0, 0, 0, 0, 0, 0, 0, 0]),
-        ("-0-0", Some(MatchFault::ProjectOver(2)),    0, [0, 0, 0, 0, 0, 0, 0, 0]),
-        ("01-1", Some(MatchFault::SupervisorOver(0)), 0, [0, 0, 0, 0, 0, 0, 0, 0]),
+        ("-3-4", Some(MatchFault::Place(1)),          0, [0, 0, 0, 0, 0, 0, 0, 0]),
+        ("1--0", Some(MatchFault::Place(3)),          0, [0, 0, 0, 0, 0, 0, 0, 0]),
+        ("--1-", Some(MatchFault::ProjectOver(3)),    0, [0, 0, 0, 0, 0, 0, 0, 0]),
+        ("121-", Some(MatchFault::ProjectOver(3)),    0, [0, 0, 0, 0, 0, 0, 0, 0]),
+        ("12-3", Some(MatchFault::ProjectOver(0)),    0, [0, 0, 0, 0, 0, 0, 0, 0]),
+        ("-1-1", Some(MatchFault::ProjectOver(2)),    0, [0, 0, 0, 0, 0, 0, 0, 0]),
+        ("12-2", Some(MatchFault::SupervisorOver(0)), 0, [0, 0, 0, 0, 0, 0, 0, 0]),
     ]
 }
 

@@ -9,13 +9,15 @@ mod admissions;
 #[cfg(test)]
 mod checks;
 #[cfg(test)]
+mod command_lines;
+#[cfg(test)]
 mod desks;
+#[cfg(test)]
+mod disks;
 #[cfg(test)]
 mod exchanges;
 #[cfg(test)]
 mod instances;
-#[cfg(test)]
-mod lines;
 #[cfg(test)]
 mod offices;
 #[cfg(test)]

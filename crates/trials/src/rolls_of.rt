@@ -59,7 +59,7 @@ pub(crate) fn instance(
     )?)
 }
 
-/// The places of `0-2`, where `-` is none.
+/// The places of `1-2`, where `-` is none.
 pub(crate) fn places(alloc: Global, text: &str) -> Result<Matching, Fail> {
     let mut places = Vec::new(alloc);
     for byte in text.as_bytes() {

@@ -28,10 +28,10 @@ type Round = (
 #[rattlefmt::skip]
 fn rounds() -> [Round; 6] {
     [
-        ("L:5",     "P:L:1 Q:L:1 Z:L:0",                 "A:P:Q C:Z:P",       "11", [0, 2, 0, 0, 0, 0, 0, 0]),
-        ("L:5",     "P:L:1 Q:L:1",                       "A:P:Q B:Q:P",       "00", [2, 0, 0, 0, 0, 0, 0, 0]),
-        ("L:5",     "U:L:1 V:L:1 X:L:1 Y:L:0 Z:L:0",     "A:X:V C:Z:X:Y:U",   "03", [1, 0, 0, 1, 0, 0, 0, 0]),
-        ("K:1 L:1", "P:L:1 Q:L:1 R:K:1",                 "A:P B:Q:R",         "01", [1, 1, 0, 0, 0, 0, 0, 0]),
+        ("L:5",     "P:L:1 Q:L:1 Z:L:0",                 "A:P:Q C:Z:P",       "22", [0, 2, 0, 0, 0, 0, 0, 0]),
+        ("L:5",     "P:L:1 Q:L:1",                       "A:P:Q B:Q:P",       "11", [2, 0, 0, 0, 0, 0, 0, 0]),
+        ("L:5",     "U:L:1 V:L:1 X:L:1 Y:L:0 Z:L:0",     "A:X:V C:Z:X:Y:U",   "14", [1, 0, 0, 1, 0, 0, 0, 0]),
+        ("K:1 L:1", "P:L:1 Q:L:1 R:K:1",                 "A:P B:Q:R",         "12", [1, 1, 0, 0, 0, 0, 0, 0]),
         ("L:5",     "P:L:1",                             "",                  "",   [0, 0, 0, 0, 0, 0, 0, 0]),
         ("L:0",     "P:L:1",                             "A:P",               "-",  [0, 0, 0, 0, 0, 0, 0, 0]),
     ]
@@ -78,14 +78,14 @@ fn audited(
 fn an_audit_shows_a_better_matching(rt: HostRuntime) -> Result<(), Fail> {
     let alloc = rt.alloc();
     let instance = instance(alloc, "L:5", "P:L:1 Q:L:1", "A:P:Q B:Q:P")?;
-    let worse = places(alloc, "11")?;
-    let best = places(alloc, "00")?;
+    let worse = places(alloc, "22")?;
+    let best = places(alloc, "11")?;
     match audited(&rt, alloc, &instance, &worse)? {
         Audit::Better(better) => assert_eq!(rt; better.places, best.places),
         Audit::Best => assert!(rt; false, "a worse matching is no best one"),
     }
     match audited(&rt, alloc, &instance, &best)? {
-        Audit::Better(better) => assert_eq!(rt; better.places, worse.places, "nothing is better"),
+        Audit::Better(_better) => assert!(rt; false, "nothing is better"),
         Audit::Best => {}
     }
     Ok(())
@@ -155,11 +155,11 @@ fn small_rolls(alloc: Global, random: &mut Random) -> Result<(String, String, St
     for s in 0..4u32 {
         let first = random.below(4);
         write!(students, "S{s}:P{first}")?;
-        for place in 0..random.below(3) {
+        for more in 0..random.below(3) {
             write!(
                 students,
                 ":P{}",
-                first.wrapping_add(place).wrapping_add(1) % 4
+                first.wrapping_add(more).wrapping_add(1) % 4
             )?;
         }
         write!(students, " ")?;
@@ -175,7 +175,7 @@ fn searched(alloc: Global, instance: &Instance) -> Result<(u32, [u32; RANKS]), F
         let mut places = Vec::new(alloc);
         for _student in 0..4 {
             let place = rest % 4;
-            places.push(if place == 3 { None } else { Some(place as u8) })?;
+            places.push(if place == 0 { None } else { Some(place as u8) })?;
             rest /= 4;
         }
         let matching = Matching { places };

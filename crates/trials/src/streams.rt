@@ -1,5 +1,6 @@
-//! Streams, their messages and their ends, under a handler that answers each message by one byte.
-ghost use Rattle.std.specs.Prelude.{⊤};
+//! Streams, their messages and their ends, under a handler that answers each message by a full stop and refuses an
+//! end by an exclamation mark.
+ghost use Rattle.std.specs.Prelude.{◌≡◌, ⊤, [], ◌∷◌};
 
 use arrayvec::ArrayVec;
 use std::alloc::{AllocError, Global};
@@ -8,43 +9,85 @@ use std::io::Read;
 use std::process::Abort;
 use std::rt::HostRuntime;
 use std::test::Fail;
-use wire::{Answer, End, Handler, Served, StreamFault, Watched, serve_stream};
+use wire::{Answer, End, Handler, Served, ShortText, StreamFault, Watched, serve_messages};
 
-/// Answers by a full stop.
+/// One byte.
+fn mark(byte: u8) -> ShortText
+    ensures { result.items ≡ byte ∷ [] }
+{
+    let mut bytes = ArrayVec::new();
+    bytes.push(byte);
+    bytes
+}
+
+/// Answers by marks.
 #[derive(Drop)]
-struct FullStop;
+struct Marks;
 
-impl Handler<u32> for FullStop {
-    ghost holds = { λ _. ⊤ };
-
+impl Handler<u32> for Marks {
     ghost step = { λ _ _ _ _. ⊤ };
 
+    ghost refusal = { λ _. 33 ∷ [] };
+
     fn answer(&self, _desk: &mut u32, _method: &[u8], _target: &[u8], _body: &[u8]) -> Answer {
-        let mut bytes = ArrayVec::new();
-        bytes.push(b'.');
-        Answer::Short(bytes)
+        Answer::Short(mark(b'.'))
+    }
+
+    fn refuse(&self, _end: End) -> Answer {
+        Answer::Short(mark(b'!'))
     }
 }
 
-/// Gives one byte at a time.
+/// Gives so many bytes at a time.
 #[derive(Drop)]
-struct Slow<'a>(&'a [u8]);
+struct Pieces<'a> {
+    bytes: &'a [u8],
+    piece: usize,
+}
 
-impl Read for Slow<'_> {
+impl Read for Pieces<'_> {
     fn read(&mut self, buf: &mut [u8]) -> io::Result<usize> {
-        if buf.is_empty() {
-            return Ok(0);
-        }
-        self.0.read(&mut buf[..1])
+        let n = self.piece.min(buf.len());
+        self.bytes.read(&mut buf[..n])
     }
 }
 
-/// What is answered to the bytes, one at a time.
-fn served(alloc: Global, bytes: &[u8]) -> Result<Served, StreamFault> {
-    let mut reader = Watched::new(Slow(bytes));
+/// What came of a stream.
+#[derive(Drop)]
+struct Outcome {
+    written: Vec<u8>,
+    result: Result<Served, StreamFault>,
+}
+
+/// Serves the bytes, so many at a time.
+fn served(alloc: Global, bytes: &[u8], piece: usize) -> Outcome {
+    let mut reader = Watched::new(Pieces { bytes, piece });
     let mut writer = Watched::new(Vec::new(alloc));
     let mut desk = 0;
-    serve_stream(alloc, &FullStop, &mut desk, &mut reader, &mut writer)
+    let result = serve_messages(alloc, &Marks, &mut desk, &mut reader, &mut writer);
+    Outcome {
+        written: writer.into_inner(),
+        result,
+    }
+}
+
+/// Compares what is written for the bytes, a mark for each answer, and the end.
+fn compare(
+    alloc: Global,
+    rt: &impl Abort,
+    name: &str,
+    bytes: &[u8],
+    piece: usize,
+    marks: &str,
+    end: End,
+) {
+    let outcome = served(alloc, bytes, piece);
+    let is_served = match &outcome.result {
+        Ok(served) => served.answered as usize == marks.len() && served.end == end,
+        Err(_) => false,
+    };
+    assert!(rt; is_served, "{name}");
+    assert_eq!(rt; outcome.written.as_slice(), marks.as_bytes(), "{name}");
 }
 
 /// Two messages, of 63 bytes each.
@@ -52,22 +95,22 @@ fn served(alloc: Global, bytes: &[u8]) -> Result<Served, StreamFault> {
 static TWO: &[u8] =
     b"PUT /students/S1 HTTP/1.1\r\nContent-Length: 14\r\n\r\n{\"name\":\"Ann\"}PUT /students/S2 HTTP/1.1\r\nContent-Length: 14\r\n\r\n{\"name\":\"Bob\"}";
 
-/// How many of the two messages the first bytes have, and how they end.
-fn end_of(n: usize) -> Served {
-    let (answered, end) = match n {
-        0 => (0, End::Closed),
-        1..=62 => (0, End::Unfinished),
-        63 => (1, End::Closed),
-        64..=125 => (1, End::Unfinished),
-        _ => (2, End::Closed),
-    };
-    Served { answered, end }
+/// What is written for so many bytes of the two messages, and how they end.
+fn end_of(n: usize) -> (&'static str, End) {
+    match n {
+        0 => ("", End::Closed),
+        1..=62 => ("", End::Unfinished),
+        63 => (".", End::Closed),
+        64..=125 => (".", End::Unfinished),
+        _ => ("..", End::Closed),
+    }
 }
 
-/// Compares what is answered to each beginning of the bytes.
+/// Compares each beginning of the bytes, one byte at a time.
 fn compare_prefixes(alloc: Global, rt: &impl Abort, bytes: &[u8]) {
     for n in 0..bytes.len() + 1 {
-        assert_eq!(rt; served(alloc, &bytes[..n]), Ok(end_of(n)), "{n}");
+        let (marks, end) = end_of(n);
+        compare(alloc, rt, "a beginning", &bytes[..n], 1, marks, end);
     }
 }
 
@@ -76,32 +119,28 @@ fn prefixes(rt: HostRuntime) {
     compare_prefixes(rt.alloc(), &rt, TWO);
 }
 
-type Head = (&'static str, u32, End);
+type Head = (&'static str, &'static str, End);
 
 #[rattlefmt::skip]
 static ALL_HEADS: [Head; 12] = [
-    ("PUT /a HTTP/1.1\r\nContent-Length: 65537\r\n\r\n", 1, End::TooLarge),
-    ("PUT /a HTTP/1.1\r\nContent-Length: 14\r\ncontent-length: 14\r\n\r\n", 1, End::BadHead),
-    ("PUT /a HTTP/1.1\r\nContent-Length: +14\r\n\r\n", 1, End::BadHead),
-    ("PUT /a HTTP/1.1\r\nContent-Length:\r\n\r\n", 1, End::BadHead),
-    ("PUT /a HTTP/1.1\r\nContent-Length: 00014\r\n\r\n{\"name\":\"Ann\"}", 1, End::Closed),
-    ("PUT /a HTTP/1.1\r\nContent-Length: 999999999999999999999999999999\r\n\r\n", 1, End::TooLarge),
-    ("PUT /a HTTP/1.1\r\nTransfer-Encoding: chunked\r\n\r\n", 1, End::BadHead),
-    ("PUT /a HTTP/1.0\r\n\r\n", 1, End::BadHead),
-    ("GET /a HTTP/1.1\r\n\r\nPUT /a HTTP/1.0\r\n\r\n", 2, End::BadHead),
-    ("GET\n", 1, End::BadHead),
-    ("GET", 0, End::Unfinished),
-    ("", 0, End::Closed),
+    ("PUT /a HTTP/1.1\r\nContent-Length: 65537\r\n\r\n", "!", End::TooLarge),
+    ("PUT /a HTTP/1.1\r\nContent-Length: 14\r\ncontent-length: 14\r\n\r\n", "!", End::BadHead),
+    ("PUT /a HTTP/1.1\r\nContent-Length: +14\r\n\r\n", "!", End::BadHead),
+    ("PUT /a HTTP/1.1\r\nContent-Length:\r\n\r\n", "!", End::BadHead),
+    ("PUT /a HTTP/1.1\r\nContent-Length: 00014\r\n\r\n{\"name\":\"Ann\"}", ".", End::Closed),
+    ("PUT /a HTTP/1.1\r\nContent-Length: 999999999999999999999999999999\r\n\r\n", "!", End::TooLarge),
+    ("PUT /a HTTP/1.1\r\nTransfer-Encoding: chunked\r\n\r\n", "!", End::BadHead),
+    ("PUT /a HTTP/1.0\r\n\r\n", "!", End::BadHead),
+    ("GET /a HTTP/1.1\r\n\r\nPUT /a HTTP/1.0\r\n\r\n", ".!", End::BadHead),
+    ("GET\n", "!", End::BadHead),
+    ("GET", "", End::Unfinished),
+    ("", "", End::Closed),
 ];
 
-/// Compares what is answered to each row.
+/// Compares each row, one byte at a time.
 fn compare_heads(alloc: Global, rt: &impl Abort, rows: &[Head]) {
-    for (text, answered, end) in rows {
-        let want = Served {
-            answered: *answered,
-            end: *end,
-        };
-        assert_eq!(rt; served(alloc, text.as_bytes()), Ok(want), "{text}");
+    for (text, marks, end) in rows {
+        compare(alloc, rt, text, text.as_bytes(), 1, marks, *end);
     }
 }
 
@@ -110,97 +149,53 @@ fn heads(rt: HostRuntime) {
     compare_heads(rt.alloc(), &rt, ALL_HEADS.as_slice());
 }
 
+/// A start, so many times a piece, and an end; then the marks and the end of the stream.
+type Limit = (
+    &'static str,
+    &'static str,
+    usize,
+    &'static str,
+    &'static str,
+    End,
+);
+
+// A head of 8,192 bytes and one of 8,193; 32 fields and 33; a body of 65,536 bytes; a hundred messages and one more.
+#[rattlefmt::skip]
+static LIMITS: [Limit; 6] = [
+    ("GET /students/S1 HTTP/1.1\r\nX: ", "a", 8158, "\r\n\r\n", ".", End::Closed),
+    ("GET /students/S1 HTTP/1.1\r\nX: ", "a", 8159, "\r\n\r\n", "!", End::TooLarge),
+    ("GET /students/S1 HTTP/1.1\r\n", "X: a\r\n", 32, "\r\n", ".", End::Closed),
+    ("GET /students/S1 HTTP/1.1\r\n", "X: a\r\n", 33, "\r\n", "!", End::TooLarge),
+    ("PUT /a HTTP/1.1\r\nContent-Length: 65536\r\n\r\n", "a", 65536, "", ".", End::Closed),
+    ("", "GET / HTTP/1.1\r\n\r\n", 101, "", "....................................................................................................", End::Hundred),
+];
+
 /// This start, so many times the piece, and this end.
-fn repeated(
+pub(crate) fn repeated(
     alloc: Global,
-    start: &[u8],
-    piece: &[u8],
+    start: &str,
+    piece: &str,
     times: usize,
-    end: &[u8],
+    end: &str,
 ) -> Result<Vec<u8>, AllocError> {
-    let mut bytes = Vec::from_slice(alloc, start)?;
+    let mut bytes = Vec::from_slice(alloc, start.as_bytes())?;
     for _piece in 0..times {
-        bytes.extend_from_slice(piece)?;
+        bytes.extend_from_slice(piece.as_bytes())?;
     }
-    bytes.extend_from_slice(end)?;
+    bytes.extend_from_slice(end.as_bytes())?;
     Ok(bytes)
 }
 
-/// A head with a field of this many letters.
-fn long_head(alloc: Global, letters: usize) -> Result<Vec<u8>, AllocError> {
-    let start = b"GET /students/S1 HTTP/1.1\r\nX: ";
-    repeated(alloc, start, b"a", letters, b"\r\n\r\n")
-}
-
-/// A head with this many fields.
-fn head_of_fields(alloc: Global, fields: usize) -> Result<Vec<u8>, AllocError> {
-    let start = b"GET /students/S1 HTTP/1.1\r\n";
-    repeated(alloc, start, b"X: a\r\n", fields, b"\r\n")
-}
-
-/// This many messages.
-fn messages(alloc: Global, n: usize) -> Result<Vec<u8>, AllocError> {
-    repeated(alloc, b"", b"GET / HTTP/1.1\r\n\r\n", n, b"")
-}
-
-/// Compares what is answered to the bytes.
-fn compare_served(
-    alloc: Global,
-    rt: &impl Abort,
-    name: &str,
-    bytes: &[u8],
-    answered: u32,
-    end: End,
-) {
-    assert_eq!(rt;
-        served(alloc, bytes),
-        Ok(Served { answered, end }),
-        "{name}"
-    );
+/// Compares each row, a thousand bytes at a time.
+fn compare_limits(alloc: Global, rt: &impl Abort, rows: &[Limit]) -> Result<(), Fail> {
+    for (start, piece, times, rest, marks, end) in rows {
+        let bytes = repeated(alloc, start, piece, *times, rest)?;
+        compare(alloc, rt, piece, &bytes, 1000, marks, *end);
+    }
+    Ok(())
 }
 
 #[test]
 fn limits(rt: HostRuntime) -> Result<(), Fail> {
-    let alloc = rt.alloc();
-    compare_served(
-        alloc,
-        &rt,
-        "8,192 bytes",
-        &long_head(alloc, 8158)?,
-        1,
-        End::Closed,
-    );
-    compare_served(
-        alloc,
-        &rt,
-        "8,193 bytes",
-        &long_head(alloc, 8159)?,
-        1,
-        End::TooLarge,
-    );
-    compare_served(
-        alloc,
-        &rt,
-        "32 fields",
-        &head_of_fields(alloc, 32)?,
-        1,
-        End::Closed,
-    );
-    compare_served(
-        alloc,
-        &rt,
-        "33 fields",
-        &head_of_fields(alloc, 33)?,
-        1,
-        End::TooLarge,
-    );
-    compare_served(
-        alloc,
-        &rt,
-        "101 messages",
-        &messages(alloc, 101)?,
-        100,
-        End::Hundred,
-    );
-    Ok(())
+    compare_limits(rt.alloc(), &rt, LIMITS.as_slice())
 }

@@ -9,7 +9,7 @@ ghost use Rattle.verdict.specs.Verdict.{IsProvedBest, IsFirstFailure};
 ghost use Rattle.verdict.specs.declared.prices.Prices.{Prices};
 
 use crate::cover::first_uncovered;
-use crate::prices::{Prices, has_shape, is_above};
+use crate::prices::{Prices, has_shape, is_not_below_zero};
 use crate::totals::is_equal;
 use spa::{Instance, Matching, greedy_law, list_law, price_law};
 use thiserror::Error;
@@ -37,7 +37,6 @@ pub fn check(instance: &Instance, matching: &Matching, prices: &Prices) -> Resul
     // A yes proves the matching best against every matching of the instance.
     ensures greedy_maximum { OnOk result (IsGreedyMaximum instance.now.shape (pairs instance.now.shape matching.now.places.items)) }
 {
-    instance.fit();
     list_law(instance);
     greedy_law(instance);
     price_law(instance);
@@ -47,11 +46,11 @@ pub fn check(instance: &Instance, matching: &Matching, prices: &Prices) -> Resul
     if !has_shape(instance, prices) {
         return Err(CheckFault::Shape);
     }
-    if !is_above(prices) {
+    if !is_not_below_zero(prices) {
         return Err(CheckFault::Below);
     }
     if let Some((student, place)) = first_uncovered(instance, prices) {
-        return Err(CheckFault::Uncovered(student, place + 1));
+        return Err(CheckFault::Uncovered(student, place));
     }
     if !is_equal(instance, matching, prices) {
         return Err(CheckFault::Unequal);

@@ -1,10 +1,10 @@
 //! Whether a student, a project of the list and its supervisor together pay what the pair weighs.
 #![tactic(auto)]
 
-ghost use Rattle.std.specs.Prelude.{◌≡◌, ℕ, ◌+◌, ◌<◌, ◌≤◌, ◌↔◌, IsTrue, length, MatchOption, pos};
+ghost use Rattle.std.specs.Prelude.{◌≡◌, ℕ, ◌<◌, ◌≤◌, ◌↔◌, IsTrue, length, MatchOption, pos};
 ghost use Rattle.spa.specs.Order.{greedy, plus};
 ghost use Rattle.spa.specs.Row.{at};
-ghost use Rattle.spa.specs.Shape.{list_of};
+ghost use Rattle.spa.specs.Shape.{IsPlaceOf, list_of};
 ghost use Rattle.spa.specs.Matching.{weight};
 ghost use Rattle.verdict.specs.Rows.{EachInRange};
 ghost use Rattle.verdict.specs.Verdict.{HasShape, IsUncoveredAt, IsFirstUncovered};
@@ -30,14 +30,15 @@ fn paid(
     paid
 }
 
-/// What a pair of the rank at this place of a list weighs.
-fn weight_at(place: usize) -> [i64; PLACES]
-    requires { place + 1 < PLACES }
-    ensures { at result ≡ (λ t. pos (weight (place + 1) t)) }
+/// What a pair of this rank weighs.
+fn weight_of(rank: usize) -> [i64; PLACES]
+    requires first { 1 ≤ rank }
+    requires last { rank < PLACES }
+    ensures { at result ≡ (λ t. pos (weight rank t)) }
 {
     let mut weight = [0; PLACES];
     weight[0] = 1;
-    weight[place + 1] = 1;
+    weight[rank] = 1;
     weight
 }
 
@@ -45,28 +46,28 @@ fn weight_at(place: usize) -> [i64; PLACES]
 fn is_uncovered(instance: &Instance, prices: &Prices, student: usize, place: usize) -> bool
     requires shape { HasShape instance.now.shape prices.now }
     requires student { student < length instance.now.shape.students }
-    requires listed { place < length (list_of instance.now.shape student) }
+    requires listed { IsPlaceOf (list_of instance.now.shape student) place }
     ensures { IsTrue result ↔ IsUncoveredAt greedy instance.now.shape prices.now student place }
 {
-    instance.fit();
     list_law(instance);
-    let project = instance.list(student)[place];
+    let project = instance.choice(student, place);
     let supervisor = instance.supervisor_of(project);
     let paid = paid(
         &prices.students[student],
         &prices.projects[project],
         &prices.supervisors[supervisor],
     );
-    precedes(&paid, &weight_at(place))
+    precedes(&paid, &weight_of(place))
 }
 
 /// The first place of the student's list that the prices do not cover.
 fn first_uncovered_place(instance: &Instance, prices: &Prices, student: usize) -> Option<usize>
     requires shape { HasShape instance.now.shape prices.now }
     requires student { student < length instance.now.shape.students }
-    ensures { MatchOption result ((k : ℕ) → k < length (list_of instance.now.shape student) → ¬ IsUncoveredAt greedy instance.now.shape prices.now student k) (λ k. (k < length (list_of instance.now.shape student)) × IsUncoveredAt greedy instance.now.shape prices.now student k × ((j : ℕ) → j < k → ¬ IsUncoveredAt greedy instance.now.shape prices.now student j)) }
+    ensures { MatchOption result ((k : ℕ) → IsPlaceOf (list_of instance.now.shape student) k → ¬ IsUncoveredAt greedy instance.now.shape prices.now student k) (λ k. IsPlaceOf (list_of instance.now.shape student) k × IsUncoveredAt greedy instance.now.shape prices.now student k × ((j : ℕ) → 1 ≤ j → j < k → ¬ IsUncoveredAt greedy instance.now.shape prices.now student j)) }
 {
-    for place in 0..instance.list(student).len() {
+    for before in 0..instance.list(student).len() {
+        let place = before + 1;
         if is_uncovered(instance, prices, student, place) {
             return Some(place);
         }
@@ -77,7 +78,7 @@ fn first_uncovered_place(instance: &Instance, prices: &Prices, student: usize) -
 /// The first student, and the first place of the list, that the prices do not cover.
 pub(crate) fn first_uncovered(instance: &Instance, prices: &Prices) -> Option<(usize, usize)>
     requires { HasShape instance.now.shape prices.now }
-    ensures { MatchOption result ((s k : ℕ) → s < length instance.now.shape.students → k < length (list_of instance.now.shape s) → ¬ IsUncoveredAt greedy instance.now.shape prices.now s k) (λ r. IsFirstUncovered greedy instance.now.shape prices.now r.0 r.1) }
+    ensures { MatchOption result ((s k : ℕ) → s < length instance.now.shape.students → IsPlaceOf (list_of instance.now.shape s) k → ¬ IsUncoveredAt greedy instance.now.shape prices.now s k) (λ r. IsFirstUncovered greedy instance.now.shape prices.now r.0 r.1) }
 {
     for student in 0..instance.student_count() {
         if let Some(place) = first_uncovered_place(instance, prices, student) {

@@ -4,8 +4,8 @@
 ghost use Rattle.std.specs.Prelude.{◌↔◌, IsTrue};
 ghost use Rattle.spa.specs.Order.{greedy, none};
 ghost use Rattle.spa.specs.Row.{at};
-ghost use Rattle.verdict.specs.Rows.{EachInRange, AllInRange, AllAbove};
-ghost use Rattle.verdict.specs.Verdict.{HasShape, IsAbove};
+ghost use Rattle.verdict.specs.Rows.{EachInRange, AllInRange, AreNotBelowZero};
+ghost use Rattle.verdict.specs.Verdict.{HasShape, IsNotBelowZero};
 
 use spa::{Instance, PLACES, precedes};
 
@@ -52,8 +52,8 @@ fn is_below_zero(price: &[i64; PLACES]) -> bool
 }
 
 /// Whether no price comes before zero.
-fn are_above(prices: &[[i64; PLACES]]) -> bool
-    ensures { IsTrue result ↔ AllAbove greedy prices.now }
+fn are_not_below_zero(prices: &[[i64; PLACES]]) -> bool
+    ensures { IsTrue result ↔ AreNotBelowZero greedy prices.now }
 {
     for price in prices {
         if is_below_zero(price) {
@@ -76,14 +76,14 @@ pub(crate) fn has_shape(instance: &Instance, prices: &Prices) -> bool
 }
 
 /// Whether no price comes before zero.
-pub(crate) fn is_above(prices: &Prices) -> bool
-    ensures { IsTrue result ↔ IsAbove greedy prices.now }
+pub(crate) fn is_not_below_zero(prices: &Prices) -> bool
+    ensures { IsTrue result ↔ IsNotBelowZero greedy prices.now }
 {
-    if !are_above(&prices.students) {
+    if !are_not_below_zero(&prices.students) {
         return false;
     }
-    if !are_above(&prices.projects) {
+    if !are_not_below_zero(&prices.projects) {
         return false;
     }
-    are_above(&prices.supervisors)
+    are_not_below_zero(&prices.supervisors)
 }

@@ -5,26 +5,25 @@ ghost use Rattle.std.specs.Prelude.{◌≡◌, ◌*◌, ◌<◌, ◌≤◌, ◌�
 ghost use Rattle.spa.specs.Order.{sum_below};
 ghost use Rattle.spa.specs.Row.{at};
 ghost use Rattle.spa.specs.Shape.{project_quota, supervisor_quota};
-ghost use Rattle.spa.specs.Matching.{weight_row};
 ghost use Rattle.spa.specs.Prices.{value};
-ghost use Rattle.spa.specs.Matched.{pairs, HasPlaces};
-ghost use Rattle.verdict.specs.Rows.{price, AllInRange, EachInRange, IsWithin};
+ghost use Rattle.spa.specs.Matched.{HasPlaces};
+ghost use Rattle.verdict.specs.Rows.{price, AllInRange, EachInRange, IsBoundedBy};
 ghost use Rattle.verdict.specs.Verdict.{HasShape, IsEqual};
 
 use crate::prices::Prices;
-use spa::{Instance, Matching, PLACES, profile};
+use spa::{Instance, Matching, PLACES, total_weight};
 
 /// What the prices of the students add up to at a place.
-fn students_total(prices: &[[i64; PLACES]], t: usize) -> i64
+fn students_total(instance: &Instance, prices: &[[i64; PLACES]], t: usize) -> i64
     requires place { t < PLACES }
-    requires few { length prices.now ≤ 500 }
+    requires shape { length prices.now ≡ length instance.now.shape.students }
     requires range { AllInRange prices.now }
-    ensures value { result ≡ sum_below (length prices.now) (λ n. price prices.now n t) }
-    ensures bounded { IsWithin (500 * 1000000) result }
+    ensures value { result ≡ sum_below (length instance.now.shape.students) (λ s. price prices.now s t) }
+    ensures bounded { IsBoundedBy (500 * 1000000) result }
 {
     let mut total = 0;
-    for n in 0..prices.len() {
-        total += prices[n][t];
+    for student in 0..instance.student_count() {
+        total += prices[student][t];
     }
     total
 }
@@ -35,7 +34,7 @@ fn multiple(quota: u32, price: &[i64; PLACES], t: usize) -> i64
     requires place { t < PLACES }
     requires range { EachInRange price.now }
     ensures value { result ≡ pos quota *ℤ at price.now t }
-    ensures bounded { IsWithin 500000000 result }
+    ensures bounded { IsBoundedBy 500000000 result }
 {
     i64::from(quota) * price[t]
 }
@@ -46,9 +45,8 @@ fn projects_total(instance: &Instance, prices: &[[i64; PLACES]], t: usize) -> i6
     requires shape { length prices.now ≡ length instance.now.shape.projects }
     requires range { AllInRange prices.now }
     ensures value { result ≡ sum_below (length instance.now.shape.projects) (λ p. pos (project_quota instance.now.shape p) *ℤ price prices.now p t) }
-    ensures bounded { IsWithin (400 * 500000000) result }
+    ensures bounded { IsBoundedBy (400 * 500000000) result }
 {
-    instance.fit();
     let mut total = 0;
     for project in 0..instance.project_count() {
         total += multiple(instance.project_quota(project), &prices[project], t);
@@ -62,9 +60,8 @@ fn supervisors_total(instance: &Instance, prices: &[[i64; PLACES]], t: usize) ->
     requires shape { length prices.now ≡ length instance.now.shape.supervisors }
     requires range { AllInRange prices.now }
     ensures value { result ≡ sum_below (length instance.now.shape.supervisors) (λ l. pos (supervisor_quota instance.now.shape l) *ℤ price prices.now l t) }
-    ensures bounded { IsWithin (100 * 500000000) result }
+    ensures bounded { IsBoundedBy (100 * 500000000) result }
 {
-    instance.fit();
     let mut total = 0;
     for supervisor in 0..instance.supervisor_count() {
         total += multiple(
@@ -82,24 +79,10 @@ fn total_at(instance: &Instance, prices: &Prices, t: usize) -> i64
     requires shape { HasShape instance.now.shape prices.now }
     ensures { result ≡ value instance.now.shape (price prices.now.students.items) (price prices.now.projects.items) (price prices.now.supervisors.items) t }
 {
-    instance.fit();
-    let students = students_total(&prices.students, t);
+    let students = students_total(instance, &prices.students, t);
     let projects = projects_total(instance, &prices.projects, t);
     let supervisors = supervisors_total(instance, &prices.supervisors, t);
     students + projects + supervisors
-}
-
-/// What a matching weighs at a place.
-fn weight_total(instance: &Instance, matching: &Matching, t: usize) -> i64
-    requires place { t < PLACES }
-    requires places { HasPlaces instance.now.shape matching.now.places.items }
-    ensures { result ≡ weight_row instance.now.shape (pairs instance.now.shape matching.now.places.items) t }
-{
-    if t == 0 {
-        matching.size(instance) as i64
-    } else {
-        i64::from(profile(instance, matching)[t - 1])
-    }
 }
 
 /// Whether the prices add up to the matching's total weight.
@@ -108,8 +91,9 @@ pub(crate) fn is_equal(instance: &Instance, matching: &Matching, prices: &Prices
     requires shape { HasShape instance.now.shape prices.now }
     ensures { IsTrue result ↔ IsEqual instance.now.shape matching.now.places.items prices.now }
 {
+    let weight = total_weight(instance, matching);
     for t in 0..PLACES {
-        if total_at(instance, prices, t) != weight_total(instance, matching, t) {
+        if total_at(instance, prices, t) != weight[t] {
             return false;
         }
     }

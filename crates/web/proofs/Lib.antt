@@ -1,5 +1,2 @@
-pub mod Json
-pub mod Found
-pub mod Segments
 pub mod Seen
 pub mod Stepping

@@ -1,14 +1,15 @@
 -- A run at a desk is a run of its office.
-use Rattle.std.proofs.Common.{◌≡◌, ℕ, List, [], ◌∷◌, Option, Some, None, Result, Ok, Err, IfOk, IfErr, refl, sym, ap, arith, append-nil}
+use Rattle.std.proofs.Common.{ℕ, List, [], ◌∷◌, Option, Some, None, Result, Ok, Err, IfOk, IfErr, refl, sym, ap, arith, append-nil}
 use Rattle.std.specs.Io.KnownBytes.{Appends, Consumes}
 use Rattle.wire.specs.Messages.{Message}
 use Rattle.wire.specs.Run.{Said, said, Run}
-use Rattle.wire.specs.Served.{Serves, ServedTo, BrokeOff}
+use Rattle.wire.specs.Served.{ServedTo, BrokeOff}
+use Rattle.wire.specs.declared.outcome.End.{End}
 use Rattle.wire.specs.declared.outcome.Served.{Served}
 use Rattle.wire.specs.declared.outcome.StreamFault.{StreamFault}
 use Rattle.wire.specs.declared.outcome.StreamFault.TheVariants.{Memory}
 
-module _ {D S : Type 0} (see : D → S) (step : S → Said → List ℕ → S → Type 0) where
+module _ {D S : Type 0} (see : D → S) (step : S → Said → List ℕ → S → Type 0) (refusal : End → List ℕ) where
   -- the step as it is seen
   abbrev pub seen : D → Said → List ℕ → D → Type 0
   seen before said bytes after = step (see before) said bytes (see after)
@@ -19,28 +20,30 @@ module _ {D S : Type 0} (see : D → S) (step : S → Said → List ℕ → S �
   run_seen before after (m ∷ messages) [] r = absurd r
   run_seen before after (m ∷ messages) (a ∷ answers) r = (see r.0, r.1, run_seen r.0 after messages answers r.2)
 
-  pub serves_seen : (before after : D) (left w0 w : Option (List ℕ)) (served : Served) → ServedTo seen before left w0 w served after → ServedTo step (see before) left w0 w served (see after)
-  serves_seen before after left w0 w served s = (
-    s.0,
-    s.1,
-    s.2,
-    s.3,
-    record {
-      messages = s.4.messages;
-      of_stream = s.4.of_stream;
-      answers = s.4.answers;
-      ran = run_seen before after s.4.messages s.4.answers s.4.ran;
-      written = s.4.written;
-      counted = s.4.counted;
-    },
-  )
+  pub serves_seen : (before after : D) (left0 w0 left w : Option (List ℕ)) (served : Served)
+      → ServedTo seen refusal before left0 w0 left w served after → ServedTo step refusal (see before) left0 w0 left w served (see after)
+  serves_seen before after left0 w0 left w served s = record {
+    given = s.given;
+    read = s.read;
+    out = s.out;
+    wrote = s.wrote;
+    serves = record {
+      messages = s.serves.messages;
+      of_stream = s.serves.of_stream;
+      answers = s.serves.answers;
+      ran = run_seen before after s.serves.messages s.serves.answers s.serves.ran;
+      written = s.serves.written;
+      counted = s.serves.counted;
+    };
+  }
 
-  pub broke_seen : (before now : D) (left0 w0 left w : Option (List ℕ)) (fault : StreamFault) → BrokeOff seen before left0 w0 left w now fault → BrokeOff step (see before) left0 w0 left w (see now) fault
+  pub broke_seen : (before now : D) (left0 w0 left w : Option (List ℕ)) (fault : StreamFault) → BrokeOff seen refusal before left0 w0 left w now fault → BrokeOff step refusal (see before) left0 w0 left w (see now) fault
   broke_seen before now left0 w0 left w fault b = record {
     given = b.given;
     read = b.read;
     messages = b.messages;
     few = b.few;
+    none_after = b.none_after;
     rest = b.rest;
     split = b.split;
     answers = b.answers;
@@ -49,23 +52,24 @@ module _ {D S : Type 0} (see : D → S) (step : S → Said → List ℕ → S �
   }
 
   -- for whatever came of it
-  pub served_seen : (before after : D) (left w0 w : Option (List ℕ)) (result : Result Served StreamFault)
-      → IfOk result (λ served. ServedTo seen before left w0 w served after) → IfOk result (λ served. ServedTo step (see before) left w0 w served (see after))
-  served_seen before after left w0 w (Ok served) s = serves_seen before after left w0 w served s
-  served_seen before after left w0 w (Err fault) s = tt
+  pub served_seen : (before after : D) (left0 w0 left w : Option (List ℕ)) (result : Result Served StreamFault)
+      → IfOk result (λ served. ServedTo seen refusal before left0 w0 left w served after) → IfOk result (λ served. ServedTo step refusal (see before) left0 w0 left w served (see after))
+  served_seen before after left0 w0 left w (Ok served) s = serves_seen before after left0 w0 left w served s
+  served_seen before after left0 w0 left w (Err fault) s = tt
 
   pub broken_seen : (before now : D) (left0 w0 left w : Option (List ℕ)) (result : Result Served StreamFault)
-      → IfErr result (λ fault. BrokeOff seen before left0 w0 left w now fault) → IfErr result (λ fault. BrokeOff step (see before) left0 w0 left w (see now) fault)
+      → IfErr result (λ fault. BrokeOff seen refusal before left0 w0 left w now fault) → IfErr result (λ fault. BrokeOff step refusal (see before) left0 w0 left w (see now) fault)
   broken_seen before now left0 w0 left w (Ok served) b = tt
   broken_seen before now left0 w0 left w (Err fault) b = broke_seen before now left0 w0 left w fault b
 
 -- nothing was read, asked or written
-pub nothing_broken : {S : Type 0} (step : S → Said → List ℕ → S → Type 0) (before : S) (left w : Option (List ℕ)) → BrokeOff step before left w left w before Memory
-nothing_broken step before left w = record {
+pub nothing_broken : {S : Type 0} (step : S → Said → List ℕ → S → Type 0) (refusal : End → List ℕ) (before : S) (left w : Option (List ℕ)) → BrokeOff step refusal before left w left w before Memory
+nothing_broken step refusal before left w = record {
   given = [];
   read = consumes_none left;
   messages = [];
   few = omega arith;
+  none_after = λ _. omega arith;
   rest = [];
   split = λ more. refl;
   answers = [];

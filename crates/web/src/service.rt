@@ -1,23 +1,47 @@
-//! The service of a stream at the desk that keeps its tables.
-ghost use Rattle.std.specs.Prelude.{◌≡◌, ◌-◌, ◌^◌, ◌+◌, ◌<◌, ⊤, Err, IfOk, IfErr};
+//! The service of a stream at a desk.
+ghost use Rattle.std.specs.Prelude.{◌≡◌, ◌-◌, ◌^◌, ◌+◌, ◌<◌, Err, IfOk, IfErr};
 ghost use Rattle.wire.specs.Run.{read_failed, write_failed};
 ghost use Rattle.wire.specs.Served.{BrokeOff, ServedTo};
-ghost use Rattle.web.specs.Serving.{AnswersMessage};
+ghost use Rattle.web.specs.Serving.{AnswersMessage, refusal_at, end_text};
 
-use crate::serving::{Asks, serve_at};
+use api::{Routes, answer_of, refusal_answer};
 use desk::Desk;
-use rolls::{Refusal, Reply, Request};
+use rolls::Refusal;
 use sqlite::Alter;
 use std::alloc::Global;
-use wire::{Served, Sink, Source, StreamFault};
+use wire::{Answer, End, Handler, Served, Sink, Source, StreamFault, serve_messages};
 
-impl<S: Alter> Asks for Desk<S> {
-    ghost office = { λ desk. desk.office };
+/// Answers the messages of a stream at a desk.
+#[derive(Drop)]
+struct Clerk {
+    alloc: Global,
+    routes: Routes,
+}
 
-    ghost holds = { λ _. ⊤ };
+/// The refusal of an end that is answered.
+fn refusal_at(end: End) -> Refusal
+    ensures { result ≡ refusal_at end }
+{
+    match end {
+        End::TooLarge => Refusal::TooLarge,
+        End::BadHead | End::Closed | End::Unfinished | End::Hundred => Refusal::BadHead,
+    }
+}
 
-    fn make_step(&mut self, request: Request) -> Result<Reply, Refusal> {
-        self.ask(request)
+impl<S: Alter> Handler<Desk<S>> for Clerk {
+    ghost step = { λ before said bytes after. AnswersMessage before.office said bytes after.office };
+
+    ghost refusal = { end_text };
+
+    fn answer(&self, desk: &mut Desk<S>, method: &[u8], target: &[u8], body: &[u8]) -> Answer {
+        match self.routes.request(method, target, body) {
+            Err(refusal) => Answer::Short(refusal_answer(refusal)),
+            Ok(request) => answer_of(self.alloc, desk.ask(request)),
+        }
+    }
+
+    fn refuse(&self, end: End) -> Answer {
+        Answer::Short(refusal_answer(refusal_at(end)))
     }
 }
 
@@ -32,12 +56,14 @@ pub fn serve_stream<S: Alter, R: Source, W: Sink>(
     requires write_failures { W.failures writer.old < 2 ^ 64 - 1 }
 
     // What was written: the texts of the answers of a run of the office over the messages of the stream, and the
-    // refusal that ends it.
-    ensures served { IfOk result (λ served. ServedTo AnswersMessage desk.old.office
-        (R.left reader.old) (W.written writer.old) (W.written writer.new) served desk.new.office) }
+    // refusal that ends it. What was read and what the reader has left are the stream.
+    ensures served { IfOk result (λ served. ServedTo AnswersMessage end_text desk.old.office
+        (R.left reader.old) (W.written writer.old) (R.left reader.new) (W.written writer.new)
+        served desk.new.office) }
 
-    // After a fault a beginning of that.
-    ensures broken { IfErr result (λ fault. BrokeOff AnswersMessage desk.old.office
+    // After a fault a beginning of that: all answers but the last whole. A reader fails before the hundredth answer
+    // alone, so nothing is read after it.
+    ensures broken { IfErr result (λ fault. BrokeOff AnswersMessage end_text desk.old.office
         (R.left reader.old) (W.written writer.old) (R.left reader.new) (W.written writer.new)
         desk.new.office fault) }
 
@@ -49,5 +75,9 @@ pub fn serve_stream<S: Alter, R: Source, W: Sink>(
     ensures read_count { R.failures reader.new ≡ R.failures reader.old + read_failed result }
     ensures write_count { W.failures writer.new ≡ W.failures writer.old + write_failed result }
 {
-    serve_at(alloc, desk, reader, writer)
+    let Ok(routes) = Routes::new(alloc) else {
+        return Err(StreamFault::Memory);
+    };
+    let clerk = Clerk { alloc, routes };
+    serve_messages(alloc, &clerk, desk, reader, writer)
 }

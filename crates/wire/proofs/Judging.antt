@@ -26,10 +26,6 @@ framing_read buf headers spans h f at e =
 pub framed_stays : (buf more after : List ℕ) (h : RequestHead) (f : Framing) → ReadsRequest (window buf) h after → framing h ≡ f → HeadFramed (buf ++ more) f
 framed_stays buf more after h f r e = (h, head_stays buf more after h r, e)
 
--- with nothing more to come
-pub framed_here : (buf after : List ℕ) (h : RequestHead) → ReadsRequest (window buf) h after → HeadAt buf h
-framed_here buf after h r = (after, r)
-
 -- a part of the window is that part of the buffer
 pub part_of_front : (w z : List ℕ) (s : Span) → s.start ≤ s.end → s.end ≤ length w → span_bytes (w ++ z) s ≡ span_bytes w s
 part_of_front w z s o e =

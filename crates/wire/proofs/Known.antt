@@ -3,7 +3,6 @@ use Rattle.std.proofs.Common.{◌≡◌, ℕ, ◌+◌, ◌-◌, arith, List, [],
 use Rattle.std.proofs.Math.Seq.{take-add}
 use Rattle.std.proofs.lemmas.List.{take_all, length-drop}
 use Rattle.std.specs.Io.KnownBytes.{Appends, Consumes}
-use Rattle.wire.specs.Run.{Tells, unread}
 
 -- two writes are one
 pub appends_compose : (a b c : Option (List ℕ)) (x y : List ℕ) → Appends a b x → Appends b c y → Appends a c (x ++ y)
@@ -36,9 +35,3 @@ consumes_compose (Some u) (Some v) (Some w) x y p q = p ∙ ap (λ (t : List ℕ
 pub consumes_none : (a : Option (List ℕ)) → Consumes a a []
 consumes_none None = tt
 consumes_none (Some u) = refl
-
--- what was known is what was read and what is left
-pub tells_whole : (a b : Option (List ℕ)) (x : List ℕ) → Consumes a b x → Tells a (x ++ unread b)
-tells_whole None b x p = tt
-tells_whole (Some u) None x p = absurd p
-tells_whole (Some u) (Some v) x p = p

@@ -11,7 +11,7 @@ use Rattle.wire.specs.Judged.{IsPartsOf, Judges}
 use Rattle.wire.specs.Run.{Said, said, said_at, Run, unread, last_words, last_count}
 use Rattle.wire.specs.Served.{SoFar, ServedTo}
 use Rattle.wire.specs.Taken.{Grows}
-use Rattle.wire.proofs.Known.{appends_compose, appends_none, consumes_compose, consumes_none, tells_whole}
+use Rattle.wire.proofs.Known.{appends_compose, appends_none, consumes_compose, consumes_none}
 
 -- one more message is split off
 pub splits_more : (bytes : List ℕ) (ms : List Message) (rest after : List ℕ) (m : Message) → Splits bytes ms rest → Begins rest m after
@@ -102,15 +102,15 @@ ends_at count rest TooLarge few stops = (few, stops)
 ends_at count rest Hundred few stops = absurd stops
 
 -- the stream is at an end, and its last words are written
-pub ends_here : {S : Type 0} (step : S → Said → List ℕ → S → Type 0) (before now : S) (left0 w0 left w w' : Option (List ℕ)) (rest : List ℕ) (count : ℕ) (end : End)
-    → SoFar step before left0 w0 left w rest count now → count < 100 → Stops (rest ++ unread left) end → Appends w w' (last_words end)
-    → ServedTo step before left0 w0 w' (record { answered = count + last_count end; end = end }) now
-ends_here step before now left0 w0 left w w' rest count end so few stops wrote = (
-  so.given ++ unread left,
-  tells_whole left0 left so.given so.read,
-  concat so.answers ++ last_words end,
-  appends_compose w0 w w' (concat so.answers) (last_words end) so.wrote wrote,
-  record {
+pub ends_here : {S : Type 0} (step : S → Said → List ℕ → S → Type 0) (refusal : End → List ℕ) (before now : S) (left0 w0 left w w' : Option (List ℕ)) (rest : List ℕ) (count : ℕ) (end : End)
+    → SoFar step before left0 w0 left w rest count now → count < 100 → Stops (rest ++ unread left) end → Appends w w' (last_words refusal end)
+    → ServedTo step refusal before left0 w0 left w' (record { answered = count + last_count end; end = end }) now
+ends_here step refusal before now left0 w0 left w w' rest count end so few stops wrote = record {
+  given = so.given;
+  read = so.read;
+  out = concat so.answers ++ last_words refusal end;
+  wrote = appends_compose w0 w w' (concat so.answers) (last_words refusal end) so.wrote wrote;
+  serves = record {
     messages = so.messages;
     of_stream = record {
       rest = rest ++ unread left;
@@ -121,24 +121,24 @@ ends_here step before now left0 w0 left w w' rest count end so few stops wrote =
     ran = so.ran;
     written = refl;
     counted = omega (arith, so.counted, run_counts step before now so.messages so.answers so.ran);
-  },
-)
+  };
+}
 
 -- a hundred messages were answered
-pub hundred_here : {S : Type 0} (step : S → Said → List ℕ → S → Type 0) (before now : S) (left0 w0 left w : Option (List ℕ)) (rest : List ℕ)
+pub hundred_here : {S : Type 0} (step : S → Said → List ℕ → S → Type 0) (refusal : End → List ℕ) (before now : S) (left0 w0 left w : Option (List ℕ)) (rest : List ℕ)
     → SoFar step before left0 w0 left w rest 100 now
-    → ServedTo step before left0 w0 w (record { answered = 100; end = Hundred }) now
-hundred_here step before now left0 w0 left w rest so = (
-  so.given ++ unread left,
-  tells_whole left0 left so.given so.read,
-  concat so.answers,
-  so.wrote,
-  record {
+    → ServedTo step refusal before left0 w0 left w (record { answered = 100; end = Hundred }) now
+hundred_here step refusal before now left0 w0 left w rest so = record {
+  given = so.given;
+  read = so.read;
+  out = concat so.answers;
+  wrote = so.wrote;
+  serves = record {
     messages = so.messages;
     of_stream = record { rest = rest ++ unread left; split = so.split (unread left); ends = so.counted };
     answers = so.answers;
     ran = so.ran;
     written = sym (append-nil (concat so.answers));
     counted = omega (arith, so.counted, run_counts step before now so.messages so.answers so.ran);
-  },
-)
+  };
+}

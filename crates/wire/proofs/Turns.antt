@@ -1,6 +1,5 @@
 -- One turn of the service.
-use Rattle.std.proofs.Common.{◌≡◌, ℕ, ◌+◌, ◌<◌, inl, inr, List, [], ◌∷◌, ◌++◌, length, take, drop, Option, Result, Ok, Err, IfOk, OnOk, IfErr, OnErr, refl, sym, ap, ◌∙◌, subst, append-nil, add-zero, length-append, arith}
-use Rattle.std.proofs.Math.Seq.{take-append-add}
+use Rattle.std.proofs.Common.{◌≡◌, ℕ, ◌+◌, ◌<◌, inl, inr, List, [], ◌∷◌, ◌++◌, length, take, drop, Option, Result, Ok, Err, IfOk, OnOk, IfErr, OnErr, refl, sym, ◌∙◌, subst, add-zero, length-append, arith}
 use Rattle.std.specs.List.{concat}
 use Rattle.std.specs.Io.KnownBytes.{Appends}
 use Rattle.wire.specs.declared.front.Parts.{Parts}
@@ -15,53 +14,51 @@ use Rattle.wire.specs.Run.{Said, said_at, unread, last_words, last_count}
 use Rattle.wire.specs.Served.{SoFar, GoesOn, BreaksOff, BrokeOff, WroteUntil, ServedTo}
 use Rattle.wire.specs.Taken.{Grows}
 use Rattle.wire.proofs.Known.{appends_compose, appends_none, consumes_none}
-use Rattle.wire.proofs.Runs.{reads_on, answers_on, concat_more, splits_more, run_more, said_same, ends_here}
+use Rattle.wire.proofs.Runs.{reads_on, answers_on, splits_more, run_more, said_same, ends_here}
+
+-- a fault of the writer is none of the reader
+no_read : {A : Type 0} (fault : StreamFault) → fault ≡ Write → fault ≡ Read → A
+no_read fault e f = absurd (let g : Write ≡ Read = sym e ∙ f in cc)
 
 -- the reader failed before a whole message had come
-pub breaks_reading : {S : Type 0} (step : S → Said → List ℕ → S → Type 0) (left w left' : Option (List ℕ)) (rest rest' : List ℕ) (now : S) (fault : StreamFault)
-    → Grows rest rest' left left' → Judges rest' Open → fault ≡ Read → BreaksOff step left w rest now left' w now fault
-breaks_reading step left w left' rest rest' now fault grows still e before left0 w0 count so below =
+pub breaks_reading : {S : Type 0} (step : S → Said → List ℕ → S → Type 0) (refusal : End → List ℕ) (left w left' : Option (List ℕ)) (rest rest' : List ℕ) (now : S) (fault : StreamFault)
+    → Grows rest rest' left left' → Judges rest' Open → fault ≡ Read → BreaksOff step refusal left w rest now left' w now fault
+breaks_reading step refusal left w left' rest rest' now fault grows still e before left0 w0 count so below =
     let now_so = reads_on step before now left0 w0 left left' w rest rest' count so grows in record {
       given = now_so.given;
       read = now_so.read;
       messages = now_so.messages;
       few = omega (arith, now_so.counted);
+      none_after = λ _. omega (arith, now_so.counted);
       rest = rest';
       split = now_so.split;
       answers = now_so.answers;
       ran = now_so.ran;
-      wrote = subst (λ (f : StreamFault). WroteUntil f (concat now_so.answers) rest' left' w0 w) (sym e) (now_so.wrote, still.1);
+      wrote = subst (λ (f : StreamFault). WroteUntil refusal f now_so.answers rest' left' w0 w) (sym e) (now_so.wrote, still.1);
     }
 
--- a part of the last text is a part of all of them
-part_of_all : (xs a : List ℕ) (n : ℕ) → xs ++ take n a ≡ take (length xs + n) ((xs ++ a) ++ [])
-part_of_all xs a n = sym (ap (take (length xs + n)) (append-nil (xs ++ a)) ∙ take-append-add xs a n)
-
 -- the writer failed within an answer
-pub breaks_writing : {S : Type 0} (step : S → Said → List ℕ → S → Type 0) (left w left' w' : Option (List ℕ)) (rest rest' : List ℕ) (now after : S) (fault : StreamFault)
+pub breaks_writing : {S : Type 0} (step : S → Said → List ℕ → S → Type 0) (refusal : End → List ℕ) (left w left' w' : Option (List ℕ)) (rest rest' : List ℕ) (now after : S) (fault : StreamFault)
     (p : Parts) (a : List ℕ) (n : ℕ)
-    → Grows rest rest' left left' → Judges rest' (Whole p) → step now (said_at rest' p) a after → Appends w w' (take n a) → fault ≡ Write
-    → BreaksOff step left w rest now left' w' after fault
-breaks_writing step left w left' w' rest rest' now after fault p a n grows judged x wrote e before left0 w0 count so below =
+    → Grows rest rest' left left' → Judges rest' (Whole p) → step now (said_at rest' p) a after → n < length a → Appends w w' (take n a) → fault ≡ Write
+    → BreaksOff step refusal left w rest now left' w' after fault
+breaks_writing step refusal left w left' w' rest rest' now after fault p a n grows judged x part wrote e before left0 w0 count so below =
     let so_now = reads_on step before now left0 w0 left left' w rest rest' count so grows in
     let all = so_now.answers in
     let after_p = drop (p.head + p.body) rest' in
-    let k = length (concat all) + n in
-    let part : concat all ++ take n a ≡ take k (concat (all ++ a ∷ []) ++ []) =
-    part_of_all (concat all) a n ∙ ap (λ (t : List ℕ). take k (t ++ [])) (sym (concat_more all a)) in
-    let w_so : Appends w0 w' (take k (concat (all ++ a ∷ []) ++ [])) =
-    subst (Appends w0 w') part (appends_compose w0 w w' (concat all) (take n a) so_now.wrote wrote) in
     record {
       given = so_now.given;
       read = so_now.read;
       messages = so_now.messages ++ judged.0 ∷ [];
       few = simp length-append (omega (arith, so_now.counted));
+      none_after = λ f. no_read fault e f;
       rest = after_p;
       split = λ more. splits_more _ so_now.messages (rest' ++ more) (after_p ++ more) judged.0 (so_now.split more) (judged.2 more);
       answers = all ++ a ∷ [];
       ran = run_more step before now after so_now.messages all judged.0 a so_now.ran
           (subst (λ (q : Said). step now q a after) (said_same rest' p judged.0 judged.1) x);
-      wrote = subst (λ (f : StreamFault). WroteUntil f (concat (all ++ a ∷ [])) after_p left' w0 w') (sym e) ([], inl refl, k, w_so);
+      wrote = subst (λ (f : StreamFault). WroteUntil refusal f (all ++ a ∷ []) after_p left' w0 w') (sym e)
+          (inl (all, a, refl, (n, part, appends_compose w0 w w' (concat all) (take n a) so_now.wrote wrote)));
     }
 
 -- a message was answered, and taken away
@@ -79,12 +76,13 @@ end_goes_on step left w left' rest rest' now grows before left0 w0 count so =
     subst (λ (k : ℕ). SoFar step before left0 w0 left' w rest' k now) (sym (add-zero count)) (reads_on step before now left0 w0 left left' w rest rest' count so grows)
 
 -- no memory for the buffers
-pub nothing_broken : {S : Type 0} (step : S → Said → List ℕ → S → Type 0) (before : S) (left w : Option (List ℕ)) → BrokeOff step before left w left w before Memory
-nothing_broken step before left w = record {
+pub nothing_broken : {S : Type 0} (step : S → Said → List ℕ → S → Type 0) (refusal : End → List ℕ) (before : S) (left w : Option (List ℕ)) → BrokeOff step refusal before left w left w before Memory
+nothing_broken step refusal before left w = record {
   given = [];
   read = consumes_none left;
   messages = [];
   few = omega arith;
+  none_after = λ _. omega arith;
   rest = [];
   split = λ more. refl;
   answers = [];
@@ -93,42 +91,37 @@ nothing_broken step before left w = record {
 }
 
 -- the last words were written
-pub finished : {S : Type 0} (step : S → Said → List ℕ → S → Type 0) (before now was : S) (left0 w0 left l w w1 w' : Option (List ℕ)) (rest r : List ℕ) (count : ℕ) (end : End)
+pub finished : {S : Type 0} (step : S → Said → List ℕ → S → Type 0) (refusal : End → List ℕ) (before now was : S) (left0 w0 left l w w1 w' : Option (List ℕ)) (rest r : List ℕ) (count : ℕ) (end : End)
     (result : Result Served StreamFault)
     → SoFar step before left0 w0 left w rest count was → count < 100
     → Stops (r ++ unread l) end × GoesOn step left w rest was l w1 r now 0
-    → IfOk result (λ s. s ≡ record { answered = count + last_count end; end = end }) → OnOk result (Appends w1 w' (last_words end))
-    → IfOk result (λ served. ServedTo step before left0 w0 w' served now)
-finished step before now was left0 w0 left l w w1 w' rest r count end (Ok s) so few stops e wrote =
+    → IfOk result (λ s. s ≡ record { answered = count + last_count end; end = end }) → OnOk result (Appends w1 w' (last_words refusal end))
+    → IfOk result (λ served. ServedTo step refusal before left0 w0 l w' served now)
+finished step refusal before now was left0 w0 left l w w1 w' rest r count end (Ok s) so few stops e wrote =
     let goes = subst (λ (k : ℕ). SoFar step before left0 w0 l w1 r k now) (add-zero count) (stops.1 before left0 w0 count so) in
-    subst (λ (t : Served). ServedTo step before left0 w0 w' t now) (sym e) (ends_here step before now left0 w0 l w1 w' r count end goes few stops.0 wrote)
-finished step before now was left0 w0 left l w w1 w' rest r count end (Err f) so few stops e wrote = tt
+    subst (λ (t : Served). ServedTo step refusal before left0 w0 l w' t now) (sym e) (ends_here step refusal before now left0 w0 l w1 w' r count end goes few stops.0 wrote)
+finished step refusal before now was left0 w0 left l w w1 w' rest r count end (Err f) so few stops e wrote = tt
 
 -- or not all of them
-pub unfinished : {S : Type 0} (step : S → Said → List ℕ → S → Type 0) (before now was : S) (left0 w0 left l w w1 w' : Option (List ℕ)) (rest r : List ℕ) (count : ℕ) (end : End)
+pub unfinished : {S : Type 0} (step : S → Said → List ℕ → S → Type 0) (refusal : End → List ℕ) (before now was : S) (left0 w0 left l w w1 w' : Option (List ℕ)) (rest r : List ℕ) (count : ℕ) (end : End)
     (result : Result Served StreamFault)
     → SoFar step before left0 w0 left w rest count was → count < 100
     → Stops (r ++ unread l) end × GoesOn step left w rest was l w1 r now 0
-    → IfErr result (λ e. e ≡ Write) → OnErr result ((n : ℕ) × Appends w1 w' (take n (last_words end)))
-    → IfErr result (λ fault. BrokeOff step before left0 w0 l w' now fault)
-unfinished step before now was left0 w0 left l w w1 w' rest r count end (Ok s) so below stops e wrote = tt
-unfinished step before now was left0 w0 left l w w1 w' rest r count end (Err f) so below stops e wrote =
+    → IfErr result (λ e. e ≡ Write) → OnErr result ((n : ℕ) × (n < length (last_words refusal end)) × Appends w1 w' (take n (last_words refusal end)))
+    → IfErr result (λ fault. BrokeOff step refusal before left0 w0 l w' now fault)
+unfinished step refusal before now was left0 w0 left l w w1 w' rest r count end (Ok s) so below stops e wrote = tt
+unfinished step refusal before now was left0 w0 left l w w1 w' rest r count end (Err f') so below stops e wrote =
     let goes = stops.1 before left0 w0 count so in
-    let words = last_words end in
-    let k = length (concat goes.answers) + wrote.0 in
     record {
       given = goes.given;
       read = goes.read;
       messages = goes.messages;
       few = omega (arith, goes.counted);
+      none_after = λ f. no_read f' e f;
       rest = r;
       split = goes.split;
       answers = goes.answers;
       ran = goes.ran;
-      wrote = subst (λ (f : StreamFault). WroteUntil f (concat goes.answers) r l w0 w') (sym e) (
-        words,
-        inr (end, stops.0, refl),
-        k,
-        subst (Appends w0 w') (sym (take-append-add (concat goes.answers) words wrote.0)) (appends_compose w0 w1 w' (concat goes.answers) (take wrote.0 words) goes.wrote wrote.1),
-      );
+      wrote = subst (λ (f : StreamFault). WroteUntil refusal f goes.answers r l w0 w') (sym e)
+          (inr (end, stops.0, (wrote.0, wrote.1, appends_compose w0 w1 w' (concat goes.answers) (take wrote.0 (last_words refusal end)) goes.wrote wrote.2)));
     }

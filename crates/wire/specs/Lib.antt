@@ -2,7 +2,6 @@ pub mod Endpoints
 pub mod Watching
 pub mod Messages
 pub mod Judged
-pub mod Text
 pub mod Run
 pub mod Answers
 pub mod Served

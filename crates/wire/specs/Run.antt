@@ -1,5 +1,5 @@
 -- Runs of a desk over the messages of a stream.
-use Rattle.std.specs.Prelude.{◌≡◌, codes, ℕ, ◌+◌, List, [], ◌∷◌, slice_range, Option, Some, None, IfSome, Result, Ok, Err}
+use Rattle.std.specs.Prelude.{◌≡◌, ℕ, ◌+◌, List, [], ◌∷◌, slice_range, Option, Some, None, Result, Ok, Err}
 use Rattle.wire.specs.declared.outcome.StreamFault.{StreamFault}
 use Rattle.wire.specs.declared.outcome.StreamFault.TheVariants.{Memory, Read, Write}
 use Rattle.wire.specs.declared.outcome.End.{End}
@@ -7,7 +7,6 @@ use Rattle.wire.specs.declared.outcome.End.TheVariants.{Closed, Unfinished, BadH
 use Rattle.wire.specs.declared.front.Parts.{Parts}
 use Rattle.httparse.specs.Spans.{span_bytes}
 use Rattle.wire.specs.Messages.{Message}
-use Rattle.wire.specs.Text.{fault_answer}
 
 -- what a desk sees of a message
 pub record Said : Type 0 where
@@ -34,22 +33,18 @@ Run {S} step s (m ∷ messages) (a ∷ answers) t = (u : S) × step s (said m) a
 Run {S} step s [] (a ∷ answers) t = ⊥
 Run {S} step s (m ∷ messages) [] t = ⊥
 
--- the bytes are these, where they are known
-abbrev pub Tells : Option (List ℕ) → List ℕ → Type 0
-Tells known bytes = IfSome known (λ xs. xs ≡ bytes)
-
 -- the bytes that are left, none where they are not known
 abbrev pub unread : Option (List ℕ) → List ℕ
 unread None = []
 unread (Some bytes) = bytes
 
--- what is written at a stream's end
-abbrev pub last_words : End → List ℕ
-last_words Closed = []
-last_words Unfinished = []
-last_words BadHead = fault_answer 400 (codes "BadHead") 3
-last_words TooLarge = fault_answer 413 (codes "TooLarge") 4
-last_words Hundred = []
+-- what is written at a stream's end, where an end that is refused has this refusal
+abbrev pub last_words : (End → List ℕ) → End → List ℕ
+last_words refusal Closed = []
+last_words refusal Unfinished = []
+last_words refusal BadHead = refusal BadHead
+last_words refusal TooLarge = refusal TooLarge
+last_words refusal Hundred = []
 
 -- how many answers that is
 abbrev pub last_count : End → ℕ

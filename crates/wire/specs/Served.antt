@@ -1,5 +1,5 @@
 -- What serving a stream did.
-use Rattle.std.specs.Prelude.{◌≡◌, ℕ, ◌+◌, ◌<◌, ◌≤◌, ◌⊎◌, List, [], ◌++◌, length, take, Option}
+use Rattle.std.specs.Prelude.{◌≡◌, ℕ, ◌+◌, ◌<◌, ◌≤◌, ◌⊎◌, List, [], ◌∷◌, ◌++◌, length, take, Option}
 use Rattle.std.specs.List.{concat}
 use Rattle.std.specs.Io.KnownBytes.{Appends, Consumes}
 use Rattle.wire.specs.declared.outcome.End.{End}
@@ -7,23 +7,26 @@ use Rattle.wire.specs.Messages.{Message, Messages, Splits, Stops, IsCut}
 use Rattle.wire.specs.declared.outcome.Served.{Served}
 use Rattle.wire.specs.declared.outcome.StreamFault.{StreamFault}
 use Rattle.wire.specs.declared.outcome.StreamFault.TheVariants.{Memory, Read, Write}
-use Rattle.wire.specs.Run.{Said, Run, last_words, last_count, unread, Tells}
+use Rattle.wire.specs.Run.{Said, Run, last_words, last_count, unread}
 
 -- the answers of a run over the messages of these bytes were written, and then the end's refusal
-pub record Serves {S : Type 0} (step : S → Said → List ℕ → S → Type 0)
+pub record Serves {S : Type 0} (step : S → Said → List ℕ → S → Type 0) (refusal : End → List ℕ)
     (before : S) (bytes out : List ℕ) (count : ℕ) (end : End) (after : S) : Type 0 where
   pub messages : List Message
   pub of_stream : Messages bytes messages end
   pub answers : List (List ℕ)
   pub ran : Run step before messages answers after
-  pub written : out ≡ concat answers ++ last_words end
+  pub written : out ≡ concat answers ++ last_words refusal end
   pub counted : count ≡ length answers + last_count end
 
--- the bytes of the reader were served, and what was written are the answers
-abbrev pub ServedTo : {S : Type 0} → (S → Said → List ℕ → S → Type 0) → S → Option (List ℕ) → Option (List ℕ) → Option (List ℕ) → Served → S → Type 0
-ServedTo {S} step before left0 w0 w served after =
-    (bytes : List ℕ) × Tells left0 bytes × (out : List ℕ) × Appends w0 w out
-    × Serves step before bytes out served.answered served.end after
+-- the bytes of the reader were served, those read and those left to it, and what was written are the answers
+pub record ServedTo {S : Type 0} (step : S → Said → List ℕ → S → Type 0) (refusal : End → List ℕ) (before : S)
+    (left0 w0 left w : Option (List ℕ)) (served : Served) (after : S) : Type 0 where
+  pub given : List ℕ
+  pub read : Consumes left0 left given
+  pub out : List ℕ
+  pub wrote : Appends w0 w out
+  pub serves : Serves step refusal before (given ++ unread left) out served.answered served.end after
 
 -- so far, of the bytes given, these messages were answered, and the rest is kept
 pub record SoFar {S : Type 0} (step : S → Said → List ℕ → S → Type 0) (before : S) (left0 w0 : Option (List ℕ))
@@ -37,29 +40,40 @@ pub record SoFar {S : Type 0} (step : S → Said → List ℕ → S → Type 0) 
   pub ran : Run step before messages answers now
   pub wrote : Appends w0 w (concat answers)
 
--- the refusal of the end that follows, or nothing
-abbrev pub LastOf : List ℕ → List ℕ → Type 0
-LastOf rest last = (last ≡ []) ⊎ ((end : End) × Stops rest end × (last ≡ last_words end))
+-- all of the first bytes were written, and a beginning of the others
+abbrev pub WritesInto : Option (List ℕ) → Option (List ℕ) → List ℕ → List ℕ → Type 0
+WritesInto w0 w whole cut = (n : ℕ) × (n < length cut) × Appends w0 w (whole ++ take n cut)
+
+-- all answers but the last were written whole, and the last in part
+abbrev pub CutInAnswer : List (List ℕ) → Option (List ℕ) → Option (List ℕ) → Type 0
+CutInAnswer answers w0 w =
+    (whole : List (List ℕ)) × (last : List ℕ) × (answers ≡ whole ++ last ∷ []) × WritesInto w0 w (concat whole) last
+
+-- all answers were written whole, and the refusal of the end that follows in part
+abbrev pub CutInEnd : (End → List ℕ) → List (List ℕ) → List ℕ → Option (List ℕ) → Option (List ℕ) → Type 0
+CutInEnd refusal answers rest w0 w =
+    (end : End) × Stops rest end × WritesInto w0 w (concat answers) (last_words refusal end)
 
 -- what was written until that fault
-abbrev pub WroteUntil : StreamFault → List ℕ → List ℕ → Option (List ℕ) → Option (List ℕ) → Option (List ℕ) → Type 0
-WroteUntil Read answers rest left w0 w = Appends w0 w answers × IsCut rest
-WroteUntil Write answers rest left w0 w =
-    (last : List ℕ) × LastOf (rest ++ unread left) last × (n : ℕ) × Appends w0 w (take n (answers ++ last))
-WroteUntil Memory answers rest left w0 w = (answers ≡ []) × (rest ≡ []) × Appends w0 w []
+abbrev pub WroteUntil : (End → List ℕ) → StreamFault → List (List ℕ) → List ℕ → Option (List ℕ) → Option (List ℕ) → Option (List ℕ) → Type 0
+WroteUntil refusal Read answers rest left w0 w = Appends w0 w (concat answers) × IsCut rest
+WroteUntil refusal Write answers rest left w0 w =
+    CutInAnswer answers w0 w ⊎ CutInEnd refusal answers (rest ++ unread left) w0 w
+WroteUntil refusal Memory answers rest left w0 w = (answers ≡ []) × (rest ≡ []) × Appends w0 w []
 
--- of the bytes given, these messages were answered, and then that fault came
-pub record BrokeOff {S : Type 0} (step : S → Said → List ℕ → S → Type 0) (before : S)
+-- of the bytes given, these messages were answered, and then that fault came; after the hundredth answer nothing is read, so no reader fails
+pub record BrokeOff {S : Type 0} (step : S → Said → List ℕ → S → Type 0) (refusal : End → List ℕ) (before : S)
     (left0 w0 left w : Option (List ℕ)) (now : S) (fault : StreamFault) : Type 0 where
   pub given : List ℕ
   pub read : Consumes left0 left given
   pub messages : List Message
   pub few : length messages ≤ 100
+  pub none_after : fault ≡ Read → length messages < 100
   pub rest : List ℕ
   pub split : (more : List ℕ) → Splits (given ++ more) messages (rest ++ more)
   pub answers : List (List ℕ)
   pub ran : Run step before messages answers now
-  pub wrote : WroteUntil fault (concat answers) rest left w0 w
+  pub wrote : WroteUntil refusal fault answers rest left w0 w
 
 -- what was served so far goes on to this, by so many more answers
 abbrev pub GoesOn : {S : Type 0} → (S → Said → List ℕ → S → Type 0) → Option (List ℕ) → Option (List ℕ) → List ℕ → S
@@ -69,8 +83,8 @@ GoesOn {S} step left w rest now left' w' rest' now' more =
     → SoFar step before left0 w0 left w rest count now → SoFar step before left0 w0 left' w' rest' (count + more) now'
 
 -- what was served so far breaks off here
-abbrev pub BreaksOff : {S : Type 0} → (S → Said → List ℕ → S → Type 0) → Option (List ℕ) → Option (List ℕ) → List ℕ → S
+abbrev pub BreaksOff : {S : Type 0} → (S → Said → List ℕ → S → Type 0) → (End → List ℕ) → Option (List ℕ) → Option (List ℕ) → List ℕ → S
     → Option (List ℕ) → Option (List ℕ) → S → StreamFault → Type 0
-BreaksOff {S} step left w rest now left' w' now' fault =
+BreaksOff {S} step refusal left w rest now left' w' now' fault =
     (before : S) (left0 w0 : Option (List ℕ)) (count : ℕ)
-    → SoFar step before left0 w0 left w rest count now → count < 100 → BrokeOff step before left0 w0 left' w' now' fault
+    → SoFar step before left0 w0 left w rest count now → count < 100 → BrokeOff step refusal before left0 w0 left' w' now' fault

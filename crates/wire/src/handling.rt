@@ -3,12 +3,16 @@ ghost use Rattle.std.specs.Prelude.{◌≡◌, ℕ, List};
 ghost use Rattle.wire.specs.Answers.{answer_bytes};
 ghost use Rattle.wire.specs.Run.{Said};
 
+use crate::outcome::End;
 use arrayvec::ArrayVec;
+
+/// The bytes of a short answer.
+pub type ShortText = ArrayVec<u8, 320>;
 
 /// The bytes of an answer: in a fixed array, or in memory.
 #[derive(Drop)]
 pub enum Answer {
-    Short(ArrayVec<u8, 320>),
+    Short(ShortText),
     Long(Vec<u8>),
 }
 
@@ -26,16 +30,20 @@ impl Answer {
 
 /// Answers messages at a desk, one after another.
 pub trait Handler<D> {
-    // What holds of the desk between two messages.
-    ghost holds: { D → Type 0 };
+    ghost use Rattle.wire.specs.declared.outcome.End.{End};
 
     // From the first desk, a message that says this may be answered by these bytes, and leave the second.
     ghost step: { D → Said → List ℕ → D → Type 0 };
 
+    // What is written at an end that is refused.
+    ghost refusal: { End → List ℕ };
+
     /// Answers one message.
     fn answer(&self, desk: &mut D, method: &[u8], target: &[u8], body: &[u8]) -> Answer
-        requires { holds desk.old }
         ensures step { step desk.old (record { method = method.now; target = target.now; body = body.now })
-            (answer_bytes result) desk.new }
-        ensures holds { holds desk.new };
+            (answer_bytes result) desk.new };
+
+    /// What is written where a bad head, or a message above its limits, ends the stream.
+    fn refuse(&self, end: End) -> Answer
+        ensures { answer_bytes result ≡ refusal end };
 }

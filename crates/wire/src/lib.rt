@@ -1,16 +1,15 @@
 //! HTTP over any reader and writer: the messages of a byte stream, answered in turn.
 //!
-//! This crate does not know what a message asks for: a `Handler` answers it. What is here is where
-//! each message begins and ends, that each is answered as soon as its bytes have come, and how the
-//! stream ends.
+//! This crate does not know what a message asks for, nor how it or a bad head is answered: a `Handler` says
+//! that. What is here is where each message begins and ends, that each is answered as soon as its bytes have
+//! come, and how the stream ends.
 //!
-//! Promised: for every reader, however it cuts its bytes, `serve_stream` writes the answers of a run of the
+//! Promised: for every reader, however it cuts its bytes, `serve_messages` writes the answers of a run of the
 //! handler over the messages of the stream, in order, then the refusal that ends it, and nothing else;
 //! and a stream has one list of messages and one end. Begin at `specs/Messages.antt`, then
 //! `specs/Run.antt` and `specs/Served.antt`.
 #![tactic(auto)]
 
-mod answers;
 mod buffer;
 mod ending;
 mod endpoints;
@@ -22,9 +21,8 @@ mod outcome;
 mod service;
 mod writing;
 
-pub use answers::{json, json_head, refused};
 pub use endpoints::{Sink, Source, Watched};
-pub use handling::{Answer, Handler};
+pub use handling::{Answer, Handler, ShortText};
 pub use laws::one_reading;
 pub use outcome::{End, Served, StreamFault};
-pub use service::serve_stream;
+pub use service::serve_messages;

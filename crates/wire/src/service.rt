@@ -21,9 +21,7 @@ use std::alloc::Global;
 /// Asks the desk for the answer to the message at the front.
 fn ask<D, H: Handler<D>>(handler: &H, desk: &mut D, bytes: &[u8], parts: Parts) -> Answer
     requires parts { Judges bytes.now (Front.Whole parts) }
-    requires holds { H.holds desk.old }
     ensures step { H.step desk.old (said_at bytes.now parts) (answer_bytes result) desk.new }
-    ensures holds { H.holds desk.new }
 {
     handler.answer(
         desk,
@@ -42,13 +40,11 @@ fn serve_one<D, H: Handler<D>, W: Sink>(
     parts: Parts,
 ) -> Result<(), StreamFault>
     requires failures { W.failures writer.old < 2 ^ 64 - 1 }
-    requires holds { H.holds desk.old }
     requires parts { Judges buffer.old.items (Front.Whole parts) }
     ensures ok { OnOk result ((a : List ℕ) × H.step desk.old (said_at buffer.old.items parts) a desk.new
         × Appends (W.written writer.old) (W.written writer.new) a) }
     ensures err { OnErr result ((a : List ℕ) × H.step desk.old (said_at buffer.old.items parts) a desk.new
-        × (n : ℕ) × Appends (W.written writer.old) (W.written writer.new) (take n a)) }
-    ensures holds { H.holds desk.new }
+        × (n : ℕ) × (n < length a) × Appends (W.written writer.old) (W.written writer.new) (take n a)) }
     ensures taken { OnOk result (buffer.new.items ≡ drop (parts.head + parts.body) buffer.old.items) }
     ensures capacity { vec_capacity buffer.new ≡ vec_capacity buffer.old }
     ensures size { vec_len buffer.new ≤ vec_len buffer.old }
@@ -73,7 +69,6 @@ fn turn<D, H: Handler<D>, R: Source, W: Sink>(
 ) -> Result<Option<End>, StreamFault>
     requires read_failures { R.failures reader.old < 2 ^ 64 - 1 }
     requires write_failures { W.failures writer.old < 2 ^ 64 - 1 }
-    requires holds { H.holds desk.old }
     requires capacity { MOST ≤ vec_capacity buffer.old }
     requires size { vec_len buffer.old ≤ MOST }
     requires fields { length headers.old ≡ FIELDS }
@@ -85,12 +80,11 @@ fn turn<D, H: Handler<D>, R: Source, W: Sink>(
         × GoesOn H.step
         (R.left reader.old) (W.written writer.old) buffer.old.items desk.old
         (R.left reader.new) (W.written writer.new) buffer.new.items desk.new 0)) }
-    ensures breaks { IfErr result (λ fault. BreaksOff H.step
+    ensures breaks { IfErr result (λ fault. BreaksOff H.step H.refusal
         (R.left reader.old) (W.written writer.old) buffer.old.items desk.old
         (R.left reader.new) (W.written writer.new) desk.new fault) }
     ensures size { OnOk result (vec_len buffer.new ≤ MOST) }
     ensures capacity { OnOk result (MOST ≤ vec_capacity buffer.new) }
-    ensures holds { H.holds desk.new }
     ensures fault { IfErr result (λ fault. fault ≢ StreamFault.Memory) }
     ensures read_count { R.failures reader.new ≡ R.failures reader.old + read_failed result }
     ensures write_count { W.failures writer.new ≡ W.failures writer.old + write_failed result }
@@ -108,7 +102,7 @@ fn turn<D, H: Handler<D>, R: Source, W: Sink>(
 }
 
 /// Answers the messages in turn, at most a hundred of them.
-fn serve_messages<D, H: Handler<D>, R: Source, W: Sink>(
+fn serve_hundred<D, H: Handler<D>, R: Source, W: Sink>(
     handler: &H,
     desk: &mut D,
     reader: &mut R,
@@ -118,15 +112,13 @@ fn serve_messages<D, H: Handler<D>, R: Source, W: Sink>(
 ) -> Result<Served, StreamFault>
     requires read_failures { R.failures reader.old < 2 ^ 64 - 1 }
     requires write_failures { W.failures writer.old < 2 ^ 64 - 1 }
-    requires holds { H.holds desk.old }
     requires capacity { MOST ≤ vec_capacity buffer.old }
     requires empty { buffer.old.items ≡ [] }
     requires fields { length headers.old ≡ FIELDS }
-    ensures served { IfOk result (λ served. ServedTo H.step desk.old
-        (R.left reader.old) (W.written writer.old) (W.written writer.new) served desk.new) }
-    ensures broken { IfErr result (λ fault. BrokeOff H.step desk.old (R.left reader.old) (W.written writer.old)
+    ensures served { IfOk result (λ served. ServedTo H.step H.refusal desk.old (R.left reader.old) (W.written writer.old)
+        (R.left reader.new) (W.written writer.new) served desk.new) }
+    ensures broken { IfErr result (λ fault. BrokeOff H.step H.refusal desk.old (R.left reader.old) (W.written writer.old)
         (R.left reader.new) (W.written writer.new) desk.new fault) }
-    ensures holds { H.holds desk.new }
     ensures fault { IfErr result (λ fault. fault ≢ StreamFault.Memory) }
     ensures read_count { R.failures reader.new ≡ R.failures reader.old + read_failed result }
     ensures write_count { W.failures writer.new ≡ W.failures writer.old + write_failed result }
@@ -136,7 +128,7 @@ fn serve_messages<D, H: Handler<D>, R: Source, W: Sink>(
             Err(fault) => return Err(fault),
             Ok(found) => {
                 if let Some(end) = found {
-                    return finish(writer, end, answered);
+                    return finish(handler, writer, end, answered);
                 }
             }
         }
@@ -148,7 +140,7 @@ fn serve_messages<D, H: Handler<D>, R: Source, W: Sink>(
 }
 
 /// Serves the messages of a stream.
-pub fn serve_stream<D, H: Handler<D>, R: Source, W: Sink>(
+pub fn serve_messages<D, H: Handler<D>, R: Source, W: Sink>(
     alloc: Global,
     handler: &H,
     desk: &mut D,
@@ -157,18 +149,14 @@ pub fn serve_stream<D, H: Handler<D>, R: Source, W: Sink>(
 ) -> Result<Served, StreamFault>
     requires read_failures { R.failures reader.old < 2 ^ 64 - 1 }
     requires write_failures { W.failures writer.old < 2 ^ 64 - 1 }
-    requires holds { H.holds desk.old }
-    ensures served { IfOk result (λ served. ServedTo H.step desk.old
-        (R.left reader.old) (W.written writer.old) (W.written writer.new) served desk.new) }
-    ensures broken { IfErr result (λ fault. BrokeOff H.step desk.old (R.left reader.old) (W.written writer.old)
+    ensures served { IfOk result (λ served. ServedTo H.step H.refusal desk.old (R.left reader.old) (W.written writer.old)
+        (R.left reader.new) (W.written writer.new) served desk.new) }
+    ensures broken { IfErr result (λ fault. BrokeOff H.step H.refusal desk.old (R.left reader.old) (W.written writer.old)
         (R.left reader.new) (W.written writer.new) desk.new fault) }
 
     // Want of memory comes before anything is read, asked or written.
     ensures early { result ≡ Err StreamFault.Memory → (desk.new ≡ desk.old)
         × (R.left reader.new ≡ R.left reader.old) × (W.written writer.new ≡ W.written writer.old) }
-
-    // What holds of the desk between two messages holds after the last.
-    ensures holds { H.holds desk.new }
 
     // `Read` and `Write` come exactly where the reader's or the writer's count of failures grows.
     ensures read_count { R.failures reader.new ≡ R.failures reader.old + read_failed result }
@@ -180,5 +168,5 @@ pub fn serve_stream<D, H: Handler<D>, R: Source, W: Sink>(
     let Ok(mut headers) = Vec::from_elem(alloc, EMPTY_HEADER_SPAN, FIELDS) else {
         return Err(StreamFault::Memory);
     };
-    serve_messages(handler, desk, reader, writer, &mut buffer, &mut headers)
+    serve_hundred(handler, desk, reader, writer, &mut buffer, &mut headers)
 }

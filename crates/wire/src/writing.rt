@@ -31,8 +31,8 @@ fn write_some<W: Sink>(writer: &mut W, bytes: &[u8]) -> Result<usize, StreamFaul
 pub fn write_all<W: Sink>(writer: &mut W, bytes: &[u8]) -> Result<(), StreamFault>
     requires { W.failures writer.old < 2 ^ 64 - 1 }
     ensures ok { OnOk result (Appends (W.written writer.old) (W.written writer.new) bytes.now) }
-    ensures err { OnErr result
-        ((n : ℕ) × Appends (W.written writer.old) (W.written writer.new) (take n bytes.now)) }
+    ensures err { OnErr result ((n : ℕ) × (n < length bytes.now)
+        × Appends (W.written writer.old) (W.written writer.new) (take n bytes.now)) }
     ensures fault { IfErr result (λ e. e ≡ StreamFault.Write) }
     ensures count_ok { OnOk result (W.failures writer.new ≡ W.failures writer.old) }
     ensures count_err { OnErr result (W.failures writer.new ≡ W.failures writer.old + 1) }

@@ -63,11 +63,11 @@ pub(crate) fn relax<G: Worth>(
     origin: Origin,
     count: &mut u64,
 )
-    requires kept { AreLabels G.ops labels.old }
+    requires labels { AreLabels G.ops labels.old }
     requires node { node < length labels.old.marks.items }
     requires origin { is_seen origin ≡ true }
     requires count { count.old + 1 < 2 ^ 64 }
-    ensures kept { AreLabels G.ops labels.new }
+    ensures labels { AreLabels G.ops labels.new }
     ensures marks { Relaxes G.ops (OneOffer origin label node) labels.old.marks.items labels.new.marks.items }
     ensures count { count.new ≡ count.old + 1 }
 {
@@ -95,10 +95,10 @@ fn set_rank<G: Worth>(labels: &mut Labels<G>, node: usize, rank: usize)
 
 /// An open node is settled as the next.
 pub(crate) fn settle<G: Worth>(labels: &mut Labels<G>, node: usize, rank: usize)
-    requires kept { AreLabels G.ops labels.old }
+    requires labels { AreLabels G.ops labels.old }
     requires node { node < length labels.old.marks.items }
     requires opened { is_open_mark (mark_at G.ops labels.old.marks.items node) ≡ true }
-    ensures kept { AreLabels G.ops labels.new }
+    ensures labels { AreLabels G.ops labels.new }
     ensures marks { labels.new.marks.items ≡ slice_set labels.old.marks.items node (settled_as (mark_at G.ops labels.old.marks.items node) rank) }
 {
     set_rank(labels, node, rank);
@@ -118,7 +118,7 @@ fn key_of<G: Worth>(labels: &Labels<G>, potentials: &[G], v: usize) -> G
 
 /// The open node whose walk can end highest, the last node where several can.
 pub(crate) fn best_open<G: Worth>(labels: &Labels<G>, potentials: &[G]) -> usize
-    requires kept { AreLabels G.ops labels.now }
+    requires labels { AreLabels G.ops labels.now }
     requires some { 0 < length labels.now.marks.items }
     requires last_open { is_open_mark (mark_at G.ops labels.now.marks.items (length labels.now.marks.items - 1)) ≡ true }
     requires potentials { length potentials.now ≡ length labels.now.marks.items }

@@ -8,9 +8,9 @@ returns c = record {
       (string_bytes c.write_pairs.new.out) (string_bytes c.write_prices.new.out) (string_bytes c.write_prices-2.new.out) (string_bytes c.write_prices-3.new.out)
       c.fit.ensures
       (rw c.deref.ensures.value at c.in_ok-write_pairs.ensures)
-      (rw (c.student_codes.ensures, c.deref-2.ensures.value) at c.in_ok-write_prices.ensures.text)
-      (rw (c.project_codes.ensures, c.deref-3.ensures.value) at c.in_ok-write_prices-2.ensures.text)
-      (rw (c.supervisor_codes.ensures, c.deref-4.ensures.value) at c.in_ok-write_prices-3.ensures.text);
+      (rw (c.student_codes.ensures.codes, c.deref-2.ensures.value) at c.in_ok-write_prices.ensures.text)
+      (rw (c.project_codes.ensures.codes, c.deref-3.ensures.value) at c.in_ok-write_prices-2.ensures.text)
+      (rw (c.supervisor_codes.ensures.codes, c.deref-4.ensures.value) at c.in_ok-write_prices-3.ensures.text);
   students = rw c.deref-2.ensures.value at c.in_ok-write_prices.ensures.numbers;
   projects = rw c.deref-3.ensures.value at c.in_ok-write_prices-2.ensures.numbers;
   supervisors = rw c.deref-4.ensures.value at c.in_ok-write_prices-3.ensures.numbers;

@@ -1,13 +1,15 @@
-use Rattle.std.proofs.Common.{◌≡◌, ℕ, List, ◌++◌, flat_map, take, string_bytes, Option, IfSome, ap, ◌∙◌, sym, subst}
+use Rattle.std.proofs.Common.{◌≡◌, ℕ, ◌≤◌, List, length, ◌++◌, flat_map, take, string_bytes, Option, IfSome, ap, ◌∙◌, sym, subst}
 use denote.Ref.{Bor}
 use Rattle.spa.specs.declared.matching.Matching.{Matching}
 use Rattle.verdict.specs.declared.prices.Prices.{Prices}
 use Rattle.spa.specs.Matched.{IsMatched}
 use Rattle.verdict.specs.Verdict.{HasShape}
+use Rattle.intake.specs.declared.TheConstants.{MOST_BYTES}
 use Rattle.intake.specs.Parts.{IsRoundParts}
 use Rattle.intake.specs.Lines.{round_text, ended, sections, section_lines}
 use Rattle.intake.specs.View.{written, alone}
 use Rattle.intake.proofs.Whole.{HasForms, HasRises, HasNumbers, alone_whole, proved_whole}
+use Rattle.intake.proofs.Size.{text_small}
 use Rattle.intake.proofs.Writing.{joined, instance_alone}
 use Rattle.intake.proofs.write.write_round.Goals as goal
 use Rattle.intake.proofs.write.write_round.Goals.{in-Some+in_ok-write_proof, in_default}
@@ -20,15 +22,16 @@ returns c =
     let rise : HasRises i = record { supervisors = c.requires.supervisors; projects = c.requires.projects; students = c.requires.students } in
     elim c.match-proof.branch [
       | in-Some+in_ok-write_proof w ↦
-          record {
-            text = ap string_bytes w.out-is ∙ joined i w.in-Some.matching.now.places.items w.in-Some.prices.now (string_bytes c.write_instance.new.out) (string_bytes w.write_proof.new.out) written_so w.in_ok-write_proof.ensures.text
-                ∙ ap (λ (p : Option (Bor Matching × Bor Prices)). round_text (written i p)) (sym w.in-Some.is);
-            parts =
-                let matched : IsMatched i.shape w.in-Some.matching.now.places.items = subst (λ (p : Option (Bor Matching × Bor Prices)). IfSome p (λ p. IsMatched i.shape p.0.now.places.items)) w.in-Some.is c.requires.matching in
-                let shape : HasShape i.shape w.in-Some.prices.now = subst (λ (p : Option (Bor Matching × Bor Prices)). IfSome p (λ p. HasShape i.shape p.1.now)) w.in-Some.is c.requires.shape in
-                let numbers : HasNumbers w.in-Some.prices.now = record { students = w.in_ok-write_proof.ensures.students; projects = w.in_ok-write_proof.ensures.projects; supervisors = w.in_ok-write_proof.ensures.supervisors } in
-                subst (λ (p : Option (Bor Matching × Bor Prices)). IsRoundParts (written i p)) (sym w.in-Some.is) (proved_whole i w.in-Some.matching.now.places.items w.in-Some.prices.now c.fit.ensures form rise matched.places shape numbers);
-          }
+          let shown = λ (p : Option (Bor Matching × Bor Prices)). round_text (written i p) in
+          let matched : IsMatched i.shape w.in-Some.matching.now.places.items = subst (λ (p : Option (Bor Matching × Bor Prices)). IfSome p (λ p. IsMatched i.shape p.0.now.places.items)) w.in-Some.is c.requires.matching in
+          let shape : HasShape i.shape w.in-Some.prices.now = subst (λ (p : Option (Bor Matching × Bor Prices)). IfSome p (λ p. HasShape i.shape p.1.now)) w.in-Some.is c.requires.shape in
+          let numbers : HasNumbers w.in-Some.prices.now = record { students = w.in_ok-write_proof.ensures.students; projects = w.in_ok-write_proof.ensures.projects; supervisors = w.in_ok-write_proof.ensures.supervisors } in
+          let text = ap string_bytes w.out-is ∙ joined i w.in-Some.matching.now.places.items w.in-Some.prices.now (string_bytes c.write_instance.new.out) (string_bytes w.write_proof.new.out) written_so w.in_ok-write_proof.ensures.text ∙ ap shown (sym w.in-Some.is) in
+          let parts : IsRoundParts (written i c.args.proof) = subst (λ (p : Option (Bor Matching × Bor Prices)). IsRoundParts (written i p)) (sym w.in-Some.is) (proved_whole i w.in-Some.matching.now.places.items w.in-Some.prices.now c.fit.ensures form rise matched.places shape numbers) in
+          record { text = text; small = subst (λ (out : List ℕ). length out ≤ MOST_BYTES) (sym text) (text_small (written i c.args.proof) parts); parts = parts }
       | in_default w ↦
-          record { text = ap string_bytes w.out-is ∙ written_so ∙ instance_alone i ∙ ap (λ (p : Option (Bor Matching × Bor Prices)). round_text (written i p)) (sym w.in_default.is); parts = subst (λ (p : Option (Bor Matching × Bor Prices)). IsRoundParts (written i p)) (sym w.in_default.is) (alone_whole i c.fit.ensures form rise) }
+          let shown = λ (p : Option (Bor Matching × Bor Prices)). round_text (written i p) in
+          let text = ap string_bytes w.out-is ∙ written_so ∙ instance_alone i ∙ ap shown (sym w.in_default.is) in
+          let parts : IsRoundParts (written i c.args.proof) = subst (λ (p : Option (Bor Matching × Bor Prices)). IsRoundParts (written i p)) (sym w.in_default.is) (alone_whole i c.fit.ensures form rise) in
+          record { text = text; small = subst (λ (out : List ℕ). length out ≤ MOST_BYTES) (sym text) (text_small (written i c.args.proof) parts); parts = parts }
     ]

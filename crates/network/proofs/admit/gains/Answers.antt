@@ -16,24 +16,24 @@ plus-requires g c =
     let e = (c.requires.formed.entries _ _ _ _ c.entry-project.ensures).1 in
     rw c.potential_of.ensures (omega (arith, e, c.requires.low c.entry-project.result.0))
 
-pub loop-place-preserved : goal.loop-place-preserved
-loop-place-preserved g c =
+pub loop-k-preserved : goal.loop-k-preserved
+loop-k-preserved g c =
     let o = g.G.Worth.ops in let f = c.args.flow.now in
     let here : AtMost o (o.plus c.entry-project.result.1 (potential o f c.entry-project.result.0)) o.zero =
     rw (← c.potential_of.ensures, ← c.plus.ensures, ← c.zero.ensures) (sym c.exceeds.ensures ∙ c.if-exceeds.false) in
     record {
-      none = λ k p w lt h. elim (cases_eq k c.loop-place.place) [
+      none = λ k p w lt h. elim (cases_eq k c.loop-k.k) [
         | inl q ↦
             (let same = entry_same (rw q at h) c.entry-project.ensures in
             rw (same.0, same.1) here)
-        | inr ne ↦ c.loop-place.invariant.none k p w (omega (arith, lt, ne)) h
+        | inr ne ↦ c.loop-k.invariant.none k p w (omega (arith, lt, ne)) h
       ];
-      counted = omega (arith, c.loop-place.invariant.counted);
+      counted = omega (arith, c.loop-k.invariant.counted);
     }
 
 pub returns-clause-none : goal.returns-clause-none
 returns-clause-none g c e k p w h =
-    let long = c.list_len-place-end.ensures.row h.row h.student in
+    let long = c.list_len-k-end.ensures.row h.row h.student in
     let within = slice_get_within h.row.items k _ h.place in
-    let end : c.loop-place.place ≡ c.list_len-place-end.result = search rules in
-    c.loop-place.invariant.none k p w (omega (arith, long, within, end)) h
+    let end : c.loop-k.k ≡ c.list_len-k-end.result = search rules in
+    c.loop-k.invariant.none k p w (omega (arith, long, within, end)) h

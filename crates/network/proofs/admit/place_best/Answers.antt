@@ -10,7 +10,7 @@ search-requires-clause-feasible g c = but_feasible g.met.G.Worth.laws c.args.flo
 
 pub search-requires-clause-student : goal.search-requires-clause-student
 search-requires-clause-student g c =
-    let h = slice_get_within c.args.flow.now.places.items c.args.fresh _ c.requires.waiting in
+    let h = slice_get_within c.args.flow.now.held.items c.args.fresh _ c.requires.waiting in
     omega (arith, h, c.requires.formed.students)
 
 pub push-requires : goal.push-requires

@@ -9,13 +9,13 @@ pub lower_one-requires-clause-potentials : goal.lower_one-requires-clause-potent
 lower_one-requires-clause-potentials g c =
     let xs = c.args.labels.now.settled.items in
     let at : slice_get xs c.loop-i.i ≡ Some c.index.result.now = slice_get_read xs (length xs) c.loop-i.i c.index.result.now refl (search rules) c.index.ensures in
-    omega (arith, done_known c.args.labels.now c.requires.kept c.loop-i.i c.index.result.now at, c.requires.marks, c.loop-i.invariant.len)
+    omega (arith, done_known c.args.labels.now c.requires.labels c.loop-i.i c.index.result.now at, c.requires.marks, c.loop-i.invariant.len)
 
 pub lower_one-requires-clause-marks : goal.lower_one-requires-clause-marks
 lower_one-requires-clause-marks g c =
     let xs = c.args.labels.now.settled.items in
     let at : slice_get xs c.loop-i.i ≡ Some c.index.result.now = slice_get_read xs (length xs) c.loop-i.i c.index.result.now refl (search rules) c.index.ensures in
-    done_known c.args.labels.now c.requires.kept c.loop-i.i c.index.result.now at
+    done_known c.args.labels.now c.requires.labels c.loop-i.i c.index.result.now at
 
 pub loop-i-preserved : goal.loop-i-preserved
 loop-i-preserved g c =
@@ -25,7 +25,7 @@ loop-i-preserved g c =
     let was = c.loop-i.potentials in
     let now = c.lower_one.new.potentials in
     let at : slice_get xs c.loop-i.i ≡ Some node = slice_get_read xs (length xs) c.loop-i.i node refl (search rules) c.index.ensures in
-    let lt : node < length was = omega (arith, done_known c.args.labels.now c.requires.kept c.loop-i.i node at, c.requires.marks, c.loop-i.invariant.len) in
+    let lt : node < length was = omega (arith, done_known c.args.labels.now c.requires.labels c.loop-i.i node at, c.requires.marks, c.loop-i.invariant.len) in
     let x = o.minus c.args.top (mark_at o c.args.labels.now.marks.items node).label in
     let here : potential_at o now node ≡ x = rw c.lower_one.ensures (get_or-set_same was node x o.zero lt) in
     let there : (v : ℕ) → (v ≡ node → ⊥) → potential_at o now v ≡ potential_at o was v = λ v ne. rw c.lower_one.ensures (get_or-set_other was node v x o.zero ne) in
@@ -50,8 +50,8 @@ returns g c v =
     let b = is_settled (mark_at o l.marks.items v).rank in
     elim (cases_Bool b) [
       | inl s ↦
-          (let at = done_found l c.requires.kept v s in
+          (let at = done_found l c.requires.labels v s in
           let lt = slice_get_within l.settled.items at.0 v at.1 in
           rw (cond-true b low same s) (c.loop-i.invariant.low at.0 v (search rules) at.1))
-      | inr s ↦ rw (cond-false b low same s) (c.loop-i.invariant.same v (λ k lt e. let t = done_element l c.requires.kept k v e in absurd (cc)))
+      | inr s ↦ rw (cond-false b low same s) (c.loop-i.invariant.same v (λ k lt e. let t = done_element l c.requires.labels k v e in absurd (cc)))
     ]

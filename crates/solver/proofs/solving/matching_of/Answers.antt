@@ -1,4 +1,4 @@
-use Rattle.std.proofs.Common.{◌≡◌, ◌<◌, ◌∙◌, ap, sym, subst, take, List, Option, None, ◌++◌, ◌∷◌, [], ℕ, length}
+use Rattle.std.proofs.Common.{◌<◌, ◌∙◌, ap, sym, subst, take, List, Option, None, ◌++◌, ◌∷◌, [], ℕ, length}
 use Rattle.std.proofs.lemmas.List.{take_more}
 use Rattle.std.proofs.lemmas.Option.{get_or_from_slice_get}
 use Rattle.solver.proofs.solving.matching_of.Goals as goal

@@ -1,27 +1,76 @@
-use Rattle.std.proofs.Common.{◌≡◌, ℕ, ◌+◌, ◌<◌, ◌==◌, arith, length, slice_index, Some, None, get_or, eq-eqb, ne_eqb, sym, ◌∙◌, []}
-use Rattle.spa.specs.Shape.{Shape, list_of}
+use Rattle.std.proofs.Common.{ℕ, zero, suc, ◌≡◌, ◌+◌, ◌-◌, ◌<◌, ◌≤◌, ◌==◌, Bool, true, false, cond, eqb, arith, List, length, replicate, slice_index, Some, None, get_or, eq-eqb, ne_eqb, refl, ap, ◌∙◌, [], inl, inr, set, length-set}
+use Rattle.std.proofs.lemmas.Bool.{cases_eq}
+use Rattle.std.proofs.lemmas.List.{get_or-set_same, get_or-set_other}
+use Rattle.spa.specs.declared.TheConstants.{RANKS}
+use Rattle.spa.specs.Shape.{Shape, list_of, choice_at, IsPlaceOf}
 use Rattle.spa.specs.Matching.{Pair, rank, rank_in}
-use Rattle.spa.specs.Matched.{with_rank}
-use Rattle.spa.proofs.Places.{count_none, count_yes, count_no, slice_get_at, rank_at}
+use Rattle.spa.proofs.Places.{rest_some, count_none, slice_get_at, rank_at}
 use Rattle.spa.proofs.matching.ranked.Goals as goal
-use Rattle.spa.proofs.matching.ranked.Goals.{in-Some+then-place-rank, in-Some+else-place-rank, in_default}
+use Rattle.spa.proofs.matching.ranked.Goals.{in-Some, in_default}
+
+-- nothing is counted yet
+none_yet : (n k : ℕ) → slice_index (replicate n 0) k ≡ 0
+none_yet zero k = refl
+none_yet (suc n) zero = refl
+none_yet (suc n) (suc k) = none_yet n k
+
+-- a test counts one at most
+one_at_most : (b : Bool) → cond b 1 0 ≤ 1
+one_at_most true = omega arith
+one_at_most false = omega arith
+
+-- one more at the place p: the number there grows by one, and the others stay
+one_more : (counts : List ℕ) (p k : ℕ) → 1 ≤ p → p ≤ length counts → slice_index (set counts (p - 1) (get_or counts (p - 1) 0 + 1)) k ≡ slice_index counts k + cond (eqb p (k + 1)) 1 0
+one_more counts p k first last =
+    elim (cases_eq p (k + 1)) [
+      | inl same ↦
+          let here : k ≡ p - 1 = omega (arith, same) in
+          let t : eqb p (k + 1) ≡ true = eq-eqb p (k + 1) same in
+          let new = get_or-set_same counts (p - 1) (get_or counts (p - 1) 0 + 1) 0 (omega arith) in
+          let moved = ap (λ (j : ℕ). slice_index (set counts (p - 1) (get_or counts (p - 1) 0 + 1)) j) here in
+          let old = ap (λ (j : ℕ). slice_index counts j) here in
+          rw t (omega (arith, new, moved, old))
+      | inr other ↦
+          let t : eqb p (k + 1) ≡ false = ne_eqb p (k + 1) other in
+          let new = get_or-set_other counts (p - 1) k (get_or counts (p - 1) 0 + 1) 0 (λ x. other (omega (arith, x))) in
+          rw t (omega (arith, new))
+    ]
+
+pub loop-student-init : goal.loop-student-init
+loop-student-init c = record {
+  whole = refl;
+  so_far = λ k h. let e = none_yet RANKS k in omega (arith, e);
+  small = λ k h. let e = none_yet RANKS k in omega (arith, e);
+}
 
 pub loop-student-preserved : goal.loop-student-preserved
 loop-student-preserved c =
     let i : Shape = c.args.instance.now.shape in
     let s : ℕ = c.loop-student.student in
-    let test = λ (e : Pair). rank i e == c.args.rank in
-    let total : ℕ = with_rank i c.args.places.now c.args.rank in
     let e = c.requires.places.one_each in
     let known : s < length i.students = omega arith in
-    let so_far = c.loop-student.invariant.so_far in
-    let ranks : (k : ℕ) → get_or c.args.places.now s None ≡ Some k → rank_in (list_of i s) (slice_index (list_of i s) k) ≡ k + 1 =
-    λ k is. rank_at (list_of i s) k (c.requires.fit.sound.distinct s [] known) (c.requires.places.in_list s k (slice_get_at c.args.places.now s None (Some k) c.loop-student-test.true is)) in
+    let inv = c.loop-student.invariant in
     elim c.match-places-student.branch [
-      | in-Some+then-place-rank w ↦
-          record { so_far = rw w.ranked-is (count_yes test s w.in-Some.place c.loop-student.ranked total i.students c.args.places.now known c.loop-student-test.true so_far w.in-Some.is (eq-eqb _ _ (ranks w.in-Some.place w.in-Some.is ∙ w.if-place-rank.true))); small = omega arith }
-      | in-Some+else-place-rank w ↦
-          record { so_far = rw w.ranked-is (count_no test s w.in-Some.place c.loop-student.ranked total i.students c.args.places.now known c.loop-student-test.true so_far w.in-Some.is (ne_eqb _ _ (λ x. w.if-place-rank.false (sym (ranks w.in-Some.place w.in-Some.is) ∙ x)))); small = omega arith }
+      | in-Some w ↦
+          let p : ℕ = w.in-Some.place in
+          let inside : IsPlaceOf (list_of i s) p = c.requires.places.in_list s p (slice_get_at c.args.places.now s None (Some p) c.loop-student-test.true w.in-Some.is) in
+          let short : length (list_of i s) ≤ RANKS = c.requires.fit.sound.within s [] known in
+          let ranks : rank_in (list_of i s) (choice_at (list_of i s) p) ≡ p = rank_at (list_of i s) p (c.requires.fit.sound.distinct s [] known) inside in
+          let whole = inv.whole in
+          let more = λ (k : ℕ). one_more c.loop-student.counts p k (omega arith) (omega arith) in
+          record {
+            whole = rw w.counts-is (length-set _ _ _ ∙ whole);
+            so_far = λ k h.
+                let r = rest_some (λ (e : Pair). rank i e == k + 1) s p i.students c.args.places.now known c.loop-student-test.true w.in-Some.is in
+                let t = ap (λ (x : ℕ). let n : ℕ = cond (eqb x (k + 1)) 1 0 in n) ranks in
+                let b = inv.so_far k h in
+                rw w.counts-is (omega (arith, more k, r, t, b));
+            small = λ k h. let b = inv.small k h in rw w.counts-is (omega (arith, more k, one_at_most (eqb p (k + 1)), b));
+          }
       | in_default w ↦
-          record { so_far = rw w.ranked-is (count_none test s c.loop-student.ranked total i.students c.args.places.now known c.loop-student-test.true so_far w.in_default.is); small = omega arith }
+          record {
+            whole = rw w.counts-is inv.whole;
+            so_far = λ k h. rw w.counts-is (count_none (λ (e : Pair). rank i e == k + 1) s _ _ i.students c.args.places.now known c.loop-student-test.true (inv.so_far k h) w.in_default.is);
+            small = λ k h. rw w.counts-is (let b = inv.small k h in omega (arith, b));
+          }
     ]

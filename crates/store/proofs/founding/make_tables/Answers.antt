@@ -1,10 +1,7 @@
-use Rattle.std.proofs.Common.{arith}
-use Rattle.sqlite.specs.State.{HasCleanDisk}
-use Rattle.sqlite.specs.Held.{state}
-use Rattle.store.proofs.Making.{founded_call}
+use Rattle.std.proofs.Common.{refl}
+use Rattle.tables.proofs.Runs.{part_then}
+use Rattle.store.proofs.Making.{founded}
 use Rattle.store.proofs.founding.make_tables.Goals as goal
 
-pub returns-clause-stepped : goal.returns-clause-stepped
-returns-clause-stepped g c clean =
-    let early : HasCleanDisk (state g.S.Store c.make_edition.new.tx.conn.now) = omega (arith, c.make_rolls.ensures.survives.clean) in
-    founded_call _ _ _ _ (c.in_ok-make_edition.ensures.stepped early) (c.make_rolls.ensures.stays clean)
+pub returns-clause-step : goal.returns-clause-step
+returns-clause-step g c = part_then _ _ _ _ _ _ _ _ (λ _ p q. founded _ refl _ _ _ p q) c.in_ok-make_each.ensures.step (rw (c.params-to_sql.ensures, c.params-to_sql-2.ensures) at c.insert.ensures.step)

@@ -1,9 +1,9 @@
 use Rattle.std.proofs.Common.{◌≢◌, take}
 use Rattle.sqlite_rules.specs.Lists.{Has}
-use Rattle.store.specs.declared.roll.Roll.{Roll}
+use Rattle.tables.specs.declared.table.Table.{Table}
 use Rattle.store.specs.Rows.{rolls}
 use Rattle.store.specs.Reading.{IsElsewhere}
 use Rattle.store.proofs.reading.is_alone.Given as goal
 
 abbrev pub invariant-loop-other : goal.invariant-loop-other
-invariant-loop-other l = (other : Roll) → Has (take l.other-index rolls) other → other ≢ l.roll → IsElsewhere other l.tree l.schema
+invariant-loop-other l = (other : Table) → Has (take l.other-index rolls) other → other ≢ l.table → IsElsewhere other l.tree l.schema

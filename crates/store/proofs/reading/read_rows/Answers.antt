@@ -1,15 +1,15 @@
 use Rattle.std.proofs.Common.{◌≡◌, ◌+◌, length, Err, refl, sym, subst, arith, rules}
 use Rattle.sqlite.specs.State.{HasCleanDisk}
 use Rattle.sqlite.specs.Held.{state}
-use Rattle.tables.proofs.Runs.{rests_then, survives_none}
+use Rattle.tables.proofs.Runs.{rests_then, survives_both, survives_none}
 use Rattle.store.specs.declared.fault.StoreFault.TheVariants.{Damaged}
 use Rattle.store.specs.Rows.{rolls}
 use Rattle.store.specs.Reading.{ReadsSome}
-use Rattle.store.proofs.Gathering.{survives_both, reads_none, reads_more, reads_all, unread_then}
+use Rattle.store.proofs.Gathering.{reads_none, reads_more, reads_all, unread_then}
 use Rattle.store.proofs.reading.read_rows.Goals as goal
 
-pub loop-roll-init : goal.loop-roll-init
-loop-roll-init g c =
+pub loop-table-init : goal.loop-table-init
+loop-table-init g c =
     let now = state g.S.Store c.args.conn.now in
     record {
       survives = survives_none now _;
@@ -18,13 +18,13 @@ loop-roll-init g c =
       reads = λ clean. subst (λ rows. ReadsSome 0 rows now now) (sym c.new-rows.ensures.items) (reads_none now);
     }
 
-pub loop-roll-preserved : goal.loop-roll-preserved
-loop-roll-preserved g c =
+pub loop-table-preserved : goal.loop-table-preserved
+loop-table-preserved g c =
     let old = state g.S.Store c.args.conn.now in
-    let mid = state g.S.Store c.loop-roll.conn in
-    let new = state g.S.Store c.read_roll.new.conn in
+    let mid = state g.S.Store c.loop-table.conn in
+    let new = state g.S.Store c.read_table.new.conn in
     let it = c.in_ok-more.ensures in
-    let l = c.loop-roll.invariant in
+    let l = c.loop-table.invariant in
     record {
       survives = survives_both old mid new l.survives it.survives;
       mode = λ ended. it.mode (l.mode ended);
@@ -33,35 +33,35 @@ loop-roll-preserved g c =
           rests_then old mid new (l.rests early) (it.rests clean);
       reads = λ clean.
           let early : HasCleanDisk mid = omega (arith, it.survives.clean) in
-          subst (λ rows. ReadsSome (c.loop-roll.roll-index + 1) rows old new) (sym c.in_ok-append.ensures.items)
-          (reads_more c.loop-roll.roll-index _ _ _ old mid new c.loop-roll-test.true (l.reads early) (it.rows clean));
+          subst (λ rows. ReadsSome (c.loop-table.table-index + 1) rows old new) (sym c.in_ok-append.ensures.items)
+          (reads_more c.loop-table.table-index _ _ _ old mid new c.loop-table-test.true (l.reads early) (it.rows clean));
     }
 
 pub returns-in_err-more-clause-damaged : goal.returns-in_err-more-clause-damaged
 returns-in_err-more-clause-damaged g c clean h =
-    let was : c.read_roll.result ≡ Err Damaged = search rules in
-    let early : HasCleanDisk (state g.S.Store c.loop-roll.conn) = omega (arith, c.read_roll.ensures.survives.clean) in
-    unread_then _ _ _ _ _ (c.loop-roll.invariant.reads early) (c.read_roll.ensures.damaged clean was)
+    let was : c.read_table.result ≡ Err Damaged = search rules in
+    let early : HasCleanDisk (state g.S.Store c.loop-table.conn) = omega (arith, c.read_table.ensures.survives.clean) in
+    unread_then c.loop-table.table-index _ _ _ _ c.loop-table-test.true (c.loop-table.invariant.reads early) (c.read_table.ensures.damaged clean was)
 
 pub returns-in_err-more-clause-rests : goal.returns-in_err-more-clause-rests
 returns-in_err-more-clause-rests g c clean =
-    let mid = state g.S.Store c.loop-roll.conn in
-    let early : HasCleanDisk mid = omega (arith, c.read_roll.ensures.survives.clean) in
-    rests_then (state g.S.Store c.args.conn.now) mid (state g.S.Store c.read_roll.new.conn) (c.loop-roll.invariant.rests early) (c.read_roll.ensures.rests clean)
+    let mid = state g.S.Store c.loop-table.conn in
+    let early : HasCleanDisk mid = omega (arith, c.read_table.ensures.survives.clean) in
+    rests_then (state g.S.Store c.args.conn.now) mid (state g.S.Store c.read_table.new.conn) (c.loop-table.invariant.rests early) (c.read_table.ensures.rests clean)
 
 pub returns-in_err-more-clause-survives : goal.returns-in_err-more-clause-survives
-returns-in_err-more-clause-survives g c = survives_both _ _ _ c.loop-roll.invariant.survives c.read_roll.ensures.survives
+returns-in_err-more-clause-survives g c = survives_both _ _ _ c.loop-table.invariant.survives c.read_table.ensures.survives
 
 pub returns-in_err-append-clause-rests : goal.returns-in_err-append-clause-rests
 returns-in_err-append-clause-rests g c clean =
-    let mid = state g.S.Store c.loop-roll.conn in
-    let early : HasCleanDisk mid = omega (arith, c.read_roll.ensures.survives.clean) in
-    rests_then (state g.S.Store c.args.conn.now) mid (state g.S.Store c.read_roll.new.conn) (c.loop-roll.invariant.rests early) (c.in_ok-more.ensures.rests clean)
+    let mid = state g.S.Store c.loop-table.conn in
+    let early : HasCleanDisk mid = omega (arith, c.read_table.ensures.survives.clean) in
+    rests_then (state g.S.Store c.args.conn.now) mid (state g.S.Store c.read_table.new.conn) (c.loop-table.invariant.rests early) (c.in_ok-more.ensures.rests clean)
 
 pub returns-in_err-append-clause-survives : goal.returns-in_err-append-clause-survives
-returns-in_err-append-clause-survives g c = survives_both _ _ _ c.loop-roll.invariant.survives c.in_ok-more.ensures.survives
+returns-in_err-append-clause-survives g c = survives_both _ _ _ c.loop-table.invariant.survives c.in_ok-more.ensures.survives
 
 pub returns-clause-rows : goal.returns-clause-rows
 returns-clause-rows g c clean =
-    let end : c.loop-roll.roll-index ≡ length rolls = omega arith in
-    reads_all c.loop-roll.roll-index _ _ _ end (c.loop-roll.invariant.reads clean)
+    let end : c.loop-table.table-index ≡ length rolls = omega arith in
+    reads_all c.loop-table.table-index _ _ _ end (c.loop-table.invariant.reads clean)

@@ -5,13 +5,13 @@ use Rattle.tables.specs.Steps.{Rests}
 use Rattle.store.specs.Reading.{ReadsSome}
 use Rattle.store.proofs.reading.read_rows.Given as goal
 
-abbrev pub invariant-loop-roll : goal.invariant-loop-roll
-invariant-loop-roll g l =
+abbrev pub invariant-loop-table : goal.invariant-loop-table
+invariant-loop-table g l =
     let old = state g.S.Store l.fn.conn in
     let now = state g.S.Store l.conn in
     record {
       survives : Survives old now (λ _. ⊥);
       mode : l.fn.conn.in_transaction ≡ false → l.conn.in_transaction ≡ false;
       rests : HasCleanDisk now → Rests old now;
-      reads : HasCleanDisk now → ReadsSome l.roll-index l.rows.items old now;
+      reads : HasCleanDisk now → ReadsSome l.table-index l.rows.items old now;
     }

@@ -3,4 +3,4 @@ use Rattle.store.specs.Reading.{AreRowsOf}
 use Rattle.store.proofs.rows.rows_with.Given as goal
 
 abbrev pub invariant-loop-cells : goal.invariant-loop-cells
-invariant-loop-cells l = AreRowsOf l.roll (take l.cells-index l.all) l.rows.items
+invariant-loop-cells l = AreRowsOf l.table (take l.cells-index l.all) l.rows.items

@@ -1,17 +1,18 @@
-use Rattle.std.proofs.Common.{refl}
-use Rattle.store.specs.declared.roll.Roll.TheVariants.{Supervisors, Projects, Students}
+use Rattle.tables.proofs.Runs.{part_as, stepped_as}
 use Rattle.store.proofs.Holding.{hold_put}
-use Rattle.store.proofs.Applying.{as_step}
 use Rattle.store.proofs.saving.put_row.Goals as goal
 
-pub returns-in-Supervisor-clause-stepped : goal.returns-in-Supervisor-clause-stepped
-returns-in-Supervisor-clause-stepped g c clean =
-    rw c.in-Supervisor.is (as_step _ _ _ _ _ (hold_put Supervisors _ _ _ _ refl refl) (rw (c.as_str.ensures, c.as_str-in-Supervisor.ensures) at (c.put_supervisor.ensures.stepped clean)))
+pub returns-in-Supervisor-clause-step : goal.returns-in-Supervisor-clause-step
+returns-in-Supervisor-clause-step g c =
+    rw c.in-Supervisor.is (part_as _ _ _ _ _ (λ _ p. stepped_as _ _ _ _ (hold_put _ _ _) p)
+    (rw (c.params-to_sql.ensures, c.params-to_sql-in-Supervisor.ensures, c.params-to_sql-in-Supervisor-2.ensures, c.as_str.ensures, c.as_str-in-Supervisor.ensures) at c.put.ensures.step))
 
-pub returns-in-Project-clause-stepped : goal.returns-in-Project-clause-stepped
-returns-in-Project-clause-stepped g c clean =
-    rw c.in-Project.is (as_step _ _ _ _ _ (hold_put Projects _ _ _ _ refl refl) (rw (c.as_str-in-Project.ensures, c.as_str-in-Project-2.ensures, c.as_str-in-Project-3.ensures) at (c.put_project.ensures.stepped clean)))
+pub returns-in-Project-clause-step : goal.returns-in-Project-clause-step
+returns-in-Project-clause-step g c =
+    rw c.in-Project.is (part_as _ _ _ _ _ (λ _ p. stepped_as _ _ _ _ (hold_put _ _ _) p)
+    (rw (c.params-to_sql-in-Project.ensures, c.params-to_sql-in-Project-2.ensures, c.params-to_sql-in-Project-3.ensures, c.params-to_sql-in-Project-4.ensures, c.as_str-in-Project.ensures, c.as_str-in-Project-2.ensures, c.as_str-in-Project-3.ensures) at c.put-in-Project.ensures.step))
 
-pub returns-in-Student-clause-stepped : goal.returns-in-Student-clause-stepped
-returns-in-Student-clause-stepped g c clean =
-    rw c.in-Student.is (as_step _ _ _ _ _ (hold_put Students _ _ _ _ refl refl) (rw (c.as_str-in-Student.ensures, c.as_str-in-Student-2.ensures) at (c.put_student.ensures.stepped clean)))
+pub returns-in-Student-clause-step : goal.returns-in-Student-clause-step
+returns-in-Student-clause-step g c =
+    rw c.in-Student.is (part_as _ _ _ _ _ (λ _ p. stepped_as _ _ _ _ (hold_put _ _ _) p)
+    (rw (c.params-to_sql-in-Student.ensures, c.params-to_sql-in-Student-2.ensures, c.as_str-in-Student.ensures, c.as_str-in-Student-2.ensures) at c.put-in-Student.ensures.step))

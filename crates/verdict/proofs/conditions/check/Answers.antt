@@ -19,7 +19,7 @@ pub returns-then-not-is_equal-clause-failed : goal.returns-then-not-is_equal-cla
 returns-then-not-is_equal-clause-failed c = (
   c.fault.ensures.none.0 (sym c.is_some.ensures ∙ c.if-is_some.false),
   c.if-not-has_shape.ensures.0 refl,
-  c.if-not-is_above.ensures.0 refl,
+  c.if-not-is_not_below_zero.ensures.0 refl,
   covered_from_places greedy c.args.instance.now.shape c.args.prices.now c.list_law.ensures.student c.in_default.ensures,
   λ e. false≢true (c.if-not-is_equal.ensures.1 e),
 )
@@ -29,7 +29,7 @@ returns-clause-accepted c = (
   λ _. record {
     matched = c.fault.ensures.none.0 (sym c.is_some.ensures ∙ c.if-is_some.false);
     shape = c.if-not-has_shape.ensures.0 refl;
-    above = c.if-not-is_above.ensures.0 refl;
+    not_below = c.if-not-is_not_below_zero.ensures.0 refl;
     covered = covered_from_places greedy c.args.instance.now.shape c.args.prices.now c.list_law.ensures.student c.in_default.ensures;
     equal = c.if-not-is_equal.ensures.0 refl;
   },
@@ -44,24 +44,24 @@ returns-clause-greedy_maximum c =
     let proved : IsProvedBest greedy c.args.instance.now.shape c.args.matching.now.places.items c.args.prices.now = record {
       matched = c.fault.ensures.none.0 (sym c.is_some.ensures ∙ c.if-is_some.false);
       shape = c.if-not-has_shape.ensures.0 refl;
-      above = c.if-not-is_above.ensures.0 refl;
+      not_below = c.if-not-is_not_below_zero.ensures.0 refl;
       covered = covered_from_places greedy c.args.instance.now.shape c.args.prices.now c.list_law.ensures.student c.in_default.ensures;
       equal = c.if-not-is_equal.ensures.0 refl;
     } in
     (c.greedy_law.ensures (pairs i ks)).1
     (c.price_law.ensures (pairs i ks) (price p.students.items) (price p.projects.items) (price p.supervisors.items) (as_rows greedy i ks p proved))
 
-pub returns-then-not-is_above-clause-failed : goal.returns-then-not-is_above-clause-failed
-returns-then-not-is_above-clause-failed c = (
+pub returns-then-not-is_not_below_zero-clause-failed : goal.returns-then-not-is_not_below_zero-clause-failed
+returns-then-not-is_not_below_zero-clause-failed c = (
   c.fault.ensures.none.0 (sym c.is_some.ensures ∙ c.if-is_some.false),
   c.if-not-has_shape.ensures.0 refl,
-  λ e. false≢true (c.if-not-is_above.ensures.1 e),
+  λ e. false≢true (c.if-not-is_not_below_zero.ensures.1 e),
 )
 
 pub returns-in-Some-clause-failed : goal.returns-in-Some-clause-failed
 returns-in-Some-clause-failed c = (
   c.fault.ensures.none.0 (sym c.is_some.ensures ∙ c.if-is_some.false),
   c.if-not-has_shape.ensures.0 refl,
-  c.if-not-is_above.ensures.0 refl,
-  (c.in-Some.place, refl, c.in-Some.ensures),
+  c.if-not-is_not_below_zero.ensures.0 refl,
+  c.in-Some.ensures,
 )

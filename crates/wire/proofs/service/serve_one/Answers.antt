@@ -11,8 +11,8 @@ use Rattle.wire.proofs.service.serve_one.Goals as goal
 along : (xs ys : List ℕ) (p : Parts) → xs ≡ ys → Judges ys (Whole p) → Judges xs (Whole p)
 along xs ys p e h = subst (λ (t : List ℕ). Judges t (Whole p)) (sym e) h
 
-pub ask-answer-requires-clause-parts : goal.ask-answer-requires-clause-parts
-ask-answer-requires-clause-parts g c = along c.as_slice.result.now c.args.buffer.now.items c.args.parts c.as_slice.ensures.value c.requires.parts
+pub ask-answer-requires : goal.ask-answer-requires
+ask-answer-requires g c = record { parts = along c.as_slice.result.now c.args.buffer.now.items c.args.parts c.as_slice.ensures.value c.requires.parts }
 
 pub returns-clause-ok : goal.returns-clause-ok
 returns-clause-ok g c = (

@@ -1,9 +1,10 @@
-use Rattle.std.proofs.Common.{◌≡◌, ℕ, ◌<◌, List, [], ◌∷◌, ◌++◌, length, map, get_or, slice_get, Option, Some, refl, sym, ap, subst, ◌∙◌, arith, rules}
+use Rattle.std.proofs.Common.{◌≡◌, ℕ, ◌+◌, ◌-◌, ◌<◌, List, [], ◌∷◌, ◌++◌, length, map, get_or, slice_get, Option, Some, refl, sym, ap, subst, ◌∙◌, arith, rules}
 use Rattle.std.proofs.lemmas.List.{length-map}
 use Rattle.spa.specs.Codes.{code_at}
 use Rattle.intake.proofs.Order.{get_found}
 use Rattle.spa.specs.Instance.{Student}
 use Rattle.intake.specs.Parts.{Rise}
+use Rattle.intake.specs.Lines.{choice_code}
 use Rattle.intake.proofs.Adding.{two_fields, parts}
 use Rattle.intake.proofs.Lists.{blank}
 use Rattle.intake.proofs.Rolls.{student_keys}
@@ -45,8 +46,8 @@ returns-then-position-len c = λ s k t.
     let many : c.len.result ≡ length c.args.self.now.places.items = search (rules) in
     omega (arith, t.later, c.if-position-len.true)
 
-pub returns-in_default-place_of : goal.returns-in_default-place_of
-returns-in_default-place_of c = λ s k t.
+pub returns-in_default-position_in : goal.returns-in_default-position_in
+returns-in_default-position_in c = λ s k t.
     let r = refers _ _ s k _ _ c.requires t (two_fields c.args.fields.now c.in-len2.len_at_least c.in-len2.len_below) in
     let text = (rw c.in-Some.is at c.read_code.ensures).0 in
     let text2 = (rw c.in-Some-read_code.is at c.read_code-2.ensures).0 in
@@ -55,20 +56,28 @@ returns-in_default-place_of c = λ s k t.
     (ap (λ (l : List (List ℕ)). slice_get l c.in-Some-position_of.position) keys ∙ c.in-Some-position_of.ensures.1 ∙ ap Some (c.as_str.ensures.value ∙ text)) r.code in
     let within : c.in-Some-position_of.position < length c.args.self.now.students.items = omega (arith, c.in-Some-position_of.ensures.0, ap length c.deref.ensures.value) in
     let list = listed_at c.args.self.now.students.items c.in-Some-position_of.position s c.index.result.now t.student within c.index.ensures same t.here in
-    nowhere c.deref-2.result.now (length c.deref-2.result.now) k c.as_str-2.result.now _ refl (c.as_str-2.ensures.value ∙ text2)
-    c.in_default-place_of.ensures (ap (λ (l : List (List ℕ)). slice_get l k) (c.deref-2.ensures.value ∙ sym list) ∙ r.place)
+    nowhere c.deref-2.result.now (length c.deref-2.result.now) (k - 1) c.as_str-2.result.now _ refl (c.as_str-2.ensures.value ∙ text2)
+    c.in_default-position_in.ensures (ap (λ (l : List (List ℕ)). slice_get l (k - 1)) (c.deref-2.ensures.value ∙ sym list) ∙ r.place)
 
 pub overflow_cast-place : goal.overflow_cast-place
 overflow_cast-place c =
     let within : c.in-Some-position_of.position < length c.args.self.now.students.items = omega (arith, c.in-Some-position_of.ensures.0, ap length c.deref.ensures.value) in
     let here = student_at c.args.self.now.students.items c.in-Some-position_of.position c.index.result.now within c.index.ensures in
-    let few = small_place _ c.in-Some-position_of.position c.in-Some-place_of.place _ c.requires here (omega (arith, c.in-Some-place_of.ensures.0, ap length c.deref-2.ensures.value)) in
+    let few = small_place _ c.in-Some-position_of.position c.in-Some-position_in.before _ c.requires here (omega (arith, c.in-Some-position_in.ensures.0, ap length c.deref-2.ensures.value)) in
+    omega (arith, few)
+
+pub overflow_add-place : goal.overflow_add-place
+overflow_add-place c =
+    let within : c.in-Some-position_of.position < length c.args.self.now.students.items = omega (arith, c.in-Some-position_of.ensures.0, ap length c.deref.ensures.value) in
+    let here = student_at c.args.self.now.students.items c.in-Some-position_of.position c.index.result.now within c.index.ensures in
+    let few = small_place _ c.in-Some-position_of.position c.in-Some-position_in.before _ c.requires here (omega (arith, c.in-Some-position_in.ensures.0, ap length c.deref-2.ensures.value)) in
     omega (arith, few)
 
 pub returns : goal.returns
 returns c =
     let s : ℕ = c.in-Some-position_of.position in
-    let k : ℕ = c.in-Some-place_of.place in
+    let before : ℕ = c.in-Some-position_in.before in
+    let k : ℕ = before + 1 in
     let text = (rw c.in-Some.is at c.read_code.ensures).0 in
     let text2 = (rw c.in-Some-read_code.is at c.read_code-2.ensures).0 in
     let within : s < length c.args.self.now.students.items = omega (arith, c.in-Some-position_of.ensures.0, ap length c.deref.ensures.value) in
@@ -77,7 +86,7 @@ returns c =
     let many : c.len.result ≡ length c.args.self.now.places.items = search (rules) in
     let first : c.index.result.now.0 ≡ (get_or c.args.fields.now 0 blank).now = same_found _ s _ _ (get_mapped (λ (x : Student). x.code) _ s _ here)
     (ap (λ (l : List (List ℕ)). slice_get l s) keys ∙ c.in-Some-position_of.ensures.1 ∙ ap Some (c.as_str.ensures.value ∙ text)) in
-    let second : (get_or c.args.fields.now 1 blank).now ≡ code_at c.index.result.now.1.items k = sym (c.as_str-2.ensures.value ∙ text2) ∙ sym (get_found c.deref-2.result.now k c.as_str-2.result.now [] c.in-Some-place_of.ensures.1) ∙ ap (λ (l : List (List ℕ)). code_at l k) c.deref-2.ensures.value in (
+    let second : (get_or c.args.fields.now 1 blank).now ≡ choice_code c.index.result.now.1.items k = sym (c.as_str-2.ensures.value ∙ text2) ∙ sym (get_found c.deref-2.result.now before c.as_str-2.result.now [] c.in-Some-position_in.ensures.1) ∙ ap (λ (l : List (List ℕ)). code_at l before) c.deref-2.ensures.value ∙ ap (code_at c.index.result.now.1.items) (omega arith) in (
       s,
       k,
       record {
@@ -85,7 +94,7 @@ returns c =
         student = record { code = c.index.result.now.0; list = c.index.result.now.1.items };
         here = here;
         later = omega (arith, c.if-position-len.false, many);
-        place = omega (arith, c.in-Some-place_of.ensures.0, ap length c.deref-2.ensures.value);
+        place = record { first = omega arith; last = omega (arith, c.in-Some-position_in.ensures.0, ap length c.deref-2.ensures.value) };
         is = two_fields c.args.fields.now c.in-len2.len_at_least c.in-len2.len_below ∙ ap (λ (x : List ℕ). x ∷ (get_or c.args.fields.now 1 blank).now ∷ []) (sym first) ∙ ap (λ (x : List ℕ). c.index.result.now.0 ∷ x ∷ []) second;
       },
       ap (λ (l : List (Option ℕ)). parts c.args.self.now.supervisors.items c.args.self.now.projects.items (map (λ e. (e.0, e.1.items)) c.args.self.now.students.items) l c.args.self.now.prices.students.items c.args.self.now.prices.projects.items c.args.self.now.prices.supervisors.items)

@@ -1,0 +1,6 @@
+pub mod Json
+pub mod Found
+pub mod Sound
+pub mod Named
+pub mod Short
+pub mod Asking

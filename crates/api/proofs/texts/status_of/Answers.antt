@@ -1,0 +1,8 @@
+use Rattle.std.proofs.Common.{◌≡◌, ◌==◌, ℕ, true, subst, sym}
+use Rattle.std.specs.List.{list_any}
+use Rattle.rolls.specs.Told.{statuses}
+use Rattle.api.proofs.Short.{short}
+use Rattle.api.proofs.texts.status_of.Goals as goal
+
+pub returns-in-Ok-clause-short : goal.returns-in-Ok-clause-short
+returns-in-Ok-clause-short c = short c.in-Ok.status (subst (λ (n : ℕ). list_any (λ s. s == n) statuses ≡ true) (sym c.in-Ok.ensures.1) c.status.ensures.known)

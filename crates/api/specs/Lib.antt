@@ -1,0 +1,5 @@
+pub mod Routes
+pub mod Members
+pub mod Requests
+pub mod Text
+pub mod Texts

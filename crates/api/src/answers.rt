@@ -1,0 +1,123 @@
+//! Answers in a fixed array, which take no memory.
+ghost use Rattle.std.specs.Prelude.{◌≡◌, ◌+◌, ◌≤◌, ◌++◌, length, decimal};
+ghost use Rattle.arrayvec.specs.ArrayVec.{array_vec_len};
+ghost use Rattle.api.specs.Text.{reason_of, status_line, fields, answer_head, json_answer, fault_body, fault_answer};
+
+use arrayvec::ArrayVec;
+use http::StatusCode;
+use wire::ShortText;
+
+/// Appends bytes.
+fn push(out: &mut ShortText, bytes: &[u8])
+    requires { array_vec_len out.old + length bytes.now ≤ 320 }
+    ensures { out.new.items ≡ out.old.items ++ bytes.now }
+{
+    let _ = out.try_extend_from_slice(bytes);
+}
+
+/// Appends a number's digits.
+fn push_number(out: &mut ShortText, number: u64)
+    requires { array_vec_len out.old + 20 ≤ 320 }
+    ensures items { out.new.items ≡ out.old.items ++ decimal number }
+    ensures len { array_vec_len out.new ≤ array_vec_len out.old + 20 }
+{
+    let mut buffer = itoa::Buffer::new();
+    push(out, buffer.format(number).as_bytes());
+}
+
+/// Appends a label and a number.
+fn push_labelled(out: &mut ShortText, label: &[u8], number: u64)
+    requires { array_vec_len out.old + (length label.now + 20) ≤ 320 }
+    ensures items { out.new.items ≡ out.old.items ++ (label.now ++ decimal number) }
+    ensures len { array_vec_len out.new ≤ array_vec_len out.old + (length label.now + 20) }
+{
+    push(out, label);
+    push_number(out, number);
+}
+
+/// Appends a refusal's body.
+fn push_fault(out: &mut ShortText, name: &str, number: u64)
+    requires { array_vec_len out.old + (length name.now + 42) ≤ 320 }
+    ensures items { out.new.items ≡ out.old.items ++ fault_body name.now number }
+    ensures len { array_vec_len out.new ≤ array_vec_len out.old + (length name.now + 42) }
+{
+    push(out, b"{\"fault\":\"");
+    push(out, name.as_bytes());
+    push(out, b"\",\"number\":");
+    push_number(out, number);
+    push(out, b"}");
+}
+
+/// The standard reason phrase.
+#[tactic(auto, unfolding(crate::specs::Text::reason_of))]
+fn reason(status: StatusCode) -> &'static str
+    ensures { result.now ≡ reason_of status }
+{
+    match status.canonical_reason() {
+        Some(reason) => reason,
+        None => "",
+    }
+}
+
+/// Appends the first line.
+fn push_status_line(out: &mut ShortText, status: StatusCode)
+    requires { array_vec_len out.old + (length (reason_of status) + 32) ≤ 320 }
+    ensures items { out.new.items ≡ out.old.items ++ status_line status }
+    ensures len { array_vec_len out.new ≤ array_vec_len out.old + (length (reason_of status) + 32) }
+{
+    push(out, b"HTTP/1.1 ");
+    push_number(out, u64::from(status.as_u16()));
+    push(out, b" ");
+    push(out, reason(status).as_bytes());
+    push(out, b"\r\n");
+}
+
+/// Appends the fields, and the empty line.
+fn push_fields(out: &mut ShortText, kind: &str, len: u64)
+    requires { array_vec_len out.old + (length kind.now + 56) ≤ 320 }
+    ensures items { out.new.items ≡ out.old.items ++ fields kind.now len }
+    ensures len { array_vec_len out.new ≤ array_vec_len out.old + (length kind.now + 56) }
+{
+    push(out, b"Content-Type: ");
+    push(out, kind.as_bytes());
+    push_labelled(out, b"\r\nContent-Length: ", len);
+    push(out, b"\r\n\r\n");
+}
+
+/// What comes before the body of an answer of a type.
+pub fn answer_head(status: StatusCode, kind: &str, len: usize) -> ShortText
+    requires reason { length (reason_of status) ≤ 32 }
+    requires kind { length kind.now ≤ 40 }
+    ensures items { result.items ≡ answer_head status kind.now len }
+    ensures len { array_vec_len result ≤ length kind.now + 120 }
+{
+    let mut out = ArrayVec::new();
+    push_status_line(&mut out, status);
+    push_fields(&mut out, kind, len as u64);
+    out
+}
+
+/// The type of a body in JSON.
+pub const JSON: &str = "application/json";
+
+/// An answer in JSON whose body is short.
+pub fn json(status: StatusCode, body: &[u8]) -> ShortText
+    requires reason { length (reason_of status) ≤ 32 }
+    requires body { length body.now ≤ 184 }
+    ensures { result.items ≡ json_answer status body.now }
+{
+    let mut out = answer_head(status, JSON, body.len());
+    push(&mut out, body);
+    out
+}
+
+/// The answer of a refusal.
+pub fn refused(status: StatusCode, name: &str, number: u32) -> ShortText
+    requires reason { length (reason_of status) ≤ 32 }
+    requires name { length name.now ≤ 100 }
+    ensures { result.items ≡ fault_answer status name.now number }
+{
+    let mut body = ArrayVec::new();
+    push_fault(&mut body, name, u64::from(number));
+    json(status, body.as_slice())
+}

@@ -1,0 +1,152 @@
+//! What the members of a body say.
+ghost use Rattle.std.specs.Prelude.{◌≡◌, ◌⊎◌, Some, None, IfOk, IfErr, option_map, option_and_then, codes};
+ghost use Rattle.serde_json.specs.View.{view};
+ghost use Rattle.serde_json.specs.Find.{as_object, as_number, get};
+ghost use Rattle.api.specs.Members.{json_of, count, has_size, text_in, quota_of, quota_in, name_of, name_and_quota, supervisor_members, project_members};
+
+use rolls::Refusal;
+use serde_json::Value;
+use std::alloc::Global;
+
+/// Handed on in place of a number that is no quota; the office refuses it as too great.
+const NO_QUOTA: u32 = 9999;
+
+/// A name and a quota.
+#[derive(Drop)]
+pub struct NameAndQuota<'v> {
+    pub name: &'v str,
+    pub quota: u32,
+}
+
+/// The members of a project.
+#[derive(Drop)]
+pub struct ProjectMembers<'v> {
+    pub name: &'v str,
+    pub quota: u32,
+    pub supervisor: &'v str,
+}
+
+/// Reads a body as JSON.
+pub fn read_json(alloc: Global, body: &[u8]) -> Result<Value, Refusal>
+    ensures ok { IfOk result (λ value. json_of body.now ≡ Some (view value)) }
+    ensures err { IfErr result (λ refusal.
+        (refusal ≡ Refusal.Memory) ⊎ ((refusal ≡ Refusal.Json) × (json_of body.now ≡ None))) }
+{
+    match Value::from_slice(alloc, body) {
+        Ok(value) => Ok(value),
+        Err(error) => {
+            if error.is_memory() {
+                Err(Refusal::Memory)
+            } else {
+                Err(Refusal::Json)
+            }
+        }
+    }
+}
+
+/// How many members an object has.
+fn member_count(value: &Value) -> Option<usize>
+    ensures { result ≡ option_map count (as_object (view value.now)) }
+{
+    match value.as_object() {
+        None => None,
+        Some(members) => Some(members.len()),
+    }
+}
+
+/// Whether it is an object of so many members.
+fn has_size(value: &Value, n: usize) -> bool
+    ensures { result ≡ has_size n (view value.now) }
+{
+    match member_count(value) {
+        None => false,
+        Some(count) => count == n,
+    }
+}
+
+/// The text of a member.
+fn text_in<'v>(value: &'v Value, name: &str) -> Option<&'v str>
+    ensures { option_map (λ text. text.now) result ≡ text_in name.now (view value.now) }
+{
+    match value.get(name) {
+        None => None,
+        Some(member) => member.as_str(),
+    }
+}
+
+/// The quota that a number is: a whole number up to `NO_QUOTA`, or that.
+fn quota_of(number: Option<u64>) -> u32
+    ensures { result ≡ quota_of number }
+{
+    match number {
+        None => NO_QUOTA,
+        Some(n) => n.min(u64::from(NO_QUOTA)) as u32,
+    }
+}
+
+/// The number of the member `quota`.
+fn quota_in(value: &Value) -> Option<u32>
+    ensures { result ≡ quota_in (view value.now) }
+{
+    match value.get("quota") {
+        None => None,
+        Some(member) => match member.as_number() {
+            None => None,
+            Some(number) => Some(quota_of(number.as_u64())),
+        },
+    }
+}
+
+/// The name that stands alone.
+pub fn name_of(value: &Value) -> Option<&str>
+    ensures { option_map (λ name. name.now) result ≡ name_of (view value.now) }
+{
+    if !has_size(value, 1) {
+        return None;
+    }
+    text_in(value, "name")
+}
+
+/// The members `name` and `quota`.
+fn name_and_quota(value: &Value) -> Option<NameAndQuota<'_>>
+    ensures { option_map (λ both. (both.name.now, both.quota)) result ≡ name_and_quota (view value.now) }
+{
+    match text_in(value, "name") {
+        None => None,
+        Some(name) => match quota_in(value) {
+            None => None,
+            Some(quota) => Some(NameAndQuota { name, quota }),
+        },
+    }
+}
+
+/// The members of a supervisor.
+pub fn supervisor_members(value: &Value) -> Option<NameAndQuota<'_>>
+    ensures { option_map (λ both. (both.name.now, both.quota)) result ≡ supervisor_members (view value.now) }
+{
+    if !has_size(value, 2) {
+        return None;
+    }
+    name_and_quota(value)
+}
+
+/// The members of a project.
+pub fn project_members(value: &Value) -> Option<ProjectMembers<'_>>
+    ensures { option_map (λ all. ((all.name.now, all.quota), all.supervisor.now)) result
+        ≡ project_members (view value.now) }
+{
+    if !has_size(value, 3) {
+        return None;
+    }
+    match name_and_quota(value) {
+        None => None,
+        Some(both) => match text_in(value, "supervisor") {
+            None => None,
+            Some(supervisor) => Some(ProjectMembers {
+                name: both.name,
+                quota: both.quota,
+                supervisor,
+            }),
+        },
+    }
+}

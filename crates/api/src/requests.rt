@@ -1,0 +1,201 @@
+//! What a message asks.
+ghost use Rattle.std.specs.Prelude.{◌≡◌, ◌⊎◌, [], ◌∷◌, IfOk, IfErr, MatchOption};
+ghost use Rattle.std.specs.Str.{bytes_eq};
+ghost use Rattle.serde_json.specs.View.{view};
+ghost use Rattle.api.specs.Routes.{all_routes, Names, IsNowhere};
+ghost use Rattle.api.specs.Requests.{put_by, by_body, by_method, asked_by, Asks};
+
+use crate::members::{name_of, project_members, read_json, supervisor_members};
+use crate::routes::{Form, Kind, Methods, Place, place_of, router};
+use http::Method;
+use matchit::Router;
+use rolls::{Plain, Refusal, Request, Text};
+use serde_json::Value;
+use std::alloc::{AllocError, Global};
+use std::str;
+
+/// The put of a supervisor.
+fn put_supervisor(alloc: Global, code: &str, value: &Value) -> Result<Plain, Refusal>
+    ensures ok { IfOk result (λ plain. put_by Kind.Supervisor code.now (view value.now) ≡ Some plain) }
+    ensures err { IfErr result (λ refusal. (refusal ≡ Refusal.Memory)
+        ⊎ ((refusal ≡ Refusal.Members) × (put_by Kind.Supervisor code.now (view value.now) ≡ None))) }
+{
+    match supervisor_members(value) {
+        None => Err(Refusal::Members),
+        Some(members) => Ok(Plain::PutSupervisor {
+            code: Text::of(alloc, code)?,
+            label: Text::of(alloc, members.name)?,
+            quota: members.quota,
+        }),
+    }
+}
+
+/// The put of a project.
+fn put_project(alloc: Global, code: &str, value: &Value) -> Result<Plain, Refusal>
+    ensures ok { IfOk result (λ plain. put_by Kind.Project code.now (view value.now) ≡ Some plain) }
+    ensures err { IfErr result (λ refusal. (refusal ≡ Refusal.Memory)
+        ⊎ ((refusal ≡ Refusal.Members) × (put_by Kind.Project code.now (view value.now) ≡ None))) }
+{
+    match project_members(value) {
+        None => Err(Refusal::Members),
+        Some(members) => Ok(Plain::PutProject {
+            code: Text::of(alloc, code)?,
+            label: Text::of(alloc, members.name)?,
+            supervisor: Text::of(alloc, members.supervisor)?,
+            quota: members.quota,
+        }),
+    }
+}
+
+/// The put of a student.
+fn put_student(alloc: Global, code: &str, value: &Value) -> Result<Plain, Refusal>
+    ensures ok { IfOk result (λ plain. put_by Kind.Student code.now (view value.now) ≡ Some plain) }
+    ensures err { IfErr result (λ refusal. (refusal ≡ Refusal.Memory)
+        ⊎ ((refusal ≡ Refusal.Members) × (put_by Kind.Student code.now (view value.now) ≡ None))) }
+{
+    match name_of(value) {
+        None => Err(Refusal::Members),
+        Some(name) => Ok(Plain::PutStudent {
+            code: Text::of(alloc, code)?,
+            label: Text::of(alloc, name)?,
+        }),
+    }
+}
+
+/// What is put, by the members of a body.
+fn put_by(alloc: Global, kind: Kind, code: &str, value: &Value) -> Result<Plain, Refusal>
+    ensures ok { IfOk result (λ plain. put_by kind code.now (view value.now) ≡ Some plain) }
+    ensures err { IfErr result (λ refusal. (refusal ≡ Refusal.Memory)
+        ⊎ ((refusal ≡ Refusal.Members) × (put_by kind code.now (view value.now) ≡ None))) }
+{
+    match kind {
+        Kind::Supervisor => put_supervisor(alloc, code, value),
+        Kind::Project => put_project(alloc, code, value),
+        Kind::Student => put_student(alloc, code, value),
+    }
+}
+
+/// What a body of members asks.
+fn object_asks(alloc: Global, kind: Kind, code: &str, body: &[u8]) -> Result<Plain, Refusal>
+    ensures ok { IfOk result (λ plain.
+        by_body (Form.Object kind) code.now body.now ≡ Ok (Request.Plain plain)) }
+    ensures err { IfErr result (λ refusal. (refusal ≡ Refusal.Memory)
+        ⊎ (by_body (Form.Object kind) code.now body.now ≡ Err refusal)) }
+{
+    match read_json(alloc, body) {
+        Err(refusal) => Err(refusal),
+        Ok(value) => put_by(alloc, kind, code, &value),
+    }
+}
+
+/// What an empty body asks.
+fn empty_asks(alloc: Global, kind: Kind, code: &str, body: &[u8]) -> Result<Plain, Refusal>
+    ensures ok { IfOk result (λ plain.
+        by_body (Form.Empty kind) code.now body.now ≡ Ok (Request.Plain plain)) }
+    ensures err { IfErr result (λ refusal. (refusal ≡ Refusal.Memory)
+        ⊎ (by_body (Form.Empty kind) code.now body.now ≡ Err refusal)) }
+{
+    if !body.is_empty() {
+        return Err(Refusal::Members);
+    }
+    let code = Text::of(alloc, code)?;
+    Ok(match kind {
+        Kind::Supervisor => Plain::GetSupervisor { code },
+        Kind::Project => Plain::GetProject { code },
+        Kind::Student => Plain::GetStudent { code },
+    })
+}
+
+/// What a body asks.
+fn by_body(alloc: Global, form: Form, code: &str, body: &[u8]) -> Result<Plain, Refusal>
+    ensures ok { IfOk result (λ plain. by_body form code.now body.now ≡ Ok (Request.Plain plain)) }
+    ensures err { IfErr result (λ refusal. (refusal ≡ Refusal.Memory) ⊎ (by_body form code.now body.now ≡ Err refusal)) }
+{
+    match form {
+        Form::Empty(kind) => empty_asks(alloc, kind, code, body),
+        Form::Object(kind) => object_asks(alloc, kind, code, body),
+    }
+}
+
+/// Whether a method is this one.
+fn is_method(method: &[u8], known: &Method) -> bool
+    ensures { result ≡ bytes_eq method.now known.now }
+{
+    method == known.as_str().as_bytes()
+}
+
+/// What a method asks of a path.
+fn by_method(methods: Methods, method: &[u8]) -> Option<Form>
+    ensures { result ≡ by_method methods method.now }
+{
+    if is_method(method, &Method::GET) {
+        methods.get
+    } else if is_method(method, &Method::PUT) {
+        methods.put
+    } else if is_method(method, &Method::POST) {
+        methods.post
+    } else if is_method(method, &Method::DELETE) {
+        methods.delete
+    } else {
+        None
+    }
+}
+
+/// What a target names.
+fn by_path<'t>(router: &Router<Methods>, target: &'t [u8]) -> Option<Place<'t>>
+    requires { router.now ≡ all_routes }
+    ensures { MatchOption result (IsNowhere target.now)
+        (λ place. Names target.now place.methods (place.code.now ∷ [])) }
+{
+    match str::from_utf8(target) {
+        Err(_) => None,
+        Ok(path) => place_of(router, path),
+    }
+}
+
+/// What is asked of a place.
+fn asked_at(alloc: Global, place: &Place, method: &[u8], body: &[u8]) -> Result<Plain, Refusal>
+    ensures ok { IfOk result (λ plain. asked_by (by_method place.now.methods method.now) place.now.code.now body.now
+        ≡ Ok (Request.Plain plain)) }
+    ensures err { IfErr result (λ refusal. (refusal ≡ Refusal.Memory)
+        ⊎ (asked_by (by_method place.now.methods method.now) place.now.code.now body.now ≡ Err refusal)) }
+{
+    match by_method(place.methods, method) {
+        None => Err(Refusal::WrongMethod),
+        Some(form) => by_body(alloc, form, place.code, body),
+    }
+}
+
+/// The routes of the office.
+#[derive(Drop)]
+pub struct Routes {
+    alloc: Global,
+    router: Router<Methods>,
+    ghost routes: { router ≡ all_routes },
+}
+
+impl Routes {
+    /// Takes the memory that the routes need.
+    pub fn new(alloc: Global) -> Result<Routes, AllocError> {
+        match router(alloc) {
+            Ok(router) => Ok(Routes { alloc, router }),
+            Err(_) => Err(AllocError),
+        }
+    }
+
+    /// What a message asks, or why it asks nothing.
+    pub fn request(&self, method: &[u8], target: &[u8], body: &[u8]) -> Result<Request, Refusal>
+        ensures ok { IfOk result (λ request.
+            Asks (record { method = method.now; target = target.now; body = body.now }) (Ok request)) }
+        ensures err { IfErr result (λ refusal. (refusal ≡ Refusal.Memory)
+            ⊎ Asks (record { method = method.now; target = target.now; body = body.now }) (Err refusal)) }
+    {
+        match by_path(&self.router, target) {
+            None => Err(Refusal::NoRoute),
+            Some(place) => match asked_at(self.alloc, &place, method, body) {
+                Err(refusal) => Err(refusal),
+                Ok(plain) => Ok(Request::Plain(plain)),
+            },
+        }
+    }
+}

@@ -1,0 +1,17 @@
+use Rattle.std.proofs.Common.{◌≤◌, length, refl, arith, ◌∙◌}
+use Rattle.tables.proofs.Runs.{part_none, part_ok, part_then}
+use Rattle.store.proofs.Making.{made_all, made_more, made_none}
+use Rattle.store.proofs.founding.make_each.Goals as goal
+
+pub loop-table-init : goal.loop-table-init
+loop-table-init g c = (refl, part_none _ _ (made_none _))
+
+pub loop-table-preserved : goal.loop-table-preserved
+loop-table-preserved g c =
+    let l = c.loop-table.invariant in
+    (c.in_ok-make.ensures.same_reference ∙ l.0, part_then _ _ _ _ _ _ _ _ (λ _ p q. made_more c.loop-table.table-index c.args.tables.now _ _ _ _ c.loop-table-test.true p q) l.1 c.in_ok-make.ensures.step)
+
+pub returns-clause-step : goal.returns-clause-step
+returns-clause-step g c =
+    let end : length c.args.tables.now ≤ c.loop-table.table-index = omega arith in
+    part_ok _ _ _ _ _ _ (made_all c.loop-table.table-index _ _ _ end) c.loop-table.invariant.1

@@ -1,0 +1,10 @@
+use Rattle.std.proofs.Common.{subst}
+use Rattle.sqlite_rules.specs.Lists.{Has}
+use Rattle.store.proofs.Judging.{holds_none}
+use Rattle.store.proofs.reading.read_table.Goals as goal
+
+pub returns-clause-damaged : goal.returns-clause-damaged
+returns-clause-damaged g c clean h =
+    let found = c.rows_with.ensures.damaged h in
+    let shows = c.in_ok-cells.ensures.rows clean in
+    (shows.same.0.was_open, holds_none _ _ found.0 _ _ shows (subst (λ all. Has all found.0) c.as_slice.ensures.value found.1) found.2)

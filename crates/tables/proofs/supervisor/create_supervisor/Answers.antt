@@ -1,7 +1,0 @@
-use Rattle.tables.proofs.Runs.{stepped_by}
-use Rattle.tables.proofs.Creating.{create_makes}
-use Rattle.tables.proofs.SupervisorTexts.{supervisor, create_supervisor, supervisor_create}
-use Rattle.tables.proofs.supervisor.create_supervisor.Goals as goal
-
-pub returns-clause-stepped : goal.returns-clause-stepped
-returns-clause-stepped g c clean = stepped_by _ _ _ _ _ _ (create_makes create_supervisor supervisor supervisor_create _ _ _) (c.in_ok-write.ensures.ran clean)

@@ -1,7 +1,0 @@
-use Rattle.tables.proofs.Runs.{stepped_by}
-use Rattle.tables.proofs.Deleting.{delete_removes}
-use Rattle.tables.proofs.SupervisorTexts.{supervisor, delete_supervisor, supervisor_delete, supervisor_coded}
-use Rattle.tables.proofs.supervisor.delete_supervisor.Goals as goal
-
-pub returns-clause-stepped : goal.returns-clause-stepped
-returns-clause-stepped g c clean = stepped_by _ _ _ _ _ _ (delete_removes delete_supervisor supervisor supervisor_delete supervisor_coded _ _ _ _) (rw c.params-to_sql.ensures at (c.in_ok-write.ensures.ran clean))

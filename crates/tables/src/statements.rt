@@ -1,0 +1,99 @@
+//! The statements, each over any table.
+
+ghost use Rattle.std.specs.Prelude.{◌≡◌, [], IfOk, false};
+ghost use Rattle.sqlite.specs.State.{HasCleanDisk, Survives};
+ghost use Rattle.sqlite.specs.Values.{bound};
+ghost use Rattle.sqlite.specs.Held.{state};
+ghost use Rattle.tables.specs.Table.{IsRowOf, IsKeyOf, checks_of, key_in, table_at};
+ghost use Rattle.tables.specs.Writes.{Adds, Makes, Puts, Removes, Replaces};
+ghost use Rattle.tables.specs.Steps.{Does, HasStepped, IsPart, Rests, Shows};
+
+use crate::fault::TableFault;
+use crate::read::read_text;
+use crate::table::Table;
+use crate::write::write;
+use sqlite::{Alter, Connection, Row, Transaction};
+use sqlite_value::value::ValueRef;
+
+/// Makes the table.
+pub fn make<S: Alter>(tx: &mut Transaction<'_, S>, table: Table) -> Result<(), TableFault>
+    ensures same_reference { tx.new.conn.ghost_name ≡ tx.old.conn.ghost_name }
+    ensures step { Does (HasStepped (Makes (table_at table) (checks_of table) [])) result (state S.Store tx.old.conn.now) (state S.Store tx.new.conn.now) }
+{
+    write(tx, table.shape().create, &[])?;
+    Ok(())
+}
+
+/// Adds a row.
+pub fn insert<S: Alter>(
+    tx: &mut Transaction<'_, S>,
+    table: Table,
+    row: &[ValueRef<'_>],
+) -> Result<(), TableFault>
+    requires { IsRowOf table (bound row.now) }
+
+    ensures same_reference { tx.new.conn.ghost_name ≡ tx.old.conn.ghost_name }
+    ensures step { Does (HasStepped (Adds (table_at table) (bound row.now))) result (state S.Store tx.old.conn.now) (state S.Store tx.new.conn.now) }
+{
+    write(tx, table.shape().insert, row)?;
+    Ok(())
+}
+
+/// Puts this row in the place of each with its key, and tells how many there were.
+fn update<S: Alter>(
+    tx: &mut Transaction<'_, S>,
+    table: Table,
+    row: &[ValueRef<'_>],
+) -> Result<usize, TableFault>
+    requires { IsRowOf table (bound row.now) }
+
+    ensures same_reference { tx.new.conn.ghost_name ≡ tx.old.conn.ghost_name }
+    ensures step { IsPart (λ count. HasStepped (Replaces (table_at table) (key_in table (bound row.now)) (bound row.now) count)) result (state S.Store tx.old.conn.now) (state S.Store tx.new.conn.now) }
+{
+    write(tx, table.shape().update, row)
+}
+
+/// Puts the row in: in the place of the one with its key, or a row more.
+pub fn put<S: Alter>(
+    tx: &mut Transaction<'_, S>,
+    table: Table,
+    row: &[ValueRef<'_>],
+) -> Result<(), TableFault>
+    requires { IsRowOf table (bound row.now) }
+
+    ensures same_reference { tx.new.conn.ghost_name ≡ tx.old.conn.ghost_name }
+    ensures step { Does (HasStepped (Puts (table_at table) (key_in table (bound row.now)) (bound row.now))) result (state S.Store tx.old.conn.now) (state S.Store tx.new.conn.now) }
+{
+    let count = update(tx, table, row)?;
+    if count == 0 {
+        insert(tx, table, row)?;
+    } else if count != 1 {
+        return Err(TableFault::Storage);
+    }
+    Ok(())
+}
+
+/// Takes the rows away that begin with these values.
+pub fn delete<S: Alter>(
+    tx: &mut Transaction<'_, S>,
+    table: Table,
+    key: &[ValueRef<'_>],
+) -> Result<(), TableFault>
+    requires { IsKeyOf table (bound key.now) }
+
+    ensures same_reference { tx.new.conn.ghost_name ≡ tx.old.conn.ghost_name }
+    ensures step { Does (HasStepped (Removes (table_at table) (bound key.now))) result (state S.Store tx.old.conn.now) (state S.Store tx.new.conn.now) }
+{
+    write(tx, table.shape().delete, key)?;
+    Ok(())
+}
+
+/// Each row of the table, after its rowid.
+pub fn read<S: Alter>(conn: &mut Connection<S>, table: Table) -> Result<Vec<Row>, TableFault>
+    ensures rows { HasCleanDisk (state S.Store conn.new) → IfOk result (λ rows. Shows (table_at table) rows.items (state S.Store conn.old) (state S.Store conn.new)) }
+    ensures rests { HasCleanDisk (state S.Store conn.new) → Rests (state S.Store conn.old) (state S.Store conn.new) }
+    ensures mode { conn.old.in_transaction ≡ false → conn.new.in_transaction ≡ false }
+    ensures survives { Survives (state S.Store conn.old) (state S.Store conn.new) (λ _. ⊥) }
+{
+    read_text(conn, table.shape().select)
+}

@@ -1,5 +1,0 @@
-use Rattle.std.proofs.Common.{refl, arith}
-use Rattle.verdict.proofs.prices.are_above.Goals as goal
-
-pub returns : goal.returns
-returns c = (λ _ n h. c.loop-price.invariant n (omega arith), λ _. refl)

@@ -1,0 +1,101 @@
+use Rattle.std.proofs.Common.{◌≡◌, ◌<◌, ◌≤◌, ℕ, ◌+◌, ◌-◌, ◌^◌, List, [], Option, Some, None, IfSome, IfNone, Err, refl, sym, subst, arith, vec_len, ap, length}
+use Rattle.wire.specs.declared.outcome.End.{End}
+use Rattle.wire.specs.declared.outcome.End.TheVariants.{Hundred}
+use Rattle.wire.specs.declared.outcome.StreamFault.{StreamFault}
+use Rattle.wire.specs.declared.outcome.StreamFault.TheVariants.{Memory, Read, Write}
+use Rattle.wire.specs.declared.outcome.Served.{Served}
+use Rattle.wire.specs.Run.{Said, write_failed}
+use Rattle.wire.specs.Served.{SoFar, ServedTo}
+use Rattle.wire.proofs.Runs.{nothing_yet, hundred_here}
+use Rattle.wire.proofs.Turns.{finished, unfinished}
+use Rattle.wire.proofs.service.serve_hundred.Goals as goal
+
+-- at first nothing was read, asked or written
+starts : {S : Type 0} (step : S → Said → List ℕ → S → Type 0) (before : S) (left w : Option (List ℕ)) (rest : List ℕ) → rest ≡ []
+    → SoFar step before left w left w rest 0 before
+starts step before left w rest e = subst (λ (t : List ℕ). SoFar step before left w left w t 0 before) (sym e) (nothing_yet step before left w)
+
+-- an empty buffer is within its limit
+short : (xs : List ℕ) (n : ℕ) → length xs ≡ n → xs ≡ [] → n ≤ 73728
+short xs n l e = let z = ap length e in omega arith
+
+pub loop-answered-init : goal.loop-answered-init
+loop-answered-init g c = record {
+  so_far = starts g.H.Handler.step c.args.desk.now (g.R.Source.left c.args.reader.now) (g.W.Sink.written c.args.writer.now) c.args.buffer.now.items c.requires.empty;
+  size = short c.args.buffer.now.items (vec_len c.args.buffer.now) (omega (arith, c.args.buffer.now.ok.0)) c.requires.empty;
+  capacity = c.requires.capacity;
+  reads = refl;
+  writes = refl;
+}
+
+pub turn-requires-clause-write_failures : goal.turn-requires-clause-write_failures
+turn-requires-clause-write_failures g c = subst (λ (n : ℕ). n < 2 ^ 64 - 1) (sym c.loop-answered.invariant.writes) c.requires.write_failures
+
+-- a fault is counted the same whatever else the result could be
+counted : (A B : Type 0) (fault : StreamFault) (new old start : ℕ) → new ≡ old + write_failed {A = A} (Err fault) → old ≡ start → new ≡ start + write_failed {A = B} (Err fault)
+counted A B Memory new old start e h = cc
+counted A B Read new old start e h = cc
+counted A B Write new old start e h = cc
+
+pub returns-in-Err-clause-write_count : goal.returns-in-Err-clause-write_count
+returns-in-Err-clause-write_count g c = counted (Option End) Served c.in-Err.fault _ _ _ c.in-Err.ensures.write_count c.loop-answered.invariant.writes
+
+pub returns-in-Err-clause-broken : goal.returns-in-Err-clause-broken
+returns-in-Err-clause-broken g c =
+    c.in-Err.ensures.breaks c.args.desk.now (g.R.Source.left c.args.reader.now) (g.W.Sink.written c.args.writer.now) c.loop-answered.answered
+    c.loop-answered.invariant.so_far c.loop-answered-test.true
+
+-- what is said of an end that was found
+at_end : (P : End → Type 0) (found : Option End) (end : End) → found ≡ Some end → IfSome found P → P end
+at_end P found end e h = subst (λ (o : Option End). IfSome o P) e h
+
+pub returns-in-Some-clause-served : goal.returns-in-Some-clause-served
+returns-in-Some-clause-served g c =
+    finished g.H.Handler.step g.H.Handler.refusal c.args.desk.now c.turn.new.desk c.loop-answered.desk (g.R.Source.left c.args.reader.now) (g.W.Sink.written c.args.writer.now)
+    (g.R.Source.left c.loop-answered.reader) (g.R.Source.left c.turn.new.reader) (g.W.Sink.written c.loop-answered.writer) (g.W.Sink.written c.turn.new.writer)
+    (g.W.Sink.written c.finish.new.writer)
+    c.loop-answered.buffer.items c.turn.new.buffer.items c.loop-answered.answered c.in-Some.end c.finish.result
+    c.loop-answered.invariant.so_far c.loop-answered-test.true
+    (at_end _ c.in-Ok.found c.in-Some.end c.in-Some.is c.in-Ok.ensures.ends) c.finish.ensures.ok c.finish.ensures.wrote
+
+pub returns-in-Some-clause-broken : goal.returns-in-Some-clause-broken
+returns-in-Some-clause-broken g c =
+    unfinished g.H.Handler.step g.H.Handler.refusal c.args.desk.now c.turn.new.desk c.loop-answered.desk (g.R.Source.left c.args.reader.now) (g.W.Sink.written c.args.writer.now)
+    (g.R.Source.left c.loop-answered.reader) (g.R.Source.left c.turn.new.reader) (g.W.Sink.written c.loop-answered.writer) (g.W.Sink.written c.turn.new.writer)
+    (g.W.Sink.written c.finish.new.writer)
+    c.loop-answered.buffer.items c.turn.new.buffer.items c.loop-answered.answered c.in-Some.end c.finish.result
+    c.loop-answered.invariant.so_far c.loop-answered-test.true
+    (at_end _ c.in-Ok.found c.in-Some.end c.in-Some.is c.in-Ok.ensures.ends) c.finish.ensures.fault c.finish.ensures.err
+
+-- a hundred messages were answered
+hundred : {S : Type 0} (step : S → Said → List ℕ → S → Type 0) (refusal : End → List ℕ) (before now : S) (left0 w0 left w : Option (List ℕ)) (rest : List ℕ) (count : ℕ)
+    → SoFar step before left0 w0 left w rest count now → count ≡ 100 → ServedTo step refusal before left0 w0 left w (record { answered = 100; end = Hundred }) now
+hundred step refusal before now left0 w0 left w rest count so e =
+    hundred_here step refusal before now left0 w0 left w rest (subst (λ (k : ℕ). SoFar step before left0 w0 left w rest k now) e so)
+
+pub returns-clause-served : goal.returns-clause-served
+returns-clause-served g c =
+    hundred g.H.Handler.step g.H.Handler.refusal c.args.desk.now c.loop-answered.desk (g.R.Source.left c.args.reader.now) (g.W.Sink.written c.args.writer.now)
+    (g.R.Source.left c.loop-answered.reader) (g.W.Sink.written c.loop-answered.writer) c.loop-answered.buffer.items c.loop-answered.answered
+    c.loop-answered.invariant.so_far (omega (arith, c.loop-answered-test.false))
+
+pub finish-requires-clause-few : goal.finish-requires-clause-few
+finish-requires-clause-few g c = c.loop-answered-test.true
+
+-- what is said where no end was found
+at_none : (P : Type 0) (found : Option End) → found ≡ None → IfNone found P → P
+at_none P found e h = subst (λ (o : Option End). IfNone o P) e h
+
+-- a count that grew by nothing stays
+stays : (new old start : ℕ) → new ≡ old + 0 → old ≡ start → new ≡ start
+stays new old start e h = omega arith
+
+pub loop-answered-preserved : goal.loop-answered-preserved
+loop-answered-preserved g c = record {
+  so_far = at_none _ c.in-Ok.found c.in_default.is c.in-Ok.ensures.answers c.args.desk.now (g.R.Source.left c.args.reader.now) (g.W.Sink.written c.args.writer.now)
+      c.loop-answered.answered c.loop-answered.invariant.so_far;
+  size = c.in-Ok.ensures.size;
+  capacity = c.in-Ok.ensures.capacity;
+  reads = stays _ _ _ c.in-Ok.ensures.read_count c.loop-answered.invariant.reads;
+  writes = stays _ _ _ c.in-Ok.ensures.write_count c.loop-answered.invariant.writes;
+}

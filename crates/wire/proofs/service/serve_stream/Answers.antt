@@ -1,8 +1,0 @@
-use Rattle.wire.proofs.Turns.{nothing_broken}
-use Rattle.wire.proofs.service.serve_stream.Goals as goal
-
-pub returns-in_default-clause-broken : goal.returns-in_default-clause-broken
-returns-in_default-clause-broken g c = nothing_broken g.H.Handler.step c.args.desk.now (g.R.Source.left c.args.reader.now) (g.W.Sink.written c.args.writer.now)
-
-pub returns-in_default-from_elem-clause-broken : goal.returns-in_default-from_elem-clause-broken
-returns-in_default-from_elem-clause-broken g c = nothing_broken g.H.Handler.step c.args.desk.now (g.R.Source.left c.args.reader.now) (g.W.Sink.written c.args.writer.now)
