@@ -11,3 +11,4 @@ pub mod RollLists
 pub mod Making
 pub mod ByCodes
 pub mod Texts
+pub mod Taken

@@ -1,5 +1,5 @@
 -- Matchings by codes: sets of pairs of codes over the finite maps of an instance.
-use Rattle.std.specs.Prelude.{◌≡◌, ℕ, ◌+◌, ◌≤◌, ◌==◌, not, List, [], length, count_by, All, Contains, pos, find, map}
+use Rattle.std.specs.Prelude.{◌≡◌, ℕ, ◌+◌, ◌-◌, ◌≤◌, ◌==◌, not, List, [], ◌∷◌, length, count_by, All, Contains, pos, find, map, Option, Some, None}
 use Rattle.std.specs.List.{prefix_len}
 use Rattle.std.specs.Option.{option_map_or}
 use Rattle.std.specs.Str.{bytes_eq}
@@ -7,8 +7,9 @@ use Rattle.spa.specs.declared.TheConstants.{RANKS}
 use Rattle.spa.specs.Order.{Precedes}
 use Rattle.spa.specs.Instance.{Instance, Supervisor, Project, Student}
 use Rattle.spa.specs.Codes.{code_at}
-use Rattle.spa.specs.Named.{Named, instance_of}
+use Rattle.spa.specs.Named.{Named, IsFit, instance_of}
 use Rattle.spa.specs.Matching.{Pair, IsMatching, IsGreedyMaximum, profile}
+use Rattle.spa.specs.Matched.{pairs, HasPlaces}
 
 -- a student's and a project's code
 pub record CodePair : Type 0 where
@@ -57,6 +58,13 @@ pub record IsGreedyMaximumByCodes (l : Instance) (M : List CodePair) : Type 0 wh
 abbrev pub codes_of : Named → Pair → CodePair
 codes_of i e = record { student = code_at i.student_codes e.student; project = code_at i.project_codes e.project }
 
+-- the pairs that places in the lists of students stand for, by codes
+abbrev pub taken : List Student → List (Option ℕ) → List CodePair
+taken [] ks = []
+taken (s ∷ ss) [] = []
+taken (s ∷ ss) (None ∷ ks) = taken ss ks
+taken (s ∷ ss) (Some k ∷ ks) = record { student = s.code; project = code_at s.list (k - 1) } ∷ taken ss ks
+
 -- what is said of matchings by positions and by codes is the same
 pub record SaysTheSame (i : Named) : Type 0 where
   pub to_codes : (M : List Pair) → IsMatching i.shape M → IsMatchingByCodes (instance_of i) (map (codes_of i) M)
@@ -64,3 +72,8 @@ pub record SaysTheSame (i : Named) : Type 0 where
   pub profiles : (M : List Pair) → IsMatching i.shape M → (k : ℕ) → profile_by_codes (instance_of i) (map (codes_of i) M) k ≡ profile i.shape M k
   pub greedy_to_codes : (M : List Pair) → IsGreedyMaximum i.shape M → IsGreedyMaximumByCodes (instance_of i) (map (codes_of i) M)
   pub greedy_from_codes : (N : List CodePair) → IsGreedyMaximumByCodes (instance_of i) N → (M : List Pair) × IsGreedyMaximum i.shape M × (map (codes_of i) M ≡ N)
+  pub same_pairs : (ks : List (Option ℕ)) → HasPlaces i.shape ks → map (codes_of i) (pairs i.shape ks) ≡ taken (instance_of i).students ks
+
+-- so it is of each instance
+abbrev pub CodesSayTheSame : Type 0
+CodesSayTheSame = (i : Named) → IsFit i → SaysTheSame i

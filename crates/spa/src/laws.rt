@@ -7,7 +7,7 @@ ghost use Rattle.spa.specs.Shape.{IsPlaceOf, list_of, choice_at};
 ghost use Rattle.spa.specs.Matching.{Pair, IsBest, IsGreedyMaximum, rank_in};
 ghost use Rattle.spa.specs.Prices.{ProveBest};
 ghost use Rattle.spa.specs.Matched.{QuotasSuffice};
-ghost use Rattle.spa.specs.Coded.{SaysTheSame};
+ghost use Rattle.spa.specs.Coded.{CodesSayTheSame};
 
 use crate::instance::Instance;
 
@@ -43,8 +43,6 @@ pub fn price_law(instance: &Instance)
 }
 
 /// Matchings, profiles and greedy maximum say the same by codes as by positions.
-pub fn code_law(instance: &Instance)
-    ensures { SaysTheSame instance.now }
-{
-    instance.fit();
-}
+pub fn code_law()
+    ensures { CodesSayTheSame }
+{}

@@ -151,6 +151,7 @@ fn ranked(instance: &Instance, places: &[Option<u8>]) -> [u32; RANKS]
     requires places { HasPlaces instance.now.shape places.now }
     ensures profile { (k : ℕ) → k < RANKS → slice_index result k ≡ profile instance.now.shape (pairs instance.now.shape places.now) k }
     ensures few { (k : ℕ) → k < RANKS → slice_index result k ≤ length places.now }
+    ensures whole { length result ≡ RANKS }
 {
     let mut counts = [0; RANKS];
     for student in 0..places.len() {
@@ -178,6 +179,7 @@ pub fn profile(instance: &Instance, matching: &Matching) -> [u32; RANKS]
     requires { HasPlaces instance.now.shape matching.now.places.items }
     ensures profile { (k : ℕ) → k < RANKS → slice_index result k ≡ profile instance.now.shape (pairs instance.now.shape matching.now.places.items) k }
     ensures few { (k : ℕ) → k < RANKS → slice_index result k ≤ 500 }
+    ensures whole { length result ≡ RANKS }
 {
     instance.fit();
     ranked(instance, &matching.places)
