@@ -2,11 +2,13 @@ pub mod Roll
 pub mod Place
 pub mod Shared
 pub mod State
+pub mod Instances
 pub mod Fit
 pub mod Reads
 pub mod Told
 pub mod Refusing
 pub mod Stepping
+pub mod Closing
 pub mod Rows
 pub mod From
 pub mod Answers

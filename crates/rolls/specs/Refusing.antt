@@ -1,13 +1,14 @@
 -- Which refusal a request gets, if any: in each line the first that applies.
-use Rattle.std.specs.Prelude.{ℕ, Bool, false, not, ◌&&◌, nat_lt, nat_le, List, [], ◌∷◌, length, Option, Some, None, if◌then◌else◌}
+use Rattle.std.specs.Prelude.{ℕ, Bool, false, not, ◌&&◌, ◌==◌, nat_lt, nat_le, List, [], ◌∷◌, ◌++◌, length, Option, Some, None, if◌then◌else◌}
+use Rattle.std.specs.List.{list_any}
 use Rattle.std.specs.Option.{option_map_or}
 use Rattle.std.specs.Str.{bytes_eq}
 use Rattle.spa.specs.Text.{is_code, is_label}
 use Rattle.rolls.specs.declared.refusal.Refusal.{Refusal}
 use Rattle.rolls.specs.declared.refusal.Refusal.TheVariants as no
-use Rattle.rolls.specs.State.{State, project_of, has_supervisor, has_project, has_student, placed_in_project, placed_with_supervisor}
+use Rattle.rolls.specs.State.{State, project_of, has_supervisor, has_project, has_student, has_round, has_list, is_placed, last_round, round_is_open, placed_in_project, placed_with_supervisor}
 use Rattle.rolls.specs.declared.request.Plain.{Plain}
-use Rattle.rolls.specs.declared.request.Plain.TheVariants.{PutSupervisor, PutProject, PutStudent, GetSupervisor, GetProject, GetStudent}
+use Rattle.rolls.specs.declared.request.Plain.TheVariants.{PutSupervisor, PutProject, PutStudent, OpenRound, PutList, DropList, ReopenRound, GetSupervisor, GetProject, GetStudent, GetRound}
 use Rattle.rolls.specs.declared.request.Request.{Request}
 use Rattle.rolls.specs.declared.request.Request.TheVariants as request
 
@@ -51,15 +52,66 @@ student_tests o code label =
     ∷ (not (has_student o code) && nat_le 500 (length o.students), no.RollFull)
     ∷ []
 
+-- what an opening of a round is judged by
+abbrev pub opening_tests : State → List (Bool × Refusal)
+opening_tests o =
+    (round_is_open o, no.RoundIsOpen)
+    ∷ (nat_le 12 (last_round o), no.RoundsFull)
+    ∷ []
+
+-- what the choices of a list are judged by, each in turn, after those that stand before them
+abbrev pub choice_tests : State → List (List ℕ) → List (List ℕ) → List (Bool × Refusal)
+choice_tests o before [] = []
+choice_tests o before (c ∷ choices) =
+    (not (has_project o c), no.UnknownProject)
+    ∷ (list_any (bytes_eq c) before, no.RepeatedProject)
+    ∷ choice_tests o (before ++ c ∷ []) choices
+
+-- what a put of a list is judged by
+abbrev pub list_tests : State → List ℕ → List (List ℕ) → List (Bool × Refusal)
+list_tests o student choices =
+    (not (round_is_open o), no.NoRoundOpen)
+    ∷ (not (has_student o student), no.UnknownStudent)
+    ∷ (is_placed o student, no.AlreadyPlaced)
+    ∷ (not (nat_le 1 (length choices) && nat_le (length choices) 8), no.ListLength)
+    ∷ choice_tests o [] choices
+
+-- what a drop of a list is judged by
+abbrev pub drop_tests : State → List ℕ → List (Bool × Refusal)
+drop_tests o student =
+    (not (round_is_open o), no.NoRoundOpen)
+    ∷ (not (has_student o student), no.UnknownStudent)
+    ∷ (not (has_list o (last_round o) student), no.NoList)
+    ∷ []
+
+-- what a reopening is judged by
+abbrev pub reopening_tests : State → List (Bool × Refusal)
+reopening_tests o =
+    (round_is_open o, no.RoundIsOpen)
+    ∷ (last_round o == 0, no.NoRoundClosed)
+    ∷ []
+
+-- what a request for the open round is judged by
+abbrev pub open_tests : State → List (Bool × Refusal)
+open_tests o = (not (round_is_open o), no.NoRoundOpen) ∷ []
+
 -- the first refusal of a plain request
 abbrev pub plain_refusal : State → Plain → Option Refusal
 plain_refusal o (PutSupervisor code label quota) = first (supervisor_tests o code label quota)
 plain_refusal o (PutProject code label supervisor quota) = first (project_tests o code label supervisor quota)
 plain_refusal o (PutStudent code label) = first (student_tests o code label)
+plain_refusal o OpenRound = first (opening_tests o)
+plain_refusal o (PutList student choices) = first (list_tests o student choices)
+plain_refusal o (DropList student) = first (drop_tests o student)
+plain_refusal o ReopenRound = first (reopening_tests o)
 plain_refusal o (GetSupervisor code) = first ((not (has_supervisor o code), no.UnknownSupervisor) ∷ [])
 plain_refusal o (GetProject code) = first ((not (has_project o code), no.UnknownProject) ∷ [])
 plain_refusal o (GetStudent code) = first ((not (has_student o code), no.UnknownStudent) ∷ [])
+plain_refusal o (GetRound round) = first ((not (has_round o round), no.UnknownRound) ∷ [])
 
 -- the first refusal of a request
 abbrev pub refusal : State → Request → Option Refusal
 refusal o (request.Plain p) = plain_refusal o p
+refusal o request.Close = first (open_tests o)
+refusal o request.Preview = first (open_tests o)
+refusal o request.RoundText = first (open_tests o)

@@ -43,6 +43,11 @@ module _ {E : Type 0} (key : E → Key) where
   put e [] = e ∷ []
   put e (x ∷ xs) = by_order (key_cmp (key e) (key x)) (e ∷ x ∷ xs) (e ∷ xs) (x ∷ put e xs)
 
+  -- entries put one after another
+  abbrev pub put_all : List E → List E → List E
+  put_all [] es = es
+  put_all (x ∷ xs) es = put_all xs (put x es)
+
   -- no entry with this key
   abbrev pub take_out : Key → List E → List E
   take_out k es = filter (λ e. not (same_key k (key e))) es

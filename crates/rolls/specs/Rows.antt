@@ -1,30 +1,47 @@
 -- The rows of the tables: which row an office has at a key, and what changes make of that.
-use Rattle.std.specs.Prelude.{◌≡◌, Bool, false, List, [], ◌∷◌, Option, Some, None, if◌then◌else◌}
+use Rattle.std.specs.Prelude.{◌≡◌, ℕ, ◌-◌, ◌&&◌, nat_le, Bool, true, false, List, [], ◌∷◌, slice_get, Option, Some, None, if◌then◌else◌}
 use Rattle.std.specs.Option.{option_map}
 use Rattle.std.specs.Str.{bytes_eq}
 use Rattle.rolls.specs.declared.entries.Supervisor.{Supervisor}
 use Rattle.rolls.specs.declared.entries.Project.{Project}
 use Rattle.rolls.specs.declared.entries.Student.{Student}
+use Rattle.rolls.specs.declared.rounds.Round.{Round}
+use Rattle.rolls.specs.declared.rounds.Placement.{Placement}
 use Rattle.rolls.specs.declared.row.Row.{Row}
 use Rattle.rolls.specs.declared.row.Row.TheVariants as row
 use Rattle.rolls.specs.declared.row.RowKey.{RowKey}
 use Rattle.rolls.specs.declared.row.RowKey.TheVariants as key
 use Rattle.rolls.specs.declared.row.Change.{Change}
 use Rattle.rolls.specs.declared.row.Change.TheVariants as change
-use Rattle.rolls.specs.State.{State, supervisor_of, project_of, student_of}
+use Rattle.rolls.specs.State.{State, supervisor_of, project_of, student_of, round_of, placement_of, choices_in}
 
 -- the key of a row
 abbrev pub key_of : Row → RowKey
 key_of (row.Supervisor code label quota) = key.Supervisor code
 key_of (row.Project code label supervisor quota) = key.Project code
 key_of (row.Student code label) = key.Student code
+key_of (row.Round number is_open) = key.Round number
+key_of (row.Choice round student place project) = key.Choice round student place
+key_of (row.Placement student round project rank) = key.Placement student
+
+-- the parts of a key: the number of its table first; a number is written as a list of one
+abbrev pub parts_of : RowKey → List (List ℕ)
+parts_of (key.Supervisor code) = (0 ∷ []) ∷ code ∷ []
+parts_of (key.Project code) = (1 ∷ []) ∷ code ∷ []
+parts_of (key.Student code) = (2 ∷ []) ∷ code ∷ []
+parts_of (key.Round number) = (3 ∷ []) ∷ (number ∷ []) ∷ []
+parts_of (key.Choice round student place) = (4 ∷ []) ∷ (round ∷ []) ∷ student ∷ (place ∷ []) ∷ []
+parts_of (key.Placement student) = (5 ∷ []) ∷ student ∷ []
+
+-- whether two keys have the same parts
+abbrev pub same_parts : List (List ℕ) → List (List ℕ) → Bool
+same_parts [] [] = true
+same_parts (x ∷ xs) (y ∷ ys) = bytes_eq x y && same_parts xs ys
+same_parts _ _ = false
 
 -- whether two keys are of one table, and the same there
 abbrev pub same_row : RowKey → RowKey → Bool
-same_row (key.Supervisor a) (key.Supervisor b) = bytes_eq a b
-same_row (key.Project a) (key.Project b) = bytes_eq a b
-same_row (key.Student a) (key.Student b) = bytes_eq a b
-same_row _ _ = false
+same_row k l = same_parts (parts_of k) (parts_of l)
 
 -- a supervisor's row
 abbrev pub supervisor_row : Supervisor → Row
@@ -38,11 +55,26 @@ project_row p = row.Project p.code p.label p.supervisor p.quota
 abbrev pub student_row : Student → Row
 student_row s = row.Student s.code s.label
 
+-- a round's row
+abbrev pub round_row : Round → Row
+round_row r = row.Round r.number r.is_open
+
+-- a placement's row
+abbrev pub placement_row : Placement → Row
+placement_row p = row.Placement p.student p.round p.project p.rank
+
+-- the choice at a place of a list, counted from 1
+abbrev pub choice_in : List (List ℕ) → ℕ → Option (List ℕ)
+choice_in choices place = if nat_le 1 place then slice_get choices (place - 1) else None
+
 -- the row that an office has at a key
 abbrev pub row_of : State → RowKey → Option Row
 row_of o (key.Supervisor code) = option_map supervisor_row (supervisor_of o code)
 row_of o (key.Project code) = option_map project_row (project_of o code)
 row_of o (key.Student code) = option_map student_row (student_of o code)
+row_of o (key.Round number) = option_map round_row (round_of o number)
+row_of o (key.Choice round student place) = option_map (row.Choice round student place) (choice_in (choices_in o round student) place)
+row_of o (key.Placement student) = option_map placement_row (placement_of o student)
 
 -- what the tables have at each key after a change
 abbrev pub after_change : Change → (RowKey → Option Row) → RowKey → Option Row

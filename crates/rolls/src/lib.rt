@@ -13,6 +13,7 @@ mod entries;
 mod laws;
 mod refusal;
 mod request;
+mod rounds;
 mod row;
 mod table;
 mod text;
@@ -21,6 +22,10 @@ pub use entries::{Project, Student, Supervisor};
 pub use laws::{rows_law, table_law};
 pub use refusal::Refusal;
 pub use request::{Done, Plain, Reply, Request};
+pub use rounds::{Choices, Listed, Placement, Round};
 pub use row::{Change, Row, RowKey};
 pub use table::{Duplicate, Keyed, Table};
-pub use text::Text;
+pub use text::{Text, Texts};
+
+/// The most rounds of an office.
+pub const MOST_ROUNDS: u32 = 12;

@@ -43,6 +43,24 @@ pub enum Refusal {
     SupervisorFixed,
     /// 17: a new quota is below what is placed.
     BelowPlaced,
+    /// 18: a round is open.
+    RoundIsOpen,
+    /// 19: no round is open.
+    NoRoundOpen,
+    /// 20: there is no round to reopen.
+    NoRoundClosed,
+    /// 21: there are twelve rounds.
+    RoundsFull,
+    /// 22: the student is placed already.
+    AlreadyPlaced,
+    /// 23: a list has not 1 to 8 choices.
+    ListLength,
+    /// 24: a list names a project twice.
+    RepeatedProject,
+    /// 25: the student has no list in the open round.
+    NoList,
+    /// 26: no round has the number.
+    UnknownRound,
     /// 30: the tables stand for no office; on opening only.
     Damaged,
 }
@@ -75,6 +93,15 @@ impl Refusal {
             Refusal::UnknownStudent => Told(15, 404, "UnknownStudent"),
             Refusal::SupervisorFixed => Told(16, 409, "SupervisorFixed"),
             Refusal::BelowPlaced => Told(17, 409, "BelowPlaced"),
+            Refusal::RoundIsOpen => Told(18, 409, "RoundIsOpen"),
+            Refusal::NoRoundOpen => Told(19, 409, "NoRoundOpen"),
+            Refusal::NoRoundClosed => Told(20, 409, "NoRoundClosed"),
+            Refusal::RoundsFull => Told(21, 409, "RoundsFull"),
+            Refusal::AlreadyPlaced => Told(22, 409, "AlreadyPlaced"),
+            Refusal::ListLength => Told(23, 400, "ListLength"),
+            Refusal::RepeatedProject => Told(24, 400, "RepeatedProject"),
+            Refusal::NoList => Told(25, 404, "NoList"),
+            Refusal::UnknownRound => Told(26, 404, "UnknownRound"),
             Refusal::Damaged => Told(30, 503, "Damaged"),
         }
     }

@@ -3,9 +3,10 @@
 ghost use Rattle.std.specs.Prelude.{◌≡◌};
 ghost use Rattle.rolls.specs.Reads.{is_read};
 
+use crate::rounds::{Choices, Placement};
 use crate::row::Change;
-use crate::text::Text;
-use spa::{Code, Label};
+use crate::text::{Text, Texts};
+use spa::{Code, Label, RANKS};
 
 /// A request that needs nothing but the office. Texts and quotas come as they were sent, for the office
 /// to judge.
@@ -29,6 +30,19 @@ pub enum Plain {
         code: Text,
         label: Text,
     },
+    /// Opens the next round.
+    OpenRound,
+    /// Makes the student's list in the open round this one.
+    PutList {
+        student: Text,
+        choices: Texts,
+    },
+    /// Takes the student's list out of the open round.
+    DropList {
+        student: Text,
+    },
+    /// Opens the last round again: its placements go, its lists stay.
+    ReopenRound,
     /// Reads a supervisor's entry.
     GetSupervisor {
         code: Text,
@@ -41,6 +55,10 @@ pub enum Plain {
     GetStudent {
         code: Text,
     },
+    /// Reads a round.
+    GetRound {
+        round: u32,
+    },
 }
 
 impl Plain {
@@ -49,12 +67,17 @@ impl Plain {
         ensures read { result ≡ is_read self.now }
     {
         match self {
-            Plain::PutSupervisor { .. } | Plain::PutProject { .. } | Plain::PutStudent { .. } => {
-                false
-            }
-            Plain::GetSupervisor { .. } | Plain::GetProject { .. } | Plain::GetStudent { .. } => {
-                true
-            }
+            Plain::PutSupervisor { .. }
+            | Plain::PutProject { .. }
+            | Plain::PutStudent { .. }
+            | Plain::OpenRound
+            | Plain::PutList { .. }
+            | Plain::DropList { .. }
+            | Plain::ReopenRound => false,
+            Plain::GetSupervisor { .. }
+            | Plain::GetProject { .. }
+            | Plain::GetStudent { .. }
+            | Plain::GetRound { .. } => true,
         }
     }
 }
@@ -64,6 +87,12 @@ impl Plain {
 pub enum Request {
     /// One that needs nothing but the office.
     Plain(Plain),
+    /// Closes the open round with a greedy maximum matching of its instance.
+    Close,
+    /// What closing the open round now would answer.
+    Preview,
+    /// The instance of the open round, as a round text.
+    RoundText,
 }
 
 /// The answer to a request that was done.
@@ -84,10 +113,38 @@ pub enum Reply {
         quota: u32,
         supervisor: Code,
     },
-    /// A student: name. There are no lists or placements yet.
+    /// A student: name, the list in the open round, and where a round placed the student.
     Student {
         name: Label,
+        list: Option<Choices>,
+        placed: Option<Placement>,
     },
+    /// The round that is open now.
+    Opened {
+        round: u32,
+    },
+    /// A round: whether it is open, how many students it placed, how many of them at rank 1 and so on, and how many lists
+    /// it has.
+    Round {
+        number: u32,
+        is_open: bool,
+        placed: u32,
+        profile: [u32; RANKS],
+        students: u32,
+    },
+    /// A closed round: how many students it placed, and how many of them at rank 1 and so on.
+    Closed {
+        round: u32,
+        size: u32,
+        profile: [u32; RANKS],
+    },
+    /// The same, of a round that would be closed now.
+    Preview {
+        size: u32,
+        profile: [u32; RANKS],
+    },
+    /// A text.
+    Text(Text),
 }
 
 /// What a request made: its answer, and what it changes in the tables.

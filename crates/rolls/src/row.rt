@@ -23,6 +23,25 @@ pub enum Row {
         code: Text,
         label: Text,
     },
+    /// Of the table `round`.
+    Round {
+        number: u32,
+        is_open: bool,
+    },
+    /// Of the table `choice`. Places count from 1.
+    Choice {
+        round: u32,
+        student: Text,
+        place: u32,
+        project: Text,
+    },
+    /// Of the table `placement`.
+    Placement {
+        student: Text,
+        round: u32,
+        project: Text,
+        rank: u32,
+    },
 }
 
 /// The key of a row, and its table.
@@ -34,6 +53,12 @@ pub enum RowKey {
     Project(Text),
     /// A code in the table `student`.
     Student(Text),
+    /// A number in the table `round`.
+    Round(u32),
+    /// A round, a student's code and a place in the table `choice`.
+    Choice(u32, Text, u32),
+    /// A student's code in the table `placement`.
+    Placement(Text),
 }
 
 /// A change of the tables.

@@ -80,14 +80,16 @@ fn put_in<E: Keyed + Drop>(entries: &mut Vec<E>, entry: E) -> Result<(), AllocEr
     }
 }
 
-/// Takes out the entry with the key, if there is one.
-fn take_from<E: Keyed + Drop>(entries: &mut Vec<E>, round: u32, code: &str)
+/// Takes out the entry with the key, if there is one, and hands it over.
+fn take_from<E: Keyed + Drop>(entries: &mut Vec<E>, round: u32, code: &str) -> Option<E>
     requires { IsTrue (rises E.key entries.old.items) }
+    ensures found { result ≡ find E.key (round, code.now) entries.old.items }
     ensures taken { entries.new.items ≡ take_out E.key (round, code.now) entries.old.items }
     ensures sorted { IsTrue (rises E.key entries.new.items) }
 {
-    if let Ok(at) = search(entries, round, code) {
-        entries.remove(at);
+    match search(entries, round, code) {
+        Ok(at) => Some(entries.remove(at)),
+        Err(_) => None,
     }
 }
 
@@ -110,6 +112,19 @@ impl<E: Keyed> Table<E> {
             alloc,
             entries: None,
         }
+    }
+
+    /// The table of entries whose keys rise.
+    pub fn of(alloc: Global, entries: Vec<E>) -> Result<Self, AllocError>
+    where
+        E: Drop,
+        requires { IsTrue (rises E.key entries.items) }
+        ensures { IfOk result (λ table. table ≡ entries.items) }
+    {
+        Ok(Table {
+            alloc,
+            entries: Some(Rc::new(alloc, entries)?),
+        })
     }
 
     /// All of them, by their keys.
@@ -158,19 +173,31 @@ impl<E: Keyed> Table<E> {
         ensures ok { OnOk result (self.new ≡ take_out E.key (round, code.now) self.old) }
         ensures err { OnErr result (self.new ≡ self.old) }
     {
+        self.remove(round, code)?;
+        Ok(())
+    }
+
+    /// Takes out the entry with the key, if there is one, and hands it over. Entries that a copy shares are copied first.
+    pub fn remove(&mut self, round: u32, code: &str) -> Result<Option<E>, AllocError>
+    where
+        E: Duplicate + Drop,
+        ensures found { IfOk result (λ entry. entry ≡ find E.key (round, code.now) self.old) }
+        ensures ok { OnOk result (self.new ≡ take_out E.key (round, code.now) self.old) }
+        ensures err { OnErr result (self.new ≡ self.old) }
+        ensures sorted { IsTrue (rises E.key self.old) }
+    {
         if search(self.entries(), round, code).is_err() {
-            return Ok(());
+            return Ok(None);
         }
         if let Some(shared) = &mut self.entries {
             if let Some(own) = Rc::get_mut(shared) {
-                take_from(own, round, code);
-                return Ok(());
+                return Ok(take_from(own, round, code));
             }
         }
         let mut own = copied(self.alloc, self.entries())?;
-        take_from(&mut own, round, code);
+        let entry = take_from(&mut own, round, code);
         self.entries = Some(Rc::new(self.alloc, own)?);
-        Ok(())
+        Ok(entry)
     }
 
     /// The same table. Both share the entries, and it takes no memory.
