@@ -1,0 +1,134 @@
+-- Lists of entries: what is counted and found in them and in what is made of them, and how keys rise.
+use Rattle.std.proofs.Common.{◌≡◌, ◌⊎◌, ℕ, ◌≤◌, inl, inr, Bool, true, false, cond, List, [], ◌∷◌, length, map, count_by, find, Option, Some, is_some, option_map, refl, sym, ap, ◌∙◌, arith}
+use Rattle.std.specs.List.{AllByRecursion}
+use Rattle.std.specs.Str.{bytes_eq}
+use Rattle.std.specs.Cmp.{first_so, second_so}
+use Rattle.std.specs.Ordering.{is_lt, is_eq, ordering_reverse}
+use Rattle.std.specs.declared.cmp.Ordering.{Ordering}
+use Rattle.std.specs.declared.cmp.Ordering.TheVariants.{Less, Equal, Greater}
+use Rattle.std.proofs.lemmas.Bool.{cases_Bool}
+use Rattle.std.proofs.lemmas.List.Sums.{sum_by-cons}
+use Rattle.rolls.specs.Roll.{Key, key_cmp, same_key, has, find as entry, is_below, rises}
+use Rattle.rolls.proofs.Finding.{same_code}
+use Rattle.rolls.proofs.Places.{keys_total, find_below, below_all}
+
+-- ---- what holds of each
+
+pub all_made : {E D : Type 0} (made : E → D) (P : D → Type 0) (es : List E) → AllByRecursion (λ e. P (made e)) es → AllByRecursion P (map made es)
+all_made made P [] a = tt
+all_made made P (e ∷ es) a = (a.0, all_made made P es a.1)
+
+pub all_always : {E : Type 0} (P : E → Type 0) → ((e : E) → P e) → (es : List E) → AllByRecursion P es
+all_always P h [] = tt
+all_always P h (e ∷ es) = (h e, all_always P h es)
+
+pub all_two : {E : Type 0} (P Q R : E → Type 0) → ((e : E) → P e → Q e → R e) → (es : List E) → AllByRecursion P es → AllByRecursion Q es → AllByRecursion R es
+all_two P Q R f [] a b = tt
+all_two P Q R f (e ∷ es) a b = (f e a.0 b.0, all_two P Q R f es a.1 b.1)
+
+-- ---- what is found
+
+map_cond : {E D : Type 0} (f : E → D) (b : Bool) (e : E) (x : Option E) → cond b (Some (f e)) (option_map f x) ≡ option_map f (cond b (Some e) x)
+map_cond f true e x = refl
+map_cond f false e x = refl
+
+-- what is found by its code among what is made of entries
+pub find_made : {E D : Type 0} (key : E → Key) (made : E → D) (code : D → List ℕ) → ((e : E) → key e ≡ (0, code (made e))) → (c : List ℕ) (es : List E)
+    → find (λ d. bytes_eq c (code d)) (map made es) ≡ option_map made (entry key (0, c) es)
+find_made key made code coded c [] = refl
+find_made key made code coded c (e ∷ es) =
+    let t : same_key (0, c) (key e) ≡ bytes_eq c (code (made e)) = ap (same_key (0, c)) (coded e) ∙ same_code c (code (made e)) in
+    let r = find_made key made code coded c es in
+    rw (r, t) (map_cond made (bytes_eq c (code (made e))) e (entry key (0, c) es))
+
+-- ---- counts
+
+-- a count of what is made
+pub count_made : {E D : Type 0} (made : E → D) (t : D → Bool) (u : E → Bool) (es : List E) → ((e : E) → t (made e) ≡ u e) → count_by t (map made es) ≡ count_by u es
+count_made made t u [] same = refl
+count_made made t u (e ∷ es) same =
+    let r = count_made made t u es same in
+    let h = same e in
+    simp (sum_by-cons, h, r)
+
+-- what passes one test passes the other
+pub count_fewer : {E : Type 0} (t u : E → Bool) (es : List E) → AllByRecursion (λ e. t e ≡ true → u e ≡ true) es → count_by t es ≤ count_by u es
+count_fewer t u [] h = omega arith
+count_fewer t u (e ∷ es) h =
+    let r = count_fewer t u es h.1 in
+    let c = sum_by-cons (λ x. cond (t x) 1 0) e es in
+    let d = sum_by-cons (λ x. cond (u x) 1 0) e es in
+    elim (cases_Bool (t e)) [
+      | inl s ↦ let v = h.0 s in rw (c, d, s, v) (omega (arith, r))
+      | inr s ↦ rw (c, d, s) (omega (arith, r))
+    ]
+
+-- ---- keys that rise
+
+module _ {E D : Type 0} (key : E → Key) (keyed : D → Key) (made : E → D) (same : (e f : E) → key_cmp (keyed (made e)) (keyed (made f)) ≡ key_cmp (key e) (key f)) where
+  below_made : (e : E) (es : List E) → is_below keyed (keyed (made e)) (map made es) ≡ is_below key (key e) es
+  below_made e [] = refl
+  below_made e (f ∷ es) =
+      let s = same e f in
+      let r = below_made e es in
+      rw (s, r) refl
+
+  -- what is made of entries rises as they do
+  pub rises_made : (es : List E) → rises keyed (map made es) ≡ rises key es
+  rises_made [] = refl
+  rises_made (e ∷ es) =
+      let b = below_made e es in
+      let r = rises_made es in
+      rw (b, r) refl
+
+ordered : (r : Ordering) → (r ≡ Less) ⊎ ((r ≡ Equal) ⊎ (r ≡ Greater))
+ordered Less = inl refl
+ordered Equal = inr (inl refl)
+ordered Greater = inr (inr refl)
+
+is_less : (r : Ordering) → is_lt r ≡ true → r ≡ Less
+is_less Less h = refl
+is_less Equal h = absurd (cc)
+is_less Greater h = absurd (cc)
+
+module _ {A B : Type 0} (f : A → Key) (g : B → Key) where
+  -- the entries after one have greater keys
+  pub all_above : (q : Key) (es : List A) → is_below f q es ≡ true → AllByRecursion (λ e. key_cmp q (f e) ≡ Less) es
+  all_above q [] b = tt
+  all_above q (e ∷ es) b = (is_less _ (first_so (is_lt (key_cmp q (f e))) (is_below f q es) b), all_above q es (second_so (is_lt (key_cmp q (f e))) (is_below f q es) b))
+
+  -- what is above the first entry is found behind it
+  found_behind : (k : Key) (x : B) (fs : List B) → key_cmp (g x) k ≡ Less → has g k (x ∷ fs) ≡ true → has g k fs ≡ true
+  found_behind k x fs l h =
+      let r : key_cmp k (g x) ≡ Greater = keys_total.antisymm k (g x) ∙ ap ordering_reverse l in
+      sym (ap (λ o. is_some (cond (is_eq o) (Some x) (entry g k fs))) r) ∙ h
+
+  -- entries that are all found among others are no more than these
+  pub fewer : (es : List A) (fs : List B) → rises f es ≡ true → rises g fs ≡ true → AllByRecursion (λ e. has g (f e) fs ≡ true) es → length es ≤ length fs
+  fewer [] fs r s h = omega arith
+  fewer (e ∷ es) [] r s h = absurd (let k = h.0 in cc)
+  fewer (e ∷ es) (x ∷ fs) r s h =
+      let above = all_above (f e) es (first_so (is_below f (f e) es) (rises f es) r) in
+      let rest = second_so (is_below f (f e) es) (rises f es) r in
+      let below = first_so (is_below g (g x) fs) (rises g fs) s in
+      let behind = second_so (is_below g (g x) fs) (rises g fs) s in
+      elim (ordered (key_cmp (f e) (g x))) [
+        | inl less ↦
+            let none = find_below g (f e) fs (below_all g (f e) (g x) fs less below) in
+            let nowhere : has g (f e) (x ∷ fs) ≡ false = ap (λ o. is_some (cond (is_eq o) (Some x) (entry g (f e) fs))) less ∙ ap is_some none in
+            absurd (let k = sym nowhere ∙ h.0 in cc)
+        | inr other ↦ elim other [
+          | inl tied ↦
+              let n = fewer es fs rest behind (all_two (λ d. key_cmp (f e) (f d) ≡ Less) (λ d. has g (f d) (x ∷ fs) ≡ true) (λ d. has g (f d) fs ≡ true)
+              (λ d l t. found_behind (f d) x fs (sym (keys_total.congr (f e) (g x) (f d) tied) ∙ l) t) es above h.1) in
+              omega (arith, n)
+          | inr greater ↦
+              let first : key_cmp (g x) (f e) ≡ Less = keys_total.antisymm (g x) (f e) ∙ ap ordering_reverse greater in
+              let n = fewer (e ∷ es) fs r behind (
+                found_behind (f e) x fs first h.0,
+                all_two (λ d. key_cmp (f e) (f d) ≡ Less) (λ d. has g (f d) (x ∷ fs) ≡ true) (λ d. has g (f d) fs ≡ true)
+                    (λ d l t. found_behind (f d) x fs (keys_total.trans (g x) (f e) (f d) first l) t) es above h.1,
+              ) in
+              omega (arith, n)
+        ]
+      ]

@@ -1,0 +1,156 @@
+-- A matching of the open round, kept: the office stays fit. Putting placements counts no more of them than there were and are
+-- put, so what is left of the quotas bounds them; and what is found afterwards was found before, or is by the round that closes.
+use Rattle.std.proofs.Common.{◌≡◌, ℕ, zero, suc, ◌+◌, ◌-◌, ◌<◌, ◌≤◌, inl, inr, true, false, not, List, [], ◌∷◌, length, map, count_by, Option, Some, None, Contains, slice_get, get_or, refl, sym, ap, ◌∙◌, subst, arith}
+use Rattle.std.specs.Prelude.{nat_lt}
+use Rattle.std.specs.Option.{option_map_or}
+use Rattle.std.specs.List.{AllByRecursion, prefix_len}
+use Rattle.std.specs.Str.{bytes_eq}
+use Rattle.std.proofs.lemmas.Bool.{le-ltb, cases_Bool}
+use Rattle.std.proofs.lemmas.Slice.Eq.{bytes_eq-Decides}
+use Rattle.std.proofs.lemmas.List.Elements.{recursion_from_All}
+use Rattle.spa.specs.Coded.{CodePair, choices_of, offerer_of, rank_by_codes}
+use Rattle.rolls.specs.Roll.{put_all, rises}
+use Rattle.rolls.specs.declared.rounds.Round.{Round}
+use Rattle.rolls.specs.declared.rounds.Listed.{Listed}
+use Rattle.rolls.specs.declared.rounds.Placement.{Placement}
+use Rattle.rolls.specs.State.{State, list_key, placement_key, last_round, round_of, is_closed, lists_of, choices_in, is_offered_by, is_placed_before, quota_in, quota_with}
+use Rattle.rolls.specs.Instances.{round_instance}
+use Rattle.rolls.specs.Fit.{IsFit, ListFits, PlacementFits}
+use Rattle.rolls.specs.Closing.{MayClose, kept, after_close}
+use Rattle.rolls.proofs.Finding.{all_weaker}
+use Rattle.rolls.proofs.LastRound.{has_reading, closed_before, round_within, last_kept, numbered_kept, last_open_kept, other_kept, reading_kept, reading_changed, same_lists}
+use Rattle.closing.proofs.Entries.{all_made, all_always, count_made, count_fewer}
+use Rattle.closing.proofs.Putting.{rises_put_all, all_put_all, found_put_all, count_put_all}
+use Rattle.closing.proofs.Opened.{places_left, places_with_left, same_offerer, same_choices}
+
+-- a round that is closed
+abbrev pub closed_round : Round → Round
+closed_round r = record r { is_open = false }
+
+-- a project at its rank
+ranked : (xs : List (List ℕ)) (p : List ℕ) (k : ℕ) → k < length xs → get_or xs k p ≡ p → slice_get xs (prefix_len (λ q. not (bytes_eq q p)) xs) ≡ Some p
+ranked [] p k h e = absurd (omega (arith, h))
+ranked (x ∷ xs) p zero h e = let t : bytes_eq x p ≡ true = (bytes_eq-Decides x p).1 e in rw t (ap (λ (q : List ℕ). Some q) e)
+ranked (x ∷ xs) p (suc k) h e =
+    elim (cases_Bool (bytes_eq x p)) [
+      | inl t ↦ rw t (ap (λ (q : List ℕ). Some q) ((bytes_eq-Decides x p).0 t))
+      | inr t ↦
+          let n : 1 + prefix_len (λ q. not (bytes_eq q p)) xs ≡ suc (prefix_len (λ q. not (bytes_eq q p)) xs) = omega arith in
+          rw t (ap (slice_get (x ∷ xs)) n ∙ ranked xs p k (omega (arith, h)) e)
+    ]
+
+module _ (M : List CodePair) (o : State) (fit : IsFit o) where
+  -- the lists of each round stay
+  lists_same : (n : ℕ) → lists_of (after_close M o) n ≡ lists_of o n
+  lists_same n = reading_kept closed_round (λ r. refl) o fit.numbered (λ r. r.lists) [] (λ r. refl) n
+
+  -- and what each student lists
+  pub choices_same : (n : ℕ) (s : List ℕ) → choices_in (after_close M o) n s ≡ choices_in o n s
+  choices_same n s = same_lists o (after_close M o) n n (lists_same n) s
+
+  module _ (may : MayClose o M) where
+    -- the last round is there
+    pub open_round : (r : Round) × (round_of o (last_round o) ≡ Some r) × (r.is_open ≡ true)
+    open_round = has_reading (λ (r : Round). r.is_open) false true (round_of o (last_round o)) may.is_open (λ e. cc)
+
+    -- each closed round stays closed, and the last one is
+    still_closed : (n : ℕ) → is_closed o n ≡ true → is_closed (after_close M o) n ≡ true
+    still_closed n h =
+        let before = closed_before o fit.numbered n may.is_open h in
+        ap (λ (x : Option Round). option_map_or (λ r. not r.is_open) x false) (other_kept closed_round (λ r. refl) o fit.numbered n (λ e. omega (arith, e, before))) ∙ h
+
+    now_closed : is_closed (after_close M o) (last_round o) ≡ true
+    now_closed = reading_changed closed_round (λ r. refl) o fit.numbered (λ r. not r.is_open) false open_round.0 open_round.1
+
+    -- ---- the lists
+
+    -- who has a list in a round is placed by no round before it
+    not_placed : (n : ℕ) → n ≤ last_round o → (s : List ℕ) → is_placed_before o s n ≡ false → is_placed_before (after_close M o) s n ≡ false
+    not_placed n within s before =
+        found_put_all placement_key (λ (x : Option Placement). option_map_or (λ p. nat_lt p.round n) x false ≡ false) (0, s) (map (kept o) M) o.placements
+        (all_made (kept o) (λ (p : Placement). nat_lt p.round n ≡ false) M (all_always (λ (e : CodePair). nat_lt (last_round o) n ≡ false) (λ e. le-ltb (last_round o) n within) M)) before
+
+    lists_fit : (n : ℕ) → AllByRecursion (ListFits (after_close M o) n) (lists_of (after_close M o) n)
+    lists_fit n = subst (AllByRecursion (ListFits (after_close M o) n)) (sym (lists_same n)) (by_round (round_of o n) refl)
+      where
+        by_round : (x : Option Round) → round_of o n ≡ x → AllByRecursion (ListFits (after_close M o) n) (lists_of o n)
+        by_round None is = subst (λ (x : Option Round). AllByRecursion (ListFits (after_close M o) n) (option_map_or (λ r. r.lists) x [])) (sym is) tt
+        by_round (Some r) is =
+            all_weaker (ListFits o n) (ListFits (after_close M o) n) (λ (l : Listed) f. record {
+              student = f.student;
+              some = f.some;
+              few = f.few;
+              distinct = f.distinct;
+              projects = f.projects;
+              not_placed = not_placed n (round_within o fit.numbered n r is).within l.student f.not_placed;
+            }) (lists_of o n) (fit.lists_fit n)
+
+    -- ---- the placements
+
+    -- each pair's project stands in the student's list of the last round
+    pairs_listed : AllByRecursion (λ e. Contains (choices_in o (last_round o) e.student) e.project) M
+    pairs_listed = all_weaker (λ (e : CodePair). Contains (choices_of (round_instance o) e.student) e.project) (λ e. Contains (choices_in o (last_round o) e.student) e.project)
+        (λ e c. subst (λ (xs : List (List ℕ)). Contains xs e.project) (same_choices o e.student) c) M (recursion_from_All (λ (e : CodePair). Contains (choices_of (round_instance o) e.student) e.project) M may.matching.listed)
+
+    -- at the rank that is kept
+    at_rank : (e : CodePair) → Contains (choices_in o (last_round o) e.student) e.project → slice_get (choices_in o (last_round o) e.student) (rank_by_codes (round_instance o) e - 1) ≡ Some e.project
+    at_rank e c =
+        let xs : List (List ℕ) = choices_in o (last_round o) e.student in
+        let n : ℕ = prefix_len (λ q. not (bytes_eq q e.project)) xs in
+        let one_less : (1 + n) - 1 ≡ n = omega arith in
+        ap (λ (ys : List (List ℕ)). slice_get xs ((1 + prefix_len (λ q. not (bytes_eq q e.project)) ys) - 1)) (same_choices o e.student)
+        ∙ ap (slice_get xs) one_less ∙ ranked xs e.project c.0 c.1 c.2
+
+    placements_fit : AllByRecursion (PlacementFits (after_close M o)) (put_all placement_key (map (kept o) M) o.placements)
+    placements_fit =
+        all_put_all placement_key (PlacementFits (after_close M o)) (map (kept o) M) o.placements
+        (all_made (kept o) (PlacementFits (after_close M o)) M
+        (all_weaker (λ (e : CodePair). Contains (choices_in o (last_round o) e.student) e.project) (λ e. PlacementFits (after_close M o) (kept o e)) (λ e c. record {
+          closed = now_closed;
+          rank = omega arith;
+          listed = ap (λ (xs : List (List ℕ)). slice_get xs (rank_by_codes (round_instance o) e - 1)) (choices_same (last_round o) e.student) ∙ at_rank e c;
+        }) M pairs_listed))
+        (all_weaker (PlacementFits o) (PlacementFits (after_close M o)) (λ (p : Placement) f. record {
+          closed = still_closed p.round f.closed;
+          rank = f.rank;
+          listed = ap (λ (xs : List (List ℕ)). slice_get xs (p.rank - 1)) (choices_same p.round p.student) ∙ f.listed;
+        }) o.placements fit.placements_fit)
+
+    -- ---- the quotas
+
+    projects_within : (p : List ℕ) → count_by (λ q. bytes_eq p q.project) (put_all placement_key (map (kept o) M) o.placements) ≤ quota_in o p
+    projects_within p =
+        let both = count_put_all placement_key (λ (q : Placement). bytes_eq p q.project) (map (kept o) M) o.placements in
+        let new = count_made (kept o) (λ (q : Placement). bytes_eq p q.project) (λ e. bytes_eq p e.project) M (λ e. refl) in
+        omega (arith, both, new, fit.projects_within p, may.matching.project_within p, places_left o p)
+
+    supervisors_within : (s : List ℕ) → count_by (λ q. is_offered_by o s q.project) (put_all placement_key (map (kept o) M) o.placements) ≤ quota_with o s
+    supervisors_within s =
+        let both = count_put_all placement_key (λ (q : Placement). is_offered_by o s q.project) (map (kept o) M) o.placements in
+        let new = count_made (kept o) (λ (q : Placement). is_offered_by o s q.project) (λ e. is_offered_by o s e.project) M (λ e. refl) in
+        let fewer = count_fewer (λ (e : CodePair). is_offered_by o s e.project) (λ e. bytes_eq s (offerer_of (round_instance o) e.project)) M
+        (all_always (λ (e : CodePair). is_offered_by o s e.project ≡ true → bytes_eq s (offerer_of (round_instance o) e.project) ≡ true) (λ e h. same_offerer o s e.project h) M) in
+        omega (arith, both, new, fewer, fit.supervisors_within s, may.matching.supervisor_within s, places_with_left o s)
+
+    -- the office after closing is fit
+    pub close_keeps_fit : IsFit (after_close M o)
+    close_keeps_fit = record {
+      supervisors_rise = fit.supervisors_rise;
+      projects_rise = fit.projects_rise;
+      students_rise = fit.students_rise;
+      few_supervisors = fit.few_supervisors;
+      few_projects = fit.few_projects;
+      few_students = fit.few_students;
+      supervisors_fit = fit.supervisors_fit;
+      projects_fit = fit.projects_fit;
+      students_fit = fit.students_fit;
+      numbered = numbered_kept closed_round (λ r. refl) o fit.numbered;
+      few_rounds = omega (arith, last_kept closed_round (λ r. refl) o fit.numbered, fit.few_rounds);
+      last_open = last_open_kept closed_round (λ r. refl) o fit.numbered fit.last_open;
+      lists_rise = λ n. subst (λ (ls : List Listed). rises list_key ls ≡ true) (sym (lists_same n)) (fit.lists_rise n);
+      lists_fit = lists_fit;
+      placements_rise = rises_put_all placement_key (map (kept o) M) o.placements fit.placements_rise;
+      placements_fit = placements_fit;
+      projects_within = projects_within;
+      supervisors_within = supervisors_within;
+    }

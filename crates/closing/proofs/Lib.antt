@@ -1,0 +1,11 @@
+pub mod Entries
+pub mod Putting
+pub mod Listing
+pub mod Instanced
+pub mod Opened
+pub mod Matched
+pub mod Placing
+pub mod Kept
+pub mod Turned
+pub mod Answered
+pub mod Closed

@@ -1,0 +1,6 @@
+use Rattle.std.proofs.Common.{◌≡◌, ◌++◌, drop}
+use Rattle.closing.specs.Places.{placed_by}
+use Rattle.closing.proofs.keeping.placements_of.Given as goal
+
+abbrev pub invariant-loop-student : goal.invariant-loop-student
+invariant-loop-student l = l.placed.items ++ placed_by l.round (drop l.student l.lists) (drop l.student l.places) ≡ placed_by l.round l.lists l.places

@@ -1,0 +1,11 @@
+use Rattle.std.proofs.Common.{arith}
+use Rattle.closing.proofs.Opened.{few_placed, few_lists}
+use Rattle.closing.proofs.laws.few_law.Goals as goal
+
+pub returns : goal.returns
+returns c o fit = record {
+  placements = few_placed o fit;
+  few_placements = omega (arith, few_placed o fit, fit.few_students);
+  lists = few_lists o fit;
+  few_lists = λ n. omega (arith, few_lists o fit n, fit.few_students);
+}

@@ -1,0 +1,30 @@
+-- What a round that closes makes of the placements: the office after, the answer, and the changes of the tables.
+use Rattle.std.specs.Prelude.{ℕ, ◌+◌, ◌==◌, ◌&&◌, false, List, ◌∷◌, map, length, count_by}
+use Rattle.spa.specs.Coded.{CodePair}
+use Rattle.rolls.specs.declared.rounds.Placement.{Placement}
+use Rattle.rolls.specs.declared.row.Row.TheVariants as row
+use Rattle.rolls.specs.declared.row.Change.{Change}
+use Rattle.rolls.specs.declared.row.Change.TheVariants as change
+use Rattle.rolls.specs.declared.request.Reply.{Reply}
+use Rattle.rolls.specs.declared.request.Reply.TheVariants as reply
+use Rattle.rolls.specs.Roll.{put_all}
+use Rattle.rolls.specs.State.{State, placement_key, last_round}
+use Rattle.rolls.specs.Stepping.{with_last, by_rank}
+use Rattle.rolls.specs.Rows.{placement_row}
+use Rattle.rolls.specs.Closing.{kept}
+
+-- the office after the last round closes with these placements
+abbrev pub after_placing : List Placement → State → State
+after_placing ps o = record (with_last (λ r. record r { is_open = false }) o) { placements = put_all placement_key ps o.placements }
+
+-- the answer where a round closes with these placements: how many, and how many at each rank
+abbrev pub placed_reply : ℕ → List Placement → Reply
+placed_reply round ps = reply.Closed round (length ps) (by_rank (λ k. count_by (λ p. (p.round == round) && (p.rank == k + 1)) ps))
+
+-- the changes where a round closes with these placements: its row, and a row for each placement
+abbrev pub closing_changes : ℕ → List Placement → List Change
+closing_changes round ps = change.Put (row.Round round false) ∷ map (λ p. change.Put (placement_row p)) ps
+
+-- the changes where the last round closes with the matching M
+abbrev pub close_changes : List CodePair → State → List Change
+close_changes M o = closing_changes (last_round o) (map (kept o) M)

@@ -1,0 +1,48 @@
+-- The parts of an office that the instance of its last round is made of, and the rolls that they give.
+use Rattle.std.specs.Prelude.{◌≡◌, ℕ, ◌-◌, false, Bool, List, count_by}
+use Rattle.std.specs.Option.{option_map_or}
+use Rattle.std.specs.Str.{bytes_eq}
+use Rattle.rolls.specs.declared.entries.Supervisor.{Supervisor}
+use Rattle.rolls.specs.declared.entries.Project.{Project}
+use Rattle.rolls.specs.declared.rounds.Listed.{Listed}
+use Rattle.rolls.specs.declared.rounds.Placement.{Placement}
+use Rattle.rolls.specs.Roll.{find}
+use Rattle.rolls.specs.State.{State, project_key, last_round, lists_of}
+use Rattle.rolls.specs.Fit.{IsFit}
+
+-- whether a supervisor offers one of these projects
+abbrev pub offers : List Project → List ℕ → List ℕ → Bool
+offers projects supervisor project = option_map_or (λ p. bytes_eq supervisor p.supervisor) (find project_key (0, project) projects) false
+
+-- how many of these placements are in a project
+abbrev pub count_in : List Placement → List ℕ → ℕ
+count_in placements project = count_by (λ p. bytes_eq project p.project) placements
+
+-- how many of them are with a supervisor of these projects
+abbrev pub count_with : List Project → List Placement → List ℕ → ℕ
+count_with projects placements supervisor = count_by (λ p. offers projects supervisor p.project) placements
+
+-- a supervisor with the quota less what is placed
+abbrev pub supervisor_left : List Project → List Placement → Supervisor → List ℕ × ℕ
+supervisor_left projects placements s = (s.code, s.quota - count_with projects placements s.code)
+
+-- a project with the quota less what is placed
+abbrev pub project_left : List Placement → Project → List ℕ × List ℕ × ℕ
+project_left placements p = (p.code, p.supervisor, p.quota - count_in placements p.code)
+
+-- a student with the choices of the list
+abbrev pub student_listed : Listed → List ℕ × List (List ℕ)
+student_listed l = (l.student, l.choices)
+
+-- these are the parts of the office, with the lists of its last round
+pub record AreParts (o : State) (supervisors : List Supervisor) (projects : List Project) (placements : List Placement) (lists : List Listed) : Type 0 where
+  pub all_supervisors : supervisors ≡ o.supervisors
+  pub all_projects : projects ≡ o.projects
+  pub all_placements : placements ≡ o.placements
+  pub all_lists : lists ≡ lists_of o (last_round o)
+
+-- the parts of a fit office
+pub record ArePartsOfFit (supervisors : List Supervisor) (projects : List Project) (placements : List Placement) (lists : List Listed) : Type 0 where
+  pub office : State
+  pub fit : IsFit office
+  pub parts : AreParts office supervisors projects placements lists

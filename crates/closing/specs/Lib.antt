@@ -1,0 +1,4 @@
+pub mod Handed
+pub mod Places
+pub mod Changes
+pub mod Laws

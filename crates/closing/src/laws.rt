@@ -1,0 +1,28 @@
+//! Laws of rounds that close: functions with nothing to do, whose contracts are the laws.
+#![tactic(auto)]
+
+ghost use Rattle.closing.specs.Laws.{ClosingKeepsFit, ClosingTurns, KeptIsCounted, PlacesAreTaken, PlacesAreInLists, PlacedIsKept, PlacesClose, AreFew};
+
+/// An office whose open round closes with a matching stays fit, the changes of closing turn its rows, and its placements are
+/// counted in the matching.
+pub fn closing_law()
+    ensures fit { ClosingKeepsFit }
+    ensures turned { ClosingTurns }
+    ensures counted { KeptIsCounted }
+{}
+
+/// Places of a matching of the open round's instance stand for a matching by codes and for the placements that keep it, and
+/// what is made of these is what closing makes.
+pub fn places_law()
+    ensures taken { PlacesAreTaken }
+    ensures within { PlacesAreInLists }
+    ensures kept { PlacedIsKept }
+    ensures close { PlacesClose }
+{
+    spa::code_law();
+}
+
+/// A fit office has no more placements than students, and no more lists in a round.
+pub fn few_law()
+    ensures { AreFew }
+{}

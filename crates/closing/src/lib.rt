@@ -1,0 +1,18 @@
+//! What closing a round makes: the instance of the open round, the placements of a matching of it, and the changes of the
+//! tables.
+//!
+//! Promised: the parts of a fit office give the instance of its last round, and want of memory alone keeps it from being
+//! made; places of a matching give the placements that the office keeps, and these the changes of the tables. The functions
+//! of `laws` carry what `office` rests on: an office whose round closes with a matching stays fit, and its changes turn its
+//! rows. Begin with `specs/Laws.antt`.
+#![tactic(auto)]
+
+mod answering;
+mod keeping;
+mod laws;
+mod making;
+
+pub use answering::preview_reply;
+pub use keeping::{close_changes, placements_after, placements_of};
+pub use laws::{closing_law, few_law, places_law};
+pub use making::{is_offered_by, placed_in_project, placed_with_supervisor, round_instance};

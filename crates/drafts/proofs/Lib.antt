@@ -1,0 +1,10 @@
+pub mod Staged
+pub mod Turned
+pub mod Taken
+pub mod Takes
+pub mod Gathered
+pub mod Joined
+pub mod Chosen
+pub mod GoesOn
+pub mod AllOn
+pub mod Faults

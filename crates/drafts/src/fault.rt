@@ -1,0 +1,38 @@
+//! Why rows are not those of an office.
+
+use spa::TextFault;
+use std::alloc::AllocError;
+
+/// Why rows are not those of an office.
+#[derive(Debug, Drop, Clone, Copy, PartialEq, Eq)]
+pub enum RowsFault {
+    /// A growth of memory was refused.
+    Memory,
+    /// No office has these rows.
+    Unfit,
+}
+
+impl From<AllocError> for RowsFault {
+    ghost use Rattle.std.specs.Prelude.{◌≡◌};
+    ghost use Rattle.drafts.specs.declared.fault.RowsFault.TheVariants.{Memory};
+
+    ghost from_gives = { λ _ e. e ≡ Memory };
+
+    fn from(_error: AllocError) -> Self {
+        RowsFault::Memory
+    }
+}
+
+impl From<TextFault> for RowsFault {
+    ghost use Rattle.std.specs.Prelude.{◌≡◌};
+    ghost use Rattle.drafts.specs.Gathering.{fault_of_text};
+
+    ghost from_gives = { λ fault e. e ≡ fault_of_text fault };
+
+    fn from(fault: TextFault) -> Self {
+        match fault {
+            TextFault::Memory => RowsFault::Memory,
+            TextFault::Form => RowsFault::Unfit,
+        }
+    }
+}

@@ -1,0 +1,9 @@
+pub mod Entries
+pub mod Staying
+pub mod StayingRounds
+pub mod Judged
+pub mod StaysFit
+pub mod Changed
+pub mod Turning
+pub mod Turned
+pub mod OneMore
