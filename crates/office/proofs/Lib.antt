@@ -1,4 +1,4 @@
-pub mod FitPuts
-pub mod Puts
+pub mod Made
+pub mod Listing
+pub mod Few
 pub mod Reading
-pub mod Gathered

@@ -11,9 +11,8 @@
 //! and calls rows unfit only where no office has them. Begin with `office.rt`.
 #![tactic(auto)]
 
-mod draft;
 mod making;
 mod office;
 
-pub use draft::RowsFault;
+pub use drafts::RowsFault;
 pub use office::Office;

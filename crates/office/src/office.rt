@@ -1,18 +1,25 @@
 //! The office.
 
+mod ending;
 mod judging;
+mod lists;
+mod placed;
 mod puts;
 mod reads;
+mod rounds;
 
-ghost use Rattle.std.specs.Prelude.{◌≡◌, IfOk, OnErr, Err, None, []};
-ghost use Rattle.rolls.specs.State.{State, empty};
+ghost use Rattle.std.specs.Prelude.{◌≡◌, ◌∷◌, not, IfOk, OnErr, Err, None, []};
+ghost use Rattle.rolls.specs.State.{State, empty, lists_of};
 ghost use Rattle.rolls.specs.Fit.{IsFit};
-ghost use Rattle.rolls.specs.Refusing.{plain_refusal, refusal};
+ghost use Rattle.rolls.specs.Refusing.{first, plain_refusal, refusal};
 ghost use Rattle.rolls.specs.Answers.{Answers, IsDone};
 ghost use Rattle.rolls.specs.From.{AreRowsOf};
 
-use crate::draft::{RowsFault, gather};
-use rolls::{Done, Plain, Project, Refusal, Reply, Request, Row, Student, Supervisor, Table};
+use drafts::{RowsFault, gather};
+use rolls::{
+    Done, Listed, Placement, Plain, Project, Refusal, Reply, Request, Round, Row, Student,
+    Supervisor, Table,
+};
 use std::alloc::{AllocError, Global};
 use std::marker::Model;
 
@@ -23,6 +30,8 @@ pub struct Office {
     supervisors: Table<Supervisor>,
     projects: Table<Project>,
     students: Table<Student>,
+    rounds: Table<Round>,
+    placements: Table<Placement>,
 }
 
 impl Model for Office {
@@ -47,6 +56,8 @@ impl Office {
             supervisors: Table::new(alloc),
             projects: Table::new(alloc),
             students: Table::new(alloc),
+            rounds: Table::new(alloc),
+            placements: Table::new(alloc),
         }
     }
 
@@ -55,19 +66,17 @@ impl Office {
         ensures rows { IfOk result (λ office. AreRowsOf rows.items office) }
         ensures unfit { result ≡ Err RowsFault.Unfit → (o : State) → IsFit o → AreRowsOf rows.items o → ⊥ }
     {
-        let draft = match gather(alloc, &rows) {
-            Ok(draft) => draft,
-            Err(fault) => return Err(fault),
-        };
-        if !draft.is_whole() {
-            return Err(RowsFault::Unfit);
+        match gather(alloc, &rows) {
+            Ok(draft) => Ok(Office {
+                alloc,
+                supervisors: draft.supervisors,
+                projects: draft.projects,
+                students: draft.students,
+                rounds: draft.rounds,
+                placements: draft.placements,
+            }),
+            Err(fault) => Err(fault),
         }
-        Ok(Office {
-            alloc,
-            supervisors: draft.supervisors,
-            projects: draft.projects,
-            students: draft.students,
-        })
     }
 
     /// The same office, in memory of its own.
@@ -80,6 +89,8 @@ impl Office {
             supervisors: self.supervisors.duplicate(alloc)?,
             projects: self.projects.duplicate(alloc)?,
             students: self.students.duplicate(alloc)?,
+            rounds: self.rounds.duplicate(alloc)?,
+            placements: self.placements.duplicate(alloc)?,
         })
     }
 
@@ -104,6 +115,30 @@ impl Office {
         self.students.entries()
     }
 
+    /// The rounds, by number.
+    pub fn rounds(&self) -> &[Round]
+        ensures all { let o = self.now in result.now ≡ o.rounds }
+    {
+        self.rounds.entries()
+    }
+
+    /// The lists of a round, by the students' codes; none where there is no such round.
+    pub fn lists(&self, round: u32) -> &[Listed]
+        ensures all { result.now ≡ lists_of self.now round }
+    {
+        match self.rounds.find(round, "") {
+            Some(round) => round.lists.entries(),
+            None => &[],
+        }
+    }
+
+    /// The placements of all rounds, by the students' codes.
+    pub fn placements(&self) -> &[Placement]
+        ensures all { let o = self.now in result.now ≡ o.placements }
+    {
+        self.placements.entries()
+    }
+
     /// Every office is fit.
     pub fn fit(&self)
         ensures fit { IsFit self.now }
@@ -117,6 +152,7 @@ impl Office {
     {
         match request {
             Request::Plain(plain) => self.plain_refusal(plain),
+            Request::Close | Request::Preview | Request::RoundText => self.open_refusal(),
         }
     }
 
@@ -145,9 +181,14 @@ impl Office {
                 quota,
             } => self.put_project(code, label, supervisor, quota),
             Plain::PutStudent { code, label } => self.put_student(code, label),
+            Plain::OpenRound => self.open_round(),
+            Plain::PutList { student, choices } => self.put_list(student, choices),
+            Plain::DropList { student } => self.drop_list(student),
+            Plain::ReopenRound => self.reopen_round(),
             Plain::GetSupervisor { code } => Ok(self.answered(self.get_supervisor(code.as_str())?)),
             Plain::GetProject { code } => Ok(self.answered(self.get_project(code.as_str())?)),
             Plain::GetStudent { code } => Ok(self.answered(self.get_student(code.as_str())?)),
+            Plain::GetRound { round } => Ok(self.answered(self.get_round(round))),
         }
     }
 
@@ -179,15 +220,43 @@ impl Office {
             Plain::PutStudent { code, label } => {
                 self.student_refusal(code.as_str(), label.as_str())
             }
-            Plain::GetSupervisor { code } if self.supervisors.find(0, code.as_str()).is_none() =>
-                Some(Refusal::UnknownSupervisor),
-            Plain::GetProject { code } if self.projects.find(0, code.as_str()).is_none() => Some(
-                Refusal::UnknownProject,
-            ),
-            Plain::GetStudent { code } if self.students.find(0, code.as_str()).is_none() => Some(
-                Refusal::UnknownStudent,
-            ),
-            _ => None,
+            Plain::OpenRound => self.opening_refusal(),
+            Plain::PutList { student, choices } => {
+                self.list_refusal(student.as_str(), choices.as_slice())
+            }
+            Plain::DropList { student } => self.drop_refusal(student.as_str()),
+            Plain::ReopenRound => self.reopening_refusal(),
+            Plain::GetSupervisor { code } => {
+                unless(
+                    self.supervisors.find(0, code.as_str()).is_some(),
+                    Refusal::UnknownSupervisor,
+                )
+            }
+            Plain::GetProject { code } => {
+                unless(
+                    self.projects.find(0, code.as_str()).is_some(),
+                    Refusal::UnknownProject,
+                )
+            }
+            Plain::GetStudent { code } => {
+                unless(
+                    self.students.find(0, code.as_str()).is_some(),
+                    Refusal::UnknownStudent,
+                )
+            }
+            Plain::GetRound { round } => {
+                unless(
+                    self.rounds.find(*round, "").is_some(),
+                    Refusal::UnknownRound,
+                )
+            }
         }
     }
+}
+
+/// A refusal, unless something is known.
+fn unless(known: bool, refusal: Refusal) -> Option<Refusal>
+    ensures { result ≡ first ((not known, refusal) ∷ []) }
+{
+    if known { None } else { Some(refusal) }
 }

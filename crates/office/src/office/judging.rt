@@ -1,31 +1,18 @@
 //! Which refusal a request gets.
 
-ghost use Rattle.std.specs.Prelude.{◌≡◌, Some, None};
-ghost use Rattle.rolls.specs.State.{placed_with_supervisor, placed_in_project};
+ghost use Rattle.std.specs.Prelude.{◌≡◌, [], Some, None};
+ghost use Rattle.std.specs.List.{list_any};
+ghost use Rattle.std.specs.Str.{bytes_eq};
 ghost use Rattle.rolls.specs.declared.request.Plain.TheVariants as ask;
-ghost use Rattle.rolls.specs.Refusing.{plain_refusal, is_moved};
+ghost use Rattle.rolls.specs.Refusing.{first, plain_refusal, is_moved, choice_tests, open_tests};
 
 use super::Office;
-use rolls::Refusal;
+use rolls::{MOST_ROUNDS, Refusal, Text};
 use spa::{
-    MOST_PLACES, MOST_PROJECTS, MOST_STUDENTS, MOST_SUPERVISORS, is_code_text, is_label_text,
+    MOST_PLACES, MOST_PROJECTS, MOST_STUDENTS, MOST_SUPERVISORS, RANKS, is_code_text, is_label_text,
 };
 
 impl Office {
-    /// How many students are placed with a supervisor.
-    pub fn placed_with_supervisor(&self, _code: &str) -> u32
-        ensures { result ≡ placed_with_supervisor self.now _code.now }
-    {
-        0
-    }
-
-    /// How many students are placed in a project.
-    pub fn placed_in_project(&self, _code: &str) -> u32
-        ensures { result ≡ placed_in_project self.now _code.now }
-    {
-        0
-    }
-
     /// Why a supervisor can't be put.
     pub fn supervisor_refusal(&self, code: &str, label: &str, quota: u32) -> Option<Refusal>
         ensures { result ≡ plain_refusal self.now (ask.PutSupervisor code.now label.now quota) }
@@ -112,4 +99,103 @@ impl Office {
             None => false,
         }
     }
+
+    /// Why a round can't be opened.
+    pub fn opening_refusal(&self) -> Option<Refusal>
+        ensures { result ≡ plain_refusal self.now ask.OpenRound }
+    {
+        if self.round_is_open() {
+            return Some(Refusal::RoundIsOpen);
+        }
+        if self.last_round() >= MOST_ROUNDS {
+            return Some(Refusal::RoundsFull);
+        }
+        None
+    }
+
+    /// Why the last round can't be reopened.
+    pub fn reopening_refusal(&self) -> Option<Refusal>
+        ensures { result ≡ plain_refusal self.now ask.ReopenRound }
+    {
+        if self.round_is_open() {
+            return Some(Refusal::RoundIsOpen);
+        }
+        if self.last_round() == 0 {
+            return Some(Refusal::NoRoundClosed);
+        }
+        None
+    }
+
+    /// Why nothing can be asked of the open round.
+    pub fn open_refusal(&self) -> Option<Refusal>
+        ensures { result ≡ first (open_tests self.now) }
+    {
+        if !self.round_is_open() {
+            return Some(Refusal::NoRoundOpen);
+        }
+        None
+    }
+
+    /// Why a list can't be put.
+    pub fn list_refusal(&self, student: &str, choices: &[Text]) -> Option<Refusal>
+        ensures { result ≡ plain_refusal self.now (ask.PutList student.now choices.now) }
+    {
+        if !self.round_is_open() {
+            return Some(Refusal::NoRoundOpen);
+        }
+        if self.students.find(0, student).is_none() {
+            return Some(Refusal::UnknownStudent);
+        }
+        if self.placements.find(0, student).is_some() {
+            return Some(Refusal::AlreadyPlaced);
+        }
+        if choices.is_empty() || choices.len() > RANKS {
+            return Some(Refusal::ListLength);
+        }
+        self.choice_refusal(choices)
+    }
+
+    /// Why choices can't be put: the first of them that is unknown or repeated.
+    fn choice_refusal(&self, choices: &[Text]) -> Option<Refusal>
+        ensures { result ≡ first (choice_tests self.now [] choices.now) }
+    {
+        for place in 0..choices.len() {
+            let code = choices[place].as_str();
+            if self.projects.find(0, code).is_none() {
+                return Some(Refusal::UnknownProject);
+            }
+            if stands_in(&choices[..place], code) {
+                return Some(Refusal::RepeatedProject);
+            }
+        }
+        None
+    }
+
+    /// Why a list can't be dropped.
+    pub fn drop_refusal(&self, student: &str) -> Option<Refusal>
+        ensures { result ≡ plain_refusal self.now (ask.DropList student.now) }
+    {
+        if !self.round_is_open() {
+            return Some(Refusal::NoRoundOpen);
+        }
+        if self.students.find(0, student).is_none() {
+            return Some(Refusal::UnknownStudent);
+        }
+        if self.list_of(self.last_round(), student).is_none() {
+            return Some(Refusal::NoList);
+        }
+        None
+    }
+}
+
+/// Whether a text stands among texts.
+fn stands_in(texts: &[Text], text: &str) -> bool
+    ensures { result ≡ list_any (bytes_eq text.now) texts.now }
+{
+    for other in texts {
+        if text == other.as_str() {
+            return true;
+        }
+    }
+    false
 }

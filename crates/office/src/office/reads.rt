@@ -1,12 +1,14 @@
 //! Requests that read an entry.
 
 ghost use Rattle.std.specs.Prelude.{◌≡◌, IfOk, None};
+ghost use Rattle.rolls.specs.State.{open_choices, placement_of};
 ghost use Rattle.rolls.specs.declared.request.Plain.TheVariants as ask;
 ghost use Rattle.rolls.specs.Refusing.{plain_refusal};
 ghost use Rattle.rolls.specs.Stepping.{plain_reply};
 
 use super::Office;
-use rolls::Reply;
+use super::placed::{placed_by, ranked};
+use rolls::{Choices, Placement, Reply};
 use std::alloc::AllocError;
 
 impl Office {
@@ -37,6 +39,29 @@ impl Office {
         })
     }
 
+    /// The projects that a student lists in the open round, where there are such.
+    fn open_choices(&self, student: &str) -> Result<Option<Choices>, AllocError>
+        ensures { IfOk result (λ choices. choices ≡ open_choices self.now student.now) }
+    {
+        if !self.round_is_open() {
+            return Ok(None);
+        }
+        match self.list_of(self.last_round(), student) {
+            Some(list) => Ok(Some(list.choices.copy()?)),
+            None => Ok(None),
+        }
+    }
+
+    /// Where a student is placed, in memory of its own.
+    fn placement_of(&self, student: &str) -> Option<Placement>
+        ensures { result ≡ placement_of self.now student.now }
+    {
+        match self.placements.find(0, student) {
+            Some(placement) => Some(placement.copy()),
+            None => None,
+        }
+    }
+
     /// A student, as answered.
     pub fn get_student(&self, code: &str) -> Result<Reply, AllocError>
         requires allowed { plain_refusal self.now (ask.GetStudent code.now) ≡ None }
@@ -45,6 +70,24 @@ impl Office {
         let student = self.students.find(0, code).unwrap();
         Ok(Reply::Student {
             name: student.label.copy()?,
+            list: self.open_choices(code)?,
+            placed: self.placement_of(code),
         })
+    }
+
+    /// A round, as answered.
+    pub fn get_round(&self, round: u32) -> Reply
+        requires allowed { plain_refusal self.now (ask.GetRound round) ≡ None }
+        ensures reply { result ≡ plain_reply (ask.GetRound round) self.now }
+    {
+        let placements = self.placements.entries();
+        let found = self.rounds.find(round, "").unwrap();
+        Reply::Round {
+            number: round,
+            is_open: found.is_open,
+            placed: placed_by(placements, round) as u32,
+            profile: ranked(placements, round),
+            students: found.lists.entries().len() as u32,
+        }
     }
 }

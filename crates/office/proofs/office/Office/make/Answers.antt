@@ -1,7 +1,7 @@
 use Rattle.std.proofs.Common.{◌≡◌, None, refl, sym, ap, subst, ◌∙◌}
 use Rattle.rolls.specs.declared.request.Plain.{Plain}
 use Rattle.rolls.specs.Refusing.{plain_refusal}
-use Rattle.rolls.specs.declared.request.Plain.TheVariants.{GetSupervisor, GetProject, GetStudent}
+use Rattle.rolls.specs.declared.request.Plain.TheVariants.{GetSupervisor, GetProject, GetStudent, GetRound}
 use Rattle.office.proofs.Reading.{read_named}
 use Rattle.office.proofs.office.Office.make.Goals as goal
 
@@ -13,3 +13,6 @@ returns-in_ok-get_project-in-GetProject-clause-done c = read_named _ (GetProject
 
 pub returns-in_ok-get_student-in-GetStudent-clause-done : goal.returns-in_ok-get_student-in-GetStudent-clause-done
 returns-in_ok-get_student-in-GetStudent-clause-done c = read_named _ (GetStudent c.as_str-in-GetStudent.result.now) (c.in-GetStudent.is ∙ ap GetStudent (sym c.as_str-in-GetStudent.ensures)) _ _ (subst (λ (q : Plain). plain_refusal c.args.self.now q ≡ None) (c.in-GetStudent.is ∙ ap GetStudent (sym c.as_str-in-GetStudent.ensures)) c.requires.allowed) refl (c.answered-in-GetStudent.ensures.reply ∙ c.in_ok-get_student-in-GetStudent.ensures.reply) c.answered-in-GetStudent.ensures.changes
+
+pub returns-in-GetRound-clause-done : goal.returns-in-GetRound-clause-done
+returns-in-GetRound-clause-done c = read_named _ (GetRound c.in-GetRound.round) c.in-GetRound.is _ _ (subst (λ (q : Plain). plain_refusal c.args.self.now q ≡ None) c.in-GetRound.is c.requires.allowed) refl (c.answered-in-GetRound.ensures.reply ∙ c.get_round.ensures.reply) c.answered-in-GetRound.ensures.changes

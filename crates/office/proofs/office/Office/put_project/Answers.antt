@@ -1,10 +1,20 @@
-use Rattle.std.proofs.Common.{sym, refl}
+use Rattle.std.proofs.Common.{◌≡◌, List, refl, ap, ◌∙◌}
+use Rattle.rolls.specs.declared.entries.Project.{Project}
+use Rattle.rolls.specs.declared.request.Plain.TheVariants.{PutProject}
+use Rattle.rolls.specs.Roll.{put}
+use Rattle.rolls.specs.State.{State, project_key}
+use Rattle.rolls.specs.Stepping.{after_plain}
 use Rattle.office.specs.View.{state_of}
-use Rattle.office.proofs.Puts.{project_fit, project_done}
+use Rattle.office.proofs.Made.{made_fit, made_done}
 use Rattle.office.proofs.office.Office.put_project.Goals as goal
 
+after : (c : goal.In_ok-put) → record (state_of c.self.inside) { projects = c.put.new.self } ≡ after_plain (PutProject c.args.code c.args.label c.args.supervisor c.args.quota) c.args.self.now
+after c =
+    let o : State = state_of c.self.inside in
+    ap (λ (xs : List Project). record o { projects = xs }) (c.in_ok-put.ensures.ok ∙ ap (λ e. put project_key e o.projects) c.in_ok-project.ensures.made) ∙ ap (after_plain (PutProject c.args.code c.args.label c.args.supervisor c.args.quota)) c.self.view_is
+
 pub invariant_of-self-2 : goal.invariant_of-self-2
-invariant_of-self-2 c = project_fit (state_of c.self.inside) c.args.self.now c.self.view_is c.args.code c.args.label c.args.supervisor c.args.quota c.in_ok-project.project _ c.in_ok-project.ensures.made c.in_ok-put.ensures.ok (sym c.requires.allowed) c.self.invariant
+invariant_of-self-2 c = made_fit (PutProject c.args.code c.args.label c.args.supervisor c.args.quota) (state_of c.self.inside) c.args.self.now c.self.view_is c.requires.allowed c.self.invariant _ (after c)
 
 pub returns-clause-ok : goal.returns-clause-ok
-returns-clause-ok c = project_done (state_of c.self.inside) c.args.self.now c.self.view_is c.args.code c.args.label c.args.supervisor c.args.quota c.in_ok-project.project _ c.in_ok-project.ensures.made c.in_ok-put.ensures.ok (sym c.requires.allowed) _ refl c.in_ok-project.ensures.changes
+returns-clause-ok c = made_done (PutProject c.args.code c.args.label c.args.supervisor c.args.quota) (state_of c.self.inside) c.args.self.now c.self.view_is c.requires.allowed c.self.invariant _ (after c) _ refl c.in_ok-project.ensures.changes

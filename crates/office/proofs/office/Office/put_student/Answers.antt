@@ -1,10 +1,20 @@
-use Rattle.std.proofs.Common.{sym, refl}
+use Rattle.std.proofs.Common.{◌≡◌, List, refl, ap, ◌∙◌}
+use Rattle.rolls.specs.declared.entries.Student.{Student}
+use Rattle.rolls.specs.declared.request.Plain.TheVariants.{PutStudent}
+use Rattle.rolls.specs.Roll.{put}
+use Rattle.rolls.specs.State.{State, student_key}
+use Rattle.rolls.specs.Stepping.{after_plain}
 use Rattle.office.specs.View.{state_of}
-use Rattle.office.proofs.Puts.{student_fit, student_done}
+use Rattle.office.proofs.Made.{made_fit, made_done}
 use Rattle.office.proofs.office.Office.put_student.Goals as goal
 
+after : (c : goal.In_ok-put) → record (state_of c.self.inside) { students = c.put.new.self } ≡ after_plain (PutStudent c.args.code c.args.label) c.args.self.now
+after c =
+    let o : State = state_of c.self.inside in
+    ap (λ (xs : List Student). record o { students = xs }) (c.in_ok-put.ensures.ok ∙ ap (λ e. put student_key e o.students) c.in_ok-student.ensures.made) ∙ ap (after_plain (PutStudent c.args.code c.args.label)) c.self.view_is
+
 pub invariant_of-self-2 : goal.invariant_of-self-2
-invariant_of-self-2 c = student_fit (state_of c.self.inside) c.args.self.now c.self.view_is c.args.code c.args.label c.in_ok-student.student _ c.in_ok-student.ensures.made c.in_ok-put.ensures.ok (sym c.requires.allowed) c.self.invariant
+invariant_of-self-2 c = made_fit (PutStudent c.args.code c.args.label) (state_of c.self.inside) c.args.self.now c.self.view_is c.requires.allowed c.self.invariant _ (after c)
 
 pub returns-clause-ok : goal.returns-clause-ok
-returns-clause-ok c = student_done (state_of c.self.inside) c.args.self.now c.self.view_is c.args.code c.args.label c.in_ok-student.student _ c.in_ok-student.ensures.made c.in_ok-put.ensures.ok (sym c.requires.allowed) _ refl c.in_ok-student.ensures.changes
+returns-clause-ok c = made_done (PutStudent c.args.code c.args.label) (state_of c.self.inside) c.args.self.now c.self.view_is c.requires.allowed c.self.invariant _ (after c) _ refl c.in_ok-student.ensures.changes

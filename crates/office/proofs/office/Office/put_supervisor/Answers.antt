@@ -1,10 +1,20 @@
-use Rattle.std.proofs.Common.{sym, refl}
+use Rattle.std.proofs.Common.{◌≡◌, List, refl, ap, ◌∙◌}
+use Rattle.rolls.specs.declared.entries.Supervisor.{Supervisor}
+use Rattle.rolls.specs.declared.request.Plain.TheVariants.{PutSupervisor}
+use Rattle.rolls.specs.Roll.{put}
+use Rattle.rolls.specs.State.{State, supervisor_key}
+use Rattle.rolls.specs.Stepping.{after_plain}
 use Rattle.office.specs.View.{state_of}
-use Rattle.office.proofs.Puts.{supervisor_fit, supervisor_done}
+use Rattle.office.proofs.Made.{made_fit, made_done}
 use Rattle.office.proofs.office.Office.put_supervisor.Goals as goal
 
+after : (c : goal.In_ok-put) → record (state_of c.self.inside) { supervisors = c.put.new.self } ≡ after_plain (PutSupervisor c.args.code c.args.label c.args.quota) c.args.self.now
+after c =
+    let o : State = state_of c.self.inside in
+    ap (λ (xs : List Supervisor). record o { supervisors = xs }) (c.in_ok-put.ensures.ok ∙ ap (λ e. put supervisor_key e o.supervisors) c.in_ok-supervisor.ensures.made) ∙ ap (after_plain (PutSupervisor c.args.code c.args.label c.args.quota)) c.self.view_is
+
 pub invariant_of-self-2 : goal.invariant_of-self-2
-invariant_of-self-2 c = supervisor_fit (state_of c.self.inside) c.args.self.now c.self.view_is c.args.code c.args.label c.args.quota c.in_ok-supervisor.supervisor _ c.in_ok-supervisor.ensures.made c.in_ok-put.ensures.ok (sym c.requires.allowed) c.self.invariant
+invariant_of-self-2 c = made_fit (PutSupervisor c.args.code c.args.label c.args.quota) (state_of c.self.inside) c.args.self.now c.self.view_is c.requires.allowed c.self.invariant _ (after c)
 
 pub returns-clause-ok : goal.returns-clause-ok
-returns-clause-ok c = supervisor_done (state_of c.self.inside) c.args.self.now c.self.view_is c.args.code c.args.label c.args.quota c.in_ok-supervisor.supervisor _ c.in_ok-supervisor.ensures.made c.in_ok-put.ensures.ok (sym c.requires.allowed) _ refl c.in_ok-supervisor.ensures.changes
+returns-clause-ok c = made_done (PutSupervisor c.args.code c.args.label c.args.quota) (state_of c.self.inside) c.args.self.now c.self.view_is c.requires.allowed c.self.invariant _ (after c) _ refl c.in_ok-supervisor.ensures.changes

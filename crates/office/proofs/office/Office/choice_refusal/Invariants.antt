@@ -1,0 +1,6 @@
+use Rattle.std.proofs.Common.{◌≡◌, [], take, drop}
+use Rattle.rolls.specs.Refusing.{first, choice_tests}
+use Rattle.office.proofs.office.Office.choice_refusal.Given as goal
+
+abbrev pub invariant-loop-place : goal.invariant-loop-place
+invariant-loop-place l = first (choice_tests l.self [] l.choices) ≡ first (choice_tests l.self (take l.place l.choices) (drop l.place l.choices))

@@ -1,0 +1,17 @@
+use Rattle.std.proofs.Common.{◌≡◌, ◌++◌, [], ◌∷◌, Some, IsTrue, take, refl, sym, ap, subst, ◌∙◌}
+use Rattle.std.specs.List.{AllByRecursion}
+use Rattle.std.specs.Prelude.{option_copied}
+use Rattle.std.proofs.lemmas.List.{take_more, drop_more}
+use Rattle.rolls.specs.State.{State, has_project, project_of, project_key}
+use Rattle.rolls.specs.Roll.{Key}
+use Rattle.rolls.proofs.Found.{found_key}
+use Rattle.office.proofs.office.Office.codes_of.Goals as goal
+
+pub loop-text-preserved : goal.loop-text-preserved
+loop-text-preserved c =
+    let i = c.loop-text.text-index in
+    let texts = c.args.texts.now in
+    let known = subst (AllByRecursion (λ p. IsTrue (has_project c.args.self.now p))) (drop_more texts i c.text-item.result c.loop-text-test.true) c.loop-text.invariant.1 in
+    let found = sym c.find.ensures ∙ ap option_copied c.unwrap-project.ensures in
+    let code = c.copy.ensures ∙ sym (ap (λ (k : Key). k.1) (found_key project_key (0, c.as_str.result.now) c.self.inside.projects c.unwrap-project.result.now found)) ∙ c.as_str.ensures ∙ c.text-item.is in
+    (c.in_ok-push.ensures.items ∙ ap (λ es. es ++ c.copy.result ∷ []) c.loop-text.invariant.0 ∙ ap (λ e. take i texts ++ e ∷ []) code ∙ sym (take_more texts i c.text-item.result c.loop-text-test.true), known.1)

@@ -1,0 +1,7 @@
+use Rattle.std.proofs.Common.{◌≡◌, IsTrue, drop, take}
+use Rattle.std.specs.List.{AllByRecursion}
+use Rattle.rolls.specs.State.{has_project}
+use Rattle.office.proofs.office.Office.codes_of.Given as goal
+
+abbrev pub invariant-loop-text : goal.invariant-loop-text
+invariant-loop-text l = (l.codes.items ≡ take l.text-index l.texts) × AllByRecursion (λ p. IsTrue (has_project l.self p)) (drop l.text-index l.texts)

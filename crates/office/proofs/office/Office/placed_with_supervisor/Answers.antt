@@ -1,0 +1,14 @@
+use Rattle.std.proofs.Common.{List, count_by, arith, ap, ◌∙◌}
+use Rattle.std.specs.Str.{bytes_eq}
+use Rattle.rolls.specs.declared.rounds.Placement.{Placement}
+use Rattle.rolls.specs.State.{State, is_offered_by}
+use Rattle.office.specs.View.{state_of}
+use Rattle.office.proofs.Few.{counted_few}
+use Rattle.office.proofs.office.Office.placed_with_supervisor.Goals as goal
+
+pub overflow_cast-result : goal.overflow_cast-result
+overflow_cast-result c =
+    let o : State = state_of c.self.inside in
+    let few = counted_few o c.self.invariant (λ p. is_offered_by o c.args.code.now p.project) in
+    let are = c.placed_with_supervisor.ensures ∙ ap (λ (ps : List Placement). count_by (λ p. is_offered_by o c.args.code.now p.project) ps) c.entries.ensures.all in
+    omega (arith, few, are)

@@ -1,0 +1,55 @@
+use Rattle.std.proofs.Common.{◌≡◌, ℕ, ◌≤◌, length, true, List, Option, Some, arith, refl, sym, ap, subst, ◌∙◌}
+use Rattle.std.specs.Prelude.{option_copied}
+use Rattle.std.specs.List.{AllByRecursion}
+use Rattle.rolls.specs.Fit.{IsFit}
+use Rattle.rolls.specs.declared.rounds.Round.{Round}
+use Rattle.rolls.specs.declared.rounds.Listed.{Listed}
+use Rattle.rolls.specs.Roll.{Key, put, take_out}
+use Rattle.rolls.specs.State.{State, has_project, list_key, round_key, student_key, round_of, last_round, choices_in}
+use Rattle.rolls.specs.Stepping.{after_plain, with_last}
+use Rattle.rolls.proofs.Found.{found_key}
+use Rattle.steps.specs.Changes.{list_changes}
+use Rattle.steps.proofs.Staying.{choices_few}
+use Rattle.office.specs.View.{state_of}
+use Rattle.office.proofs.Made.{made_fit, made_done, last_put}
+use Rattle.rolls.specs.declared.request.Plain.TheVariants.{PutList}
+use Rattle.office.proofs.Listing.{list_open, list_student, list_few, list_known}
+use Rattle.office.proofs.office.Office.put_list.Goals as goal
+use Rattle.office.proofs.office.Office.put_list.Goals.{After-drop-student-inside-2}
+
+pub codes_of-requires : goal.codes_of-requires
+codes_of-requires c = subst (AllByRecursion (λ p. has_project c.args.self.now p ≡ true)) (sym c.as_slice.ensures) (list_known c.args.self.now c.args.student c.args.choices c.requires.allowed)
+
+pub list_changes-requires-clause-few : goal.list_changes-requires-clause-few
+list_changes-requires-clause-few c =
+    let few = choices_few c.args.self.now (subst IsFit c.self.view_is c.self.invariant) c.last_round-round.result c.as_str.result.now in
+    let are = c.places_of-places.ensures in
+    omega (arith, few, are)
+
+pub list_changes-requires-clause-few_new : goal.list_changes-requires-clause-few_new
+list_changes-requires-clause-few_new c =
+    let few = list_few c.args.self.now c.args.student c.args.choices c.requires.allowed in
+    let are = ap (λ (cs : List (List ℕ)). length cs) (c.deref.ensures.value ∙ c.in_ok-codes.ensures ∙ c.as_slice.ensures) in
+    omega (arith, few, are)
+
+-- the office after it
+after : (c : After-drop-student-inside-2) → record (state_of c.self.inside) { rounds = c.put-2.new.self } ≡ after_plain (PutList c.args.student c.args.choices) c.args.self.now
+after c =
+    let old : State = c.args.self.now in
+    let last : Round = c.in_ok-last.last in
+    let found = sym c.find.ensures ∙ ap option_copied c.unwrap.ensures in
+    let student : c.copy.result ≡ c.args.student = c.copy.ensures ∙ sym (ap (λ (k : Key). k.1) (found_key student_key (0, c.as_str-3.result.now) c.self.inside.students c.unwrap.result.now found)) ∙ c.as_str-3.ensures in
+    let choices : c.in_ok-new.field-0 ≡ c.args.choices = c.in_ok-new.ensures ∙ c.in_ok-codes.ensures ∙ c.as_slice.ensures in
+    let lists = c.in_ok-put.ensures.ok ∙ (λ i. put list_key (record { student = student i; choices = choices i }) last.lists) in
+    last_put (λ r. record r { lists = put list_key (record { student = c.args.student; choices = c.args.choices }) r.lists }) (state_of c.self.inside) old c.self.view_is last c.in_ok-last.ensures.last c.put-2.new.self
+    (c.in_ok-put-2.ensures.ok ∙ ap (λ (ls : List Listed). put round_key (record last { lists = ls }) c.self.inside.rounds) lists)
+
+pub invariant_of-self-2 : goal.invariant_of-self-2
+invariant_of-self-2 c = made_fit (PutList c.args.student c.args.choices) (state_of c.self.inside) c.args.self.now c.self.view_is c.requires.allowed c.self.invariant _ (after c)
+
+pub returns-clause-ok : goal.returns-clause-ok
+returns-clause-ok c =
+    let changed = c.in_ok-changes.ensures
+    ∙ (λ i. list_changes (c.last_round-round.ensures i) (c.as_str-2.ensures i) (c.places_of-places.ensures i) ((c.deref.ensures.value ∙ c.in_ok-codes.ensures ∙ c.as_slice.ensures) i))
+    ∙ (λ i. list_changes (last_round c.args.self.now) c.args.student (length (choices_in c.args.self.now (c.last_round-round.ensures i) (c.as_str.ensures i))) c.args.choices) in
+    made_done (PutList c.args.student c.args.choices) (state_of c.self.inside) c.args.self.now c.self.view_is c.requires.allowed c.self.invariant _ (after c) _ refl changed

@@ -1,0 +1,57 @@
+//! The instance of the open round, and its closing.
+
+ghost use Rattle.std.specs.Prelude.{◌≡◌, IfOk, OnErr, IsTrue};
+ghost use Rattle.spa.specs.Named.{instance_of};
+ghost use Rattle.spa.specs.Coded.{taken};
+ghost use Rattle.rolls.specs.State.{round_is_open};
+ghost use Rattle.rolls.specs.Instances.{round_instance};
+ghost use Rattle.rolls.specs.Answers.{IsClosed};
+ghost use Rattle.closing.specs.Places.{ArePlacesOf};
+
+use super::Office;
+use super::placed::ranked;
+use closing::{close_changes, placements_after, placements_of, places_law, round_instance};
+use rolls::{Done, Reply};
+use spa::{Instance, Matching};
+use std::alloc::AllocError;
+
+impl Office {
+    /// The instance of the open round: the supervisors and projects with what is left of their quotas, and the students
+    /// with a list in it.
+    pub fn instance(&self) -> Result<Instance, AllocError>
+        requires open { IsTrue (round_is_open self.now) }
+        ensures instance { IfOk result (λ instance. instance_of instance ≡ round_instance self.now) }
+    {
+        round_instance(
+            self.alloc,
+            self.supervisors.entries(),
+            &self.projects,
+            self.placements.entries(),
+            self.lists(self.last_round()),
+        )
+    }
+
+    /// Closes the open round with a matching of its instance. Out of memory the office stays as it was.
+    pub fn close(&mut self, matching: &Matching) -> Result<Done, AllocError>
+        requires open { IsTrue (round_is_open self.old) }
+        requires matching { ArePlacesOf (round_instance self.old) matching.now.places.items }
+        ensures ok { IfOk result (IsClosed (taken (round_instance self.old).students matching.now.places.items) self.old self.new) }
+        ensures err { OnErr result (self.new ≡ self.old) }
+    {
+        places_law();
+        let round = self.last_round();
+        let placed = placements_of(self.alloc, round, self.lists(round), &matching.places)?;
+        let reply = Reply::Closed {
+            round,
+            size: placed.len() as u32,
+            profile: ranked(&placed, round),
+        };
+        let changes = close_changes(self.alloc, round, &placed)?;
+        let placements = placements_after(self.alloc, &self.placements, placed)?;
+        let mut last = self.last()?;
+        last.is_open = false;
+        self.rounds.put(last)?;
+        self.placements = placements;
+        Ok(Done { reply, changes })
+    }
+}

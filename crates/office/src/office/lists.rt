@@ -1,0 +1,80 @@
+//! Requests that change a list.
+
+ghost use Rattle.std.specs.Prelude.{◌≡◌, ℕ, None, IfOk, OnErr, length, IsTrue};
+ghost use Rattle.std.specs.List.{AllByRecursion};
+ghost use Rattle.rolls.specs.State.{has_project, choices_in};
+ghost use Rattle.rolls.specs.declared.request.Plain.TheVariants as ask;
+ghost use Rattle.rolls.specs.Refusing.{plain_refusal};
+ghost use Rattle.rolls.specs.Answers.{IsDone};
+
+use super::Office;
+use rolls::{Choices, Done, Listed, Reply, Text, Texts};
+use spa::Code;
+use std::alloc::AllocError;
+use steps::list_changes;
+
+impl Office {
+    /// The codes of projects on the roll.
+    fn codes_of(&self, texts: &[Text]) -> Result<Vec<Code>, AllocError>
+        requires { AllByRecursion (λ p. IsTrue (has_project self.now p)) texts.now }
+        ensures { IfOk result (λ codes. codes.items ≡ texts.now) }
+    {
+        let mut codes = Vec::new(self.alloc);
+        for text in texts {
+            let project = self.projects.find(0, text.as_str()).unwrap();
+            codes.push(project.code.copy())?;
+        }
+        Ok(codes)
+    }
+
+    /// How many places a student's list in a round has.
+    fn places_of(&self, round: u32, student: &str) -> usize
+        ensures { result ≡ length (choices_in self.now round student.now) }
+    {
+        match self.list_of(round, student) {
+            Some(list) => list.choices.codes().len(),
+            None => 0,
+        }
+    }
+
+    /// Makes a student's list in the open round this one.
+    pub fn put_list(&mut self, student: Text, choices: Texts) -> Result<Done, AllocError>
+        requires allowed { plain_refusal self.old (ask.PutList student choices) ≡ None }
+        ensures ok { IfOk result (IsDone (ask.PutList student choices) self.old self.new) }
+        ensures err { OnErr result (self.new ≡ self.old) }
+    {
+        let round = self.last_round();
+        let codes = self.codes_of(choices.as_slice())?;
+        let places = self.places_of(round, student.as_str());
+        let changes = list_changes(self.alloc, round, student.as_str(), places, &codes)?;
+        let listed = Listed {
+            student: self.students.find(0, student.as_str()).unwrap().code.copy(),
+            choices: Choices::new(self.alloc, codes)?,
+        };
+        let mut last = self.last()?;
+        last.lists.put(listed)?;
+        self.rounds.put(last)?;
+        Ok(Done {
+            reply: Reply::Done,
+            changes,
+        })
+    }
+
+    /// Takes a student's list out of the open round.
+    pub fn drop_list(&mut self, student: Text) -> Result<Done, AllocError>
+        requires allowed { plain_refusal self.old (ask.DropList student) ≡ None }
+        ensures ok { IfOk result (IsDone (ask.DropList student) self.old self.new) }
+        ensures err { OnErr result (self.new ≡ self.old) }
+    {
+        let round = self.last_round();
+        let places = self.places_of(round, student.as_str());
+        let changes = list_changes(self.alloc, round, student.as_str(), places, &[])?;
+        let mut last = self.last()?;
+        last.lists.take_out(0, student.as_str())?;
+        self.rounds.put(last)?;
+        Ok(Done {
+            reply: Reply::Done,
+            changes,
+        })
+    }
+}

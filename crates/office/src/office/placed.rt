@@ -1,0 +1,84 @@
+//! What is counted of rounds, lists and placements.
+
+ghost use Rattle.std.specs.Prelude.{◌≡◌, ℕ, ◌+◌, ◌<◌, ◌==◌, ◌&&◌, ◌≤◌, IsTrue, count_by, length, option_copied};
+ghost use Rattle.rolls.specs.State.{last_round, round_is_open, list_of, placed_in_project, placed_with_supervisor};
+ghost use Rattle.rolls.specs.Stepping.{by_rank};
+
+use super::Office;
+use rolls::{Listed, Placement};
+use spa::RANKS;
+
+impl Office {
+    /// The number of the last round, 0 where there is none.
+    pub fn last_round(&self) -> u32
+        ensures { result ≡ last_round self.now }
+    {
+        self.rounds.entries().len() as u32
+    }
+
+    /// Whether a round is open.
+    pub fn round_is_open(&self) -> bool
+        ensures { result ≡ round_is_open self.now }
+    {
+        match self.rounds.find(self.last_round(), "") {
+            Some(round) => round.is_open,
+            None => false,
+        }
+    }
+
+    /// A student's list in a round.
+    pub fn list_of(&self, round: u32, student: &str) -> Option<&Listed>
+        ensures { option_copied result ≡ list_of self.now round student.now }
+    {
+        match self.rounds.find(round, "") {
+            Some(round) => round.lists.find(0, student),
+            None => None,
+        }
+    }
+
+    /// How many students all rounds placed with a supervisor: at most 500.
+    pub fn placed_with_supervisor(&self, code: &str) -> u32
+        ensures { result ≡ placed_with_supervisor self.now code.now }
+    {
+        closing::placed_with_supervisor(&self.projects, self.placements.entries(), code) as u32
+    }
+
+    /// How many students all rounds placed in a project: at most 500.
+    pub fn placed_in_project(&self, code: &str) -> u32
+        ensures { result ≡ placed_in_project self.now code.now }
+    {
+        closing::placed_in_project(self.placements.entries(), code) as u32
+    }
+}
+
+/// How many of the placements a round made.
+pub fn placed_by(placements: &[Placement], round: u32) -> usize
+    ensures { result ≡ count_by (λ p. p.round == round) placements.now }
+{
+    placements
+        .iter()
+        .filter(|placement| placement.round == round)
+        .count()
+}
+
+/// How many of them have a rank.
+fn placed_at(placements: &[Placement], round: u32, rank: u32) -> usize
+    ensures { result ≡ count_by (λ p. (p.round == round) && (p.rank == rank)) placements.now }
+{
+    placements
+        .iter()
+        .filter(|placement| placement.round == round && placement.rank == rank)
+        .count()
+}
+
+/// How many of them have rank 1 and so on.
+pub fn ranked(placements: &[Placement], round: u32) -> [u32; RANKS]
+    requires few { length placements.now ≤ 500 }
+    ensures { result ≡ by_rank (λ k. count_by (λ p. (p.round == round) && (p.rank == k + 1)) placements.now) }
+{
+    let mut counts = [0; RANKS];
+    for k in 0..RANKS {
+        counts[k] = placed_at(placements, round, k as u32 + 1) as u32;
+    }
+    counts
+}

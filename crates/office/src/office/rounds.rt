@@ -1,0 +1,68 @@
+//! Requests that open a round.
+
+ghost use Rattle.std.specs.Prelude.{◌≡◌, true, is_some, Some, None, IfOk, OnErr};
+ghost use Rattle.rolls.specs.State.{last_round, round_of};
+ghost use Rattle.rolls.specs.declared.request.Plain.TheVariants as ask;
+ghost use Rattle.rolls.specs.Refusing.{plain_refusal};
+ghost use Rattle.rolls.specs.Answers.{IsDone};
+
+use super::Office;
+use rolls::{Change, Done, Duplicate, Reply, Round, Row, Table};
+use std::alloc::AllocError;
+use steps::{kept_placements, reopening_changes};
+
+impl Office {
+    /// The last round. Its lists are shared.
+    pub fn last(&self) -> Result<Round, AllocError>
+        requires found { is_some (round_of self.now (last_round self.now)) ≡ true }
+        ensures last { IfOk result (λ last. round_of self.now (last_round self.now) ≡ Some last) }
+    {
+        self.rounds
+            .find(self.last_round(), "")
+            .unwrap()
+            .duplicate(self.alloc)
+    }
+
+    /// Opens the next round.
+    pub fn open_round(&mut self) -> Result<Done, AllocError>
+        requires allowed { plain_refusal self.old ask.OpenRound ≡ None }
+        ensures ok { IfOk result (IsDone ask.OpenRound self.old self.new) }
+        ensures err { OnErr result (self.new ≡ self.old) }
+    {
+        let number = self.last_round() + 1;
+        let mut changes = Vec::new(self.alloc);
+        changes.push(Change::Put(Row::Round {
+            number,
+            is_open: true,
+        }))?;
+        self.rounds.put(Round {
+            number,
+            is_open: true,
+            lists: Table::new(self.alloc),
+        })?;
+        Ok(Done {
+            reply: Reply::Opened { round: number },
+            changes,
+        })
+    }
+
+    /// Opens the last round again.
+    pub fn reopen_round(&mut self) -> Result<Done, AllocError>
+        requires allowed { plain_refusal self.old ask.ReopenRound ≡ None }
+        ensures ok { IfOk result (IsDone ask.ReopenRound self.old self.new) }
+        ensures err { OnErr result (self.new ≡ self.old) }
+    {
+        let round = self.last_round();
+        let placements = self.placements.entries();
+        let changes = reopening_changes(self.alloc, round, placements)?;
+        let kept = Table::of(self.alloc, kept_placements(self.alloc, placements, round)?)?;
+        let mut last = self.last()?;
+        last.is_open = true;
+        self.rounds.put(last)?;
+        self.placements = kept;
+        Ok(Done {
+            reply: Reply::Opened { round },
+            changes,
+        })
+    }
+}
