@@ -1,14 +1,18 @@
 -- The columns of the rows of one table, once a row is put or taken away.
-use Rattle.std.proofs.Common.{◌≡◌, ◌≢◌, inl, inr, ℕ, zero, suc, ◌<◌, List, [], ◌∷◌, length, get_or, take, Bool, true, false, not, ◌&&◌, cond, Some, is_eq, filter, map, refl, sym, ap, ◌∙◌, arith, true≢false}
+use Rattle.std.proofs.Common.{◌≡◌, ◌≢◌, inl, inr, ℕ, zero, suc, ◌<◌, List, [], ◌∷◌, length, get_or, take, Bool, true, false, not, ◌&&◌, cond, Some, is_eq, filter, map, ℤ, pos, negsuc, refl, sym, ap, subst, ◌∙◌, arith, true≢false}
 use Rattle.std.specs.List.{list_any}
-use Rattle.std.proofs.lemmas.Bool.{and_parts, not-true}
+use Rattle.std.proofs.lemmas.Bool.{and_parts, or_parts, not-true}
+use Rattle.std.proofs.lemmas.Slice.Eq.{bytes_eq-Decides}
 use Rattle.std.proofs.lemmas.List.{get_or_default}
 use Rattle.sqlite_rules.specs.Lists.{Has}
 use Rattle.sqlite_rules.proofs.ListLemmas.{has_at, some_from}
 use Rattle.std.specs.Str.{bytes_eq}
 use Rattle.std.proofs.lemmas.Map.Text.{is_eq-slice_cmp}
-use Rattle.sqlite_value.proofs.OrderLemmas.{value_cmp-Text}
-use Rattle.sqlite.specs.declared.types.Value.TheVariants.{Text}
+use Rattle.sqlite_value.proofs.OrderLemmas.{value_cmp-Int, value_cmp-Text}
+use Rattle.std.specs.Cmp.{Equal-is, int_cmp_is}
+use Rattle.std.specs.Ordering.{int_cmp}
+use Rattle.std.specs.declared.cmp.Ordering.TheVariants.{Equal}
+use Rattle.sqlite.specs.declared.types.Value.TheVariants.{Int, Text}
 use Rattle.sqlite.specs.Order.{Row as Cells, value_cmp}
 use Rattle.sqlite.specs.Collation.TheVariants.{Binary}
 use Rattle.sqlite_sql.specs.Ops.{binary, is_true, from_truth}
@@ -20,11 +24,16 @@ use Rattle.rolls.specs.declared.row.RowKey.{RowKey}
 use Rattle.rolls.specs.declared.row.RowKey.TheVariants as key
 use Rattle.rolls.specs.Rows.{key_of, same_row}
 use Rattle.tables.specs.declared.table.Table.{Table}
-use Rattle.tables.specs.declared.table.Table.TheVariants.{Edition, Supervisor, Project, Student}
+use Rattle.tables.specs.declared.table.Table.TheVariants.{Edition, Supervisor, Project, Student, Round, Choice, Placement}
 use Rattle.tables.specs.Table.{same_table}
 use Rattle.tables.proofs.Runs.{same_table_is, same_table_self}
+use Rattle.tables.proofs.Testing.{equal_int}
 use Rattle.store.specs.Rows.{IsRoll, columns, is_in, columns_of, rolls, table_of}
 use Rattle.store.proofs.Keys.{dropped}
+
+natural : ℤ → ℕ
+natural (pos n) = n
+natural (negsuc n) = 0
 
 truth_is : (b : Bool) → is_true (from_truth (Some b)) ≡ b
 truth_is true = refl
@@ -43,18 +52,27 @@ abbrev pub table_at_key : RowKey → Table
 table_at_key (key.Supervisor code) = Supervisor
 table_at_key (key.Project code) = Project
 table_at_key (key.Student code) = Student
+table_at_key (key.Round number) = Round
+table_at_key (key.Choice round student place) = Choice
+table_at_key (key.Placement student) = Placement
 
 -- the columns of a key
 abbrev pub key_columns : RowKey → Cells
 key_columns (key.Supervisor code) = Text code ∷ []
 key_columns (key.Project code) = Text code ∷ []
 key_columns (key.Student code) = Text code ∷ []
+key_columns (key.Round number) = Int (pos number) ∷ []
+key_columns (key.Choice round student place) = Int (pos round) ∷ Text student ∷ Int (pos place) ∷ []
+key_columns (key.Placement student) = Text student ∷ []
 
 -- a row has the table of its key
 pub same_tables : (r : Row) → table_at_key (key_of r) ≡ table_of r
 same_tables (row.Supervisor c l n) = refl
 same_tables (row.Project c l s n) = refl
 same_tables (row.Student c l) = refl
+same_tables (row.Round n o) = refl
+same_tables (row.Choice n s k p) = refl
+same_tables (row.Placement s n p k) = refl
 
 -- each key is of the table of a roll
 pub in_rolls : (k : RowKey) → IsRoll (table_at_key k)
@@ -62,6 +80,9 @@ unfolding IsRoll
 in_rolls (key.Supervisor code) = inl refl
 in_rolls (key.Project code) = inr (inl refl)
 in_rolls (key.Student code) = inr (inr (inl refl))
+in_rolls (key.Round number) = inr (inr (inr (inl refl)))
+in_rolls (key.Choice round student place) = inr (inr (inr (inr (inl refl))))
+in_rolls (key.Placement student) = inr (inr (inr (inr (inr (inl refl)))))
 
 are_once : List Table → Bool
 are_once [] = true
@@ -89,18 +110,30 @@ is_of table r h = same_table_is table (table_of r) h
 pub in_once : (a b : Table) (r : Row) → is_in a r ≡ true → is_in b r ≡ true → a ≡ b
 in_once a b r p q = is_of a r p ∙ sym (is_of b r q)
 
-beside_true : (b : Bool) → (b && true) ≡ b
-beside_true true = refl
-beside_true false = refl
+same_tests : (a b : Bool) → (a ≡ true → b ≡ true) → (b ≡ true → a ≡ true) → a ≡ b
+same_tests true b f g = sym (f refl)
+same_tests false true f g = g refl
+same_tests false false f g = refl
 
-same_code : (a b : List ℕ) → not (bytes_eq a b) ≡ not (equal Binary (Text a) (Text b) && true)
-same_code a b = ap not (sym (beside_true _ ∙ equal_text a b))
+int_self : (a : ℤ) → equal Binary (Int a) (Int a) ≡ true
+unfolding binary
+int_self a = truth_is _ ∙ ap is_eq (value_cmp-Int a a) ∙ (Equal-is (int_cmp a a)).1 (sym (int_cmp_is a a Equal refl))
+
+-- numbers are equal as SQL has it where they are one
+equal_number : (a b : ℕ) → equal Binary (Int (pos a)) (Int (pos b)) ≡ bytes_eq (a ∷ []) (b ∷ [])
+unfolding natural
+equal_number a b = same_tests _ _
+    (λ h. (bytes_eq-Decides (a ∷ []) (b ∷ [])).1 (ap (λ (n : ℤ). natural n ∷ []) (equal_int (pos a) (pos b) h)))
+    (λ h. subst (λ (m : ℕ). equal Binary (Int (pos a)) (Int (pos m)) ≡ true) (ap (λ (ns : List ℕ). get_or ns 0 0) ((bytes_eq-Decides (a ∷ []) (b ∷ [])).0 h)) (int_self (pos a)))
 
 -- in its own table SQL drops the rows that have the key
 drops_own : (k : RowKey) (s : Row) → is_in (table_at_key k) s ≡ true → not (same_row (key_of s) k) ≡ not (begins_with (key_columns k) (columns s))
-drops_own (key.Supervisor code) (row.Supervisor c l n) h = same_code c code
-drops_own (key.Project code) (row.Project c l s n) h = same_code c code
-drops_own (key.Student code) (row.Student c l) h = same_code c code
+drops_own (key.Supervisor code) (row.Supervisor c l n) h = ap (λ t. not (t && true)) (sym (equal_text c code))
+drops_own (key.Project code) (row.Project c l s n) h = ap (λ t. not (t && true)) (sym (equal_text c code))
+drops_own (key.Student code) (row.Student c l) h = ap (λ t. not (t && true)) (sym (equal_text c code))
+drops_own (key.Round number) (row.Round n o) h = ap (λ t. not (t && true)) (sym (equal_number n number))
+drops_own (key.Choice round student place) (row.Choice n s k p) h = λ i. not (sym (equal_number n round) i && (sym (equal_text s student) i && (sym (equal_number k place) i && true)))
+drops_own (key.Placement student) (row.Placement s n p k) h = ap (λ t. not (t && true)) (sym (equal_text s student))
 drops_own _ _ h = absurd (cc)
 
 -- a row of another table has another key
@@ -108,6 +141,9 @@ other_key : (k : RowKey) (s : Row) → table_of s ≢ table_at_key k → same_ro
 other_key (key.Supervisor code) (row.Supervisor c l n) apart = absurd (apart refl)
 other_key (key.Project code) (row.Project c l s n) apart = absurd (apart refl)
 other_key (key.Student code) (row.Student c l) apart = absurd (apart refl)
+other_key (key.Round number) (row.Round n o) apart = absurd (apart refl)
+other_key (key.Choice round student place) (row.Choice n s k p) apart = absurd (apart refl)
+other_key (key.Placement student) (row.Placement s n p k) apart = absurd (apart refl)
 other_key _ _ apart = refl
 
 -- the key of one table is that of no row of another
@@ -146,13 +182,15 @@ columns_more r list = rw (same_table_self (table_of r)) refl
 pub columns_same : (table : Table) (r : Row) (list : List Row) → is_in table r ≡ false → columns_of table (r ∷ list) ≡ columns_of table list
 columns_same table r list kind = rw kind refl
 
+not_edition : (tables : List Table) → list_any (same_table Edition) tables ≡ false → (table : Table) → Has tables table → table ≢ Edition
+not_edition [] none table h e = absurd h
+not_edition (q ∷ qs) none table (inl is) e = true≢false (sym (ap (same_table Edition) (sym is ∙ e)) ∙ (or_parts (same_table Edition q) (list_any (same_table Edition) qs) none).0)
+not_edition (q ∷ qs) none table (inr h) e = not_edition qs (or_parts (same_table Edition q) (list_any (same_table Edition) qs) none).1 table h e
+
 -- no roll is the edition
 pub apart_edition : (table : Table) → IsRoll table → table ≢ Edition
 unfolding IsRoll
-apart_edition table (inl is) e = let f : Supervisor ≡ Edition = sym is ∙ e in cc
-apart_edition table (inr (inl is)) e = let f : Project ≡ Edition = sym is ∙ e in cc
-apart_edition table (inr (inr (inl is))) e = let f : Student ≡ Edition = sym is ∙ e in cc
-apart_edition table (inr (inr (inr none))) e = absurd none
+apart_edition table h e = not_edition rolls refl table h e
 
 -- a roll stands in the list
 pub among_rolls : (table : Table) → IsRoll table → Has rolls table

@@ -1,6 +1,11 @@
 -- The rows of a fit office have UTF-8 texts and small quotas.
-use Rattle.std.proofs.Common.{◌≡◌, inl, inr, List, [], ◌∷◌, Bool, true, false, cond, filter, map, Option, Some, None, refl, sym, ap, subst, ◌∙◌, arith}
-use Rattle.std.specs.Option.{option_map}
+use Rattle.std.proofs.Common.{◌≡◌, inl, inr, List, [], ◌∷◌, Bool, true, false, cond, filter, map, Option, Some, None, is_some, ℕ, zero, suc, ◌<◌, ◌≤◌, ◌-◌, length, slice_get, IsTrue, refl, sym, ap, subst, ◌∙◌, arith}
+use Rattle.std.specs.Option.{option_map, option_map_or}
+use Rattle.std.specs.List.{AllByRecursion}
+use Rattle.spa.specs.Text.{is_code}
+use Rattle.rolls.specs.declared.rounds.Listed.{Listed}
+use Rattle.rolls.specs.declared.rounds.Round.{Round}
+use Rattle.rolls.proofs.Determined.{choice_at}
 use Rattle.std.proofs.lemmas.Bool.{and_parts, or_parts, not-true, cases_Bool}
 use Rattle.sqlite.specs.Order.{Row as Cells}
 use Rattle.sqlite_rules.specs.Lists.{Has}
@@ -10,24 +15,17 @@ use Rattle.rolls.specs.declared.row.Row.TheVariants as row
 use Rattle.rolls.specs.declared.row.RowKey.{RowKey}
 use Rattle.rolls.specs.Roll.{Key, find, same_key}
 use Rattle.spa.proofs.Texts.{code_utf8, label_utf8}
-use Rattle.office.proofs.Gathered.{known_is_code}
-use Rattle.rolls.specs.State.{State, supervisor_of, project_of, student_of, supervisor_key, project_key, student_key}
-use Rattle.rolls.specs.Fit.{IsFit, SupervisorFits, ProjectFits, StudentFits}
-use Rattle.rolls.specs.Rows.{key_of, same_row, row_of, supervisor_row, project_row, student_row}
+use Rattle.rolls.specs.State.{State, supervisor_of, project_of, student_of, round_of, placement_of, supervisor_key, project_key, student_key, list_key, placement_key, has_supervisor, has_project, has_student, last_round, lists_of, list_of, choices_in, is_closed}
+use Rattle.rolls.specs.Fit.{IsFit, SupervisorFits, ProjectFits, StudentFits, ListFits, PlacementFits}
+use Rattle.rolls.proofs.Found.{found_key, holds_of_found}
+use Rattle.rolls.proofs.LastRound.{round_within, closed_within}
+use Rattle.rolls.specs.Rows.{key_of, same_row, row_of, supervisor_row, project_row, student_row, round_row, placement_row, choice_in}
 use Rattle.rolls.specs.From.{row_in, are_apart}
 use Rattle.tables.specs.declared.table.Table.{Table}
 use Rattle.store.specs.Rows.{columns, is_in, columns_of, AreRowsAt}
 use Rattle.store.specs.Reading.{IsTyped}
-use Rattle.store.proofs.Keys.{same_row_is, same_row_self}
+use Rattle.rolls.proofs.RowKeys.{same_row_is, same_row_self}
 use Rattle.std.specs.List.{list_any}
-
-found_go : {E : Type 0} (key : E → Key) (k : Key) (e x : E) (es : List E) (b : Bool) → (find key k es ≡ Some x → Has es x) → cond b (Some e) (find key k es) ≡ Some x → Has (e ∷ es) x
-found_go key k e x es true later h = inl (cc)
-found_go key k e x es false later h = inr (later h)
-
-found_has : {E : Type 0} (key : E → Key) (k : Key) (es : List E) (x : E) → find key k es ≡ Some x → Has es x
-found_has key k [] x h = absurd (cc)
-found_has key k (e ∷ es) x h = found_go key k e x es (same_key k (key e)) (found_has key k es x) h
 
 mapped : {X Y : Type 0} (f : X → Y) (o : Option X) (y : Y) → option_map f o ≡ Some y → (x : X) × (o ≡ Some x) × (f x ≡ y)
 mapped f None y h = absurd (cc)
@@ -51,22 +49,106 @@ row_stands (s ∷ rest) r apart (inr h) =
       | inr other ↦ ap (λ b. cond b (Some s) (row_in rest (key_of r))) other ∙ row_stands rest r parts.1 h
     ]
 
+-- what is on a roll has an entry
+entry : {E : Type 0} (x : Option E) → is_some x ≡ true → (e : E) × (x ≡ Some e)
+entry None h = absurd (cc)
+entry (Some e) h = (e, refl)
+
+below : {X : Type 0} (xs : List X) (i : ℕ) (x : X) → slice_get xs i ≡ Some x → i < length xs
+below [] i x h = absurd (cc)
+below (y ∷ ys) zero x h = omega arith
+below (y ∷ ys) (suc i) x h = let low = below ys i x h in omega (arith, low)
+
+all_at : {X : Type 0} (P : X → Type 0) (xs : List X) (i : ℕ) (x : X) → AllByRecursion P xs → slice_get xs i ≡ Some x → P x
+all_at P [] i x all h = absurd (cc)
+all_at P (y ∷ ys) zero x all h = let same : y ≡ x = cc in subst P same all.0
+all_at P (y ∷ ys) (suc i) x all h = all_at P ys i x all.1 h
+
+module _ (o : State) (fit : IsFit o) where
+  -- codes on the rolls are codes
+  supervisor_is_code : (code : List ℕ) → has_supervisor o code ≡ true → is_code code ≡ true
+  supervisor_is_code code h =
+      let it = entry (supervisor_of o code) h in
+      ap (λ (k : Key). is_code k.1) (found_key supervisor_key (0, code) o.supervisors it.0 it.1) ∙ (holds_of_found supervisor_key SupervisorFits (0, code) o.supervisors it.0 fit.supervisors_fit it.1).code
+
+  project_is_code : (code : List ℕ) → has_project o code ≡ true → is_code code ≡ true
+  project_is_code code h =
+      let it = entry (project_of o code) h in
+      ap (λ (k : Key). is_code k.1) (found_key project_key (0, code) o.projects it.0 it.1) ∙ (holds_of_found project_key (ProjectFits o) (0, code) o.projects it.0 fit.projects_fit it.1).code
+
+  student_is_code : (code : List ℕ) → has_student o code ≡ true → is_code code ≡ true
+  student_is_code code h =
+      let it = entry (student_of o code) h in
+      ap (λ (k : Key). is_code k.1) (found_key student_key (0, code) o.students it.0 it.1) ∙ (holds_of_found student_key StudentFits (0, code) o.students it.0 fit.students_fit it.1).code
+
+  -- what is listed stands in a list
+  listed : (round : ℕ) (student : List ℕ) (i : ℕ) (project : List ℕ) (x : Option Listed) → list_of o round student ≡ x → slice_get (option_map_or (λ l. l.choices) x []) i ≡ Some project
+      → (l : Listed) × (list_of o round student ≡ Some l) × (slice_get l.choices i ≡ Some project)
+  listed round student i project None is h = absurd (cc)
+  listed round student i project (Some l) is h = (l, is, h)
+
+  -- and a list in a round
+  round_there : (round : ℕ) (student : List ℕ) (l : Listed) (x : Option Round) → round_of o round ≡ x → find list_key (0, student) (option_map_or (λ r. r.lists) x []) ≡ Some l → round ≤ last_round o
+  round_there round student l None is h = absurd (cc)
+  round_there round student l (Some r) is h = (round_within o fit.numbered round r is).within
+
+  -- a choice that stands in a round: its round, its student and its project are known, and its place is one of eight
+  record IsStanding (n : ℕ) (s : List ℕ) (k : ℕ) (p : List ℕ) : Type 0 where
+    round : n ≤ 12
+    student : is_code s ≡ true
+    place : k ≤ 8
+    project : is_code p ≡ true
+
+  choice_stands : (round : ℕ) (student : List ℕ) (i : ℕ) (project : List ℕ) → slice_get (choices_in o round student) i ≡ Some project → IsStanding round student (suc i) project
+  choice_stands round student i project h =
+      let there = listed round student i project (list_of o round student) refl h in
+      let l = there.0 in
+      let fits = holds_of_found list_key (ListFits o round) (0, student) (lists_of o round) l (fit.lists_fit round) there.1 in
+      let number = round_there round student l (round_of o round) refl there.1 in
+      record {
+        round = omega (arith, number, fit.few_rounds);
+        student = ap (λ (k : Key). is_code k.1) (found_key list_key (0, student) (lists_of o round) l there.1) ∙ student_is_code l.student fits.student;
+        place = let low = below l.choices i project there.2 in omega (arith, low, fits.few);
+        project = project_is_code project (all_at (λ p. IsTrue (has_project o p)) l.choices i project fits.projects there.2);
+      }
+
+project_in : Row → List ℕ
+project_in (row.Choice round student place project) = project
+project_in _ = []
+
 typed_at : (o : State) → IsFit o → (r : Row) → row_of o (key_of r) ≡ Some r → IsTyped r
+unfolding mapped project_in
 typed_at o fit (row.Supervisor code label quota) h =
     let it = mapped supervisor_row (supervisor_of o code) (row.Supervisor code label quota) h in
     let s = it.0 in
-    let fits = all_has SupervisorFits o.supervisors s fit.supervisors_fit (found_has supervisor_key (0, code) o.supervisors s it.1) in
+    let fits = holds_of_found supervisor_key SupervisorFits (0, code) o.supervisors s fit.supervisors_fit it.1 in
     subst IsTyped it.2 (code_utf8 s.code fits.code, label_utf8 s.label fits.label, omega (arith, fits.quota))
 typed_at o fit (row.Project code label supervisor quota) h =
     let it = mapped project_row (project_of o code) (row.Project code label supervisor quota) h in
     let p = it.0 in
-    let fits = all_has (ProjectFits o) o.projects p fit.projects_fit (found_has project_key (0, code) o.projects p it.1) in
-    subst IsTyped it.2 (code_utf8 p.code fits.code, label_utf8 p.label fits.label, code_utf8 p.supervisor (known_is_code o fit p.supervisor fits.supervisor), omega (arith, fits.quota))
+    let fits = holds_of_found project_key (ProjectFits o) (0, code) o.projects p fit.projects_fit it.1 in
+    subst IsTyped it.2 (code_utf8 p.code fits.code, label_utf8 p.label fits.label, code_utf8 p.supervisor (supervisor_is_code o fit p.supervisor fits.supervisor), omega (arith, fits.quota))
 typed_at o fit (row.Student code label) h =
     let it = mapped student_row (student_of o code) (row.Student code label) h in
     let s = it.0 in
-    let fits = all_has StudentFits o.students s fit.students_fit (found_has student_key (0, code) o.students s it.1) in
+    let fits = holds_of_found student_key StudentFits (0, code) o.students s fit.students_fit it.1 in
     subst IsTyped it.2 (code_utf8 s.code fits.code, label_utf8 s.label fits.label)
+typed_at o fit (row.Round number is_open) h =
+    let it = mapped round_row (round_of o number) (row.Round number is_open) h in
+    let low = (round_within o fit.numbered number it.0 it.1).within in
+    omega (arith, low, fit.few_rounds)
+typed_at o fit (row.Choice round student zero project) h = absurd (cc)
+typed_at o fit (row.Choice round student (suc i) project) h =
+    let it = mapped (row.Choice round student (suc i)) (choice_in (choices_in o round student) (suc i)) (row.Choice round student (suc i) project) h in
+    let same : it.0 ≡ project = ap project_in it.2 in
+    let stands = choice_stands o fit round student i project (sym (choice_at (choices_in o round student) i) ∙ it.1 ∙ ap Some same) in
+    (omega (arith, stands.round), code_utf8 student stands.student, omega (arith, stands.place), code_utf8 project stands.project)
+typed_at o fit (row.Placement student round project rank) h =
+    let it = mapped placement_row (placement_of o student) (row.Placement student round project rank) h in
+    let p = it.0 in
+    let fits = holds_of_found placement_key (PlacementFits o) (0, student) o.placements p fit.placements_fit it.1 in
+    let stands = choice_stands o fit p.round p.student (p.rank - 1) p.project fits.listed in
+    subst IsTyped it.2 (code_utf8 p.student stands.student, omega (arith, stands.round), code_utf8 p.project stands.project, omega (arith, stands.place, fits.rank))
 
 -- each row of a fit office has UTF-8 texts and a small quota
 pub is_typed : (o : State) (list : List Row) (r : Row) → IsFit o → AreRowsAt list (row_of o) → Has list r → IsTyped r

@@ -19,9 +19,9 @@ use Rattle.rolls.specs.From as from
 use Rattle.tables.specs.declared.table.Table.{Table}
 use Rattle.tables.specs.declared.table.Table.TheVariants.{Edition}
 use Rattle.store.specs.Rows.{IsRoll, columns_of}
-use Rattle.office.specs.declared.draft.RowsFault.{RowsFault}
-use Rattle.office.specs.declared.draft.RowsFault.TheVariants.{Unfit}
-use Rattle.office.specs.declared.draft.RowsFault.TheVariants as why
+use Rattle.drafts.specs.declared.fault.RowsFault.{RowsFault}
+use Rattle.drafts.specs.declared.fault.RowsFault.TheVariants.{Unfit}
+use Rattle.drafts.specs.declared.fault.RowsFault.TheVariants as why
 use Rattle.store.specs.Faults.{of_rows}
 use Rattle.store.specs.declared.fault.StoreFault.TheVariants.{Damaged}
 use Rattle.store.specs.Tables.{StandsFor, first_edition}

@@ -2,27 +2,13 @@
 use Rattle.std.proofs.Common.{◌≡◌, List, [], ◌∷◌, Bool, true, false, not, ◌||◌, cond, filter, Option, Some, None, refl, sym, ap, subst, ◌∙◌, true≢false}
 use Rattle.std.specs.List.{list_any}
 use Rattle.std.proofs.lemmas.Bool.{and_parts, and_from, or_parts, not-true, false_from_ne_true}
-use Rattle.std.proofs.lemmas.Slice.Eq.{bytes_eq-Decides}
 use Rattle.rolls.specs.declared.row.Row.{Row}
 use Rattle.rolls.specs.declared.row.RowKey.{RowKey}
-use Rattle.rolls.specs.declared.row.RowKey.TheVariants as key
 use Rattle.rolls.specs.declared.row.Change.TheVariants.{Put, Take}
 use Rattle.rolls.specs.Rows.{key_of, same_row, after_change}
 use Rattle.rolls.specs.From.{row_in, are_apart}
+use Rattle.rolls.proofs.RowKeys.{same_row_is, same_row_self, apart_back}
 use Rattle.store.specs.Rows.{AreRowsAt}
-
--- keys that are tested to be one are one
-pub same_row_is : (a b : RowKey) → same_row a b ≡ true → a ≡ b
-same_row_is (key.Supervisor a) (key.Supervisor b) h = ap key.Supervisor ((bytes_eq-Decides a b).0 h)
-same_row_is (key.Project a) (key.Project b) h = ap key.Project ((bytes_eq-Decides a b).0 h)
-same_row_is (key.Student a) (key.Student b) h = ap key.Student ((bytes_eq-Decides a b).0 h)
-same_row_is _ _ h = absurd (cc)
-
--- a key is itself
-pub same_row_self : (a : RowKey) → same_row a a ≡ true
-same_row_self (key.Supervisor a) = (bytes_eq-Decides a a).1 refl
-same_row_self (key.Project a) = (bytes_eq-Decides a a).1 refl
-same_row_self (key.Student a) = (bytes_eq-Decides a a).1 refl
 
 -- one key is tested to be one
 pub same_row_by : (a b : RowKey) → a ≡ b → same_row a b ≡ true
@@ -31,10 +17,6 @@ same_row_by a b e = subst (λ k. same_row a k ≡ true) e (same_row_self a)
 -- where one key is another, a test of either is a test of both
 pub other_row : (a b c : RowKey) → same_row a c ≡ false → same_row b c ≡ true → same_row a b ≡ false
 other_row a b c apart same = false_from_ne_true _ (λ h. true≢false (sym (same_row_by a c (same_row_is a b h ∙ same_row_is b c same)) ∙ apart))
-
--- keys differ either way round
-pub same_row_turned : (a b : RowKey) → same_row a b ≡ false → same_row b a ≡ false
-same_row_turned a b apart = false_from_ne_true _ (λ h. true≢false (sym (same_row_by a b (sym (same_row_is b a h))) ∙ apart))
 
 -- the rows but for those with the key
 abbrev pub dropped : RowKey → List Row → List Row
@@ -53,7 +35,7 @@ in_other k key (s ∷ rest) apart = in_other_go k key s rest (same_row (key_of s
 in_gone_go : (key : RowKey) (s : Row) (rest : List Row) (b : Bool) → same_row (key_of s) key ≡ b → row_in (dropped key rest) key ≡ None
     → row_in (cond (not b) (s ∷ dropped key rest) (dropped key rest)) key ≡ None
 in_gone_go key s rest true is later = later
-in_gone_go key s rest false is later = ap (λ t. cond t (Some s) (row_in (dropped key rest) key)) (same_row_turned (key_of s) key is) ∙ later
+in_gone_go key s rest false is later = ap (λ t. cond t (Some s) (row_in (dropped key rest) key)) (apart_back (key_of s) key is) ∙ later
 
 -- nothing stands at a key that is dropped
 pub in_gone : (key : RowKey) (list : List Row) → row_in (dropped key list) key ≡ None
@@ -81,7 +63,7 @@ apart_dropped key (s ∷ rest) apart = apart_go key s rest (not (same_row (key_o
 none_go : (key : RowKey) (s : Row) (rest : List Row) (b : Bool) → same_row (key_of s) key ≡ b → list_any (λ t. same_row key (key_of t)) (dropped key rest) ≡ false
     → list_any (λ t. same_row key (key_of t)) (cond (not b) (s ∷ dropped key rest) (dropped key rest)) ≡ false
 none_go key s rest true is later = later
-none_go key s rest false is later = λ i. same_row_turned (key_of s) key is i || later i
+none_go key s rest false is later = λ i. apart_back (key_of s) key is i || later i
 
 -- no row is left with the key
 pub none_dropped : (key : RowKey) (list : List Row) → list_any (λ t. same_row key (key_of t)) (dropped key list) ≡ false

@@ -1,5 +1,5 @@
 -- The tables that were made stand for the empty office.
-use Rattle.std.proofs.Common.{◌≡◌, ◌≢◌, ◌⊎◌, ◌+◌, ◌<◌, ◌≤◌, ◌++◌, ℕ, List, [], ◌∷◌, length, get_or, take, inl, inr, refl, sym, ap, subst, ◌∙◌}
+use Rattle.std.proofs.Common.{◌≡◌, ◌≢◌, ◌⊎◌, ◌+◌, ◌<◌, ◌≤◌, ◌++◌, ℕ, List, [], ◌∷◌, length, get_or, take, inl, inr, ◌-◌, Bool, true, false, cond, Option, None, refl, sym, ap, subst, ◌∙◌}
 use Rattle.std.proofs.lemmas.List.{take_more, take_all}
 use Rattle.sqlite.specs.Effect.{Database}
 use Rattle.sqlite.specs.Schema.{Schema}
@@ -11,7 +11,10 @@ use Rattle.sqlite_rules.specs.Lists.{Has}
 use Rattle.sqlite_rules.proofs.ListLemmas.{has_either}
 use Rattle.rolls.specs.declared.row.RowKey.{RowKey}
 use Rattle.rolls.specs.declared.row.RowKey.TheVariants as key
-use Rattle.rolls.specs.Rows.{row_of}
+use Rattle.rolls.specs.declared.row.Row.TheVariants as row
+use Rattle.rolls.specs.Rows.{row_of, choice_in}
+use Rattle.std.specs.Prelude.{nat_le, slice_get}
+use Rattle.std.specs.Option.{option_map}
 use Rattle.rolls.specs.From.{row_in}
 use Rattle.rolls.specs.State.{State, empty}
 use Rattle.tables.specs.declared.table.Table.{Table}
@@ -25,10 +28,16 @@ use Rattle.store.specs.Rows.{kept, AreRowsAt}
 use Rattle.store.specs.Tables.{AreRuled, MakesTables, StandsFor, Empties, Founds, HasNone, Opens, first_edition}
 use Rattle.store.proofs.Columns.{apart_edition, among_rolls}
 
+nothing_at : (place : ℕ) → ◌≡◌ {A = Option (List ℕ)} None (choice_in [] place)
+nothing_at place = elim (nat_le 1 place) as (λ t. ◌≡◌ {A = Option (List ℕ)} None (cond t (slice_get [] (place - 1)) None)) [ true ↦ refl | false ↦ refl ]
+
 no_row : (k : RowKey) → row_in [] k ≡ row_of empty k
 no_row (key.Supervisor code) = refl
 no_row (key.Project code) = refl
 no_row (key.Student code) = refl
+no_row (key.Round number) = refl
+no_row (key.Choice round student place) = ap (option_map (row.Choice round student place)) (nothing_at place)
+no_row (key.Placement student) = refl
 
 no_rows : AreRowsAt [] (row_of empty)
 no_rows = record { apart = refl; each = no_row }

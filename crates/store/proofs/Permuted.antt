@@ -1,5 +1,5 @@
 -- Rows in another order.
-use Rattle.std.proofs.Common.{◌≡◌, inl, inr, List, [], ◌∷◌, ◌++◌, Bool, true, false, not, ◌||◌, cond, filter, map, Option, Some, refl, sym, ap, subst, subst₂, ◌∙◌, true≢false, ℕ, ℤ, pos, negsuc}
+use Rattle.std.proofs.Common.{◌≡◌, inl, inr, List, [], ◌∷◌, ◌++◌, Bool, true, false, not, ◌||◌, cond, filter, map, Option, Some, refl, sym, ap, subst, subst₂, ◌∙◌, true≢false, ℕ, ℤ, pos, negsuc, ◌==◌}
 use Rattle.std.specs.List.{list_any}
 use Rattle.std.specs.List.Sorted.{IsPermutation}
 use Rattle.std.proofs.lemmas.Bool.{and_parts, and_from, or_parts, not-true}
@@ -15,11 +15,12 @@ use Rattle.rolls.specs.declared.row.RowKey.{RowKey}
 use Rattle.rolls.specs.Rows.{key_of, same_row}
 use Rattle.rolls.specs.From.{row_in, are_apart}
 use Rattle.tables.specs.declared.table.Table.{Table}
-use Rattle.tables.specs.declared.table.Table.TheVariants.{Supervisor, Project}
+use Rattle.tables.specs.declared.table.Table.TheVariants.{Supervisor, Project, Student, Round, Choice}
 use Rattle.store.specs.Rows.{IsRoll, columns, is_in, columns_of, rolls, table_of, AreRowsAt}
 use Rattle.tables.proofs.Runs.{same_table_is}
 use Rattle.store.proofs.Columns.{is_roll}
-use Rattle.store.proofs.Keys.{same_row_is, same_row_by, same_row_turned}
+use Rattle.rolls.proofs.RowKeys.{same_row_is, apart_back}
+use Rattle.store.proofs.Keys.{same_row_by}
 
 -- ---- what is among permuted rows
 
@@ -77,7 +78,7 @@ along_swap x y xs = record {
       let parts = and_parts _ _ h in
       let first = or_parts _ _ (not-true _ parts.0) in
       let rest = and_parts _ _ parts.1 in
-      and_from _ _ (none_both _ _ (same_row_turned (key_of x) (key_of y) first.0) (not-true _ rest.0)) (and_from _ _ (ap not first.1) rest.1);
+      and_from _ _ (none_both _ _ (apart_back (key_of x) (key_of y) first.0) (not-true _ rest.0)) (and_from _ _ (ap not first.1) rest.1);
   each = λ h k.
       let parts = and_parts _ _ h in
       let first = or_parts _ _ (not-true _ parts.0) in
@@ -121,13 +122,20 @@ number_in (Blob b) = 0
 row_from : Table → Cells → Row
 row_from Supervisor v = row.Supervisor (text_in (column v 0)) (text_in (column v 1)) (number_in (column v 2))
 row_from Project v = row.Project (text_in (column v 0)) (text_in (column v 1)) (text_in (column v 2)) (number_in (column v 3))
-row_from _ v = row.Student (text_in (column v 0)) (text_in (column v 1))
+row_from Student v = row.Student (text_in (column v 0)) (text_in (column v 1))
+row_from Round v = row.Round (number_in (column v 0)) (number_in (column v 1) == 1)
+row_from Choice v = row.Choice (number_in (column v 0)) (text_in (column v 1)) (number_in (column v 2)) (text_in (column v 3))
+row_from _ v = row.Placement (text_in (column v 0)) (number_in (column v 1)) (text_in (column v 2)) (number_in (column v 3))
 
 own_columns : (r : Row) → row_from (table_of r) (columns r) ≡ r
 unfolding row_from text_in number_in natural
 own_columns (row.Supervisor c l n) = refl
 own_columns (row.Project c l s n) = refl
 own_columns (row.Student c l) = refl
+own_columns (row.Round n true) = refl
+own_columns (row.Round n false) = refl
+own_columns (row.Choice n s k p) = refl
+own_columns (row.Placement s n p k) = refl
 
 from_columns : (table : Table) (r : Row) → is_in table r ≡ true → row_from table (columns r) ≡ r
 from_columns table r h = subst (λ t. row_from t (columns r) ≡ r) (sym (same_table_is table (table_of r) h)) (own_columns r)
@@ -178,6 +186,9 @@ unfolding is_of_one
 of_one (row.Supervisor c l n) = refl
 of_one (row.Project c l s n) = refl
 of_one (row.Student c l) = refl
+of_one (row.Round n o) = refl
+of_one (row.Choice n s k p) = refl
+of_one (row.Placement s n p k) = refl
 
 sorted : (rows : List Row) → IsPermutation rows (gathered rolls rows)
 unfolding gathered

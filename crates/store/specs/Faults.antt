@@ -1,8 +1,8 @@
 -- Why a call of the store fails, by why a call below it does.
 use Rattle.tables.specs.declared.fault.TableFault.{TableFault}
 use Rattle.tables.specs.declared.fault.TableFault.TheVariants as table
-use Rattle.office.specs.declared.draft.RowsFault.{RowsFault}
-use Rattle.office.specs.declared.draft.RowsFault.TheVariants as rows
+use Rattle.drafts.specs.declared.fault.RowsFault.{RowsFault}
+use Rattle.drafts.specs.declared.fault.RowsFault.TheVariants as rows
 use Rattle.store.specs.declared.fault.StoreFault.{StoreFault}
 use Rattle.store.specs.declared.fault.StoreFault.TheVariants.{Memory, Storage, Damaged}
 

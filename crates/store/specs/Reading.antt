@@ -17,11 +17,14 @@ use Rattle.tables.specs.Table.{Place, Lists, table_at}
 use Rattle.tables.specs.Keyed.{Stands}
 use Rattle.store.specs.Tables.{StandsFor}
 
--- a row as the program has it: its texts are UTF-8 and its quota is a `u32`
+-- a row as the program has it: its texts are UTF-8 and its numbers are of type `u32`
 abbrev pub IsTyped : Row → Type 0
 IsTyped (row.Supervisor code label quota) = IsUtf8 code × IsUtf8 label × (quota < 2 ^ 32)
 IsTyped (row.Project code label supervisor quota) = IsUtf8 code × IsUtf8 label × IsUtf8 supervisor × (quota < 2 ^ 32)
 IsTyped (row.Student code label) = IsUtf8 code × IsUtf8 label
+IsTyped (row.Round number is_open) = number < 2 ^ 32
+IsTyped (row.Choice round student place project) = (round < 2 ^ 32) × IsUtf8 student × (place < 2 ^ 32) × IsUtf8 project
+IsTyped (row.Placement student round project rank) = IsUtf8 student × (round < 2 ^ 32) × IsUtf8 project × (rank < 2 ^ 32)
 
 -- no row of the table that the program can have has these columns
 abbrev pub IsNoRow : Table → Cells → Type 0

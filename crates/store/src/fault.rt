@@ -1,6 +1,6 @@
 //! Why a call of the store fails.
 
-use office::RowsFault;
+use drafts::RowsFault;
 use std::alloc::{AllocError, AllocFailed};
 use tables::fault::TableFault;
 

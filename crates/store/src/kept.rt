@@ -3,12 +3,22 @@
 use tables::Table;
 
 /// Every table. Each is made after those that it refers to.
-pub const TABLES: [Table; 4] = [
+pub const TABLES: [Table; 7] = [
     Table::Edition,
     Table::Supervisor,
     Table::Project,
     Table::Student,
+    Table::Round,
+    Table::Choice,
+    Table::Placement,
 ];
 
-/// The tables of the rolls.
-pub const ROLLS: [Table; 3] = [Table::Supervisor, Table::Project, Table::Student];
+/// The tables that hold rows of an office.
+pub const ROLLS: [Table; 6] = [
+    Table::Supervisor,
+    Table::Project,
+    Table::Student,
+    Table::Round,
+    Table::Choice,
+    Table::Placement,
+];

@@ -1,6 +1,6 @@
 //! Rows as they are read.
 
-ghost use Rattle.std.specs.Prelude.{◌≡◌, ◌≢◌, ◌<◌, ◌^◌, ℕ, pos, List, IsUtf8, IfOk, drop, true};
+ghost use Rattle.std.specs.Prelude.{◌≡◌, ◌≢◌, ◌<◌, ◌^◌, ℕ, pos, Bool, cond, List, IsUtf8, IfOk, drop, true};
 ghost use Rattle.sqlite.specs.declared.types.Value.TheVariants.{Int, Text as Words};
 ghost use Rattle.sqlite.specs.Order.{Row as AnyCells, column};
 ghost use Rattle.sqlite_rules.specs.Lists.{Has};
@@ -48,6 +48,18 @@ fn number_at(cells: &Cells, at: usize) -> Result<u32, StoreFault>
     }
 }
 
+/// The truth value in a column, which is 0 or 1.
+fn flag_at(cells: &Cells, at: usize) -> Result<bool, StoreFault>
+    ensures flag { IfOk result (λ b. column cells.now at ≡ Int (pos (cond b 1 0))) }
+    ensures damaged { result ≡ Err StoreFault.Damaged → (b : Bool) → column cells.now at ≢ Int (pos (cond b 1 0)) }
+{
+    match number_at(cells, at)? {
+        0 => Ok(false),
+        1 => Ok(true),
+        _ => Err(StoreFault::Damaged),
+    }
+}
+
 /// The row with these columns, which come after its rowid.
 fn row_with(alloc: Global, table: Table, cells: &Cells) -> Result<Row, StoreFault>
     ensures row { IfOk result (λ row. (is_in table row ≡ true) × (columns row ≡ drop 1 cells.now)) }
@@ -56,27 +68,39 @@ fn row_with(alloc: Global, table: Table, cells: &Cells) -> Result<Row, StoreFaul
     if cells.column_count() != table.width() + 1 {
         return Err(StoreFault::Storage);
     }
-    let code = text_at(alloc, cells, 1)?;
-    let label = text_at(alloc, cells, 2)?;
     match table {
-        Table::Supervisor => {
-            let quota = number_at(cells, 3)?;
-            Ok(Row::Supervisor { code, label, quota })
-        }
-        Table::Project => {
-            let supervisor = text_at(alloc, cells, 3)?;
-            let quota = number_at(cells, 4)?;
-            Ok(Row::Project {
-                code,
-                label,
-                supervisor,
-                quota,
-            })
-        }
-        Table::Student => Ok(Row::Student { code, label }),
-        Table::Edition | Table::Round | Table::Choice | Table::Placement | Table::Import => Err(
-            StoreFault::Storage,
-        ),
+        Table::Supervisor => Ok(Row::Supervisor {
+            code: text_at(alloc, cells, 1)?,
+            label: text_at(alloc, cells, 2)?,
+            quota: number_at(cells, 3)?,
+        }),
+        Table::Project => Ok(Row::Project {
+            code: text_at(alloc, cells, 1)?,
+            label: text_at(alloc, cells, 2)?,
+            supervisor: text_at(alloc, cells, 3)?,
+            quota: number_at(cells, 4)?,
+        }),
+        Table::Student => Ok(Row::Student {
+            code: text_at(alloc, cells, 1)?,
+            label: text_at(alloc, cells, 2)?,
+        }),
+        Table::Round => Ok(Row::Round {
+            number: number_at(cells, 1)?,
+            is_open: flag_at(cells, 2)?,
+        }),
+        Table::Choice => Ok(Row::Choice {
+            round: number_at(cells, 1)?,
+            student: text_at(alloc, cells, 2)?,
+            place: number_at(cells, 3)?,
+            project: text_at(alloc, cells, 4)?,
+        }),
+        Table::Placement => Ok(Row::Placement {
+            student: text_at(alloc, cells, 1)?,
+            round: number_at(cells, 2)?,
+            project: text_at(alloc, cells, 3)?,
+            rank: number_at(cells, 4)?,
+        }),
+        Table::Edition | Table::Import => Err(StoreFault::Storage),
     }
 }
 

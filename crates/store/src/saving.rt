@@ -1,6 +1,6 @@
 //! Changes, in a transaction.
 
-ghost use Rattle.std.specs.Prelude.{◌≡◌, ◌≢◌, IsTrue, false, OnOk, OnErr};
+ghost use Rattle.std.specs.Prelude.{◌≡◌, ◌≢◌, cond, IsTrue, false, OnOk, OnErr};
 ghost use Rattle.sqlite.specs.State.{HasCleanDisk, Survives};
 ghost use Rattle.sqlite.specs.Held.{state};
 ghost use Rattle.tables.specs.Steps.{Does, HasSaved, HasStepped, IsKept, IsLeft, Stays};
@@ -12,6 +12,13 @@ use sqlite::{Alter, Connection, Transaction, params};
 use tables::Table;
 use tables::fault::TableFault;
 use tables::statements::{delete, put};
+
+/// The number that stands for a truth value.
+fn flag(value: bool) -> u32
+    ensures { result ≡ cond value 1 0 }
+{
+    if value { 1 } else { 0 }
+}
 
 /// Puts a row in its table.
 fn put_row<S: Alter>(tx: &mut Transaction<'_, S>, row: &Row) -> Result<(), TableFault>
@@ -37,6 +44,29 @@ fn put_row<S: Alter>(tx: &mut Transaction<'_, S>, row: &Row) -> Result<(), Table
         Row::Student { code, label } => {
             put(tx, Table::Student, params![code.as_str(), label.as_str()])
         }
+        Row::Round { number, is_open } => {
+            put(tx, Table::Round, params![*number, flag(*is_open)])
+        }
+        Row::Choice {
+            round,
+            student,
+            place,
+            project,
+        } => put(
+            tx,
+            Table::Choice,
+            params![*round, student.as_str(), *place, project.as_str()],
+        ),
+        Row::Placement {
+            student,
+            round,
+            project,
+            rank,
+        } => put(
+            tx,
+            Table::Placement,
+            params![student.as_str(), *round, project.as_str(), *rank],
+        ),
     }
 }
 
@@ -49,6 +79,11 @@ fn take_row<S: Alter>(tx: &mut Transaction<'_, S>, key: &RowKey) -> Result<(), T
         RowKey::Supervisor(code) => delete(tx, Table::Supervisor, params![code.as_str()]),
         RowKey::Project(code) => delete(tx, Table::Project, params![code.as_str()]),
         RowKey::Student(code) => delete(tx, Table::Student, params![code.as_str()]),
+        RowKey::Round(number) => delete(tx, Table::Round, params![*number]),
+        RowKey::Choice(round, student, place) => {
+            delete(tx, Table::Choice, params![*round, student.as_str(), *place])
+        }
+        RowKey::Placement(student) => delete(tx, Table::Placement, params![student.as_str()]),
     }
 }
 

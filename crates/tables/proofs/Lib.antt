@@ -16,13 +16,8 @@ mod Putting
 mod Quiet
 mod Layouts
 mod Rising
-mod Testing
-mod StudentTexts
-mod SupervisorTexts
-mod ProjectTexts
-mod EditionTexts
-mod RoundTexts
-mod ChoiceTexts
-mod PlacementTexts
-mod ImportTexts
+pub mod Testing
+mod Forms
+mod Texts
+mod Tables
 mod Told

@@ -235,11 +235,11 @@ impl Table {
                         parent_column: "code",
                     },
                 ],
-                named: 2,
+                named: 3,
                 create: "CREATE TABLE choice (round INTEGER NOT NULL REFERENCES round (number), student TEXT NOT NULL REFERENCES student (code), place INTEGER NOT NULL CHECK (place BETWEEN 1 AND 8), project TEXT NOT NULL REFERENCES project (code), PRIMARY KEY (round, student, place), UNIQUE (round, student, project)) STRICT",
                 insert: "INSERT INTO choice (round, student, place, project) VALUES (?1, ?2, ?3, ?4)",
                 update: "UPDATE choice SET round = ?1, student = ?2, place = ?3, project = ?4 WHERE round = ?1 AND student = ?2 AND place = ?3",
-                delete: "DELETE FROM choice WHERE round = ?1 AND student = ?2",
+                delete: "DELETE FROM choice WHERE round = ?1 AND student = ?2 AND place = ?3",
                 select: "SELECT rowid, * FROM choice",
             },
             Table::Placement => &Shape {

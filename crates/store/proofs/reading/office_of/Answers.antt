@@ -2,7 +2,7 @@ use Rattle.std.proofs.Common.{◌≡◌, ◌≢◌, Err, List, map, drop, ap, su
 use Rattle.sqlite.specs.Order.{Row as Cells}
 use Rattle.sqlite.specs.State.{HasCleanDisk}
 use Rattle.sqlite.specs.Held.{state}
-use Rattle.office.specs.declared.draft.RowsFault.TheVariants.{Unfit}
+use Rattle.drafts.specs.declared.fault.RowsFault.TheVariants.{Unfit}
 use Rattle.store.specs.declared.fault.StoreFault.TheVariants.{Damaged}
 use Rattle.store.specs.Faults.{of_rows}
 use Rattle.store.specs.Tables.{first_edition}

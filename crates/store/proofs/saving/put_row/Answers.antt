@@ -16,3 +16,18 @@ pub returns-in-Student-clause-step : goal.returns-in-Student-clause-step
 returns-in-Student-clause-step g c =
     rw c.in-Student.is (part_as _ _ _ _ _ (λ _ p. stepped_as _ _ _ _ (hold_put _ _ _) p)
     (rw (c.params-to_sql-in-Student.ensures, c.params-to_sql-in-Student-2.ensures, c.as_str-in-Student.ensures, c.as_str-in-Student-2.ensures) at c.put-in-Student.ensures.step))
+
+pub returns-in-Round-clause-step : goal.returns-in-Round-clause-step
+returns-in-Round-clause-step g c =
+    rw c.in-Round.is (part_as _ _ _ _ _ (λ _ p. stepped_as _ _ _ _ (hold_put _ _ _) p)
+    (rw (c.params-to_sql-in-Round.ensures, c.params-to_sql-in-Round-2.ensures, c.flag.ensures) at c.put-in-Round.ensures.step))
+
+pub returns-in-Choice-clause-step : goal.returns-in-Choice-clause-step
+returns-in-Choice-clause-step g c =
+    rw c.in-Choice.is (part_as _ _ _ _ _ (λ _ p. stepped_as _ _ _ _ (hold_put _ _ _) p)
+    (rw (c.params-to_sql-in-Choice.ensures, c.params-to_sql-in-Choice-2.ensures, c.params-to_sql-in-Choice-3.ensures, c.params-to_sql-in-Choice-4.ensures, c.as_str-in-Choice.ensures, c.as_str-in-Choice-2.ensures) at c.put-in-Choice.ensures.step))
+
+pub returns-in-Placement-clause-step : goal.returns-in-Placement-clause-step
+returns-in-Placement-clause-step g c =
+    rw c.in-Placement.is (part_as _ _ _ _ _ (λ _ p. stepped_as _ _ _ _ (hold_put _ _ _) p)
+    (rw (c.params-to_sql-in-Placement.ensures, c.params-to_sql-in-Placement-2.ensures, c.params-to_sql-in-Placement-3.ensures, c.params-to_sql-in-Placement-4.ensures, c.as_str-in-Placement.ensures, c.as_str-in-Placement-2.ensures) at c.put-in-Placement.ensures.step))

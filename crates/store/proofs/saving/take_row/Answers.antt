@@ -10,3 +10,14 @@ returns-in-Project-clause-step g c = rw c.in-Project.is (part_as _ _ _ _ _ (λ _
 
 pub returns-in-Student-clause-step : goal.returns-in-Student-clause-step
 returns-in-Student-clause-step g c = rw c.in-Student.is (part_as _ _ _ _ _ (λ _ p. stepped_as _ _ _ _ (hold_take _ _ _) p) (rw (c.params-to_sql-in-Student.ensures, c.as_str-in-Student.ensures) at c.delete-in-Student.ensures.step))
+
+pub returns-in-Round-clause-step : goal.returns-in-Round-clause-step
+returns-in-Round-clause-step g c = rw c.in-Round.is (part_as _ _ _ _ _ (λ _ p. stepped_as _ _ _ _ (hold_take _ _ _) p) (rw c.params-to_sql-in-Round.ensures at c.delete-in-Round.ensures.step))
+
+pub returns-in-Choice-clause-step : goal.returns-in-Choice-clause-step
+returns-in-Choice-clause-step g c =
+    rw c.in-Choice.is (part_as _ _ _ _ _ (λ _ p. stepped_as _ _ _ _ (hold_take _ _ _) p)
+    (rw (c.params-to_sql-in-Choice.ensures, c.params-to_sql-in-Choice-2.ensures, c.params-to_sql-in-Choice-3.ensures, c.as_str-in-Choice.ensures) at c.delete-in-Choice.ensures.step))
+
+pub returns-in-Placement-clause-step : goal.returns-in-Placement-clause-step
+returns-in-Placement-clause-step g c = rw c.in-Placement.is (part_as _ _ _ _ _ (λ _ p. stepped_as _ _ _ _ (hold_take _ _ _) p) (rw (c.params-to_sql-in-Placement.ensures, c.as_str-in-Placement.ensures) at c.delete-in-Placement.ensures.step))

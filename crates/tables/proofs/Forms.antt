@@ -1,0 +1,148 @@
+-- The five texts of a table as statements, and what they are resolved to, by the table's shape alone.
+use Rattle.std.proofs.Common.{ℕ, zero, suc, ◌-◌, List, [], ◌∷◌, codes, length, map, take, drop, Option, Some, None, false, true}
+use Rattle.sqlite.specs.declared.types.Value.TheVariants.{Null}
+use Rattle.sqlite.specs.Kind.{Kind}
+use Rattle.sqlite.specs.Term.{Term, lit, col}
+use Rattle.sqlite_syntax.specs.declared.statement.Parsed.{Parsed}
+use Rattle.sqlite_ast.specs.declared.CreateTable.{CreateTable}
+use Rattle.sqlite_ast.specs.declared.TableBody.{TableBody}
+use Rattle.sqlite_ast.specs.declared.Statement.{Statement}
+use Rattle.sqlite_ast.specs.declared.Statement.TheVariants as written
+use Rattle.sqlite_ast.specs.declared.Conflict.TheVariants as conflict
+use Rattle.sqlite_ast.specs.declared.Rows.{Rows}
+use Rattle.sqlite_ast.specs.declared.Rows.TheVariants as rows
+use Rattle.sqlite_ast.specs.declared.Expr.{Expr}
+use Rattle.sqlite_ast.specs.declared.Expr.TheVariants as expr
+use Rattle.sqlite_ast.specs.declared.Binary.TheVariants as binary
+use Rattle.sqlite_ast.specs.declared.Shown.TheVariants as shown
+use Rattle.sqlite_ast.specs.declared.Origin.TheVariants as origin
+use Rattle.sqlite_ast.specs.declared.Source.{roll-Source}
+use Rattle.sqlite_ast.specs.declared.Core.{Core, roll-Core}
+use Rattle.sqlite_ast.specs.declared.Select.{Select, roll-Select}
+use Rattle.sqlite_resolve.specs.declared.scope.Output.{Output}
+use Rattle.tables.specs.Table.{Shape}
+use Rattle.tables.proofs.Testing.{equals, is_parameter}
+use Rattle.tables.proofs.Selecting.{id_out, key_out, column_out}
+
+-- a text that was read to its end, and has so many parameters, eight at most
+abbrev pub read_as : List ℕ → Statement → ℕ → Parsed
+read_as sql statement count = record {
+  statement = statement;
+  names = take count (codes "?1" ∷ codes "?2" ∷ codes "?3" ∷ codes "?4" ∷ codes "?5" ∷ codes "?6" ∷ codes "?7" ∷ codes "?8" ∷ []);
+  formats = [];
+  start = 0;
+  end = length sql;
+  tail = length sql;
+}
+
+-- the parameters from one on, and their terms
+abbrev pub parameters : ℕ → ℕ → List Expr
+parameters at zero = []
+parameters at (suc count) = expr.Parameter at ∷ parameters (suc at) count
+
+abbrev pub given_terms : ℕ → ℕ → List Term
+given_terms at zero = []
+given_terms at (suc count) = col 0 at ∷ given_terms (suc at) count
+
+-- each column is set to its parameter
+abbrev pub sets_from : ℕ → List (List ℕ) → List (List ℕ × Expr)
+sets_from at [] = []
+sets_from at (name ∷ names) = (name, expr.Parameter at) ∷ sets_from (suc at) names
+
+-- these columns are the parameters, as it is written
+abbrev pub and_tests : Expr → ℕ → List (List ℕ) → Expr
+and_tests test at [] = test
+and_tests test at (name ∷ names) = and_tests (expr.Binary binary.And test (is_parameter name at)) (suc at) names
+
+abbrev pub tests_of : List (List ℕ) → Expr
+tests_of [] = expr.Null
+tests_of (name ∷ names) = and_tests (is_parameter name 1) 2 names
+
+-- and as it is resolved
+abbrev pub equals_from : ℕ → List ℕ → List Term
+equals_from at [] = []
+equals_from at (place ∷ places) = equals place at ∷ equals_from (suc at) places
+
+-- the columns from a place on are shown
+abbrev pub columns_out : ℕ → List (List ℕ) → List Output
+columns_out at [] = []
+columns_out at (name ∷ names) = column_out name at ∷ columns_out (suc at) names
+
+-- what an INSERT gives, laid out with the rowid first: it is new, or it is the first column, whose own place has NULL
+abbrev pub laid_out : {X : Type 0} → X → Option ℕ → List X → List X
+laid_out null None given = null ∷ given
+laid_out null (Some key) (first ∷ given) = first ∷ null ∷ given
+laid_out null (Some key) [] = []
+
+abbrev outs_by : Option ℕ → List (List ℕ) → List Output
+outs_by (Some key) (name ∷ names) = key_out name false ∷ key_out name true ∷ columns_out 2 names
+outs_by _ names = id_out ∷ columns_out 1 names
+
+abbrev sets_by : Option ℕ → List (List ℕ) → List (List ℕ × Expr)
+sets_by None names = sets_from 1 names
+sets_by (Some key) names = sets_from 2 (drop 1 names)
+
+abbrev values_by : Option ℕ → ℕ → List Term
+values_by None count = given_terms 0 count
+values_by (Some key) count = lit Null ∷ given_terms 1 (count - 1)
+
+abbrev rowid_and_all : Core → Select
+rowid_and_all core = roll-Select (record { with = []; first = core; others = []; order = []; limit = None; offset = None })
+
+module _ (shape : Shape) where
+  -- CREATE of a STRICT table with these columns and rules
+  abbrev pub create_of : TableBody → CreateTable
+  create_of body = record { if_missing = false; name = shape.name; body = body; is_strict = true; resolves = false }
+
+  abbrev pub width : ℕ
+  width = length shape.columns
+
+  abbrev pub names_of : List (List ℕ)
+  names_of = map (λ (told : List ℕ × Kind). told.0) shape.columns
+
+  -- INSERT of a row of parameters
+  abbrev pub given_rows : Rows
+  given_rows = rows.Values (parameters 1 width ∷ [])
+
+  abbrev pub insert_of : Statement
+  insert_of = written.Insert conflict.Abort shape.name names_of given_rows [] []
+
+  abbrev pub terms_of : List Term
+  terms_of = laid_out (lit Null) shape.key (given_terms 0 width)
+
+  -- the test of so many columns, which are the key or begin it
+  abbrev pub test_of : ℕ → Expr
+  test_of count = tests_of (take count names_of)
+
+  abbrev pub finds_of : ℕ → List Term
+  finds_of count = equals_from 0 (take count shape.primary)
+
+  abbrev pub delete_of : Statement
+  delete_of = written.Delete shape.name (Some (test_of shape.named)) []
+
+  -- UPDATE of each column but the rowid
+  abbrev pub sets_of : List (List ℕ × Expr)
+  sets_of = sets_by shape.key names_of
+
+  abbrev pub values_of : List Term
+  values_of = values_by shape.key width
+
+  abbrev pub update_of : Statement
+  update_of = written.Update shape.name sets_of (Some (test_of (length shape.primary))) []
+
+  -- SELECT of the rowid and of each column
+  abbrev pub core_of : Core
+  core_of = roll-Core (record {
+    distinct = false;
+    shown = shown.One (expr.Column None (codes "rowid")) None (codes "rowid") ∷ shown.All ∷ [];
+    from = roll-Source (record { is_left = false; origin = origin.Table shape.name; alias = None; on = None; using = [] }) ∷ [];
+    filter = None;
+    group = [];
+    having = None;
+  })
+
+  abbrev pub select_of : Select
+  select_of = rowid_and_all core_of
+
+  abbrev pub outs_of : List Output
+  outs_of = outs_by shape.key names_of

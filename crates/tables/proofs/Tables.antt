@@ -1,0 +1,62 @@
+-- The texts of each table are read and resolved, by computing: the parser and the resolver run on the literal texts here, and nowhere else.
+use Rattle.std.proofs.Common.{refl}
+use Rattle.std.proofs.lemmas.Bool.{and_parts}
+use Rattle.sqlite_tied.specs.Compute.{everything}
+use Rattle.sqlite.specs.Listing.{listing_schema}
+use Rattle.tables.specs.declared.table.Table.{Table}
+use Rattle.tables.specs.declared.table.Table.TheVariants.{Edition, Supervisor, Project, Student, Round, Choice, Placement, Import}
+use Rattle.tables.proofs.Texts.{Texts}
+use Rattle.tables.proofs.Adding.{cast_null, cast_int}
+use Rattle.tables.proofs.Testing.{rowid_is}
+
+-- what every table gives
+pub texts : (table : Table) → Texts table
+unfolding everything listing_schema
+texts Edition = record {
+  read = record { body = _; create = refl; insert = refl; update = refl; delete = refl; select = refl; defined = refl; unlisted = refl; laid = λ schema place base. refl; shows = λ r. refl };
+  resolved = λ schema at place there. record { removal = rw there (rw there refl); change = rw there (rw there refl); all = λ low. rw there (rw low (rw there refl)) };
+  keys = λ id r. refl;
+  rows = λ id number. record { one = refl; added = λ here. rw (cast_int id, cast_int number) refl; finds = λ r. refl; set = λ r int same. rw (rowid_is r id int (and_parts _ _ same).0, cast_int id, cast_int number) refl };
+}
+texts Supervisor = record {
+  read = record { body = _; create = refl; insert = refl; update = refl; delete = refl; select = refl; defined = refl; unlisted = refl; laid = λ schema place base. refl; shows = λ r. refl };
+  resolved = λ schema at place there. record { removal = rw there (rw there (rw there refl)); change = rw there (rw there (rw there refl)); all = λ low. rw there (rw low (rw there refl)) };
+  keys = λ code r. refl;
+  rows = λ code label quota. record { one = refl; added = λ here. rw (cast_null, cast_int quota) refl; finds = λ r. refl; set = λ r int same. rw (cast_int quota) refl };
+}
+texts Project = record {
+  read = record { body = _; create = refl; insert = refl; update = refl; delete = refl; select = refl; defined = refl; unlisted = refl; laid = λ schema place base. refl; shows = λ r. refl };
+  resolved = λ schema at place there. record { removal = rw there (rw there (rw there refl)); change = rw there (rw there (rw there refl)); all = λ low. rw there (rw low (rw there refl)) };
+  keys = λ code r. refl;
+  rows = λ code label supervisor quota. record { one = refl; added = λ here. rw (cast_null, cast_int quota) refl; finds = λ r. refl; set = λ r int same. rw (cast_int quota) refl };
+}
+texts Student = record {
+  read = record { body = _; create = refl; insert = refl; update = refl; delete = refl; select = refl; defined = refl; unlisted = refl; laid = λ schema place base. refl; shows = λ r. refl };
+  resolved = λ schema at place there. record { removal = rw there (rw there (rw there refl)); change = rw there (rw there (rw there refl)); all = λ low. rw there (rw low (rw there refl)) };
+  keys = λ code r. refl;
+  rows = λ code label. record { one = refl; added = λ here. rw cast_null refl; finds = λ r. refl; set = λ r int same. refl };
+}
+texts Round = record {
+  read = record { body = _; create = refl; insert = refl; update = refl; delete = refl; select = refl; defined = refl; unlisted = refl; laid = λ schema place base. refl; shows = λ r. refl };
+  resolved = λ schema at place there. record { removal = rw there (rw there refl); change = rw there (rw there refl); all = λ low. rw there (rw low (rw there refl)) };
+  keys = λ number r. refl;
+  rows = λ number is_open. record { one = refl; added = λ here. rw (cast_int number, cast_int is_open) refl; finds = λ r. refl; set = λ r int same. rw (rowid_is r number int (and_parts _ _ same).0, cast_int number, cast_int is_open) refl };
+}
+texts Choice = record {
+  read = record { body = _; create = refl; insert = refl; update = refl; delete = refl; select = refl; defined = refl; unlisted = refl; laid = λ schema place base. refl; shows = λ r. refl };
+  resolved = λ schema at place there. record { removal = rw there (rw there (rw there refl)); change = rw there (rw there (rw there refl)); all = λ low. rw there (rw low (rw there refl)) };
+  keys = λ round student place r. refl;
+  rows = λ round student place project. record { one = refl; added = λ here. rw (cast_null, cast_int round, cast_int place) refl; finds = λ r. refl; set = λ r int same. rw (cast_int round, cast_int place) refl };
+}
+texts Placement = record {
+  read = record { body = _; create = refl; insert = refl; update = refl; delete = refl; select = refl; defined = refl; unlisted = refl; laid = λ schema place base. refl; shows = λ r. refl };
+  resolved = λ schema at place there. record { removal = rw there (rw there (rw there refl)); change = rw there (rw there (rw there refl)); all = λ low. rw there (rw low (rw there refl)) };
+  keys = λ student r. refl;
+  rows = λ student round project rank. record { one = refl; added = λ here. rw (cast_null, cast_int round, cast_int rank) refl; finds = λ r. refl; set = λ r int same. rw (cast_int round, cast_int rank) refl };
+}
+texts Import = record {
+  read = record { body = _; create = refl; insert = refl; update = refl; delete = refl; select = refl; defined = refl; unlisted = refl; laid = λ schema place base. refl; shows = λ r. refl };
+  resolved = λ schema at place there. record { removal = rw there (rw there (rw there refl)); change = rw there (rw there (rw there refl)); all = λ low. rw there (rw low (rw there refl)) };
+  keys = λ id r. refl;
+  rows = λ id kind bytes rows. record { one = refl; added = λ here. rw (cast_null, cast_int rows) refl; finds = λ r. refl; set = λ r int same. rw (cast_int rows) refl };
+}

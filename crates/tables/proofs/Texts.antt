@@ -1,0 +1,248 @@
+-- The texts of a table mean what its row tells. A table gives `Texts`: that its texts are read as the forms of its shape, and what
+-- these are resolved to over the table, which the resolver computes of the literal texts. The rest is here, once for all tables.
+use Rattle.std.proofs.Common.{◌≡◌, ℕ, ℤ, suc, ◌/◌, slice_get, ◌^◌, List, [], ◌∷◌, length, map, take, slice_range, arith, nat_lt, true, false, None, Some, Ok, Err, refl, ap}
+use Rattle.std.proofs.lemmas.List.{take_all}
+use Rattle.sqlite.specs.declared.types.Value.TheVariants.{Null, Int, Text as Words, Blob as Bytes}
+use Rattle.sqlite.specs.Order.{Row}
+use Rattle.sqlite.specs.Kind.{Kind}
+use Rattle.sqlite.specs.Kind.TheVariants.{Integer, Text, Blob, Real as RealKind, Any}
+use Rattle.sqlite.specs.Schema.{Schema}
+use Rattle.sqlite.specs.Table.{Table as AnyTable}
+use Rattle.sqlite.specs.Term.{col}
+use Rattle.sqlite.specs.Command.{Command}
+use Rattle.sqlite.specs.Command.TheVariants.{CreateTable as MakesTable}
+use Rattle.sqlite.specs.Compile.{first, compiled, planned, meaning, command, create_table, delete, update, timed, returning, shows, with_command, new_rows, table_defined_by, table_in}
+use Rattle.sqlite.specs.Listing.{listing_schema, if_select, is_select}
+use Rattle.sqlite_resolve.specs.Lowering.{Checked, and_then}
+use Rattle.sqlite_syntax.specs.declared.statement.Parsed.{Parsed}
+use Rattle.sqlite.specs.Source.TheVariants.{Values}
+use Rattle.sqlite.specs.Tree.{rowid}
+use Rattle.sqlite.specs.Cast.{cast_row}
+use Rattle.sqlite.specs.Effect.{value_rows}
+use Rattle.sqlite.specs.Edit.{with_rowid}
+use Rattle.sqlite.specs.Rowids.TheVariants.{Chosen}
+use Rattle.sqlite_resolve.specs.Body.{result}
+use Rattle.sqlite_resolve.specs.Expr.{lower}
+use Rattle.sqlite_resolve.specs.Select.{outermost}
+use Rattle.sqlite.specs.Rows.{shown}
+use Rattle.sqlite_catalog.proofs.StepLemmas.{same_itself}
+use Rattle.sqlite_schema.specs.Names.{table_named}
+use Rattle.sqlite_trees.specs.View.{is_int}
+use Rattle.sqlite_sql.specs.Term.{eval_all}
+use Rattle.sqlite_ast.specs.declared.TableBody.{TableBody}
+use Rattle.sqlite_ast.specs.declared.Statement.TheVariants as written
+use Rattle.sqlite_resolve.specs.Define as define
+use Rattle.sqlite_resolve.specs.Write.{updated, deleted}
+use Rattle.sqlite_resolve.specs.declared.scope.Output.{Output}
+use Rattle.sqlite_resolve.specs.declared.error.CompileError.TheVariants.{NoSuchTable}
+use Rattle.sqlite_tied.specs.Compute.{everything}
+use Rattle.tables.specs.declared.table.Table.{Table}
+use Rattle.tables.specs.Table.{Shape, Place, Lists, checks_of, shape_of, table_at, kinds_of, are_of, cells}
+use Rattle.tables.specs.Writes.{begins_with}
+use Rattle.tables.proofs.Places.{nowhere}
+use Rattle.tables.proofs.Creating.{IsCreate, made_command}
+use Rattle.tables.proofs.Adding.{IsInsert}
+use Rattle.tables.proofs.Finding.{hit, finding}
+use Rattle.tables.proofs.Deleting.{IsDelete}
+use Rattle.tables.proofs.Updating.{IsUpdate, showing}
+use Rattle.tables.proofs.Selecting.{IsPlainSelect, IsResolved, IsSelect, bounds_at, started, spent}
+use Rattle.tables.proofs.Forms.{read_as, laid_out, width, create_of, names_of, given_rows, insert_of, terms_of, test_of, finds_of, delete_of, sets_of, values_of, update_of, core_of, select_of, outs_of}
+
+-- this holds of each row of these kinds
+abbrev pub Each : List Kind → (Row → Type 0) → Type 0
+Each [] P = P []
+Each (Integer ∷ kinds) P = (n : ℤ) → Each kinds (λ row. P (Int n ∷ row))
+Each (Text ∷ kinds) P = (text : List ℕ) → Each kinds (λ row. P (Words text ∷ row))
+Each (Blob ∷ kinds) P = (bytes : List ℕ) → Each kinds (λ row. P (Bytes bytes ∷ row))
+Each (kind ∷ kinds) P = (row : Row) → P row
+
+-- so it holds of a row that is of these kinds
+by_kinds : (kinds : List Kind) (P : Row → Type 0) → Each kinds P → (row : Row) → are_of kinds row ≡ true → P row
+by_kinds [] P each [] is = each
+by_kinds [] P each (value ∷ row) is = absurd (cc)
+by_kinds (Integer ∷ kinds) P each (Int n ∷ row) is = by_kinds kinds _ (each n) row is
+by_kinds (Text ∷ kinds) P each (Words text ∷ row) is = by_kinds kinds _ (each text) row is
+by_kinds (Blob ∷ kinds) P each (Bytes bytes ∷ row) is = by_kinds kinds _ (each bytes) row is
+by_kinds (RealKind ∷ kinds) P each row is = each row
+by_kinds (Any ∷ kinds) P each row is = each row
+by_kinds _ P each _ is = absurd (cc)
+
+module _ (table : Table) where
+  abbrev shape : Shape
+  shape = shape_of table
+
+  abbrev plain : AnyTable
+  plain = table_at table nowhere
+
+  -- a row that is given is added as it is, found by its key, and shown where it is set
+  pub record Gives (row : Row) : Type 0 where
+    pub one : value_rows row (suc (width shape)) (length (terms_of shape) / suc (width shape)) (terms_of shape) ≡ laid_out Null shape.key row ∷ []
+    pub added : (here : List Row) → cells plain (with_rowid Chosen here (cast_row plain (laid_out Null shape.key row))) ≡ row
+    pub finds : (r : Row) → hit (finds_of shape (length shape.primary)) (showing (values_of shape)) row r ≡ begins_with (take (length shape.primary) row) (cells plain r)
+    pub set : (r : Row) → is_int (rowid r) ≡ true → hit (finds_of shape (length shape.primary)) (showing (values_of shape)) row r ≡ true
+        → cells plain (cast_row plain (rowid r ∷ eval_all (values_of shape) (row ∷ r ∷ []))) ≡ row
+
+  -- the texts are read as the forms of the shape: CREATE makes the table, INSERT lays a row out, and SELECT shows it
+  pub record AreRead : Type 0 where
+    pub body : TableBody
+    pub create : first shape.create ≡ Ok (read_as shape.create (written.CreateTable (create_of shape body)) 0)
+    pub insert : first shape.insert ≡ Ok (read_as shape.insert (insert_of shape) (width shape))
+    pub update : first shape.update ≡ Ok (read_as shape.update (update_of shape) (width shape))
+    pub delete : first shape.delete ≡ Ok (read_as shape.delete (delete_of shape) shape.named)
+    pub select : first shape.select ≡ Ok (read_as shape.select (written.Select (select_of shape)) 0)
+    pub defined : define.table [] (create_of shape body) ≡ Ok (table_at table (record { tree = 0; checks = checks_of table }))
+    pub unlisted : table_named listing_schema shape.name ≡ None
+    pub laid : (schema : Schema) (place : Place) (base : ℕ) → new_rows schema (table_at table place) base (names_of shape) (given_rows shape) ≡ Ok (Values (terms_of shape) (suc (width shape)))
+    pub shows : (r : Row) → eval_all (map (λ (o : Output). o.term) (outs_of shape)) ([] ∷ r ∷ []) ≡ shown plain r
+
+  -- the forms are resolved over the table, where a schema has it at this position
+  pub record AreResolved (schema : Schema) (at : ℕ) (place : Place) : Type 0 where
+    pub removal : deleted schema at (table_at table place) (Some (test_of shape shape.named)) ≡ Ok (finding place.tree (finds_of shape shape.named) (col 1 0 ∷ []))
+    pub change : updated schema at (table_at table place) (sets_of shape) (Some (test_of shape (length shape.primary))) ≡ Ok (finding place.tree (finds_of shape (length shape.primary)) (showing (values_of shape)))
+    pub all : nat_lt place.tree (2 ^ 31) ≡ true
+        → result lower (outermost schema) (record { tables = bounds_at shape.name at; shown = [] }) (core_of shape) started ≡ Ok (outs_of shape, spent 99999)
+
+  -- what a table gives: how its texts are read and resolved, and, for each key and each row of its kinds, what is found and set
+  pub record Texts : Type 0 where
+    pub read : AreRead
+    pub resolved : (schema : Schema) (at : ℕ) (place : Place) → slice_get schema.tables at ≡ Some (table_at table place) → AreResolved schema at place
+    pub keys : Each (take shape.named (kinds_of table)) (λ key. (r : Row) → hit (finds_of shape shape.named) (col 1 0 ∷ []) key r ≡ begins_with key (cells plain r))
+    pub rows : Each (kinds_of table) Gives
+
+read_whole : (sql : List ℕ) → slice_range sql 0 (length sql) ≡ sql
+read_whole sql = take_all _ sql (omega arith)
+
+-- what is no query is none on sqlite_schema
+not_select : (p : Parsed) (r : Checked Command) → ((k : Command) → r ≡ Ok k → is_select k ≡ false)
+    → if_select (and_then (and_then (and_then r (λ does. Ok (does, None))) (λ found. Ok ([], found))) (λ plan. Ok (with_command p plan))) ≡ Err NoSuchTable
+not_select p (Ok k) other = rw (other k refl) refl
+not_select p (Err e) other = refl
+
+module _ (table : Table) (it : Texts table) where
+  abbrev told : Shape
+  told = shape_of table
+
+  abbrev made_plain : AnyTable
+  made_plain = table_at table nowhere
+
+  creates_only : (schema : Schema) (base : ℕ) (k : Command) → command schema [] base (written.CreateTable (create_of told it.read.body)) ≡ Ok k → k ≡ MakesTable
+  unfolding command create_table
+  creates_only schema base k h = made_command schema told.name k (rw it.read.defined at h)
+
+  create_unlisted : if_select (compiled listing_schema told.create) ≡ Err NoSuchTable
+  unfolding compiled planned meaning timed returning
+  create_unlisted = rw it.read.create (not_select (read_as told.create (written.CreateTable (create_of told it.read.body)) 0) _ (λ k h. ap is_select (creates_only listing_schema _ k h)))
+
+  -- the text that makes the table
+  pub create_is : IsCreate told.create made_plain (checks_of table)
+  unfolding timed returning table_defined_by table_in
+  create_is = record {
+    p = read_as told.create (written.CreateTable (create_of told it.read.body)) 0;
+    parsed = it.read.create;
+    unlisted = create_unlisted;
+    untimed = λ schema. refl;
+    shows = λ schema. refl;
+    commands = λ schema. creates_only schema _;
+    whole = read_whole told.create;
+    defined = rw it.read.create it.read.defined;
+    named = same_itself told.name;
+  }
+
+  -- the text that adds a row
+  pub insert_is : IsInsert told.insert made_plain (kinds_of table)
+  insert_is = record {
+    p = read_as told.insert (insert_of told) (width told);
+    columns = names_of told;
+    values = given_rows told;
+    terms = terms_of told;
+    width = suc (width told);
+    parsed = it.read.insert;
+    statement = refl;
+    plain = refl;
+    laid = λ schema place. it.read.laid schema place _;
+    whole = read_whole told.insert;
+    given = λ row is.
+        let gives = by_kinds (kinds_of table) (Gives table) it.rows row is in
+        record { source = laid_out Null told.key row; one = gives.one; shown = gives.added };
+  }
+
+  -- the text that takes rows away
+  pub delete_is : IsDelete told.delete made_plain (take told.named (kinds_of table))
+  unfolding compiled planned meaning timed returning shows command delete
+  delete_is = record {
+    p = read_as told.delete (delete_of told) told.named;
+    test = test_of told told.named;
+    tests = finds_of told told.named;
+    parsed = it.read.delete;
+    statement = refl;
+    plain = refl;
+    whole = read_whole told.delete;
+    unlisted = rw (it.read.delete, it.read.unlisted) refl;
+    draft = λ schema at place has. (it.resolved schema at place has.there).removal;
+    hits = by_kinds (take told.named (kinds_of table)) _ it.keys;
+  }
+
+  -- the text that sets a row by its key
+  pub update_is : IsUpdate told.update made_plain (kinds_of table) (length told.primary)
+  unfolding compiled planned meaning timed returning shows command update
+  update_is = record {
+    p = read_as told.update (update_of told) (width told);
+    sets = sets_of told;
+    test = test_of told (length told.primary);
+    tests = finds_of told (length told.primary);
+    values = values_of told;
+    parsed = it.read.update;
+    statement = refl;
+    plain = refl;
+    whole = read_whole told.update;
+    unlisted = rw (it.read.update, it.read.unlisted) refl;
+    draft = λ schema at place has. (it.resolved schema at place has.there).change;
+    hits = λ row is. (by_kinds (kinds_of table) (Gives table) it.rows row is).finds;
+    set = λ row is. (by_kinds (kinds_of table) (Gives table) it.rows row is).set;
+  }
+
+  select_plain : IsPlainSelect told.select
+  unfolding everything
+  select_plain = record {
+    p = read_as told.select (written.Select (select_of told)) 0;
+    s = select_of told;
+    parsed = it.read.select;
+    statement = refl;
+    plain = refl;
+    no_names = refl;
+    no_with = refl;
+    no_others = refl;
+    no_order = refl;
+    no_limit = refl;
+    no_offset = refl;
+    no_group = refl;
+    no_having = refl;
+    no_distinct = refl;
+    whole = read_whole told.select;
+    from = λ q schema lets. refl;
+  }
+
+  select_unlisted : if_select (compiled listing_schema told.select) ≡ Err NoSuchTable
+  unfolding everything listing_schema
+  select_unlisted = rw (it.read.select, it.read.unlisted) refl
+
+  select_resolved : (schema : Schema) (place : Place) (listed : Lists schema (table_at table place)) → nat_lt place.tree (2 ^ 31) ≡ true
+      → IsResolved schema (core_of told) told.name listed.at place.tree 99999 (outs_of told)
+  unfolding everything
+  select_resolved schema place listed low = record {
+    bounds = rw listed.named refl;
+    result = (it.resolved schema listed.at place listed.there).all low;
+    joined = rw listed.there refl;
+  }
+
+  -- the text that reads the table
+  pub select_is : IsSelect told.select made_plain
+  unfolding select_plain
+  select_is = record {
+    plain = select_plain;
+    unlisted = select_unlisted;
+    budget = 99999;
+    outs = outs_of told;
+    resolved = select_resolved;
+    shows = it.read.shows;
+  }
