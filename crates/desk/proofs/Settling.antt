@@ -1,5 +1,5 @@
 -- Changes that turn the rows of one office into those of the next, saved: the tables stand for the next one.
-use Rattle.std.proofs.Common.{◌≡◌, ◌⊎◌, inl, inr, true, List, Option, refl, sym, subst, ◌∙◌, arith}
+use Rattle.std.proofs.Common.{◌≡◌, ◌⊎◌, inl, inr, true, List, Option, None, refl, sym, subst, ◌∙◌, arith}
 use Rattle.sqlite.specs.Effect.{Database}
 use Rattle.sqlite.specs.State.{State as Seen, HasCleanDisk, Survives}
 use Rattle.sqlite.specs.Tree.{Trees}
@@ -10,9 +10,10 @@ use Rattle.rolls.specs.declared.row.Change.{Change}
 use Rattle.rolls.specs.declared.request.Done.{Done}
 use Rattle.rolls.specs.State.{State}
 use Rattle.rolls.specs.Rows.{row_of, after_changes, Turns}
-use Rattle.rolls.specs.declared.request.Plain.{Plain}
-use Rattle.rolls.specs.declared.request.Request.TheVariants as request
-use Rattle.rolls.specs.Answers.{IsDone}
+use Rattle.rolls.specs.declared.request.Request.{Request}
+use Rattle.rolls.specs.Refusing.{refusal}
+use Rattle.rolls.specs.Run.{Makes}
+use Rattle.allotment.specs.Layers.{layers}
 use Rattle.store.specs.Tables.{TablesHold, StandsFor, Opens}
 use Rattle.store.specs.Saving.{Saves}
 use Rattle.desk.specs.Keeping.{Keeps, Leads}
@@ -66,14 +67,13 @@ survives_weaker old new P Q weaker s = record {
 }
 
 -- saved changes of a request lead to an office that the request makes
-pub done_leads : (plain : Plain) (office next : State) (done : Done) (old new : Database) → IsDone plain office next done → Saves done.changes.items old new → Leads office (request.Plain plain) old new
+pub made_leads : (q : Request) (office next : State) (done : Done) (old new : Database) → refusal office q ≡ None → Makes layers office q done.reply next → Turns done.changes.items office next → Saves done.changes.items old new → Leads office q old new
 unfolding Leads
-done_leads plain office next done old new is saves stands =
-    (done.reply, next, (is.allowed, (is.reply, is.after)), stands_after done.changes.items office next old new is.changes saves stands)
+made_leads q office next done old new none made turns saves stands = (done.reply, next, (none, made), stands_after done.changes.items office next old new turns saves stands)
 
 -- what a crash may leave of saved changes is what it may leave of the request
-pub left_leads : (plain : Plain) (office next : State) (done : Done) (old : Database) → IsDone plain office next done → (trees : Trees) → IsLeft (Saves done.changes.items) old trees → IsLeft (Leads office (request.Plain plain)) old trees
-left_leads plain office next done old is trees left = (left.0, done_leads plain office next done old left.0 is left.1, left.2)
+pub left_leads : (q : Request) (office next : State) (done : Done) (old : Database) → refusal office q ≡ None → Makes layers office q done.reply next → Turns done.changes.items office next → (trees : Trees) → IsLeft (Saves done.changes.items) old trees → IsLeft (Leads office q) old trees
+left_leads q office next done old none made turns trees left = (left.0, made_leads q office next done old left.0 none made turns left.1, left.2)
 
 -- an office that was opened is one that the tables stand for
 pub opened_stands : (old new : Database) (office : State) → Opens old new office → StandsFor new office

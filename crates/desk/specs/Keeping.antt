@@ -10,6 +10,7 @@ use Rattle.rolls.specs.declared.request.Request.{Request}
 use Rattle.rolls.specs.Reads.{changes_nothing}
 use Rattle.rolls.specs.Refusing.{refusal}
 use Rattle.rolls.specs.Run.{Step}
+use Rattle.allotment.specs.Layers.{layers}
 use Rattle.desk.specs.Kept.{Kept}
 use Rattle.store.specs.Tables.{StandsFor}
 
@@ -26,7 +27,7 @@ pub record IsKeeping {S : Type 0} (ghosts : Ghosts S) (kept : Kept S) : Type 0 w
 -- tables that stood for the office come to stand for one that the request makes of it
 unfoldable pub Leads : State → Request → Database → Database → Type 0
 Leads office request old new =
-    StandsFor old office → (reply : Reply) × (next : State) × Step office request (Ok reply) next × StandsFor new next
+    StandsFor old office → (reply : Reply) × (next : State) × Step layers office request (Ok reply) next × StandsFor new next
 
 -- whether no table is needed: the office refuses the request, or the request changes nothing of it
 abbrev pub needs_no_table : State → Request → Bool

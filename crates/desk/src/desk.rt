@@ -4,12 +4,12 @@ ghost use Rattle.std.specs.Prelude.{◌≡◌, ◌≢◌, ◌⊎◌, Err, IfOk, 
 ghost use Rattle.sqlite.specs.State.{HasCleanDisk, Survives};
 ghost use Rattle.sqlite.specs.Held.{state};
 ghost use Rattle.tables.specs.Steps.{IsKept, IsLeft};
-ghost use Rattle.rolls.specs.Answers.{IsDone};
 ghost use Rattle.rolls.specs.Rows.{Turns};
 ghost use Rattle.store.specs.Saving.{AreActedOn, Saves};
 ghost use Rattle.rolls.specs.Reads.{is_read, changes_nothing};
 ghost use Rattle.rolls.specs.Refusing.{plain_refusal, refusal};
-ghost use Rattle.rolls.specs.Run.{Step, Run};
+ghost use Rattle.rolls.specs.Run.{Makes, Step, Run};
+ghost use Rattle.allotment.specs.Layers.{layers};
 ghost use Rattle.store.specs.Tables.{Opens, Founds, HasNone, LeavesAlone};
 ghost use Rattle.store.specs.Reading.{IsDamaged};
 ghost use Rattle.desk.specs.Keeping.{Keeps, Leads, needs_no_table};
@@ -53,6 +53,20 @@ fn refusal_of_fault(fault: StoreFault) -> Refusal
         StoreFault::Memory => Refusal::Memory,
         StoreFault::Storage => Refusal::Storage,
         StoreFault::Damaged => Refusal::Damaged,
+    }
+}
+
+/// What a request that changes the office makes of it.
+fn made(alloc: Global, office: &mut Office, request: Request) -> Result<Done, AllocError>
+    requires change { changes_nothing office.old request ≡ false }
+    requires allowed { refusal office.old request ≡ None }
+    ensures made { IfOk result (λ done. Makes layers office.old request done.reply office.new) }
+    ensures turns { IfOk result (λ done. let changes = done.changes in Turns changes.items office.old office.new) }
+{
+    match request {
+        Request::Plain(plain) => office.make(plain),
+        Request::Close => allotment::close(alloc, office),
+        Request::Preview | Request::RoundText => unreachable!(),
     }
 }
 
@@ -108,7 +122,7 @@ impl<S: Alter> Desk<S> {
     /// All the requests in turn, each answered by a step. Want of memory for the answers comes before the first request
     /// is asked.
     pub fn run(&mut self, requests: Vec<Request>) -> Result<Vec<Result<Reply, Refusal>>, AllocError>
-        ensures run { IfOk result (λ answers. Run self.old.office requests.items answers.items self.new.office) }
+        ensures run { IfOk result (λ answers. Run layers self.old.office requests.items answers.items self.new.office) }
         ensures tables { Keeps (state S.Store self.new.store) self.new.office }
         ensures err { OnErr result (self.new ≡ self.old) }
     {
@@ -122,7 +136,7 @@ impl<S: Alter> Desk<S> {
 
     /// One step of the office.
     pub fn ask(&mut self, request: Request) -> Result<Reply, Refusal>
-        ensures step { Step self.old.office request result self.new.office }
+        ensures step { Step layers self.old.office request result self.new.office }
         ensures tables { Keeps (state S.Store self.new.store) self.new.office }
         ensures quiet { needs_no_table self.old.office request ≡ true → self.new.store ≡ self.old.store }
         ensures named { IfSome (refusal self.old.office request) (λ r. result ≡ Err r) }
@@ -147,9 +161,12 @@ impl<S: Alter> Desk<S> {
                 if plain.is_read() {
                     self.read(plain)
                 } else {
-                    self.change(plain)
+                    self.change(Request::Plain(plain))
                 }
             }
+            Request::Close => self.change(Request::Close),
+            Request::Preview => Ok(allotment::preview(self.alloc, &self.office)?),
+            Request::RoundText => Ok(allotment::round_text(self.alloc, &self.office)?),
         }
     }
 
@@ -157,7 +174,7 @@ impl<S: Alter> Desk<S> {
     fn read(&mut self, plain: Plain) -> Result<Reply, Refusal>
         requires read { is_read plain ≡ true }
         requires allowed { plain_refusal self.old.office plain ≡ None }
-        ensures step { Step self.old.office (Request.Plain plain) result self.new.office }
+        ensures step { Step layers self.old.office (Request.Plain plain) result self.new.office }
         ensures store { self.new.store ≡ self.old.store }
         ensures tables { Keeps (state S.Store self.new.store) self.new.office }
         ensures storage { result ≢ Err Refusal.Storage }
@@ -166,18 +183,19 @@ impl<S: Alter> Desk<S> {
     }
 
     /// A change is made on a copy, which becomes the office once its changes are saved.
-    fn change(&mut self, plain: Plain) -> Result<Reply, Refusal>
-        requires allowed { plain_refusal self.old.office plain ≡ None }
-        ensures step { Step self.old.office (Request.Plain plain) result self.new.office }
+    fn change(&mut self, request: Request) -> Result<Reply, Refusal>
+        requires change { changes_nothing self.old.office request ≡ false }
+        requires allowed { refusal self.old.office request ≡ None }
+        ensures step { Step layers self.old.office request result self.new.office }
         ensures tables { Keeps (state S.Store self.new.store) self.new.office }
-        ensures crash { Survives (state S.Store self.old.store) (state S.Store self.new.store) (IsLeft (Leads self.old.office (Request.Plain plain)) (state S.Store self.old.store).now) }
+        ensures crash { Survives (state S.Store self.old.store) (state S.Store self.new.store) (IsLeft (Leads self.old.office request) (state S.Store self.old.store).now) }
         ensures alone { HasCleanDisk (state S.Store self.new.store) → OnOk result (LeavesAlone (state S.Store self.new.store)) }
         ensures stays_open { HasCleanDisk (state S.Store self.new.store) → OnOk result (IsTrue (state S.Store self.new.store).is_open) }
         ensures acted_on { AreActedOn (state S.Store self.old.store).now.schema → IsErr result }
     {
         self.keeps();
         let mut next = self.office.copy()?;
-        let done = next.make(plain)?;
+        let done = made(self.alloc, &mut next, request)?;
         self.settle(&mut next, done)
     }
 

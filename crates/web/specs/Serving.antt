@@ -6,6 +6,7 @@ use Rattle.rolls.specs.declared.request.Reply.{Reply}
 use Rattle.rolls.specs.State.{State}
 use Rattle.rolls.specs.declared.request.Request.{Request}
 use Rattle.rolls.specs.Run.{Step}
+use Rattle.allotment.specs.Layers.{layers}
 use Rattle.wire.specs.declared.outcome.End.{End}
 use Rattle.wire.specs.declared.outcome.End.TheVariants.{Closed, Unfinished, BadHead, TooLarge, Hundred}
 use Rattle.wire.specs.Run.{Said}
@@ -15,7 +16,7 @@ use Rattle.api.specs.Texts.{refusal_text, text_of}
 -- a request is answered by the text of the answer that its step gives; a refused message leaves the office, and its refusal is the answer
 abbrev pub Answers : State → Result Request Refusal → List ℕ → State → Type 0
 Answers before (Ok asked) bytes after =
-    (answer : Result Reply Refusal) × Step before asked answer after × (bytes ≡ text_of answer)
+    (answer : Result Reply Refusal) × Step layers before asked answer after × (bytes ≡ text_of answer)
 Answers before (Err refusal) bytes after = (bytes ≡ refusal_text refusal) × (after ≡ before)
 
 -- a message is answered as what it asks is, or for want of memory refused, which leaves the office

@@ -1,6 +1,11 @@
-use Rattle.std.proofs.Common.{◌≡◌, Option, Some, Err, IfSome, Result, refl, sym, ap, subst, ◌∙◌, rules}
+use Rattle.std.proofs.Common.{◌≡◌, Option, Some, None, Err, IfSome, Result, refl, sym, ap, subst, ◌∙◌, rules}
 use Rattle.rolls.specs.declared.request.Reply.{Reply}
 use Rattle.rolls.specs.declared.refusal.Refusal.{Refusal}
+use Rattle.rolls.specs.declared.request.Request.{Request}
+use Rattle.rolls.specs.declared.request.Request.TheVariants as request
+use Rattle.rolls.specs.State.{State}
+use Rattle.rolls.specs.Run.{Makes}
+use Rattle.allotment.specs.Layers.{layers}
 use Rattle.rolls.specs.Refusing.{refusal}
 use Rattle.desk.proofs.desk.Desk.ask.Goals as goal
 
@@ -27,3 +32,10 @@ returns-else-is_read-clause-alone g c = λ _. c.change.ensures.alone
 
 pub returns-else-is_read-clause-acted_on : goal.returns-else-is_read-clause-acted_on
 returns-else-is_read-clause-acted_on g c = λ _. c.change.ensures.acted_on
+
+pub returns-in_ok-preview-in-Preview-clause-step : goal.returns-in_ok-preview-in-Preview-clause-step
+returns-in_ok-preview-in-Preview-clause-step g c =
+    let o : State = c.args.self.now.office in
+    let answer = c.in_ok-preview-in-Preview.field-0 in
+    let none : refusal o c.args.request ≡ None = search rules in
+    (none, subst (λ (q : Request). Makes layers o q answer o) (sym c.in-Preview.is) (subst (λ (x : State). Makes layers x request.Preview answer x) (ap (λ k. k.office) c.self.view_is) c.in_ok-preview-in-Preview.ensures.made))

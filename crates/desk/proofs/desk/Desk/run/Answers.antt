@@ -5,6 +5,7 @@ use Rattle.rolls.specs.declared.refusal.Refusal.{Refusal}
 use Rattle.rolls.specs.declared.request.Request.{Request}
 use Rattle.rolls.specs.State.{State}
 use Rattle.rolls.specs.Run.{Step, Run}
+use Rattle.allotment.specs.Layers.{layers}
 use Rattle.desk.proofs.desk.Desk.run.Goals as goal
 
 no_items : (requests : List Request) → length requests ≡ 0 → requests ≡ []
@@ -12,23 +13,23 @@ no_items [] h = refl
 no_items (request ∷ requests) h = absurd (omega (arith, h))
 
 -- a run of nothing
-stays : (o : State) (requests : List Request) → requests ≡ [] → Run o requests [] o
-stays o requests none = subst (λ (xs : List Request). Run o xs [] o) (sym none) refl
+stays : (o : State) (requests : List Request) → requests ≡ [] → Run layers o requests [] o
+stays o requests none = subst (λ (xs : List Request). Run layers o xs [] o) (sym none) refl
 
 pub returns-clause-run : goal.returns-clause-run
 returns-clause-run g c =
     let none : length c.loop-request.request-iterator.rest.items ≡ 0 = search rules in
-    subst (λ (answers : List (Result Reply Refusal)). Run c.args.self.now.office c.args.requests.items answers c.loop-request.self.office) (append-nil _)
+    subst (λ (answers : List (Result Reply Refusal)). Run layers c.args.self.now.office c.args.requests.items answers c.loop-request.self.office) (append-nil _)
     (c.loop-request.invariant.rest [] _ (stays _ _ (no_items _ none)))
 
 -- one more answer is that of the next request
 one_more : (all : List Request) (first o m : State) (left rest : List Request) (request : Request) (answer : Result Reply Refusal) (given answers : List (Result Reply Refusal))
-    → left ≡ request ∷ rest → Step o request answer m → answers ≡ given ++ (answer ∷ [])
-    → ((more : List (Result Reply Refusal)) (n : State) → Run o left more n → Run first all (given ++ more) n)
-    → (more : List (Result Reply Refusal)) (n : State) → Run m rest more n → Run first all (answers ++ more) n
+    → left ≡ request ∷ rest → Step layers o request answer m → answers ≡ given ++ (answer ∷ [])
+    → ((more : List (Result Reply Refusal)) (n : State) → Run layers o left more n → Run layers first all (given ++ more) n)
+    → (more : List (Result Reply Refusal)) (n : State) → Run layers m rest more n → Run layers first all (answers ++ more) n
 one_more all first o m left rest request answer given answers e step added runs more n run =
-    subst (λ (xs : List (Result Reply Refusal)). Run first all xs n) (sym (ap (λ xs. xs ++ more) added ∙ append_assoc given (answer ∷ []) more))
-    (runs (answer ∷ more) n (subst (λ (xs : List Request). Run o xs (answer ∷ more) n) (sym e) (m, step, run)))
+    subst (λ (xs : List (Result Reply Refusal)). Run layers first all xs n) (sym (ap (λ xs. xs ++ more) added ∙ append_assoc given (answer ∷ []) more))
+    (runs (answer ∷ more) n (subst (λ (xs : List Request). Run layers o xs (answer ∷ more) n) (sym e) (m, step, run)))
 
 -- each answer that is left has room
 room_left : (n more room greater : ℕ) (left rest : List Request) (request : Request) → left ≡ request ∷ rest → more ≡ n + 1 → room ≤ greater → n + length left ≤ room → more + length rest ≤ greater
