@@ -4,7 +4,8 @@ use Rattle.rolls.specs.declared.refusal.Refusal.{Refusal}
 use Rattle.rolls.specs.declared.request.Request.{Request}
 use Rattle.wire.specs.Run.{Said}
 use Rattle.api.specs.declared.routes.Methods.{Methods}
-use Rattle.api.specs.Requests.{Asks, asked_by, by_method, first_of}
+use Rattle.api.specs.Requests.{Asks, asked_by, by_method}
+use Rattle.api.specs.Routes.{first_of}
 use Rattle.api.proofs.Named.{one_name}
 
 pub one_asked : (said : Said) (asked other : Result Request Refusal) → Asks said asked → Asks said other → asked ≡ other

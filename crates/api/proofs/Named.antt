@@ -1,5 +1,5 @@
 -- A path that is named finds its route, and what a path finds names it.
-use Rattle.std.proofs.Common.{◌≡◌, ◌<◌, inl, inr, ℕ, ◌+◌, ◌-◌, ◌==◌, Bool, true, false, cond, ◌&&◌, ltb, leb, suc, ◌≤◌, List, [], ◌∷◌, ◌++◌, length, take, drop, get_or, Option, Some, None, option_map, if◌then◌else◌, refl, sym, ap, ◌∙◌, subst, arith, append-nil, codes}
+use Rattle.std.proofs.Common.{MatchOption, ◌≡◌, ◌<◌, inl, inr, ℕ, ◌+◌, ◌-◌, ◌==◌, Bool, true, false, cond, ◌&&◌, ltb, leb, suc, ◌≤◌, List, [], ◌∷◌, ◌++◌, length, take, drop, get_or, Option, Some, None, option_map, unwrap_or, if◌then◌else◌, refl, sym, ap, ◌∙◌, subst, arith, append-nil, codes}
 use Rattle.std.specs.Str.{IsUtf8}
 use borrow.Author.Tests.{ltb-true, lt-ltb, le-ltb, le-leb, ne_eqb}
 use Rattle.std.proofs.Math.Seq.{drop-append_seam}
@@ -10,9 +10,12 @@ use Rattle.matchit.specs.Rows.{RowsOf}
 use Rattle.matchit.specs.Router.{RouteOf}
 use Rattle.matchit.specs.Params.{walk, wild_from, wild_stop, next_at, part_of, named, AllText}
 use Rattle.api.specs.declared.routes.Methods.{Methods}
-use Rattle.api.specs.declared.routes.Kind.TheVariants.{Supervisor, Project, Student}
-use Rattle.api.specs.Routes.{row, entry, all_routes, fill, AreSegments, HasRow, Names, IsNowhere}
-use Rattle.api.proofs.Found.{steps, found_along, param_leaf}
+use Rattle.api.specs.declared.routes.Segments.{Segments}
+use Rattle.api.specs.declared.routes.Segments.TheVariants.{Any}
+use Rattle.api.specs.declared.routes.Call.TheVariants as call
+use Rattle.api.specs.declared.routes.Put.TheVariants as put
+use Rattle.api.specs.Routes.{is_segment, row, fixed, read, asked, entry, list, round, fits, all_routes, fill, AreSegments, AllFit, HasRow, Names, NamesBy, IsNowhere, first_of}
+use Rattle.api.proofs.Found.{steps, found_along, ends_here, param_leaf, number_leaf}
 use Rattle.api.proofs.Sound.{both, makes, AllPlain, plain_all}
 
 -- each token is a byte
@@ -103,149 +106,251 @@ walk_behind front label text a b l =
     ∙ ap (λ (n : ℕ). (part_of label a b, part_of (front ++ text) (length front) n) ∷ []) (takes_rest front (front ++ text) (length front))
     ∙ ap (λ (t : List ℕ). (part_of label a b, t) ∷ []) (part_behind front text)
 
--- what is known of a route that a path found
-pub record Taken (path : List ℕ) (route : RouteOf Methods) : Type 0 where
-  pub code : List ℕ
-  pub names : Names path route.value (code ∷ [])
-  pub texts : AllText (walk route.pattern route.text path route.names 0 0)
-  pub value : named (codes "code") (walk route.pattern route.text path route.names 0 0) ≡ Some code
+-- a pattern without a parameter is filled by no text
+unfilled : (front : List ℕ) (values : List (List ℕ)) (path : List ℕ) → is_literal front ≡ true → fill front values ≡ Some path → (values ≡ []) × (path ≡ front)
+unfolding is_literal
+unfilled [] [] path l e = let f : Some [] ≡ Some path = e in let g : [] ≡ path = cc in (refl, sym g)
+unfilled [] (v ∷ values) path l e = absurd (let f : None ≡ Some path = e in cc)
+unfilled (x ∷ front) [] path l e =
+    let ls = both (ltb x 256) (is_literal front) l in
+    let r = in_front (λ p. x ∷ p) (fill front []) path (subst (λ (t : Bool). (if t then None else option_map (λ p. x ∷ p) (fill front [])) ≡ Some path) (no_param x ls.0) e) in
+    let u = unfilled front [] r.0 ls.1 r.1 in
+    (u.0, r.2 ∙ ap (λ p. x ∷ p) u.1)
+unfilled (x ∷ front) (v ∷ values) path l e =
+    let ls = both (ltb x 256) (is_literal front) l in
+    let r = in_front (λ p. x ∷ p) (fill front (v ∷ values)) path
+    (subst (λ (t : Bool). (if t then option_map (λ p. v ++ p) (fill front values) else option_map (λ p. x ∷ p) (fill front (v ∷ values))) ≡ Some path) (no_param x ls.0) e) in
+    let u = unfilled front (v ∷ values) r.0 ls.1 r.1 in
+    (u.0, r.2 ∙ ap (λ p. x ∷ p) u.1)
 
--- a row finds its path, and its path what it names
+-- the texts of a route's parameters, of which it has one or none
+abbrev pub values_of : List (ℕ × ℕ) → List ℕ → List (List ℕ)
+values_of [] code = []
+values_of (n ∷ ns) code = code ∷ []
+
+-- the text that a route takes of a path under the name of its parameter, or none
+abbrev pub code_in : RouteOf Methods → List ℕ → List ℕ
+code_in route path = unwrap_or (named (codes "code") (walk route.pattern route.text path route.names 0 0)) []
+
+-- what a path of a route has for its parameter
+pub record Read (path : List ℕ) (route : RouteOf Methods) (values : List (List ℕ)) : Type 0 where
+  pub one : values ≡ values_of route.names (code_in route path)
+  pub code : code_in route path ≡ first_of values
+  pub texts : IsUtf8 path → AllText (walk route.pattern route.text path route.names 0 0)
+  pub fit : fits route.value.segments (code_in route path) ≡ true → AllFit route.value.segments values
+  pub unfit : AllFit route.value.segments values → fits route.value.segments (code_in route path) ≡ true
+  pub at : AllFit route.value.segments values → first all_routes path ≡ Some route
+
+-- a row without a parameter finds its path
+record Lies (front : List ℕ) (methods : Methods) : Type 0 where
+  pub literal : is_literal front ≡ true
+  pub any : methods.segments ≡ Any
+  pub at : first all_routes front ≡ Some (fixed front methods).1
+
+lies_read : (front : List ℕ) (methods : Methods) → Lies front methods → (path : List ℕ) (pattern : List ℕ) (values : List (List ℕ))
+    → pattern ≡ front → fill pattern values ≡ Some path → Read path (fixed front methods).1 values
+lies_read front methods lies path pattern values is filled =
+    let u = unfilled front values path lies.literal (subst (λ p. fill p values ≡ Some path) is filled) in
+    record {
+      one = u.0;
+      code = sym (ap first_of u.0);
+      texts = λ utf8. tt;
+      fit = λ f. subst (AllFit methods.segments) (sym u.0) tt;
+      unfit = λ f. ap (λ (s : Segments). fits s []) lies.any;
+      at = λ f. ap (first all_routes) u.1 ∙ lies.at;
+    }
+
+-- a row with a parameter finds its path, and its path what it names
 record Stands (front : List ℕ) (methods : Methods) : Type 0 where
   pub literal : is_literal front ≡ true
-  pub alone : steps front all_routes ≡ (256 ∷ [], (row front (codes "code") methods).1) ∷ []
+  pub leaf : (text : List ℕ) → is_segment text ≡ true → fits methods.segments text ≡ true → first (steps front all_routes) text ≡ Some (row front (codes "code") methods).1
   pub label : part_of (row front (codes "code") methods).1.text (length front + 1) (length front + 1 + 4) ≡ codes "code"
   pub utf8 : (text : List ℕ) → IsUtf8 (front ++ text) → IsUtf8 text
 
-supervisors : Stands (codes "/supervisors/") (entry Supervisor)
-unfolding all_routes is_literal
-supervisors = record {
-  literal = refl;
-  alone = refl;
-  label = refl;
-  utf8 = λ text u. IsUtf8-drop (codes "/supervisors/" ++ text) 13 u (IsCharBoundary-after_ascii (codes "/supervisors/" ++ text) 12 u (omega arith) (omega arith));
+stands_read : (front : List ℕ) (methods : Methods) → Stands front methods → (path : List ℕ) (pattern : List ℕ) (values : List (List ℕ))
+    → pattern ≡ front ++ 256 ∷ [] → fill pattern values ≡ Some path → AreSegments values → Read path (row front (codes "code") methods).1 values
+unfolding lib.Utf8.encode
+stands_read front methods stands path pattern values is filled segments =
+    let b = behind front values path stands.literal (subst (λ p. fill p values ≡ Some path) is filled) in
+    let r = (row front (codes "code") methods).1 in
+    let walked : walk r.pattern r.text path r.names 0 0 ≡ (codes "code", b.text) ∷ []
+    = subst (λ p. walk r.pattern r.text p r.names 0 0 ≡ (codes "code", b.text) ∷ []) (sym b.whole)
+    (walk_behind front r.text b.text (length front + 1) (length front + 1 + 4) stands.literal ∙ ap (λ (t : List ℕ). (t, b.text) ∷ []) stands.label) in
+    let code : code_in r path ≡ b.text = ap (λ (w : List (List ℕ × List ℕ)). unwrap_or (named (codes "code") w) []) walked in
+    record {
+      one = b.one ∙ ap (λ (t : List ℕ). t ∷ []) (sym code);
+      code = code ∙ sym (ap first_of b.one);
+      texts = λ utf8. subst AllText (sym walked) ((codes "code", (refl, refl)), stands.utf8 b.text (subst IsUtf8 b.whole utf8), tt);
+      fit = λ f. subst (AllFit methods.segments) (sym b.one) (sym (ap (fits methods.segments) code) ∙ f, tt);
+      unfit = λ f. ap (fits methods.segments) code ∙ (subst (AllFit methods.segments) b.one f).0;
+      at = λ f. ap (first all_routes) b.whole ∙ found_along front all_routes b.text r (stands.leaf b.text (subst AreSegments b.one segments).0 (subst (AllFit methods.segments) b.one f).0);
+    }
+
+-- a row of the router is one of both, with its front and its methods
+record Standing (pattern : List ℕ) (route : RouteOf Methods) : Type 0 where
+  pub read : (path : List ℕ) (values : List (List ℕ)) → fill pattern values ≡ Some path → AreSegments values → Read path route values
+
+with_parameter : (front : List ℕ) (methods : Methods) → Stands front methods → (pattern : List ℕ) (route : RouteOf Methods)
+    → (pattern ≡ front ++ 256 ∷ []) × (route ≡ (row front (codes "code") methods).1) → Standing pattern route
+with_parameter front methods stands pattern route is = record {
+  read = λ path values filled segments. subst (λ (r : RouteOf Methods). Read path r values) (sym is.1) (stands_read front methods stands path pattern values is.0 filled segments);
 }
 
-projects : Stands (codes "/projects/") (entry Project)
+without : (front : List ℕ) (methods : Methods) → Lies front methods → (pattern : List ℕ) (route : RouteOf Methods)
+    → (pattern ≡ front) × (route ≡ (fixed front methods).1) → Standing pattern route
+without front methods lies pattern route is = record {
+  read = λ path values filled segments. subst (λ (r : RouteOf Methods). Read path r values) (sym is.1) (lies_read front methods lies path pattern values is.0 filled);
+}
+
+lists : Stands (codes "/lists/") (list)
+unfolding all_routes is_literal
+lists = record {
+  literal = refl;
+  leaf = λ text segment fit. param_leaf (row (codes "/lists/") (codes "code") (list)).1 text segment;
+  label = refl;
+  utf8 = λ text u. IsUtf8-drop (codes "/lists/" ++ text) 7 u (IsCharBoundary-after_ascii (codes "/lists/" ++ text) 6 u (omega arith) (omega arith));
+}
+
+preview : Lies (codes "/preview") (read call.Preview)
+unfolding all_routes is_literal
+preview = record { literal = refl; any = refl; at = found_along (codes "/preview") all_routes [] (fixed (codes "/preview") (read call.Preview)).1 (ends_here (fixed (codes "/preview") (read call.Preview)).1 (steps (codes "/preview") all_routes) refl) }
+
+projects : Stands (codes "/projects/") (entry put.Project call.GetProject)
 unfolding all_routes is_literal
 projects = record {
   literal = refl;
-  alone = refl;
+  leaf = λ text segment fit. param_leaf (row (codes "/projects/") (codes "code") (entry put.Project call.GetProject)).1 text segment;
   label = refl;
   utf8 = λ text u. IsUtf8-drop (codes "/projects/" ++ text) 10 u (IsCharBoundary-after_ascii (codes "/projects/" ++ text) 9 u (omega arith) (omega arith));
 }
 
-students : Stands (codes "/students/") (entry Student)
+close : Lies (codes "/rounds/close") (asked call.Close)
+unfolding all_routes is_literal
+close = record { literal = refl; any = refl; at = found_along (codes "/rounds/close") all_routes [] (fixed (codes "/rounds/close") (asked call.Close)).1 (ends_here (fixed (codes "/rounds/close") (asked call.Close)).1 (steps (codes "/rounds/close") all_routes) refl) }
+
+reopen : Lies (codes "/rounds/reopen") (asked call.ReopenRound)
+unfolding all_routes is_literal
+reopen = record { literal = refl; any = refl; at = found_along (codes "/rounds/reopen") all_routes [] (fixed (codes "/rounds/reopen") (asked call.ReopenRound)).1 (ends_here (fixed (codes "/rounds/reopen") (asked call.ReopenRound)).1 (steps (codes "/rounds/reopen") all_routes) refl) }
+
+rounds : Stands (codes "/rounds/") (round)
+unfolding all_routes is_literal
+rounds = record {
+  literal = refl;
+  leaf = λ text segment fit. number_leaf (row (codes "/rounds/") (codes "code") round).1 (fixed (codes "/rounds/close") (asked call.Close)).1 (fixed (codes "/rounds/reopen") (asked call.ReopenRound)).1 99 114 (codes "lose") (codes "eopen") text refl refl refl refl segment fit;
+  label = refl;
+  utf8 = λ text u. IsUtf8-drop (codes "/rounds/" ++ text) 8 u (IsCharBoundary-after_ascii (codes "/rounds/" ++ text) 7 u (omega arith) (omega arith));
+}
+
+opening : Lies (codes "/rounds") (asked call.OpenRound)
+unfolding all_routes is_literal
+opening = record { literal = refl; any = refl; at = found_along (codes "/rounds") all_routes [] (fixed (codes "/rounds") (asked call.OpenRound)).1 (ends_here (fixed (codes "/rounds") (asked call.OpenRound)).1 (steps (codes "/rounds") all_routes) refl) }
+
+roundtext : Lies (codes "/roundtext") (read call.RoundText)
+unfolding all_routes is_literal
+roundtext = record { literal = refl; any = refl; at = found_along (codes "/roundtext") all_routes [] (fixed (codes "/roundtext") (read call.RoundText)).1 (ends_here (fixed (codes "/roundtext") (read call.RoundText)).1 (steps (codes "/roundtext") all_routes) refl) }
+
+students : Stands (codes "/students/") (entry put.Student call.GetStudent)
 unfolding all_routes is_literal
 students = record {
   literal = refl;
-  alone = refl;
+  leaf = λ text segment fit. param_leaf (row (codes "/students/") (codes "code") (entry put.Student call.GetStudent)).1 text segment;
   label = refl;
   utf8 = λ text u. IsUtf8-drop (codes "/students/" ++ text) 10 u (IsCharBoundary-after_ascii (codes "/students/" ++ text) 9 u (omega arith) (omega arith));
 }
 
--- a row's path finds the row
-row_found : (front : List ℕ) (methods : Methods) → Stands front methods → (pattern : List ℕ) (route : RouteOf Methods) (values : List (List ℕ)) (path : List ℕ)
-    → (pattern ≡ front ++ 256 ∷ []) × (route ≡ (row front (codes "code") methods).1) → fill pattern values ≡ Some path → AreSegments values → first all_routes path ≡ Some route
-row_found front methods stands pattern route values path is filled segments =
-    let b = behind front values path stands.literal (subst (λ p. fill p values ≡ Some path) is.0 filled) in
-    let one = subst AreSegments b.one segments in
-    let leaf = param_leaf (row front (codes "code") methods).1 b.text one.0 in
-    ap (first all_routes) b.whole
-    ∙ found_along front all_routes b.text (row front (codes "code") methods).1 (subst (λ rs. first rs b.text ≡ Some (row front (codes "code") methods).1) (sym stands.alone) leaf)
-    ∙ ap Some (sym is.1)
+supervisors : Stands (codes "/supervisors/") (entry put.Supervisor call.GetSupervisor)
+unfolding all_routes is_literal
+supervisors = record {
+  literal = refl;
+  leaf = λ text segment fit. param_leaf (row (codes "/supervisors/") (codes "code") (entry put.Supervisor call.GetSupervisor)).1 text segment;
+  label = refl;
+  utf8 = λ text u. IsUtf8-drop (codes "/supervisors/" ++ text) 13 u (IsCharBoundary-after_ascii (codes "/supervisors/" ++ text) 12 u (omega arith) (omega arith));
+}
+
+-- each row is one
+standing : (pattern : List ℕ) (route : RouteOf Methods) → HasRow pattern route all_routes → Standing pattern route
+unfolding all_routes
+standing pattern route (inl is) = with_parameter (codes "/lists/") (list) lists pattern route is
+standing pattern route (inr (inl is)) = without (codes "/preview") (read call.Preview) preview pattern route is
+standing pattern route (inr (inr (inl is))) = with_parameter (codes "/projects/") (entry put.Project call.GetProject) projects pattern route is
+standing pattern route (inr (inr (inr (inl is)))) = without (codes "/rounds/close") (asked call.Close) close pattern route is
+standing pattern route (inr (inr (inr (inr (inl is))))) = without (codes "/rounds/reopen") (asked call.ReopenRound) reopen pattern route is
+standing pattern route (inr (inr (inr (inr (inr (inl is)))))) = with_parameter (codes "/rounds/") (round) rounds pattern route is
+standing pattern route (inr (inr (inr (inr (inr (inr (inl is))))))) = without (codes "/rounds") (asked call.OpenRound) opening pattern route is
+standing pattern route (inr (inr (inr (inr (inr (inr (inr (inl is)))))))) = without (codes "/roundtext") (read call.RoundText) roundtext pattern route is
+standing pattern route (inr (inr (inr (inr (inr (inr (inr (inr (inl is))))))))) = with_parameter (codes "/students/") (entry put.Student call.GetStudent) students pattern route is
+standing pattern route (inr (inr (inr (inr (inr (inr (inr (inr (inr (inl is)))))))))) = with_parameter (codes "/supervisors/") (entry put.Supervisor call.GetSupervisor) supervisors pattern route is
+standing pattern route (inr (inr (inr (inr (inr (inr (inr (inr (inr (inr none)))))))))) = absurd none
 
 -- the rows are plain
 rows_plain : AllPlain all_routes
 unfolding all_routes
 rows_plain = plain_all all_routes refl
 
--- a row of the router stands, with its front and its methods
-record Standing (pattern : List ℕ) (route : RouteOf Methods) : Type 0 where
-  pub front : List ℕ
-  pub methods : Methods
-  pub stands : Stands front methods
-  pub is : (pattern ≡ front ++ 256 ∷ []) × (route ≡ (row front (codes "code") methods).1)
-
--- each row does
-standing : (pattern : List ℕ) (route : RouteOf Methods) → HasRow pattern route all_routes → Standing pattern route
-unfolding all_routes
-standing pattern route (inl is) = record { front = codes "/projects/"; methods = entry Project; stands = projects; is = is }
-standing pattern route (inr (inl is)) = record { front = codes "/students/"; methods = entry Student; stands = students; is = is }
-standing pattern route (inr (inr (inl is))) = record { front = codes "/supervisors/"; methods = entry Supervisor; stands = supervisors; is = is }
-standing pattern route (inr (inr (inr none))) = absurd none
-
--- what a path of a route has for its parameter
-record Read (path : List ℕ) (route : RouteOf Methods) (values : List (List ℕ)) : Type 0 where
-  pub at : first all_routes path ≡ Some route
-  pub code : List ℕ
-  pub one : values ≡ code ∷ []
-  pub utf8 : IsUtf8 path → IsUtf8 code
-  pub walked : walk route.pattern route.text path route.names 0 0 ≡ (codes "code", code) ∷ []
-
--- where it is one row's
-row_read : (front : List ℕ) (methods : Methods) → Stands front methods → (path : List ℕ) (route : RouteOf Methods) (pattern : List ℕ) (values : List (List ℕ))
-    → (pattern ≡ front ++ 256 ∷ []) × (route ≡ (row front (codes "code") methods).1) → fill pattern values ≡ Some path → AreSegments values → Read path route values
-row_read front methods stands path route pattern values is filled segments =
-    let b = behind front values path stands.literal (subst (λ p. fill p values ≡ Some path) is.0 filled) in
-    let r = (row front (codes "code") methods).1 in
-    record {
-      at = row_found front methods stands pattern route values path is filled segments;
-      code = b.text;
-      one = b.one;
-      utf8 = λ u. stands.utf8 b.text (subst IsUtf8 b.whole u);
-      walked =
-          subst (λ p. walk route.pattern route.text p route.names 0 0 ≡ (codes "code", b.text) ∷ []) (sym b.whole)
-          (subst (λ (k : RouteOf Methods). walk k.pattern k.text (front ++ b.text) k.names 0 0 ≡ (codes "code", b.text) ∷ []) (sym is.1)
-          (walk_behind front r.text b.text (length front + 1) (length front + 1 + 4) stands.literal ∙ ap (λ (t : List ℕ). (t, b.text) ∷ []) stands.label));
-    }
-
 -- in any row
-read : (path : List ℕ) (route : RouteOf Methods) (pattern : List ℕ) (values : List (List ℕ)) → HasRow pattern route all_routes → fill pattern values ≡ Some path → AreSegments values
+read_row : (path : List ℕ) (route : RouteOf Methods) (pattern : List ℕ) (values : List (List ℕ)) → HasRow pattern route all_routes → fill pattern values ≡ Some path → AreSegments values
     → Read path route values
-read path route pattern values listed filled segments =
-    let s = standing pattern route listed in row_read s.front s.methods s.stands path route pattern values s.is filled segments
+read_row path route pattern values listed filled segments = (standing pattern route listed).read path values filled segments
 
--- what a path names under its name is its code
-pub coded : (path : List ℕ) (route : RouteOf Methods) (text : List ℕ) → (t : Taken path route) → named (codes "code") (walk route.pattern route.text path route.names 0 0) ≡ Some text
-    → Names path route.value (text ∷ [])
-coded path route text t e = let f : Some t.code ≡ Some text = sym t.value ∙ e in let g : t.code ≡ text = cc in subst (λ (c : List ℕ). Names path route.value (c ∷ [])) g t.names
-
--- a path that finds no row is nowhere
-pub nowhere : (router : RowsOf (RouteOf Methods)) (path : List ℕ) → router ≡ all_routes → first router path ≡ None → IsNowhere path
-nowhere router path e lost methods values names =
-    let there : None ≡ Some names.route = sym lost ∙ ap (λ rows. first rows path) e ∙ (read path names.route names.pattern values names.listed names.filled names.segments).at in
-    absurd (let f : None ≡ Some names.route = there in cc)
+-- what is known of a route that a path found
+pub record Taken (path : List ℕ) (route : RouteOf Methods) : Type 0 where
+  pub texts : AllText (walk route.pattern route.text path route.names 0 0)
+  pub names : fits route.value.segments (code_in route path) ≡ true → NamesBy path route.value (code_in route path)
 
 -- a path that finds a row has its code
 pub taken : (router : RowsOf (RouteOf Methods)) (path : List ℕ) (route : RouteOf Methods) → router ≡ all_routes → IsUtf8 path → first router path ≡ Some route → Taken path route
-unfolding lib.Utf8.encode
 taken router path route e utf8 at =
     let m = makes path 0 all_routes route rows_plain (ap (λ rows. first rows path) (sym e) ∙ at) in
-    let r = read path route m.pattern m.values m.listed m.filled m.segments in
+    let r = read_row path route m.pattern m.values m.listed m.filled m.segments in
     record {
-      code = r.code;
-      names = record {
-        pattern = m.pattern;
-        route = route;
-        listed = m.listed;
-        value = refl;
-        text = utf8;
-        filled = subst (λ vs. fill m.pattern vs ≡ Some path) r.one m.filled;
-        segments = subst AreSegments r.one m.segments;
+      texts = r.texts utf8;
+      names = λ f. record {
+        values = m.values;
+        names = record { pattern = m.pattern; route = route; listed = m.listed; value = refl; text = utf8; filled = m.filled; segments = m.segments; fit = r.fit f };
+        first = r.code;
       };
-      texts = subst AllText (sym r.walked) ((codes "code", (refl, refl)), r.utf8 utf8, tt);
-      value = ap (named (codes "code")) r.walked;
     }
+
+-- a path that names a route finds it
+pub finds : (path : List ℕ) (methods : Methods) (values : List (List ℕ)) → (n : Names path methods values) → first all_routes path ≡ Some n.route
+finds path methods values n =
+    (read_row path n.route n.pattern values n.listed n.filled n.segments).at (subst (λ (m : Methods). AllFit m.segments values) n.value n.fit)
+
+-- a path that finds no row is nowhere
+pub nowhere : (router : RowsOf (RouteOf Methods)) (path : List ℕ) → router ≡ all_routes → first router path ≡ None → IsNowhere path
+nowhere router path e lost methods values n =
+    let there : None ≡ Some n.route = sym lost ∙ ap (λ rows. first rows path) e ∙ finds path methods values n in
+    absurd (let f : None ≡ Some n.route = there in cc)
+
+-- nor is one whose text does not fit its row's parameter
+pub unfit : (router : RowsOf (RouteOf Methods)) (path : List ℕ) (route : RouteOf Methods) → router ≡ all_routes → first router path ≡ Some route
+    → fits route.value.segments (code_in route path) ≡ false → IsNowhere path
+unfit router path route e at bad methods values n =
+    let found : Some n.route ≡ Some route = sym (finds path methods values n) ∙ sym (ap (λ rows. first rows path) e) ∙ at in
+    let same : n.route ≡ route = cc in
+    let fit = (read_row path n.route n.pattern values n.listed n.filled n.segments).unfit (subst (λ (m : Methods). AllFit m.segments values) n.value n.fit) in
+    let no : true ≡ false = sym fit ∙ ap (λ (r : RouteOf Methods). fits r.value.segments (code_in r path)) same ∙ bad in
+    absurd (let f : true ≡ false = no in cc)
 
 -- two readings of a path are one
 pub one_name : (path : List ℕ) (methods others : Methods) (values texts : List (List ℕ)) → Names path methods values → Names path others texts → (methods ≡ others) × (values ≡ texts)
 one_name path methods others values texts m n =
-    let a = read path m.route m.pattern values m.listed m.filled m.segments in
-    let b = read path n.route n.pattern texts n.listed n.filled n.segments in
-    let found : Some m.route ≡ Some n.route = sym a.at ∙ b.at in
+    let a = read_row path m.route m.pattern values m.listed m.filled m.segments in
+    let b = read_row path n.route n.pattern texts n.listed n.filled n.segments in
+    let found : Some m.route ≡ Some n.route = sym (finds path methods values m) ∙ finds path others texts n in
     let route : m.route ≡ n.route = cc in
-    let walked = subst (λ (r : RouteOf Methods). walk r.pattern r.text path r.names 0 0 ≡ (codes "code", a.code) ∷ []) route a.walked in
-    let there : Some a.code ≡ Some b.code = ap (named (codes "code")) (sym walked ∙ b.walked) in
-    let code : a.code ≡ b.code = cc in
-    (m.value ∙ ap (λ (r : RouteOf Methods). r.value) route ∙ sym n.value, a.one ∙ ap (λ (t : List ℕ). t ∷ []) code ∙ sym b.one)
+    (m.value ∙ ap (λ (r : RouteOf Methods). r.value) route ∙ sym n.value, a.one ∙ ap (λ (r : RouteOf Methods). values_of r.names (code_in r path)) route ∙ sym b.one)
+
+-- what a lookup gives, or nothing, is the code
+pub code_read : {B : Type 0} (now : B → List ℕ) (o : Option B) (d : B) (pattern text path other : List ℕ) (names : List (ℕ × ℕ)) → other ≡ path → AllText (walk pattern text path names 0 0)
+    → (AllText (walk pattern text other names 0 0)
+    → MatchOption o (named (codes "code") (walk pattern text other names 0 0) ≡ None) (λ v. named (codes "code") (walk pattern text other names 0 0) ≡ Some (now v)))
+    → now d ≡ [] → now (unwrap_or o d) ≡ unwrap_or (named (codes "code") (walk pattern text path names 0 0)) []
+code_read {B} now o d pattern text path other names same texts gives empty =
+    by o (gives (subst (λ (p : List ℕ). AllText (walk pattern text p names 0 0)) (sym same) texts))
+    ∙ ap (λ (p : List ℕ). unwrap_or (named (codes "code") (walk pattern text p names 0 0)) []) same
+  where
+    by : (q : Option B) → MatchOption q (named (codes "code") (walk pattern text other names 0 0) ≡ None) (λ v. named (codes "code") (walk pattern text other names 0 0) ≡ Some (now v))
+        → now (unwrap_or q d) ≡ unwrap_or (named (codes "code") (walk pattern text other names 0 0)) []
+    by None h = empty ∙ sym (ap (λ (n : Option (List ℕ)). unwrap_or n []) h)
+    by (Some v) h = sym (ap (λ (n : Option (List ℕ)). unwrap_or n []) h)

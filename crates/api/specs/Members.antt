@@ -1,10 +1,10 @@
 -- What the members of a body say.
-use Rattle.std.specs.Prelude.{ℕ, suc, ◌==◌, min, Bool, false, List, Option, Some, None, option_and_then, option_map, codes, if◌then◌else◌}
+use Rattle.std.specs.Prelude.{ℕ, suc, ◌==◌, min, Bool, false, List, [], ◌∷◌, Option, Some, None, option_and_then, option_map, codes, if◌then◌else◌}
 use Rattle.std.specs.Option.{option_map_or}
 use Rattle.std.specs.Str.{is_utf8}
-use Rattle.serde_json.specs.Data.{Data, Members, no_members, member}
+use Rattle.serde_json.specs.Data.{Data, Items, no_items, item, Members, no_members, member}
 use Rattle.serde_json.specs.Read.{read}
-use Rattle.serde_json.specs.Find.{get, as_str, as_object, as_number, as_u64}
+use Rattle.serde_json.specs.Find.{get, as_str, as_array, as_object, as_number, as_u64}
 
 -- what a body is in JSON, if it is a text of it
 abbrev pub json_of : List ℕ → Option Data
@@ -56,3 +56,12 @@ supervisor_members = of_size 2 name_and_quota
 abbrev pub project_members : Data → Option ((List ℕ × ℕ) × List ℕ)
 project_members = of_size 3 (λ d.
     option_and_then (λ both. option_map (λ supervisor. (both, supervisor)) (text_in (codes "supervisor") d)) (name_and_quota d))
+
+-- the texts of items that are all texts
+abbrev pub texts_of : Items → Option (List (List ℕ))
+texts_of no_items = Some []
+texts_of (item d ds) = option_and_then (λ text. option_map (λ texts. text ∷ texts) (texts_of ds)) (as_str d)
+
+-- the member of a list: its choices, an array of texts
+abbrev pub choices_of : Data → Option (List (List ℕ))
+choices_of = of_size 1 (λ d. option_and_then texts_of (option_and_then as_array (get (codes "choices") d)))

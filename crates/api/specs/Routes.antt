@@ -1,17 +1,51 @@
 -- The routes, and what a path names.
-use Rattle.std.specs.Prelude.{◌≡◌, ◌⊎◌, ℕ, ◌+◌, ◌==◌, Bool, true, false, not, List, [], ◌∷◌, ◌++◌, length, Option, Some, None, option_map, codes, if◌then◌else◌}
-use Rattle.std.specs.Str.{IsUtf8}
+use Rattle.std.specs.Prelude.{◌≡◌, ◌⊎◌, ℕ, ◌+◌, ◌==◌, nat_lt, Bool, true, false, not, ◌&&◌, List, [], ◌∷◌, ◌++◌, length, Option, Some, None, is_some, option_map, codes, if◌then◌else◌}
+use Rattle.std.specs.Str.{IsUtf8, all_ascii_digits}
+use Rattle.std.specs.Str.Parse.{digits_value}
 use Rattle.matchit.specs.Seek.{has_slash}
 use Rattle.matchit.specs.Rows.{RowsOf}
 use Rattle.matchit.specs.Router.{RouteOf}
 use Rattle.api.specs.declared.routes.Methods.{Methods}
-use Rattle.api.specs.declared.routes.Form.TheVariants.{Empty, Object}
-use Rattle.api.specs.declared.routes.Kind.{Kind}
-use Rattle.api.specs.declared.routes.Kind.TheVariants.{Supervisor, Project, Student}
+use Rattle.api.specs.declared.routes.Form.TheVariants.{Empty, Members}
+use Rattle.api.specs.declared.routes.Segments.{Segments}
+use Rattle.api.specs.declared.routes.Segments.TheVariants.{Any, Numbers}
+use Rattle.api.specs.declared.routes.Call.{Call}
+use Rattle.api.specs.declared.routes.Call.TheVariants as call
+use Rattle.api.specs.declared.routes.Put.{Put}
+use Rattle.api.specs.declared.routes.Put.TheVariants as put
+
+-- the number that 1 to 4 digits write
+abbrev pub number_of : List ℕ → Option ℕ
+number_of text = if nat_lt 0 (length text) && nat_lt (length text) 5 && all_ascii_digits text then Some (digits_value 10 text) else None
+
+-- whether a segment may stand for a parameter
+abbrev pub fits : Segments → List ℕ → Bool
+fits Any text = true
+fits Numbers text = is_some (number_of text)
+
+-- what is read alone
+abbrev pub read : Call → Methods
+read what = record { segments = Any; get = Some (Empty what); put = None; post = None; delete = None }
+
+-- what is asked of the office as a whole
+abbrev pub asked : Call → Methods
+asked what = record { segments = Any; get = None; put = None; post = Some (Empty what); delete = None }
 
 -- an entry of the rolls is put and read
-abbrev pub entry : Kind → Methods
-entry kind = record { get = Some (Empty kind); put = Some (Object kind); post = None; delete = None }
+abbrev pub entry : Put → Call → Methods
+entry what how = record { segments = Any; get = Some (Empty how); put = Some (Members what); post = None; delete = None }
+
+-- a list is put, and dropped
+abbrev pub list : Methods
+list = record { segments = Any; get = None; put = Some (Members put.List); post = None; delete = Some (Empty call.DropList) }
+
+-- a round is read by its number
+abbrev pub round : Methods
+round = record { segments = Numbers; get = Some (Empty call.GetRound); put = None; post = None; delete = None }
+
+-- a row of the router without a parameter
+abbrev pub fixed : List ℕ → Methods → List ℕ × RouteOf Methods
+fixed front methods = (front, record { pattern = front; text = front; names = []; value = methods })
 
 -- a row of the router: what comes before the one parameter of a path, and its name; 256 stands for the parameter
 abbrev pub row : List ℕ → List ℕ → Methods → List ℕ × RouteOf Methods
@@ -28,9 +62,16 @@ row front name methods = (
 -- the routes, in the router's order
 unfoldable pub all_routes : RowsOf (RouteOf Methods)
 all_routes =
-    row (codes "/projects/") (codes "code") (entry Project)
-    ∷ row (codes "/students/") (codes "code") (entry Student)
-    ∷ row (codes "/supervisors/") (codes "code") (entry Supervisor)
+    row (codes "/lists/") (codes "code") list
+    ∷ fixed (codes "/preview") (read call.Preview)
+    ∷ row (codes "/projects/") (codes "code") (entry put.Project call.GetProject)
+    ∷ fixed (codes "/rounds/close") (asked call.Close)
+    ∷ fixed (codes "/rounds/reopen") (asked call.ReopenRound)
+    ∷ row (codes "/rounds/") (codes "code") round
+    ∷ fixed (codes "/rounds") (asked call.OpenRound)
+    ∷ fixed (codes "/roundtext") (read call.RoundText)
+    ∷ row (codes "/students/") (codes "code") (entry put.Student call.GetStudent)
+    ∷ row (codes "/supervisors/") (codes "code") (entry put.Supervisor call.GetSupervisor)
     ∷ []
 
 -- a pattern with these texts put in for its parameters, in order
@@ -52,6 +93,11 @@ abbrev pub AreSegments : List (List ℕ) → Type 0
 AreSegments [] = Unit {0}
 AreSegments (v ∷ values) = (is_segment v ≡ true) × AreSegments values
 
+-- each of them may stand for a parameter
+abbrev pub AllFit : Segments → List (List ℕ) → Type 0
+AllFit segments [] = Unit {0}
+AllFit segments (v ∷ values) = (fits segments v ≡ true) × AllFit segments values
+
 -- one of the rows has this pattern and this value
 abbrev pub HasRow : {K : Type 0} → List ℕ → K → RowsOf K → Type 0
 HasRow pattern value [] = ⊥
@@ -66,6 +112,18 @@ pub record Names (path : List ℕ) (methods : Methods) (values : List (List ℕ)
   pub text : IsUtf8 path
   pub filled : fill pattern values ≡ Some path
   pub segments : AreSegments values
+  pub fit : AllFit methods.segments values
+
+-- the text that stands for the first parameter of a path
+abbrev pub first_of : List (List ℕ) → List ℕ
+first_of [] = []
+first_of (v ∷ values) = v
+
+-- the path is that of a route, whose first parameter is this text
+pub record NamesBy (path : List ℕ) (methods : Methods) (code : List ℕ) : Type 0 where
+  pub values : List (List ℕ)
+  pub names : Names path methods values
+  pub first : code ≡ first_of values
 
 -- no route has the path
 abbrev pub IsNowhere : List ℕ → Type 0

@@ -26,9 +26,17 @@ answer_head status type n = status_line status ++ fields type n
 abbrev pub json_type : List ℕ
 json_type = codes "application/json"
 
+-- the type of a body that is a text
+abbrev pub text_type : List ℕ
+text_type = codes "text/plain; charset=utf-8"
+
+-- an answer whose body is of a type
+abbrev pub typed_answer : ℕ → List ℕ → List ℕ → List ℕ
+typed_answer status type body = answer_head status type (length body) ++ body
+
 -- an answer in JSON
 abbrev pub json_answer : ℕ → List ℕ → List ℕ
-json_answer status body = answer_head status json_type (length body) ++ body
+json_answer status body = typed_answer status json_type body
 
 -- the body of a refusal with this name and number
 abbrev pub fault_body : List ℕ → ℕ → List ℕ

@@ -1,12 +1,14 @@
 -- The text of an answer.
-use Rattle.std.specs.Prelude.{ℕ, List, Result, Ok, Err, codes}
-use Rattle.serde_json.specs.Data.{Data, null, number, unsigned, string, object, member, no_members}
-use Rattle.serde_json.specs.Written.{compact_text}
+use Rattle.std.specs.Prelude.{ℕ, Bool, true, false, List, ◌++◌, map, Option, Some, None, Result, Ok, Err, codes, decimal}
+use Rattle.serde_json.specs.Data.{Data, null, number, unsigned, string, array, object, member, no_members}
+use Rattle.serde_json.specs.View.{items_of}
+use Rattle.serde_json.specs.Written.{items_text, compact_text}
 use Rattle.rolls.specs.declared.refusal.Refusal.{Refusal}
 use Rattle.rolls.specs.declared.request.Reply.{Reply}
 use Rattle.rolls.specs.declared.request.Reply.TheVariants as reply
+use Rattle.rolls.specs.declared.rounds.Placement.{Placement}
 use Rattle.rolls.specs.Told.{number_of, status_of, name_of}
-use Rattle.api.specs.Text.{json_answer, fault_answer}
+use Rattle.api.specs.Text.{text_type, typed_answer, json_answer, fault_answer}
 
 -- the answer of a refusal
 abbrev pub refusal_text : Refusal → List ℕ
@@ -27,29 +29,84 @@ project_data name placed quota supervisor =
     (member (codes "quota") (number (unsigned quota))
     (member (codes "supervisor") (string supervisor) no_members))))
 
--- a student in JSON, who has no list and no placement yet
-abbrev pub student_data : List ℕ → Data
-student_data name =
-    object (member (codes "list") null
-    (member (codes "name") (string name)
-    (member (codes "placed") null no_members)))
+-- a student's list in JSON
+abbrev pub list_data : Option (List (List ℕ)) → Data
+list_data None = null
+list_data (Some choices) = array (items_of (map string choices))
 
--- the body of an answer of success
-abbrev pub reply_body : Reply → List ℕ
-reply_body reply.Done = codes "{\"ok\":true}"
-reply_body (reply.Supervisor name placed quota) = compact_text (supervisor_data name placed quota)
-reply_body (reply.Project name placed quota supervisor) = compact_text (project_data name placed quota supervisor)
-reply_body (reply.Student name) = compact_text (student_data name)
+-- a student's placement in JSON
+abbrev pub placed_data : Option Placement → Data
+placed_data None = null
+placed_data (Some placement) =
+    object (member (codes "project") (string placement.project)
+    (member (codes "rank") (number (unsigned placement.rank))
+    (member (codes "round") (number (unsigned placement.round)) no_members)))
+
+-- a student in JSON
+abbrev pub student_data : List ℕ → Option (List (List ℕ)) → Option Placement → Data
+student_data name choices placement =
+    object (member (codes "list") (list_data choices)
+    (member (codes "name") (string name)
+    (member (codes "placed") (placed_data placement) no_members)))
+
+-- numbers in JSON, up to the bracket that closes them
+abbrev pub numbers_text : List ℕ → List ℕ
+numbers_text ns = items_text false (items_of (map (λ n. number (unsigned n)) ns))
+
+-- a truth in JSON
+abbrev pub truth_text : Bool → List ℕ
+truth_text true = codes "true"
+truth_text false = codes "false"
+
+-- a change in JSON
+abbrev pub done_text : List ℕ
+done_text = codes "{\"ok\":true}"
+
+-- an opened round in JSON
+abbrev pub opened_text : ℕ → List ℕ
+opened_text round = codes "{\"round\":" ++ decimal round ++ codes "}"
+
+-- a round in JSON
+abbrev pub round_text : ℕ → Bool → ℕ → List ℕ → ℕ → List ℕ
+round_text round is_open placed profile students =
+    codes "{\"open\":" ++ truth_text is_open ++ codes ",\"placed\":" ++ decimal placed ++ codes ",\"profile\":[" ++ numbers_text profile
+    ++ codes ",\"round\":" ++ decimal round ++ codes ",\"students\":" ++ decimal students ++ codes "}"
+
+-- a closed round in JSON
+abbrev pub closed_text : ℕ → ℕ → List ℕ → List ℕ
+closed_text round size profile =
+    codes "{\"profile\":[" ++ numbers_text profile ++ codes ",\"round\":" ++ decimal round ++ codes ",\"size\":" ++ decimal size ++ codes "}"
+
+-- a preview in JSON
+abbrev pub preview_text : ℕ → List ℕ → List ℕ
+preview_text size profile = codes "{\"profile\":[" ++ numbers_text profile ++ codes ",\"size\":" ++ decimal size ++ codes "}"
+
+-- the answer of success
+abbrev pub reply_text : Reply → List ℕ
+reply_text reply.Done = json_answer 200 done_text
+reply_text (reply.Supervisor name placed quota) = json_answer 200 (compact_text (supervisor_data name placed quota))
+reply_text (reply.Project name placed quota supervisor) = json_answer 200 (compact_text (project_data name placed quota supervisor))
+reply_text (reply.Student name choices placement) = json_answer 200 (compact_text (student_data name choices placement))
+reply_text (reply.Opened round) = json_answer 200 (opened_text round)
+reply_text (reply.Round round is_open placed profile students) = json_answer 200 (round_text round is_open placed profile students)
+reply_text (reply.Closed round size profile) = json_answer 200 (closed_text round size profile)
+reply_text (reply.Preview size profile) = json_answer 200 (preview_text size profile)
+reply_text (reply.Text text) = typed_answer 200 text_type text
 
 -- the text of an answer
 abbrev pub text_of : Result Reply Refusal → List ℕ
-text_of (Ok reply) = json_answer 200 (reply_body reply)
+text_of (Ok reply) = reply_text reply
 text_of (Err refusal) = refusal_text refusal
 
--- an answer of success that names what was read
+-- an answer of success that has texts of the office in it
 abbrev pub IsRead : Result Reply Refusal → Type 0
 IsRead (Ok reply.Done) = ⊥
 IsRead (Ok (reply.Supervisor name placed quota)) = Unit {0}
 IsRead (Ok (reply.Project name placed quota supervisor)) = Unit {0}
-IsRead (Ok (reply.Student name)) = Unit {0}
+IsRead (Ok (reply.Student name choices placement)) = Unit {0}
+IsRead (Ok (reply.Opened round)) = ⊥
+IsRead (Ok (reply.Round round is_open placed profile students)) = ⊥
+IsRead (Ok (reply.Closed round size profile)) = ⊥
+IsRead (Ok (reply.Preview size profile)) = ⊥
+IsRead (Ok (reply.Text text)) = Unit {0}
 IsRead (Err refusal) = ⊥

@@ -1,6 +1,8 @@
 //! Answers in a fixed array, which take no memory.
 ghost use Rattle.std.specs.Prelude.{◌≡◌, ◌+◌, ◌≤◌, ◌++◌, length, decimal};
 ghost use Rattle.arrayvec.specs.ArrayVec.{array_vec_len};
+ghost use Rattle.std.specs.Prelude.{◌*◌};
+ghost use Rattle.api.specs.Texts.{numbers_text};
 ghost use Rattle.api.specs.Text.{reason_of, status_line, fields, answer_head, json_answer, fault_body, fault_answer};
 
 use arrayvec::ArrayVec;
@@ -8,7 +10,7 @@ use http::StatusCode;
 use wire::ShortText;
 
 /// Appends bytes.
-fn push(out: &mut ShortText, bytes: &[u8])
+pub fn push(out: &mut ShortText, bytes: &[u8])
     requires { array_vec_len out.old + length bytes.now ≤ 320 }
     ensures { out.new.items ≡ out.old.items ++ bytes.now }
 {
@@ -25,14 +27,38 @@ fn push_number(out: &mut ShortText, number: u64)
     push(out, buffer.format(number).as_bytes());
 }
 
+/// Appends a number of 32 bits.
+fn push_count(out: &mut ShortText, number: u32)
+    requires { array_vec_len out.old + 10 ≤ 320 }
+    ensures items { out.new.items ≡ out.old.items ++ decimal number }
+    ensures len { array_vec_len out.new ≤ array_vec_len out.old + 10 }
+{
+    let mut buffer = itoa::Buffer::new();
+    push(out, buffer.format(number).as_bytes());
+}
+
 /// Appends a label and a number.
-fn push_labelled(out: &mut ShortText, label: &[u8], number: u64)
-    requires { array_vec_len out.old + (length label.now + 20) ≤ 320 }
+pub fn push_labelled(out: &mut ShortText, label: &[u8], number: u32)
+    requires { array_vec_len out.old + (length label.now + 10) ≤ 320 }
     ensures items { out.new.items ≡ out.old.items ++ (label.now ++ decimal number) }
-    ensures len { array_vec_len out.new ≤ array_vec_len out.old + (length label.now + 20) }
+    ensures len { array_vec_len out.new ≤ array_vec_len out.old + (length label.now + 10) }
 {
     push(out, label);
-    push_number(out, number);
+    push_count(out, number);
+}
+
+/// Appends numbers, and the bracket that closes them.
+pub fn push_numbers(out: &mut ShortText, counts: &[u32])
+    requires { array_vec_len out.old + (11 * length counts.now + 1) ≤ 320 }
+    ensures items { out.new.items ≡ out.old.items ++ numbers_text counts.now }
+    ensures len { array_vec_len out.new ≤ array_vec_len out.old + (11 * length counts.now + 1) }
+{
+    let mut comma: &[u8] = b"";
+    for number in counts {
+        push_labelled(out, comma, *number);
+        comma = b",";
+    }
+    push(out, b"]");
 }
 
 /// Appends a refusal's body.
@@ -80,7 +106,8 @@ fn push_fields(out: &mut ShortText, kind: &str, len: u64)
 {
     push(out, b"Content-Type: ");
     push(out, kind.as_bytes());
-    push_labelled(out, b"\r\nContent-Length: ", len);
+    push(out, b"\r\nContent-Length: ");
+    push_number(out, len);
     push(out, b"\r\n\r\n");
 }
 
@@ -99,6 +126,9 @@ pub fn answer_head(status: StatusCode, kind: &str, len: usize) -> ShortText
 
 /// The type of a body in JSON.
 pub const JSON: &str = "application/json";
+
+/// The type of a body that is a text.
+pub const TEXT: &str = "text/plain; charset=utf-8";
 
 /// An answer in JSON whose body is short.
 pub fn json(status: StatusCode, body: &[u8]) -> ShortText

@@ -1,12 +1,12 @@
 //! What the members of a body say.
 ghost use Rattle.std.specs.Prelude.{◌≡◌, ◌⊎◌, Some, None, IfOk, IfErr, option_map, option_and_then, codes};
-ghost use Rattle.serde_json.specs.View.{view};
-ghost use Rattle.serde_json.specs.Find.{as_object, as_number, get};
-ghost use Rattle.api.specs.Members.{json_of, count, has_size, text_in, quota_of, quota_in, name_of, name_and_quota, supervisor_members, project_members};
+ghost use Rattle.serde_json.specs.View.{view, items_view};
+ghost use Rattle.serde_json.specs.Find.{as_object, as_array, as_number, as_str, get};
+ghost use Rattle.api.specs.Members.{json_of, count, has_size, text_in, quota_of, quota_in, name_of, name_and_quota, supervisor_members, project_members, texts_of, choices_of};
 
-use rolls::Refusal;
+use rolls::{Refusal, Text, Texts};
 use serde_json::Value;
-use std::alloc::Global;
+use std::alloc::{AllocError, Global};
 
 /// Handed on in place of a number that is no quota; the office refuses it as too great.
 const NO_QUOTA: u32 = 9999;
@@ -148,5 +148,44 @@ pub fn project_members(value: &Value) -> Option<ProjectMembers<'_>>
                 supervisor,
             }),
         },
+    }
+}
+
+/// The texts of items that are all texts.
+fn texts_of(alloc: Global, items: &[Value]) -> Result<Option<Texts>, AllocError>
+    ensures { IfOk result (λ texts. texts ≡ texts_of (items_view items.now)) }
+{
+    let mut texts = Vec::new(alloc);
+    for item in items {
+        match item.as_str() {
+            None => return Ok(None),
+            Some(text) => texts.push(Text::of(alloc, text)?)?,
+        }
+    }
+    Ok(Some(Texts::of(texts)))
+}
+
+/// The items of the member `choices`.
+fn choices_in(value: &Value) -> Option<&Vec<Value>>
+    ensures { option_map (λ items. items_view items.now.items) result
+        ≡ option_and_then as_array (get (codes "choices") (view value.now)) }
+{
+    match value.get("choices") {
+        None => None,
+        Some(member) => member.as_array(),
+    }
+}
+
+/// The choices that stand alone.
+pub fn choices_of(alloc: Global, value: &Value) -> Result<Option<Texts>, AllocError>
+    ensures { IfOk result (λ choices. choices ≡ choices_of (view value.now)) }
+{
+    if has_size(value, 1) {
+        match choices_in(value) {
+            None => Ok(None),
+            Some(items) => texts_of(alloc, items.as_slice()),
+        }
+    } else {
+        Ok(None)
     }
 }

@@ -2,11 +2,11 @@
 ghost use Rattle.std.specs.Prelude.{◌≡◌, ◌⊎◌, [], ◌∷◌, IfOk, IfErr, MatchOption};
 ghost use Rattle.std.specs.Str.{bytes_eq};
 ghost use Rattle.serde_json.specs.View.{view};
-ghost use Rattle.api.specs.Routes.{all_routes, Names, IsNowhere};
-ghost use Rattle.api.specs.Requests.{put_by, by_body, by_method, asked_by, Asks};
+ghost use Rattle.api.specs.Routes.{all_routes, NamesBy, IsNowhere};
+ghost use Rattle.api.specs.Requests.{put_by, called, by_body, by_method, asked_by, Asks};
 
-use crate::members::{name_of, project_members, read_json, supervisor_members};
-use crate::routes::{Form, Kind, Methods, Place, place_of, router};
+use crate::members::{choices_of, name_of, project_members, read_json, supervisor_members};
+use crate::routes::{Call, Form, Methods, Place, Put, number_of, place_of, router};
 use http::Method;
 use matchit::Router;
 use rolls::{Plain, Refusal, Request, Text};
@@ -16,9 +16,9 @@ use std::str;
 
 /// The put of a supervisor.
 fn put_supervisor(alloc: Global, code: &str, value: &Value) -> Result<Plain, Refusal>
-    ensures ok { IfOk result (λ plain. put_by Kind.Supervisor code.now (view value.now) ≡ Some plain) }
+    ensures ok { IfOk result (λ plain. put_by Put.Supervisor code.now (view value.now) ≡ Some plain) }
     ensures err { IfErr result (λ refusal. (refusal ≡ Refusal.Memory)
-        ⊎ ((refusal ≡ Refusal.Members) × (put_by Kind.Supervisor code.now (view value.now) ≡ None))) }
+        ⊎ ((refusal ≡ Refusal.Members) × (put_by Put.Supervisor code.now (view value.now) ≡ None))) }
 {
     match supervisor_members(value) {
         None => Err(Refusal::Members),
@@ -32,9 +32,9 @@ fn put_supervisor(alloc: Global, code: &str, value: &Value) -> Result<Plain, Ref
 
 /// The put of a project.
 fn put_project(alloc: Global, code: &str, value: &Value) -> Result<Plain, Refusal>
-    ensures ok { IfOk result (λ plain. put_by Kind.Project code.now (view value.now) ≡ Some plain) }
+    ensures ok { IfOk result (λ plain. put_by Put.Project code.now (view value.now) ≡ Some plain) }
     ensures err { IfErr result (λ refusal. (refusal ≡ Refusal.Memory)
-        ⊎ ((refusal ≡ Refusal.Members) × (put_by Kind.Project code.now (view value.now) ≡ None))) }
+        ⊎ ((refusal ≡ Refusal.Members) × (put_by Put.Project code.now (view value.now) ≡ None))) }
 {
     match project_members(value) {
         None => Err(Refusal::Members),
@@ -49,9 +49,9 @@ fn put_project(alloc: Global, code: &str, value: &Value) -> Result<Plain, Refusa
 
 /// The put of a student.
 fn put_student(alloc: Global, code: &str, value: &Value) -> Result<Plain, Refusal>
-    ensures ok { IfOk result (λ plain. put_by Kind.Student code.now (view value.now) ≡ Some plain) }
+    ensures ok { IfOk result (λ plain. put_by Put.Student code.now (view value.now) ≡ Some plain) }
     ensures err { IfErr result (λ refusal. (refusal ≡ Refusal.Memory)
-        ⊎ ((refusal ≡ Refusal.Members) × (put_by Kind.Student code.now (view value.now) ≡ None))) }
+        ⊎ ((refusal ≡ Refusal.Members) × (put_by Put.Student code.now (view value.now) ≡ None))) }
 {
     match name_of(value) {
         None => Err(Refusal::Members),
@@ -62,58 +62,102 @@ fn put_student(alloc: Global, code: &str, value: &Value) -> Result<Plain, Refusa
     }
 }
 
-/// What is put, by the members of a body.
-fn put_by(alloc: Global, kind: Kind, code: &str, value: &Value) -> Result<Plain, Refusal>
-    ensures ok { IfOk result (λ plain. put_by kind code.now (view value.now) ≡ Some plain) }
+/// The put of a list.
+fn put_list(alloc: Global, code: &str, value: &Value) -> Result<Plain, Refusal>
+    ensures ok { IfOk result (λ plain. put_by Put.List code.now (view value.now) ≡ Some plain) }
     ensures err { IfErr result (λ refusal. (refusal ≡ Refusal.Memory)
-        ⊎ ((refusal ≡ Refusal.Members) × (put_by kind code.now (view value.now) ≡ None))) }
+        ⊎ ((refusal ≡ Refusal.Members) × (put_by Put.List code.now (view value.now) ≡ None))) }
 {
-    match kind {
-        Kind::Supervisor => put_supervisor(alloc, code, value),
-        Kind::Project => put_project(alloc, code, value),
-        Kind::Student => put_student(alloc, code, value),
+    match choices_of(alloc, value)? {
+        None => Err(Refusal::Members),
+        Some(choices) => {
+            let student = Text::of(alloc, code)?;
+            Ok(Plain::PutList { student, choices })
+        }
+    }
+}
+
+/// What is put, by the members of a body.
+fn put_by(alloc: Global, what: Put, code: &str, value: &Value) -> Result<Plain, Refusal>
+    ensures ok { IfOk result (λ plain. put_by what code.now (view value.now) ≡ Some plain) }
+    ensures err { IfErr result (λ refusal. (refusal ≡ Refusal.Memory)
+        ⊎ ((refusal ≡ Refusal.Members) × (put_by what code.now (view value.now) ≡ None))) }
+{
+    match what {
+        Put::Supervisor => put_supervisor(alloc, code, value),
+        Put::Project => put_project(alloc, code, value),
+        Put::Student => put_student(alloc, code, value),
+        Put::List => put_list(alloc, code, value),
     }
 }
 
 /// What a body of members asks.
-fn object_asks(alloc: Global, kind: Kind, code: &str, body: &[u8]) -> Result<Plain, Refusal>
+fn object_asks(alloc: Global, what: Put, code: &str, body: &[u8]) -> Result<Plain, Refusal>
     ensures ok { IfOk result (λ plain.
-        by_body (Form.Object kind) code.now body.now ≡ Ok (Request.Plain plain)) }
+        by_body (Form.Members what) code.now body.now ≡ Ok (Request.Plain plain)) }
     ensures err { IfErr result (λ refusal. (refusal ≡ Refusal.Memory)
-        ⊎ (by_body (Form.Object kind) code.now body.now ≡ Err refusal)) }
+        ⊎ (by_body (Form.Members what) code.now body.now ≡ Err refusal)) }
 {
     match read_json(alloc, body) {
         Err(refusal) => Err(refusal),
-        Ok(value) => put_by(alloc, kind, code, &value),
+        Ok(value) => put_by(alloc, what, code, &value),
     }
 }
 
+/// The request of an empty body.
+fn called(alloc: Global, call: Call, code: &str) -> Result<Request, AllocError>
+    ensures { IfOk result (λ request. request ≡ called call code.now) }
+{
+    Ok(match call {
+        Call::GetSupervisor => Request::Plain(Plain::GetSupervisor {
+            code: Text::of(alloc, code)?,
+        }),
+        Call::GetProject => Request::Plain(Plain::GetProject {
+            code: Text::of(alloc, code)?,
+        }),
+        Call::GetStudent => Request::Plain(Plain::GetStudent {
+            code: Text::of(alloc, code)?,
+        }),
+        Call::DropList => Request::Plain(Plain::DropList {
+            student: Text::of(alloc, code)?,
+        }),
+        Call::OpenRound => Request::Plain(Plain::OpenRound),
+        Call::Close => Request::Close,
+        Call::ReopenRound => Request::Plain(Plain::ReopenRound),
+        Call::GetRound => Request::Plain(Plain::GetRound {
+            round: number_of(code).unwrap_or(0),
+        }),
+        Call::Preview => Request::Preview,
+        Call::RoundText => Request::RoundText,
+    })
+}
+
 /// What an empty body asks.
-fn empty_asks(alloc: Global, kind: Kind, code: &str, body: &[u8]) -> Result<Plain, Refusal>
-    ensures ok { IfOk result (λ plain.
-        by_body (Form.Empty kind) code.now body.now ≡ Ok (Request.Plain plain)) }
+fn empty_asks(alloc: Global, call: Call, code: &str, body: &[u8]) -> Result<Request, Refusal>
+    ensures ok { IfOk result (λ request. by_body (Form.Empty call) code.now body.now ≡ Ok request) }
     ensures err { IfErr result (λ refusal. (refusal ≡ Refusal.Memory)
-        ⊎ (by_body (Form.Empty kind) code.now body.now ≡ Err refusal)) }
+        ⊎ (by_body (Form.Empty call) code.now body.now ≡ Err refusal)) }
 {
     if !body.is_empty() {
         return Err(Refusal::Members);
     }
-    let code = Text::of(alloc, code)?;
-    Ok(match kind {
-        Kind::Supervisor => Plain::GetSupervisor { code },
-        Kind::Project => Plain::GetProject { code },
-        Kind::Student => Plain::GetStudent { code },
-    })
+    match called(alloc, call, code) {
+        Ok(request) => Ok(request),
+        Err(_) => Err(Refusal::Memory),
+    }
 }
 
 /// What a body asks.
-fn by_body(alloc: Global, form: Form, code: &str, body: &[u8]) -> Result<Plain, Refusal>
-    ensures ok { IfOk result (λ plain. by_body form code.now body.now ≡ Ok (Request.Plain plain)) }
+fn by_body(alloc: Global, form: Form, code: &str, body: &[u8]) -> Result<Request, Refusal>
+    ensures ok { IfOk result (λ request. by_body form code.now body.now ≡ Ok request) }
     ensures err { IfErr result (λ refusal. (refusal ≡ Refusal.Memory) ⊎ (by_body form code.now body.now ≡ Err refusal)) }
 {
     match form {
-        Form::Empty(kind) => empty_asks(alloc, kind, code, body),
-        Form::Object(kind) => object_asks(alloc, kind, code, body),
+        Form::Empty(call) => empty_asks(alloc, call, code, body),
+        Form::Members(what) => match object_asks(alloc, what, code, body) {
+            Ok(plain) => Ok(Request::Plain(plain)),
+            Err(refusal) => Err(refusal),
+        },
     }
 }
 
@@ -145,7 +189,7 @@ fn by_method(methods: Methods, method: &[u8]) -> Option<Form>
 fn by_path<'t>(router: &Router<Methods>, target: &'t [u8]) -> Option<Place<'t>>
     requires { router.now ≡ all_routes }
     ensures { MatchOption result (IsNowhere target.now)
-        (λ place. Names target.now place.methods (place.code.now ∷ [])) }
+        (λ place. NamesBy target.now place.methods place.code.now) }
 {
     match str::from_utf8(target) {
         Err(_) => None,
@@ -154,9 +198,9 @@ fn by_path<'t>(router: &Router<Methods>, target: &'t [u8]) -> Option<Place<'t>>
 }
 
 /// What is asked of a place.
-fn asked_at(alloc: Global, place: &Place, method: &[u8], body: &[u8]) -> Result<Plain, Refusal>
-    ensures ok { IfOk result (λ plain. asked_by (by_method place.now.methods method.now) place.now.code.now body.now
-        ≡ Ok (Request.Plain plain)) }
+fn asked_at(alloc: Global, place: &Place, method: &[u8], body: &[u8]) -> Result<Request, Refusal>
+    ensures ok { IfOk result (λ request. asked_by (by_method place.now.methods method.now) place.now.code.now body.now
+        ≡ Ok request) }
     ensures err { IfErr result (λ refusal. (refusal ≡ Refusal.Memory)
         ⊎ (asked_by (by_method place.now.methods method.now) place.now.code.now body.now ≡ Err refusal)) }
 {
@@ -192,10 +236,7 @@ impl Routes {
     {
         match by_path(&self.router, target) {
             None => Err(Refusal::NoRoute),
-            Some(place) => match asked_at(self.alloc, &place, method, body) {
-                Err(refusal) => Err(refusal),
-                Ok(plain) => Ok(Request::Plain(plain)),
-            },
+            Some(place) => asked_at(self.alloc, &place, method, body),
         }
     }
 }

@@ -1,50 +1,160 @@
 //! What the paths of messages name.
 ghost use Rattle.std.specs.Prelude.{◌≡◌, ℕ, List, [], ◌∷◌, MatchOption, IfOk, IfErr, OnOk, codes};
-ghost use Rattle.api.specs.Routes.{entry, all_routes, Names, IsNowhere};
+ghost use Rattle.std.specs.Str.{all_ascii_digits};
+ghost use Rattle.api.specs.Routes.{number_of, fits, read, asked, entry, list, round, all_routes, NamesBy, IsNowhere};
 
 use matchit::{InsertError, Router};
 use std::alloc::Global;
 
-/// A roll of the office.
-#[derive(Clone, Copy, Debug, PartialEq, Eq)]
-pub enum Kind {
+/// What an empty body asks.
+#[derive(Clone, Copy)]
+pub enum Call {
+    GetSupervisor,
+    GetProject,
+    GetStudent,
+    DropList,
+    OpenRound,
+    Close,
+    ReopenRound,
+    GetRound,
+    Preview,
+    RoundText,
+}
+
+/// What a body of members puts.
+#[derive(Clone, Copy)]
+pub enum Put {
     Supervisor,
     Project,
     Student,
+    List,
 }
 
 /// What a method asks of a path, by the body that it takes.
 #[derive(Clone, Copy)]
 pub enum Form {
-    /// An empty body: to read the entry.
-    Empty(Kind),
-    /// A body of members: to put the entry.
-    Object(Kind),
+    /// An empty body.
+    Empty(Call),
+    /// A body of members.
+    Members(Put),
+}
+
+/// Which segments stand for the parameters of a path.
+#[derive(Clone, Copy)]
+pub enum Segments {
+    Any,
+    Numbers,
 }
 
 /// What each method asks of a path, where the path has the method.
 #[derive(Clone, Copy)]
 pub struct Methods {
+    pub segments: Segments,
     pub get: Option<Form>,
     pub put: Option<Form>,
     pub post: Option<Form>,
     pub delete: Option<Form>,
 }
 
-/// What a path names: a route, and the text that stands for its parameter.
+/// What a path names: a route, and the text that stands for its parameter, where it has one.
 #[derive(Drop)]
 pub struct Place<'p> {
     pub methods: Methods,
     pub code: &'p str,
 }
 
-/// An entry of the rolls is put and read.
-fn entry(kind: Kind) -> Methods
-    ensures { result ≡ entry kind }
+/// Whether each byte is a digit.
+fn all_digits(text: &[u8]) -> bool
+    ensures { result ≡ all_ascii_digits text.now }
+{
+    for b in text {
+        if !b.is_ascii_digit() {
+            return false;
+        }
+    }
+    true
+}
+
+/// The number that 1 to 4 digits write.
+pub fn number_of(text: &str) -> Option<u32>
+    ensures { result ≡ number_of text.now }
+{
+    if text.is_empty() || text.len() > 4 || !all_digits(text.as_bytes()) {
+        return None;
+    }
+    text.parse::<u32>().ok()
+}
+
+/// Whether a segment may stand for a parameter.
+fn fits(segments: Segments, text: &str) -> bool
+    ensures { result ≡ fits segments text.now }
+{
+    match segments {
+        Segments::Any => true,
+        Segments::Numbers => number_of(text).is_some(),
+    }
+}
+
+/// What is read alone.
+fn read(call: Call) -> Methods
+    ensures { result ≡ read call }
 {
     Methods {
-        get: Some(Form::Empty(kind)),
-        put: Some(Form::Object(kind)),
+        segments: Segments::Any,
+        get: Some(Form::Empty(call)),
+        put: None,
+        post: None,
+        delete: None,
+    }
+}
+
+/// What is asked of the office as a whole.
+fn asked(call: Call) -> Methods
+    ensures { result ≡ asked call }
+{
+    Methods {
+        segments: Segments::Any,
+        get: None,
+        put: None,
+        post: Some(Form::Empty(call)),
+        delete: None,
+    }
+}
+
+/// An entry of the rolls is put and read.
+fn entry(put: Put, call: Call) -> Methods
+    ensures { result ≡ entry put call }
+{
+    Methods {
+        segments: Segments::Any,
+        get: Some(Form::Empty(call)),
+        put: Some(Form::Members(put)),
+        post: None,
+        delete: None,
+    }
+}
+
+/// A list is put, and dropped.
+fn list() -> Methods
+    ensures { result ≡ list }
+{
+    Methods {
+        segments: Segments::Any,
+        get: None,
+        put: Some(Form::Members(Put::List)),
+        post: None,
+        delete: Some(Form::Empty(Call::DropList)),
+    }
+}
+
+/// A round is read by its number.
+fn round() -> Methods
+    ensures { result ≡ round }
+{
+    Methods {
+        segments: Segments::Numbers,
+        get: Some(Form::Empty(Call::GetRound)),
+        put: None,
         post: None,
         delete: None,
     }
@@ -68,9 +178,19 @@ fn insert_routes(router: &mut Router<Methods>) -> Result<(), InsertError>
     ensures routes { OnOk result (router.new ≡ all_routes) }
     ensures memory { IfErr result (λ error. error ≡ InsertError.OutOfMemory) }
 {
-    router.insert("/supervisors/{code}", entry(Kind::Supervisor))?;
-    router.insert("/projects/{code}", entry(Kind::Project))?;
-    router.insert("/students/{code}", entry(Kind::Student))?;
+    router.insert(
+        "/supervisors/{code}",
+        entry(Put::Supervisor, Call::GetSupervisor),
+    )?;
+    router.insert("/projects/{code}", entry(Put::Project, Call::GetProject))?;
+    router.insert("/students/{code}", entry(Put::Student, Call::GetStudent))?;
+    router.insert("/lists/{code}", list())?;
+    router.insert("/rounds", asked(Call::OpenRound))?;
+    router.insert("/rounds/close", asked(Call::Close))?;
+    router.insert("/rounds/reopen", asked(Call::ReopenRound))?;
+    router.insert("/rounds/{code}", round())?;
+    router.insert("/preview", read(Call::Preview))?;
+    router.insert("/roundtext", read(Call::RoundText))?;
     Ok(())
 }
 
@@ -78,14 +198,15 @@ fn insert_routes(router: &mut Router<Methods>) -> Result<(), InsertError>
 pub fn place_of<'p>(router: &Router<Methods>, path: &'p str) -> Option<Place<'p>>
     requires { router.now ≡ all_routes }
     ensures { MatchOption result (IsNowhere path.now)
-        (λ place. Names path.now place.methods (place.code.now ∷ [])) }
+        (λ place. NamesBy path.now place.methods place.code.now) }
 {
     let Ok(found) = router.at(path) else {
         return None;
     };
-    let code = found.params.get("code")?;
-    Some(Place {
-        methods: *found.value,
-        code,
-    })
+    let methods = *found.value;
+    let code = found.params.get("code").unwrap_or("");
+    if !fits(methods.segments, code) {
+        return None;
+    }
+    Some(Place { methods, code })
 }

@@ -1,15 +1,17 @@
 //! The bytes of answers.
-ghost use Rattle.std.specs.Prelude.{◌≡◌, ◌≤◌, ◌⊎◌, ◌++◌, length, IfOk, OnErr, string_bytes};
+ghost use Rattle.std.specs.Prelude.{◌≡◌, ◌≤◌, ◌⊎◌, ◌++◌, Some, length, codes, IfOk, OnErr, string_bytes};
+ghost use Rattle.arrayvec.specs.ArrayVec.{array_vec_len};
 ghost use Rattle.rolls.specs.Told.{status_of};
 ghost use Rattle.serde_json.specs.View.{view};
 ghost use Rattle.serde_json.specs.Written.{compact_text};
 ghost use Rattle.wire.specs.Answers.{answer_bytes};
-ghost use Rattle.api.specs.Text.{reason_of, json_answer};
-ghost use Rattle.api.specs.Texts.{refusal_text, supervisor_data, project_data, student_data, reply_body, text_of, IsRead};
+ghost use Rattle.api.specs.Text.{reason_of, typed_answer, json_answer};
+ghost use Rattle.api.specs.Texts.{refusal_text, supervisor_data, project_data, list_data, placed_data, student_data, truth_text, opened_text, round_text, closed_text, preview_text, reply_text, text_of, IsRead};
 
-use crate::answers::{JSON, answer_head, json, refused};
+use crate::answers::{JSON, TEXT, answer_head, json, push, push_labelled, push_numbers, refused};
+use arrayvec::ArrayVec;
 use http::StatusCode;
-use rolls::{Refusal, Reply};
+use rolls::{Choices, Placement, Refusal, Reply};
 use serde_json::{Value, json};
 use std::alloc::{AllocError, Global};
 use wire::{Answer, ShortText};
@@ -35,9 +37,89 @@ pub fn refusal_answer(refusal: Refusal) -> ShortText
 /// The answer of a change, which takes no memory.
 #[tactic(auto, unfolding(crate::specs::Text::reason_of))]
 fn done_answer() -> ShortText
-    ensures { result.items ≡ text_of (Ok Reply.Done) }
+    ensures { result.items ≡ reply_text Reply.Done }
 {
     json(StatusCode::OK, b"{\"ok\":true}")
+}
+
+/// The answer of success with a body of a round.
+#[tactic(auto, unfolding(crate::specs::Text::reason_of))]
+fn round_answer(body: &ShortText) -> ShortText
+    requires { array_vec_len body.now ≤ 184 }
+    ensures { result.items ≡ json_answer 200 body.now.items }
+{
+    json(StatusCode::OK, body.as_slice())
+}
+
+/// The body of an opened round.
+fn opened_body(round: u32) -> ShortText
+    ensures items { result.items ≡ opened_text round }
+    ensures len { array_vec_len result ≤ 184 }
+{
+    let mut out = ArrayVec::new();
+    push_labelled(&mut out, b"{\"round\":", round);
+    push(&mut out, b"}");
+    out
+}
+
+/// The body of a closed round.
+fn closed_body(round: u32, size: u32, profile: &[u32; 8]) -> ShortText
+    ensures items { result.items ≡ closed_text round size profile.now }
+    ensures len { array_vec_len result ≤ 184 }
+{
+    let mut out = ArrayVec::new();
+    push(&mut out, b"{\"profile\":[");
+    push_numbers(&mut out, profile);
+    push_labelled(&mut out, b",\"round\":", round);
+    push_labelled(&mut out, b",\"size\":", size);
+    push(&mut out, b"}");
+    out
+}
+
+/// The body of a preview.
+fn preview_body(size: u32, profile: &[u32; 8]) -> ShortText
+    ensures items { result.items ≡ preview_text size profile.now }
+    ensures len { array_vec_len result ≤ 184 }
+{
+    let mut out = ArrayVec::new();
+    push(&mut out, b"{\"profile\":[");
+    push_numbers(&mut out, profile);
+    push_labelled(&mut out, b",\"size\":", size);
+    push(&mut out, b"}");
+    out
+}
+
+/// Where the body of a round begins.
+fn round_start(is_open: bool) -> &'static [u8]
+    ensures text { result.now ≡ codes "{\"open\":" ++ truth_text is_open ++ codes ",\"placed\":" }
+    ensures len { length result.now ≤ 24 }
+{
+    if is_open {
+        b"{\"open\":true,\"placed\":"
+    } else {
+        b"{\"open\":false,\"placed\":"
+    }
+}
+
+/// The body of a round.
+fn round_body(
+    number: u32,
+    is_open: bool,
+    placed: u32,
+    profile: &[u32; 8],
+    students: u32,
+) -> ShortText
+    ensures items { result.items ≡ round_text number is_open placed profile.now students }
+    ensures len { array_vec_len result ≤ 184 }
+{
+    let mut out = ArrayVec::new();
+    push_labelled(&mut out, round_start(is_open), placed);
+    push(&mut out, b",\"profile\":[");
+    push_numbers(&mut out, profile);
+    push_labelled(&mut out, b",\"round\":", number);
+    push_labelled(&mut out, b",\"students\":", students);
+    push(&mut out, b"}");
+    out
 }
 
 /// A supervisor in JSON.
@@ -62,11 +144,60 @@ fn project_value(
     })
 }
 
-/// A student in JSON.
-fn student_value(alloc: Global, name: &str) -> Result<Value, AllocError>
-    ensures { IfOk result (λ value. view value ≡ student_data name.now) }
+/// Texts in JSON.
+fn codes_value(alloc: Global, choices: &Choices) -> Result<Value, AllocError>
+    ensures { IfOk result (λ value. view value ≡ list_data (Some choices.now)) }
 {
-    json!(in alloc; {"list": null, "name": name, "placed": null})
+    let mut items = Vec::new(alloc);
+    for code in choices.codes() {
+        items.push(Value::String(String::from_str(alloc, code.as_str())?))?;
+    }
+    Ok(Value::Array(items))
+}
+
+/// A student's list in JSON.
+fn list_value(alloc: Global, list: &Option<Choices>) -> Result<Value, AllocError>
+    ensures { IfOk result (λ value. view value ≡ list_data list.now) }
+{
+    match list {
+        None => Ok(Value::Null),
+        Some(choices) => codes_value(alloc, choices),
+    }
+}
+
+/// A placement in JSON.
+fn placement_value(alloc: Global, placement: &Placement) -> Result<Value, AllocError>
+    ensures { IfOk result (λ value. view value ≡ placed_data (Some placement.now)) }
+{
+    json!(in alloc; {
+        "project": placement.project.as_str(),
+        "rank": u64::from(placement.rank),
+        "round": u64::from(placement.round)
+    })
+}
+
+/// A student's placement in JSON.
+fn placed_value(alloc: Global, placed: &Option<Placement>) -> Result<Value, AllocError>
+    ensures { IfOk result (λ value. view value ≡ placed_data placed.now) }
+{
+    match placed {
+        None => Ok(Value::Null),
+        Some(placement) => placement_value(alloc, placement),
+    }
+}
+
+/// A student in JSON.
+fn student_value(
+    alloc: Global,
+    name: &str,
+    list: &Option<Choices>,
+    placed: &Option<Placement>,
+) -> Result<Value, AllocError>
+    ensures { IfOk result (λ value. view value ≡ student_data name.now list.now placed.now) }
+{
+    let list = list_value(alloc, list)?;
+    let placed = placed_value(alloc, placed)?;
+    json!(in alloc; {"list": &list, "name": name, "placed": &placed})
 }
 
 /// The text of a supervisor.
@@ -93,19 +224,25 @@ fn project_text(
 }
 
 /// The text of a student.
-fn student_text(alloc: Global, name: &str) -> Result<String, AllocError>
-    ensures { IfOk result (λ text. string_bytes text ≡ compact_text (student_data name.now)) }
+fn student_text(
+    alloc: Global,
+    name: &str,
+    list: &Option<Choices>,
+    placed: &Option<Placement>,
+) -> Result<String, AllocError>
+    ensures { IfOk result (λ text. string_bytes text ≡ compact_text (student_data name.now list.now placed.now)) }
 {
-    let value = student_value(alloc, name)?;
+    let value = student_value(alloc, name, list, placed)?;
     value.to_string(alloc)
 }
 
 /// The answer of success with a body.
 #[tactic(auto, unfolding(crate::specs::Text::reason_of))]
-fn with_head(alloc: Global, body: &str) -> Result<Answer, AllocError>
-    ensures { IfOk result (λ answer. answer_bytes answer ≡ json_answer 200 body.now) }
+fn with_head(alloc: Global, kind: &str, body: &str) -> Result<Answer, AllocError>
+    requires { length kind.now ≤ 40 }
+    ensures { IfOk result (λ answer. answer_bytes answer ≡ typed_answer 200 kind.now body.now) }
 {
-    let head = answer_head(StatusCode::OK, JSON, body.len());
+    let head = answer_head(StatusCode::OK, kind, body.len());
     let mut bytes = Vec::from_slice(alloc, head.as_slice())?;
     bytes.extend_from_slice(body.as_bytes())?;
     Ok(Answer::Long(bytes))
@@ -124,7 +261,7 @@ fn reply_answer(alloc: Global, reply: &Reply) -> Result<Answer, AllocError>
             quota,
         } => {
             let body = supervisor_text(alloc, name.as_str(), *placed, *quota)?;
-            with_head(alloc, body.as_str())
+            with_head(alloc, JSON, body.as_str())
         }
         Reply::Project {
             name,
@@ -133,12 +270,32 @@ fn reply_answer(alloc: Global, reply: &Reply) -> Result<Answer, AllocError>
             supervisor,
         } => {
             let body = project_text(alloc, name.as_str(), *placed, *quota, supervisor.as_str())?;
-            with_head(alloc, body.as_str())
+            with_head(alloc, JSON, body.as_str())
         }
-        Reply::Student { name } => {
-            let body = student_text(alloc, name.as_str())?;
-            with_head(alloc, body.as_str())
+        Reply::Student { name, list, placed } => {
+            let body = student_text(alloc, name.as_str(), list, placed)?;
+            with_head(alloc, JSON, body.as_str())
         }
+        Reply::Opened { round } => Ok(Answer::Short(round_answer(&opened_body(*round)))),
+        Reply::Round {
+            number,
+            is_open,
+            placed,
+            profile,
+            students,
+        } => {
+            let body = round_body(*number, *is_open, *placed, profile, *students);
+            Ok(Answer::Short(round_answer(&body)))
+        }
+        Reply::Closed {
+            round,
+            size,
+            profile,
+        } => Ok(Answer::Short(round_answer(&closed_body(*round, *size, profile)))),
+        Reply::Preview { size, profile } => {
+            Ok(Answer::Short(round_answer(&preview_body(*size, profile))))
+        }
+        Reply::Text(text) => with_head(alloc, TEXT, text.as_str()),
     }
 }
 

@@ -1,7 +1,7 @@
-use Rattle.std.proofs.Common.{◌∷◌, [], List, ℕ, MatchOption, subst}
-use Rattle.api.specs.Routes.{Names, IsNowhere}
+use Rattle.std.proofs.Common.{List, ℕ, MatchOption, subst}
+use Rattle.api.specs.Routes.{NamesBy, IsNowhere}
 use Rattle.api.proofs.requests.by_path.Goals as goal
 
 pub returns-in-Ok : goal.returns-in-Ok
 returns-in-Ok c =
-    subst (λ (path : List ℕ). MatchOption c.place_of.result (IsNowhere path) (λ place. Names path place.methods (place.code.now ∷ []))) c.in-Ok.ensures.cases.0 c.place_of.ensures
+    subst (λ (path : List ℕ). MatchOption c.place_of.result (IsNowhere path) (λ place. NamesBy path place.methods place.code.now)) c.in-Ok.ensures.cases.0 c.place_of.ensures

@@ -1,3 +1,4 @@
+-- Each insert finds no row that conflicts with its pattern, and all of them make the routes.
 use Rattle.std.proofs.Common.{◌≡◌, ℕ, List, [], ◌∷◌, ◌++◌, codes, None, refl}
 use Rattle.std.proofs.lemmas.Result.{err_from_is_err_and}
 use Rattle.matchit.specs.Rows.{RowsOf}
@@ -6,8 +7,9 @@ use Rattle.matchit.specs.declared.error.InsertError.{InsertError}
 use Rattle.matchit.specs.declared.error.InsertError.TheVariants.{Conflict, InvalidParam, InvalidParamSegment, InvalidCatchAll, OutOfMemory}
 use Rattle.matchit.proofs.OnLiterals.{matchit_on_literals}
 use Rattle.api.specs.declared.routes.Methods.{Methods}
-use Rattle.api.specs.declared.routes.Kind.TheVariants.{Supervisor, Project}
-use Rattle.api.specs.Routes.{all_routes, row, entry}
+use Rattle.api.specs.declared.routes.Call.TheVariants as call
+use Rattle.api.specs.declared.routes.Put.TheVariants as put
+use Rattle.api.specs.Routes.{all_routes, row, fixed, read, asked, entry, list, round}
 use Rattle.api.proofs.routes.insert_routes.Goals as goal
 
 -- where no row conflicts with a pattern, it is refused for want of memory alone
@@ -18,19 +20,39 @@ no_conflict pattern rows InvalidParamSegment none h = absurd h
 no_conflict pattern rows InvalidParam none h = absurd h
 no_conflict pattern rows InvalidCatchAll none h = absurd h
 
--- the first row that is put in
+-- the rows, each in the order in which it is put in
 abbrev supervisors : List ℕ × RouteOf Methods
-supervisors = row (codes "/supervisors/") (codes "code") (entry Supervisor)
+supervisors = row (codes "/supervisors/") (codes "code") (entry put.Supervisor call.GetSupervisor)
 
--- the second one
 abbrev projects : List ℕ × RouteOf Methods
-projects = row (codes "/projects/") (codes "code") (entry Project)
+projects = row (codes "/projects/") (codes "code") (entry put.Project call.GetProject)
+
+abbrev students : List ℕ × RouteOf Methods
+students = row (codes "/students/") (codes "code") (entry put.Student call.GetStudent)
+
+abbrev lists : List ℕ × RouteOf Methods
+lists = row (codes "/lists/") (codes "code") list
+
+abbrev opening : List ℕ × RouteOf Methods
+opening = fixed (codes "/rounds") (asked call.OpenRound)
+
+abbrev close : List ℕ × RouteOf Methods
+close = fixed (codes "/rounds/close") (asked call.Close)
+
+abbrev reopen : List ℕ × RouteOf Methods
+reopen = fixed (codes "/rounds/reopen") (asked call.ReopenRound)
+
+abbrev rounds : List ℕ × RouteOf Methods
+rounds = row (codes "/rounds/") (codes "code") round
+
+abbrev preview : List ℕ × RouteOf Methods
+preview = fixed (codes "/preview") (read call.Preview)
 
 pub returns-in_err-insert-clause-memory : goal.returns-in_err-insert-clause-memory
 unfolding matchit_on_literals
 returns-in_err-insert-clause-memory c =
     let p = err_from_is_err_and c.from_residual.result c.from_residual.ensures.1 in
-    rw (p.1, p.2) (no_conflict (codes "/supervisors/" ++ 256 ∷ []) [] c.in_err-insert.field-0.0 refl (rw c.requires at c.in_err-insert.ensures.1))
+    rw (p.1, p.2) (no_conflict (codes "/supervisors/" ++ 256 ∷ []) ([]) c.in_err-insert.field-0.0 refl (rw c.requires at c.in_err-insert.ensures.1))
 
 pub returns-in_err-insert-2-clause-memory : goal.returns-in_err-insert-2-clause-memory
 unfolding matchit_on_literals
@@ -44,6 +66,48 @@ returns-in_err-insert-3-clause-memory c =
     let p = err_from_is_err_and c.from_residual-in_err-insert-3.result c.from_residual-in_err-insert-3.ensures.1 in
     rw (p.1, p.2) (no_conflict (codes "/students/" ++ 256 ∷ []) (projects ∷ supervisors ∷ []) c.in_err-insert-3.field-0.0 refl (rw (c.in_ok-insert-2.ensures.1, c.in_ok-insert.ensures.1, c.requires) at c.in_err-insert-3.ensures.1))
 
+pub returns-in_err-insert-4-clause-memory : goal.returns-in_err-insert-4-clause-memory
+unfolding matchit_on_literals
+returns-in_err-insert-4-clause-memory c =
+    let p = err_from_is_err_and c.from_residual-in_err-insert-4.result c.from_residual-in_err-insert-4.ensures.1 in
+    rw (p.1, p.2) (no_conflict (codes "/lists/" ++ 256 ∷ []) (projects ∷ students ∷ supervisors ∷ []) c.in_err-insert-4.field-0.0 refl (rw (c.in_ok-insert-3.ensures.1, c.in_ok-insert-2.ensures.1, c.in_ok-insert.ensures.1, c.requires) at c.in_err-insert-4.ensures.1))
+
+pub returns-in_err-insert-5-clause-memory : goal.returns-in_err-insert-5-clause-memory
+unfolding matchit_on_literals
+returns-in_err-insert-5-clause-memory c =
+    let p = err_from_is_err_and c.from_residual-in_err-insert-5.result c.from_residual-in_err-insert-5.ensures.1 in
+    rw (p.1, p.2) (no_conflict (codes "/rounds") (lists ∷ projects ∷ students ∷ supervisors ∷ []) c.in_err-insert-5.field-0.0 refl (rw (c.in_ok-insert-4.ensures.1, c.in_ok-insert-3.ensures.1, c.in_ok-insert-2.ensures.1, c.in_ok-insert.ensures.1, c.requires) at c.in_err-insert-5.ensures.1))
+
+pub returns-in_err-insert-6-clause-memory : goal.returns-in_err-insert-6-clause-memory
+unfolding matchit_on_literals
+returns-in_err-insert-6-clause-memory c =
+    let p = err_from_is_err_and c.from_residual-in_err-insert-6.result c.from_residual-in_err-insert-6.ensures.1 in
+    rw (p.1, p.2) (no_conflict (codes "/rounds/close") (lists ∷ projects ∷ opening ∷ students ∷ supervisors ∷ []) c.in_err-insert-6.field-0.0 refl (rw (c.in_ok-insert-5.ensures.1, c.in_ok-insert-4.ensures.1, c.in_ok-insert-3.ensures.1, c.in_ok-insert-2.ensures.1, c.in_ok-insert.ensures.1, c.requires) at c.in_err-insert-6.ensures.1))
+
+pub returns-in_err-insert-7-clause-memory : goal.returns-in_err-insert-7-clause-memory
+unfolding matchit_on_literals
+returns-in_err-insert-7-clause-memory c =
+    let p = err_from_is_err_and c.from_residual-in_err-insert-7.result c.from_residual-in_err-insert-7.ensures.1 in
+    rw (p.1, p.2) (no_conflict (codes "/rounds/reopen") (lists ∷ projects ∷ close ∷ opening ∷ students ∷ supervisors ∷ []) c.in_err-insert-7.field-0.0 refl (rw (c.in_ok-insert-6.ensures.1, c.in_ok-insert-5.ensures.1, c.in_ok-insert-4.ensures.1, c.in_ok-insert-3.ensures.1, c.in_ok-insert-2.ensures.1, c.in_ok-insert.ensures.1, c.requires) at c.in_err-insert-7.ensures.1))
+
+pub returns-in_err-insert-8-clause-memory : goal.returns-in_err-insert-8-clause-memory
+unfolding matchit_on_literals
+returns-in_err-insert-8-clause-memory c =
+    let p = err_from_is_err_and c.from_residual-in_err-insert-8.result c.from_residual-in_err-insert-8.ensures.1 in
+    rw (p.1, p.2) (no_conflict (codes "/rounds/" ++ 256 ∷ []) (lists ∷ projects ∷ close ∷ reopen ∷ opening ∷ students ∷ supervisors ∷ []) c.in_err-insert-8.field-0.0 refl (rw (c.in_ok-insert-7.ensures.1, c.in_ok-insert-6.ensures.1, c.in_ok-insert-5.ensures.1, c.in_ok-insert-4.ensures.1, c.in_ok-insert-3.ensures.1, c.in_ok-insert-2.ensures.1, c.in_ok-insert.ensures.1, c.requires) at c.in_err-insert-8.ensures.1))
+
+pub returns-in_err-insert-9-clause-memory : goal.returns-in_err-insert-9-clause-memory
+unfolding matchit_on_literals
+returns-in_err-insert-9-clause-memory c =
+    let p = err_from_is_err_and c.from_residual-in_err-insert-9.result c.from_residual-in_err-insert-9.ensures.1 in
+    rw (p.1, p.2) (no_conflict (codes "/preview") (lists ∷ projects ∷ close ∷ reopen ∷ rounds ∷ opening ∷ students ∷ supervisors ∷ []) c.in_err-insert-9.field-0.0 refl (rw (c.in_ok-insert-8.ensures.1, c.in_ok-insert-7.ensures.1, c.in_ok-insert-6.ensures.1, c.in_ok-insert-5.ensures.1, c.in_ok-insert-4.ensures.1, c.in_ok-insert-3.ensures.1, c.in_ok-insert-2.ensures.1, c.in_ok-insert.ensures.1, c.requires) at c.in_err-insert-9.ensures.1))
+
+pub returns-in_err-insert-10-clause-memory : goal.returns-in_err-insert-10-clause-memory
+unfolding matchit_on_literals
+returns-in_err-insert-10-clause-memory c =
+    let p = err_from_is_err_and c.from_residual-in_err-insert-10.result c.from_residual-in_err-insert-10.ensures.1 in
+    rw (p.1, p.2) (no_conflict (codes "/roundtext") (lists ∷ preview ∷ projects ∷ close ∷ reopen ∷ rounds ∷ opening ∷ students ∷ supervisors ∷ []) c.in_err-insert-10.field-0.0 refl (rw (c.in_ok-insert-9.ensures.1, c.in_ok-insert-8.ensures.1, c.in_ok-insert-7.ensures.1, c.in_ok-insert-6.ensures.1, c.in_ok-insert-5.ensures.1, c.in_ok-insert-4.ensures.1, c.in_ok-insert-3.ensures.1, c.in_ok-insert-2.ensures.1, c.in_ok-insert.ensures.1, c.requires) at c.in_err-insert-10.ensures.1))
+
 pub returns-clause-routes : goal.returns-clause-routes
 unfolding matchit_on_literals all_routes
-returns-clause-routes c = rw (c.entry-3.ensures, c.in_ok-insert-2.ensures.1, c.entry-2.ensures, c.in_ok-insert.ensures.1, c.entry.ensures, c.requires) at c.in_ok-insert-3.ensures.1
+returns-clause-routes c = rw (c.read-2.ensures, c.in_ok-insert-9.ensures.1, c.read.ensures, c.in_ok-insert-8.ensures.1, c.round.ensures, c.in_ok-insert-7.ensures.1, c.asked-3.ensures, c.in_ok-insert-6.ensures.1, c.asked-2.ensures, c.in_ok-insert-5.ensures.1, c.asked.ensures, c.in_ok-insert-4.ensures.1, c.list.ensures, c.in_ok-insert-3.ensures.1, c.entry-3.ensures, c.in_ok-insert-2.ensures.1, c.entry-2.ensures, c.in_ok-insert.ensures.1, c.entry.ensures, c.requires) at c.in_ok-insert-10.ensures.1

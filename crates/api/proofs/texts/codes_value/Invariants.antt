@@ -1,0 +1,8 @@
+-- The values are those of the codes that were seen.
+use Rattle.std.proofs.Common.{◌≡◌, map, take}
+use Rattle.serde_json.specs.Data.{string}
+use Rattle.serde_json.specs.View.{view}
+use Rattle.api.proofs.texts.codes_value.Given as goal
+
+abbrev pub invariant-loop-code : goal.invariant-loop-code
+invariant-loop-code l = map view l.items.items ≡ map string (take l.code-index l.choices)
