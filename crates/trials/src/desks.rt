@@ -35,7 +35,7 @@ pub(crate) fn get_student(alloc: Global, code: &str) -> Result<Request, Fail> {
 
 pub(crate) fn is_named(rt: &impl Abort, answer: &Result<Reply, Refusal>, name: &str) {
     match answer {
-        Ok(Reply::Student { name: found }) => same_text(rt, found.as_str(), name),
+        Ok(Reply::Student { name: found, .. }) => same_text(rt, found.as_str(), name),
         _ => assert!(rt; false, "{name} is on the roll"),
     }
 }

@@ -58,9 +58,9 @@ impl Write for Narrow {
 
 /// What came of a stream.
 #[derive(Drop)]
-struct Outcome {
-    written: Vec<u8>,
-    result: Result<Served, StreamFault>,
+pub(crate) struct Outcome {
+    pub written: Vec<u8>,
+    pub result: Result<Served, StreamFault>,
     failed_reads: u64,
     failed_writes: u64,
 }
@@ -89,7 +89,7 @@ fn served_by(
 }
 
 /// Serves these bytes, at first so many and then a piece at a time.
-fn served(
+pub(crate) fn served(
     alloc: Global,
     desk: &mut Desk<MemStore>,
     bytes: &[u8],
@@ -406,7 +406,7 @@ fn is_told(
 }
 
 /// The message that asks this with a body.
-fn message(alloc: Global, asked: &str, body: &str) -> Result<String, AllocError> {
+pub(crate) fn message(alloc: Global, asked: &str, body: &str) -> Result<String, AllocError> {
     let len = body.len();
     format!(in alloc; "{asked} HTTP/1.1\r\nContent-Length: {len}\r\n\r\n{body}")
 }
@@ -420,7 +420,7 @@ fn first_cell(line: &str) -> (&str, &str) {
 }
 
 /// Compares the answer of each line.
-fn compare_exchanges(
+pub(crate) fn compare_exchanges(
     alloc: Global,
     rt: &impl Abort,
     desk: &mut Desk<MemStore>,

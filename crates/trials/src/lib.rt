@@ -31,4 +31,6 @@ mod stores;
 #[cfg(test)]
 mod streams;
 #[cfg(test)]
+mod terms;
+#[cfg(test)]
 mod texts;

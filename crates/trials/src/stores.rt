@@ -126,14 +126,17 @@ fn saved_changes_are_read_back(rt: HostRuntime) -> Result<(), Fail> {
     Ok(())
 }
 
-/// Another table and the four of an office, with nobody on its rolls.
+/// Another table and those of an office, with nobody on its rolls.
 #[rattlefmt::skip]
-static TABLES: [&str; 6] = [
+static TABLES: [&str; 9] = [
     "CREATE TABLE other (a INTEGER);",
     "CREATE TABLE edition (id INTEGER NOT NULL PRIMARY KEY CHECK (id = 1), number INTEGER NOT NULL) STRICT;",
     "CREATE TABLE supervisor (code TEXT NOT NULL PRIMARY KEY, label TEXT NOT NULL, quota INTEGER NOT NULL) STRICT;",
     "CREATE TABLE project (code TEXT NOT NULL PRIMARY KEY, label TEXT NOT NULL, supervisor TEXT NOT NULL REFERENCES supervisor (code), quota INTEGER NOT NULL) STRICT;",
     "create table student (code text primary key not null, label text not null) strict;",
+    "CREATE TABLE round (number INTEGER NOT NULL PRIMARY KEY, open INTEGER NOT NULL) STRICT;",
+    "CREATE TABLE choice (round INTEGER NOT NULL REFERENCES round (number), student TEXT NOT NULL REFERENCES student (code), place INTEGER NOT NULL, project TEXT NOT NULL REFERENCES project (code), PRIMARY KEY (round, student, place), UNIQUE (round, student, project)) STRICT;",
+    "CREATE TABLE placement (student TEXT NOT NULL PRIMARY KEY REFERENCES student (code), round INTEGER NOT NULL REFERENCES round (number), project TEXT NOT NULL REFERENCES project (code), rank INTEGER NOT NULL) STRICT;",
     "INSERT INTO edition VALUES (1, 1);",
 ];
 
@@ -153,6 +156,28 @@ static HAND_MADE: [HandMade; 9] = [
     ("a table missing",  "DROP TABLE student", Err(StoreFault::Damaged)),
 ];
 
+/// Rolls of one supervisor, two projects and two students, for the tables of rounds.
+static ROLLS: &str =
+    "INSERT INTO supervisor VALUES ('L', 'Lee', 2); INSERT INTO project VALUES ('P', 'Pumps', 'L', 1); INSERT INTO project VALUES ('Q', 'Quays', 'L', 2); INSERT INTO student VALUES ('A', 'Ann'); INSERT INTO student VALUES ('B', 'Bob');";
+
+/// What is added to those, and what opening answers.
+#[rattlefmt::skip]
+static OF_ROUNDS: [HandMade; 13] = [
+    ("three rounds",         "INSERT INTO round VALUES (1, 0), (2, 0), (3, 1); INSERT INTO choice VALUES (1, 'A', 1, 'P'), (1, 'A', 2, 'Q'), (2, 'B', 1, 'Q'), (3, 'B', 1, 'P'); INSERT INTO placement VALUES ('A', 1, 'Q', 2)", Ok((1, 2, 2))),
+    ("a round is missing",   "INSERT INTO round VALUES (1, 0), (3, 0)", Err(StoreFault::Damaged)),
+    ("an earlier one open",  "INSERT INTO round VALUES (1, 1), (2, 0)", Err(StoreFault::Damaged)),
+    ("neither open nor not", "INSERT INTO round VALUES (1, 2)", Err(StoreFault::Damaged)),
+    ("thirteen rounds",      "INSERT INTO round VALUES (1, 0), (2, 0), (3, 0), (4, 0), (5, 0), (6, 0), (7, 0), (8, 0), (9, 0), (10, 0), (11, 0), (12, 0), (13, 0)", Err(StoreFault::Damaged)),
+    ("placed while open",    "INSERT INTO round VALUES (1, 1); INSERT INTO choice VALUES (1, 'A', 1, 'P'); INSERT INTO placement VALUES ('A', 1, 'P', 1)", Err(StoreFault::Damaged)),
+    ("a place is missing",   "INSERT INTO round VALUES (1, 1); INSERT INTO choice VALUES (1, 'A', 1, 'P'), (1, 'A', 3, 'Q')", Err(StoreFault::Damaged)),
+    ("a place of nine",      "INSERT INTO round VALUES (1, 1); INSERT INTO choice VALUES (1, 'A', 9, 'P')", Err(StoreFault::Damaged)),
+    ("at another rank",      "INSERT INTO round VALUES (1, 0); INSERT INTO choice VALUES (1, 'A', 1, 'P'), (1, 'A', 2, 'Q'); INSERT INTO placement VALUES ('A', 1, 'Q', 1)", Err(StoreFault::Damaged)),
+    ("not in the list",      "INSERT INTO round VALUES (1, 0); INSERT INTO choice VALUES (1, 'A', 1, 'P'); INSERT INTO placement VALUES ('A', 1, 'Q', 2)", Err(StoreFault::Damaged)),
+    ("listed once placed",   "INSERT INTO round VALUES (1, 0), (2, 1); INSERT INTO choice VALUES (1, 'A', 1, 'P'), (2, 'A', 1, 'Q'); INSERT INTO placement VALUES ('A', 1, 'P', 1)", Err(StoreFault::Damaged)),
+    ("a project is over",    "INSERT INTO round VALUES (1, 0); INSERT INTO choice VALUES (1, 'A', 1, 'P'), (1, 'B', 1, 'P'); INSERT INTO placement VALUES ('A', 1, 'P', 1), ('B', 1, 'P', 1)", Err(StoreFault::Damaged)),
+    ("a supervisor is over", "UPDATE supervisor SET quota = 1; INSERT INTO round VALUES (1, 0); INSERT INTO choice VALUES (1, 'A', 1, 'Q'), (1, 'B', 1, 'Q'); INSERT INTO placement VALUES ('A', 1, 'Q', 1), ('B', 1, 'Q', 1)", Err(StoreFault::Damaged)),
+];
+
 /// Executes each statement.
 fn execute_all(conn: &mut Connection<MemStore>, statements: &[&'static str]) -> Result<(), Fail> {
     for statement in statements {
@@ -166,31 +191,39 @@ fn compare_opened(
     alloc: Global,
     rt: &impl Abort,
     name: &str,
+    before: &str,
     added: &str,
     want: &Result<Sizes, StoreFault>,
 ) -> Result<(), Fail> {
     let mut conn = Connection::open_in_memory(alloc)?;
     execute_all(&mut conn, TABLES.as_slice())?;
+    conn.execute_batch(before)?;
     conn.execute_batch(added)?;
-    let before = count(&mut conn, "SELECT count(*) FROM sqlite_schema")?;
+    let tables = count(&mut conn, "SELECT count(*) FROM sqlite_schema")?;
     let (answer, mut conn) = opened(alloc, conn);
     assert_eq!(rt; answer, *want, "{name}");
     let after = count(&mut conn, "SELECT count(*) FROM sqlite_schema")?;
-    assert_eq!(rt; after, before, "{name}");
+    assert_eq!(rt; after, tables, "{name}");
     Ok(())
 }
 
 /// The same of each case.
-fn compare_hand_made(alloc: Global, rt: &impl Abort, rows: &[HandMade]) -> Result<(), Fail> {
+fn compare_hand_made(
+    alloc: Global,
+    rt: &impl Abort,
+    before: &str,
+    rows: &[HandMade],
+) -> Result<(), Fail> {
     for (name, added, want) in rows {
-        compare_opened(alloc, rt, name, added, want)?;
+        compare_opened(alloc, rt, name, before, added, want)?;
     }
     Ok(())
 }
 
 #[test]
 fn hand_made_tables_are_judged(rt: HostRuntime) -> Result<(), Fail> {
-    compare_hand_made(rt.alloc(), &rt, HAND_MADE.as_slice())
+    compare_hand_made(rt.alloc(), &rt, "", HAND_MADE.as_slice())?;
+    compare_hand_made(rt.alloc(), &rt, ROLLS, OF_ROUNDS.as_slice())
 }
 
 /// The empty office's tables beside another table, which is as it was.

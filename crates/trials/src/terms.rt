@@ -1,0 +1,185 @@
+//! Rounds at a desk, byte for byte: lists, closings, placements and reopenings, through streams and after the desk is opened
+//! anew.
+
+use crate::desks::{desk_over, new_desk};
+use crate::exchanges::{compare_exchanges, message, served};
+use desk::Desk;
+use sqlite::MemStore;
+use std::alloc::Global;
+use std::process::Abort;
+use std::rt::HostRuntime;
+use std::test::Fail;
+use web::{End, Served};
+
+/// A supervisor of quota 5 with projects P and Q of quota 1 and Y and Z of quota 0, and students A, B and C.
+#[rattlefmt::skip]
+static ROLLS: &str =
+    r#"PUT /supervisors/L | {"name":"Lee","quota":5}                    | 200 OK | {"ok":true}
+       PUT /projects/P    | {"name":"Pumps","quota":1,"supervisor":"L"} | 200 OK | {"ok":true}
+       PUT /projects/Q    | {"name":"Quays","quota":1,"supervisor":"L"} | 200 OK | {"ok":true}
+       PUT /projects/Y    | {"name":"Yards","quota":0,"supervisor":"L"} | 200 OK | {"ok":true}
+       PUT /projects/Z    | {"name":"Zinc","quota":0,"supervisor":"L"}  | 200 OK | {"ok":true}
+       PUT /students/A    | {"name":"Ann"}                              | 200 OK | {"ok":true}
+       PUT /students/B    | {"name":"Bob"}                              | 200 OK | {"ok":true}
+       PUT /students/C    | {"name":"Cy"}                               | 200 OK | {"ok":true}"#;
+
+/// No round is open.
+#[rattlefmt::skip]
+static SHUT: &str =
+    r#"POST /rounds/reopen |                                                         | 409 Conflict  | {"fault":"NoRoundClosed","number":20}
+       POST /rounds/close  |                                                         | 409 Conflict  | {"fault":"NoRoundOpen","number":19}
+       GET /preview        |                                                         | 409 Conflict  | {"fault":"NoRoundOpen","number":19}
+       GET /roundtext      |                                                         | 409 Conflict  | {"fault":"NoRoundOpen","number":19}
+       DELETE /lists/A     |                                                         | 409 Conflict  | {"fault":"NoRoundOpen","number":19}
+       PUT /lists/A        | {"choices":["P","Q","Y","Z","P","Q","Y","Z","P"]}       | 409 Conflict  | {"fault":"NoRoundOpen","number":19}
+       GET /rounds/1       |                                                         | 404 Not Found | {"fault":"UnknownRound","number":26}
+       GET /rounds/9999    |                                                         | 404 Not Found | {"fault":"UnknownRound","number":26}
+       GET /rounds/12345   |                                                         | 404 Not Found | {"fault":"NoRoute","number":5}
+       GET /rounds/x       |                                                         | 404 Not Found | {"fault":"NoRoute","number":5}
+       GET /rounds/close   |                                                         | 405 Method Not Allowed | {"fault":"WrongMethod","number":6}
+       POST /rounds        | {}                                                      | 400 Bad Request | {"fault":"Members","number":8}"#;
+
+/// The first round is opened, and lists are put.
+#[rattlefmt::skip]
+static LISTS: &str =
+    r#"POST /rounds     |                                                   | 200 OK          | {"round":1}
+       POST /rounds     |                                                   | 409 Conflict    | {"fault":"RoundIsOpen","number":18}
+       PUT /lists/S9    | {"choices":[]}                                    | 404 Not Found   | {"fault":"UnknownStudent","number":15}
+       PUT /lists/A     | {"choices":[]}                                    | 400 Bad Request | {"fault":"ListLength","number":23}
+       PUT /lists/A     | {"choices":["P","Q","Y","Z","P","Q","Y","Z","P"]} | 400 Bad Request | {"fault":"ListLength","number":23}
+       PUT /lists/A     | {"choices":["P","P"]}                             | 400 Bad Request | {"fault":"RepeatedProject","number":24}
+       PUT /lists/A     | {"choices":["P","N"]}                             | 404 Not Found   | {"fault":"UnknownProject","number":14}
+       PUT /lists/A     | {"choices":["P","N","P"]}                         | 404 Not Found   | {"fault":"UnknownProject","number":14}
+       PUT /lists/A     | {"choices":"P"}                                   | 400 Bad Request | {"fault":"Members","number":8}
+       GET /students/A  |                                                   | 200 OK          | {"list":null,"name":"Ann","placed":null}
+       PUT /lists/A     | {"choices":["P","Q"]}                             | 200 OK          | {"ok":true}
+       PUT /lists/A     | {"choices":["Q","P"]}                             | 200 OK          | {"ok":true}
+       PUT /lists/A     | {"choices":["Q"]}                                 | 200 OK          | {"ok":true}
+       DELETE /lists/A  |                                                   | 200 OK          | {"ok":true}
+       DELETE /lists/A  |                                                   | 404 Not Found   | {"fault":"NoList","number":25}
+       GET /preview     |                                                   | 200 OK          | {"profile":[0,0,0,0,0,0,0,0],"size":0}
+       PUT /lists/A     | {"choices":["P","Q"]}                             | 200 OK          | {"ok":true}
+       GET /preview     |                                                   | 200 OK          | {"profile":[1,0,0,0,0,0,0,0],"size":1}
+       PUT /lists/C     | {"choices":["Z","P"]}                             | 200 OK          | {"ok":true}
+       GET /students/A  |                                                   | 200 OK          | {"list":["P","Q"],"name":"Ann","placed":null}
+       GET /rounds/1    |                                                   | 200 OK          | {"open":true,"placed":0,"profile":[0,0,0,0,0,0,0,0],"round":1,"students":2}
+       GET /preview     |                                                   | 200 OK          | {"profile":[0,2,0,0,0,0,0,0],"size":2}"#;
+
+/// The round closes, opens again and closes again.
+#[rattlefmt::skip]
+static CLOSED: &str =
+    r#"POST /rounds/close  |                                             | 200 OK       | {"profile":[0,2,0,0,0,0,0,0],"round":1,"size":2}
+       POST /rounds/close  |                                             | 409 Conflict | {"fault":"NoRoundOpen","number":19}
+       GET /students/A     |                                             | 200 OK       | {"list":null,"name":"Ann","placed":{"project":"Q","rank":2,"round":1}}
+       GET /students/C     |                                             | 200 OK       | {"list":null,"name":"Cy","placed":{"project":"P","rank":2,"round":1}}
+       GET /rounds/1       |                                             | 200 OK       | {"open":false,"placed":2,"profile":[0,2,0,0,0,0,0,0],"round":1,"students":2}
+       GET /projects/P     |                                             | 200 OK       | {"name":"Pumps","placed":1,"quota":1,"supervisor":"L"}
+       GET /supervisors/L  |                                             | 200 OK       | {"name":"Lee","placed":2,"quota":5}
+       PUT /projects/P     | {"name":"Pumps","quota":0,"supervisor":"L"} | 409 Conflict | {"fault":"BelowPlaced","number":17}
+       PUT /supervisors/L  | {"name":"Lee","quota":1}                    | 409 Conflict | {"fault":"BelowPlaced","number":17}
+       POST /rounds/reopen |                                             | 200 OK       | {"round":1}
+       POST /rounds/reopen |                                             | 409 Conflict | {"fault":"RoundIsOpen","number":18}
+       GET /rounds/1       |                                             | 200 OK       | {"open":true,"placed":0,"profile":[0,0,0,0,0,0,0,0],"round":1,"students":2}
+       GET /students/A     |                                             | 200 OK       | {"list":["P","Q"],"name":"Ann","placed":null}
+       DELETE /lists/A     |                                             | 200 OK       | {"ok":true}
+       POST /rounds/close  |                                             | 200 OK       | {"profile":[0,1,0,0,0,0,0,0],"round":1,"size":1}
+       POST /rounds        |                                             | 200 OK       | {"round":2}
+       PUT /lists/C        | {"choices":["Q"]}                           | 409 Conflict | {"fault":"AlreadyPlaced","number":22}
+       PUT /projects/P     | {"name":"Pumps","quota":2,"supervisor":"L"} | 200 OK       | {"ok":true}
+       PUT /lists/A        | {"choices":["P"]}                           | 200 OK       | {"ok":true}
+       PUT /lists/B        | {"choices":["P"]}                           | 200 OK       | {"ok":true}
+       POST /rounds/close  |                                             | 200 OK       | {"profile":[1,0,0,0,0,0,0,0],"round":2,"size":1}"#;
+
+/// What is read after all that, and once more after the desk is opened anew.
+#[rattlefmt::skip]
+static AFTER: &str =
+    r#"GET /rounds/1      | | 200 OK | {"open":false,"placed":1,"profile":[0,1,0,0,0,0,0,0],"round":1,"students":1}
+       GET /rounds/2      | | 200 OK | {"open":false,"placed":1,"profile":[1,0,0,0,0,0,0,0],"round":2,"students":2}
+       GET /projects/P    | | 200 OK | {"name":"Pumps","placed":2,"quota":2,"supervisor":"L"}
+       GET /supervisors/L | | 200 OK | {"name":"Lee","placed":2,"quota":5}
+       GET /students/C    | | 200 OK | {"list":null,"name":"Cy","placed":{"project":"P","rank":2,"round":1}}"#;
+
+/// The text of the first round before it closes.
+static TEXT: &str = "S,L,5\nP,P,L,1\nP,Q,L,1\nP,Y,L,0\nP,Z,L,0\nC,A,P,Q\nC,C,Z,P\n";
+
+/// Compares the round text.
+fn compare_text(alloc: Global, rt: &impl Abort, desk: &mut Desk<MemStore>) -> Result<(), Fail> {
+    let asked = message(alloc, "GET /roundtext", "")?;
+    let len = TEXT.len();
+    let want = format!(in alloc;
+        "HTTP/1.1 200 OK\r\nContent-Type: text/plain; charset=utf-8\r\nContent-Length: {len}\r\n\r\n{TEXT}"
+    )?;
+    let got = served(alloc, desk, asked.as_bytes(), 1000, 1000);
+    assert_eq!(rt; got.written.as_slice(), want.as_bytes());
+    assert_eq!(rt;
+        got.result,
+        Ok(Served {
+            answered: 1,
+            end: End::Closed
+        })
+    );
+    Ok(())
+}
+
+#[test]
+fn rounds_open_close_and_open_again(rt: HostRuntime) -> Result<(), Fail> {
+    let alloc = rt.alloc();
+    let mut desk = new_desk(alloc, &rt)?;
+    compare_exchanges(alloc, &rt, &mut desk, ROLLS)?;
+    compare_exchanges(alloc, &rt, &mut desk, SHUT)?;
+    compare_exchanges(alloc, &rt, &mut desk, LISTS)?;
+    compare_text(alloc, &rt, &mut desk)?;
+    compare_exchanges(alloc, &rt, &mut desk, CLOSED)?;
+    compare_exchanges(alloc, &rt, &mut desk, AFTER)?;
+    let mut again = desk_over(alloc, &rt, desk.into_connection());
+    compare_exchanges(alloc, &rt, &mut again, AFTER)
+}
+
+/// A supervisor of quota 1 with P and Q, one of quota 1 with R, and lists P and Q R; then a round in which nobody has a list.
+#[rattlefmt::skip]
+static QUOTAS: &str =
+    r#"PUT /supervisors/L | {"name":"Lee","quota":1}                    | 200 OK | {"ok":true}
+       PUT /supervisors/K | {"name":"Kim","quota":1}                    | 200 OK | {"ok":true}
+       PUT /projects/P    | {"name":"Pumps","quota":1,"supervisor":"L"} | 200 OK | {"ok":true}
+       PUT /projects/Q    | {"name":"Quays","quota":1,"supervisor":"L"} | 200 OK | {"ok":true}
+       PUT /projects/R    | {"name":"Roofs","quota":1,"supervisor":"K"} | 200 OK | {"ok":true}
+       PUT /students/A    | {"name":"Ann"}                              | 200 OK | {"ok":true}
+       PUT /students/B    | {"name":"Bob"}                              | 200 OK | {"ok":true}
+       POST /rounds       |                                             | 200 OK | {"round":1}
+       PUT /lists/A       | {"choices":["P"]}                           | 200 OK | {"ok":true}
+       PUT /lists/B       | {"choices":["Q","R"]}                       | 200 OK | {"ok":true}
+       POST /rounds/close |                                             | 200 OK | {"profile":[1,1,0,0,0,0,0,0],"round":1,"size":2}
+       GET /students/B    |                                             | 200 OK | {"list":null,"name":"Bob","placed":{"project":"R","rank":2,"round":1}}
+       POST /rounds       |                                             | 200 OK | {"round":2}
+       POST /rounds/close |                                             | 200 OK | {"profile":[0,0,0,0,0,0,0,0],"round":2,"size":0}"#;
+
+#[test]
+fn a_supervisors_quota_counts(rt: HostRuntime) -> Result<(), Fail> {
+    let mut desk = new_desk(rt.alloc(), &rt)?;
+    compare_exchanges(rt.alloc(), &rt, &mut desk, QUOTAS)
+}
+
+/// After the twelfth round.
+#[rattlefmt::skip]
+static TWELVE: &str =
+    r#"POST /rounds        | | 409 Conflict | {"fault":"RoundsFull","number":21}
+       POST /rounds/reopen | | 200 OK       | {"round":12}
+       POST /rounds/reopen | | 409 Conflict | {"fault":"RoundIsOpen","number":18}"#;
+
+/// Opens and closes twelve rounds.
+fn open_and_close(alloc: Global, rt: &impl Abort, desk: &mut Desk<MemStore>) -> Result<(), Fail> {
+    for n in 1..13 {
+        let lines = format!(in alloc;
+            "POST /rounds||200 OK|{{\"round\":{n}}}\nPOST /rounds/close||200 OK|{{\"profile\":[0,0,0,0,0,0,0,0],\"round\":{n},\"size\":0}}"
+        )?;
+        compare_exchanges(alloc, rt, desk, lines.as_str())?;
+    }
+    Ok(())
+}
+
+#[test]
+fn there_are_twelve_rounds(rt: HostRuntime) -> Result<(), Fail> {
+    let mut desk = new_desk(rt.alloc(), &rt)?;
+    open_and_close(rt.alloc(), &rt, &mut desk)?;
+    compare_exchanges(rt.alloc(), &rt, &mut desk, TWELVE)
+}
