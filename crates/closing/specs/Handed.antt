@@ -6,13 +6,13 @@ use Rattle.rolls.specs.declared.entries.Supervisor.{Supervisor}
 use Rattle.rolls.specs.declared.entries.Project.{Project}
 use Rattle.rolls.specs.declared.rounds.Listed.{Listed}
 use Rattle.rolls.specs.declared.rounds.Placement.{Placement}
-use Rattle.rolls.specs.Roll.{find}
+use Rattle.rolls.specs.Roll.{of_code, find}
 use Rattle.rolls.specs.State.{State, project_key, last_round, lists_of}
 use Rattle.rolls.specs.Fit.{IsFit}
 
 -- whether a supervisor offers one of these projects
 abbrev pub offers : List Project → List ℕ → List ℕ → Bool
-offers projects supervisor project = option_map_or (λ p. bytes_eq supervisor p.supervisor) (find project_key (0, project) projects) false
+offers projects supervisor project = option_map_or (λ p. bytes_eq supervisor p.supervisor) (find project_key (of_code project) projects) false
 
 -- how many of these placements are in a project
 abbrev pub count_in : List Placement → List ℕ → ℕ

@@ -14,7 +14,7 @@ use std::alloc::{AllocError, Global};
 pub fn is_offered_by(projects: &Table<Project>, supervisor: &str, project: &str) -> bool
     ensures { result ≡ offers projects.now supervisor.now project.now }
 {
-    match projects.find(0, project) {
+    match projects.by_code(project) {
         Some(entry) => supervisor == entry.supervisor.as_str(),
         None => false,
     }

@@ -10,7 +10,7 @@ use Rattle.rolls.specs.declared.row.Row.{Row}
 use Rattle.rolls.specs.declared.row.Row.TheVariants as row
 use Rattle.rolls.specs.declared.row.RowKey.{RowKey}
 use Rattle.rolls.specs.declared.row.RowKey.TheVariants as key
-use Rattle.rolls.specs.Roll.{find, put}
+use Rattle.rolls.specs.Roll.{of_code, find, put}
 use Rattle.rolls.specs.State.{State, supervisor_key, project_key, student_key, round_key, list_key, placement_key, round_of, has_round, choices_in}
 use Rattle.rolls.specs.Rows.{key_of, row_of}
 use Rattle.drafts.specs.declared.fault.RowsFault.{RowsFault}
@@ -41,7 +41,7 @@ staged rows = stages 9 0 rows
 
 -- what a student lists among these
 abbrev pub choices_among : List ℕ → List Listed → List (List ℕ)
-choices_among student lists = option_map_or (λ l. l.choices) (find list_key (0, student) lists) []
+choices_among student lists = option_map_or (λ l. l.choices) (find list_key (of_code student) lists) []
 
 -- lists with one more choice of a student, behind those that are there
 abbrev pub with_choice : List ℕ → List ℕ → List Listed → List Listed

@@ -49,7 +49,7 @@ fn next_choices(
     ensures place { IfOk result (λ _. length (choices_among student.now lists.now) + 1 ≡ place) }
     ensures unfit { result ≡ Err RowsFault.Unfit → (length (choices_among student.now lists.now) + 1 == place) ≡ false }
 {
-    let before = match lists.find(0, student.as_str()) {
+    let before = match lists.by_code(student.as_str()) {
         Some(listed) => listed.choices.codes(),
         None => &[],
     };
@@ -107,7 +107,7 @@ impl Draft {
         if quota > MOST_PLACES {
             return Err(RowsFault::Unfit);
         }
-        if self.supervisors.find(0, code.as_str()).is_some() {
+        if self.supervisors.by_code(code.as_str()).is_some() {
             return Err(RowsFault::Unfit);
         }
         self.supervisors.put(Supervisor { code, label, quota })?;
@@ -132,7 +132,7 @@ impl Draft {
         if quota > MOST_PLACES {
             return Err(RowsFault::Unfit);
         }
-        if self.projects.find(0, code.as_str()).is_some() {
+        if self.projects.by_code(code.as_str()).is_some() {
             return Err(RowsFault::Unfit);
         }
         self.projects.put(Project {
@@ -151,7 +151,7 @@ impl Draft {
     {
         let code = Code::read(code.as_str())?;
         let label = Label::read(alloc, label.as_str())?;
-        if self.students.find(0, code.as_str()).is_some() {
+        if self.students.by_code(code.as_str()).is_some() {
             return Err(RowsFault::Unfit);
         }
         self.students.put(Student { code, label })?;
@@ -163,7 +163,7 @@ impl Draft {
         ensures taken { OnOk result (taken_in (drafted self.old) (Row.Round number is_open) ≡ Some (drafted self.new)) }
         ensures unfit { result ≡ Err RowsFault.Unfit → taken_in (drafted self.old) (Row.Round number is_open) ≡ None }
     {
-        if self.rounds.find(number, "").is_some() {
+        if self.rounds.by_number(number).is_some() {
             return Err(RowsFault::Unfit);
         }
         self.rounds.put(Round {
@@ -210,7 +210,7 @@ impl Draft {
     {
         let student = Code::read(student.as_str())?;
         let project = Code::read(project.as_str())?;
-        if self.placements.find(0, student.as_str()).is_some() {
+        if self.placements.by_code(student.as_str()).is_some() {
             return Err(RowsFault::Unfit);
         }
         self.placements.put(Placement {

@@ -25,7 +25,7 @@ impl Draft {
     fn is_offered_by(&self, supervisor: &str, project: &str) -> bool
         ensures { result ≡ is_offered_by (drafted self.now) supervisor.now project.now }
     {
-        match self.projects.find(0, project) {
+        match self.projects.by_code(project) {
             Some(found) => supervisor == found.supervisor.as_str(),
             None => false,
         }

@@ -11,11 +11,8 @@ ghost use Rattle.drafts.specs.Gathering.{choices_among};
 ghost use Rattle.drafts.specs.Whole.{is_whole, are_few, are_offered, are_rounds, is_list, is_placement};
 
 use crate::draft::Draft;
-use rolls::{Listed, Placement, Round, Table};
+use rolls::{Listed, MOST_ROUNDS, Placement, Round, Table};
 use spa::{Code, MOST_PROJECTS, MOST_STUDENTS, MOST_SUPERVISORS, RANKS};
-
-/// The most rounds that an office has.
-const MOST_ROUNDS: usize = 12;
 
 /// Whether the rounds have the numbers from 1 on.
 fn are_numbered(rounds: &[Round]) -> bool
@@ -66,7 +63,7 @@ fn is_distinct(codes: &[Code]) -> bool
 fn stands_at_rank(lists: &Table<Listed>, placement: &Placement) -> bool
     ensures { let p = placement.now in result ≡ option_map_or (bytes_eq p.project) (slice_get (choices_among p.student lists.now) (p.rank - 1)) false }
 {
-    let choices = match lists.find(0, placement.student.as_str()) {
+    let choices = match lists.by_code(placement.student.as_str()) {
         Some(listed) => listed.choices.codes(),
         None => &[],
     };
@@ -84,7 +81,7 @@ impl Draft {
         self.supervisors.entries().len() <= MOST_SUPERVISORS
             && self.projects.entries().len() <= MOST_PROJECTS
             && self.students.entries().len() <= MOST_STUDENTS
-            && self.rounds.entries().len() <= MOST_ROUNDS
+            && self.rounds.entries().len() <= MOST_ROUNDS as usize
     }
 
     /// Whether the supervisor of each project is on the roll.
@@ -95,7 +92,7 @@ impl Draft {
         for project in projects {
             if self
                 .supervisors
-                .find(0, project.supervisor.as_str())
+                .by_code(project.supervisor.as_str())
                 .is_none()
             {
                 return false;
@@ -109,7 +106,7 @@ impl Draft {
         ensures { result ≡ list_all (has_project (drafted self.now)) projects.now }
     {
         for project in projects {
-            if self.projects.find(0, project.as_str()).is_none() {
+            if self.projects.by_code(project.as_str()).is_none() {
                 return false;
             }
         }
@@ -120,7 +117,7 @@ impl Draft {
     fn is_placed_before(&self, student: &str, number: u32) -> bool
         ensures { result ≡ is_placed_before (drafted self.now) student.now number }
     {
-        match self.placements.find(0, student) {
+        match self.placements.by_code(student) {
             Some(placement) => placement.round < number,
             None => false,
         }
@@ -130,7 +127,7 @@ impl Draft {
     fn is_list(&self, number: u32, listed: &Listed) -> bool
         ensures { result ≡ is_list (drafted self.now) number listed.now }
     {
-        if self.students.find(0, listed.student.as_str()).is_none() {
+        if self.students.by_code(listed.student.as_str()).is_none() {
             return false;
         }
         if self.is_placed_before(listed.student.as_str(), number) {
@@ -177,7 +174,7 @@ impl Draft {
     fn is_placement(&self, placement: &Placement) -> bool
         ensures { result ≡ is_placement (drafted self.now) placement.now }
     {
-        match self.rounds.find(placement.round, "") {
+        match self.rounds.by_number(placement.round) {
             Some(round) => {
                 !round.is_open && placement.rank >= 1 && stands_at_rank(&round.lists, placement)
             }

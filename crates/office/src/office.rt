@@ -126,7 +126,7 @@ impl Office {
     pub fn lists(&self, round: u32) -> &[Listed]
         ensures all { result.now ≡ lists_of self.now round }
     {
-        match self.rounds.find(round, "") {
+        match self.rounds.by_number(round) {
             Some(round) => round.lists.entries(),
             None => &[],
         }
@@ -228,25 +228,25 @@ impl Office {
             Plain::ReopenRound => self.reopening_refusal(),
             Plain::GetSupervisor { code } => {
                 unless(
-                    self.supervisors.find(0, code.as_str()).is_some(),
+                    self.supervisors.by_code(code.as_str()).is_some(),
                     Refusal::UnknownSupervisor,
                 )
             }
             Plain::GetProject { code } => {
                 unless(
-                    self.projects.find(0, code.as_str()).is_some(),
+                    self.projects.by_code(code.as_str()).is_some(),
                     Refusal::UnknownProject,
                 )
             }
             Plain::GetStudent { code } => {
                 unless(
-                    self.students.find(0, code.as_str()).is_some(),
+                    self.students.by_code(code.as_str()).is_some(),
                     Refusal::UnknownStudent,
                 )
             }
             Plain::GetRound { round } => {
                 unless(
-                    self.rounds.find(*round, "").is_some(),
+                    self.rounds.by_number(*round).is_some(),
                     Refusal::UnknownRound,
                 )
             }

@@ -8,7 +8,7 @@ use Rattle.rolls.specs.declared.entries.Student.{Student}
 use Rattle.rolls.specs.declared.rounds.Round.{Round}
 use Rattle.rolls.specs.declared.rounds.Listed.{Listed}
 use Rattle.rolls.specs.declared.rounds.Placement.{Placement}
-use Rattle.rolls.specs.Roll.{Key, find}
+use Rattle.rolls.specs.Roll.{Key, of_code, of_number, find}
 
 -- the office: its three rolls by code, the rounds by number, each with its lists, and the placements by student
 pub record State : Type 0 where
@@ -24,47 +24,47 @@ empty = record { supervisors = []; projects = []; students = []; rounds = []; pl
 
 -- a supervisor's key
 abbrev pub supervisor_key : Supervisor → Key
-supervisor_key s = (0, s.code)
+supervisor_key s = of_code s.code
 
 -- a project's key
 abbrev pub project_key : Project → Key
-project_key p = (0, p.code)
+project_key p = of_code p.code
 
 -- a student's key
 abbrev pub student_key : Student → Key
-student_key s = (0, s.code)
+student_key s = of_code s.code
 
 -- a round's key
 abbrev pub round_key : Round → Key
-round_key r = (r.number, [])
+round_key r = of_number r.number
 
 -- the key of a list, among those of its round
 abbrev pub list_key : Listed → Key
-list_key l = (0, l.student)
+list_key l = of_code l.student
 
 -- a placement's key
 abbrev pub placement_key : Placement → Key
-placement_key p = (0, p.student)
+placement_key p = of_code p.student
 
 -- the supervisor with this code
 abbrev pub supervisor_of : State → List ℕ → Option Supervisor
-supervisor_of o code = find supervisor_key (0, code) o.supervisors
+supervisor_of o code = find supervisor_key (of_code code) o.supervisors
 
 -- the project with this code
 abbrev pub project_of : State → List ℕ → Option Project
-project_of o code = find project_key (0, code) o.projects
+project_of o code = find project_key (of_code code) o.projects
 
 -- the student with this code
 abbrev pub student_of : State → List ℕ → Option Student
-student_of o code = find student_key (0, code) o.students
+student_of o code = find student_key (of_code code) o.students
 
 -- the round with this number
 abbrev pub round_of : State → ℕ → Option Round
-round_of o n = find round_key (n, []) o.rounds
+round_of o n = find round_key (of_number n) o.rounds
 
 -- where a student is placed
 abbrev pub placement_of : State → List ℕ → Option Placement
-placement_of o student = find placement_key (0, student) o.placements
+placement_of o student = find placement_key (of_code student) o.placements
 
 -- whether a supervisor is on the roll
 abbrev pub has_supervisor : State → List ℕ → Bool
@@ -112,7 +112,7 @@ lists_of o n = option_map_or (λ r. r.lists) (round_of o n) []
 
 -- a student's list in a round
 abbrev pub list_of : State → ℕ → List ℕ → Option Listed
-list_of o n student = find list_key (0, student) (lists_of o n)
+list_of o n student = find list_key (of_code student) (lists_of o n)
 
 -- whether a student has a list in a round
 abbrev pub has_list : State → ℕ → List ℕ → Bool

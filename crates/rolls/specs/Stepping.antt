@@ -5,7 +5,7 @@ use Rattle.spa.specs.declared.TheConstants.{RANKS}
 use Rattle.rolls.specs.declared.rounds.Round.{Round}
 use Rattle.rolls.specs.declared.request.Reply.{Reply}
 use Rattle.rolls.specs.declared.request.Reply.TheVariants as reply
-use Rattle.rolls.specs.Roll.{put, take_out}
+use Rattle.rolls.specs.Roll.{of_code, put, take_out}
 use Rattle.rolls.specs.State.{State, supervisor_key, project_key, student_key, round_key, list_key, supervisor_of, project_of, student_of, round_of, placement_of, last_round, is_open, lists_of, open_choices, placed_in_project, placed_with_supervisor, placed_in_round, placed_at_rank}
 use Rattle.rolls.specs.declared.request.Plain.{Plain}
 use Rattle.rolls.specs.declared.request.Plain.TheVariants.{PutSupervisor, PutProject, PutStudent, OpenRound, PutList, DropList, ReopenRound, GetSupervisor, GetProject, GetStudent, GetRound}
@@ -29,7 +29,7 @@ after_plain (PutProject code label supervisor quota) o = record o { projects = p
 after_plain (PutStudent code label) o = record o { students = put student_key (record { code = code; label = label }) o.students }
 after_plain OpenRound o = after_opening o
 after_plain (PutList student choices) o = with_last (λ r. record r { lists = put list_key (record { student = student; choices = choices }) r.lists }) o
-after_plain (DropList student) o = with_last (λ r. record r { lists = take_out list_key (0, student) r.lists }) o
+after_plain (DropList student) o = with_last (λ r. record r { lists = take_out list_key (of_code student) r.lists }) o
 after_plain ReopenRound o = after_reopening o
 after_plain (GetSupervisor code) o = o
 after_plain (GetProject code) o = o

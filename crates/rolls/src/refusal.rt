@@ -65,44 +65,49 @@ pub enum Refusal {
     Damaged,
 }
 
-/// What is told of a refusal: its number, its status over HTTP, and its name.
+/// What is told of a refusal.
 #[derive(Drop, Clone, Copy)]
-struct Told(u32, u16, &'static str);
+struct Told {
+    number: u32,
+    status: u16,
+    name: &'static str,
+}
 
 impl Refusal {
     /// What is told of it.
+    #[rattlefmt::skip]
     fn told(self) -> Told
-        ensures row { (result.0, result.1, result.2.now) ≡ told self }
-        ensures status { list_any (λ s. s == result.1) statuses ≡ true }
+        ensures row { (result.number, result.status, result.name.now) ≡ told self }
+        ensures status { list_any (λ s. s == result.status) statuses ≡ true }
     {
         match self {
-            Refusal::Memory => Told(1, 503, "Memory"),
-            Refusal::Storage => Told(2, 503, "Storage"),
-            Refusal::BadHead => Told(3, 400, "BadHead"),
-            Refusal::TooLarge => Told(4, 413, "TooLarge"),
-            Refusal::NoRoute => Told(5, 404, "NoRoute"),
-            Refusal::WrongMethod => Told(6, 405, "WrongMethod"),
-            Refusal::Json => Told(7, 400, "Json"),
-            Refusal::Members => Told(8, 400, "Members"),
-            Refusal::Code => Told(9, 400, "Code"),
-            Refusal::Label => Told(10, 400, "Label"),
-            Refusal::Quota => Told(11, 400, "Quota"),
-            Refusal::RollFull => Told(12, 409, "RollFull"),
-            Refusal::UnknownSupervisor => Told(13, 404, "UnknownSupervisor"),
-            Refusal::UnknownProject => Told(14, 404, "UnknownProject"),
-            Refusal::UnknownStudent => Told(15, 404, "UnknownStudent"),
-            Refusal::SupervisorFixed => Told(16, 409, "SupervisorFixed"),
-            Refusal::BelowPlaced => Told(17, 409, "BelowPlaced"),
-            Refusal::RoundIsOpen => Told(18, 409, "RoundIsOpen"),
-            Refusal::NoRoundOpen => Told(19, 409, "NoRoundOpen"),
-            Refusal::NoRoundClosed => Told(20, 409, "NoRoundClosed"),
-            Refusal::RoundsFull => Told(21, 409, "RoundsFull"),
-            Refusal::AlreadyPlaced => Told(22, 409, "AlreadyPlaced"),
-            Refusal::ListLength => Told(23, 400, "ListLength"),
-            Refusal::RepeatedProject => Told(24, 400, "RepeatedProject"),
-            Refusal::NoList => Told(25, 404, "NoList"),
-            Refusal::UnknownRound => Told(26, 404, "UnknownRound"),
-            Refusal::Damaged => Told(30, 503, "Damaged"),
+            Refusal::Memory => Told { number: 1, status: 503, name: "Memory" },
+            Refusal::Storage => Told { number: 2, status: 503, name: "Storage" },
+            Refusal::BadHead => Told { number: 3, status: 400, name: "BadHead" },
+            Refusal::TooLarge => Told { number: 4, status: 413, name: "TooLarge" },
+            Refusal::NoRoute => Told { number: 5, status: 404, name: "NoRoute" },
+            Refusal::WrongMethod => Told { number: 6, status: 405, name: "WrongMethod" },
+            Refusal::Json => Told { number: 7, status: 400, name: "Json" },
+            Refusal::Members => Told { number: 8, status: 400, name: "Members" },
+            Refusal::Code => Told { number: 9, status: 400, name: "Code" },
+            Refusal::Label => Told { number: 10, status: 400, name: "Label" },
+            Refusal::Quota => Told { number: 11, status: 400, name: "Quota" },
+            Refusal::RollFull => Told { number: 12, status: 409, name: "RollFull" },
+            Refusal::UnknownSupervisor => Told { number: 13, status: 404, name: "UnknownSupervisor" },
+            Refusal::UnknownProject => Told { number: 14, status: 404, name: "UnknownProject" },
+            Refusal::UnknownStudent => Told { number: 15, status: 404, name: "UnknownStudent" },
+            Refusal::SupervisorFixed => Told { number: 16, status: 409, name: "SupervisorFixed" },
+            Refusal::BelowPlaced => Told { number: 17, status: 409, name: "BelowPlaced" },
+            Refusal::RoundIsOpen => Told { number: 18, status: 409, name: "RoundIsOpen" },
+            Refusal::NoRoundOpen => Told { number: 19, status: 409, name: "NoRoundOpen" },
+            Refusal::NoRoundClosed => Told { number: 20, status: 409, name: "NoRoundClosed" },
+            Refusal::RoundsFull => Told { number: 21, status: 409, name: "RoundsFull" },
+            Refusal::AlreadyPlaced => Told { number: 22, status: 409, name: "AlreadyPlaced" },
+            Refusal::ListLength => Told { number: 23, status: 400, name: "ListLength" },
+            Refusal::RepeatedProject => Told { number: 24, status: 400, name: "RepeatedProject" },
+            Refusal::NoList => Told { number: 25, status: 404, name: "NoList" },
+            Refusal::UnknownRound => Told { number: 26, status: 404, name: "UnknownRound" },
+            Refusal::Damaged => Told { number: 30, status: 503, name: "Damaged" },
         }
     }
 
@@ -110,7 +115,7 @@ impl Refusal {
     pub fn number(self) -> u32
         ensures number { result ≡ number_of self }
     {
-        self.told().0
+        self.told().number
     }
 
     /// The status of its answer over HTTP.
@@ -118,14 +123,14 @@ impl Refusal {
         ensures value { result ≡ status_of self }
         ensures known { list_any (λ s. s == result) statuses ≡ true }
     {
-        self.told().1
+        self.told().status
     }
 
     /// Its name.
     pub fn name(self) -> &'static str
         ensures { result.now ≡ name_of self }
     {
-        self.told().2
+        self.told().name
     }
 }
 

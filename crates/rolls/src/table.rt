@@ -1,7 +1,7 @@
 //! Entries in the order of their keys.
 
 ghost use Rattle.std.specs.Prelude.{◌≡◌, ℕ, List, [], IfOk, IfErr, OnOk, OnErr, length, option_copied, IsTrue};
-ghost use Rattle.rolls.specs.Roll.{Key, key_cmp, find, put, take_out, rises};
+ghost use Rattle.rolls.specs.Roll.{Key, of_code, of_number, key_cmp, find, put, take_out, rises};
 ghost use Rattle.rolls.specs.Place.{IsAt, IsGapFor};
 
 use std::alloc::{AllocError, Global};
@@ -146,6 +146,20 @@ impl<E: Keyed> Table<E> {
             Ok(at) => Some(&entries[at]),
             Err(_) => None,
         }
+    }
+
+    /// Lends the entry of a roll, or of a round's lists, with this code.
+    pub fn by_code(&self, code: &str) -> Option<&E>
+        ensures { option_copied result ≡ find E.key (of_code code.now) self.now }
+    {
+        self.find(0, code)
+    }
+
+    /// Lends the entry with this number.
+    pub fn by_number(&self, number: u32) -> Option<&E>
+        ensures { option_copied result ≡ find E.key (of_number number) self.now }
+    {
+        self.find(number, "")
     }
 
     /// Puts an entry in its place, over one with its key. Entries that a copy shares are copied first.

@@ -29,7 +29,7 @@ impl Office {
         if quota < self.placed_with_supervisor(code) {
             return Some(Refusal::BelowPlaced);
         }
-        if self.supervisors.find(0, code).is_none()
+        if self.supervisors.by_code(code).is_none()
             && self.supervisors.entries().len() >= MOST_SUPERVISORS
         {
             return Some(Refusal::RollFull);
@@ -59,7 +59,7 @@ impl Office {
         if quota > MOST_PLACES {
             return Some(Refusal::Quota);
         }
-        if self.supervisors.find(0, supervisor).is_none() {
+        if self.supervisors.by_code(supervisor).is_none() {
             return Some(Refusal::UnknownSupervisor);
         }
         if self.is_moved(code, supervisor) {
@@ -68,7 +68,7 @@ impl Office {
         if quota < self.placed_in_project(code) {
             return Some(Refusal::BelowPlaced);
         }
-        if self.projects.find(0, code).is_none() && self.projects.entries().len() >= MOST_PROJECTS {
+        if self.projects.by_code(code).is_none() && self.projects.entries().len() >= MOST_PROJECTS {
             return Some(Refusal::RollFull);
         }
         None
@@ -84,7 +84,7 @@ impl Office {
         if !is_label_text(label) {
             return Some(Refusal::Label);
         }
-        if self.students.find(0, code).is_none() && self.students.entries().len() >= MOST_STUDENTS {
+        if self.students.by_code(code).is_none() && self.students.entries().len() >= MOST_STUDENTS {
             return Some(Refusal::RollFull);
         }
         None
@@ -94,7 +94,7 @@ impl Office {
     fn is_moved(&self, code: &str, supervisor: &str) -> bool
         ensures { result ≡ is_moved self.now code.now supervisor.now }
     {
-        match self.projects.find(0, code) {
+        match self.projects.by_code(code) {
             Some(project) => supervisor != project.supervisor.as_str(),
             None => false,
         }
@@ -143,10 +143,10 @@ impl Office {
         if !self.round_is_open() {
             return Some(Refusal::NoRoundOpen);
         }
-        if self.students.find(0, student).is_none() {
+        if self.students.by_code(student).is_none() {
             return Some(Refusal::UnknownStudent);
         }
-        if self.placements.find(0, student).is_some() {
+        if self.placements.by_code(student).is_some() {
             return Some(Refusal::AlreadyPlaced);
         }
         if choices.is_empty() || choices.len() > RANKS {
@@ -161,7 +161,7 @@ impl Office {
     {
         for place in 0..choices.len() {
             let code = choices[place].as_str();
-            if self.projects.find(0, code).is_none() {
+            if self.projects.by_code(code).is_none() {
                 return Some(Refusal::UnknownProject);
             }
             if stands_in(&choices[..place], code) {
@@ -178,7 +178,7 @@ impl Office {
         if !self.round_is_open() {
             return Some(Refusal::NoRoundOpen);
         }
-        if self.students.find(0, student).is_none() {
+        if self.students.by_code(student).is_none() {
             return Some(Refusal::UnknownStudent);
         }
         if self.list_of(self.last_round(), student).is_none() {

@@ -21,7 +21,7 @@ impl Office {
     {
         let mut codes = Vec::new(self.alloc);
         for text in texts {
-            let project = self.projects.find(0, text.as_str()).unwrap();
+            let project = self.projects.by_code(text.as_str()).unwrap();
             codes.push(project.code.copy())?;
         }
         Ok(codes)
@@ -48,7 +48,7 @@ impl Office {
         let places = self.places_of(round, student.as_str());
         let changes = list_changes(self.alloc, round, student.as_str(), places, &codes)?;
         let listed = Listed {
-            student: self.students.find(0, student.as_str()).unwrap().code.copy(),
+            student: self.students.by_code(student.as_str()).unwrap().code.copy(),
             choices: Choices::new(self.alloc, codes)?,
         };
         let mut last = self.last()?;

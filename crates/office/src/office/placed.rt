@@ -20,7 +20,7 @@ impl Office {
     pub fn round_is_open(&self) -> bool
         ensures { result ≡ round_is_open self.now }
     {
-        match self.rounds.find(self.last_round(), "") {
+        match self.rounds.by_number(self.last_round()) {
             Some(round) => round.is_open,
             None => false,
         }
@@ -30,8 +30,8 @@ impl Office {
     pub fn list_of(&self, round: u32, student: &str) -> Option<&Listed>
         ensures { option_copied result ≡ list_of self.now round student.now }
     {
-        match self.rounds.find(round, "") {
-            Some(round) => round.lists.find(0, student),
+        match self.rounds.by_number(round) {
+            Some(round) => round.lists.by_code(student),
             None => None,
         }
     }

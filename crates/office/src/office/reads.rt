@@ -17,7 +17,7 @@ impl Office {
         requires allowed { plain_refusal self.now (ask.GetSupervisor code.now) ≡ None }
         ensures reply { IfOk result (λ reply. reply ≡ plain_reply (ask.GetSupervisor code.now) self.now) }
     {
-        let supervisor = self.supervisors.find(0, code).unwrap();
+        let supervisor = self.supervisors.by_code(code).unwrap();
         Ok(Reply::Supervisor {
             name: supervisor.label.copy()?,
             placed: self.placed_with_supervisor(code),
@@ -30,7 +30,7 @@ impl Office {
         requires allowed { plain_refusal self.now (ask.GetProject code.now) ≡ None }
         ensures reply { IfOk result (λ reply. reply ≡ plain_reply (ask.GetProject code.now) self.now) }
     {
-        let project = self.projects.find(0, code).unwrap();
+        let project = self.projects.by_code(code).unwrap();
         Ok(Reply::Project {
             name: project.label.copy()?,
             placed: self.placed_in_project(code),
@@ -56,7 +56,7 @@ impl Office {
     fn placement_of(&self, student: &str) -> Option<Placement>
         ensures { result ≡ placement_of self.now student.now }
     {
-        match self.placements.find(0, student) {
+        match self.placements.by_code(student) {
             Some(placement) => Some(placement.copy()),
             None => None,
         }
@@ -67,7 +67,7 @@ impl Office {
         requires allowed { plain_refusal self.now (ask.GetStudent code.now) ≡ None }
         ensures reply { IfOk result (λ reply. reply ≡ plain_reply (ask.GetStudent code.now) self.now) }
     {
-        let student = self.students.find(0, code).unwrap();
+        let student = self.students.by_code(code).unwrap();
         Ok(Reply::Student {
             name: student.label.copy()?,
             list: self.open_choices(code)?,
@@ -81,7 +81,7 @@ impl Office {
         ensures reply { result ≡ plain_reply (ask.GetRound round) self.now }
     {
         let placements = self.placements.entries();
-        let found = self.rounds.find(round, "").unwrap();
+        let found = self.rounds.by_number(round).unwrap();
         Reply::Round {
             number: round,
             is_open: found.is_open,

@@ -18,7 +18,7 @@ impl Office {
         ensures last { IfOk result (λ last. round_of self.now (last_round self.now) ≡ Some last) }
     {
         self.rounds
-            .find(self.last_round(), "")
+            .by_number(self.last_round())
             .unwrap()
             .duplicate(self.alloc)
     }

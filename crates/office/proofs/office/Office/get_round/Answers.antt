@@ -26,7 +26,7 @@ ranked-requires c =
 
 -- the round that was found
 found : (c : After-entries) → round_of (state_of c.self.inside) c.args.round ≡ Some c.unwrap-found.result.now
-found c = sym c.find.ensures ∙ ap option_copied c.unwrap-found.ensures
+found c = sym c.by_number.ensures ∙ ap option_copied c.unwrap-found.ensures
 
 pub overflow_cast-result-2 : goal.overflow_cast-result-2
 overflow_cast-result-2 c =

@@ -20,4 +20,4 @@ none_copied (Some e) h = cc
 pub returns-then-is_none : goal.returns-then-is_none
 returns-then-is_none c =
     unknown _ _ _ _ _ _ c.if-not-is_code_text.ensures c.if-not-is_code_text-2.ensures c.if-not-is_label_text.ensures (le-ltb 500 c.args.quota c.if-quota-gt-MOST_PLACES.false)
-    (ap is_some (ap (λ (o : State). supervisor_of o c.args.supervisor.now) (sym c.self.view_is) ∙ sym c.find.ensures) ∙ none_copied c.find.result c.if-is_none.ensures)
+    (ap is_some (ap (λ (o : State). supervisor_of o c.args.supervisor.now) (sym c.self.view_is) ∙ sym c.by_code.ensures) ∙ none_copied c.by_code.result c.if-is_none.ensures)

@@ -37,7 +37,7 @@ after : (c : After-drop-student-inside-2) → record (state_of c.self.inside) { 
 after c =
     let old : State = c.args.self.now in
     let last : Round = c.in_ok-last.last in
-    let found = sym c.find.ensures ∙ ap option_copied c.unwrap.ensures in
+    let found = sym c.by_code.ensures ∙ ap option_copied c.unwrap.ensures in
     let student : c.copy.result ≡ c.args.student = c.copy.ensures ∙ sym (ap (λ (k : Key). k.1) (found_key student_key (0, c.as_str-3.result.now) c.self.inside.students c.unwrap.result.now found)) ∙ c.as_str-3.ensures in
     let choices : c.in_ok-new.field-0 ≡ c.args.choices = c.in_ok-new.ensures ∙ c.in_ok-codes.ensures ∙ c.as_slice.ensures in
     let lists = c.in_ok-put.ensures.ok ∙ (λ i. put list_key (record { student = student i; choices = choices i }) last.lists) in
