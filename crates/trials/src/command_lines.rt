@@ -2,6 +2,7 @@
 
 use cli::line;
 use std::fs;
+use std::io::{self, Write};
 use std::process::Abort;
 use std::rt::HostRuntime;
 use std::test::Fail;
@@ -18,14 +19,20 @@ struct Printed {
     status: u8,
 }
 
-/// Does the line of these words, parted by spaces, over a file `round.txt` with this text.
+/// Writes a file `round.txt` with this text, and gives these words, parted by spaces.
+fn written(rt: &HostRuntime, words: &str, text: &str) -> Result<Vec<String>, Fail> {
+    fs::write(rt, "round.txt", text)?;
+    let mut list = Vec::new(rt.alloc());
+    for word in words.split(' ') {
+        list.push(String::from_str(rt.alloc(), word)?)?;
+    }
+    Ok(list)
+}
+
+/// Does the line of these words over that file.
 fn done(rt: &HostRuntime, words: &str, text: &str) -> Result<Printed, Fail> {
     let alloc = rt.alloc();
-    fs::write(rt, "round.txt", text)?;
-    let mut list = Vec::new(alloc);
-    for word in words.split(' ') {
-        list.push(String::from_str(alloc, word)?)?;
-    }
+    let list = written(rt, words, text)?;
     let mut out = Vec::new(alloc);
     let mut err = Vec::new(alloc);
     let status = line(rt, list, &mut out, &mut err);
@@ -123,29 +130,68 @@ fn a_large_file_is_refused(rt: HostRuntime) -> Result<(), Fail> {
     Ok(())
 }
 
-// The words, and whether they ask for help.
+/// What `--help` prints.
+const HELP: &str =
+    "Usage: spadesk <COMMAND>\n\nCommands:\n  solve  Prints the round of FILE with a greedy maximum matching and prices\n  check  Checks the matching and the prices of the round of FILE\n  help   Print this message or the help of the given subcommand(s)\n\nOptions:\n  -h, --help  Print help\n";
+
+/// What `check --help` prints.
+const CHECK_HELP: &str =
+    "Checks the matching and the prices of the round of FILE\n\nUsage: spadesk check <FILE>\n\nArguments:\n  <FILE>  \n\nOptions:\n  -h, --help  Print help\n";
+
+// The words, and what they print on standard output and on standard error.
 #[rattlefmt::skip]
-fn words_of_no_line() -> [(&'static str, bool); 6] {
+fn words_of_no_line() -> [(&'static str, &'static str, &'static str); 6] {
     [
-        ("spadesk --help",             true),
-        ("spadesk check --help",       true),
-        ("spadesk solve",              false),
-        ("spadesk solve a.txt b.txt",  false),
-        ("spadesk report a.txt",       false),
-        ("spadesk --port 80",          false),
+        ("spadesk --help",             HELP,        ""),
+        ("spadesk check --help",       CHECK_HELP,  ""),
+        ("spadesk solve",              "",          "error: the following required arguments were not provided:\n  <FILE>\n\nUsage: spadesk solve <FILE>\n\nFor more information, try '--help'.\n"),
+        ("spadesk solve a.txt b.txt",  "",          "error: unexpected argument 'b.txt' found\n\nUsage: spadesk solve <FILE>\n\nFor more information, try '--help'.\n"),
+        ("spadesk report a.txt",       "",          "error: unrecognized subcommand 'report'\n\nUsage: spadesk <COMMAND>\n\nFor more information, try '--help'.\n"),
+        ("spadesk --port 80",          "",          "error: unexpected argument '--port' found\n\nUsage: spadesk <COMMAND>\n\nFor more information, try '--help'.\n"),
     ]
 }
 
 #[test]
 fn help_and_faults_of_the_line_are_told_apart(rt: HostRuntime) -> Result<(), Fail> {
-    for (words, is_help) in words_of_no_line().as_slice() {
-        let printed = done(&rt, words, "")?;
-        assert_eq!(rt;
-            (printed.out.is_empty(), printed.err.is_empty()),
-            (!*is_help, *is_help),
-            "{words}"
-        );
-        assert_eq!(rt; printed.status, if *is_help { 0 } else { 2 }, "{words}");
+    for (words, out, err) in words_of_no_line().as_slice() {
+        let status = if err.is_empty() { 0 } else { 2 };
+        prints(&rt, &done(&rt, words, "")?, out, err, status);
+    }
+    Ok(())
+}
+
+/// Takes no byte.
+#[derive(Drop)]
+struct Shut;
+
+impl Write for Shut {
+    fn write(&mut self, _buf: &[u8]) -> io::Result<usize> {
+        Err(io::Error::from(io::ErrorKind::BrokenPipe))
+    }
+
+    fn flush(&mut self) -> io::Result<()> {
+        Ok(())
+    }
+}
+
+// Lines that print a result, a failed check, help, a fault of the line, a bad line and a refusal.
+#[rattlefmt::skip]
+fn printing_lines() -> [(&'static str, &'static str); 6] {
+    [
+        ("spadesk solve round.txt",   ALONE),
+        ("spadesk check round.txt",   "S,L,5\n"),
+        ("spadesk --help",            ""),
+        ("spadesk solve",             ""),
+        ("spadesk check round.txt",   "S,L,05\n"),
+        ("spadesk check no-such.txt", ""),
+    ]
+}
+
+#[test]
+fn a_text_that_cannot_be_printed_has_status_1(rt: HostRuntime) -> Result<(), Fail> {
+    for (words, text) in printing_lines().as_slice() {
+        let list = written(&rt, words, text)?;
+        assert_eq!(rt; line(&rt, list, Shut, Shut), 1, "{words}");
     }
     Ok(())
 }

@@ -9,6 +9,8 @@ mod admissions;
 #[cfg(test)]
 mod checks;
 #[cfg(test)]
+mod closings;
+#[cfg(test)]
 mod command_lines;
 #[cfg(test)]
 mod desks;

@@ -2,8 +2,9 @@
 
 use crate::offices::{Put, row};
 use crate::texts::same_text;
+use desk::Desk;
 use office::Office;
-use rolls::{Change, RowKey, Text};
+use rolls::{Change, Refusal, RowKey, Text};
 use sqlite::{Connection, MemStore};
 use std::alloc::{AllocError, Global};
 use std::process::Abort;
@@ -186,6 +187,26 @@ fn execute_all(conn: &mut Connection<MemStore>, statements: &[&'static str]) -> 
     Ok(())
 }
 
+/// A desk opens over tables exactly where the store did, and else they are damaged.
+fn open_as_desk(
+    alloc: Global,
+    rt: &impl Abort,
+    name: &str,
+    conn: Connection<MemStore>,
+    is_fit: bool,
+) -> Connection<MemStore> {
+    match Desk::open(alloc, conn) {
+        Ok(desk) => {
+            assert!(rt; is_fit, "{name}");
+            desk.into_connection()
+        }
+        Err((refusal, conn)) => {
+            assert!(rt; !is_fit && matches!(refusal, Refusal::Damaged), "{name}");
+            conn
+        }
+    }
+}
+
 /// Compares what the tables with this addition are opened as, and that no table was added or taken away.
 fn compare_opened(
     alloc: Global,
@@ -200,8 +221,9 @@ fn compare_opened(
     conn.execute_batch(before)?;
     conn.execute_batch(added)?;
     let tables = count(&mut conn, "SELECT count(*) FROM sqlite_schema")?;
-    let (answer, mut conn) = opened(alloc, conn);
+    let (answer, conn) = opened(alloc, conn);
     assert_eq!(rt; answer, *want, "{name}");
+    let mut conn = open_as_desk(alloc, rt, name, conn, want.is_ok());
     let after = count(&mut conn, "SELECT count(*) FROM sqlite_schema")?;
     assert_eq!(rt; after, tables, "{name}");
     Ok(())
