@@ -1,12 +1,16 @@
 //! Benchmarks of the desk, over a database in memory. They measure nothing themselves: count the instructions of a run.
 //!
-//! `bench N` fills the rolls to their limits and then puts a known student N times. What a put costs is the difference
-//! between two runs by the difference of their N.
+//! - `bench put N`: a known student is put N times at full rolls.
+//! - `bench list N ROUND`: a list of eight is put over a list N times, in this round, where each of 500 students has a list in
+//!   it and in every round before.
+//! - `bench close N`: a round of 500 lists of eight is closed and opened again N times, at 400 projects of quota 1.
+//!
+//! What one of them costs is the difference between two runs by the difference of their N.
 #![tactic(auto)]
 
 use desk::Desk;
-use rolls::{Plain, Request, Text};
-use spa::{MOST_PLACES, MOST_PROJECTS, MOST_STUDENTS, MOST_SUPERVISORS};
+use rolls::{Plain, Request, Text, Texts};
+use spa::{MOST_PLACES, MOST_PROJECTS, MOST_STUDENTS, MOST_SUPERVISORS, RANKS};
 use sqlite::{Connection, MemStore};
 use std::alloc::{AllocError, Global};
 use std::process::ExitCode;
@@ -29,12 +33,12 @@ fn supervisor(alloc: Global, n: usize) -> Result<Plain, AllocError> {
     })
 }
 
-fn project(alloc: Global, n: usize) -> Result<Plain, AllocError> {
+fn project(alloc: Global, n: usize, quota: u32) -> Result<Plain, AllocError> {
     Ok(Plain::PutProject {
         code: Text::of(alloc, &format!(in alloc; "P{n}")?)?,
         label: Text::of(alloc, &format!(in alloc; "Project {n}")?)?,
         supervisor: Text::of(alloc, &format!(in alloc; "L{}", n % MOST_SUPERVISORS)?)?,
-        quota: 2,
+        quota,
     })
 }
 
@@ -45,36 +49,95 @@ fn student(alloc: Global, n: usize) -> Result<Plain, AllocError> {
     })
 }
 
-/// Fills the rolls to their limits.
-fn is_filled(alloc: Global, desk: &mut Desk<MemStore>) -> bool {
+/// How far the projects of a list stand apart.
+static STEPS: [usize; RANKS] = [0, 18, 70, 156, 276, 30, 218, 40];
+
+/// The list of a student: eight projects, others than those of the next student.
+fn list(alloc: Global, n: usize) -> Result<Plain, AllocError> {
+    let mut choices = Vec::new(alloc);
+    for step in STEPS {
+        let p = n.wrapping_mul(31).wrapping_add(step) % MOST_PROJECTS;
+        choices.push(Text::of(alloc, &format!(in alloc; "P{p}")?)?)?;
+    }
+    let student = Text::of(alloc, &format!(in alloc; "S{n}")?)?;
+    Ok(Plain::PutList {
+        student,
+        choices: Texts::of(choices),
+    })
+}
+
+/// Fills the rolls to their limits, with projects of this quota.
+fn is_filled(alloc: Global, desk: &mut Desk<MemStore>, quota: u32) -> bool {
     (0..MOST_SUPERVISORS).all(|n| is_made(desk, supervisor(alloc, n)))
-        && (0..MOST_PROJECTS).all(|n| is_made(desk, project(alloc, n)))
+        && (0..MOST_PROJECTS).all(|n| is_made(desk, project(alloc, n, quota)))
         && (0..MOST_STUDENTS).all(|n| is_made(desk, student(alloc, n)))
 }
 
-/// Fills the rolls and puts a known student so many times.
-fn is_done(alloc: Global, puts: usize) -> bool {
+/// Opens the next round, in which each student puts a list.
+fn is_listed(alloc: Global, desk: &mut Desk<MemStore>) -> bool {
+    is_made(desk, Ok(Plain::OpenRound))
+        && (0..MOST_STUDENTS).all(|n| is_made(desk, list(alloc, n)))
+}
+
+/// Closes the open round.
+fn is_closed(desk: &mut Desk<MemStore>) -> bool {
+    desk.ask(Request::Close).is_ok()
+}
+
+/// Puts a known student so many times.
+fn are_put(alloc: Global, desk: &mut Desk<MemStore>, times: usize) -> bool {
+    is_filled(alloc, desk, 2) && (0..times).all(|_| is_made(desk, student(alloc, 0)))
+}
+
+/// Puts a list so many times in this round; the rounds before placed nobody.
+fn are_listed(alloc: Global, desk: &mut Desk<MemStore>, times: usize, round: usize) -> bool {
+    is_filled(alloc, desk, 0)
+        && (1..round).all(|_| is_listed(alloc, desk) && is_closed(desk))
+        && is_listed(alloc, desk)
+        && (0..times).all(|_| is_made(desk, list(alloc, 0)))
+}
+
+/// Closes a round so many times, and opens it again each time.
+fn are_closed(alloc: Global, desk: &mut Desk<MemStore>, times: usize) -> bool {
+    is_filled(alloc, desk, 1)
+        && is_listed(alloc, desk)
+        && (0..times).all(|_| is_closed(desk) && is_made(desk, Ok(Plain::ReopenRound)))
+}
+
+/// Does what the words ask for at a new desk, and tells whether all of it was done.
+fn is_done(alloc: Global, what: &str, times: usize, round: usize) -> bool {
     let Ok(connection) = Connection::open_in_memory(alloc) else {
         return false;
     };
     let Ok(mut desk) = Desk::open(alloc, connection) else {
         return false;
     };
-    is_filled(alloc, &mut desk) && (0..puts).all(|_| is_made(&mut desk, student(alloc, 0)))
+    match what {
+        "put" => are_put(alloc, &mut desk, times),
+        "list" => are_listed(alloc, &mut desk, times, round),
+        "close" => are_closed(alloc, &mut desk, times),
+        _ => false,
+    }
 }
 
-/// The number that the first argument is, or 0.
-fn given(rt: &HostRuntime) -> io::Result<usize> {
+/// The number that a word is.
+fn number(word: Option<&String>) -> Option<usize> {
+    word?.parse().ok()
+}
+
+/// Whether the words name a benchmark, and it was done.
+fn run(rt: &HostRuntime) -> io::Result<bool> {
     let words: Vec<String> = env::args(rt)?.collect(rt.alloc())?;
-    Ok(match words.get(1) {
-        Some(word) => word.parse().unwrap_or(0),
-        None => 0,
-    })
+    let (Some(what), Some(times)) = (words.get(1), number(words.get(2))) else {
+        return Ok(false);
+    };
+    let round = number(words.get(3)).unwrap_or(1);
+    Ok(is_done(rt.alloc(), what, times, round))
 }
 
 fn main(rt: HostRuntime) -> ExitCode {
-    match given(&rt) {
-        Ok(puts) if is_done(rt.alloc(), puts) => ExitCode::SUCCESS,
+    match run(&rt) {
+        Ok(true) => ExitCode::SUCCESS,
         _ => ExitCode::FAILURE,
     }
 }
