@@ -10,6 +10,7 @@
 #![tactic(auto)]
 
 mod entries;
+mod import;
 mod laws;
 mod refusal;
 mod request;
@@ -19,6 +20,7 @@ mod table;
 mod text;
 
 pub use entries::{Project, Student, Supervisor};
+pub use import::ImportKind;
 pub use laws::{rows_law, table_law};
 pub use refusal::Refusal;
 pub use request::{Done, Plain, Reply, Request};

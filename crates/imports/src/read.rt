@@ -1,0 +1,110 @@
+//! Import texts, read.
+#![tactic(auto)]
+
+ghost use Rattle.std.specs.Prelude.{◌≡◌, ◌<◌, ◌≤◌, ◌⊎◌, ◌^◌, ◌==◌, ◌%◌, length, map, IfOk, IfErr, Ok, Err, count_by};
+ghost use Rattle.std.specs.List.{position};
+ghost use Rattle.csv.specs.Records.{fields_of};
+ghost use Rattle.imports.specs.declared.fault.ImportFault.TheVariants.{Memory};
+ghost use Rattle.imports.specs.Kinds.{header_of, request_of};
+ghost use Rattle.imports.specs.Requests.{records_of, has_odd_quotes, is_header, has_other_length, requests_of};
+
+use crate::fault::ImportFault;
+use crate::kinds::{header_of, request_of};
+use csv::{ByteRecord, ReaderBuilder};
+use rolls::{ImportKind, Plain};
+use std::alloc::{AllocError, Global};
+
+/// The records of a text, its header among them.
+fn records_of(alloc: Global, bytes: &[u8]) -> Result<Vec<ByteRecord>, AllocError>
+    ensures { IfOk result (λ records. map fields_of records.items ≡ records_of bytes.now) }
+{
+    let reader = ReaderBuilder::new()
+        .has_headers(false)
+        .flexible(true)
+        .from_reader(alloc, bytes);
+    let mut records = Vec::new(alloc);
+    for record in reader.into_byte_records() {
+        // A reader of bytes fails for memory alone.
+        let Ok(record) = record else {
+            return Err(AllocError);
+        };
+        records.push(record)?;
+    }
+    Ok(records)
+}
+
+/// Whether a quote of the text has no partner.
+fn has_odd_quotes(bytes: &[u8]) -> bool
+    ensures { result ≡ has_odd_quotes bytes.now }
+{
+    bytes.iter().filter(|byte| **byte == b'"').count() % 2 == 1
+}
+
+/// Whether a record is the kind's header, field by field.
+fn is_header(kind: ImportKind, record: &ByteRecord) -> bool
+    ensures { result ≡ is_header kind (fields_of record.now) }
+{
+    let names = header_of(kind);
+    if record.len() != names.len() {
+        return false;
+    }
+    for (place, name) in names.iter().enumerate() {
+        if record.get(place) != Some(name.as_bytes()) {
+            return false;
+        }
+    }
+    true
+}
+
+/// How many records stand before the first one with another number of fields than the kind's header.
+fn first_other(kind: ImportKind, records: &[ByteRecord]) -> Option<usize>
+    ensures { result ≡ position (λ r. has_other_length kind (fields_of r)) records.now }
+{
+    let fields = header_of(kind).len();
+    records.iter().position(|record| record.len() != fields)
+}
+
+/// The requests of records.
+fn requests_of(
+    alloc: Global,
+    kind: ImportKind,
+    records: &[ByteRecord],
+) -> Result<Vec<Plain>, AllocError>
+    ensures { IfOk result (λ requests. requests.items ≡ map (λ r. request_of kind (fields_of r)) records.now) }
+{
+    let mut requests = Vec::with_capacity(alloc, records.len())?;
+    for record in records {
+        requests.push(request_of(alloc, kind, record)?)?;
+    }
+    Ok(requests)
+}
+
+/// Reads an import text: a request for each record after the header, in their order. The text is shorter than 4 GiB, so that
+/// each record has its number.
+pub fn read_import(
+    alloc: Global,
+    kind: ImportKind,
+    bytes: &[u8],
+) -> Result<Vec<Plain>, ImportFault>
+    requires numbered { length bytes.now < 2 ^ 32 }
+    ensures read { IfOk result (λ requests. requests_of kind bytes.now ≡ Ok requests.items) }
+    ensures few { IfOk result (λ requests. length requests.items ≤ length bytes.now) }
+
+    // A fault of the definition comes unless memory is refused first.
+    ensures fault { IfErr result (λ fault. (fault ≡ Memory) ⊎ (requests_of kind bytes.now ≡ Err fault)) }
+{
+    if has_odd_quotes(bytes) {
+        return Err(ImportFault::Header);
+    }
+    let records = records_of(alloc, bytes)?;
+    let Some((first, rest)) = records.as_slice().split_first() else {
+        return Err(ImportFault::Header);
+    };
+    if !is_header(kind, first) {
+        return Err(ImportFault::Header);
+    }
+    if let Some(before) = first_other(kind, rest) {
+        return Err(ImportFault::Fields(before as u32 + 1));
+    }
+    Ok(requests_of(alloc, kind, rest)?)
+}
