@@ -1,1 +1,4 @@
 mod Records
+mod Standing
+mod Alike
+mod Requested

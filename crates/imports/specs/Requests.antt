@@ -1,6 +1,7 @@
 -- The requests of an import text.
-use Rattle.std.specs.Prelude.{ℕ, ◌+◌, ◌%◌, ◌==◌, not, Bool, List, [], ◌∷◌, length, map, count_by, Option, Some, None, Result, Ok, Err, if◌then◌else◌}
+use Rattle.std.specs.Prelude.{ℕ, ◌+◌, ◌%◌, ◌==◌, not, Bool, List, [], ◌∷◌, length, map, count_by, Result, Ok, Err, if◌then◌else◌}
 use Rattle.std.specs.List.{position}
+use Rattle.std.specs.Option.{option_map_or}
 use Rattle.std.specs.Str.{bytes_eq}
 use Rattle.std.specs.Cmp.Lexicographic.{pointwise}
 use Rattle.csv.specs.Reading.{records, default_config, strip_bom}
@@ -27,15 +28,14 @@ abbrev pub has_other_length : ImportKind → List (List ℕ) → Bool
 has_other_length kind fields = not (length fields == length (header_of kind))
 
 -- the requests of the records after the header, or the first of them with another number of fields, counted from 1
-abbrev pub requests_after : ImportKind → List (List (List ℕ)) → Option ℕ → Result (List Plain) ImportFault
-requests_after kind rest (Some before) = Err (Fields (before + 1))
-requests_after kind rest None = Ok (map (request_of kind) rest)
+abbrev pub requests_after : ImportKind → List (List (List ℕ)) → Result (List Plain) ImportFault
+requests_after kind rest = option_map_or (λ before. Err (Fields (before + 1))) (position (has_other_length kind) rest) (Ok (map (request_of kind) rest))
 
 -- the requests of records, of which the first has to be the kind's header
 abbrev pub requests_of_records : ImportKind → List (List (List ℕ)) → Result (List Plain) ImportFault
 requests_of_records kind [] = Err Header
-requests_of_records kind (first ∷ rest) = if is_header kind first then requests_after kind rest (position (has_other_length kind) rest) else Err Header
+requests_of_records kind (first ∷ rest) = if is_header kind first then requests_after kind rest else Err Header
 
--- the requests of a text: the quotes are counted before any record is looked at
+-- the requests of a text; a quote without a partner is refused before any record is looked at
 abbrev pub requests_of : ImportKind → List ℕ → Result (List Plain) ImportFault
 requests_of kind bytes = if has_odd_quotes bytes then Err Header else requests_of_records kind (records_of bytes)

@@ -1,7 +1,8 @@
 //! What the fields of a record stand for.
 #![tactic(auto)]
 
-ghost use Rattle.std.specs.Prelude.{◌≡◌, IfOk, true};
+ghost use Rattle.std.specs.Prelude.{◌≡◌, ◌==◌, IfOk, true};
+ghost use Rattle.std.specs.List.{slice_split};
 ghost use Rattle.imports.specs.Fields.{text_of, is_quota, number_of, quota_of, choices_of};
 
 use rolls::{Text, Texts};
@@ -18,7 +19,10 @@ const MOST_DIGITS: usize = 3;
 fn readable(field: &[u8]) -> &str
     ensures { result.now ≡ text_of field.now }
 {
-    str::from_utf8(field).unwrap_or("")
+    match str::from_utf8(field) {
+        Ok(text) => text,
+        Err(_) => "",
+    }
 }
 
 /// A field as a text of its own.
@@ -32,7 +36,9 @@ pub(crate) fn text_of(alloc: Global, field: &[u8]) -> Result<Text, AllocError>
 fn is_quota(field: &[u8]) -> bool
     ensures { result ≡ is_quota field.now }
 {
-    !field.is_empty() && field.len() <= MOST_DIGITS && field.iter().all(|byte| byte.is_ascii_digit())
+    !field.is_empty()
+        && field.len() <= MOST_DIGITS
+        && field.iter().all(|byte| byte.is_ascii_digit())
 }
 
 /// The number that 1 to 3 digits write.
@@ -58,16 +64,24 @@ pub(crate) fn quota_of(field: &[u8]) -> u32
     }
 }
 
-/// The codes that a field lists.
+/// The codes between the spaces of a text.
+fn codes_of(alloc: Global, list: &str) -> Result<Vec<Text>, AllocError>
+    ensures { IfOk result (λ codes. codes.items ≡ slice_split (λ b. b == 32) list.now) }
+{
+    let mut codes = Vec::new(alloc);
+    for code in list.split(' ') {
+        codes.push(Text::of(alloc, code)?)?;
+    }
+    Ok(codes)
+}
+
+/// The codes that a field lists. The empty text lists none.
 pub(crate) fn choices_of(alloc: Global, field: &[u8]) -> Result<Texts, AllocError>
     ensures { IfOk result (λ choices. choices ≡ choices_of (text_of field.now)) }
 {
     let list = readable(field);
-    let mut choices = Vec::new(alloc);
-    if !list.is_empty() {
-        for code in list.split(' ') {
-            choices.push(Text::of(alloc, code)?)?;
-        }
+    if list.is_empty() {
+        return Ok(Texts::of(Vec::new(alloc)));
     }
-    Ok(Texts::of(choices))
+    Ok(Texts::of(codes_of(alloc, list)?))
 }

@@ -23,7 +23,7 @@ pub(crate) fn header_of(kind: ImportKind) -> &'static [&'static str]
 }
 
 /// A field of a record; one that is not there is empty.
-fn field(record: &ByteRecord, place: usize) -> &[u8]
+pub(crate) fn field(record: &ByteRecord, place: usize) -> &[u8]
     ensures { result.now ≡ field (fields_of record.now) place }
 {
     record.get(place).unwrap_or(b"")

@@ -3,13 +3,15 @@
 
 ghost use Rattle.std.specs.Prelude.{◌≡◌, ◌<◌, ◌≤◌, ◌⊎◌, ◌^◌, ◌==◌, ◌%◌, length, map, IfOk, IfErr, Ok, Err, count_by};
 ghost use Rattle.std.specs.List.{position};
+ghost use Rattle.std.specs.Str.{bytes_eq};
+ghost use Rattle.std.specs.Cmp.Lexicographic.{pointwise};
 ghost use Rattle.csv.specs.Records.{fields_of};
 ghost use Rattle.imports.specs.declared.fault.ImportFault.TheVariants.{Memory};
 ghost use Rattle.imports.specs.Kinds.{header_of, request_of};
-ghost use Rattle.imports.specs.Requests.{records_of, has_odd_quotes, is_header, has_other_length, requests_of};
+ghost use Rattle.imports.specs.Requests.{records_of, has_odd_quotes, is_header, has_other_length, requests_after, requests_of};
 
 use crate::fault::ImportFault;
-use crate::kinds::{header_of, request_of};
+use crate::kinds::{field, header_of, request_of};
 use csv::{ByteRecord, ReaderBuilder};
 use rolls::{ImportKind, Plain};
 use std::alloc::{AllocError, Global};
@@ -40,20 +42,26 @@ fn has_odd_quotes(bytes: &[u8]) -> bool
     bytes.iter().filter(|byte| **byte == b'"').count() % 2 == 1
 }
 
-/// Whether a record is the kind's header, field by field.
-fn is_header(kind: ImportKind, record: &ByteRecord) -> bool
-    ensures { result ≡ is_header kind (fields_of record.now) }
+/// Whether a record has these fields and no other.
+fn has_fields(record: &ByteRecord, names: &[&str]) -> bool
+    ensures { result ≡ pointwise bytes_eq (fields_of record.now) (map (λ name. name.now) names.now) }
 {
-    let names = header_of(kind);
     if record.len() != names.len() {
         return false;
     }
     for (place, name) in names.iter().enumerate() {
-        if record.get(place) != Some(name.as_bytes()) {
+        if field(record, place) != name.as_bytes() {
             return false;
         }
     }
     true
+}
+
+/// Whether a record is the kind's header, field by field.
+fn is_header(kind: ImportKind, record: &ByteRecord) -> bool
+    ensures { result ≡ is_header kind (fields_of record.now) }
+{
+    has_fields(record, header_of(kind))
 }
 
 /// How many records stand before the first one with another number of fields than the kind's header.
@@ -79,13 +87,25 @@ fn requests_of(
     Ok(requests)
 }
 
-/// Reads an import text: a request for each record after the header, in their order. The text is shorter than 4 GiB, so that
-/// each record has its number.
-pub fn read_import(
+/// The requests of the records after the header, or the first of them with another number of fields.
+fn requests_after(
     alloc: Global,
     kind: ImportKind,
-    bytes: &[u8],
+    rest: &[ByteRecord],
 ) -> Result<Vec<Plain>, ImportFault>
+    requires numbered { length rest.now < 2 ^ 32 }
+    ensures read { IfOk result (λ requests. requests_after kind (map fields_of rest.now) ≡ Ok requests.items) }
+    ensures fault { IfErr result (λ fault. (fault ≡ Memory) ⊎ (requests_after kind (map fields_of rest.now) ≡ Err fault)) }
+{
+    match first_other(kind, rest) {
+        Some(before) => Err(ImportFault::Fields(before as u32 + 1)),
+        None => Ok(requests_of(alloc, kind, rest)?),
+    }
+}
+
+/// Reads an import text: a request for each record after the header, in their order. The text is shorter than 4 GiB, so that
+/// each record has its number.
+pub fn read_import(alloc: Global, kind: ImportKind, bytes: &[u8]) -> Result<Vec<Plain>, ImportFault>
     requires numbered { length bytes.now < 2 ^ 32 }
     ensures read { IfOk result (λ requests. requests_of kind bytes.now ≡ Ok requests.items) }
     ensures few { IfOk result (λ requests. length requests.items ≤ length bytes.now) }
@@ -103,8 +123,5 @@ pub fn read_import(
     if !is_header(kind, first) {
         return Err(ImportFault::Header);
     }
-    if let Some(before) = first_other(kind, rest) {
-        return Err(ImportFault::Fields(before as u32 + 1));
-    }
-    Ok(requests_of(alloc, kind, rest)?)
+    requests_after(alloc, kind, rest)
 }

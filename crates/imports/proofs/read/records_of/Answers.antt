@@ -32,7 +32,7 @@ loop-record-preserved c =
     let inv = c.loop-record.invariant in
     let s = rw (c.in-Some.is, c.in-Ok.is) at ((c.next.ensures.steps inv.turns inv.plain).0 inv.ready) in
     let m = rows-more (λ (s : Bor (List ℕ)). Some s.now) c.loop-record.record-iterator.rdr c.next.new.self.rdr (fields_of c.in-Ok.record) default_config st.StartRecord (strip_bom c.args.bytes.now) inv.left
-        (map fields_of c.loop-record.records.items) inv.config inv.source inv.reached s.0 in
+    (map fields_of c.loop-record.records.items) inv.config inv.source inv.reached s.0 in
     record {
       plain = s.0.3 ∙ inv.plain;
       ready = inl s.1;

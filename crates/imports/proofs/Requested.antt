@@ -1,0 +1,61 @@
+-- What is asked after the header was read.
+use Rattle.std.proofs.Common.{◌≡◌, ◌<◌, ◌≤◌, ◌+◌, ℕ, Bool, true, false, cond, List, [], ◌∷◌, length, map, not, nat_lt, Option, Some, None, Ok, Err, refl, ap, arith}
+use Rattle.std.specs.List.{position, position_or_len, prefix_len}
+use Rattle.std.specs.Option.{option_map_or}
+use Rattle.std.proofs.lemmas.Bool.Decides.{nat_tests}
+use Rattle.std.proofs.lemmas.List.{length-map}
+use Rattle.std.proofs.lemmas.Simd.{map-map}
+use Rattle.csv.specs.Records.{Row, fields_of}
+use Rattle.rolls.specs.declared.import.ImportKind.{ImportKind}
+use Rattle.imports.proofs.Records.{few_records}
+use Rattle.imports.specs.Requests.{records_of, has_odd_quotes, is_header, has_other_length, requests_after, requests_of}
+use Rattle.imports.specs.Kinds.{request_of}
+use Rattle.imports.specs.declared.fault.ImportFault.TheVariants.{Fields}
+use Rattle.rolls.specs.declared.request.Plain.{Plain}
+
+found_within : (k n i : ℕ) → cond (nat_lt k n) (Some k) None ≡ Some i → i < n
+found_within k n i e = grind (arith, nat_tests)
+
+-- the place of the first item that passes is one of the list
+pub position_within : {X : Type 0} (p : X → Bool) (xs : List X) (i : ℕ) → position p xs ≡ Some i → i < length xs
+position_within p xs i e = found_within (position_or_len p xs) (length xs) i e
+
+prefix_map : {X Y : Type 0} (p : Y → Bool) (f : X → Y) (xs : List X) → prefix_len p (map f xs) ≡ prefix_len (λ x. p (f x)) xs
+prefix_map p f [] = refl
+prefix_map p f (x ∷ xs) = rw (prefix_map p f xs) refl
+
+-- a test of what f makes of the items
+pub position_map : {X Y : Type 0} (p : Y → Bool) (f : X → Y) (xs : List X) → position p (map f xs) ≡ position (λ x. p (f x)) xs
+position_map p f xs = rw (prefix_map (λ y. not (p y)) f xs, length-map xs f) refl
+
+-- fewer records than bytes come after the header
+pub few_after : (bytes : List ℕ) (first : Row) (rest : List Row) → map fields_of (first ∷ rest) ≡ records_of bytes → length rest < length bytes
+few_after bytes first rest records =
+    let few = few_records bytes in
+    let count : length (map fields_of (first ∷ rest)) ≡ length (records_of bytes) = ap length records in
+    omega (arith, length-map rest fields_of)
+
+-- where a record of another length is found, it is the fault
+pub other_found : (kind : ImportKind) (rest : List Row) (before : ℕ) → Some before ≡ position (λ r. has_other_length kind (fields_of r)) rest → requests_after kind (map fields_of rest) ≡ Err (Fields (before + 1))
+other_found kind rest before found = rw (position_map (has_other_length kind) fields_of rest, ← found) refl
+
+-- where none is found, each record has its request
+pub none_found : (kind : ImportKind) (rest : List Row) → None ≡ position (λ r. has_other_length kind (fields_of r)) rest → requests_after kind (map fields_of rest) ≡ Ok (map (λ r. request_of kind (fields_of r)) rest)
+none_found kind rest found = rw (position_map (has_other_length kind) fields_of rest, ← found) (ap Ok (map-map (request_of kind) fields_of rest))
+
+-- after the header, the records that are left decide
+pub after_header : (kind : ImportKind) (bytes : List ℕ) (first : Row) (rest : List Row) → has_odd_quotes bytes ≡ false → map fields_of (first ∷ rest) ≡ records_of bytes → is_header kind (fields_of first) ≡ true
+    → requests_of kind bytes ≡ requests_after kind (map fields_of rest)
+after_header kind bytes first rest even records header = rw (even, ← records, header) refl
+
+-- an import has fewer requests than bytes
+pub few_requests : (kind : ImportKind) (bytes : List ℕ) (first : Row) (rest : List Row) (requests : List Plain) → map fields_of (first ∷ rest) ≡ records_of bytes
+    → requests_after kind (map fields_of rest) ≡ Ok requests → length requests ≤ length bytes
+few_requests kind bytes first rest requests records read = by (position (has_other_length kind) (map fields_of rest)) read
+  where
+    by : (o : Option ℕ) → option_map_or (λ before. Err (Fields (before + 1))) o (Ok (map (request_of kind) (map fields_of rest))) ≡ Ok requests → length requests ≤ length bytes
+    by None e =
+        let same : map (request_of kind) (map fields_of rest) ≡ requests = cc in
+        let few = few_after bytes first rest records in
+        omega (arith, ap length same, length-map (map fields_of rest) (request_of kind), length-map rest fields_of)
+    by (Some before) e = cc
