@@ -28,12 +28,12 @@ prefix_map p f (x ∷ xs) = rw (prefix_map p f xs) refl
 pub position_map : {X Y : Type 0} (p : Y → Bool) (f : X → Y) (xs : List X) → position p (map f xs) ≡ position (λ x. p (f x)) xs
 position_map p f xs = rw (prefix_map (λ y. not (p y)) f xs, length-map xs f) refl
 
--- fewer records than bytes come after the header
-pub few_after : (bytes : List ℕ) (first : Row) (rest : List Row) → map fields_of (first ∷ rest) ≡ records_of bytes → length rest < length bytes
-few_after bytes first rest records =
+-- a text of which these records were read has as many bytes at least
+pub few_read : (bytes : List ℕ) (rows : List Row) → map fields_of rows ≡ records_of bytes → length rows ≤ length bytes
+few_read bytes rows read =
     let few = few_records bytes in
-    let count : length (map fields_of (first ∷ rest)) ≡ length (records_of bytes) = ap length records in
-    omega (arith, length-map rest fields_of)
+    let count : length (map fields_of rows) ≡ length (records_of bytes) = ap length read in
+    omega (arith, length-map rows fields_of)
 
 -- where a record of another length is found, it is the fault
 pub other_found : (kind : ImportKind) (rest : List Row) (before : ℕ) → Some before ≡ position (λ r. has_other_length kind (fields_of r)) rest → requests_after kind (map fields_of rest) ≡ Err (Fields (before + 1))
@@ -48,14 +48,12 @@ pub after_header : (kind : ImportKind) (bytes : List ℕ) (first : Row) (rest : 
     → requests_of kind bytes ≡ requests_after kind (map fields_of rest)
 after_header kind bytes first rest even records header = rw (even, ← records, header) refl
 
--- an import has fewer requests than bytes
-pub few_requests : (kind : ImportKind) (bytes : List ℕ) (first : Row) (rest : List Row) (requests : List Plain) → map fields_of (first ∷ rest) ≡ records_of bytes
-    → requests_after kind (map fields_of rest) ≡ Ok requests → length requests ≤ length bytes
-few_requests kind bytes first rest requests records read = by (position (has_other_length kind) (map fields_of rest)) read
+-- there are as many requests as records after the header
+pub as_many_requests : (kind : ImportKind) (rest : List Row) (requests : List Plain) → requests_after kind (map fields_of rest) ≡ Ok requests → length requests ≡ length rest
+as_many_requests kind rest requests read = by (position (has_other_length kind) (map fields_of rest)) read
   where
-    by : (o : Option ℕ) → option_map_or (λ before. Err (Fields (before + 1))) o (Ok (map (request_of kind) (map fields_of rest))) ≡ Ok requests → length requests ≤ length bytes
+    by : (o : Option ℕ) → option_map_or (λ before. Err (Fields (before + 1))) o (Ok (map (request_of kind) (map fields_of rest))) ≡ Ok requests → length requests ≡ length rest
     by None e =
         let same : map (request_of kind) (map fields_of rest) ≡ requests = cc in
-        let few = few_after bytes first rest records in
         omega (arith, ap length same, length-map (map fields_of rest) (request_of kind), length-map rest fields_of)
     by (Some before) e = cc
