@@ -23,39 +23,39 @@ pub(crate) fn header_of(kind: ImportKind) -> &'static [&'static str]
 }
 
 /// A field of a record; one that is not there is empty.
-pub(crate) fn field(record: &ByteRecord, place: usize) -> &[u8]
-    ensures { result.now ≡ field (fields_of record.now) place }
+pub(crate) fn field(fields: &ByteRecord, place: usize) -> &[u8]
+    ensures { result.now ≡ field (fields_of fields.now) place }
 {
-    record.get(place).unwrap_or(b"")
+    fields.get(place).unwrap_or(b"")
 }
 
 /// The request of a record.
 pub(crate) fn request_of(
     alloc: Global,
     kind: ImportKind,
-    record: &ByteRecord,
+    fields: &ByteRecord,
 ) -> Result<Plain, AllocError>
-    ensures { IfOk result (λ request. request ≡ request_of kind (fields_of record.now)) }
+    ensures { IfOk result (λ request. request ≡ request_of kind (fields_of fields.now)) }
 {
     Ok(match kind {
         ImportKind::Supervisors => Plain::PutSupervisor {
-            code: text_of(alloc, field(record, 0))?,
-            label: text_of(alloc, field(record, 1))?,
-            quota: quota_of(field(record, 2)),
+            code: text_of(alloc, field(fields, 0))?,
+            label: text_of(alloc, field(fields, 1))?,
+            quota: quota_of(field(fields, 2)),
         },
         ImportKind::Projects => Plain::PutProject {
-            code: text_of(alloc, field(record, 0))?,
-            label: text_of(alloc, field(record, 1))?,
-            supervisor: text_of(alloc, field(record, 2))?,
-            quota: quota_of(field(record, 3)),
+            code: text_of(alloc, field(fields, 0))?,
+            label: text_of(alloc, field(fields, 1))?,
+            supervisor: text_of(alloc, field(fields, 2))?,
+            quota: quota_of(field(fields, 3)),
         },
         ImportKind::Students => Plain::PutStudent {
-            code: text_of(alloc, field(record, 0))?,
-            label: text_of(alloc, field(record, 1))?,
+            code: text_of(alloc, field(fields, 0))?,
+            label: text_of(alloc, field(fields, 1))?,
         },
         ImportKind::Lists => Plain::PutList {
-            student: text_of(alloc, field(record, 0))?,
-            choices: choices_of(alloc, field(record, 1))?,
+            student: text_of(alloc, field(fields, 0))?,
+            choices: choices_of(alloc, field(fields, 1))?,
         },
     })
 }

@@ -43,14 +43,14 @@ fn has_odd_quotes(bytes: &[u8]) -> bool
 }
 
 /// Whether a record has these fields and no other.
-fn has_fields(record: &ByteRecord, names: &[&str]) -> bool
-    ensures { result ≡ pointwise bytes_eq (fields_of record.now) (map (λ name. name.now) names.now) }
+fn has_fields(fields: &ByteRecord, names: &[&str]) -> bool
+    ensures { result ≡ pointwise bytes_eq (fields_of fields.now) (map (λ name. name.now) names.now) }
 {
-    if record.len() != names.len() {
+    if fields.len() != names.len() {
         return false;
     }
     for (place, name) in names.iter().enumerate() {
-        if field(record, place) != name.as_bytes() {
+        if field(fields, place) != name.as_bytes() {
             return false;
         }
     }
@@ -58,10 +58,10 @@ fn has_fields(record: &ByteRecord, names: &[&str]) -> bool
 }
 
 /// Whether a record is the kind's header, field by field.
-fn is_header(kind: ImportKind, record: &ByteRecord) -> bool
-    ensures { result ≡ is_header kind (fields_of record.now) }
+fn is_header(kind: ImportKind, fields: &ByteRecord) -> bool
+    ensures { result ≡ is_header kind (fields_of fields.now) }
 {
-    has_fields(record, header_of(kind))
+    has_fields(fields, header_of(kind))
 }
 
 /// How many records stand before the first one with another number of fields than the kind's header.

@@ -19,6 +19,8 @@ mod disks;
 #[cfg(test)]
 mod exchanges;
 #[cfg(test)]
+mod import_texts;
+#[cfg(test)]
 mod instances;
 #[cfg(test)]
 mod offices;
