@@ -17,13 +17,16 @@ use Rattle.imports.specs.Requests.{records_of}
 abbrev EndsBetween : State × Action → Type 0
 EndsBetween q = is_end q.1 ≡ true → ends_at_end q.0 ≡ false
 
+-- an action that ends no record
 goes_on : (s : State) (a : Action) → is_end a ≡ false → EndsBetween (s, a)
 goes_on s a n e = cc
 
+-- of two steps, whichever is taken
 either : (b : Bool) (p q : State × Action) → EndsBetween p → EndsBetween q → EndsBetween (cond b p q)
 either true p q f g = f
 either false p q f g = g
 
+-- the byte after which the record ended is a CR or an LF
 after_end_between : (c : ℕ) → ends_at_end (after_end term.CRLF c) ≡ false
 after_end_between c = by (c == 13)
   where
@@ -31,6 +34,7 @@ after_end_between c = by (c == 13)
     by true = refl
     by false = refl
 
+-- a byte of a field, of its start, and of a record's start
 in_field_between : (c : ℕ) → EndsBetween (in_field default_config c)
 in_field_between c = either (c == 44) _ _ (goes_on st.StartField act.EndField refl) (either ((c == 13) || (c == 10)) _ _ (λ e. after_end_between c) (goes_on st.InField act.Copy refl))
 
@@ -40,6 +44,7 @@ start_field_between c = either (c == 34) _ _ (goes_on st.InQuoted act.Skip refl)
 start_record_between : (c : ℕ) → EndsBetween (start_record default_config c)
 start_record_between c = either ((c == 13) || (c == 10)) _ _ (goes_on st.StartRecord act.Skip refl) (start_field_between c)
 
+-- a byte in any state
 step_between : (s : State) (c : ℕ) → EndsBetween (step default_config s c)
 step_between st.StartRecord c = start_record_between c
 step_between st.StartField c = start_field_between c
@@ -55,6 +60,7 @@ record Leaves (xs : List ℕ) (r : Read) : Type 0 where
   pub between : ends_at_end r.1 ≡ false
   pub fewer : length r.2 ≤ length xs - 1
 
+-- a read that gives a record
 read_leaves : (s : State) (fields : List (List ℕ)) (field xs : List ℕ) (r : Read) → next_record default_config s fields field xs ≡ Some r → Leaves xs r
 unfolding next_record
 read_leaves s fields field [] r e = by (ends_at_end s) e
@@ -79,6 +85,7 @@ none_at_end : (s : State) → ends_at_end s ≡ false → next_record default_co
 unfolding next_record
 none_at_end s h = rw h refl
 
+-- a read that begins between two records takes a byte
 read_takes_a_byte : (s : State) (xs : List ℕ) (r : Read) → ends_at_end s ≡ false → next_record default_config s [] [] xs ≡ Some r → length r.2 < length xs
 read_takes_a_byte s [] r h e = let none = none_at_end s h in cc
 read_takes_a_byte s (x ∷ xs) r h e = let fewer = (read_leaves s [] [] (x ∷ xs) r e).fewer in omega arith
@@ -99,6 +106,7 @@ from_reached (suc n) s s2 xs ys (row ∷ rows) h l reached end =
 pub records_read : (bytes : List ℕ) (rows : List (List (List ℕ))) → AreRecords default_config st.StartRecord (strip_bom bytes) rows → rows ≡ records_of bytes
 records_read bytes rows are = sym (from_reached _ st.StartRecord are.0 (strip_bom bytes) are.1 rows refl (omega arith) are.2 are.3)
 
+-- whatever the number of turns, there are no more records than bytes
 few_from : (n : ℕ) (s : State) (xs : List ℕ) → ends_at_end s ≡ false → length (records_from default_config n s xs) ≤ length xs
 unfolding records_from
 few_from zero s xs h = omega arith
@@ -113,6 +121,7 @@ few_from (suc n) s xs h = by (next_record default_config s [] [] xs) refl (λ r 
         let few = later r (read_leaves s [] [] xs r e).between in
         omega arith
 
+-- without its mark a text is no longer
 few_stripped : (bytes : List ℕ) → length (strip_bom bytes) ≤ length bytes
 unfolding strip_bom
 few_stripped [] = omega arith

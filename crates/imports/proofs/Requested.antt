@@ -1,25 +1,18 @@
--- What is asked after the header was read.
-use Rattle.std.proofs.Common.{◌≡◌, ◌<◌, ◌≤◌, ◌+◌, ℕ, Bool, true, false, cond, List, [], ◌∷◌, length, map, not, nat_lt, Option, Some, None, Ok, Err, refl, ap, arith}
-use Rattle.std.specs.List.{position, position_or_len, prefix_len}
+-- What the records after the header stand for.
+use Rattle.std.proofs.Common.{◌≡◌, ◌≤◌, ◌+◌, ℕ, Bool, List, [], ◌∷◌, length, map, not, Option, Some, None, Ok, Err, refl, ap, arith}
+use Rattle.std.specs.List.{position, prefix_len}
 use Rattle.std.specs.Option.{option_map_or}
-use Rattle.std.proofs.lemmas.Bool.Decides.{nat_tests}
 use Rattle.std.proofs.lemmas.List.{length-map}
 use Rattle.std.proofs.lemmas.Simd.{map-map}
 use Rattle.csv.specs.Records.{Row, fields_of}
 use Rattle.rolls.specs.declared.import.ImportKind.{ImportKind}
 use Rattle.imports.proofs.Records.{few_records}
-use Rattle.imports.specs.Requests.{records_of, has_odd_quotes, is_header, has_other_length, requests_after, requests_of}
+use Rattle.imports.specs.Requests.{records_of, has_other_length, requests_after}
 use Rattle.imports.specs.Kinds.{request_of}
 use Rattle.imports.specs.declared.fault.ImportFault.TheVariants.{Fields}
 use Rattle.rolls.specs.declared.request.Plain.{Plain}
 
-found_within : (k n i : ℕ) → cond (nat_lt k n) (Some k) None ≡ Some i → i < n
-found_within k n i e = grind (arith, nat_tests)
-
--- the place of the first item that passes is one of the list
-pub position_within : {X : Type 0} (p : X → Bool) (xs : List X) (i : ℕ) → position p xs ≡ Some i → i < length xs
-position_within p xs i e = found_within (position_or_len p xs) (length xs) i e
-
+-- how many items at the front pass a test of what f makes of them
 prefix_map : {X Y : Type 0} (p : Y → Bool) (f : X → Y) (xs : List X) → prefix_len p (map f xs) ≡ prefix_len (λ x. p (f x)) xs
 prefix_map p f [] = refl
 prefix_map p f (x ∷ xs) = rw (prefix_map p f xs) refl
@@ -42,11 +35,6 @@ other_found kind rest before found = rw (position_map (has_other_length kind) fi
 -- where none is found, each record has its request
 pub none_found : (kind : ImportKind) (rest : List Row) → None ≡ position (λ r. has_other_length kind (fields_of r)) rest → requests_after kind (map fields_of rest) ≡ Ok (map (λ r. request_of kind (fields_of r)) rest)
 none_found kind rest found = rw (position_map (has_other_length kind) fields_of rest, ← found) (ap Ok (map-map (request_of kind) fields_of rest))
-
--- after the header, the records that are left decide
-pub after_header : (kind : ImportKind) (bytes : List ℕ) (first : Row) (rest : List Row) → has_odd_quotes bytes ≡ false → map fields_of (first ∷ rest) ≡ records_of bytes → is_header kind (fields_of first) ≡ true
-    → requests_of kind bytes ≡ requests_after kind (map fields_of rest)
-after_header kind bytes first rest even records header = rw (even, ← records, header) refl
 
 -- there are as many requests as records after the header
 pub as_many_requests : (kind : ImportKind) (rest : List Row) (requests : List Plain) → requests_after kind (map fields_of rest) ≡ Ok requests → length requests ≡ length rest

@@ -11,11 +11,12 @@ use Rattle.imports.specs.declared.fault.ImportFault.{ImportFault}
 use Rattle.imports.specs.declared.fault.ImportFault.TheVariants.{Header, Fields}
 use Rattle.imports.specs.Kinds.{header_of, request_of}
 
--- the records that `csv` reads, with commas between fields, after one byte order mark at most; the header is one of them
+-- the records that `csv` reads: commas between fields, nothing trimmed, any number of fields, and one byte order mark at the
+-- front passed over; the header is the first of them
 abbrev pub records_of : List ℕ → List (List (List ℕ))
 records_of bytes = records default_config (strip_bom bytes)
 
--- a quote has no partner
+-- an odd number of bytes are quotes, so one has no partner
 abbrev pub has_odd_quotes : List ℕ → Bool
 has_odd_quotes bytes = count_by (λ b. b == 34) bytes % 2 == 1
 
@@ -37,5 +38,5 @@ requests_of_records kind [] = Err Header
 requests_of_records kind (first ∷ rest) = if is_header kind first then requests_after kind rest else Err Header
 
 -- the requests of a text; a quote without a partner is refused before any record is looked at
-abbrev pub requests_of : ImportKind → List ℕ → Result (List Plain) ImportFault
+unfoldable pub requests_of : ImportKind → List ℕ → Result (List Plain) ImportFault
 requests_of kind bytes = if has_odd_quotes bytes then Err Header else requests_of_records kind (records_of bytes)

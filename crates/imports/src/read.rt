@@ -105,6 +105,7 @@ fn requests_after(
 
 /// Reads an import text: a request for each record after the header, in their order. The text is shorter than 4 GiB, so that
 /// each record has its number.
+#[tactic(auto, unfolding(crate::specs::Requests::requests_of))]
 pub fn read_import(alloc: Global, kind: ImportKind, bytes: &[u8]) -> Result<Vec<Plain>, ImportFault>
     requires numbered { length bytes.now < 2 ^ 32 }
     ensures read { IfOk result (λ requests. requests_of kind bytes.now ≡ Ok requests.items) }
