@@ -11,7 +11,7 @@ ghost use Rattle.rolls.specs.Refusing.{plain_refusal, refusal};
 ghost use Rattle.rolls.specs.Run.{Makes, Step, Run};
 ghost use Rattle.allotment.specs.Layers.{layers};
 ghost use Rattle.store.specs.Tables.{Opens, Founds, HasNone, LeavesAlone};
-ghost use Rattle.store.specs.Reading.{IsDamaged};
+ghost use Rattle.store.specs.Reading.{AreListed, IsDamaged};
 ghost use Rattle.desk.specs.Keeping.{Keeps, Leads, needs_no_table};
 
 use office::Office;
@@ -82,6 +82,10 @@ impl<S: Alter> Desk<S> {
         ensures damaged { IfErr result (λ e. HasCleanDisk (state S.Store e.1) → e.0 ≡ Refusal.Damaged → IsDamaged (state S.Store connection).now × (HasNone (state S.Store connection).now.schema → ⊥)) }
         ensures refused { IfErr result (λ e. (e.0 ≡ Refusal.Memory) ⊎ ((e.0 ≡ Refusal.Storage) ⊎ (e.0 ≡ Refusal.Damaged))) }
         ensures kept { IfErr result (λ e. HasCleanDisk (state S.Store e.1) → IsKept (state S.Store connection) (state S.Store e.1)) }
+        ensures given_back { IfErr result (λ e. let back = e.1 in connection.in_transaction ≡ false → back.in_transaction ≡ false) }
+
+        // Tables that are there and are not listed as they are made here are damaged.
+        ensures unlisted { connection.in_transaction ≡ false → (HasNone (state S.Store connection).now.schema → ⊥) → (AreListed (state S.Store connection).now.schema → ⊥) → IsErr result × IfErr result (λ e. e.0 ≡ Refusal.Damaged) }
 
         // What a crash leaves: what it could leave before, or tables of the empty office where none was there.
         ensures crash_ok { IfOk result (λ desk. Survives (state S.Store connection) (state S.Store desk.store) (IsLeft Founds (state S.Store connection).now)) }

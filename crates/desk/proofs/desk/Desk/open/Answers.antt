@@ -26,3 +26,6 @@ pub returns-in-Err-clause-damaged : goal.returns-in-Err-clause-damaged
 returns-in-Err-clause-damaged g c = λ clean is.
     let damaged = was_damage c.in-Err.fault c.refusal_of_fault.result c.refusal_of_fault.ensures.memory c.refusal_of_fault.ensures.storage is in
     (c.in-Err.ensures.damaged clean damaged, c.in-Err.ensures.some damaged)
+
+pub returns-in-Err-clause-unlisted : goal.returns-in-Err-clause-unlisted
+returns-in-Err-clause-unlisted g c = λ settled some other. (refl, c.refusal_of_fault.ensures.damaged (c.in-Err.ensures.unlisted settled some other).1)
