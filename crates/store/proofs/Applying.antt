@@ -63,8 +63,8 @@ saves_call changes a b (Ok u) inert h = record { shown = h.shown; step = saves c
 saves_call changes a b (Err e) inert h = h
 
 -- and of what a crash leaves
-pub saves_left : (changes : List Change) (old : Database) (trees : Trees) → AreInert old.schema → IsLeft (Applies changes) old trees → IsLeft (Saves changes) old trees
-saves_left changes old trees inert h = (h.0, saves changes old h.0 inert h.1, h.2)
+pub saves_left : (changes : List Change) (old : State) (trees : Trees) → AreInert old.now.schema → IsLeft (Applies changes) old trees → IsLeft (Saves changes) old trees
+saves_left changes old trees inert h = record { was_open = h.was_open; db = h.db; sound = h.sound; step = saves changes old.now h.db inert h.step; same = h.same }
 
 -- changes that were applied left the other tables alone
 pub leaves_others : (changes : List Change) (old new : Database) → AreInert old.schema → Applies changes old new → LeavesOthers old new

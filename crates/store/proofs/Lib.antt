@@ -12,3 +12,4 @@ mod Gathering
 mod Permuted
 mod Fitness
 mod Judged
+mod Reopening

@@ -143,6 +143,6 @@ unfolding Empties
 opens_new old new office none is made = inl (none, is, made.0, made.1)
 
 -- what a crash leaves of the making
-pub founds_left : (old : Database) (trees : Trees) → HasNone old.schema → IsLeft Empties old trees → IsLeft Founds old trees
+pub founds_left : (old : Seen) (trees : Trees) → HasNone old.now.schema → IsLeft Empties old trees → IsLeft Founds old trees
 unfolding Empties
-founds_left old trees none h = (h.0, record { none = none; stands = h.1.0; ruled = h.1.1 }, h.2)
+founds_left old trees none h = record { was_open = h.was_open; db = h.db; sound = h.sound; step = record { none = none; stands = h.step.0; ruled = h.step.1 }; same = h.same }

@@ -14,6 +14,7 @@
 mod fault;
 mod founding;
 mod kept;
+mod laws;
 mod quiet;
 mod reading;
 mod rows;
@@ -21,4 +22,5 @@ mod saving;
 mod store;
 
 pub use fault::StoreFault;
+pub use laws::opening_law;
 pub use store::Store;

@@ -1,7 +1,7 @@
 //! The store.
 
 ghost use Rattle.std.specs.Prelude.{◌≡◌, ◌≢◌, IsTrue, false, Err, IfOk, IfErr, IsErr, OnOk, OnErr};
-ghost use Rattle.sqlite.specs.State.{HasCleanDisk, Survives};
+ghost use Rattle.sqlite.specs.State.{HasCleanDisk, IsLive, Survives};
 ghost use Rattle.sqlite.specs.Held.{state};
 ghost use Rattle.tables.specs.Steps.{HasSaved, IsKept, IsLeft};
 ghost use Rattle.store.specs.Tables.{Founds, HasNone, LeavesAlone, Opens, StandsFor};
@@ -51,7 +51,7 @@ fn open_tables<S: Alter>(alloc: Global, conn: &mut Connection<S>) -> Result<Offi
     ensures damaged { HasCleanDisk (state S.Store conn.new) → result ≡ Err StoreFault.Damaged → IsDamaged (state S.Store conn.old).now }
     ensures some { result ≡ Err StoreFault.Damaged → HasNone (state S.Store conn.old).now.schema → ⊥ }
     ensures kept { HasCleanDisk (state S.Store conn.new) → OnErr result (IsKept (state S.Store conn.old) (state S.Store conn.new)) }
-    ensures crash { Survives (state S.Store conn.old) (state S.Store conn.new) (IsLeft Founds (state S.Store conn.old).now) }
+    ensures crash { Survives (state S.Store conn.old) (state S.Store conn.new) (IsLeft Founds (state S.Store conn.old)) }
 {
     if !conn.is_autocommit() {
         return Err(StoreFault::Storage);
@@ -98,8 +98,8 @@ impl<S: Alter> Store<S> {
         ensures kept { IfErr result (λ it. HasCleanDisk (state S.Store it.1) → IsKept (state S.Store conn) (state S.Store it.1)) }
 
         // A crash at any moment of the call.
-        ensures crash { IfOk result (λ it. Survives (state S.Store conn) (state S.Store it.0) (IsLeft Founds (state S.Store conn).now)) }
-        ensures crash_err { IfErr result (λ it. Survives (state S.Store conn) (state S.Store it.1) (IsLeft Founds (state S.Store conn).now)) }
+        ensures crash { IfOk result (λ it. Survives (state S.Store conn) (state S.Store it.0) (IsLeft Founds (state S.Store conn))) }
+        ensures crash_err { IfErr result (λ it. Survives (state S.Store conn) (state S.Store it.1) (IsLeft Founds (state S.Store conn))) }
     {
         match open_tables(alloc, &mut conn) {
             Ok(office) => Ok((Store { conn, alloc }, office)),
@@ -133,13 +133,20 @@ impl<S: Alter> Store<S> {
         ensures acted_on { AreActedOn (state S.Store self.old).now.schema → result ≡ Err StoreFault.Storage }
 
         // A crash at any moment of the call.
-        ensures crash { Survives (state S.Store self.old) (state S.Store self.new) (IsLeft (Saves changes.now) (state S.Store self.old).now) }
+        ensures crash { Survives (state S.Store self.old) (state S.Store self.new) (IsLeft (Saves changes.now) (state S.Store self.old)) }
         ensures ended { self.old.in_transaction ≡ false → self.new.in_transaction ≡ false }
     {
         if !are_left(self.conn.schema()) {
             return Err(StoreFault::Storage);
         }
         save_all(&mut self.conn, changes)
+    }
+
+    /// An open connection shows a database.
+    pub fn shows(&self)
+        ensures live { IsLive (state S.Store self.now) }
+    {
+        let _ = self.conn.schema();
     }
 
     /// Gives the connection up. Takes no memory.

@@ -32,12 +32,13 @@ use Rattle.sqlite_ast.specs.declared.Conflict.TheVariants as conflict
 use Rattle.sqlite_ast.specs.declared.Rows.{Rows}
 use Rattle.sqlite_resolve.specs.Lowering.{Checked}
 use Rattle.sqlite_resolve.specs.declared.compiled.Compiled.{Compiled}
+use Rattle.sqlite.specs.Calls.{IsWrite}
 use Rattle.sqlite.specs.Command.{Command}
 use Rattle.tables.specs.Table.{Place, Lists, cells, are_of}
 use Rattle.tables.specs.Keyed.{IsKeyed}
 use Rattle.tables.specs.Writes.{Adds}
 use Rattle.tables.proofs.Places.{placed, listed_along}
-use Rattle.tables.proofs.Understood.{Means, runs_by}
+use Rattle.tables.proofs.Understood.{Means, IsWriteText, runs_by, ends_in_write, on_table_writes, compiles_to_write}
 use Rattle.tables.proofs.Inserting.{insert_does, insert_edit}
 use Rattle.tables.proofs.Puts.{put_row_permutes}
 use Rattle.tables.proofs.Rowids.{keyed_put}
@@ -131,6 +132,14 @@ module _ (sql : List ℕ) (t0 : Table) (kinds : List Kind) (it : IsInsert sql t0
       (sym (ap (λ (it : Compiled). it.command) same), sym (ap (λ (it : Compiled). it.returning) same), sym (ap (λ (it : Compiled). it.formats) same), sym (ap (text_of sql) same) ∙ it.whole)
 
 module _ (sql : List ℕ) (t0 : Table) (kinds : List Kind) (it : IsInsert sql t0 kinds) where
+  insert_command : (schema : Schema) (base : ℕ) (k : Command) → command schema [] base (written.Insert conflict.Abort t0.name it.columns it.values [] []) ≡ Ok k → IsWrite k
+  unfolding command insert insert_or_abort
+  insert_command schema base k = on_table_writes schema t0.name _ k (λ at table. ends_in_write (new_rows schema table base it.columns it.values) (λ s. Insert at s) k (λ s. tt))
+
+  -- the text is that of a write
+  pub insert_writes : IsWriteText sql
+  insert_writes = compiles_to_write sql it.p it.parsed (λ schema base k h. insert_command schema base k (rw (it.plain, it.statement) at h))
+
   -- an INSERT that went through added the row of its parameters, and nothing else
   pub inserts : (old new : State) (given : Row) (count : ℕ) → are_of kinds given ≡ true → Executes sql given old new (Ok count) → Adds (placed t0) given old.now new.now
   inserts old new given count fits ran place rows stands =

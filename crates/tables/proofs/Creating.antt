@@ -3,6 +3,7 @@ use Rattle.std.proofs.Common.{◌≡◌, inl, inr, ℕ, ◌+◌, List, [], lengt
 use Rattle.std.proofs.lemmas.Bool.{cases_Bool}
 use Rattle.sqlite.specs.Schema.{Schema}
 use Rattle.sqlite.specs.Compile.{table_defined_by, compiled, first, timed, returning, command, small, creates, is_reserved, is_attached, with_command}
+use Rattle.sqlite.specs.Calls.{IsWrite}
 use Rattle.sqlite.specs.Command.{Command}
 use Rattle.sqlite.specs.Command.TheVariants.{CreateTable, Nothing}
 use Rattle.sqlite.specs.Listing.{listing_schema, if_select}
@@ -33,7 +34,7 @@ use Rattle.tables.specs.Writes.{Makes}
 use Rattle.tables.proofs.Places.{placed}
 use Rattle.tables.proofs.Appending.{still_found, new_found, got_front, got_next}
 use Rattle.tables.proofs.Inserting.{went, same_value}
-use Rattle.tables.proofs.Understood.{planned_of, Means, runs_by}
+use Rattle.tables.proofs.Understood.{planned_of, Means, IsWriteText, runs_by}
 
 fresh : (a b c : Bool) (is_new : Bool) → ◌≡◌ {A = Checked Bool} (if a then Err Misuse else (if b then Err Exists else (if c then (if false then Ok false else Err Exists) else Ok true))) (Ok is_new) → is_new ≡ true
 fresh true b c is_new h = absurd (cc)
@@ -106,6 +107,10 @@ module _ (sql : List ℕ) (t0 : Table) (checks : List Term) (it : IsCreate sql t
       let none : q.0 ≡ None = let e : Ok q.0 ≡ Ok None = sym q.2 ∙ it.shows schema in cc in
       let is : c ≡ with_command it.p ([], (CreateTable, None)) = q.4 ∙ (λ i. with_command it.p ([], (k i, none i))) in
       (ap (λ (it : Compiled). it.command) is, ap (λ (it : Compiled). it.returning) is, ap (λ (it : Compiled). it.formats) is, ap (text_of sql) is ∙ it.whole)
+
+  -- the text is that of a write
+  pub create_writes : IsWriteText sql
+  create_writes schema c h = subst IsWrite (sym (create_means schema c h).0) tt
 
   -- the same, of the schema and the trees alone
   record IsMade (old new : Database) : Type 0 where

@@ -18,6 +18,7 @@ use Rattle.sqlite_resolve.specs.declared.compiled.Compiled.{Compiled}
 use Rattle.sqlite_sql.specs.Term.{Term, col}
 use Rattle.sqlite_schema.specs.declared.program.Program.{Program}
 use Rattle.sqlite.specs.Listing.{listing_schema, if_select}
+use Rattle.sqlite.specs.Calls.{IsWrite}
 use Rattle.sqlite.specs.Command.{Command}
 use Rattle.sqlite.specs.Command.TheVariants.{Delete}
 use Rattle.sqlite.specs.State.{State, Executes, mode_of, text_of}
@@ -36,7 +37,7 @@ use Rattle.tables.specs.Keyed.{id_of, IsKeyed}
 use Rattle.tables.specs.Writes.{Removes, begins_with}
 use Rattle.tables.proofs.Places.{placed, listed_along}
 use Rattle.tables.proofs.Inserting.{went, same_value}
-use Rattle.tables.proofs.Understood.{planned_of, Means, runs_by}
+use Rattle.tables.proofs.Understood.{planned_of, Means, IsWriteText, runs_by, and_then_ok, ends_in_write, on_table_writes, compiles_to_write}
 use Rattle.tables.proofs.Keyed.{taken_out, still_keyed, map_filter}
 use Rattle.tables.proofs.Adding.{Has, has_listed, on_table_is}
 use Rattle.tables.proofs.Finding.{finding, found_program, accepted, hit, found}
@@ -90,6 +91,16 @@ delete_does limit mode params db after text at table q tally there inert h =
     (ap (λ (d : Database). d.schema) now, given.0, given.1, subst (Applies db.schema mode.keys db.trees edit) (sym (ap (λ (d : Database). d.trees) now ∙ trees)) made)
 
 module _ (sql : List ℕ) (t0 : Table) (kinds : List Kind) (it : IsDelete sql t0 kinds) where
+  some_delete : (schema : Schema) (base : ℕ) (k : Command) → command schema [] base (written.Delete t0.name (Some it.test) []) ≡ Ok k → IsWrite k
+  unfolding command delete
+  some_delete schema base k = on_table_writes schema t0.name _ k (λ at table h.
+      let planned = and_then_ok (deleted schema at table (Some it.test)) _ k h in
+      ends_in_write (program schema [] planned.0) (λ p. Delete at p) k (λ p. tt) planned.2)
+
+  -- the text is that of a write
+  pub delete_writes : IsWriteText sql
+  delete_writes = compiles_to_write sql it.p it.parsed (λ schema base k h. some_delete schema base k (rw (it.plain, it.statement) at h))
+
   -- a DELETE that went through took out the rows that begin with its parameters, and nothing else
   pub delete_removes : (old new : State) (key : Row) (count : ℕ) → are_of kinds key ≡ true → Executes sql key old new (Ok count) → Removes (placed t0) key old.now new.now
   unfolding Removes

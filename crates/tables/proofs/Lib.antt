@@ -21,3 +21,4 @@ mod Forms
 mod Texts
 mod Tables
 mod Told
+pub mod Relisting

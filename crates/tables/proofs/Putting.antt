@@ -25,6 +25,7 @@ module _ (table : Place → Table) (key : Row) (given : Row) where
   puts_once count a b some p = record {
     inside = p.inside;
     shown = p.shown;
+    sound = p.sound;
     step = λ place rows inert stands.
         let it = p.step place rows inert stands in
         (subst (λ (first : List Row). Stands table place (first ++ without key rows) b.now) (one given (filter (begins_with key) rows) (sym some ∙ it.2)) it.0, it.1);
@@ -42,6 +43,7 @@ module _ (table : Place → Table) (key : Row) (given : Row) where
       committed_is = q.shown.committed_is ∙ p.shown.committed_is;
       mode = q.shown.mode;
     };
+    sound = q.sound;
     step = λ place rows inert stands.
         let it = p.step place rows inert stands in
         let empty = none (filter (begins_with key) rows) (sym zero ∙ it.2) in

@@ -10,7 +10,7 @@ use Rattle.sqlite.specs.Order.{Row}
 use Rattle.sqlite.specs.Schema.{Schema}
 use Rattle.sqlite.specs.Table.{Table}
 use Rattle.sqlite.specs.Term.{Term}
-use Rattle.sqlite.specs.Effect.{Database}
+use Rattle.sqlite.specs.Effect.{Database, IsDatabase}
 use Rattle.sqlite.specs.State.{State, HasCleanDisk, KeepsCommit, Executes, Survives}
 use Rattle.sqlite.proofs.StateLemmas.{survives_then}
 use Rattle.sqlite.specs.Tree.{Trees}
@@ -24,6 +24,7 @@ use Rattle.tables.specs.Keyed.{IsKeyed, Stands}
 use Rattle.tables.specs.Writes.{WritesOnly, Makes}
 use Rattle.tables.specs.Steps.{Does, HasRun, HasStepped, IsPart, Stays, Rests}
 use Rattle.tables.proofs.Places.{listed_along}
+use Rattle.tables.proofs.Understood.{IsWriteText, written_sound}
 
 -- so do two that write it one after the other
 pub writes_then : (tree : ℕ) (a b c : Database) → WritesOnly tree a b → WritesOnly tree b c → WritesOnly tree a c
@@ -67,7 +68,7 @@ both_open false b p q = absurd (cc)
 
 -- nothing was done
 pub stays_none : (P : Database → Database → Type 0) (s : State) → P s.now s.now → Stays P s s
-stays_none P s p = record { shut = refl; committed = refl; mode = refl; step = p }
+stays_none P s p = record { shut = refl; committed = refl; mode = refl; sound = λ is. is; step = p }
 
 -- one statement more
 pub stays_then : (P Q R : Database → Database → Type 0) (a b c : State) → (P a.now b.now → Q b.now c.now → R a.now c.now) → Stays P a b → HasStepped Q b c → Stays R a c
@@ -75,12 +76,13 @@ stays_then P Q R a b c both p q = record {
   shut = both_open b.is_open c.is_open q.shown.was_open q.shown.is_open ∙ p.shut;
   committed = q.shown.committed_is ∙ p.committed;
   mode = q.shown.mode ∙ sym q.inside ∙ p.mode;
+  sound = λ _. q.sound;
   step = both p.step q.step;
 }
 
 -- the same statement, in a weaker word
 pub stepped_as : (P Q : Database → Database → Type 0) (a b : State) → (P a.now b.now → Q a.now b.now) → HasStepped P a b → HasStepped Q a b
-stepped_as P Q a b weaker p = record { inside = p.inside; shown = p.shown; step = weaker p.step }
+stepped_as P Q a b weaker p = record { inside = p.inside; shown = p.shown; sound = p.sound; step = weaker p.step }
 
 -- what does nothing survives
 pub survives_none : (s : State) (P : Trees → Type 0) → Survives s s P
@@ -150,15 +152,10 @@ decide_table a b = elim (cases_Bool (same_table a b)) [
   | inr other ↦ inr (λ e. absurd (let h = sym (same_table_self a) ∙ ap (same_table a) e ∙ other in cc))
 ]
 
--- what a statement that went through did
-pub stepped_by : (P : Database → Database → Type 0) (sql : List ℕ) (params : Row) (count : ℕ) (old new : State) → (Executes sql params old new (Ok count) → P old.now new.now) → HasRun sql params count old new → HasStepped P old new
-stepped_by P sql params count old new does it = record { inside = it.inside; shown = it.shown; step = does it.ran }
-
--- the same of one that tells how many rows it wrote
-pub stepped_each : {E : Type 0} (P : ℕ → Database → Database → Type 0) (sql : List ℕ) (params : Row) (old new : State) (r : Result ℕ E) → ((count : ℕ) → Executes sql params old new (Ok count) → P count old.now new.now)
-    → IfOk r (λ count. HasRun sql params count old new) → IfOk r (λ count. HasStepped (P count) old new)
-stepped_each P sql params old new (Ok count) does it = stepped_by (P count) sql params count old new (does count) it
-stepped_each P sql params old new (Err e) does it = it
+-- what a statement that went through did, where its text is that of a write
+pub stepped_by : (P : Database → Database → Type 0) (sql : List ℕ) (params : Row) (count : ℕ) (old new : State) → IsWriteText sql → (Executes sql params old new (Ok count) → P old.now new.now) → HasRun sql params count old new
+    → HasStepped P old new
+stepped_by P sql params count old new writes does it = record { inside = it.inside; shown = it.shown; sound = written_sound sql params old new count writes it.ran; step = does it.ran }
 
 -- a call that did one thing did another
 pub part_ok : {A B E F : Type 0} (Q : A → State → State → Type 0) (R : B → State → State → Type 0) (a : A) (b : B) (old new : State) → (Q a old new → R b old new) → IsPart {E = E} Q (Ok a) old new → IsPart {E = F} R (Ok b) old new
@@ -200,6 +197,7 @@ stays_stepped P Q R a b c both p q = record {
     committed_is = q.shown.committed_is ∙ p.committed;
     mode = q.shown.mode;
   };
+  sound = q.sound;
   step = both p.step q.step;
 }
 

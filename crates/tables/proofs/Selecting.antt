@@ -53,6 +53,7 @@ use Rattle.std.proofs.Common.{Vec, IfOk, inl, inr}
 use Rattle.tables.proofs.Rowids.{keyed_by_ids}
 use Rattle.sqlite_keyed.proofs.ListLemmas.{map-map}
 use Rattle.sqlite.specs.State.{CommitsShowing, IsRolledBack, FailsToQuery, IsNotRun}
+use Rattle.sqlite.specs.declared.error.Error.{Error}
 use Rattle.tables.proofs.Places.{placed}
 
 abbrev pub Page : Type 0
@@ -68,6 +69,12 @@ unchanged_rests old new same up = (same.0.was_open, λ settled. (same.0.now_is, 
 -- so does what was rolled back
 rolled_rests : (old new : State) → IsRolledBack old new → Rests old new
 rolled_rests old new back up = (back.was_open up, λ settled. let undone = back.undone up in (undone.0 ∙ sym settled, undone.1))
+
+-- and what was not run
+pub not_run_rests : (old new : State) (sql : List ℕ) (params : Row) (e : Error) → IsNotRun old new sql params e → Rests old new
+unfolding IsNotRun
+not_run_rests old new sql params e (inl h) = unchanged_rests old new h.1
+not_run_rests old new sql params e (inr h) = rolled_rests old new h.3
 
 -- the parts of a plain SELECT
 pub record IsPlainSelect (sql : List ℕ) : Type 0 where
@@ -317,10 +324,9 @@ module _ (sql : List ℕ) (t0 : Table) (it : IsSelect sql t0) where
 
   -- the text changes nothing
   pub select_rests : (old new : State) → RanQuery sql old new → Rests old new
-  unfolding FailsToQuery IsNotRun returning timed
+  unfolding FailsToQuery returning timed
   select_rests old new (inl (rows, h)) = unchanged_rests old new (select_unchanged old new rows h)
-  select_rests old new (inr (e, inl (inl h))) = unchanged_rests old new h.1
-  select_rests old new (inr (e, inl (inr h))) = rolled_rests old new h.3
+  select_rests old new (inr (e, inl h)) = not_run_rests old new sql [] e h
   select_rests old new (inr (e, inr h)) =
       let p = planned_of old.now.schema sql it.plain.p h.0 it.unlisted it.plain.parsed h.1.is in
       let q = rw (it.plain.plain, it.plain.no_names, it.plain.statement) at p in

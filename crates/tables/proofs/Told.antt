@@ -11,10 +11,10 @@ use Rattle.tables.specs.Table.{Shape, checks_of, shape_of, table_at, kinds_of, k
 use Rattle.tables.specs.Writes.{Makes, Adds, Replaces, Removes}
 use Rattle.tables.specs.Steps.{HasRun, HasStepped, Shows, RanQuery, Rests}
 use Rattle.tables.proofs.Places.{nowhere}
-use Rattle.tables.proofs.Creating.{create_makes}
-use Rattle.tables.proofs.Adding.{inserts}
-use Rattle.tables.proofs.Updating.{update_replaces}
-use Rattle.tables.proofs.Deleting.{delete_removes}
+use Rattle.tables.proofs.Creating.{create_makes, create_writes}
+use Rattle.tables.proofs.Adding.{inserts, insert_writes}
+use Rattle.tables.proofs.Updating.{update_replaces, update_writes}
+use Rattle.tables.proofs.Deleting.{delete_removes, delete_writes}
 use Rattle.tables.proofs.Selecting.{read_shows, select_commits, select_rests}
 use Rattle.tables.proofs.Runs.{stepped_by}
 use Rattle.tables.proofs.Texts.{create_is, insert_is, update_is, delete_is, select_is}
@@ -23,22 +23,22 @@ use Rattle.tables.proofs.Tables.{texts}
 module _ (table : Table) (told : Shape) (is : told ≡ shape_of table) (old new : State) (count : ℕ) where
   -- the table was made
   pub created : HasRun told.create [] count old new → HasStepped (Makes (table_at table) (checks_of table) []) old new
-  created run = stepped_by _ _ _ _ _ _ (create_makes (shape_of table).create (table_at table nowhere) (checks_of table) (create_is table (texts table)) old new count) (subst (λ (shape : Shape). HasRun shape.create [] count old new) is run)
+  created run = stepped_by _ _ _ _ _ _ (create_writes (shape_of table).create (table_at table nowhere) (checks_of table) (create_is table (texts table))) (create_makes (shape_of table).create (table_at table nowhere) (checks_of table) (create_is table (texts table)) old new count) (subst (λ (shape : Shape). HasRun shape.create [] count old new) is run)
 
   -- a row was added
   pub inserted : (row : Row) → IsRowOf table row → HasRun told.insert row count old new → HasStepped (Adds (table_at table) row) old new
-  inserted row fits run = stepped_by _ _ _ _ _ _ (inserts (shape_of table).insert (table_at table nowhere) (kinds_of table) (insert_is table (texts table)) old new row count fits) (subst (λ (shape : Shape). HasRun shape.insert row count old new) is run)
+  inserted row fits run = stepped_by _ _ _ _ _ _ (insert_writes (shape_of table).insert (table_at table nowhere) (kinds_of table) (insert_is table (texts table))) (inserts (shape_of table).insert (table_at table nowhere) (kinds_of table) (insert_is table (texts table)) old new row count fits) (subst (λ (shape : Shape). HasRun shape.insert row count old new) is run)
 
   -- rows were replaced
   pub replaced : (row : Row) → IsRowOf table row → HasRun told.update row count old new → HasStepped (Replaces (table_at table) (key_in table row) row count) old new
   replaced row fits run =
-      stepped_by _ _ _ _ _ _ (update_replaces (shape_of table).update (table_at table nowhere) (kinds_of table) (length (shape_of table).primary) (update_is table (texts table)) old new row fits count)
+      stepped_by _ _ _ _ _ _ (update_writes (shape_of table).update (table_at table nowhere) (kinds_of table) (length (shape_of table).primary) (update_is table (texts table))) (update_replaces (shape_of table).update (table_at table nowhere) (kinds_of table) (length (shape_of table).primary) (update_is table (texts table)) old new row fits count)
       (subst (λ (shape : Shape). HasRun shape.update row count old new) is run)
 
   -- rows were taken away
   pub removed : (key : Row) → IsKeyOf table key → HasRun told.delete key count old new → HasStepped (Removes (table_at table) key) old new
   removed key fits run =
-      stepped_by _ _ _ _ _ _ (delete_removes (shape_of table).delete (table_at table nowhere) (take (shape_of table).named (kinds_of table)) (delete_is table (texts table)) old new key count fits)
+      stepped_by _ _ _ _ _ _ (delete_writes (shape_of table).delete (table_at table nowhere) (take (shape_of table).named (kinds_of table)) (delete_is table (texts table))) (delete_removes (shape_of table).delete (table_at table nowhere) (take (shape_of table).named (kinds_of table)) (delete_is table (texts table)) old new key count fits)
       (subst (λ (shape : Shape). HasRun shape.delete key count old new) is run)
 
 module _ (table : Table) (told : Shape) (is : told ≡ shape_of table) (old new : State) where

@@ -19,6 +19,7 @@ use Rattle.sqlite_resolve.specs.declared.compiled.Compiled.{Compiled}
 use Rattle.sqlite_sql.specs.Term.{Term, col, eval_all}
 use Rattle.sqlite_trees.specs.View.{is_int}
 use Rattle.sqlite.specs.Listing.{listing_schema, if_select}
+use Rattle.sqlite.specs.Calls.{IsWrite}
 use Rattle.sqlite.specs.Command.{Command}
 use Rattle.sqlite.specs.Command.TheVariants.{Update}
 use Rattle.sqlite_schema.specs.declared.program.Program.{Program}
@@ -41,7 +42,7 @@ use Rattle.tables.specs.Table.{Place, Lists, cells, are_of}
 use Rattle.tables.specs.Writes.{Replaces, begins_with, without}
 use Rattle.tables.proofs.Places.{placed, listed_along}
 use Rattle.tables.proofs.Inserting.{went, same_value}
-use Rattle.tables.proofs.Understood.{planned_of, Means, runs_by}
+use Rattle.tables.proofs.Understood.{planned_of, Means, IsWriteText, runs_by, and_then_ok, ends_in_write, on_table_writes, compiles_to_write}
 use Rattle.tables.proofs.Keyed.{taken_out, still_keyed, map_filter, kept_has, passes}
 use Rattle.tables.proofs.Rowids.{put_all_permutes, keyed_put_all}
 use Rattle.tables.proofs.Adding.{Has as Finds, has_listed, on_table_is}
@@ -180,6 +181,16 @@ module _ (t : Table) (find : Row → Bool) (values : List Term) (row key : Row) 
   counted = sym (length-map (map (remade t) answer) (cells t)) ∙ length_permutation _ _ given_are ∙ length-map (filter (begins_with key) rows) (λ (_ : Row). row)
 
 module _ (sql : List ℕ) (t0 : Table) (kinds : List Kind) (width : ℕ) (it : IsUpdate sql t0 kinds width) where
+  some_update : (schema : Schema) (base : ℕ) (k : Command) → command schema [] base (written.Update t0.name it.sets (Some it.test) []) ≡ Ok k → IsWrite k
+  unfolding command update
+  some_update schema base k = on_table_writes schema t0.name _ k (λ at table h.
+      let planned = and_then_ok (updated schema at table it.sets (Some it.test)) _ k h in
+      ends_in_write (program schema [] planned.0) (λ p. Update at p) k (λ p. tt) planned.2)
+
+  -- the text is that of a write
+  pub update_writes : IsWriteText sql
+  update_writes = compiles_to_write sql it.p it.parsed (λ schema base k h. some_update schema base k (rw (it.plain, it.statement) at h))
+
   -- an UPDATE that went through put the given row in the place of each with its key, and told how many there were
   pub update_replaces : (old new : State) (row : Row) → are_of kinds row ≡ true → (count : ℕ) → Executes sql row old new (Ok count) → Replaces (placed t0) (take width row) row count old.now new.now
   update_replaces old new row is count ran place rows inert stands =

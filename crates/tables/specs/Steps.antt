@@ -1,6 +1,6 @@
 -- What a statement, a transaction and a crash do, under a relation P between the database before and after.
 use Rattle.std.specs.Prelude.{◌≡◌, ◌⊎◌, ◌^◌, ℕ, IsTrue, true, false, List, [], map, drop, nat_lt, Result, Ok, IfOk}
-use Rattle.sqlite.specs.Effect.{Database}
+use Rattle.sqlite.specs.Effect.{Database, IsDatabase}
 use Rattle.sqlite.specs.State.{State, HasCleanDisk, KeepsCommit, Survives, Executes, IsUnchanged, Shown, FailsToQuery, Shows as Sees}
 use Rattle.sqlite.specs.declared.error.Error.{Error}
 use Rattle.sqlite.specs.Order.{Row}
@@ -15,10 +15,11 @@ pub record HasRun (sql : List ℕ) (params : Row) (count : ℕ) (old new : State
   pub shown : Sees old new new.now old.committed true
   pub ran : Executes sql params old new (Ok count)
 
--- a statement in a transaction went through: nothing is committed, and what the transaction sees changed by P
+-- a statement in a transaction went through: nothing is committed, and what the transaction sees changed by P, and is a database
 pub record HasStepped (P : Database → Database → Type 0) (old new : State) : Type 0 where
   pub inside : old.in_transaction ≡ true
   pub shown : Sees old new new.now old.committed true
+  pub sound : IsDatabase new.now
   pub step : P old.now new.now
 
 -- the same of a run of statements, which may be none
@@ -26,6 +27,7 @@ pub record Stays (P : Database → Database → Type 0) (old new : State) : Type
   pub shut : new.is_open ≡ old.is_open
   pub committed : new.committed ≡ old.committed
   pub mode : new.in_transaction ≡ old.in_transaction
+  pub sound : IsDatabase old.now → IsDatabase new.now
   pub step : P old.now new.now
 
 -- a transaction was made and committed, and changed the database by P
@@ -37,9 +39,13 @@ pub record HasSaved (P : Database → Database → Type 0) (old new : State) : T
 abbrev pub IsKept : State → State → Type 0
 IsKept old new = IsTrue new.is_open → IsTrue old.is_open × (new.now ≡ old.now) × (new.committed ≡ old.committed)
 
--- the trees of a database that P makes of the old one
-abbrev pub IsLeft : (Database → Database → Type 0) → Database → Trees → Type 0
-IsLeft P old trees = (db : Database) × P old db × (trees ≡ db.trees)
+-- the trees of a database that P makes of the one that an open connection shows; a shut one leaves none
+pub record IsLeft (P : Database → Database → Type 0) (old : State) (trees : Trees) : Type 0 where
+  pub was_open : IsTrue old.is_open
+  pub db : Database
+  pub sound : IsDatabase db
+  pub step : P old.now db
+  pub same : trees ≡ db.trees
 
 -- nothing has changed, and where the table is listed these are its rows, each after its rowid
 pub record Shows (table : Place → Table) (rows : List Row) (old new : State) : Type 0 where

@@ -18,6 +18,7 @@ pub mod fault;
 pub mod inert;
 pub mod layout;
 mod read;
+pub mod ready;
 pub mod statements;
 mod table;
 mod write;

@@ -1,7 +1,7 @@
 use Rattle.std.proofs.Common.{ap, rules}
 use Rattle.sqlite.specs.Held.{state}
 use Rattle.store.specs.Tables.{Empties}
-use Rattle.store.proofs.Committing.{made_one, saved_by, left_by, dropped_by}
+use Rattle.store.proofs.Committing.{made_one, sound_one, saved_by, left_by, dropped_by}
 use Rattle.store.proofs.founding.found.Goals as goal
 
 pub returns-in_err-make_tables-clause-crash : goal.returns-in_err-make_tables-clause-crash
@@ -11,7 +11,7 @@ pub returns-in-Ok-clause-ok : goal.returns-in-Ok-clause-ok
 returns-in-Ok-clause-ok g c clean = saved_by (state g.S.Store c.args.conn.now) (state g.S.Store c.transaction-tx.result.conn.now) (ap (state g.S.Store) c.transaction-tx.ensures.begun) (state g.S.Store c.make_tables.new.tx.conn.now) _ Empties (λ clean. made_one _ _ _ (c.in_ok-make_tables.ensures.step.did clean)) (search rules) (search rules) clean
 
 pub returns-in-Ok-clause-crash : goal.returns-in-Ok-clause-crash
-returns-in-Ok-clause-crash g c = left_by (state g.S.Store c.args.conn.now) (state g.S.Store c.transaction-tx.result.conn.now) (ap (state g.S.Store) c.transaction-tx.ensures.begun) (state g.S.Store c.make_tables.new.tx.conn.now) _ Empties (λ clean. made_one _ _ _ (c.in_ok-make_tables.ensures.step.did clean)) c.in_ok-make_tables.ensures.step.survives (search rules)
+returns-in-Ok-clause-crash g c = left_by (state g.S.Store c.args.conn.now) (state g.S.Store c.transaction-tx.result.conn.now) (ap (state g.S.Store) c.transaction-tx.ensures.begun) (state g.S.Store c.make_tables.new.tx.conn.now) _ Empties (λ clean. made_one _ _ _ (c.in_ok-make_tables.ensures.step.did clean)) (λ clean. sound_one _ _ _ (c.in_ok-make_tables.ensures.step.did clean)) c.in_ok-make_tables.ensures.step.survives (search rules)
 
 pub returns-in-Err-clause-crash : goal.returns-in-Err-clause-crash
-returns-in-Err-clause-crash g c = left_by (state g.S.Store c.args.conn.now) (state g.S.Store c.transaction-tx.result.conn.now) (ap (state g.S.Store) c.transaction-tx.ensures.begun) (state g.S.Store c.make_tables.new.tx.conn.now) _ Empties (λ clean. made_one _ _ _ (c.in_ok-make_tables.ensures.step.did clean)) c.in_ok-make_tables.ensures.step.survives (search rules)
+returns-in-Err-clause-crash g c = left_by (state g.S.Store c.args.conn.now) (state g.S.Store c.transaction-tx.result.conn.now) (ap (state g.S.Store) c.transaction-tx.ensures.begun) (state g.S.Store c.make_tables.new.tx.conn.now) _ Empties (λ clean. made_one _ _ _ (c.in_ok-make_tables.ensures.step.did clean)) (λ clean. sound_one _ _ _ (c.in_ok-make_tables.ensures.step.did clean)) c.in_ok-make_tables.ensures.step.survives (search rules)

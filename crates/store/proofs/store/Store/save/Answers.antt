@@ -22,5 +22,5 @@ returns-clause-others g c =
 pub returns-clause-crash : goal.returns-clause-crash
 returns-clause-crash g c =
     let inert = subst AreInert c.schema.ensures.value (c.are_left.ensures.sound c.if-not-are_left.false) in
-    subst (λ k. Survives (state g.S.Store k) (state g.S.Store c.save_all.new.conn) (IsLeft (Saves c.args.changes.now) (state g.S.Store k).now)) c.self.view_is
+    subst (λ k. Survives (state g.S.Store k) (state g.S.Store c.save_all.new.conn) (IsLeft (Saves c.args.changes.now) (state g.S.Store k))) c.self.view_is
     (survives_weaker _ _ _ _ (λ clean trees h. saves_left _ _ trees inert h) c.save_all.ensures.crash)

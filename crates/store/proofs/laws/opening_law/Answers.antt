@@ -1,0 +1,5 @@
+use Rattle.store.proofs.Reopening.{opens_again}
+use Rattle.store.proofs.laws.opening_law.Goals as goal
+
+pub returns : goal.returns
+returns c = opens_again c.rows_law.ensures

@@ -1,0 +1,10 @@
+//! Laws that the words of the contracts keep: functions with nothing to do, whose contracts are the laws.
+
+ghost use Rattle.store.specs.Laws.{OpensAgain};
+
+/// Tables that stand for an office are opened as that office and no other, from the trees of their database alone.
+pub fn opening_law()
+    ensures { OpensAgain }
+{
+    rolls::rows_law();
+}
