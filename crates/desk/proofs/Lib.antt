@@ -1,1 +1,3 @@
 pub mod Settling
+mod Running
+mod Reopening

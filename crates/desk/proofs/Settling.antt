@@ -1,7 +1,8 @@
 -- Changes that turn the rows of one office into those of the next, saved: the tables stand for the next one.
-use Rattle.std.proofs.Common.{◌≡◌, ◌⊎◌, inl, inr, true, List, Option, None, refl, sym, subst, ◌∙◌, arith}
+use Rattle.std.proofs.Common.{◌≡◌, IsTrue, inl, inr, List, Option, None, sym, subst, ◌∙◌, arith}
 use Rattle.sqlite.specs.Effect.{Database}
 use Rattle.sqlite.specs.State.{State as Seen, HasCleanDisk, Survives}
+use Rattle.sqlite.proofs.StateLemmas.{survives_weaker}
 use Rattle.sqlite.specs.Tree.{Trees}
 use Rattle.tables.specs.Steps.{HasSaved, IsKept, IsLeft}
 use Rattle.rolls.specs.declared.row.Row.{Row}
@@ -11,12 +12,13 @@ use Rattle.rolls.specs.declared.request.Done.{Done}
 use Rattle.rolls.specs.State.{State}
 use Rattle.rolls.specs.Rows.{row_of, after_changes, Turns}
 use Rattle.rolls.specs.declared.request.Request.{Request}
+use Rattle.rolls.specs.Fit.{IsFit}
 use Rattle.rolls.specs.Refusing.{refusal}
 use Rattle.rolls.specs.Run.{Makes}
 use Rattle.allotment.specs.Layers.{layers}
 use Rattle.store.specs.Tables.{TablesHold, StandsFor, Opens}
 use Rattle.store.specs.Saving.{Saves}
-use Rattle.desk.specs.Keeping.{Keeps, Leads}
+use Rattle.desk.specs.Keeping.{CarriesOut, Keeps, StandsForOne}
 
 -- tables hold rows that are the same at each key
 hold_same : (db : Database) (rows others : RowKey → Option Row) → ((k : RowKey) → rows k ≡ others k) → TablesHold db rows → TablesHold db others
@@ -55,25 +57,22 @@ kept_keeps office old new P survives kept keeps clean is_open =
     let k = kept clean is_open in
     subst (λ (db : Database). StandsFor db office) (sym k.1) (keeps (was_clean old new P survives clean) k.0)
 
--- what a crash may leave, in weaker words
-pub survives_weaker : (old new : Seen) (P Q : Trees → Type 0) → ((trees : Trees) → P trees → Q trees) → Survives old new P → Survives old new Q
-survives_weaker old new P Q weaker s = record {
-  clean = s.clean;
-  shield = s.shield;
-  counts = s.counts;
-  limit = s.limit;
-  closes = s.closes;
-  crash = λ clean trees left. elim (s.crash clean trees left) as (λ _. old.may_leave trees ⊎ Q trees) [ inl before ↦ inl before | inr made ↦ inr (weaker trees made) ];
+-- what a crash may leave of saved changes is what it may leave of the request
+left_carried : (q : Request) (office next : State) (done : Done) (old : Seen) → refusal office q ≡ None → Makes layers office q done.reply next → IsFit next → Turns done.changes.items office next → (IsTrue old.is_open → StandsFor old.now office)
+    → (trees : Trees) → IsLeft (Saves done.changes.items) old trees → IsLeft (λ _. StandsForOne (CarriesOut office q)) old trees
+left_carried q office next done old none made fit turns stands trees left = record {
+  was_open = left.was_open;
+  db = left.db;
+  sound = left.sound;
+  step = record { office = next; one = (done.reply, (none, made)); fit = fit; stands = stands_after done.changes.items office next old.now left.db turns left.step (stands left.was_open) };
+  same = left.same;
 }
 
--- saved changes of a request lead to an office that the request makes
-pub made_leads : (q : Request) (office next : State) (done : Done) (old new : Database) → refusal office q ≡ None → Makes layers office q done.reply next → Turns done.changes.items office next → Saves done.changes.items old new → Leads office q old new
-unfolding Leads
-made_leads q office next done old new none made turns saves stands = (done.reply, next, (none, made), stands_after done.changes.items office next old new turns saves stands)
-
--- what a crash may leave of saved changes is what it may leave of the request
-pub left_leads : (q : Request) (office next : State) (done : Done) (old : Database) → refusal office q ≡ None → Makes layers office q done.reply next → Turns done.changes.items office next → (trees : Trees) → IsLeft (Saves done.changes.items) old trees → IsLeft (Leads office q) old trees
-left_leads q office next done old none made turns trees left = (left.0, made_leads q office next done old left.0 none made turns left.1, left.2)
+-- the same of the call
+pub call_carried : (q : Request) (office next : State) (done : Done) (old new : Seen) → refusal office q ≡ None → Makes layers office q done.reply next → IsFit next → Turns done.changes.items office next → Keeps old office
+    → Survives old new (IsLeft (Saves done.changes.items) old) → Survives old new (IsLeft (λ _. StandsForOne (CarriesOut office q)) old)
+call_carried q office next done old new none made fit turns keeps it =
+    survives_weaker old new _ _ (λ clean trees left. left_carried q office next done old none made fit turns (λ up. keeps (was_clean old new _ it clean) up) trees left) it
 
 -- an office that was opened is one that the tables stand for
 pub opened_stands : (old new : Database) (office : State) → Opens old new office → StandsFor new office

@@ -1,15 +1,17 @@
 -- What a desk keeps between requests, and what a crash leaves of one.
-use Rattle.std.specs.Prelude.{◌≡◌, IsTrue, Bool, false, is_some, Ok, ◌||◌}
+use Rattle.std.specs.Prelude.{◌≡◌, ◌||◌, ◌++◌, ◌∷◌, IsTrue, Bool, false, is_some, List, Result, Ok}
 use Rattle.sqlite.specs.Effect.{Database}
 use Rattle.sqlite.specs.State.{State as Seen, HasCleanDisk}
 use Rattle.sqlite.specs.Held.{state}
 use Rattle.sqlite_trees.specs.declared.store.Store.{Ghosts}
 use Rattle.rolls.specs.declared.request.Reply.{Reply}
 use Rattle.rolls.specs.State.{State}
+use Rattle.rolls.specs.declared.refusal.Refusal.{Refusal}
 use Rattle.rolls.specs.declared.request.Request.{Request}
 use Rattle.rolls.specs.Reads.{changes_nothing}
 use Rattle.rolls.specs.Refusing.{refusal}
-use Rattle.rolls.specs.Run.{Step}
+use Rattle.rolls.specs.Fit.{IsFit}
+use Rattle.rolls.specs.Run.{Run, Step}
 use Rattle.allotment.specs.Layers.{layers}
 use Rattle.desk.specs.Kept.{Kept}
 use Rattle.store.specs.Tables.{StandsFor}
@@ -24,10 +26,29 @@ pub record IsKeeping {S : Type 0} (ghosts : Ghosts S) (kept : Kept S) : Type 0 w
   pub stands : Keeps (state ghosts kept.store) kept.office
   pub ended : kept.store.in_transaction ≡ false
 
--- tables that stood for the office come to stand for one that the request makes of it
-unfoldable pub Leads : State → Request → Database → Database → Type 0
-Leads office request old new =
-    StandsFor old office → (reply : Reply) × (next : State) × Step layers office request (Ok reply) next × StandsFor new next
+-- the request, carried out, makes of the office the next one
+abbrev pub CarriesOut : State → Request → State → Type 0
+CarriesOut office request next = (reply : Reply) × Step layers office request (Ok reply) next
+
+-- Some beginning of a run makes of the office the next one: its first requests, as they were answered, and one more that is carried out.
+pub record Begins (office : State) (requests : List Request) (answers : List (Result Reply Refusal)) (next : State) : Type 0 where
+  pub first : List Request
+  pub request : Request
+  pub rest : List Request
+  pub split : requests ≡ first ++ request ∷ rest
+  pub given : List (Result Reply Refusal)
+  pub later : List (Result Reply Refusal)
+  pub answered : answers ≡ given ++ later
+  pub between : State
+  pub run : Run layers office first given between
+  pub one_more : CarriesOut between request next
+
+-- the tables stand for a fit office that is one of these
+pub record StandsForOne (IsOne : State → Type 0) (db : Database) : Type 0 where
+  pub office : State
+  pub one : IsOne office
+  pub fit : IsFit office
+  pub stands : StandsFor db office
 
 -- whether no table is needed: the office refuses the request, or the request changes nothing of it
 abbrev pub needs_no_table : State → Request → Bool

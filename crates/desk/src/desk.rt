@@ -1,10 +1,11 @@
 //! The desk.
 
 ghost use Rattle.std.specs.Prelude.{◌≡◌, ◌≢◌, ◌⊎◌, Err, IfOk, IfErr, IsErr, IfSome, IsTrue, OnOk, OnErr, None, false, true};
-ghost use Rattle.sqlite.specs.State.{HasCleanDisk, Survives};
+ghost use Rattle.sqlite.specs.State.{HasCleanDisk, IsLive, Survives};
 ghost use Rattle.sqlite.specs.Held.{state};
 ghost use Rattle.tables.specs.Steps.{IsKept, IsLeft};
 ghost use Rattle.rolls.specs.Rows.{Turns};
+ghost use Rattle.rolls.specs.Fit.{IsFit};
 ghost use Rattle.store.specs.Saving.{AreActedOn, Saves};
 ghost use Rattle.rolls.specs.Reads.{is_read, changes_nothing};
 ghost use Rattle.rolls.specs.Refusing.{plain_refusal, refusal};
@@ -12,7 +13,7 @@ ghost use Rattle.rolls.specs.Run.{Makes, Step, Run};
 ghost use Rattle.allotment.specs.Layers.{layers};
 ghost use Rattle.store.specs.Tables.{Opens, Founds, HasNone, LeavesAlone};
 ghost use Rattle.store.specs.Reading.{AreListed, IsDamaged};
-ghost use Rattle.desk.specs.Keeping.{Keeps, Leads, needs_no_table};
+ghost use Rattle.desk.specs.Keeping.{Begins, CarriesOut, Keeps, StandsForOne, needs_no_table};
 
 use office::Office;
 use rolls::{Done, Plain, Refusal, Reply, Request};
@@ -88,8 +89,8 @@ impl<S: Alter> Desk<S> {
         ensures unlisted { connection.in_transaction ≡ false → (HasNone (state S.Store connection).now.schema → ⊥) → (AreListed (state S.Store connection).now.schema → ⊥) → IsErr result × IfErr result (λ e. e.0 ≡ Refusal.Damaged) }
 
         // What a crash leaves: what it could leave before, or tables of the empty office where none was there.
-        ensures crash_ok { IfOk result (λ desk. Survives (state S.Store connection) (state S.Store desk.store) (IsLeft Founds (state S.Store connection).now)) }
-        ensures crash_err { IfErr result (λ e. Survives (state S.Store connection) (state S.Store e.1) (IsLeft Founds (state S.Store connection).now)) }
+        ensures crash_ok { IfOk result (λ desk. Survives (state S.Store connection) (state S.Store desk.store) (IsLeft Founds (state S.Store connection))) }
+        ensures crash_err { IfErr result (λ e. Survives (state S.Store connection) (state S.Store e.1) (IsLeft Founds (state S.Store connection))) }
         ensures alone { IfOk result (λ desk. HasCleanDisk (state S.Store desk.store) → LeavesAlone (state S.Store desk.store)) }
     {
         match Store::open(alloc, connection) {
@@ -102,12 +103,15 @@ impl<S: Alter> Desk<S> {
         }
     }
 
-    /// The tables of every desk stand for its office.
+    /// The tables of every desk stand for its office, which is fit.
     pub fn keeps(&self)
         ensures tables { Keeps (state S.Store self.now.store) self.now.office }
         ensures ended { self.now.store.in_transaction ≡ false }
+        ensures fit { IsFit self.now.office }
+        ensures live { IsLive (state S.Store self.now.store) }
     {
-        let _ = &self.office;
+        self.office.fit();
+        self.store.shows();
     }
 
     /// Gives the connection up. Takes no memory.
@@ -129,6 +133,11 @@ impl<S: Alter> Desk<S> {
         ensures run { IfOk result (λ answers. Run layers self.old.office requests.items answers.items self.new.office) }
         ensures tables { Keeps (state S.Store self.new.store) self.new.office }
         ensures err { OnErr result (self.new ≡ self.old) }
+
+        // What a crash leaves: what it could leave before, or, where the connection was open, the tables of an office that some
+        // beginning of the run makes.
+        ensures crash { IfOk result (λ answers. Survives (state S.Store self.old.store) (state S.Store self.new.store) (IsLeft (λ _. StandsForOne (Begins self.old.office requests.items answers.items)) (state S.Store self.old.store))) }
+        ensures stays_shut { HasCleanDisk (state S.Store self.new.store) → IsTrue (state S.Store self.new.store).is_open → IsTrue (state S.Store self.old.store).is_open }
     {
         let mut answers = Vec::with_capacity(self.alloc, requests.len())?;
         for request in requests {
@@ -146,13 +155,14 @@ impl<S: Alter> Desk<S> {
         ensures named { IfSome (refusal self.old.office request) (λ r. result ≡ Err r) }
         ensures storage { result ≡ Err Refusal.Storage → changes_nothing self.old.office request ≡ false }
 
-        // What a crash leaves: what it could leave before, or the tables of an office that the request makes; after an
-        // answered change the tables after it alone.
-        ensures crash { Survives (state S.Store self.old.store) (state S.Store self.new.store) (IsLeft (Leads self.old.office request) (state S.Store self.old.store).now) }
+        // What a crash leaves: what it could leave before, or, where the connection was open, the tables of an office that the
+        // request makes; after an answered change the tables after it alone.
+        ensures crash { Survives (state S.Store self.old.store) (state S.Store self.new.store) (IsLeft (λ _. StandsForOne (CarriesOut self.old.office request)) (state S.Store self.old.store)) }
         ensures alone { changes_nothing self.old.office request ≡ false → HasCleanDisk (state S.Store self.new.store) → OnOk result (LeavesAlone (state S.Store self.new.store)) }
 
-        // After an answered change the connection is open, so that the tables stand for the office.
+        // After an answered change the connection is open, so that the tables stand for the office. One that is shut stays shut.
         ensures stays_open { changes_nothing self.old.office request ≡ false → HasCleanDisk (state S.Store self.new.store) → OnOk result (IsTrue (state S.Store self.new.store).is_open) }
+        ensures stays_shut { HasCleanDisk (state S.Store self.new.store) → IsTrue (state S.Store self.new.store).is_open → IsTrue (state S.Store self.old.store).is_open }
 
         // Where a foreign key would write other rows too, no change is made.
         ensures acted_on { changes_nothing self.old.office request ≡ false → AreActedOn (state S.Store self.old.store).now.schema → IsErr result }
@@ -192,14 +202,16 @@ impl<S: Alter> Desk<S> {
         requires allowed { refusal self.old.office request ≡ None }
         ensures step { Step layers self.old.office request result self.new.office }
         ensures tables { Keeps (state S.Store self.new.store) self.new.office }
-        ensures crash { Survives (state S.Store self.old.store) (state S.Store self.new.store) (IsLeft (Leads self.old.office request) (state S.Store self.old.store).now) }
+        ensures crash { Survives (state S.Store self.old.store) (state S.Store self.new.store) (IsLeft (λ _. StandsForOne (CarriesOut self.old.office request)) (state S.Store self.old.store)) }
         ensures alone { HasCleanDisk (state S.Store self.new.store) → OnOk result (LeavesAlone (state S.Store self.new.store)) }
         ensures stays_open { HasCleanDisk (state S.Store self.new.store) → OnOk result (IsTrue (state S.Store self.new.store).is_open) }
+        ensures stays_shut { HasCleanDisk (state S.Store self.new.store) → IsTrue (state S.Store self.new.store).is_open → IsTrue (state S.Store self.old.store).is_open }
         ensures acted_on { AreActedOn (state S.Store self.old.store).now.schema → IsErr result }
     {
         self.keeps();
         let mut next = self.office.copy()?;
         let done = made(self.alloc, &mut next, request)?;
+        next.fit();
         self.settle(&mut next, done)
     }
 
@@ -209,9 +221,10 @@ impl<S: Alter> Desk<S> {
         ensures ok { IfOk result (λ reply. (reply ≡ done.reply) × (self.new.office ≡ next.old)) }
         ensures err { IfErr result (λ refusal. ((refusal ≡ Refusal.Memory) ⊎ (refusal ≡ Refusal.Storage)) × (self.new.office ≡ self.old.office)) }
         ensures tables { Keeps (state S.Store self.new.store) self.new.office }
-        ensures crash { let changes = done.changes in Survives (state S.Store self.old.store) (state S.Store self.new.store) (IsLeft (Saves changes.items) (state S.Store self.old.store).now) }
+        ensures crash { let changes = done.changes in Survives (state S.Store self.old.store) (state S.Store self.new.store) (IsLeft (Saves changes.items) (state S.Store self.old.store)) }
         ensures alone { HasCleanDisk (state S.Store self.new.store) → OnOk result (LeavesAlone (state S.Store self.new.store)) }
         ensures stays_open { HasCleanDisk (state S.Store self.new.store) → OnOk result (IsTrue (state S.Store self.new.store).is_open) }
+        ensures stays_shut { HasCleanDisk (state S.Store self.new.store) → IsTrue (state S.Store self.new.store).is_open → IsTrue (state S.Store self.old.store).is_open }
         ensures acted_on { AreActedOn (state S.Store self.old.store).now.schema → IsErr result }
     {
         match self.store.save(&done.changes) {

@@ -11,5 +11,7 @@
 #![tactic(auto)]
 
 mod desk;
+mod laws;
 
 pub use desk::Desk;
+pub use laws::crash_law;

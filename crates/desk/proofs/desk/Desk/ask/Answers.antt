@@ -1,4 +1,8 @@
 use Rattle.std.proofs.Common.{◌≡◌, Option, Some, None, Err, IfSome, Result, refl, sym, ap, subst, ◌∙◌, rules}
+use Rattle.sqlite.specs.State.{Survives}
+use Rattle.sqlite.specs.Held.{state}
+use Rattle.tables.specs.Steps.{IsLeft}
+use Rattle.desk.specs.Keeping.{CarriesOut, StandsForOne}
 use Rattle.rolls.specs.declared.request.Reply.{Reply}
 use Rattle.rolls.specs.declared.refusal.Refusal.{Refusal}
 use Rattle.rolls.specs.declared.request.Request.{Request}
@@ -39,3 +43,8 @@ returns-in_ok-preview-in-Preview-clause-step g c =
     let answer = c.in_ok-preview-in-Preview.field-0 in
     let none : refusal o c.args.request ≡ None = search rules in
     (none, subst (λ (q : Request). Makes layers o q answer o) (sym c.in-Preview.is) (subst (λ (x : State). Makes layers x request.Preview answer x) (ap (λ k. k.office) c.self.view_is) c.in_ok-preview-in-Preview.ensures.made))
+
+pub returns-in-Close-clause-crash : goal.returns-in-Close-clause-crash
+returns-in-Close-clause-crash g c =
+    subst (λ (q : Request). Survives (state g.S.Store c.args.self.now.store) (state g.S.Store c.change-in-Close.new.self.store) (IsLeft (λ _. StandsForOne (CarriesOut c.args.self.now.office q)) (state g.S.Store c.args.self.now.store))) (sym c.in-Close.is)
+    c.change-in-Close.ensures.crash

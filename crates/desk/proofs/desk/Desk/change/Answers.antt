@@ -6,7 +6,8 @@ use Rattle.rolls.specs.Reads.{changes_nothing}
 use Rattle.rolls.specs.Refusing.{refusal}
 use Rattle.rolls.specs.Run.{Makes}
 use Rattle.allotment.specs.Layers.{layers}
-use Rattle.desk.proofs.Settling.{survives_weaker, left_leads}
+use Rattle.sqlite.specs.Held.{state}
+use Rattle.desk.proofs.Settling.{call_carried}
 use Rattle.desk.proofs.desk.Desk.change.Goals as goal
 
 pub returns-clause-crash : goal.returns-clause-crash
@@ -17,4 +18,4 @@ returns-clause-crash g c =
     let same = c.in_ok-next.ensures.same ∙ ap (λ k. k.office) c.self.view_is in
     let made = subst (λ (o : State). Makes layers o q done.reply c.made.new.office) same c.in_ok-done.ensures.made in
     let turns = subst (λ (o : State). Turns done.changes.items o c.made.new.office) same c.in_ok-done.ensures.turns in
-    survives_weaker _ _ _ _ (left_leads q old c.made.new.office done _ c.requires.allowed made turns) c.settle.ensures.crash
+    call_carried q old c.made.new.office done (state g.S.Store c.args.self.now.store) (state g.S.Store c.settle.new.self.store) c.requires.allowed made c.fit.ensures.fit turns c.keeps.ensures.tables c.settle.ensures.crash

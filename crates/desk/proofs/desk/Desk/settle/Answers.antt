@@ -33,7 +33,7 @@ returns-in-Ok-clause-ok g c = (refl, c.swap.ensures.x_after)
 
 -- what a crash leaves, of the changes that were given
 left_of : (given changes : List Change) (before seen : Seen) (new : Seen) → given ≡ changes → before ≡ seen
-    → Survives before new (IsLeft (Saves given) before.now) → Survives seen new (IsLeft (Saves changes) seen.now)
+    → Survives before new (IsLeft (Saves given) before) → Survives seen new (IsLeft (Saves changes) seen)
 left_of given changes before seen new e f h = rw (← e, ← f) h
 
 pub returns-in-Ok-clause-crash : goal.returns-in-Ok-clause-crash

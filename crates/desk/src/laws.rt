@@ -1,0 +1,16 @@
+//! Laws that the words of the contracts keep: functions with nothing to do, whose contracts are the laws.
+
+ghost use Rattle.desk.specs.Laws.{AskIsWhole, RestIsKept, RunIsWhole};
+
+use sqlite::Alter;
+
+/// What a crash leaves is opened as a whole office. Where a desk was just opened, or has just answered a change, a crash before
+/// the next request leaves its office. A crash after such a desk was asked one request, or a list of them, leaves the office
+/// before, or one that the request makes of it, or some first requests of the list and one more: never a part of a change.
+pub fn crash_law<S: Alter>()
+    ensures rest { RestIsKept S.Store }
+    ensures ask { AskIsWhole S.Store }
+    ensures run { RunIsWhole S.Store }
+{
+    store::opening_law();
+}
