@@ -9,16 +9,15 @@ use Rattle.rolls.proofs.Determined.{choice_at}
 use Rattle.std.proofs.lemmas.Bool.{and_parts, or_parts, not-true, cases_Bool}
 use Rattle.sqlite.specs.Order.{Row as Cells}
 use Rattle.sqlite_rules.specs.Lists.{Has}
-use Rattle.sqlite_rules.proofs.ListLemmas.{all_has}
 use Rattle.rolls.specs.declared.row.Row.{Row}
 use Rattle.rolls.specs.declared.row.Row.TheVariants as row
 use Rattle.rolls.specs.declared.row.RowKey.{RowKey}
-use Rattle.rolls.specs.Roll.{Key, find, same_key}
+use Rattle.rolls.specs.Roll.{Key, find}
 use Rattle.spa.proofs.Texts.{code_utf8, label_utf8}
-use Rattle.rolls.specs.State.{State, supervisor_of, project_of, student_of, round_of, placement_of, supervisor_key, project_key, student_key, list_key, placement_key, has_supervisor, has_project, has_student, last_round, lists_of, list_of, choices_in, is_closed}
+use Rattle.rolls.specs.State.{State, supervisor_of, project_of, student_of, round_of, placement_of, supervisor_key, project_key, student_key, list_key, placement_key, has_supervisor, has_project, has_student, last_round, lists_of, list_of, choices_in}
 use Rattle.rolls.specs.Fit.{IsFit, SupervisorFits, ProjectFits, StudentFits, ListFits, PlacementFits}
 use Rattle.rolls.proofs.Found.{found_key, holds_of_found}
-use Rattle.rolls.proofs.LastRound.{round_within, closed_within}
+use Rattle.rolls.proofs.LastRound.{round_within}
 use Rattle.rolls.specs.Rows.{key_of, same_row, row_of, supervisor_row, project_row, student_row, round_row, placement_row, choice_in}
 use Rattle.rolls.specs.From.{row_in, are_apart}
 use Rattle.tables.specs.declared.table.Table.{Table}

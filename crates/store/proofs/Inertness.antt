@@ -3,7 +3,6 @@ use Rattle.std.proofs.Common.{◌≡◌, ◌↔◌, ℕ, Bool, true, false, subs
 use Rattle.sqlite.specs.Schema.{Schema}
 use Rattle.tables.specs.declared.table.Table.{Table}
 use Rattle.tables.specs.Table.{table_at}
-use Rattle.tables.specs.Writes.{IsInert}
 use Rattle.tables.specs.Inert.{IsActedOn}
 use Rattle.tables.specs.Layout.{IsListed, IsUnlisted}
 use Rattle.tables.proofs.Runs.{listed_at_one}

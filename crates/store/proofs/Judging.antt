@@ -10,14 +10,12 @@ use Rattle.sqlite_rules.specs.Lists.{Has}
 use Rattle.tables.specs.declared.table.Table.{Table}
 use Rattle.tables.specs.declared.table.Table.TheVariants.{Edition}
 use Rattle.tables.specs.Table.{Place, Lists, table_at}
-use Rattle.tables.specs.Keyed.{Stands}
 use Rattle.tables.specs.Layout.{IsListed, IsUnlisted}
 use Rattle.tables.specs.Steps.{Shows}
 use Rattle.tables.proofs.Runs.{listed_at_one, decide_table}
-use Rattle.rolls.specs.declared.row.Row.{Row}
 use Rattle.store.specs.Rows.{IsRoll, rolls}
 use Rattle.store.specs.Tables.{first_edition}
-use Rattle.store.specs.Reading.{AreListed, IsAlone, IsElsewhere, IsListedAlone, AreRowsOf, IsNoRow, ReadsTable, HoldsNoRow}
+use Rattle.store.specs.Reading.{AreListed, IsAlone, IsElsewhere, IsListedAlone, IsNoRow, HoldsNoRow}
 
 -- what holds of so many tables, and of the next, holds of one more
 pub so_far : (P : Table → Type 0) (all : List Table) (i : ℕ) (d : Table) → i < length all → ((table : Table) → Has (take i all) table → P table) → P (get_or all i d) → (table : Table) → Has (take (i + 1) all) table → P table

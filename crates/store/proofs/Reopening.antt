@@ -2,24 +2,22 @@
 use Rattle.std.proofs.Common.{◌≡◌, List, Option, refl, sym, subst, ◌∙◌, map, inl, inr}
 use Rattle.std.specs.List.Sorted.{IsPermutation}
 use Rattle.std.proofs.lemmas.List.Sorted.{IsPermutation-trans, IsPermutation-sym}
-use Rattle.sqlite_rules.specs.Lists.{Has}
 use Rattle.sqlite.specs.Effect.{Database, IsDatabase}
 use Rattle.sqlite.specs.Order.{Row as Cells}
 use Rattle.sqlite.specs.Table.{Table as AnyTable}
 use Rattle.tables.specs.declared.table.Table.{Table}
 use Rattle.tables.specs.declared.table.Table.TheVariants.{Edition}
-use Rattle.tables.specs.Table.{Place, cells, shape_of, table_at}
+use Rattle.tables.specs.Table.{Place, cells, table_at}
 use Rattle.tables.specs.Keyed.{Stands}
 use Rattle.tables.proofs.Relisting.{listed_so, stands_so}
 use Rattle.tables.proofs.Runs.{listed_once}
 use Rattle.rolls.specs.declared.row.Row.{Row}
 use Rattle.rolls.specs.declared.row.RowKey.{RowKey}
-use Rattle.rolls.specs.From.{row_in}
 use Rattle.rolls.specs.Fit.{IsFit}
 use Rattle.rolls.specs.Laws.{RowsGiveOffice}
 use Rattle.rolls.specs.Rows.{row_of}
 use Rattle.rolls.specs.State.{State}
-use Rattle.store.specs.Rows.{AreRowsAt, IsRoll, columns_of, kept}
+use Rattle.store.specs.Rows.{columns_of}
 use Rattle.store.specs.Tables.{HasNone, Opens, StandsFor, TablesHold, first_edition}
 use Rattle.store.proofs.Permuted.{rows_permuted, permuted_by_rolls}
 

@@ -1,13 +1,11 @@
 -- The tables of an office once its changes are saved.
 use Rattle.std.proofs.Common.{◌≡◌, List, Option, ◌∙◌}
 use Rattle.sqlite.specs.Effect.{Database}
-use Rattle.sqlite.specs.Tree.{Trees}
 use Rattle.rolls.specs.declared.row.Row.{Row}
 use Rattle.rolls.specs.declared.row.RowKey.{RowKey}
 use Rattle.rolls.specs.declared.row.Change.{Change}
 use Rattle.rolls.specs.State.{State}
 use Rattle.rolls.specs.Rows.{row_of, after_changes, Turns}
-use Rattle.tables.specs.Steps.{IsLeft}
 use Rattle.store.specs.Tables.{TablesHold, StandsFor}
 use Rattle.store.specs.Saving.{Saves}
 

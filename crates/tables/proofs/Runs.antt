@@ -1,5 +1,5 @@
 -- Statements one after the other, and what they leave alone.
-use Rattle.std.proofs.Common.{◌≡◌, ◌≢◌, ◌⊎◌, inl, inr, arith, ℕ, List, [], ◌∷◌, refl, sym, subst, ◌∙◌, IsTrue, true, false, Bool, map, ap, ◌<◌, ◌^◌, nat_lt, Option, Some, slice_get, Result, Ok, Err, IfOk, get_or}
+use Rattle.std.proofs.Common.{◌≡◌, ◌≢◌, ◌⊎◌, inl, inr, arith, ℕ, List, [], ◌∷◌, refl, sym, subst, ◌∙◌, IsTrue, true, false, Bool, map, ap, ◌<◌, ◌^◌, nat_lt, Option, Some, slice_get, Result, Ok, Err, get_or}
 use Rattle.std.specs.List.{AllByRecursion, AllZip}
 use Rattle.std.proofs.lemmas.Bool.Decides.{Decides-ltb}
 use Rattle.sqlite_schema.specs.Names.{table_named}
@@ -10,7 +10,7 @@ use Rattle.sqlite.specs.Order.{Row}
 use Rattle.sqlite.specs.Schema.{Schema}
 use Rattle.sqlite.specs.Table.{Table}
 use Rattle.sqlite.specs.Term.{Term}
-use Rattle.sqlite.specs.Effect.{Database, IsDatabase}
+use Rattle.sqlite.specs.Effect.{Database}
 use Rattle.sqlite.specs.State.{State, HasCleanDisk, KeepsCommit, Executes, Survives}
 use Rattle.sqlite.proofs.StateLemmas.{survives_then}
 use Rattle.sqlite.specs.Tree.{Trees}

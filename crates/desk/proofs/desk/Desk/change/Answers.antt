@@ -1,9 +1,6 @@
-use Rattle.std.proofs.Common.{◌≡◌, None, sym, ap, subst, ◌∙◌}
-use Rattle.std.specs.Prelude.{false}
+use Rattle.std.proofs.Common.{ap, subst, ◌∙◌}
 use Rattle.rolls.specs.State.{State}
 use Rattle.rolls.specs.Rows.{Turns}
-use Rattle.rolls.specs.Reads.{changes_nothing}
-use Rattle.rolls.specs.Refusing.{refusal}
 use Rattle.rolls.specs.Run.{Makes}
 use Rattle.allotment.specs.Layers.{layers}
 use Rattle.sqlite.specs.Held.{state}
