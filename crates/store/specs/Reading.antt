@@ -26,6 +26,10 @@ IsTyped (row.Round number is_open) = number < 2 ^ 32
 IsTyped (row.Choice round student place project) = (round < 2 ^ 32) × IsUtf8 student × (place < 2 ^ 32) × IsUtf8 project
 IsTyped (row.Placement student round project rank) = IsUtf8 student × (round < 2 ^ 32) × IsUtf8 project × (rank < 2 ^ 32)
 
+-- a row of the table, whose columns these are after its rowid
+abbrev pub IsRowWith : Table → Cells → Row → Type 0
+IsRowWith table cells row = (is_in table row ≡ true) × (columns row ≡ drop 1 cells)
+
 -- no row of the table that the program can have has these columns
 abbrev pub IsNoRow : Table → Cells → Type 0
 IsNoRow table cells = (row : Row) → is_in table row ≡ true → IsTyped row → columns row ≢ cells
