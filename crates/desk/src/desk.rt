@@ -85,6 +85,9 @@ impl<S: Alter> Desk<S> {
         ensures kept { IfErr result (λ e. HasCleanDisk (state S.Store e.1) → IsKept (state S.Store connection) (state S.Store e.1)) }
         ensures given_back { IfErr result (λ e. let back = e.1 in connection.in_transaction ≡ false → back.in_transaction ≡ false) }
 
+        // Where a transaction is open already it is no want of memory, and no damage.
+        ensures begun { IsTrue connection.in_transaction → IsErr result × IfErr result (λ e. e.0 ≡ Refusal.Storage) }
+
         // Tables that are there and are not listed as they are made here are damaged.
         ensures unlisted { connection.in_transaction ≡ false → (HasNone (state S.Store connection).now.schema → ⊥) → (AreListed (state S.Store connection).now.schema → ⊥) → IsErr result × IfErr result (λ e. e.0 ≡ Refusal.Damaged) }
 
@@ -225,7 +228,7 @@ impl<S: Alter> Desk<S> {
         ensures alone { HasCleanDisk (state S.Store self.new.store) → OnOk result (LeavesAlone (state S.Store self.new.store)) }
         ensures stays_open { HasCleanDisk (state S.Store self.new.store) → OnOk result (IsTrue (state S.Store self.new.store).is_open) }
         ensures stays_shut { HasCleanDisk (state S.Store self.new.store) → IsTrue (state S.Store self.new.store).is_open → IsTrue (state S.Store self.old.store).is_open }
-        ensures acted_on { AreActedOn (state S.Store self.old.store).now.schema → IsErr result }
+        ensures acted_on { AreActedOn (state S.Store self.old.store).now.schema → result ≡ Err Refusal.Storage }
     {
         match self.store.save(&done.changes) {
             Ok(()) => {

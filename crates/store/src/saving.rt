@@ -142,6 +142,7 @@ pub fn save_all<S: Alter>(conn: &mut Connection<S>, changes: &[Change]) -> Resul
     ensures faults { result ≢ Err StoreFault.Damaged }
     ensures crash { Survives (state S.Store conn.old) (state S.Store conn.new) (IsLeft (Applies changes.now) (state S.Store conn.old)) }
     ensures ended { conn.old.in_transaction ≡ false → conn.new.in_transaction ≡ false }
+    ensures begun { IsTrue conn.old.in_transaction → result ≡ Err StoreFault.Storage }
 {
     if !conn.is_autocommit() {
         return Err(StoreFault::Storage);

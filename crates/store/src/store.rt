@@ -46,6 +46,7 @@ fn open_tables<S: Alter>(alloc: Global, conn: &mut Connection<S>) -> Result<Offi
     ensures ok { HasCleanDisk (state S.Store conn.new) → IfOk result (Opens (state S.Store conn.old).now (state S.Store conn.new).now) }
     ensures ended { OnOk result (conn.new.in_transaction ≡ false) }
     ensures given_back { conn.old.in_transaction ≡ false → conn.new.in_transaction ≡ false }
+    ensures begun { IsTrue conn.old.in_transaction → result ≡ Err StoreFault.Storage }
     ensures unlisted { conn.old.in_transaction ≡ false → (HasNone (state S.Store conn.old).now.schema → ⊥) → (AreListed (state S.Store conn.old).now.schema → ⊥) → result ≡ Err StoreFault.Damaged }
     ensures alone { HasCleanDisk (state S.Store conn.new) → OnOk result (LeavesAlone (state S.Store conn.new)) }
     ensures damaged { HasCleanDisk (state S.Store conn.new) → result ≡ Err StoreFault.Damaged → IsDamaged (state S.Store conn.old).now }
@@ -71,6 +72,7 @@ fn load_tables<S: Alter>(alloc: Global, conn: &mut Connection<S>) -> Result<Offi
     ensures kept { HasCleanDisk (state S.Store conn.new) → IsKept (state S.Store conn.old) (state S.Store conn.new) }
     ensures crash { Survives (state S.Store conn.old) (state S.Store conn.new) (λ _. ⊥) }
     ensures ended { conn.old.in_transaction ≡ false → conn.new.in_transaction ≡ false }
+    ensures begun { IsTrue conn.old.in_transaction → result ≡ Err StoreFault.Storage }
 {
     if !conn.is_autocommit() {
         return Err(StoreFault::Storage);
@@ -92,6 +94,9 @@ impl<S: Alter> Store<S> {
         ensures damaged { IfErr result (λ it. HasCleanDisk (state S.Store it.1) → it.0 ≡ StoreFault.Damaged → IsDamaged (state S.Store conn).now) }
         ensures some { IfErr result (λ it. it.0 ≡ StoreFault.Damaged → HasNone (state S.Store conn).now.schema → ⊥) }
         ensures given_back { IfErr result (λ it. let back = it.1 in conn.in_transaction ≡ false → back.in_transaction ≡ false) }
+
+        // Where a transaction is open already it is no want of memory, and no damage.
+        ensures begun { IsTrue conn.in_transaction → IsErr result × IfErr result (λ it. it.0 ≡ StoreFault.Storage) }
 
         // Tables that are there and are not listed as they are made here are damaged.
         ensures unlisted { conn.in_transaction ≡ false → (HasNone (state S.Store conn).now.schema → ⊥) → (AreListed (state S.Store conn).now.schema → ⊥) → IsErr result × IfErr result (λ it. it.0 ≡ StoreFault.Damaged) }
@@ -117,6 +122,9 @@ impl<S: Alter> Store<S> {
         // A crash at any moment of the call.
         ensures crash { Survives (state S.Store self.old) (state S.Store self.new) (λ _. ⊥) }
         ensures ended { self.old.in_transaction ≡ false → self.new.in_transaction ≡ false }
+
+        // Where a transaction is open already.
+        ensures begun { IsTrue self.old.in_transaction → result ≡ Err StoreFault.Storage }
     {
         load_tables(self.alloc, &mut self.conn)
     }
@@ -135,6 +143,9 @@ impl<S: Alter> Store<S> {
         // A crash at any moment of the call.
         ensures crash { Survives (state S.Store self.old) (state S.Store self.new) (IsLeft (Saves changes.now) (state S.Store self.old)) }
         ensures ended { self.old.in_transaction ≡ false → self.new.in_transaction ≡ false }
+
+        // Where a transaction is open already.
+        ensures begun { IsTrue self.old.in_transaction → result ≡ Err StoreFault.Storage }
     {
         if !are_left(self.conn.schema()) {
             return Err(StoreFault::Storage);
