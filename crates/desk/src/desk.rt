@@ -95,6 +95,7 @@ impl<S: Alter> Desk<S> {
         ensures crash_ok { IfOk result (λ desk. Survives (state S.Store connection) (state S.Store desk.store) (IsLeft Founds (state S.Store connection))) }
         ensures crash_err { IfErr result (λ e. Survives (state S.Store connection) (state S.Store e.1) (IsLeft Founds (state S.Store connection))) }
         ensures alone { IfOk result (λ desk. HasCleanDisk (state S.Store desk.store) → LeavesAlone (state S.Store desk.store)) }
+        ensures is_open { IfOk result (λ desk. HasCleanDisk (state S.Store desk.store) → IsTrue (state S.Store desk.store).is_open) }
     {
         match Store::open(alloc, connection) {
             Ok((store, office)) => Ok(Desk {

@@ -7,7 +7,8 @@
 //!
 //! Promised: `Desk::run` answers every list of requests by a run of the abstract office, `Desk::ask` one
 //! request by a step; a refused request changes nothing; the tables stand for the office between any two
-//! calls; and what a crash leaves at each exit is said. Begin with `desk.rt` and `specs/Keeping.antt`.
+//! calls; and what a crash leaves at each exit is said: opened again it is the office before, or one that the request
+//! or some beginning of the run makes of it (`crash_law`). Begin with `desk.rt` and `specs/Keeping.antt`.
 #![tactic(auto)]
 
 mod desk;

@@ -6,7 +6,8 @@
 //! Promised: `open` and `load` give the office that the tables stand for, or call them damaged where they
 //! stand for none; a database with none of the tables gets them in one transaction; `save` makes changes in
 //! one transaction, and touches only the rows that they name; after a fault everything is as before; and each
-//! says what a crash leaves. Other tables are left alone. Begin with `specs/Tables.antt`, then `store.rt`.
+//! says what a crash leaves, which opens as the office that its tables stand for (`opening_law`). Other tables
+//! are left alone. Begin with `specs/Tables.antt`, then `store.rt`.
 //!
 //! A further table of rows is one of `TABLES` and of `ROLLS` more, and an arm where rows are read and written.
 #![tactic(auto)]

@@ -49,6 +49,7 @@ fn open_tables<S: Alter>(alloc: Global, conn: &mut Connection<S>) -> Result<Offi
     ensures begun { IsTrue conn.old.in_transaction → result ≡ Err StoreFault.Storage }
     ensures unlisted { conn.old.in_transaction ≡ false → (HasNone (state S.Store conn.old).now.schema → ⊥) → (AreListed (state S.Store conn.old).now.schema → ⊥) → result ≡ Err StoreFault.Damaged }
     ensures alone { HasCleanDisk (state S.Store conn.new) → OnOk result (LeavesAlone (state S.Store conn.new)) }
+    ensures is_open { HasCleanDisk (state S.Store conn.new) → OnOk result (IsTrue (state S.Store conn.new).is_open) }
     ensures damaged { HasCleanDisk (state S.Store conn.new) → result ≡ Err StoreFault.Damaged → IsDamaged (state S.Store conn.old).now }
     ensures some { result ≡ Err StoreFault.Damaged → HasNone (state S.Store conn.old).now.schema → ⊥ }
     ensures kept { HasCleanDisk (state S.Store conn.new) → OnErr result (IsKept (state S.Store conn.old) (state S.Store conn.new)) }
@@ -91,6 +92,7 @@ impl<S: Alter> Store<S> {
         ensures ok { IfOk result (λ it. HasCleanDisk (state S.Store it.0) → Opens (state S.Store conn).now (state S.Store it.0).now it.1) }
         ensures ended { IfOk result (λ it. let store = it.0 in store.in_transaction ≡ false) }
         ensures alone { IfOk result (λ it. HasCleanDisk (state S.Store it.0) → LeavesAlone (state S.Store it.0)) }
+        ensures is_open { IfOk result (λ it. HasCleanDisk (state S.Store it.0) → IsTrue (state S.Store it.0).is_open) }
         ensures damaged { IfErr result (λ it. HasCleanDisk (state S.Store it.1) → it.0 ≡ StoreFault.Damaged → IsDamaged (state S.Store conn).now) }
         ensures some { IfErr result (λ it. it.0 ≡ StoreFault.Damaged → HasNone (state S.Store conn).now.schema → ⊥) }
         ensures given_back { IfErr result (λ it. let back = it.1 in conn.in_transaction ≡ false → back.in_transaction ≡ false) }
