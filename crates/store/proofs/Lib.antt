@@ -1,4 +1,3 @@
-pub mod Standing
 mod Cells
 mod Keys
 mod Columns
