@@ -64,13 +64,11 @@ pub fn put<S: Alter>(
     ensures same_reference { tx.new.conn.ghost_name ≡ tx.old.conn.ghost_name }
     ensures step { Does (HasStepped (Puts (table_at table) (key_in table (bound row.now)) (bound row.now))) result (state S.Store tx.old.conn.now) (state S.Store tx.new.conn.now) }
 {
-    let count = update(tx, table, row)?;
-    if count == 0 {
-        insert(tx, table, row)?;
-    } else if count != 1 {
-        return Err(TableFault::Storage);
+    match update(tx, table, row)? {
+        0 => insert(tx, table, row),
+        1 => Ok(()),
+        _ => Err(TableFault::Storage),
     }
-    Ok(())
 }
 
 /// Takes the rows away that begin with these values.
