@@ -69,6 +69,9 @@ static TWO_LISTS: &str =
        POST /rounds       |                       | 200 OK        | {"round":2}
        GET /students/B    |                       | 200 OK        | {"list":null,"name":"Bob","placed":null}
        DELETE /lists/B    |                       | 404 Not Found | {"fault":"NoList","number":25}
+       PUT /lists/B       | {"choices":["P"]}     | 200 OK        | {"ok":true}
+       DELETE /lists/B    |                       | 200 OK        | {"ok":true}
+       DELETE /lists/B    |                       | 404 Not Found | {"fault":"NoList","number":25}
        PUT /lists/B       | {"choices":["Y","Q"]} | 200 OK        | {"ok":true}
        GET /students/B    |                       | 200 OK        | {"list":["Y","Q"],"name":"Bob","placed":null}
        POST /rounds/close |                       | 200 OK        | {"profile":[0,1,0,0,0,0,0,0],"round":2,"size":1}
@@ -193,7 +196,7 @@ fn compare_place(
     compare_exchanges(alloc, rt, desk, &line)
 }
 
-/// Sixty students who want each the next one's only other project; the last has no choice.
+/// Each student but the last lists the next one's project before an own one; the last lists the last project alone.
 #[rattlefmt::skip]
 static SIXTY: &str =
     r#"PUT /lists/S60     | {"choices":["P60"]} | 200 OK | {"ok":true}

@@ -11,13 +11,12 @@ use std::rt::HostRuntime;
 use std::test::Fail;
 use web::{End, Served};
 
-/// A supervisor of quota 5 with projects P and Q of quota 1 and Y and Z of quota 0, and students A, B and C.
+/// A supervisor of quota 5 with projects P and Q of quota 1 and Z of quota 0, and students A, B and C.
 #[rattlefmt::skip]
 static ROLLS: &str =
     r#"PUT /supervisors/L | {"name":"Lee","quota":5}                    | 200 OK | {"ok":true}
        PUT /projects/P    | {"name":"Pumps","quota":1,"supervisor":"L"} | 200 OK | {"ok":true}
        PUT /projects/Q    | {"name":"Quays","quota":1,"supervisor":"L"} | 200 OK | {"ok":true}
-       PUT /projects/Y    | {"name":"Yards","quota":0,"supervisor":"L"} | 200 OK | {"ok":true}
        PUT /projects/Z    | {"name":"Zinc","quota":0,"supervisor":"L"}  | 200 OK | {"ok":true}
        PUT /students/A    | {"name":"Ann"}                              | 200 OK | {"ok":true}
        PUT /students/B    | {"name":"Bob"}                              | 200 OK | {"ok":true}
@@ -32,6 +31,10 @@ static SHUT: &str =
        GET /roundtext      |                                                         | 409 Conflict  | {"fault":"NoRoundOpen","number":19}
        DELETE /lists/A     |                                                         | 409 Conflict  | {"fault":"NoRoundOpen","number":19}
        PUT /lists/A        | {"choices":["P","Q","Y","Z","P","Q","Y","Z","P"]}       | 409 Conflict  | {"fault":"NoRoundOpen","number":19}
+       PUT /lists/A        | {"choices":["P","Q"]}                                   | 409 Conflict  | {"fault":"NoRoundOpen","number":19}
+       PUT /lists/A        | {"choices":[]}                                          | 409 Conflict  | {"fault":"NoRoundOpen","number":19}
+       PUT /lists/A        | {"choices":["P","P"]}                                   | 409 Conflict  | {"fault":"NoRoundOpen","number":19}
+       PUT /lists/A        | {"choices":["P","N","P"]}                               | 409 Conflict  | {"fault":"NoRoundOpen","number":19}
        GET /rounds/1       |                                                         | 404 Not Found | {"fault":"UnknownRound","number":26}
        GET /rounds/9999    |                                                         | 404 Not Found | {"fault":"UnknownRound","number":26}
        GET /rounds/12345   |                                                         | 404 Not Found | {"fault":"NoRoute","number":5}
@@ -100,7 +103,7 @@ static AFTER: &str =
        GET /students/C    | | 200 OK | {"list":null,"name":"Cy","placed":{"project":"P","rank":2,"round":1}}"#;
 
 /// The text of the first round before it closes.
-static TEXT: &str = "S,L,5\nP,P,L,1\nP,Q,L,1\nP,Y,L,0\nP,Z,L,0\nC,A,P,Q\nC,C,Z,P\n";
+static TEXT: &str = "S,L,5\nP,P,L,1\nP,Q,L,1\nP,Z,L,0\nC,A,P,Q\nC,C,Z,P\n";
 
 /// Compares the round text.
 fn compare_text(alloc: Global, rt: &impl Abort, desk: &mut Desk<MemStore>) -> Result<(), Fail> {
