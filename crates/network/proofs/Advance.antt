@@ -116,11 +116,6 @@ ready_first {G} {o} laws f formed student marks new len fresh relaxed =
       unranked None h = refl
       unranked (Some k) h = absurd (h k refl)
 
--- what a choice needs of the labels
-pub ready_labels : {G : Type 0} {o : Ops G} (f : Flow G) → IsFormed o f → (first : Origin → G → ℕ → Type 0) (marks : List (Mark G)) (rank : ℕ)
-    → IsReady o first (Arc o f) f.potentials.items (sink_of f) marks rank → (v : ℕ) → o.span (mark_at o marks v).label ≤ 2 ^ 20
-ready_labels {G} {o} f formed first marks rank r v = omega (arith, r.search.spans v, r.few, formed.potentials, formed.few_projects, formed.few_supervisors)
-
 -- a search whose next node is the sink has found its walk
 pub ready_chosen : {G : Type 0} {o : Ops G} (f : Flow G) (first : Origin → G → ℕ → Type 0) (marks : List (Mark G)) (rank node : ℕ)
     → IsReady o first (Arc o f) f.potentials.items (sink_of f) marks rank → is_open_mark (mark_at o marks node) ≡ true

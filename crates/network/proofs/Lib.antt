@@ -1,5 +1,4 @@
 pub mod Group
-pub mod Choice
 pub mod Relax
 pub mod Settle
 pub mod Lower
@@ -13,6 +12,7 @@ pub mod Sums
 pub mod Costs
 pub mod Listed
 pub mod Labelled
+pub mod Queue
 pub mod Transfer
 pub mod Seated
 pub mod Seats

@@ -1,5 +1,5 @@
 -- The marks of a search.
-use Rattle.std.specs.Prelude.{ℕ, List, slice_index_or, Option, Some, None, Bool, true, false, cond, not, ◌&&◌, sum_by}
+use Rattle.std.specs.Prelude.{ℕ, List, slice_index_or, Option, Some, None, Bool, true, false, cond, not, ◌&&◌, ◌||◌, sum_by}
 use Rattle.std.specs.Ordering.{is_gt}
 use Rattle.spa.specs.Laws.{Ops}
 use Rattle.network.specs.declared.marks.Origin.{Origin}
@@ -39,6 +39,10 @@ potential_at o potentials v = slice_index_or potentials v o.zero
 -- the worth that a walk by this node may come to
 abbrev pub key_at : {G : Type 0} → Ops G → List (Mark G) → List G → ℕ → G
 key_at o marks potentials v = o.plus (mark_at o marks v).label (potential_at o potentials v)
+
+-- a label that the node takes: it is not settled, and has none or a lower one
+abbrev pub improves : {G : Type 0} → Ops G → Mark G → G → Bool
+improves o m label = not (is_settled m.rank) && (not (is_seen m.origin) || is_gt (o.cmp label m.label))
 
 -- what one relaxation makes of a mark
 abbrev pub relaxed : {G : Type 0} → Ops G → Mark G → G → Origin → Mark G

@@ -32,14 +32,16 @@ pub struct Mark<G> {
 #[derive(Drop)]
 pub struct Labels<G> {
     pub marks: Vec<Mark<G>>,
-    /// The open nodes, in any order.
+    /// The open nodes, by what a walk by them may come to, the least first.
     pub frontier: Vec<usize>,
     /// The settled nodes.
     pub settled: Vec<usize>,
 }
 
 mod blank;
+mod queue;
 mod steps;
 
 pub(crate) use blank::{blank_labels, clear};
-pub(crate) use steps::{best_open, exceeds, relax, settle};
+pub(crate) use queue::{best_open, exceeds};
+pub(crate) use steps::{relax, settle};

@@ -3,7 +3,7 @@
 ghost use Rattle.std.specs.Prelude.{◌≡◌, ℕ, ◌+◌, ◌*◌, ◌<◌, ◌≤◌, ◌^◌, length, slice_get, slice_index, Some, IfSome, IfNone, sum_by, nat_lt, List};
 ghost use Rattle.spa.specs.declared.TheConstants.{MOST_STUDENTS, RANKS};
 ghost use Rattle.network.specs.declared.TheConstants.{MOST_OFFERS};
-ghost use Rattle.network.specs.Labels.{AreLabels};
+ghost use Rattle.network.specs.Labels.{IsQueue};
 ghost use Rattle.network.specs.Kept.{numbers_at, IsKept};
 ghost use Rattle.network.specs.Search.{Relaxes, OffersOf};
 ghost use Rattle.network.specs.Arcs.{Arc, IsFormed, OfStudent, EntriesBelow, StudentsAmong, ProjectsAmong, list_cost, HasEntry, Holds, sink_of, project_count};
@@ -49,19 +49,20 @@ fn relax_entry<G: Worth>(
     labels: &mut Labels<G>,
     count: &mut u64,
 )
-    requires labels { AreLabels G.ops labels.old }
+    requires queue { IsQueue G.ops flow.now labels.old }
     requires formed { IsFormed G.ops flow.now }
     requires marks { length labels.old.marks.items ≡ length flow.now.potentials.items }
     requires student { student < length flow.now.lists.items }
     requires listed { (row : _) → slice_get flow.now.lists.items student ≡ Some row → k < length row.items }
     requires label { G.ops.span label < 2 ^ 32 }
     requires count { count.old < 2 ^ 40 }
-    ensures labels { AreLabels G.ops labels.new }
+    ensures queue { IsQueue G.ops flow.now labels.new }
     ensures relaxes { (m : _) → Relaxes G.ops (EntriesBelow G.ops flow.now student label k) m labels.old.marks.items → Relaxes G.ops (EntriesBelow G.ops flow.now student label (k + 1)) m labels.new.marks.items }
     ensures count { count.new ≡ count.old + 1 }
 {
     let (project, worth) = entry(flow, student, k);
     relax(
+        flow,
         labels,
         project,
         label.plus(worth),
@@ -78,13 +79,13 @@ pub(crate) fn relax_entries<G: Worth>(
     labels: &mut Labels<G>,
     count: &mut u64,
 )
-    requires labels { AreLabels G.ops labels.old }
+    requires queue { IsQueue G.ops flow.now labels.old }
     requires formed { IsFormed G.ops flow.now }
     requires marks { length labels.old.marks.items ≡ length flow.now.potentials.items }
     requires student { student < length flow.now.lists.items }
     requires label { G.ops.span label < 2 ^ 32 }
     requires count { count.old < 2 ^ 32 }
-    ensures labels { AreLabels G.ops labels.new }
+    ensures queue { IsQueue G.ops flow.now labels.new }
     ensures relaxes { Relaxes G.ops (OfStudent G.ops flow.now student label) labels.old.marks.items labels.new.marks.items }
     ensures count { (row : _) → slice_get flow.now.lists.items student ≡ Some row → count.new ≡ count.old + length row.items + 1 }
     ensures small { count.new ≤ count.old + MOST_OFFERS }
@@ -93,7 +94,7 @@ pub(crate) fn relax_entries<G: Worth>(
     for k in 0..entries {
         relax_entry(flow, student, k, label, labels, count);
     }
-    relax(labels, sink(flow), label, Origin::Leave(student), count);
+    relax(flow, labels, sink(flow), label, Origin::Leave(student), count);
 }
 
 /// The worth of the student's place, where that is at the project.
@@ -122,12 +123,12 @@ fn relax_student<G: Worth>(
     count: &mut u64,
 )
     requires formed { IsFormed G.ops flow.now }
-    requires labels { AreLabels G.ops labels.old }
+    requires queue { IsQueue G.ops flow.now labels.old }
     requires marks { length labels.old.marks.items ≡ length flow.now.potentials.items }
     requires student { student < length flow.now.lists.items }
     requires label { G.ops.span label < 2 ^ 31 }
     requires count { count.old < 2 ^ 32 }
-    ensures labels { AreLabels G.ops labels.new }
+    ensures queue { IsQueue G.ops flow.now labels.new }
     ensures relaxes { (m : _) (xs : List ℕ) (i : ℕ) → slice_get xs i ≡ Some student → Relaxes G.ops (StudentsAmong G.ops flow.now project label xs i) m labels.old.marks.items → Relaxes G.ops (StudentsAmong G.ops flow.now project label xs (i + 1)) m labels.new.marks.items }
     ensures grows { count.old ≤ count.new }
     ensures cost { count.new ≤ count.old + list_cost flow.now.lists.items student }
@@ -150,12 +151,12 @@ fn relax_students<G: Worth>(
 )
     requires formed { IsFormed G.ops flow.now }
     requires kept { IsKept flow.now kept.now }
-    requires labels { AreLabels G.ops labels.old }
+    requires queue { IsQueue G.ops flow.now labels.old }
     requires marks { length labels.old.marks.items ≡ length flow.now.potentials.items }
     requires project { project < length flow.now.projects.items }
     requires label { G.ops.span label < 2 ^ 31 }
     requires count { count.old < 2 ^ 31 }
-    ensures labels { AreLabels G.ops labels.new }
+    ensures queue { IsQueue G.ops flow.now labels.new }
     ensures relaxes { Relaxes G.ops (StudentsAmong G.ops flow.now project label (numbers_at kept.now.seated.items project) (length (numbers_at kept.now.seated.items project))) labels.old.marks.items labels.new.marks.items }
     ensures grows { count.old ≤ count.new }
     ensures cost { count.new ≤ count.old + sum_by (λ row. length row.items + 1) flow.now.lists.items }
@@ -211,13 +212,13 @@ pub(crate) fn relax_project<G: Worth>(
     count: &mut u64,
 )
     requires kept { IsKept flow.now kept.now }
-    requires labels { AreLabels G.ops labels.old }
+    requires queue { IsQueue G.ops flow.now labels.old }
     requires formed { IsFormed G.ops flow.now }
     requires marks { length labels.old.marks.items ≡ length flow.now.potentials.items }
     requires at { at < length flow.now.projects.items }
     requires label { G.ops.span label < 2 ^ 31 }
     requires count { count.old < 2 ^ 31 }
-    ensures labels { AreLabels G.ops labels.new }
+    ensures queue { IsQueue G.ops flow.now labels.new }
     ensures relaxes { Relaxes G.ops (OffersOf G.ops (Arc G.ops flow.now) at label) labels.old.marks.items labels.new.marks.items }
     ensures grows { count.old ≤ count.new }
     ensures cost { count.new ≤ count.old + sum_by (λ row. length row.items + 1) flow.now.lists.items + 1 }
@@ -227,6 +228,7 @@ pub(crate) fn relax_project<G: Worth>(
     let (supervisor, quota) = project(flow, at);
     if project_has_room(flow, at, quota) {
         relax(
+            flow,
             labels,
             supervisor_node(flow, supervisor),
             label,
@@ -247,18 +249,19 @@ fn relax_swaps<G: Worth>(
 )
     requires formed { IsFormed G.ops flow.now }
     requires kept { IsKept flow.now kept.now }
-    requires labels { AreLabels G.ops labels.old }
+    requires queue { IsQueue G.ops flow.now labels.old }
     requires marks { length labels.old.marks.items ≡ length flow.now.potentials.items }
     requires supervisor { supervisor < length flow.now.supervisors.items }
+    requires label { G.ops.span label < 2 ^ 31 }
     requires count { count.old < 2 ^ 31 }
-    ensures labels { AreLabels G.ops labels.new }
+    ensures queue { IsQueue G.ops flow.now labels.new }
     ensures relaxes { Relaxes G.ops (ProjectsAmong G.ops flow.now supervisor label (numbers_at kept.now.offered.items supervisor) (length (numbers_at kept.now.offered.items supervisor))) labels.old.marks.items labels.new.marks.items }
     ensures grows { count.old ≤ count.new }
     ensures cost { count.new ≤ count.old + length flow.now.projects.items }
 {
     let projects = projects_at(kept, supervisor);
     for i in 0..projects.len() {
-        relax(labels, projects[i], label, Origin::Swap(supervisor), count);
+        relax(flow, labels, projects[i], label, Origin::Swap(supervisor), count);
     }
 }
 
@@ -272,19 +275,19 @@ pub(crate) fn relax_supervisor<G: Worth>(
     count: &mut u64,
 )
     requires kept { IsKept flow.now kept.now }
-    requires labels { AreLabels G.ops labels.old }
+    requires queue { IsQueue G.ops flow.now labels.old }
     requires formed { IsFormed G.ops flow.now }
     requires marks { length labels.old.marks.items ≡ length flow.now.potentials.items }
     requires supervisor { supervisor < length flow.now.supervisors.items }
     requires label { G.ops.span label < 2 ^ 31 }
     requires count { count.old < 2 ^ 31 }
-    ensures labels { AreLabels G.ops labels.new }
+    ensures queue { IsQueue G.ops flow.now labels.new }
     ensures relaxes { Relaxes G.ops (OffersOf G.ops (Arc G.ops flow.now) (length flow.now.projects.items + supervisor) label) labels.old.marks.items labels.new.marks.items }
     ensures grows { count.old ≤ count.new }
     ensures cost { count.new ≤ count.old + length flow.now.projects.items + 1 }
 {
     relax_swaps(flow, kept, supervisor, label, labels, count);
     if supervisor_has_room(flow, supervisor) {
-        relax(labels, sink(flow), label, Origin::Room(supervisor), count);
+        relax(flow, labels, sink(flow), label, Origin::Room(supervisor), count);
     }
 }

@@ -3,7 +3,7 @@
 ghost use Rattle.std.specs.Prelude.{◌≡◌, ℕ, ◌+◌, ◌*◌, ◌<◌, ◌≤◌, ◌^◌, length, slice_get, slice_set, Some, true};
 ghost use Rattle.spa.specs.Laws.{AtMost};
 ghost use Rattle.network.specs.Marks.{mark_at, potential_at, key_at, blank, settled_as, is_open_mark};
-ghost use Rattle.network.specs.Labels.{AreLabels};
+ghost use Rattle.network.specs.Labels.{AreLabels, IsQueue};
 ghost use Rattle.network.specs.Kept.{IsKept};
 ghost use Rattle.network.specs.declared.TheConstants.{MOST_OFFERS, MOST_ARCS};
 ghost use Rattle.network.specs.Search.{Relaxes, OffersOf, Feasible, IsFound, IsRunning};
@@ -33,13 +33,13 @@ fn relax_node<G: Worth>(
     count: &mut u64,
 )
     requires kept { IsKept flow.now kept.now }
-    requires labels { AreLabels G.ops labels.old }
+    requires queue { IsQueue G.ops flow.now labels.old }
     requires formed { IsFormed G.ops flow.now }
     requires marks { length labels.old.marks.items ≡ length flow.now.potentials.items }
     requires node { node < sink_of flow.now }
     requires label { G.ops.span label < 2 ^ 31 }
     requires count { count.old < 2 ^ 31 }
-    ensures labels { AreLabels G.ops labels.new }
+    ensures queue { IsQueue G.ops flow.now labels.new }
     ensures relaxes { Relaxes G.ops (OffersOf G.ops (Arc G.ops flow.now) node label) labels.old.marks.items labels.new.marks.items }
     ensures grows { count.old ≤ count.new }
     ensures cost { count.new ≤ count.old + flow_arcs flow.now }
@@ -63,14 +63,14 @@ fn expand<G: Worth>(
     count: &mut u64,
 )
     requires kept { IsKept flow.now kept.now }
-    requires labels { AreLabels G.ops labels.old }
+    requires queue { IsQueue G.ops flow.now labels.old }
     requires opened { is_open_mark (mark_at G.ops labels.old.marks.items node) ≡ true }
     requires formed { IsFormed G.ops flow.now }
     requires marks { length labels.old.marks.items ≡ length flow.now.potentials.items }
     requires node { node < sink_of flow.now }
     requires label { G.ops.span (mark_at G.ops labels.old.marks.items node).label < 2 ^ 31 }
     requires count { count.old < 2 ^ 31 }
-    ensures labels { AreLabels G.ops labels.new }
+    ensures queue { IsQueue G.ops flow.now labels.new }
     ensures relaxes { Relaxes G.ops (OffersOf G.ops (Arc G.ops flow.now) node (mark_at G.ops labels.old.marks.items node).label) (slice_set labels.old.marks.items node (settled_as (mark_at G.ops labels.old.marks.items node) rank)) labels.new.marks.items }
     ensures grows { count.old ≤ count.new }
     ensures cost { count.new ≤ count.old + flow_arcs flow.now }
@@ -79,20 +79,6 @@ fn expand<G: Worth>(
     let label = label_of(labels, node);
     settle(labels, node, rank);
     relax_node(flow, kept, node, label, labels, count);
-}
-
-/// The open node whose walk can end highest.
-fn choose<G: Worth>(flow: &Flow<G>, labels: &Labels<G>) -> usize
-    requires labels { AreLabels G.ops labels.now }
-    requires formed { IsFormed G.ops flow.now }
-    requires marks { length labels.now.marks.items ≡ length flow.now.potentials.items }
-    requires sink_open { is_open_mark (mark_at G.ops labels.now.marks.items (sink_of flow.now)) ≡ true }
-    requires spans { (v : ℕ) → G.ops.span (mark_at G.ops labels.now.marks.items v).label ≤ 2 ^ 20 }
-    requires potentials { (v : ℕ) → G.ops.span (potential_at G.ops flow.now.potentials.items v) ≤ 2 ^ 20 }
-    ensures opened { is_open_mark (mark_at G.ops labels.now.marks.items result) ≡ true }
-    ensures best { (b : ℕ) → is_open_mark (mark_at G.ops labels.now.marks.items b) ≡ true → AtMost G.ops (key_at G.ops labels.now.marks.items flow.now.potentials.items b) (key_at G.ops labels.now.marks.items flow.now.potentials.items result) }
-{
-    best_open(labels, flow.potentials.as_slice())
 }
 
 /// The node is settled, its arcs are relaxed, and the next node is chosen.
@@ -106,21 +92,20 @@ fn advance<G: Worth>(
     count: &mut u64,
 ) -> usize
     requires kept { IsKept flow.now kept.now }
-    requires labels { AreLabels G.ops labels.old }
+    requires queue { IsQueue G.ops flow.now labels.old }
     requires formed { IsFormed G.ops flow.now }
     requires running { IsRunning G.ops (OfStudent G.ops flow.now student G.ops.zero) (Arc G.ops flow.now) flow.now.potentials.items (sink_of flow.now) labels.old.marks.items rank node }
     requires feasible { Feasible G.ops (Arc G.ops flow.now) flow.now.potentials.items }
-    requires potentials { (v : ℕ) → G.ops.span (potential_at G.ops flow.now.potentials.items v) ≤ 2 ^ 20 }
     requires node { node < sink_of flow.now }
     requires count { count.old < 2 ^ 31 }
-    ensures labels { AreLabels G.ops labels.new }
+    ensures queue { IsQueue G.ops flow.now labels.new }
     ensures running { IsRunning G.ops (OfStudent G.ops flow.now student G.ops.zero) (Arc G.ops flow.now) flow.now.potentials.items (sink_of flow.now) labels.new.marks.items (rank + 1) result }
     ensures grows { count.old ≤ count.new }
     ensures cost { count.new ≤ count.old + flow_arcs flow.now }
     ensures small { count.new ≤ count.old + MOST_ARCS }
 {
     expand(flow, kept, node, rank, labels, count);
-    choose(flow, labels)
+    best_open(flow, labels)
 }
 
 /// The first offers, and the first choice.
@@ -132,13 +117,13 @@ fn begin<G: Worth>(flow: &Flow<G>, student: usize, labels: &mut Labels<G>, count
     requires student { student < length flow.now.lists.items }
     requires potentials { (v : ℕ) → G.ops.span (potential_at G.ops flow.now.potentials.items v) ≤ 2 ^ 20 }
     requires count { count.old < 2 ^ 31 }
-    ensures labels { AreLabels G.ops labels.new }
+    ensures queue { IsQueue G.ops flow.now labels.new }
     ensures running { IsRunning G.ops (OfStudent G.ops flow.now student G.ops.zero) (Arc G.ops flow.now) flow.now.potentials.items (sink_of flow.now) labels.new.marks.items 0 result }
     ensures cost { (row : _) → slice_get flow.now.lists.items student ≡ Some row → count.new ≡ count.old + length row.items + 1 }
     ensures small { count.new ≤ count.old + MOST_OFFERS }
 {
     relax_entries(flow, student, G::zero(), labels, count);
-    choose(flow, labels)
+    best_open(flow, labels)
 }
 
 /// A search from a student to the sink.
