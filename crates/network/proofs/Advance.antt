@@ -1,5 +1,5 @@
 -- a search goes on by one node
-use Rattle.std.proofs.Common.{◌≡◌, ℕ, ◌+◌, ◌^◌, ◌<◌, ◌≤◌, List, length, set, true, Option, Some, None, refl, arith, sym, ◌∙◌, ap, length-set, not}
+use Rattle.std.proofs.Common.{◌≡◌, ℕ, ◌+◌, ◌<◌, ◌≤◌, List, length, set, true, Option, Some, None, refl, arith, sym, ◌∙◌, ap, length-set, not}
 use Rattle.std.proofs.lemmas.Bool.{and_from}
 use Rattle.spa.specs.Laws.{Ops, IsWorth, AtMost}
 use Rattle.network.specs.Marks.{is_settled, is_open_mark, blank, mark_at, key_at, settled_as, unsettled}

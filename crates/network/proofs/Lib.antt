@@ -13,6 +13,7 @@ pub mod Costs
 pub mod Listed
 pub mod Labelled
 pub mod Queue
+pub mod Onward
 pub mod Transfer
 pub mod Seated
 pub mod Seats

@@ -1,18 +1,19 @@
 -- The open nodes keep their order.
-use Rattle.std.proofs.Common.{◌≡◌, ℕ, ◌+◌, ◌-◌, ◌<◌, ◌≤◌, ◌^◌, ◌==◌, ◌⊎◌, inl, inr, List, length, set, get_or, Bool, true, false, cond, not, ◌&&◌, ◌||◌, Some, None, refl, sym, ◌∙◌, ap, arith, slice_get, eqb, eq-eqb, ne_eqb, get_or-set_same, get_or-set_other, length-set}
+use Rattle.std.proofs.Common.{◌≡◌, ℕ, ◌+◌, ◌-◌, ◌<◌, ◌≤◌, ◌^◌, ◌==◌, ◌⊎◌, inl, inr, List, length, set, get_or, Bool, true, false, cond, not, ◌&&◌, ◌||◌, Some, None, refl, sym, ◌∙◌, ap, subst, arith, slice_get, eqb, eq-eqb, ne_eqb, get_or-set_same, get_or-set_other, length-set}
 use Rattle.std.specs.List.{insert, remove, AllPairs}
 use Rattle.std.specs.Ordering.{is_gt}
-use Rattle.std.proofs.lemmas.Bool.{cases_eq, cases_lt}
+use Rattle.std.proofs.lemmas.Bool.{cases_eq, cases_lt, and_parts}
 use Rattle.std.proofs.lemmas.Option.{slice_get-get_or, slice_get_within, get_or_from_slice_get, same_Some}
 use Rattle.std.proofs.lemmas.List.Edits.{length-insert, get_or-insert_below, get_or-insert_at, get_or-insert_above}
 use Rattle.std.proofs.lemmas.List.Quantifiers.{all_pairs_remove}
 use Rattle.std.proofs.lemmas.List.Sums.{sum_by-insert, sum_by-remove}
 use Rattle.spa.specs.Laws.{Ops, IsWorth, AtMost}
-use Rattle.network.proofs.Group.{at_most_refl, at_most_trans, at_most_rev}
+use Rattle.network.proofs.Group.{at_most_refl, at_most_trans, at_most_rev, at_most_shift}
 use Rattle.network.specs.Marks.{is_seen, is_settled, is_open_mark, blank, mark_at, potential_at, key_at, improves, relaxed, settled_as}
 use Rattle.network.specs.Push.{one_if}
-use Rattle.network.specs.Labels.{count_of, AreLabels, AreKeyed, IsOrdered, IsQueue, IsWithout}
-use Rattle.network.proofs.Listed.{cond_one, stands, found, length_below}
+use Rattle.network.specs.Labels.{count_of, AreLabels, AreKeyed, IsBounded, IsOrdered, IsQueue, IsQueueBut, IsWithout, HasWay, at_sink}
+use Rattle.network.specs.Arcs.{sink_of}
+use Rattle.network.proofs.Listed.{cond_one, stands, length_below}
 use Rattle.network.proofs.Labelled.{open_known, open_element, one_most, labels_set, labels_settled}
 use Rattle.network.proofs.Settle.{open_rank}
 use Rattle.std.specs.Vec.{vec_capacity}
@@ -114,26 +115,9 @@ module _ {G : Type 0} (o : Ops G) where
   key_other f marks node m b ne = ap (λ (z : Mark G). o.plus z.label (potential_at o f.potentials.items b)) (get_or-set_other marks node b m (blank o) ne)
 
   module _ (l : Labels G) (are : AreLabels o l) (xs : List ℕ) (node : ℕ) (gone : count_of xs node ≡ 0) (others : (n : ℕ) → (node ≡ n → ⊥) → count_of xs n ≡ count_of l.frontier.items n) where
-    -- what is left of the open nodes without one: another node
+    -- what is left without one is another node
     pub rest_other : (k b : ℕ) → slice_get xs k ≡ Some b → b ≡ node → ⊥
     rest_other k b e q = let s = stands xs k b e in let z : count_of xs b ≡ 0 = ap (count_of xs) q ∙ gone in omega (arith, s, z)
-
-    -- and one of the marks
-    pub rest_known : (k b : ℕ) → slice_get xs k ≡ Some b → b < length l.marks.items
-    rest_known k b e =
-        let s = stands xs k b e in
-        let same = others b (λ q. rest_other k b e (sym q)) in
-        let at = found l.frontier.items b (omega (arith, s, same)) in
-        open_known l are at.0 b at.1
-
-    -- so there is room for it
-    pub rest_fits : node < length l.marks.items → length xs < length l.marks.items
-    rest_fits lt = length_below (length l.marks.items) node xs rest_known once lt gone where
-      once : (n : ℕ) → count_of xs n ≤ 1
-      once n = elim (cases_eq node n) [
-        | inl q ↦ (let z : count_of xs n ≡ 0 = ap (count_of xs) (sym q) ∙ gone in omega (arith, z))
-        | inr ne ↦ (let same = others n ne in omega (arith, same, are.frontier n, one_most (is_open_mark (mark_at o l.marks.items n))))
-      ]
 
   -- one mark is set, and its label is small
   pub keyed_set : (f : Flow G) (marks : List (Mark G)) (node : ℕ) (m : Mark G) → AreKeyed o f marks → node < length marks → o.span m.label ≤ 2 ^ 33 → AreKeyed o f (set marks node m)
@@ -151,79 +135,207 @@ module _ {G : Type 0} (o : Ops G) where
   ordered_out f marks xs ys (inl e) pairs = rw e pairs
   ordered_out f marks xs ys (inr r) pairs = rw r.2 (all_pairs_remove (λ a b. AtMost o (key_at o marks f.potentials.items a) (key_at o marks f.potentials.items b)) xs r.0 r.1 pairs)
 
-  -- a node takes a better label and its place
-  module _ (f : Flow G) (l : Labels G) (q : IsQueue o f l) (node : ℕ) (lt : node < length l.marks.items) (label : G) (small : o.span label ≤ 2 ^ 33) (origin : Origin)
-      (seen : is_seen origin ≡ true) (better : improves o (mark_at o l.marks.items node) label ≡ true)
-      (xs : List ℕ) (gone : count_of xs node ≡ 0) (others : (n : ℕ) → (node ≡ n → ⊥) → count_of xs n ≡ count_of l.frontier.items n) (order : IsWithout l.frontier.items xs) where
-    -- the node's mark, and all marks
-    abbrev pub taken : Mark G
+  -- a better label is no lower
+  pub better_grows : (m : Mark G) (label : G) → improves o m label ≡ true → is_seen m.origin ≡ true → is_gt (o.cmp label m.label) ≡ true
+  better_grows m label e seen = go (is_settled m.rank) (is_seen m.origin) (is_gt (o.cmp label m.label)) e seen where
+    go : (s t u : Bool) → (not s && (not t || u)) ≡ true → t ≡ true → u ≡ true
+    go true t u e f = cc
+    go false true u e f = e
+    go false false u e f = cc
+
+module _ {G : Type 0} {o : Ops G} (laws : IsWorth o) (f : Flow G) where
+  -- a node takes a better label
+  module _ (l : Labels G) (q : IsQueue o f l) (node : ℕ) (lt : node < length l.marks.items) (label : G) (small : o.span label ≤ 2 ^ 33) (origin : Origin)
+      (seen : is_seen origin ≡ true) (better : improves o (mark_at o l.marks.items node) label ≡ true) where
+    -- its mark, and all marks
+    abbrev taken : Mark G
     taken = record { label = label; origin = origin; rank = None }
-    abbrev pub marks_now : List (Mark G)
+
+    abbrev marks_now : List (Mark G)
     marks_now = set l.marks.items node taken
 
-    pub keyed_now : AreKeyed o f marks_now
-    keyed_now = keyed_set f l.marks.items node taken q.keyed lt small
+    here : mark_at o marks_now node ≡ taken
+    here = get_or-set_same l.marks.items node taken (blank o) lt
 
-    pub known_now : (k b : ℕ) → slice_get xs k ≡ Some b → b < length marks_now
-    known_now k b e = simp length-set (rest_known l q.labels xs node gone others k b e)
+    there : (b : ℕ) → (b ≡ node → ⊥) → mark_at o marks_now b ≡ mark_at o l.marks.items b
+    there b ne = get_or-set_other l.marks.items node b taken (blank o) ne
 
-    pub ordered_now : IsOrdered o f marks_now xs
-    ordered_now = ordered_same f l.marks.items marks_now xs (λ k b e. key_other f l.marks.items node taken b (rest_other l q.labels xs node gone others k b e))
-        (ordered_out f l.marks.items l.frontier.items xs order q.ordered)
-
-    pub fits_now : length xs < vec_capacity l.frontier
-    fits_now = let s = rest_fits l q.labels xs node gone others lt in omega (arith, s, q.labels.frontier_room)
-
-    pub queue_now : (n : Labels G) → n.marks.items ≡ marks_now → IsOrdered o f marks_now n.frontier.items → ((b : ℕ) → count_of n.frontier.items b ≡ count_of xs b + one_if (eqb node b))
-        → vec_capacity n.frontier ≡ vec_capacity l.frontier → n.settled ≡ l.settled → IsQueue o f n
-    queue_now n set_is ordered counts room dones = record {
-      labels =
-        (let opened : one_if (is_open_mark taken) ≡ 1 = ap (λ z. one_if (z && not (is_settled None))) seen in
-        let one : one_if (eqb node node) ≡ 1 = ap one_if (eq-eqb node node refl) in
-        let undone : one_if (is_settled (mark_at o l.marks.items node).rank) ≡ 0 = ap one_if (better_open (mark_at o l.marks.items node) label better) in
-        labels_set l q.labels n node taken lt set_is seen
-        (λ b ne. let z : one_if (eqb node b) ≡ 0 = ap one_if (ne_eqb node b (λ e. ne (sym e))) in let same = others b (λ e. ne (sym e)) in omega (arith, counts b, same, z))
-        (omega (arith, counts node, gone, one, opened))
-        (λ b ne. ap (λ (z : Vec ℕ Global). count_of z.items b) dones)
-        (ap (λ (z : Vec ℕ Global). count_of z.items node) dones ∙ q.labels.settled node ∙ undone)
-        room (ap vec_capacity dones));
-      keyed = rw set_is keyed_now;
-      ordered = rw set_is ordered;
+    -- the end stays one
+    bounded_now : IsBounded o f marks_now l.bound l.end
+    bounded_now = record {
+      way = q.bounded.way;
+      reached = elim q.bounded.reached [
+        | inl p ↦ inl p
+        | inr p ↦ inr (elim (cases_eq l.end node) [
+          | inl e ↦
+              (let was : is_seen (mark_at o l.marks.items node).origin ≡ true = ap (λ z. is_seen (mark_at o l.marks.items z).origin) (sym e) ∙ p.0 in
+              let up : AtMost o (mark_at o l.marks.items node).label label = at_most_rev laws _ _ (better_grows o (mark_at o l.marks.items node) label better was) in
+              let h : G = potential_at o f.potentials.items l.end in
+              let at : mark_at o marks_now l.end ≡ taken = ap (mark_at o marks_now) e ∙ here in
+              let key_was : key_at o l.marks.items f.potentials.items l.end ≡ o.plus (mark_at o l.marks.items node).label h = ap (λ z. o.plus (mark_at o l.marks.items z).label h) e in
+              let key_is : key_at o marks_now f.potentials.items l.end ≡ o.plus label h = ap (λ (z : Mark G). o.plus z.label h) at in
+              (rw at seen, rw key_is (at_most_trans laws _ _ _ (rw key_was at p.1) (at_most_shift laws _ _ h up))))
+          | inr ne ↦ (rw (there l.end ne) p.0, rw (key_other o f l.marks.items node taken l.end ne) p.1)
+        ])
+      ];
     }
 
-  -- a node is settled and goes out
-  pub queue_settled : (f : Flow G) (l n : Labels G) (node rank : ℕ) → is_open_mark (mark_at o l.marks.items node) ≡ true → node < length l.marks.items
-      → n.marks.items ≡ set l.marks.items node (settled_as (mark_at o l.marks.items node) rank)
-      → count_of n.frontier.items node ≡ 0 → ((b : ℕ) → (node ≡ b → ⊥) → count_of n.frontier.items b ≡ count_of l.frontier.items b) → IsWithout l.frontier.items n.frontier.items
-      → ((b : ℕ) → count_of n.settled.items b ≡ count_of l.settled.items b + one_if (eqb node b))
-      → vec_capacity n.frontier ≡ vec_capacity l.frontier → vec_capacity n.settled ≡ vec_capacity l.settled → IsQueue o f l → IsQueue o f n
-  queue_settled f l n node rank opened lt set_is gone others order dones frontier_room settled_room q = record {
-    labels = labels_settled l q.labels n node rank opened lt set_is
-      (λ b. elim (cases_eq node b) [
-        | inl e ↦
-            (let one : one_if (eqb node b) ≡ 1 = ap one_if (eq-eqb node b e) in
-            let was : one_if (is_open_mark (mark_at o l.marks.items b)) ≡ 1 = ap (λ z. one_if (is_open_mark (mark_at o l.marks.items z))) (sym e) ∙ ap one_if opened in
-            let none : count_of n.frontier.items b ≡ 0 = ap (count_of n.frontier.items) (sym e) ∙ gone in
-            omega (arith, none, one, q.labels.frontier b, was))
-        | inr ne ↦ (let z : one_if (eqb node b) ≡ 0 = ap one_if (ne_eqb node b ne) in let same = others b ne in omega (arith, same, z))
-      ])
-      dones frontier_room settled_room;
-    keyed = rw set_is (keyed_set f l.marks.items node (settled_as (mark_at o l.marks.items node) rank) q.keyed lt (q.keyed.small node));
-    ordered = rw set_is (ordered_same f l.marks.items (set l.marks.items node (settled_as (mark_at o l.marks.items node) rank)) n.frontier.items
-      (λ k b e. elim (cases_eq b node) [
-        | inl s ↦ ap (λ (z : Mark G). o.plus z.label (potential_at o f.potentials.items b)) (ap (λ z. mark_at o (set l.marks.items node (settled_as (mark_at o l.marks.items node) rank)) z) s ∙ get_or-set_same l.marks.items node _ (blank o) lt)
-            ∙ ap (λ z. o.plus (mark_at o l.marks.items z).label (potential_at o f.potentials.items b)) (sym s)
-        | inr ne ↦ key_other f l.marks.items node (settled_as (mark_at o l.marks.items node) rank) b ne
-      ])
-      (ordered_out f l.marks.items l.frontier.items n.frontier.items order q.ordered));
-  }
+    -- all but the node stand where they belong
+    pub queue_but : (n : Labels G) → n.marks.items ≡ marks_now → count_of n.frontier.items node ≡ 0
+        → ((b : ℕ) → (node ≡ b → ⊥) → count_of n.frontier.items b ≡ count_of l.frontier.items b) → IsWithout l.frontier.items n.frontier.items
+        → vec_capacity n.frontier ≡ vec_capacity l.frontier
+        → count_of n.touched.items node ≡ 1 → ((b : ℕ) → (node ≡ b → ⊥) → count_of n.touched.items b ≡ count_of l.touched.items b)
+        → vec_capacity n.touched ≡ vec_capacity l.touched → n.settled ≡ l.settled → n.bound ≡ l.bound → n.end ≡ l.end → IsQueueBut o f n node
+    queue_but n set_is gone others order room touched touched_others touched_room dones bound end = record {
+      labels =
+          (let undone : one_if (is_settled (mark_at o l.marks.items node).rank) ≡ 0 = ap one_if (better_open o (mark_at o l.marks.items node) label better) in
+          labels_set l q.labels n node taken lt set_is seen
+          (λ b ne. others b (λ e. ne (sym e))) (omega (arith, gone))
+          (λ b ne. touched_others b (λ e. ne (sym e))) touched
+          (λ b ne. ap (λ (z : Vec ℕ Global). count_of z.items b) dones)
+          (ap (λ (z : Vec ℕ Global). count_of z.items node) dones ∙ q.labels.settled node ∙ undone)
+          room touched_room (ap vec_capacity dones));
+      keyed = rw set_is (keyed_set o f l.marks.items node taken q.keyed lt small);
+      ordered = rw set_is (ordered_same o f l.marks.items marks_now n.frontier.items (λ k b e. key_other o f l.marks.items node taken b (rest_other o l q.labels n.frontier.items node gone others k b e))
+          (ordered_out o f l.marks.items l.frontier.items n.frontier.items order q.ordered));
+      left_out = rw (set_is, bound) (λ b ne e. elim (q.left_out b (rw (there b ne) at e)) [
+        | inl c ↦ inl (omega (arith, c, others b (λ z. ne (sym z))))
+        | inr c ↦ inr (rw (key_other o f l.marks.items node taken b ne) c)
+      ]);
+      bounded = rw (set_is, bound, end) bounded_now;
+      gone = gone;
+      opened = rw (set_is, here) (ap (λ z. z && not (is_settled None)) seen);
+    }
 
--- no node is open before the first offer
-pub queue_first : {G : Type 0} {o : Ops G} → IsWorth o → (f : Flow G) (l : Labels G) → AreLabels o l → length l.marks.items ≡ length f.potentials.items
-    → ((b : ℕ) → mark_at o l.marks.items b ≡ blank o) → ((v : ℕ) → o.span (potential_at o f.potentials.items v) ≤ 2 ^ 20) → IsQueue o f l
-queue_first {G} {o} laws f l are long fresh low = record {
-  labels = are;
-  keyed = record { long = long; low = low; small = λ v. (let e : (mark_at o l.marks.items v).label ≡ o.zero = ap (λ (z : Mark G). z.label) (fresh v) in rw e (omega (arith, laws.span_zero))) };
-  ordered = λ i j d lt within. absurd (let e = open_element l are j (get_or l.frontier.items j d) (slice_get-get_or l.frontier.items j d within) in
-    let c : is_open_mark (mark_at o l.marks.items (get_or l.frontier.items j d)) ≡ false = ap is_open_mark (fresh (get_or l.frontier.items j d)) in cc);
-}
+  -- a node that has a new label
+  module _ (l : Labels G) (node : ℕ) (q : IsQueueBut o f l node) (lt : node < length l.marks.items) where
+    -- has room among those that may be chosen
+    pub but_fits : length l.frontier.items < vec_capacity l.frontier
+    but_fits =
+        let s = length_below (length l.marks.items) node l.frontier.items (open_known l q.labels) (λ n. omega (arith, q.labels.frontier n, one_most (is_open_mark (mark_at o l.marks.items n)))) lt q.gone in
+        omega (arith, s, q.labels.frontier_room)
+
+    -- is left out where it comes to no more than the bound
+    pub queue_left : AtMost o (key_at o l.marks.items f.potentials.items node) l.bound → IsQueue o f l
+    queue_left below = record {
+      labels = q.labels;
+      keyed = q.keyed;
+      ordered = q.ordered;
+      left_out = λ b e. elim (cases_eq b node) [ inl s ↦ inr (rw s below) | inr ne ↦ q.left_out b ne e ];
+      bounded = q.bounded;
+    }
+
+    -- is the end where a way goes on from it
+    pub queue_end : HasWay f node → is_gt (o.cmp (key_at o l.marks.items f.potentials.items node) l.bound) ≡ true
+        → IsQueue o f (record l { bound = key_at o l.marks.items f.potentials.items node; end = node })
+    queue_end way above =
+        let up : AtMost o l.bound (key_at o l.marks.items f.potentials.items node) = at_most_rev laws _ _ above in
+        record {
+          labels = record { frontier = q.labels.frontier; touched = q.labels.touched; settled = q.labels.settled; blank = q.labels.blank; frontier_room = q.labels.frontier_room; touched_room = q.labels.touched_room; settled_room = q.labels.settled_room };
+          keyed = q.keyed;
+          ordered = q.ordered;
+          left_out = λ b e. elim (cases_eq b node) [
+            | inl s ↦ inr (rw s (at_most_refl laws _))
+            | inr ne ↦ elim (q.left_out b ne e) [ inl c ↦ inl c | inr c ↦ inr (at_most_trans laws _ l.bound _ c up) ]
+          ];
+          bounded = record { way = way; reached = inr ((and_parts _ _ q.opened).0, at_most_refl laws _) };
+        }
+
+    -- or stands in its place
+    pub queue_placed : (n : Labels G) → n ≡ record l { frontier = n.frontier } → IsOrdered o f l.marks.items n.frontier.items
+        → ((b : ℕ) → count_of n.frontier.items b ≡ count_of l.frontier.items b + one_if (eqb node b)) → vec_capacity n.frontier ≡ vec_capacity l.frontier → IsQueue o f n
+    queue_placed n rest ordered counts room = subst (IsQueue o f) (sym rest) (record {
+      labels = record {
+        frontier = λ b. elim (cases_eq node b) [
+          | inl e ↦
+              (let one : one_if (eqb node b) ≡ 1 = ap one_if (eq-eqb node b e) in
+              let open_one : one_if (is_open_mark (mark_at o l.marks.items b)) ≡ 1 = ap (λ z. one_if (is_open_mark (mark_at o l.marks.items z))) (sym e) ∙ ap one_if q.opened in
+              let none : count_of l.frontier.items b ≡ 0 = ap (count_of l.frontier.items) (sym e) ∙ q.gone in
+              omega (arith, counts b, one, open_one, none))
+          | inr ne ↦ (let z : one_if (eqb node b) ≡ 0 = ap one_if (ne_eqb node b ne) in omega (arith, counts b, z, q.labels.frontier b))
+        ];
+        touched = q.labels.touched;
+        settled = q.labels.settled;
+        blank = q.labels.blank;
+        frontier_room = omega (arith, room, q.labels.frontier_room);
+        touched_room = q.labels.touched_room;
+        settled_room = q.labels.settled_room;
+      };
+      keyed = q.keyed;
+      ordered = ordered;
+      left_out = λ b e. elim (cases_eq b node) [
+        | inl s ↦ (let one : one_if (eqb node b) ≡ 1 = ap one_if (eq-eqb node b (sym s)) in inl (omega (arith, counts b, one)))
+        | inr ne ↦ elim (q.left_out b ne e) [ inl c ↦ inl (omega (arith, counts b, c)) | inr c ↦ inr c ]
+      ];
+      bounded = record { way = q.bounded.way; reached = q.bounded.reached };
+    })
+
+  -- a node is settled and goes out
+  module _ (l n : Labels G) (node rank : ℕ) (opened : is_open_mark (mark_at o l.marks.items node) ≡ true) (lt : node < length l.marks.items)
+      (set_is : n.marks.items ≡ set l.marks.items node (settled_as (mark_at o l.marks.items node) rank)) where
+    -- its own mark
+    done_here : mark_at o n.marks.items node ≡ settled_as (mark_at o l.marks.items node) rank
+    done_here = rw set_is (get_or-set_same l.marks.items node _ (blank o) lt)
+
+    -- labels and origins stay
+    done_same : (b : ℕ) → ((mark_at o n.marks.items b).label ≡ (mark_at o l.marks.items b).label) × ((mark_at o n.marks.items b).origin ≡ (mark_at o l.marks.items b).origin)
+    done_same b = elim (cases_eq b node) [
+      | inl e ↦ rw (e, done_here) (refl, refl)
+      | inr ne ↦ (let t : mark_at o n.marks.items b ≡ mark_at o l.marks.items b = rw set_is (get_or-set_other l.marks.items node b _ (blank o) ne) in rw t (refl, refl))
+    ]
+
+    -- and so do keys
+    key_done : (b : ℕ) → key_at o n.marks.items f.potentials.items b ≡ key_at o l.marks.items f.potentials.items b
+    key_done b = ap (λ z. o.plus z (potential_at o f.potentials.items b)) (done_same b).0
+
+    -- what is open now was open before
+    open_before : (b : ℕ) → is_open_mark (mark_at o n.marks.items b) ≡ true → (node ≡ b → ⊥) × (is_open_mark (mark_at o l.marks.items b) ≡ true)
+    open_before b e = elim (cases_eq b node) [
+      | inl s ↦ absurd (let r = (open_rank (mark_at o n.marks.items b) e).1 in let t : (mark_at o n.marks.items b).rank ≡ Some rank = ap (λ z. (mark_at o n.marks.items z).rank) s ∙ ap (λ (z : Mark G). z.rank) done_here in cc)
+      | inr ne ↦ (let t : mark_at o n.marks.items b ≡ mark_at o l.marks.items b = rw set_is (get_or-set_other l.marks.items node b _ (blank o) ne) in ((λ z. ne (sym z)), rw t at e))
+    ]
+
+    pub queue_settled : count_of n.frontier.items node ≡ 0 → ((b : ℕ) → (node ≡ b → ⊥) → count_of n.frontier.items b ≡ count_of l.frontier.items b) → IsWithout l.frontier.items n.frontier.items
+        → n.touched ≡ l.touched → ((b : ℕ) → count_of n.settled.items b ≡ count_of l.settled.items b + one_if (eqb node b))
+        → vec_capacity n.frontier ≡ vec_capacity l.frontier → vec_capacity n.settled ≡ vec_capacity l.settled → n.bound ≡ l.bound → n.end ≡ l.end → IsQueue o f l → IsQueue o f n
+    queue_settled gone others order touches dones frontier_room settled_room bound end q = record {
+      labels = labels_settled l q.labels n node rank opened lt set_is gone others touches dones frontier_room settled_room;
+      keyed = rw set_is (keyed_set o f l.marks.items node (settled_as (mark_at o l.marks.items node) rank) q.keyed lt (q.keyed.small node));
+      ordered = ordered_same o f l.marks.items n.marks.items n.frontier.items (λ k b e. key_done b) (ordered_out o f l.marks.items l.frontier.items n.frontier.items order q.ordered);
+      left_out = λ b e. (let was = open_before b e in elim (q.left_out b was.1) [
+        | inl c ↦ inl (omega (arith, c, others b was.0))
+        | inr c ↦ inr (rw (key_done b, bound) c)
+      ]);
+      bounded = rw (bound, end) (record {
+        way = q.bounded.way;
+        reached = elim q.bounded.reached [ inl p ↦ inl p | inr p ↦ inr (rw (done_same l.end).1 p.0, rw (key_done l.end) p.1) ];
+      });
+    }
+
+  -- no node is open before the first offer
+  pub queue_first : (l n : Labels G) → AreLabels o l → length l.marks.items ≡ length f.potentials.items
+      → ((b : ℕ) → mark_at o l.marks.items b ≡ blank o) → ((v : ℕ) → o.span (potential_at o f.potentials.items v) ≤ 2 ^ 20)
+      → n ≡ record l { bound = potential_at o f.potentials.items (sink_of f); end = sink_of f } → IsQueue o f n
+  queue_first l n are long fresh low is =
+      let closed : (b : ℕ) → is_open_mark (mark_at o l.marks.items b) ≡ true → ⊥ = λ b e. (let c : is_open_mark (mark_at o l.marks.items b) ≡ false = ap is_open_mark (fresh b) in cc) in
+      subst (IsQueue o f) (sym is) (record {
+        labels = record { frontier = are.frontier; touched = are.touched; settled = are.settled; blank = are.blank; frontier_room = are.frontier_room; touched_room = are.touched_room; settled_room = are.settled_room };
+        keyed = record { long = long; low = low; small = λ v. (let e : (mark_at o l.marks.items v).label ≡ o.zero = ap (λ (z : Mark G). z.label) (fresh v) in rw e (omega (arith, laws.span_zero))) };
+        ordered = λ i j d lt within. absurd (closed (get_or l.frontier.items j d) (open_element l are j (get_or l.frontier.items j d) (slice_get-get_or l.frontier.items j d within)));
+        left_out = λ b e. absurd (closed b e);
+        bounded = record { way = at_sink refl; reached = inl (refl, at_most_refl laws _) };
+      })
+
+  -- the end moves on
+  pub queue_onward : (l n : Labels G) → IsQueue o f l → n ≡ record l { end = n.end } → IsBounded o f n.marks.items n.bound n.end → IsQueue o f n
+  queue_onward l n q is bounded =
+      let marks = ap (λ (z : Labels G). z.marks) is in
+      let bound = ap (λ (z : Labels G). z.bound) is in
+      let same : IsBounded o f l.marks.items l.bound n.end = rw (marks, bound) at bounded in
+      subst (IsQueue o f) (sym is) (record {
+        labels = record { frontier = q.labels.frontier; touched = q.labels.touched; settled = q.labels.settled; blank = q.labels.blank; frontier_room = q.labels.frontier_room; touched_room = q.labels.touched_room; settled_room = q.labels.settled_room };
+        keyed = q.keyed;
+        ordered = q.ordered;
+        left_out = q.left_out;
+        bounded = record { way = same.way; reached = same.reached };
+      })

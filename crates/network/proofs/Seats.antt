@@ -1,13 +1,11 @@
 -- Lists of numbers by position, when one of them changes or one more comes.
-use Rattle.std.proofs.Common.{◌≡◌, ℕ, zero, suc, ◌+◌, ◌*◌, ◌<◌, ◌≤◌, inl, inr, List, [], ◌∷◌, ◌++◌, length, set, Some, refl, sym, ◌∙◌, ap, arith, slice_get, eq-eqb, ne_eqb, eqb}
-use Rattle.std.specs.Vec.{vec_capacity}
+use Rattle.std.proofs.Common.{◌≡◌, ℕ, zero, suc, ◌<◌, ◌≤◌, inl, inr, List, [], ◌∷◌, ◌++◌, length, set, Some, refl, ◌∙◌, ap, arith, slice_get}
 use Rattle.std.specs.declared.vec.Vec.{Vec}
 use Rattle.std.specs.declared.alloc.Global.{Global}
 use Rattle.std.proofs.lemmas.Bool.{cases_eq}
 use Rattle.std.proofs.lemmas.Option.{slice_get_within}
-use Rattle.network.specs.Push.{one_if}
 use Rattle.network.specs.Labels.{count_of}
-use Rattle.network.specs.Kept.{numbers_of, numbers_at, room_of, room_at}
+use Rattle.network.specs.Kept.{numbers_of, numbers_at}
 use Rattle.network.proofs.Append.{slice_get-before}
 use Rattle.network.proofs.Transfer.{slice_get-set_same, slice_get-set_other}
 

@@ -25,6 +25,7 @@ mod prices;
 mod push;
 mod relaxes;
 mod search;
+mod ways;
 
 pub use enter::Admitted;
 pub use network::Network;

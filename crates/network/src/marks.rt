@@ -28,14 +28,21 @@ pub struct Mark<G> {
     pub rank: Option<usize>,
 }
 
-/// The marks of all nodes, and the lists of those that are open and of those that are settled.
+/// The marks of all nodes, and the lists of those that were reached, of those that may be chosen and of those that are
+/// settled.
 #[derive(Drop)]
 pub struct Labels<G> {
     pub marks: Vec<Mark<G>>,
-    /// The open nodes, by what a walk by them may come to, the least first.
+    /// The open nodes whose walks may come to more than the bound, the least first.
     pub frontier: Vec<usize>,
+    /// The nodes that were reached.
+    pub touched: Vec<usize>,
     /// The settled nodes.
     pub settled: Vec<usize>,
+    /// What the best way to the sink found so far comes to.
+    pub bound: G,
+    /// The node from which that way goes on at no cost.
+    pub end: usize,
 }
 
 mod blank;
@@ -43,5 +50,5 @@ mod queue;
 mod steps;
 
 pub(crate) use blank::{blank_labels, clear};
-pub(crate) use queue::{best_open, exceeds};
+pub(crate) use queue::{choose, exceeds, reset};
 pub(crate) use steps::{relax, settle};

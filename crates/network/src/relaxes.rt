@@ -94,7 +94,14 @@ pub(crate) fn relax_entries<G: Worth>(
     for k in 0..entries {
         relax_entry(flow, student, k, label, labels, count);
     }
-    relax(flow, labels, sink(flow), label, Origin::Leave(student), count);
+    relax(
+        flow,
+        labels,
+        sink(flow),
+        label,
+        Origin::Leave(student),
+        count,
+    );
 }
 
 /// The worth of the student's place, where that is at the project.
@@ -261,7 +268,14 @@ fn relax_swaps<G: Worth>(
 {
     let projects = projects_at(kept, supervisor);
     for i in 0..projects.len() {
-        relax(flow, labels, projects[i], label, Origin::Swap(supervisor), count);
+        relax(
+            flow,
+            labels,
+            projects[i],
+            label,
+            Origin::Swap(supervisor),
+            count,
+        );
     }
 }
 
@@ -288,6 +302,13 @@ pub(crate) fn relax_supervisor<G: Worth>(
 {
     relax_swaps(flow, kept, supervisor, label, labels, count);
     if supervisor_has_room(flow, supervisor) {
-        relax(flow, labels, sink(flow), label, Origin::Room(supervisor), count);
+        relax(
+            flow,
+            labels,
+            sink(flow),
+            label,
+            Origin::Room(supervisor),
+            count,
+        );
     }
 }

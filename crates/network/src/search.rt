@@ -3,7 +3,7 @@
 ghost use Rattle.std.specs.Prelude.{◌≡◌, ℕ, ◌+◌, ◌*◌, ◌<◌, ◌≤◌, ◌^◌, length, slice_get, slice_set, Some, true};
 ghost use Rattle.spa.specs.Laws.{AtMost};
 ghost use Rattle.network.specs.Marks.{mark_at, potential_at, key_at, blank, settled_as, is_open_mark};
-ghost use Rattle.network.specs.Labels.{AreLabels, IsQueue};
+ghost use Rattle.network.specs.Labels.{AreLabels, IsBelow, IsQueue};
 ghost use Rattle.network.specs.Kept.{IsKept};
 ghost use Rattle.network.specs.declared.TheConstants.{MOST_OFFERS, MOST_ARCS};
 ghost use Rattle.network.specs.Search.{Relaxes, OffersOf, Feasible, IsFound, IsRunning};
@@ -11,7 +11,7 @@ ghost use Rattle.network.specs.Arcs.{Arc, IsFormed, OfStudent, sink_of, flow_arc
 
 use crate::flow::Flow;
 use crate::kept::Kept;
-use crate::marks::{Labels, best_open, settle};
+use crate::marks::{Labels, choose, reset, settle};
 use crate::relaxes::{relax_entries, relax_project, relax_supervisor, sink};
 use spa::Worth;
 
@@ -96,6 +96,7 @@ fn advance<G: Worth>(
     requires formed { IsFormed G.ops flow.now }
     requires running { IsRunning G.ops (OfStudent G.ops flow.now student G.ops.zero) (Arc G.ops flow.now) flow.now.potentials.items (sink_of flow.now) labels.old.marks.items rank node }
     requires feasible { Feasible G.ops (Arc G.ops flow.now) flow.now.potentials.items }
+    requires below { IsBelow G.ops flow.now }
     requires node { node < sink_of flow.now }
     requires count { count.old < 2 ^ 31 }
     ensures queue { IsQueue G.ops flow.now labels.new }
@@ -105,7 +106,7 @@ fn advance<G: Worth>(
     ensures small { count.new ≤ count.old + MOST_ARCS }
 {
     expand(flow, kept, node, rank, labels, count);
-    best_open(flow, labels)
+    choose(flow, labels)
 }
 
 /// The first offers, and the first choice.
@@ -116,14 +117,17 @@ fn begin<G: Worth>(flow: &Flow<G>, student: usize, labels: &mut Labels<G>, count
     requires fresh { (b : ℕ) → mark_at G.ops labels.old.marks.items b ≡ blank G.ops }
     requires student { student < length flow.now.lists.items }
     requires potentials { (v : ℕ) → G.ops.span (potential_at G.ops flow.now.potentials.items v) ≤ 2 ^ 20 }
+    requires feasible { Feasible G.ops (Arc G.ops flow.now) flow.now.potentials.items }
+    requires below { IsBelow G.ops flow.now }
     requires count { count.old < 2 ^ 31 }
     ensures queue { IsQueue G.ops flow.now labels.new }
     ensures running { IsRunning G.ops (OfStudent G.ops flow.now student G.ops.zero) (Arc G.ops flow.now) flow.now.potentials.items (sink_of flow.now) labels.new.marks.items 0 result }
     ensures cost { (row : _) → slice_get flow.now.lists.items student ≡ Some row → count.new ≡ count.old + length row.items + 1 }
     ensures small { count.new ≤ count.old + MOST_OFFERS }
 {
+    reset(flow, labels);
     relax_entries(flow, student, G::zero(), labels, count);
-    best_open(flow, labels)
+    choose(flow, labels)
 }
 
 /// A search from a student to the sink.
@@ -141,6 +145,7 @@ pub(crate) fn search<G: Worth>(
     requires fresh { (b : ℕ) → mark_at G.ops labels.old.marks.items b ≡ blank G.ops }
     requires student { student < length flow.now.lists.items }
     requires feasible { Feasible G.ops (Arc G.ops flow.now) flow.now.potentials.items }
+    requires below { IsBelow G.ops flow.now }
     requires potentials { (v : ℕ) → G.ops.span (potential_at G.ops flow.now.potentials.items v) ≤ 2 ^ 20 }
     requires count { count.old < 2 ^ 30 }
     ensures labels { AreLabels G.ops labels.new }

@@ -30,11 +30,15 @@ pub(crate) fn blank_labels<G: Worth>(alloc: Global, nodes: usize) -> Result<Labe
 {
     let marks = blank_marks(alloc, nodes)?;
     let frontier = Vec::with_capacity(alloc, nodes)?;
+    let touched = Vec::with_capacity(alloc, nodes)?;
     let settled = Vec::with_capacity(alloc, nodes)?;
     Ok(Labels {
         marks,
         frontier,
+        touched,
         settled,
+        bound: G::zero(),
+        end: 0,
     })
 }
 
@@ -67,8 +71,8 @@ pub(crate) fn clear<G: Worth>(labels: &mut Labels<G>)
     requires { AreLabels G.ops labels.old }
     ensures { AreBlank G.ops labels.new (length labels.old.marks.items) }
 {
-    wipe(&mut labels.marks, &labels.frontier);
-    wipe(&mut labels.marks, &labels.settled);
+    wipe(&mut labels.marks, &labels.touched);
     labels.frontier.clear();
+    labels.touched.clear();
     labels.settled.clear();
 }

@@ -2,7 +2,9 @@
 
 ghost use Rattle.std.specs.Prelude.{◌≡◌, ℕ, ◌+◌, ◌<◌, ◌≤◌, ◌^◌, length, slice_set, Some, None, true};
 ghost use Rattle.network.specs.Search.{Relaxes, OneOffer};
-ghost use Rattle.network.specs.Labels.{AreLabels, IsQueue};
+ghost use Rattle.std.specs.Vec.{vec_capacity};
+ghost use Rattle.network.specs.Arcs.{IsFormed};
+ghost use Rattle.network.specs.Labels.{count_of, AreLabels, IsQueue, IsWithout};
 ghost use Rattle.network.specs.Marks.{mark_at, improves, settled_as, is_seen, is_open_mark};
 ghost use Rattle.network.specs.declared.flow.Flow.{Flow};
 
@@ -24,6 +26,25 @@ fn is_better<G: Worth>(labels: &Labels<G>, node: usize, label: G) -> bool
     match mark.origin {
         Origin::Unseen => true,
         _ => exceeds(label, mark.label),
+    }
+}
+
+/// A node that is to have a new label is reached, and not among those that may be chosen.
+fn touch<G: Worth>(labels: &mut Labels<G>, node: usize)
+    requires labels { AreLabels G.ops labels.old }
+    requires node { node < length labels.old.marks.items }
+    ensures gone { count_of labels.new.frontier.items node ≡ 0 }
+    ensures others { (n : ℕ) → (node ≡ n → ⊥) → count_of labels.new.frontier.items n ≡ count_of labels.old.frontier.items n }
+    ensures order { IsWithout labels.old.frontier.items labels.new.frontier.items }
+    ensures room { vec_capacity labels.new.frontier ≡ vec_capacity labels.old.frontier }
+    ensures touched { count_of labels.new.touched.items node ≡ 1 }
+    ensures touched_others { (n : ℕ) → (node ≡ n → ⊥) → count_of labels.new.touched.items n ≡ count_of labels.old.touched.items n }
+    ensures touched_room { vec_capacity labels.new.touched ≡ vec_capacity labels.old.touched }
+    ensures rest { labels.new ≡ record labels.old { frontier = labels.new.frontier; touched = labels.new.touched } }
+{
+    match labels.marks[node].origin {
+        Origin::Unseen => put_in(&mut labels.touched, node),
+        _ => drop_out(&mut labels.frontier, node),
     }
 }
 
@@ -49,6 +70,7 @@ pub(crate) fn relax<G: Worth>(
     origin: Origin,
     count: &mut u64,
 )
+    requires formed { IsFormed G.ops flow.now }
     requires queue { IsQueue G.ops flow.now labels.old }
     requires node { node < length labels.old.marks.items }
     requires label { G.ops.span label ≤ 2 ^ 33 }
@@ -60,7 +82,7 @@ pub(crate) fn relax<G: Worth>(
 {
     *count += 1;
     if is_better(labels, node, label) {
-        drop_out(&mut labels.frontier, node);
+        touch(labels, node);
         set_label(labels, node, label, origin);
         enqueue(flow, labels, node);
     }

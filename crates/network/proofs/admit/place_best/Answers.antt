@@ -21,3 +21,9 @@ push-requires g c = record {
 
 pub search-requires-clause-potentials : goal.search-requires-clause-potentials
 search-requires-clause-potentials g c = λ v. omega (arith, c.requires.low v)
+
+pub search-requires-clause-below : goal.search-requires-clause-below
+search-requires-clause-below g c = record {
+  projects = c.requires.fair.project;
+  supervisors = λ l lt. rw c.requires.fair.sink (c.requires.fair.supervisor l lt);
+}

@@ -1,7 +1,7 @@
-use Rattle.std.proofs.Common.{rules, arith, ◌≡◌, ◌<◌, ℕ, inl, inr, length, get_or, Some, refl, sym, ◌∙◌, ap, slice_get, eqb, eq-eqb, ne_eqb}
+use Rattle.std.proofs.Common.{arith, ◌≡◌, ◌<◌, inl, inr, length, get_or, Some, refl, sym, ◌∙◌, ap, slice_get, eqb, eq-eqb}
 use Rattle.std.specs.Prelude.{◌-◌, ◌≤◌}
 use Rattle.std.proofs.lemmas.Bool.{cases_eq, cases_lt}
-use Rattle.std.proofs.lemmas.Option.{slice_get_read, slice_get-get_or, slice_get_within, same_Some}
+use Rattle.std.proofs.lemmas.Option.{slice_get_read, slice_get-get_or, same_Some}
 use Rattle.network.specs.Push.{one_if}
 use Rattle.network.specs.Labels.{count_of}
 use Rattle.network.proofs.Listed.{found}

@@ -1,17 +1,23 @@
-use Rattle.std.proofs.Common.{arith, ◌<◌, ℕ, length, get_or, sym, subst}
-use Rattle.std.specs.List.{AllPairs}
-use Rattle.std.proofs.lemmas.Option.{slice_get-get_or}
-use Rattle.spa.specs.Laws.{AtMost}
-use Rattle.network.specs.Marks.{key_at}
-use Rattle.network.proofs.Queue.{ordered_in}
+use Rattle.std.proofs.Common.{rules, sym, ◌∙◌}
+use Rattle.network.proofs.Labelled.{open_known}
+use Rattle.network.proofs.Queue.{but_fits, queue_left, queue_end, queue_placed}
 use Rattle.network.proofs.marks.queue.enqueue.Goals as goal
 
-pub returns-clause-ordered : goal.returns-clause-ordered
-returns-clause-ordered g c =
-    let xs = c.args.labels.now.frontier.items in
-    let key = key_at g.G.Worth.ops c.args.labels.now.marks.items c.args.flow.now.potentials.items in
-    let p = c.place_for-place.ensures in
-    subst (λ z. AllPairs (λ a b. AtMost g.G.Worth.ops (key a) (key b)) z) (sym c.put_at.ensures.items)
-    (λ i j d lt within. ordered_in (λ a b. AtMost g.G.Worth.ops (key a) (key b)) xs c.place_for-place.result c.args.node d p.within c.requires.ordered
-    (λ k l. p.before k (get_or xs k d) l (slice_get-get_or xs k d (omega (arith, l, p.within))))
-    (λ k l w. p.after k (get_or xs k d) l (slice_get-get_or xs k d w)) i j lt within)
+pub returns-then-not-exceeds-clause-queue : goal.returns-then-not-exceeds-clause-queue
+returns-then-not-exceeds-clause-queue g c =
+    queue_left g.met.G.Worth.laws c.args.flow.now c.args.labels.now c.args.node c.requires.queue c.requires.node (rw c.key_of-key.ensures at (sym c.exceeds.ensures ∙ c.if-not-exceeds.true))
+
+pub put_in_order-requires-clause-known : goal.put_in_order-requires-clause-known
+put_in_order-requires-clause-known g c k b e = open_known c.args.labels.now c.requires.queue.labels k b e
+
+pub put_in_order-requires-clause-room : goal.put_in_order-requires-clause-room
+put_in_order-requires-clause-room g c = let fits = but_fits g.met.G.Worth.laws c.args.flow.now c.args.labels.now c.args.node c.requires.queue c.requires.node in search (rules, fits)
+
+pub returns-then-has_way-clause-queue : goal.returns-then-has_way-clause-queue
+returns-then-has_way-clause-queue g c =
+    rw c.key_of-key.ensures (queue_end g.met.G.Worth.laws c.args.flow.now c.args.labels.now c.args.node c.requires.queue c.requires.node (c.has_way.ensures c.if-has_way.true) (rw c.key_of-key.ensures at (sym c.exceeds.ensures ∙ c.if-not-exceeds.false)))
+
+pub returns-else-has_way-clause-queue : goal.returns-else-has_way-clause-queue
+returns-else-has_way-clause-queue g c =
+    queue_placed g.met.G.Worth.laws c.args.flow.now c.args.labels.now c.args.node c.requires.queue c.requires.node
+    c.put_in_order.new.labels c.put_in_order.ensures.rest c.put_in_order.ensures.ordered c.put_in_order.ensures.counts c.put_in_order.ensures.capacity

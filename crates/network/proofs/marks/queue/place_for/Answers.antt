@@ -1,11 +1,8 @@
-use Rattle.std.proofs.Common.{rules, arith, ◌≡◌, ◌+◌, ◌-◌, ◌/◌, ◌<◌, inl, inr, length, Some, refl, sym, ◌∙◌, ap, slice_get}
-use Rattle.std.specs.Prelude.{false, true}
-use Rattle.std.specs.Ordering.{is_gt}
-use Rattle.std.proofs.lemmas.Bool.{cases_lt}
+use Rattle.std.proofs.Common.{rules, arith, ◌≡◌, ◌+◌, ◌-◌, ◌/◌, ◌<◌, length, Some, refl, sym, ◌∙◌, slice_get}
 use Rattle.std.proofs.lemmas.Option.{slice_get_read}
 use Rattle.spa.specs.Laws.{AtMost}
 use Rattle.network.specs.Marks.{key_at}
-use Rattle.network.proofs.Group.{at_most_trans, at_most_rev}
+use Rattle.network.proofs.Group.{at_most_trans}
 use Rattle.network.proofs.Queue.{ordered_upto}
 use Rattle.network.proofs.marks.queue.place_for.Goals as goal
 

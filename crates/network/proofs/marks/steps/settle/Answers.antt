@@ -20,6 +20,7 @@ returns-clause-queue g c f q =
     let l = c.args.labels.now in
     let frontier = ap (λ z. z.frontier) c.set_rank.ensures.rest in
     let settled = ap (λ z. z.settled) c.set_rank.ensures.rest in
-    queue_settled g.G.Worth.ops f l (record { marks = c.set_rank.new.labels.marks; frontier = c.drop_out.new.list; settled = c.put_in.new.list }) c.args.node c.args.rank c.requires.opened c.requires.node
-    c.set_rank.ensures.marks c.drop_out.ensures.gone (rw frontier at c.drop_out.ensures.others) (rw frontier at c.drop_out.ensures.order) (rw settled at c.put_in.ensures.counts)
-    (c.drop_out.ensures.capacity ∙ ap vec_capacity frontier) (c.put_in.ensures.capacity ∙ ap vec_capacity settled) q
+    let r = c.set_rank.new.labels in
+    queue_settled g.met.G.Worth.laws f l (record { marks = r.marks; frontier = c.drop_out.new.list; touched = r.touched; settled = c.put_in.new.list; bound = r.bound; end = r.end }) c.args.node c.args.rank c.requires.opened c.requires.node
+    c.set_rank.ensures.marks c.drop_out.ensures.gone (rw frontier at c.drop_out.ensures.others) (rw frontier at c.drop_out.ensures.order) (ap (λ z. z.touched) c.set_rank.ensures.rest) (rw settled at c.put_in.ensures.counts)
+    (c.drop_out.ensures.capacity ∙ ap vec_capacity frontier) (c.put_in.ensures.capacity ∙ ap vec_capacity settled) (ap (λ z. z.bound) c.set_rank.ensures.rest) (ap (λ z. z.end) c.set_rank.ensures.rest) q
