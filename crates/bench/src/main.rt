@@ -1,8 +1,9 @@
 //! Benchmarks of the desk, over a database in memory. They measure nothing themselves: count the instructions of a run.
 //!
 //! - `bench put N`: a known student is put N times at full rolls.
-//! - `bench list N ROUND`: a list of eight is put over a list N times, in this round, where each of 500 students has a list in
-//!   it and in every round before.
+//! - `bench list N ROUND`: the first N students put a list of eight in this round, where all 500 have one in every round
+//!   before.
+//! - `bench relist N ROUND`: a list is put over a list N times in this round, where all 500 students have one.
 //! - `bench close N`: a round of 500 lists of eight is closed and opened again N times, at 400 projects of quota 1.
 //!
 //! What one of them costs is the difference between two runs by the difference of their N.
@@ -73,10 +74,9 @@ fn is_filled(alloc: Global, desk: &mut Desk<MemStore>, quota: u32) -> bool {
         && (0..MOST_STUDENTS).all(|n| is_made(desk, student(alloc, n)))
 }
 
-/// Opens the next round, in which each student puts a list.
-fn is_listed(alloc: Global, desk: &mut Desk<MemStore>) -> bool {
-    is_made(desk, Ok(Plain::OpenRound))
-        && (0..MOST_STUDENTS).all(|n| is_made(desk, list(alloc, n)))
+/// Opens the next round, in which so many students put a list.
+fn is_listed(alloc: Global, desk: &mut Desk<MemStore>, students: usize) -> bool {
+    is_made(desk, Ok(Plain::OpenRound)) && (0..students).all(|n| is_made(desk, list(alloc, n)))
 }
 
 /// Closes the open round.
@@ -89,18 +89,23 @@ fn are_put(alloc: Global, desk: &mut Desk<MemStore>, times: usize) -> bool {
     is_filled(alloc, desk, 2) && (0..times).all(|_| is_made(desk, student(alloc, 0)))
 }
 
-/// Puts a list so many times in this round; the rounds before placed nobody.
-fn are_listed(alloc: Global, desk: &mut Desk<MemStore>, times: usize, round: usize) -> bool {
+/// So many students put a list in this round; in the rounds before all have, and nobody was placed.
+fn are_listed(alloc: Global, desk: &mut Desk<MemStore>, students: usize, round: usize) -> bool {
     is_filled(alloc, desk, 0)
-        && (1..round).all(|_| is_listed(alloc, desk) && is_closed(desk))
-        && is_listed(alloc, desk)
+        && (1..round).all(|_| is_listed(alloc, desk, MOST_STUDENTS) && is_closed(desk))
+        && is_listed(alloc, desk, students)
+}
+
+/// Puts a list over a list so many times in this round.
+fn are_listed_again(alloc: Global, desk: &mut Desk<MemStore>, times: usize, round: usize) -> bool {
+    are_listed(alloc, desk, MOST_STUDENTS, round)
         && (0..times).all(|_| is_made(desk, list(alloc, 0)))
 }
 
 /// Closes a round so many times, and opens it again each time.
 fn are_closed(alloc: Global, desk: &mut Desk<MemStore>, times: usize) -> bool {
     is_filled(alloc, desk, 1)
-        && is_listed(alloc, desk)
+        && is_listed(alloc, desk, MOST_STUDENTS)
         && (0..times).all(|_| is_closed(desk) && is_made(desk, Ok(Plain::ReopenRound)))
 }
 
@@ -115,6 +120,7 @@ fn is_done(alloc: Global, what: &str, times: usize, round: usize) -> bool {
     match what {
         "put" => are_put(alloc, &mut desk, times),
         "list" => are_listed(alloc, &mut desk, times, round),
+        "relist" => are_listed_again(alloc, &mut desk, times, round),
         "close" => are_closed(alloc, &mut desk, times),
         _ => false,
     }
