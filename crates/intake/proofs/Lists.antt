@@ -1,16 +1,13 @@
 -- A list of projects, read field by field.
 use Rattle.std.proofs.Common.{◌≡◌, ℕ, zero, suc, ◌+◌, ◌<◌, Bool, true, false, not, List, [], ◌∷◌, ◌++◌, length, map, get_or, take, slice_get, Option, Some, None, refl, sym, ap, ◌∙◌, arith}
-use Rattle.std.specs.Prelude.{IsTrue, is_some}
+use Rattle.std.specs.Prelude.{is_some}
 use denote.Ref.{Bor}
 use Rattle.std.proofs.lemmas.List.{take_more, length-take-le}
 use Rattle.std.specs.Str.{bytes_eq}
 use Rattle.std.proofs.lemmas.Bool.Decides.{not_from_Decides}
 use Rattle.std.proofs.lemmas.Slice.Eq.{bytes_eq-Decides}
-use Rattle.std.proofs.lemmas.List.Elements.{All-contains}
-use Rattle.spa.specs.Text.{is_code}
 use Rattle.spa.specs.Codes.{Finds}
 use Rattle.spa.specs.Made.{IsSoundUpTo, IsSoundList}
-use Rattle.intake.specs.Parts.{IsRoll}
 use Rattle.intake.proofs.Order.{get_found}
 use Rattle.intake.proofs.Rolls.{known_more, apart_more, contained, standing}
 
@@ -33,10 +30,6 @@ found_none (Some x) h = cc
 pub found_some : (r : Option ℕ) → is_some r ≡ true → (x : ℕ) × (r ≡ Some x)
 found_some None h = cc
 found_some (Some x) h = (x, refl)
-
--- a known code has the form
-pub known_form : (codes list : List (List ℕ)) (k : ℕ) (code : List ℕ) → IsRoll codes → IsSoundList codes list → k < length list → slice_get list k ≡ Some code → is_code code ≡ true
-known_form codes list k code roll sound h here = All-contains (λ c. IsTrue (is_code c)) codes code roll.form (sound.1.known k code h here)
 
 -- a list with an unknown code is not sound
 pub unknown_code : (codes list : List (List ℕ)) (n k : ℕ) (code : List ℕ) → n ≡ length codes → IsSoundList codes list → k < length list → slice_get list k ≡ Some code → Finds codes n code None → ⊥

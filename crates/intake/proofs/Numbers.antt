@@ -1,14 +1,15 @@
 -- Numbers have texts of ASCII, and are read from them.
-use Rattle.std.proofs.Common.{◌≡◌, ℕ, zero, suc, ◌<◌, ◌≤◌, ◌^◌, ◌≢◌, ◌+◌, ℤ, pos, negsuc, List, [], ◌∷◌, length, map, set, get_or, Result, Ok, decimal, refl, ap, ◌∙◌, arith, below_more, length-set, get_or-set_other, get_or-set_same, to_z, of_z}
+use Rattle.std.proofs.Common.{sym, ◌≡◌, ℕ, zero, suc, ◌<◌, ◌≤◌, ◌^◌, ◌≢◌, ◌+◌, ℤ, pos, negsuc, List, [], ◌∷◌, length, map, set, get_or, Result, Ok, decimal, refl, ap, ◌∙◌, arith, below_more, length-set, get_or-set_other, get_or-set_same, to_z, of_z}
 use denote.Ref.{Bor}
 use Rattle.std.proofs.lemmas.List.{get_or_default}
 use Rattle.spa.specs.declared.TheConstants.{PLACES}
 use Rattle.std.specs.Fmt.{signed_decimal}
 use Rattle.std.specs.Str.{IsUtf8}
 use Rattle.std.specs.Str.Parse.{ParsesUnsigned, ParsesSigned}
-use Rattle.std.proofs.lemmas.Fmt.{parse-decimal, parse-signed_decimal, IsAscii-decimal, IsAscii-signed}
+use Rattle.std.specs.Prelude.{◌-ℤ◌}
+use Rattle.std.proofs.lemmas.Fmt.{decimal_digit, parse-decimal, parse-signed_decimal, IsAscii-decimal, IsAscii-signed}
 use Rattle.std.proofs.lemmas.Str.{IsUtf8-from_ascii}
-use Rattle.std.proofs.lemmas.Int.{ints, to_z-of_z}
+use Rattle.std.proofs.lemmas.Int.{ints, to_z-of_z, to_z_pos}
 use Rattle.verdict.specs.Rows.{InRange}
 use lib.Signed.{mag}
 use mir.Syntax.{w64}
@@ -37,6 +38,26 @@ number_parsed n bs r h e p = parse-signed_decimal w64 n bs r (record { sfits = s
 -- such a number is kept in 64 bits
 pub number_kept : (n : ℤ) → InRange n → to_z w64 (of_z w64 n) ≡ n
 number_kept n h = to_z-of_z w64 n (record { sfits = small n h })
+
+-- a digit is the text of its number
+pub digit_read : (f : List ℕ) (d : ℕ) → length f ≡ 1 → 48 + d ≡ get_or f 0 0 → d < 10 → InRange (to_z w64 d) × (f ≡ signed_decimal (to_z w64 d))
+digit_read [] d n e h = cc
+digit_read (a ∷ b ∷ f) d n e h = absurd (omega arith)
+digit_read (a ∷ []) d n e h =
+    let is : to_z w64 d ≡ pos d = to_z_pos w64 d (omega arith) in
+    rw is ((omega (arith, ints), omega (arith, ints)), ap (λ (b : ℕ). b ∷ []) (sym e) ∙ sym (decimal_digit d h))
+
+-- and after a minus of the number below zero
+pub minus_read : (f : List ℕ) (d : ℕ) → length f ≡ 2 → get_or f 0 0 ≡ 45 → 48 + d ≡ get_or f 1 0 → 0 < d → d < 10
+    → InRange (to_z w64 (of_z w64 (pos 0 -ℤ to_z w64 d))) × (f ≡ signed_decimal (to_z w64 (of_z w64 (pos 0 -ℤ to_z w64 d))))
+minus_read [] d n m e z h = cc
+minus_read (a ∷ []) d n m e z h = cc
+minus_read (a ∷ b ∷ c ∷ f) d n m e z h = absurd (omega arith)
+minus_read (a ∷ b ∷ []) zero n m e z h = absurd (omega arith)
+minus_read (a ∷ b ∷ []) (suc d) n m e z h =
+    let is : pos 0 -ℤ to_z w64 (suc d) ≡ negsuc d = ap (λ (z : ℤ). pos 0 -ℤ z) (to_z_pos w64 (suc d) (omega arith)) ∙ omega (arith, ints) in
+    let range : InRange (negsuc d) = (omega (arith, ints), omega (arith, ints)) in
+    rw (ap (λ (z : ℤ). to_z w64 (of_z w64 z)) is ∙ number_kept (negsuc d) range) (range, ap (λ (x : ℕ). x ∷ b ∷ []) m ∙ ap (λ (x : ℕ). 45 ∷ x ∷ []) (sym e) ∙ ap (λ (l : List ℕ). 45 ∷ l) (sym (decimal_digit (suc d) h)))
 
 -- the field at t, where the fields are the texts of numbers
 pub field_is : (fs : List (Bor (List ℕ))) (v : List ℤ) (t : ℕ) (f : Bor (List ℕ)) → map (λ f. f.now) fs ≡ map signed_decimal v → t < length v → (get_or fs t f).now ≡ signed_decimal (get_or v t (pos 0))

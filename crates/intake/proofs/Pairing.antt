@@ -1,11 +1,8 @@
 -- What a pair's line refers to.
-use Rattle.std.proofs.Common.{◌≡◌, ℕ, zero, suc, ◌-◌, ◌<◌, true, List, [], ◌∷◌, length, map, get_or, slice_get, Some, None, Vec, Global, All, sym, ap, ◌∙◌, subst, inl, inr, arith}
-use Rattle.std.specs.Prelude.{IsTrue}
+use Rattle.std.proofs.Common.{◌≡◌, ℕ, zero, suc, ◌-◌, ◌<◌, List, [], ◌∷◌, length, map, get_or, slice_get, Some, None, Vec, Global, All, sym, ap, ◌∙◌, subst, inl, inr, arith}
 use Rattle.std.proofs.lemmas.Bool.{cases_order}
-use Rattle.std.proofs.lemmas.List.Elements.{All-contains}
 use Rattle.spa.specs.Shape.{IsPlaceOf}
 use Rattle.spa.specs.declared.code.Code.{Code}
-use Rattle.spa.specs.Text.{is_code}
 use Rattle.spa.specs.Codes.{Finds}
 use Rattle.spa.specs.Instance.{Student, students_of, student_codes, project_codes}
 use Rattle.spa.specs.Made.{IsSoundList}
@@ -52,8 +49,6 @@ pub record Refers (p : Parts) (s k : ℕ) (a b : List ℕ) (e : Student) : Type 
   pub code : slice_get (student_codes p.instance) s ≡ Some a
   pub listed : IsPlaceOf e.list k
   pub place : slice_get e.list (k - 1) ≡ Some b
-  pub student_form : is_code a ≡ true
-  pub project_form : is_code b ≡ true
 
 -- a pair that may be added refers to what is known
 pub refers : (p : Parts) (row : List (List ℕ)) (s k : ℕ) (a b : List ℕ) → IsDraft p → (t : TakesPair p row s k) → row ≡ a ∷ b ∷ [] → Refers p s k a b t.student
@@ -61,7 +56,6 @@ refers p row s k a b d t e =
     let rows : t.student.code ∷ choice_code t.student.list k ∷ [] ≡ a ∷ b ∷ [] = sym t.is ∙ e in
     let first : t.student.code ≡ a = cc in
     let second : choice_code t.student.list k ≡ b = cc in
-    let sound : IsSoundList (project_codes p.instance) t.student.list = all_found (λ (x : Student). IsSoundList (project_codes p.instance) x.list) p.instance.students s t.student d.listed t.here in
     let named : slice_get (student_codes p.instance) s ≡ Some a = get_mapped (λ (x : Student). x.code) p.instance.students s t.student t.here ∙ ap Some first in
     let listed = t.place in
     let within : k - 1 < length t.student.list = omega arith in
@@ -71,8 +65,6 @@ refers p row s k a b d t e =
       code = named;
       listed = listed;
       place = placed;
-      student_form = all_found (λ c. IsTrue (is_code c)) (student_codes p.instance) s a d.students.form named;
-      project_form = All-contains (λ c. IsTrue (is_code c)) (project_codes p.instance) b d.projects.form (sound.1.known (k - 1) b within placed);
     }
 
 -- a code that was found nowhere

@@ -1,5 +1,5 @@
 -- Rows in sections, and which section the next row belongs to.
-use Rattle.std.proofs.Common.{◌≡◌, ℕ, Bool, true, false, ◌||◌, ◌⊎◌, inl, inr, not, List, [], ◌∷◌, ◌++◌, map, flat_map, All, refl, sym, ap, ◌∙◌, append-nil}
+use Rattle.std.proofs.Common.{◌≡◌, ℕ, Bool, true, false, ◌||◌, ◌⊎◌, inl, inr, not, List, [], ◌∷◌, ◌++◌, zero, suc, map, flat_map, All, refl, sym, ap, ◌∙◌, append-nil}
 use Rattle.std.specs.Str.{bytes_eq}
 use Rattle.std.specs.List.{slice_split}
 use Rattle.std.specs.Prelude.{◌==◌, ◌&&◌, ⊤}
@@ -204,3 +204,36 @@ section_free c l (r ∷ rows) h f = All-cons (IsFree c) (line l r) (map (line l)
 pub lines_free : (c : ℕ) (ss : List Section) → (44 == c) ≡ false → Plain c ss → All (IsFree c) (flat_map section_lines ss)
 lines_free c [] h f = All-nil (IsFree c)
 lines_free c (s ∷ ss) h f = All-append (IsFree c) (section_lines s) (flat_map section_lines ss) (section_free c s.letter s.rows h f.0) (lines_free c ss h f.1)
+
+-- a row's letter is one of the sections'
+pub next_letter : (ss ds : List Section) (l : List ℕ) (r : Row) → Next ss ds l r → has_letter l ss ≡ true
+next_letter [] ds l r h = absurd h
+next_letter (s ∷ ss) [] l r h = absurd h
+next_letter (s ∷ ss) (d ∷ ds) l r (inl i) = ap (λ (b : Bool). b || has_letter l ss) ((bytes_eq-Decides l s.letter).1 (sym i.0))
+next_letter (s ∷ ss) (d ∷ ds) l r (inr j) = ap (λ (b : Bool). bytes_eq l s.letter || b) (next_letter ss ds l r j.1) ∙ or_true (bytes_eq l s.letter)
+  where
+    or_true : (b : Bool) → (b || true) ≡ true
+    or_true true = refl
+    or_true false = refl
+
+-- of the sections from a place on, the first alone has the letter, and none before it
+abbrev pub only_at : ℕ → List ℕ → List Section → Bool
+only_at n l [] = false
+only_at zero l (s ∷ ss) = not (has_letter l ss)
+only_at (suc n) l (s ∷ ss) = not (bytes_eq l s.letter) && only_at n l ss
+
+-- the row is the next of the section at a place: those before have the same rows, and those after have none yet
+abbrev pub NextAt : ℕ → List Section → List Section → Row → Type 0
+NextAt n [] ds r = ⊥
+NextAt n (s ∷ ss) [] r = ⊥
+NextAt zero (s ∷ ss) (d ∷ ds) r = ((more : List Row) × (s.rows ≡ d.rows ++ r ∷ more)) × NoRows ds
+NextAt (suc n) (s ∷ ss) (d ∷ ds) r = (s.rows ≡ d.rows) × NextAt n ss ds r
+
+-- the letter says in which section a row is the next
+pub next_at : (ss ds : List Section) (l : List ℕ) (r : Row) (n : ℕ) → only_at n l ss ≡ true → Next ss ds l r → NextAt n ss ds r
+next_at [] ds l r n o h = absurd h
+next_at (s ∷ ss) [] l r n o h = absurd h
+next_at (s ∷ ss) (d ∷ ds) l r zero o (inl i) = (i.1, i.2)
+next_at (s ∷ ss) (d ∷ ds) l r zero o (inr j) = (let yes = next_letter ss ds l r j.1 in let off = told (has_letter l ss) o in cc)
+next_at (s ∷ ss) (d ∷ ds) l r (suc n) o (inl i) = absurd (not_from_Decides (bytes_eq l s.letter) (bytes_eq-Decides l s.letter) (told (bytes_eq l s.letter) (both (not (bytes_eq l s.letter)) (only_at n l ss) o).0) (sym i.0))
+next_at (s ∷ ss) (d ∷ ds) l r (suc n) o (inr j) = (j.0, next_at ss ds l r n (both (not (bytes_eq l s.letter)) (only_at n l ss) o).1 j.1)

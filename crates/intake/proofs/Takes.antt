@@ -1,5 +1,5 @@
 -- The section that the next row is in says what the draft takes.
-use Rattle.std.proofs.Common.{◌≡◌, ℕ, zero, suc, ◌<◌, ◌≤◌, ◌⊎◌, inl, inr, ℤ, Bool, true, false, ◌||◌, List, [], ◌∷◌, ◌++◌, length, map, drop, get_or, slice_get, codes, Option, Some, None, All, Contains, refl, sym, ap, ◌∙◌, subst, arith}
+use Rattle.std.proofs.Common.{◌≡◌, ℕ, zero, suc, ◌<◌, ◌≤◌, ◌⊎◌, inl, inr, ℤ, Bool, false, ◌||◌, List, [], ◌∷◌, ◌++◌, length, map, get_or, slice_get, codes, Option, Some, None, All, Contains, refl, sym, ap, ◌∙◌, subst, arith}
 use Rattle.std.specs.Fmt.{signed_decimal}
 use Rattle.std.specs.List.{AllZip}
 use Rattle.std.specs.Prelude.{IsTrue}
@@ -13,24 +13,14 @@ use Rattle.spa.specs.Codes.{code_at}
 use Rattle.spa.specs.Instance.{Supervisor, Project, Student, supervisor_codes, project_codes, student_codes}
 use Rattle.spa.specs.Made.{IsSoundList}
 use Rattle.intake.specs.Parts.{Parts, Rise, IsPlace, IsPrice, IsRoundParts}
-use Rattle.intake.specs.Lines.{Row, choice_code, Section, sections, round_lines, supervisor_row, project_row, student_row, pair_rows, price_rows}
+use Rattle.intake.specs.Lines.{Row, choice_code, sections, round_lines, supervisor_row, project_row, student_row, pair_rows, price_rows}
 use Rattle.intake.specs.Draft.{IsDraft, IsWhole, HasNoPrices, NoneOrAll, ArePlaces, EndsPlaced, TakesSupervisor, TakesProject, TakesStudent, TakesPair, TakesPrice, TakesStudentPrice, TakesProjectPrice, TakesSupervisorPrice}
 use Rattle.intake.proofs.Order.{cmp_apart, get_found}
 use Rattle.intake.proofs.Pairing.{all_found, get_mapped}
 use Rattle.intake.proofs.Rolls.{within_get}
-use Rattle.intake.proofs.Sections.{Next, has_letter}
+use Rattle.std.proofs.lemmas.Bool.{cases_Bool}
+use Rattle.intake.proofs.Sections.{has_letter, next_letter, next_at}
 use Rattle.intake.proofs.Goes.{GoesOn, rows_alike}
-
--- a row's letter is one of the sections'
-pub next_letter : (ss ds : List Section) (l : List ℕ) (r : Row) → Next ss ds l r → has_letter l ss ≡ true
-next_letter [] ds l r h = absurd h
-next_letter (s ∷ ss) [] l r h = absurd h
-next_letter (s ∷ ss) (d ∷ ds) l r (inl i) = ap (λ (b : Bool). b || has_letter l ss) ((bytes_eq-Decides l s.letter).1 (sym i.0))
-next_letter (s ∷ ss) (d ∷ ds) l r (inr j) = ap (λ (b : Bool). bytes_eq l s.letter || b) (next_letter ss ds l r j.1) ∙ or_true (bytes_eq l s.letter)
-  where
-    or_true : (b : Bool) → (b || true) ≡ true
-    or_true true = refl
-    or_true false = refl
 
 -- nothing is made from something
 nothing_made : {A B : Type 0} (f : A → B) (xs : List A) → map f xs ≡ [] → xs ≡ []
@@ -109,64 +99,49 @@ project_code x y e = cc
 student_code : (x y : Student) → student_row x ≡ student_row y → x.code ≡ y.code
 student_code x y e = cc
 
--- a letter that is none of the sections'
-not_there : false ≡ true → ⊥
-not_there e = cc
-
--- letters that are the same
-same : (a b : ℕ) → a ∷ [] ≡ b ∷ [] → a ≡ b
-same a b e = cc
-
 -- a supervisor's line goes on only where the draft takes it
 pub supervisor_only : (old : Parts) (r : Row) → IsDraft old → GoesOn old (codes "S") r → (e : Supervisor) × TakesSupervisor old r e
 supervisor_only old r d g =
     let p : Parts = g.parts in
-    elim g.next [
-      | inl i ↦
-          let f = front supervisor_row (λ (e : Supervisor). e.code) supervisor_code p.instance.supervisors old.instance.supervisors r i.1.0 i.1.1 in
-          let quota = all_found (λ q. q ≤ MOST_PLACES) (map (λ (e : Supervisor). e.quota) p.instance.supervisors) (length old.instance.supervisors) f.e.quota g.valid.within.supervisor_quotas (get_mapped (λ (e : Supervisor). e.quota) p.instance.supervisors (length old.instance.supervisors) f.e f.here) in
-          let within = within_get p.instance.supervisors (length old.instance.supervisors) f.e f.here in (
-            f.e,
-            record {
-              turn = nothing_made project_row old.instance.projects i.2.0;
-              prices = no_prices_of old d i.2.1.1.1.0 i.2.1.1.1.1.0 i.2.1.1.1.1.1.0;
-              is = f.is;
-              form = all_found (λ c. IsTrue (is_code c)) (supervisor_codes p.instance) (length old.instance.supervisors) f.e.code g.valid.supervisors.form (get_mapped (λ (e : Supervisor). e.code) p.instance.supervisors (length old.instance.supervisors) f.e f.here);
-              quota = quota;
-              few = omega (arith, within, g.valid.within.supervisors);
-              next = front_rises supervisor_row (λ (e : Supervisor). e.code) p.instance.supervisors old.instance.supervisors r f g.valid.supervisors.rise;
-            },
-          )
-      | inr j ↦ absurd (not_there (next_letter (drop 1 (sections p)) (drop 1 (sections old)) (codes "S") r j.1))
-    ]
+    let at = next_at (sections p) (sections old) (codes "S") r 0 refl g.next in
+    let i = at in
+    let f = front supervisor_row (λ (e : Supervisor). e.code) supervisor_code p.instance.supervisors old.instance.supervisors r i.0.0 i.0.1 in
+    let quota = all_found (λ q. q ≤ MOST_PLACES) (map (λ (e : Supervisor). e.quota) p.instance.supervisors) (length old.instance.supervisors) f.e.quota g.valid.within.supervisor_quotas (get_mapped (λ (e : Supervisor). e.quota) p.instance.supervisors (length old.instance.supervisors) f.e f.here) in
+    let within = within_get p.instance.supervisors (length old.instance.supervisors) f.e f.here in (
+      f.e,
+      record {
+        turn = nothing_made project_row old.instance.projects i.1.0;
+        prices = no_prices_of old d i.1.1.1.1.0 i.1.1.1.1.1.0 i.1.1.1.1.1.1.0;
+        is = f.is;
+        form = all_found (λ c. IsTrue (is_code c)) (supervisor_codes p.instance) (length old.instance.supervisors) f.e.code g.valid.supervisors.form (get_mapped (λ (e : Supervisor). e.code) p.instance.supervisors (length old.instance.supervisors) f.e f.here);
+        quota = quota;
+        few = omega (arith, within, g.valid.within.supervisors);
+        next = front_rises supervisor_row (λ (e : Supervisor). e.code) p.instance.supervisors old.instance.supervisors r f g.valid.supervisors.rise;
+      },
+    )
 
 -- a project's line goes on only where the draft takes it
 pub project_only : (old : Parts) (r : Row) → IsDraft old → GoesOn old (codes "P") r → (e : Project) × TakesProject old r e
 project_only old r d g =
     let p : Parts = g.parts in
-    elim g.next [
-      | inl i ↦ absurd (omega (arith, same 83 80 i.0))
-      | inr j ↦ elim j.1 [
-        | inl i ↦
-            let n : ℕ = length old.instance.projects in
-            let f = front project_row (λ (e : Project). e.code) project_code p.instance.projects old.instance.projects r i.1.0 i.1.1 in
-            let within = within_get p.instance.projects n f.e f.here in
-            let owner = all_found (λ (e : Project). Contains (supervisor_codes p.instance) e.supervisor) p.instance.projects n f.e g.valid.offered f.here in (
-              f.e,
-              record {
-                turn = nothing_made student_row old.instance.students i.2.0;
-                prices = no_prices_of old d i.2.1.1.0 i.2.1.1.1.0 i.2.1.1.1.1.0;
-                is = f.is;
-                form = all_found (λ c. IsTrue (is_code c)) (project_codes p.instance) n f.e.code g.valid.projects.form (get_mapped (λ (e : Project). e.code) p.instance.projects n f.e f.here);
-                quota = all_found (λ q. q ≤ MOST_PLACES) (map (λ (e : Project). e.quota) p.instance.projects) n f.e.quota g.valid.within.project_quotas (get_mapped (λ (e : Project). e.quota) p.instance.projects n f.e f.here);
-                known = subst (λ (l : List (List ℕ)). Contains l f.e.supervisor) (same_codes supervisor_row (λ (e : Supervisor). e.code) supervisor_code p.instance.supervisors old.instance.supervisors j.0) owner;
-                few = omega (arith, within, g.valid.within.projects);
-                next = front_rises project_row (λ (e : Project). e.code) p.instance.projects old.instance.projects r f g.valid.projects.rise;
-              },
-            )
-        | inr k ↦ absurd (not_there (next_letter (drop 2 (sections p)) (drop 2 (sections old)) (codes "P") r k.1))
-      ]
-    ]
+    let at = next_at (sections p) (sections old) (codes "P") r 1 refl g.next in
+    let i = at.1 in
+    let n : ℕ = length old.instance.projects in
+    let f = front project_row (λ (e : Project). e.code) project_code p.instance.projects old.instance.projects r i.0.0 i.0.1 in
+    let within = within_get p.instance.projects n f.e f.here in
+    let owner = all_found (λ (e : Project). Contains (supervisor_codes p.instance) e.supervisor) p.instance.projects n f.e g.valid.offered f.here in (
+      f.e,
+      record {
+        turn = nothing_made student_row old.instance.students i.1.0;
+        prices = no_prices_of old d i.1.1.1.0 i.1.1.1.1.0 i.1.1.1.1.1.0;
+        is = f.is;
+        form = all_found (λ c. IsTrue (is_code c)) (project_codes p.instance) n f.e.code g.valid.projects.form (get_mapped (λ (e : Project). e.code) p.instance.projects n f.e f.here);
+        quota = all_found (λ q. q ≤ MOST_PLACES) (map (λ (e : Project). e.quota) p.instance.projects) n f.e.quota g.valid.within.project_quotas (get_mapped (λ (e : Project). e.quota) p.instance.projects n f.e f.here);
+        known = subst (λ (l : List (List ℕ)). Contains l f.e.supervisor) (same_codes supervisor_row (λ (e : Supervisor). e.code) supervisor_code p.instance.supervisors old.instance.supervisors at.0) owner;
+        few = omega (arith, within, g.valid.within.projects);
+        next = front_rises project_row (λ (e : Project). e.code) p.instance.projects old.instance.projects r f g.valid.projects.rise;
+      },
+    )
 
 -- there are no places without rows of pairs
 no_places : (es : List Student) (ks : List (Option ℕ)) → ArePlaces es ks → EndsPlaced ks → pair_rows es ks ≡ [] → ks ≡ []
@@ -180,31 +155,23 @@ no_places (x ∷ es) (None ∷ k ∷ ks) a e h = (let none : k ∷ ks ≡ [] = n
 pub student_only : (old : Parts) (r : Row) → IsDraft old → GoesOn old (codes "C") r → (e : Student) × TakesStudent old r e
 student_only old r d g =
     let p : Parts = g.parts in
-    elim g.next [
-      | inl i ↦ absurd (omega (arith, same 83 67 i.0))
-      | inr j ↦ elim j.1 [
-        | inl i ↦ absurd (omega (arith, same 80 67 i.0))
-        | inr k ↦ elim k.1 [
-          | inl i ↦
-              let n : ℕ = length old.instance.students in
-              let f = front student_row (λ (e : Student). e.code) student_code p.instance.students old.instance.students r i.1.0 i.1.1 in
-              let within = within_get p.instance.students n f.e f.here in
-              let listed = all_found (λ (e : Student). IsSoundList (project_codes p.instance) e.list) p.instance.students n f.e g.valid.listed f.here in (
-                f.e,
-                record {
-                  turn = no_places old.instance.students old.places d.places d.last_place i.2.0;
-                  prices = no_prices_of old d i.2.1.0 i.2.1.1.0 i.2.1.1.1.0;
-                  is = f.is;
-                  form = all_found (λ c. IsTrue (is_code c)) (student_codes p.instance) n f.e.code g.valid.students.form (get_mapped (λ (e : Student). e.code) p.instance.students n f.e f.here);
-                  list = subst (λ (l : List (List ℕ)). IsSoundList l f.e.list) (same_codes project_row (λ (e : Project). e.code) project_code p.instance.projects old.instance.projects k.0) listed;
-                  few = omega (arith, within, g.valid.within.students);
-                  next = front_rises student_row (λ (e : Student). e.code) p.instance.students old.instance.students r f g.valid.students.rise;
-                },
-              )
-          | inr m ↦ absurd (not_there (next_letter (drop 3 (sections p)) (drop 3 (sections old)) (codes "C") r m.1))
-        ]
-      ]
-    ]
+    let at = next_at (sections p) (sections old) (codes "C") r 2 refl g.next in
+    let i = at.1.1 in
+    let n : ℕ = length old.instance.students in
+    let f = front student_row (λ (e : Student). e.code) student_code p.instance.students old.instance.students r i.0.0 i.0.1 in
+    let within = within_get p.instance.students n f.e f.here in
+    let listed = all_found (λ (e : Student). IsSoundList (project_codes p.instance) e.list) p.instance.students n f.e g.valid.listed f.here in (
+      f.e,
+      record {
+        turn = no_places old.instance.students old.places d.places d.last_place i.1.0;
+        prices = no_prices_of old d i.1.1.0 i.1.1.1.0 i.1.1.1.1.0;
+        is = f.is;
+        form = all_found (λ c. IsTrue (is_code c)) (student_codes p.instance) n f.e.code g.valid.students.form (get_mapped (λ (e : Student). e.code) p.instance.students n f.e f.here);
+        list = subst (λ (l : List (List ℕ)). IsSoundList l f.e.list) (same_codes project_row (λ (e : Project). e.code) project_code p.instance.projects old.instance.projects at.1.0) listed;
+        few = omega (arith, within, g.valid.within.students);
+        next = front_rises student_row (λ (e : Student). e.code) p.instance.students old.instance.students r f g.valid.students.rise;
+      },
+    )
 
 -- students with the same rows are the same
 pub same_students : (xs ys : List Student) → map student_row xs ≡ map student_row ys → xs ≡ ys
@@ -313,34 +280,23 @@ zip_place (x ∷ es) (j ∷ ks) (suc s) k e z h i = zip_place es ks s k e z.1 h 
 pub pair_only : (old : Parts) (r : Row) → IsDraft old → GoesOn old (codes "M") r → (s k : ℕ) × TakesPair old r s k
 pair_only old r d g =
     let p : Parts = g.parts in
-    elim g.next [
-      | inl i ↦ absurd (omega (arith, same 83 77 i.0))
-      | inr j ↦ elim j.1 [
-        | inl i ↦ absurd (omega (arith, same 80 77 i.0))
-        | inr k ↦ elim k.1 [
-          | inl i ↦ absurd (omega (arith, same 67 77 i.0))
-          | inr m ↦ elim m.1 [
-            | inl i ↦
-                let students : p.instance.students ≡ old.instance.students = same_students p.instance.students old.instance.students m.0 in
-                let rows : pair_rows old.instance.students p.places ≡ pair_rows old.instance.students old.places ++ r ∷ i.1.0 = ap (λ (l : List Student). pair_rows l p.places) (sym students) ∙ i.1.1 in
-                let a = next_pair old.instance.students p.places old.places r i.1.0 d.students.rise d.places d.last_place rows in
-                let zipped : AllZip IsPlace old.instance.students p.places = subst (λ (l : List Student). AllZip IsPlace l p.places) students g.valid.places in (
-                  a.at,
-                  a.place,
-                  record {
-                    prices = no_prices_of old d i.2.0 i.2.1.0 i.2.1.1.0;
-                    student = a.student;
-                    here = a.here;
-                    later = a.later;
-                    place = zip_place old.instance.students p.places a.at a.place a.student zipped a.here a.placed;
-                    is = a.is;
-                  },
-                )
-            | inr u ↦ absurd (not_there (next_letter (drop 4 (sections p)) (drop 4 (sections old)) (codes "M") r u.1))
-          ]
-        ]
-      ]
-    ]
+    let at = next_at (sections p) (sections old) (codes "M") r 3 refl g.next in
+    let i = at.1.1.1 in
+    let students : p.instance.students ≡ old.instance.students = same_students p.instance.students old.instance.students at.1.1.0 in
+    let rows : pair_rows old.instance.students p.places ≡ pair_rows old.instance.students old.places ++ r ∷ i.0.0 = ap (λ (l : List Student). pair_rows l p.places) (sym students) ∙ i.0.1 in
+    let a = next_pair old.instance.students p.places old.places r i.0.0 d.students.rise d.places d.last_place rows in
+    let zipped : AllZip IsPlace old.instance.students p.places = subst (λ (l : List Student). AllZip IsPlace l p.places) students g.valid.places in (
+      a.at,
+      a.place,
+      record {
+        prices = no_prices_of old d i.1.0 i.1.1.0 i.1.1.1.0;
+        student = a.student;
+        here = a.here;
+        later = a.later;
+        place = zip_place old.instance.students p.places a.at a.place a.student zipped a.here a.placed;
+        is = a.is;
+      },
+    )
 
 -- the price that a row is of
 pub record PriceAt (cs : List (List ℕ)) (us : List (List ℤ)) (n : ℕ) (r : Row) : Type 0 where
@@ -380,132 +336,66 @@ none_or_all code new old us vs w h same rows =
 pub student_price_only : (old : Parts) (r : Row) → IsDraft old → GoesOn old (codes "U") r → (v : List ℤ) × TakesStudentPrice old r v
 student_price_only old r d g =
     let p : Parts = g.parts in
-    elim g.next [
-      | inl i ↦ absurd (omega (arith, same 83 85 i.0))
-      | inr j ↦ elim j.1 [
-        | inl i ↦ absurd (omega (arith, same 80 85 i.0))
-        | inr k ↦ elim k.1 [
-          | inl i ↦ absurd (omega (arith, same 67 85 i.0))
-          | inr m ↦ elim m.1 [
-            | inl i ↦ absurd (omega (arith, same 77 85 i.0))
-            | inr u ↦ elim u.1 [
-              | inl i ↦
-                  let roll : student_codes p.instance ≡ student_codes old.instance = same_codes student_row (λ (e : Student). e.code) student_code p.instance.students old.instance.students m.0 in
-                  let rows : price_rows (student_codes old.instance) p.student_prices ≡ price_rows (student_codes old.instance) old.student_prices ++ r ∷ i.1.0 = ap (λ (l : List (List ℕ)). price_rows l p.student_prices) (sym roll) ∙ i.1.1 in
-                  let t = takes_price (λ (e : Student). e.code) old.instance.students p.student_prices old.student_prices r i.1.0 d.student_prices.few g.valid.student_prices.prices rows in (
-                    t.0,
-                    record {
-                      projects = no_prices (λ (e : Project). e.code) old.instance.projects old.project_prices d.project_prices.few i.2.0;
-                      supervisors = no_prices (λ (e : Supervisor). e.code) old.instance.supervisors old.supervisor_prices d.supervisor_prices.few i.2.1.0;
-                      price = t.1;
-                    },
-                  )
-              | inr y ↦ absurd (not_there (next_letter (drop 5 (sections p)) (drop 5 (sections old)) (codes "U") r y.1))
-            ]
-          ]
-        ]
-      ]
-    ]
+    let at = next_at (sections p) (sections old) (codes "U") r 4 refl g.next in
+    let i = at.1.1.1.1 in
+    let roll : student_codes p.instance ≡ student_codes old.instance = same_codes student_row (λ (e : Student). e.code) student_code p.instance.students old.instance.students at.1.1.0 in
+    let rows : price_rows (student_codes old.instance) p.student_prices ≡ price_rows (student_codes old.instance) old.student_prices ++ r ∷ i.0.0 = ap (λ (l : List (List ℕ)). price_rows l p.student_prices) (sym roll) ∙ i.0.1 in
+    let t = takes_price (λ (e : Student). e.code) old.instance.students p.student_prices old.student_prices r i.0.0 d.student_prices.few g.valid.student_prices.prices rows in (
+      t.0,
+      record {
+        projects = no_prices (λ (e : Project). e.code) old.instance.projects old.project_prices d.project_prices.few i.1.0;
+        supervisors = no_prices (λ (e : Supervisor). e.code) old.instance.supervisors old.supervisor_prices d.supervisor_prices.few i.1.1.0;
+        price = t.1;
+      },
+    )
 
 -- the line of a project's price goes on only where the draft takes it
 pub project_price_only : (old : Parts) (r : Row) → IsDraft old → GoesOn old (codes "Y") r → (v : List ℤ) × TakesProjectPrice old r v
 project_price_only old r d g =
     let p : Parts = g.parts in
-    elim g.next [
-      | inl i ↦ absurd (omega (arith, same 83 89 i.0))
-      | inr j ↦ elim j.1 [
-        | inl i ↦ absurd (omega (arith, same 80 89 i.0))
-        | inr k ↦ elim k.1 [
-          | inl i ↦ absurd (omega (arith, same 67 89 i.0))
-          | inr m ↦ elim m.1 [
-            | inl i ↦ absurd (omega (arith, same 77 89 i.0))
-            | inr u ↦ elim u.1 [
-              | inl i ↦ absurd (omega (arith, same 85 89 i.0))
-              | inr y ↦ elim y.1 [
-                | inl i ↦
-                    let students : student_codes p.instance ≡ student_codes old.instance = same_codes student_row (λ (e : Student). e.code) student_code p.instance.students old.instance.students m.0 in
-                    let roll : project_codes p.instance ≡ project_codes old.instance = same_codes project_row (λ (e : Project). e.code) project_code p.instance.projects old.instance.projects k.0 in
-                    let rows : price_rows (project_codes old.instance) p.project_prices ≡ price_rows (project_codes old.instance) old.project_prices ++ r ∷ i.1.0 = ap (λ (l : List (List ℕ)). price_rows l p.project_prices) (sym roll) ∙ i.1.1 in
-                    let t = takes_price (λ (e : Project). e.code) old.instance.projects p.project_prices old.project_prices r i.1.0 d.project_prices.few g.valid.project_prices.prices rows in (
-                      t.0,
-                      record {
-                        supervisors = no_prices (λ (e : Supervisor). e.code) old.instance.supervisors old.supervisor_prices d.supervisor_prices.few i.2.0;
-                        students = none_or_all (λ (e : Student). e.code) p.instance.students old.instance.students p.student_prices old.student_prices g.valid.student_prices.none_or_all d.student_prices.few students y.0;
-                        price = t.1;
-                      },
-                    )
-                | inr z ↦ absurd (not_there (next_letter (drop 6 (sections p)) (drop 6 (sections old)) (codes "Y") r z.1))
-              ]
-            ]
-          ]
-        ]
-      ]
-    ]
+    let at = next_at (sections p) (sections old) (codes "Y") r 5 refl g.next in
+    let i = at.1.1.1.1.1 in
+    let students : student_codes p.instance ≡ student_codes old.instance = same_codes student_row (λ (e : Student). e.code) student_code p.instance.students old.instance.students at.1.1.0 in
+    let roll : project_codes p.instance ≡ project_codes old.instance = same_codes project_row (λ (e : Project). e.code) project_code p.instance.projects old.instance.projects at.1.0 in
+    let rows : price_rows (project_codes old.instance) p.project_prices ≡ price_rows (project_codes old.instance) old.project_prices ++ r ∷ i.0.0 = ap (λ (l : List (List ℕ)). price_rows l p.project_prices) (sym roll) ∙ i.0.1 in
+    let t = takes_price (λ (e : Project). e.code) old.instance.projects p.project_prices old.project_prices r i.0.0 d.project_prices.few g.valid.project_prices.prices rows in (
+      t.0,
+      record {
+        supervisors = no_prices (λ (e : Supervisor). e.code) old.instance.supervisors old.supervisor_prices d.supervisor_prices.few i.1.0;
+        students = none_or_all (λ (e : Student). e.code) p.instance.students old.instance.students p.student_prices old.student_prices g.valid.student_prices.none_or_all d.student_prices.few students at.1.1.1.1.0;
+        price = t.1;
+      },
+    )
 
 -- the line of a supervisor's price goes on only where the draft takes it
 pub supervisor_price_only : (old : Parts) (r : Row) → IsDraft old → GoesOn old (codes "Z") r → (v : List ℤ) × TakesSupervisorPrice old r v
 supervisor_price_only old r d g =
     let p : Parts = g.parts in
-    elim g.next [
-      | inl i ↦ absurd (omega (arith, same 83 90 i.0))
-      | inr j ↦ elim j.1 [
-        | inl i ↦ absurd (omega (arith, same 80 90 i.0))
-        | inr k ↦ elim k.1 [
-          | inl i ↦ absurd (omega (arith, same 67 90 i.0))
-          | inr m ↦ elim m.1 [
-            | inl i ↦ absurd (omega (arith, same 77 90 i.0))
-            | inr u ↦ elim u.1 [
-              | inl i ↦ absurd (omega (arith, same 85 90 i.0))
-              | inr y ↦ elim y.1 [
-                | inl i ↦ absurd (omega (arith, same 89 90 i.0))
-                | inr z ↦ elim z.1 [
-                  | inl i ↦
-                      let students : student_codes p.instance ≡ student_codes old.instance = same_codes student_row (λ (e : Student). e.code) student_code p.instance.students old.instance.students m.0 in
-                      let projects : project_codes p.instance ≡ project_codes old.instance = same_codes project_row (λ (e : Project). e.code) project_code p.instance.projects old.instance.projects k.0 in
-                      let roll : supervisor_codes p.instance ≡ supervisor_codes old.instance = same_codes supervisor_row (λ (e : Supervisor). e.code) supervisor_code p.instance.supervisors old.instance.supervisors j.0 in
-                      let rows : price_rows (supervisor_codes old.instance) p.supervisor_prices ≡ price_rows (supervisor_codes old.instance) old.supervisor_prices ++ r ∷ i.1.0 = ap (λ (l : List (List ℕ)). price_rows l p.supervisor_prices) (sym roll) ∙ i.1.1 in
-                      let t = takes_price (λ (e : Supervisor). e.code) old.instance.supervisors p.supervisor_prices old.supervisor_prices r i.1.0 d.supervisor_prices.few g.valid.supervisor_prices.prices rows in (
-                        t.0,
-                        record {
-                          students = none_or_all (λ (e : Student). e.code) p.instance.students old.instance.students p.student_prices old.student_prices g.valid.student_prices.none_or_all d.student_prices.few students y.0;
-                          projects = none_or_all (λ (e : Project). e.code) p.instance.projects old.instance.projects p.project_prices old.project_prices g.valid.project_prices.none_or_all d.project_prices.few projects z.0;
-                          price = t.1;
-                        },
-                      )
-                  | inr o ↦ absurd o.1
-                ]
-              ]
-            ]
-          ]
-        ]
-      ]
-    ]
+    let at = next_at (sections p) (sections old) (codes "Z") r 6 refl g.next in
+    let i = at.1.1.1.1.1.1 in
+    let students : student_codes p.instance ≡ student_codes old.instance = same_codes student_row (λ (e : Student). e.code) student_code p.instance.students old.instance.students at.1.1.0 in
+    let projects : project_codes p.instance ≡ project_codes old.instance = same_codes project_row (λ (e : Project). e.code) project_code p.instance.projects old.instance.projects at.1.0 in
+    let roll : supervisor_codes p.instance ≡ supervisor_codes old.instance = same_codes supervisor_row (λ (e : Supervisor). e.code) supervisor_code p.instance.supervisors old.instance.supervisors at.0 in
+    let rows : price_rows (supervisor_codes old.instance) p.supervisor_prices ≡ price_rows (supervisor_codes old.instance) old.supervisor_prices ++ r ∷ i.0.0 = ap (λ (l : List (List ℕ)). price_rows l p.supervisor_prices) (sym roll) ∙ i.0.1 in
+    let t = takes_price (λ (e : Supervisor). e.code) old.instance.supervisors p.supervisor_prices old.supervisor_prices r i.0.0 d.supervisor_prices.few g.valid.supervisor_prices.prices rows in (
+      t.0,
+      record {
+        students = none_or_all (λ (e : Student). e.code) p.instance.students old.instance.students p.student_prices old.student_prices g.valid.student_prices.none_or_all d.student_prices.few students at.1.1.1.1.0;
+        projects = none_or_all (λ (e : Project). e.code) p.instance.projects old.instance.projects p.project_prices old.project_prices g.valid.project_prices.none_or_all d.project_prices.few projects at.1.1.1.1.1.0;
+        price = t.1;
+      },
+    )
 
 -- a line with another letter goes on nowhere
 pub other_only : (old : Parts) (l : List ℕ) (r : Row) → GoesOn old l r → (l ≡ codes "S" → ⊥) → (l ≡ codes "P" → ⊥) → (l ≡ codes "C" → ⊥) → (l ≡ codes "M" → ⊥) → (l ≡ codes "U" → ⊥) → (l ≡ codes "Y" → ⊥) → (l ≡ codes "Z" → ⊥) → ⊥
 other_only old l r g s p c m u y z =
-    elim g.next [
-      | inl i ↦ s (sym i.0)
-      | inr a ↦ elim a.1 [
-        | inl i ↦ p (sym i.0)
-        | inr a ↦ elim a.1 [
-          | inl i ↦ c (sym i.0)
-          | inr a ↦ elim a.1 [
-            | inl i ↦ m (sym i.0)
-            | inr a ↦ elim a.1 [
-              | inl i ↦ u (sym i.0)
-              | inr a ↦ elim a.1 [
-                | inl i ↦ y (sym i.0)
-                | inr a ↦ elim a.1 [
-                  | inl i ↦ z (sym i.0)
-                  | inr a ↦ a.1
-                ]
-              ]
-            ]
-          ]
-        ]
-      ]
-    ]
+    let yes = next_letter (sections g.parts) (sections old) l r g.next in
+    let off : has_letter l (sections g.parts) ≡ false =
+    neither l (codes "S") _ s (neither l (codes "P") _ p (neither l (codes "C") _ c (neither l (codes "M") _ m (neither l (codes "U") _ u (neither l (codes "Y") _ y (neither l (codes "Z") _ z refl)))))) in
+    cc
+  where
+    neither : (a b : List ℕ) (x : Bool) → (a ≡ b → ⊥) → x ≡ false → (bytes_eq a b || x) ≡ false
+    neither a b x apart e = elim (cases_Bool (bytes_eq a b)) [ inl is ↦ absurd (apart ((bytes_eq-Decides a b).0 is)) | inr off ↦ ap (λ (y : Bool). y || x) off ∙ e ]
 
 -- a draft with all lines of a text may end
 pub whole_only : (old p : Parts) → IsDraft old → IsRoundParts p → round_lines p ≡ round_lines old → IsWhole old

@@ -9,7 +9,8 @@ ghost use Rattle.intake.specs.Lines.{round_lines};
 ghost use Rattle.intake.specs.View.{parts_of};
 
 use crate::fields::{pieces, read_code, read_price, read_quota};
-use crate::lookup::{Coded, is_next, position_in, position_of};
+use crate::guesses::Guesses;
+use crate::lookup::{Coded, is_next, position_at, position_in};
 use crate::round::RoundParts;
 use spa::{
     Code, Instance, InstanceFault, MOST_PROJECTS, MOST_STUDENTS, MOST_SUPERVISORS, Matching,
@@ -27,12 +28,15 @@ pub(crate) struct Draft {
     students: Vec<(Code, Vec<Code>)>,
     places: Vec<Option<u8>>,
     prices: Prices,
+    by_supervisor: Guesses,
+    by_project: Guesses,
 }
 
 /// Reads a list of projects, each of them known and none twice.
 fn read_list(
     alloc: Global,
     projects: &[(Code, Code, u32)],
+    guesses: &Guesses,
     fields: &[&[u8]],
 ) -> Result<Option<Vec<Code>>, AllocError>
     requires { IsRoll (map (λ e. e.0) projects.now) }
@@ -41,18 +45,15 @@ fn read_list(
     if fields.is_empty() || fields.len() > RANKS {
         return Ok(None);
     }
-    let mut list = Vec::new(alloc);
+    let mut list = Vec::with_capacity(alloc, fields.len())?;
     for field in fields {
-        let Some(code) = read_code(field) else {
+        let Some(position) = position_at(projects, field, guesses.guess(field)) else {
             return Ok(None);
         };
-        if position_of(projects, code.as_str()).is_none() {
+        if position_in(&list, field).is_some() {
             return Ok(None);
         }
-        if position_in(&list, code.as_str()).is_some() {
-            return Ok(None);
-        }
-        list.push(code)?;
+        list.push(projects[position].0.copy())?;
     }
     Ok(Some(list))
 }
@@ -125,6 +126,8 @@ impl Draft {
                 projects: Vec::new(alloc),
                 supervisors: Vec::new(alloc),
             },
+            by_supervisor: Guesses::new(),
+            by_project: Guesses::new(),
         }
     }
 
@@ -160,6 +163,8 @@ impl Draft {
         if !is_next(&self.supervisors, code.as_str()) {
             return Ok(false);
         }
+        let next = self.supervisors.len();
+        self.by_supervisor.note(code.as_str().as_bytes(), next);
         self.supervisors.push((code, quota))?;
         Ok(true)
     }
@@ -178,9 +183,6 @@ impl Draft {
         let Some(code) = read_code(code) else {
             return Ok(false);
         };
-        let Some(supervisor) = read_code(supervisor) else {
-            return Ok(false);
-        };
         let Some(quota) = read_quota(quota) else {
             return Ok(false);
         };
@@ -190,9 +192,13 @@ impl Draft {
         if !is_next(&self.projects, code.as_str()) {
             return Ok(false);
         }
-        if position_of(&self.supervisors, supervisor.as_str()).is_none() {
+        let guess = self.by_supervisor.guess(supervisor);
+        let Some(owner) = position_at(&self.supervisors, supervisor, guess) else {
             return Ok(false);
-        }
+        };
+        let supervisor = self.supervisors[owner].0.copy();
+        let next = self.projects.len();
+        self.by_project.note(code.as_str().as_bytes(), next);
         self.projects.push((code, supervisor, quota))?;
         Ok(true)
     }
@@ -217,7 +223,7 @@ impl Draft {
         if !is_next(&self.students, code.as_str()) {
             return Ok(false);
         }
-        let Some(list) = read_list(alloc, &self.projects, list)? else {
+        let Some(list) = read_list(alloc, &self.projects, &self.by_project, list)? else {
             return Ok(false);
         };
         self.students.push((code, list))?;
@@ -235,19 +241,15 @@ impl Draft {
         let [student, project] = fields else {
             return Ok(false);
         };
-        let Some(student) = read_code(student) else {
-            return Ok(false);
-        };
-        let Some(project) = read_code(project) else {
-            return Ok(false);
-        };
-        let Some(position) = position_of(&self.students, student.as_str()) else {
+        // As a rule each student has a pair.
+        let guess = self.places.len();
+        let Some(position) = position_at(&self.students, student, guess) else {
             return Ok(false);
         };
         if position < self.places.len() {
             return Ok(false);
         }
-        let Some(before) = position_in(&self.students[position].1, project.as_str()) else {
+        let Some(before) = position_in(&self.students[position].1, project) else {
             return Ok(false);
         };
         let place = before as u8 + 1;
@@ -334,7 +336,7 @@ impl Draft {
         requires { IsDraft (draft_of self.old) }
         ensures { IfOk result (λ b. AddsLine (draft_of self.old) line.now (draft_of self.new) b) }
     {
-        let fields = pieces(alloc, line, b',')?;
+        let fields = pieces(alloc, line, b',', PLACES + 2)?;
         self.add(alloc, &fields)
     }
 

@@ -1,7 +1,7 @@
 //! The pieces of a text: lines, their fields, and the codes and numbers that fields stand for.
 #![tactic(auto)]
 
-ghost use Rattle.std.specs.Prelude.{◌≡◌, ◌≤◌, ◌==◌, ℕ, ℤ, List, map, length, IfOk, MatchOption, IsTrue, ◌↔◌, false, decimal};
+ghost use Rattle.std.specs.Prelude.{◌≡◌, ◌≤◌, ◌==◌, ℕ, ℤ, List, map, length, IfOk, IfSome, MatchOption, IsTrue, ◌↔◌, false, decimal};
 ghost use Rattle.std.specs.Fmt.{signed_decimal};
 ghost use Rattle.std.specs.List.{slice_split};
 ghost use Rattle.spa.specs.Text.{is_code};
@@ -13,15 +13,25 @@ use std::alloc::{AllocError, Global};
 use std::str;
 use verdict::LIMIT;
 
-/// The pieces of a text between its bytes of a kind.
+/// The pieces of a text between its bytes of a kind. There is room for so many before memory has to grow.
 pub(crate) fn pieces<'a>(
     alloc: Global,
     text: &'a [u8],
     end: u8,
+    room: usize,
 ) -> Result<Vec<&'a [u8]>, AllocError>
     ensures { IfOk result (λ v. map (λ p. p.now) v.items ≡ slice_split (λ b. b == end) text.now) }
 {
-    text.split(|byte| *byte == end).collect(alloc)
+    let mut pieces = Vec::with_capacity(alloc, room)?;
+    let mut start = 0;
+    for at in 0..text.len() {
+        if text[at] == end {
+            pieces.push(&text[start..at])?;
+            start = at + 1;
+        }
+    }
+    pieces.push(&text[start..])?;
+    Ok(pieces)
 }
 
 /// The code that a field is.
@@ -76,10 +86,33 @@ fn is_in_range(number: i64) -> bool
     number >= -LIMIT && number <= LIMIT
 }
 
+/// The number that a field of one digit is, with a minus before it or none.
+fn read_digit(field: &[u8]) -> Option<i64>
+    ensures { IfSome result (λ n. InRange n × (field.now ≡ signed_decimal n)) }
+{
+    if field.len() == 1 {
+        if field[0] < b'0' || field[0] > b'9' {
+            return None;
+        }
+        return Some((field[0] - b'0') as i64);
+    }
+    if field.len() != 2 || field[0] != b'-' {
+        return None;
+    }
+    if field[1] < b'1' || field[1] > b'9' {
+        return None;
+    }
+    Some(-((field[1] - b'0') as i64))
+}
+
 /// The number of a price that a field is.
 fn read_number(field: &[u8]) -> Option<i64>
     ensures { MatchOption result ((n : ℤ) → InRange n → ¬ (field.now ≡ signed_decimal n)) (λ n. InRange n × (field.now ≡ signed_decimal n)) }
 {
+    // Most prices are small.
+    if let Some(number) = read_digit(field) {
+        return Some(number);
+    }
     let Ok(text) = str::from_utf8(field) else {
         return None;
     };

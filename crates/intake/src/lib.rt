@@ -12,6 +12,7 @@
 
 mod draft;
 mod fields;
+mod guesses;
 mod laws;
 mod lines;
 mod lookup;

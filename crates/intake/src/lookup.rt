@@ -3,8 +3,9 @@
 
 ghost use Rattle.std.specs.Prelude.{◌≡◌, ◌↔◌, ℕ, List, [], ◌∷◌, ◌++◌, map, length, IsTrue};
 ghost use Rattle.spa.specs.Codes.{Finds};
-ghost use Rattle.intake.specs.Parts.{Rise};
+ghost use Rattle.intake.specs.Parts.{Rise, IsRoll};
 
+use crate::fields::read_code;
 use spa::Code;
 use std::cmp::Ordering;
 
@@ -70,14 +71,41 @@ pub(crate) fn is_next<E: Coded>(roll: &[E], code: &str) -> bool
     last.code().cmp(code).is_lt()
 }
 
+/// Whether two texts are the same. Codes that differ mostly do at their ends.
+fn is_same(a: &[u8], b: &[u8]) -> bool
+    ensures { IsTrue result ↔ (a.now ≡ b.now) }
+{
+    if a.len() != b.len() {
+        return false;
+    }
+    if !a.is_empty() && a[a.len() - 1] != b[a.len() - 1] {
+        return false;
+    }
+    a == b
+}
+
 /// The position of a code in a list.
-pub(crate) fn position_in(list: &[Code], code: &str) -> Option<usize>
+pub(crate) fn position_in(list: &[Code], code: &[u8]) -> Option<usize>
     ensures { Finds list.now (length list.now) code.now result }
 {
     for position in 0..list.len() {
-        if list[position].as_str() == code {
+        if is_same(list[position].as_str().as_bytes(), code) {
             return Some(position);
         }
     }
     None
+}
+
+/// Where a code stands in a roll. It is looked for at a guess first.
+pub(crate) fn position_at<E: Coded>(roll: &[E], code: &[u8], guess: usize) -> Option<usize>
+    requires { IsRoll (map E.key roll.now) }
+    ensures { Finds (map E.key roll.now) (length roll.now) code.now result }
+{
+    if guess < roll.len() && is_same(roll[guess].code().as_bytes(), code) {
+        return Some(guess);
+    }
+    let Some(code) = read_code(code) else {
+        return None;
+    };
+    position_of(roll, code.as_str())
 }

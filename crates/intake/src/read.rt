@@ -26,7 +26,7 @@ pub fn read_round(alloc: Global, text: &[u8]) -> Result<RoundParts, RoundFault>
     if text.len() > MOST_BYTES {
         return Err(RoundFault::TooLarge);
     }
-    let lines = pieces(alloc, text, b'\n')?;
+    let lines = pieces(alloc, text, b'\n', 64)?;
     let whole = lines.len() - 1;
     let mut draft = Draft::new(alloc);
     for n in 0..whole {

@@ -9,8 +9,8 @@ use Rattle.intake.proofs.fields.read_number.Goals as goal
 kept : (m n : ℤ) → m ≡ n → InRange n → to_z w64 (of_z w64 m) ≡ n
 kept m n q h = ap (λ k. to_z w64 (of_z w64 k)) q ∙ number_kept n h
 
-pub returns-in_default : goal.returns-in_default
-returns-in_default c = λ n h e. c.in_default.ensures.cases.0 (subst (λ (bs : List ℕ). IsUtf8 bs) (sym e) (number_utf8 n h))
+pub returns-in_default-from_utf8 : goal.returns-in_default-from_utf8
+returns-in_default-from_utf8 c = λ n h e. c.in_default-from_utf8.ensures.cases.0 (subst (λ (bs : List ℕ). IsUtf8 bs) (sym e) (number_utf8 n h))
 
 pub returns-in_default-parse : goal.returns-in_default-parse
 returns-in_default-parse c = λ n h e. c.in_default-parse.not-Ok n (number_parsed n c.in-Ok.text.now c.parse.result h (c.in-Ok.ensures.cases.0 ∙ e) c.parse.ensures.value.0)

@@ -3,7 +3,7 @@ use Rattle.std.proofs.lemmas.List.{length-map}
 use Rattle.spa.specs.Codes.{code_at}
 use Rattle.intake.proofs.Order.{get_found}
 use Rattle.spa.specs.Instance.{Student}
-use Rattle.intake.specs.Parts.{Rise}
+use Rattle.intake.specs.Parts.{IsRoll}
 use Rattle.intake.specs.Lines.{choice_code}
 use Rattle.intake.proofs.Adding.{two_fields, parts}
 use Rattle.intake.proofs.Lists.{blank}
@@ -11,82 +11,62 @@ use Rattle.intake.proofs.Rolls.{student_keys}
 use Rattle.intake.proofs.Pairing.{refers, nowhere, one_place, student_at, listed_at, small_place, get_mapped, same_found}
 use Rattle.intake.proofs.draft.Draft.add_pair.Goals as goal
 
-pub returns-in_default-read_code : goal.returns-in_default-read_code
-returns-in_default-read_code c = λ s k t.
-    let r = refers _ _ s k _ _ c.requires t (two_fields c.args.fields.now c.in-len2.len_at_least c.in-len2.len_below) in
-    let other = rw c.in_default-read_code.is at c.read_code.ensures in
-    let form = r.student_form in
-    cc
+pub position_at-requires : goal.position_at-requires
+position_at-requires c = subst IsRoll (student_keys c.args.self.now.students.items ∙ ap (map (λ e. e.0)) (sym c.deref.ensures.value)) c.requires.students
 
-pub returns-in_default-read_code-2 : goal.returns-in_default-read_code-2
-returns-in_default-read_code-2 c = λ s k t.
+pub returns-in_default-position_at : goal.returns-in_default-position_at
+returns-in_default-position_at c = λ s k t.
     let r = refers _ _ s k _ _ c.requires t (two_fields c.args.fields.now c.in-len2.len_at_least c.in-len2.len_below) in
-    let other = rw c.in_default-read_code-2.is at c.read_code-2.ensures in
-    let form = r.project_form in
-    cc
-
-pub position_of-requires : goal.position_of-requires
-position_of-requires c = subst Rise (student_keys c.args.self.now.students.items ∙ ap (map (λ e. e.0)) (sym c.deref.ensures.value)) c.requires.students.rise
-
-pub returns-in_default-position_of : goal.returns-in_default-position_of
-returns-in_default-position_of c = λ s k t.
-    let r = refers _ _ s k _ _ c.requires t (two_fields c.args.fields.now c.in-len2.len_at_least c.in-len2.len_below) in
-    let text = (rw c.in-Some.is at c.read_code.ensures).0 in
     let keys = student_keys c.args.self.now.students.items ∙ ap (map (λ e. e.0)) (sym c.deref.ensures.value) in
-    nowhere (map (λ e. e.0) c.deref.result.now) (length c.deref.result.now) s c.as_str.result.now _ (sym (length-map c.deref.result.now (λ e. e.0))) (c.as_str.ensures.value ∙ text)
-    c.in_default-position_of.ensures (ap (λ (l : List (List ℕ)). slice_get l s) (sym keys) ∙ r.code)
+    nowhere (map (λ e. e.0) c.deref.result.now) (length c.deref.result.now) s (get_or c.args.fields.now 0 blank).now _ (sym (length-map c.deref.result.now (λ e. e.0))) refl
+    c.in_default-position_at.ensures (ap (λ (l : List (List ℕ)). slice_get l s) (sym keys) ∙ r.code)
 
 pub returns-then-position-len : goal.returns-then-position-len
 returns-then-position-len c = λ s k t.
     let r = refers _ _ s k _ _ c.requires t (two_fields c.args.fields.now c.in-len2.len_at_least c.in-len2.len_below) in
-    let text = (rw c.in-Some.is at c.read_code.ensures).0 in
     let keys = student_keys c.args.self.now.students.items ∙ ap (map (λ e. e.0)) (sym c.deref.ensures.value) in
-    let same : c.in-Some-position_of.position ≡ s = one_place _ c.in-Some-position_of.position s _ c.requires.students.rise
-    (ap (λ (l : List (List ℕ)). slice_get l c.in-Some-position_of.position) keys ∙ c.in-Some-position_of.ensures.1 ∙ ap Some (c.as_str.ensures.value ∙ text)) r.code in
+    let same : c.in-Some.position ≡ s = one_place _ c.in-Some.position s _ c.requires.students.rise
+    (ap (λ (l : List (List ℕ)). slice_get l c.in-Some.position) keys ∙ c.in-Some.ensures.1) r.code in
     let many : c.len.result ≡ length c.args.self.now.places.items = search (rules) in
     omega (arith, t.later, c.if-position-len.true)
 
 pub returns-in_default-position_in : goal.returns-in_default-position_in
 returns-in_default-position_in c = λ s k t.
     let r = refers _ _ s k _ _ c.requires t (two_fields c.args.fields.now c.in-len2.len_at_least c.in-len2.len_below) in
-    let text = (rw c.in-Some.is at c.read_code.ensures).0 in
-    let text2 = (rw c.in-Some-read_code.is at c.read_code-2.ensures).0 in
     let keys = student_keys c.args.self.now.students.items ∙ ap (map (λ e. e.0)) (sym c.deref.ensures.value) in
-    let same : c.in-Some-position_of.position ≡ s = one_place _ c.in-Some-position_of.position s _ c.requires.students.rise
-    (ap (λ (l : List (List ℕ)). slice_get l c.in-Some-position_of.position) keys ∙ c.in-Some-position_of.ensures.1 ∙ ap Some (c.as_str.ensures.value ∙ text)) r.code in
-    let within : c.in-Some-position_of.position < length c.args.self.now.students.items = omega (arith, c.in-Some-position_of.ensures.0, ap length c.deref.ensures.value) in
-    let list = listed_at c.args.self.now.students.items c.in-Some-position_of.position s c.index.result.now t.student within c.index.ensures same t.here in
-    nowhere c.deref-2.result.now (length c.deref-2.result.now) (k - 1) c.as_str-2.result.now _ refl (c.as_str-2.ensures.value ∙ text2)
+    let same : c.in-Some.position ≡ s = one_place _ c.in-Some.position s _ c.requires.students.rise
+    (ap (λ (l : List (List ℕ)). slice_get l c.in-Some.position) keys ∙ c.in-Some.ensures.1) r.code in
+    let within : c.in-Some.position < length c.args.self.now.students.items = omega (arith, c.in-Some.ensures.0, ap length c.deref.ensures.value) in
+    let list = listed_at c.args.self.now.students.items c.in-Some.position s c.index.result.now t.student within c.index.ensures same t.here in
+    nowhere c.deref-2.result.now (length c.deref-2.result.now) (k - 1) (get_or c.args.fields.now 1 blank).now _ refl refl
     c.in_default-position_in.ensures (ap (λ (l : List (List ℕ)). slice_get l (k - 1)) (c.deref-2.ensures.value ∙ sym list) ∙ r.place)
 
 pub overflow_cast-place : goal.overflow_cast-place
 overflow_cast-place c =
-    let within : c.in-Some-position_of.position < length c.args.self.now.students.items = omega (arith, c.in-Some-position_of.ensures.0, ap length c.deref.ensures.value) in
-    let here = student_at c.args.self.now.students.items c.in-Some-position_of.position c.index.result.now within c.index.ensures in
-    let few = small_place _ c.in-Some-position_of.position c.in-Some-position_in.before _ c.requires here (omega (arith, c.in-Some-position_in.ensures.0, ap length c.deref-2.ensures.value)) in
+    let within : c.in-Some.position < length c.args.self.now.students.items = omega (arith, c.in-Some.ensures.0, ap length c.deref.ensures.value) in
+    let here = student_at c.args.self.now.students.items c.in-Some.position c.index.result.now within c.index.ensures in
+    let few = small_place _ c.in-Some.position c.in-Some-position_in.before _ c.requires here (omega (arith, c.in-Some-position_in.ensures.0, ap length c.deref-2.ensures.value)) in
     omega (arith, few)
 
 pub overflow_add-place : goal.overflow_add-place
 overflow_add-place c =
-    let within : c.in-Some-position_of.position < length c.args.self.now.students.items = omega (arith, c.in-Some-position_of.ensures.0, ap length c.deref.ensures.value) in
-    let here = student_at c.args.self.now.students.items c.in-Some-position_of.position c.index.result.now within c.index.ensures in
-    let few = small_place _ c.in-Some-position_of.position c.in-Some-position_in.before _ c.requires here (omega (arith, c.in-Some-position_in.ensures.0, ap length c.deref-2.ensures.value)) in
+    let within : c.in-Some.position < length c.args.self.now.students.items = omega (arith, c.in-Some.ensures.0, ap length c.deref.ensures.value) in
+    let here = student_at c.args.self.now.students.items c.in-Some.position c.index.result.now within c.index.ensures in
+    let few = small_place _ c.in-Some.position c.in-Some-position_in.before _ c.requires here (omega (arith, c.in-Some-position_in.ensures.0, ap length c.deref-2.ensures.value)) in
     omega (arith, few)
 
 pub returns : goal.returns
 returns c =
-    let s : ℕ = c.in-Some-position_of.position in
+    let s : ℕ = c.in-Some.position in
     let before : ℕ = c.in-Some-position_in.before in
     let k : ℕ = before + 1 in
-    let text = (rw c.in-Some.is at c.read_code.ensures).0 in
-    let text2 = (rw c.in-Some-read_code.is at c.read_code-2.ensures).0 in
-    let within : s < length c.args.self.now.students.items = omega (arith, c.in-Some-position_of.ensures.0, ap length c.deref.ensures.value) in
+    let within : s < length c.args.self.now.students.items = omega (arith, c.in-Some.ensures.0, ap length c.deref.ensures.value) in
     let keys = student_keys c.args.self.now.students.items ∙ ap (map (λ e. e.0)) (sym c.deref.ensures.value) in
     let here = student_at c.args.self.now.students.items s c.index.result.now within c.index.ensures in
     let many : c.len.result ≡ length c.args.self.now.places.items = search (rules) in
     let first : c.index.result.now.0 ≡ (get_or c.args.fields.now 0 blank).now = same_found _ s _ _ (get_mapped (λ (x : Student). x.code) _ s _ here)
-    (ap (λ (l : List (List ℕ)). slice_get l s) keys ∙ c.in-Some-position_of.ensures.1 ∙ ap Some (c.as_str.ensures.value ∙ text)) in
-    let second : (get_or c.args.fields.now 1 blank).now ≡ choice_code c.index.result.now.1.items k = sym (c.as_str-2.ensures.value ∙ text2) ∙ sym (get_found c.deref-2.result.now before c.as_str-2.result.now [] c.in-Some-position_in.ensures.1) ∙ ap (λ (l : List (List ℕ)). code_at l before) c.deref-2.ensures.value ∙ ap (code_at c.index.result.now.1.items) (omega arith) in (
+    (ap (λ (l : List (List ℕ)). slice_get l s) keys ∙ c.in-Some.ensures.1) in
+    let second : (get_or c.args.fields.now 1 blank).now ≡ choice_code c.index.result.now.1.items k = sym (get_found c.deref-2.result.now before (get_or c.args.fields.now 1 blank).now [] c.in-Some-position_in.ensures.1) ∙ ap (λ (l : List (List ℕ)). code_at l before) c.deref-2.ensures.value ∙ ap (code_at c.index.result.now.1.items) (omega arith) in (
       s,
       k,
       record {
