@@ -1,10 +1,17 @@
 -- What the office takes from the layers beside it.
-use Rattle.std.specs.Prelude.{[], map, None}
+use Rattle.std.specs.Prelude.{ℕ, List, [], map, None, Result, Ok, Err}
 use Rattle.spa.specs.Instance.{Instance}
 use Rattle.spa.specs.Coded.{IsGreedyMaximumByCodes}
 use Rattle.intake.specs.Parts.{Parts}
 use Rattle.intake.specs.Lines.{round_text}
+use Rattle.rolls.specs.declared.import.ImportKind.{ImportKind}
+use Rattle.rolls.specs.declared.refusal.Refusal.{Refusal}
+use Rattle.rolls.specs.declared.refusal.Refusal.TheVariants as no
+use Rattle.rolls.specs.declared.request.Plain.{Plain}
 use Rattle.rolls.specs.Run.{Layers}
+use Rattle.imports.specs.declared.fault.ImportFault.{ImportFault}
+use Rattle.imports.specs.declared.fault.ImportFault.TheVariants.{Memory, Header, Fields}
+use Rattle.imports.specs.Requests.{requests_of}
 
 -- the parts of a round text of an instance alone: no student has a place, and there are no prices
 abbrev pub alone : Instance → Parts
@@ -16,6 +23,22 @@ alone l = record {
   supervisor_prices = [];
 }
 
--- a closing takes a greedy maximum matching of the round's instance, and the text of an instance is its round text
+-- the refusal of a text that is no import text; a record with another number of fields is one whose members are wrong
+abbrev pub refused_as : ImportFault → Refusal
+refused_as Memory = no.Memory
+refused_as Header = no.Header
+refused_as (Fields n) = no.Row n 8
+
+-- what was read of an import text, with the refusal of its fault
+abbrev pub as_read : Result (List Plain) ImportFault → Result (List Plain) Refusal
+as_read (Ok rows) = Ok rows
+as_read (Err fault) = Err (refused_as fault)
+
+-- a closing takes a greedy maximum matching of the round's instance, the text of an instance is its round text, and the requests of
+-- an import are those of the records that `csv` reads from its text
 abbrev pub layers : Layers
-layers = record { MayTake = IsGreedyMaximumByCodes; round_text = λ l. round_text (alone l) }
+layers = record {
+  MayTake = IsGreedyMaximumByCodes;
+  round_text = λ l. round_text (alone l);
+  records = λ kind bytes. as_read (requests_of kind bytes);
+}

@@ -1,23 +1,26 @@
-//! What solving makes of the open round: its closing, its preview and its round text.
+//! What the office takes from the layers beside it: a matching for the open round's closing and preview, its round text, and the
+//! records of an import text.
 //!
-//! `office` takes any matching of the round's instance, and `solver` finds a greedy maximum one; here they meet. Nothing here
-//! holds an office or touches a table: `desk` does.
+//! `office` takes any matching of the round's instance, and any requests as an import's; `solver` finds a greedy maximum
+//! matching, and `imports` reads a text. Here they meet. Nothing here holds an office or touches a table: `desk` does.
 //!
-//! Promised: each of the three makes exactly the step of its request, with a greedy maximum matching of the round's
-//! instance; out of memory the office is as before.
+//! Promised: each function makes exactly the step of its request, or refuses it as the definition does; out of memory the
+//! office is as before.
 #![tactic(auto)]
 
-ghost use Rattle.std.specs.Prelude.{◌≡◌, IfOk, OnErr, IsTrue};
-ghost use Rattle.rolls.specs.State.{round_is_open};
+ghost use Rattle.std.specs.Prelude.{◌≡◌, ◌⊎◌, IfOk, IfErr, OnErr, IsTrue, Some, None, false};
+ghost use Rattle.rolls.specs.State.{round_is_open, has_import};
+ghost use Rattle.rolls.specs.Refusing.{refusal_of};
 ghost use Rattle.rolls.specs.Rows.{Turns};
-ghost use Rattle.rolls.specs.Run.{Makes};
+ghost use Rattle.rolls.specs.Run.{Makes, refusal};
 ghost use Rattle.rolls.specs.declared.request.Request.TheVariants as request;
-ghost use Rattle.allotment.specs.Layers.{layers};
+ghost use Rattle.allotment.specs.Layers.{layers, refused_as};
 
 use closing::{places_law, preview_reply};
+use imports::{ImportFault, read_import};
 use intake::write_round;
 use office::Office;
-use rolls::{Done, Reply, Text};
+use rolls::{Bytes, Done, ImportKind, Refusal, Reply, Text};
 use solver::solve;
 use std::alloc::{AllocError, Global};
 
@@ -57,4 +60,43 @@ pub fn round_text(alloc: Global, office: &Office) -> Result<Reply, AllocError>
     instance.fit();
     let text = write_round(alloc, &instance, None)?;
     Ok(Reply::Text(Text::of(alloc, text.as_str())?))
+}
+
+/// The number by which a record with another number of fields is refused: that of `Members`.
+const WRONG_FIELDS: u32 = 8;
+
+/// The refusal of a text that is no import text.
+fn refused_as(fault: ImportFault) -> Refusal
+    ensures { result ≡ refused_as fault }
+{
+    match fault {
+        ImportFault::Memory => Refusal::Memory,
+        ImportFault::Header => Refusal::Header,
+        ImportFault::Fields(record) => Refusal::Row {
+            record,
+            inner: WRONG_FIELDS,
+        },
+    }
+}
+
+/// Makes an import that is not kept yet: the requests of its text's records, all of them or none.
+pub fn import(
+    alloc: Global,
+    office: &mut Office,
+    id: Text,
+    kind: ImportKind,
+    bytes: Bytes,
+) -> Result<Done, Refusal>
+    requires new { has_import office.old id ≡ false }
+    requires allowed { refusal_of office.old (request.Import id kind bytes) ≡ None }
+    ensures made { IfOk result (λ done. Makes layers office.old (request.Import id kind bytes) done.reply office.new) }
+    ensures named { IfOk result (λ _. refusal layers office.old (request.Import id kind bytes) ≡ None) }
+    ensures turns { IfOk result (λ done. Turns done.changes.items office.old office.new) }
+    ensures refused { IfErr result (λ r. (r ≡ Refusal.Memory) ⊎ (refusal layers office.old (request.Import id kind bytes) ≡ Some r)) }
+    ensures same { OnErr result (office.new ≡ office.old) }
+{
+    match read_import(alloc, kind, bytes.as_slice()) {
+        Ok(rows) => office.import(id, kind, bytes, rows),
+        Err(fault) => Err(refused_as(fault)),
+    }
 }

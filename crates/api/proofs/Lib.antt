@@ -1,3 +1,4 @@
+pub mod Refused
 pub mod Json
 pub mod Found
 pub mod Sound

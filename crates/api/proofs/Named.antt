@@ -9,12 +9,13 @@ use Rattle.matchit.specs.Seek.{first, segment}
 use Rattle.matchit.specs.Rows.{RowsOf}
 use Rattle.matchit.specs.Router.{RouteOf}
 use Rattle.matchit.specs.Params.{walk, wild_from, wild_stop, next_at, part_of, named, AllText}
+use Rattle.rolls.specs.declared.import.ImportKind.TheVariants as kind
 use Rattle.api.specs.declared.routes.Methods.{Methods}
 use Rattle.api.specs.declared.routes.Segments.{Segments}
 use Rattle.api.specs.declared.routes.Segments.TheVariants.{Any}
 use Rattle.api.specs.declared.routes.Call.TheVariants as call
 use Rattle.api.specs.declared.routes.Put.TheVariants as put
-use Rattle.api.specs.Routes.{is_segment, row, fixed, read, asked, entry, list, round, fits, all_routes, fill, AreSegments, AllFit, HasRow, Names, NamesBy, IsNowhere, first_of}
+use Rattle.api.specs.Routes.{is_segment, row, fixed, read, asked, entry, list, round, import, fits, all_routes, fill, AreSegments, AllFit, HasRow, Names, NamesBy, IsNowhere, first_of}
 use Rattle.api.proofs.Found.{steps, found_along, ends_here, param_leaf, number_leaf}
 use Rattle.api.proofs.Sound.{both, makes, AllPlain, plain_all}
 
@@ -267,20 +268,60 @@ supervisors = record {
   utf8 = λ text u. IsUtf8-drop (codes "/supervisors/" ++ text) 13 u (IsCharBoundary-after_ascii (codes "/supervisors/" ++ text) 12 u (omega arith) (omega arith));
 }
 
+import_lists : Stands (codes "/imports/lists/") (import kind.Lists)
+unfolding all_routes is_literal
+import_lists = record {
+  literal = refl;
+  leaf = λ text segment fit. param_leaf (row (codes "/imports/lists/") (codes "code") (import kind.Lists)).1 text segment;
+  label = refl;
+  utf8 = λ text u. IsUtf8-drop (codes "/imports/lists/" ++ text) 15 u (IsCharBoundary-after_ascii (codes "/imports/lists/" ++ text) 14 u (omega arith) (omega arith));
+}
+
+import_projects : Stands (codes "/imports/projects/") (import kind.Projects)
+unfolding all_routes is_literal
+import_projects = record {
+  literal = refl;
+  leaf = λ text segment fit. param_leaf (row (codes "/imports/projects/") (codes "code") (import kind.Projects)).1 text segment;
+  label = refl;
+  utf8 = λ text u. IsUtf8-drop (codes "/imports/projects/" ++ text) 18 u (IsCharBoundary-after_ascii (codes "/imports/projects/" ++ text) 17 u (omega arith) (omega arith));
+}
+
+import_students : Stands (codes "/imports/students/") (import kind.Students)
+unfolding all_routes is_literal
+import_students = record {
+  literal = refl;
+  leaf = λ text segment fit. param_leaf (row (codes "/imports/students/") (codes "code") (import kind.Students)).1 text segment;
+  label = refl;
+  utf8 = λ text u. IsUtf8-drop (codes "/imports/students/" ++ text) 18 u (IsCharBoundary-after_ascii (codes "/imports/students/" ++ text) 17 u (omega arith) (omega arith));
+}
+
+import_supervisors : Stands (codes "/imports/supervisors/") (import kind.Supervisors)
+unfolding all_routes is_literal
+import_supervisors = record {
+  literal = refl;
+  leaf = λ text segment fit. param_leaf (row (codes "/imports/supervisors/") (codes "code") (import kind.Supervisors)).1 text segment;
+  label = refl;
+  utf8 = λ text u. IsUtf8-drop (codes "/imports/supervisors/" ++ text) 21 u (IsCharBoundary-after_ascii (codes "/imports/supervisors/" ++ text) 20 u (omega arith) (omega arith));
+}
+
 -- each row is one
 standing : (pattern : List ℕ) (route : RouteOf Methods) → HasRow pattern route all_routes → Standing pattern route
 unfolding all_routes
-standing pattern route (inl is) = with_parameter (codes "/lists/") (list) lists pattern route is
-standing pattern route (inr (inl is)) = without (codes "/preview") (read call.Preview) preview pattern route is
-standing pattern route (inr (inr (inl is))) = with_parameter (codes "/projects/") (entry put.Project call.GetProject) projects pattern route is
-standing pattern route (inr (inr (inr (inl is)))) = without (codes "/rounds/close") (asked call.Close) close pattern route is
-standing pattern route (inr (inr (inr (inr (inl is))))) = without (codes "/rounds/reopen") (asked call.ReopenRound) reopen pattern route is
-standing pattern route (inr (inr (inr (inr (inr (inl is)))))) = with_parameter (codes "/rounds/") (round) rounds pattern route is
-standing pattern route (inr (inr (inr (inr (inr (inr (inl is))))))) = without (codes "/rounds") (asked call.OpenRound) opening pattern route is
-standing pattern route (inr (inr (inr (inr (inr (inr (inr (inl is)))))))) = without (codes "/roundtext") (read call.RoundText) roundtext pattern route is
-standing pattern route (inr (inr (inr (inr (inr (inr (inr (inr (inl is))))))))) = with_parameter (codes "/students/") (entry put.Student call.GetStudent) students pattern route is
-standing pattern route (inr (inr (inr (inr (inr (inr (inr (inr (inr (inl is)))))))))) = with_parameter (codes "/supervisors/") (entry put.Supervisor call.GetSupervisor) supervisors pattern route is
-standing pattern route (inr (inr (inr (inr (inr (inr (inr (inr (inr (inr none)))))))))) = absurd none
+standing pattern route (inl is) = with_parameter (codes "/imports/lists/") (import kind.Lists) import_lists pattern route is
+standing pattern route (inr (inl is)) = with_parameter (codes "/imports/projects/") (import kind.Projects) import_projects pattern route is
+standing pattern route (inr (inr (inl is))) = with_parameter (codes "/imports/students/") (import kind.Students) import_students pattern route is
+standing pattern route (inr (inr (inr (inl is)))) = with_parameter (codes "/imports/supervisors/") (import kind.Supervisors) import_supervisors pattern route is
+standing pattern route (inr (inr (inr (inr (inl is))))) = with_parameter (codes "/lists/") (list) lists pattern route is
+standing pattern route (inr (inr (inr (inr (inr (inl is)))))) = without (codes "/preview") (read call.Preview) preview pattern route is
+standing pattern route (inr (inr (inr (inr (inr (inr (inl is))))))) = with_parameter (codes "/projects/") (entry put.Project call.GetProject) projects pattern route is
+standing pattern route (inr (inr (inr (inr (inr (inr (inr (inl is)))))))) = without (codes "/rounds/close") (asked call.Close) close pattern route is
+standing pattern route (inr (inr (inr (inr (inr (inr (inr (inr (inl is))))))))) = without (codes "/rounds/reopen") (asked call.ReopenRound) reopen pattern route is
+standing pattern route (inr (inr (inr (inr (inr (inr (inr (inr (inr (inl is)))))))))) = with_parameter (codes "/rounds/") (round) rounds pattern route is
+standing pattern route (inr (inr (inr (inr (inr (inr (inr (inr (inr (inr (inl is))))))))))) = without (codes "/rounds") (asked call.OpenRound) opening pattern route is
+standing pattern route (inr (inr (inr (inr (inr (inr (inr (inr (inr (inr (inr (inl is)))))))))))) = without (codes "/roundtext") (read call.RoundText) roundtext pattern route is
+standing pattern route (inr (inr (inr (inr (inr (inr (inr (inr (inr (inr (inr (inr (inl is))))))))))))) = with_parameter (codes "/students/") (entry put.Student call.GetStudent) students pattern route is
+standing pattern route (inr (inr (inr (inr (inr (inr (inr (inr (inr (inr (inr (inr (inr (inl is)))))))))))))) = with_parameter (codes "/supervisors/") (entry put.Supervisor call.GetSupervisor) supervisors pattern route is
+standing pattern route (inr (inr (inr (inr (inr (inr (inr (inr (inr (inr (inr (inr (inr (inr none)))))))))))))) = absurd none
 
 -- the rows are plain
 rows_plain : AllPlain all_routes

@@ -11,7 +11,7 @@ use Rattle.rolls.specs.declared.request.Request.TheVariants as request
 use Rattle.wire.specs.Run.{Said}
 use Rattle.api.specs.declared.routes.Methods.{Methods}
 use Rattle.api.specs.declared.routes.Form.{Form}
-use Rattle.api.specs.declared.routes.Form.TheVariants.{Empty, Members}
+use Rattle.api.specs.declared.routes.Form.TheVariants.{Empty, Members, Raw}
 use Rattle.api.specs.declared.routes.Call.{Call}
 use Rattle.api.specs.declared.routes.Call.TheVariants as call
 use Rattle.api.specs.declared.routes.Put.{Put}
@@ -58,6 +58,7 @@ empty_asks asked (b ∷ body) = Err no.Members
 abbrev pub by_body : Form → List ℕ → List ℕ → Result Request Refusal
 by_body (Empty what) code body = empty_asks (called what code) body
 by_body (Members what) code body = object_asks (put_by what code) (json_of body)
+by_body (Raw kind) code body = Ok (request.Import code kind body)
 
 -- what a method asks of a path
 abbrev pub by_method : Methods → List ℕ → Option Form

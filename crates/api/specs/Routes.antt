@@ -6,7 +6,9 @@ use Rattle.matchit.specs.Seek.{has_slash}
 use Rattle.matchit.specs.Rows.{RowsOf}
 use Rattle.matchit.specs.Router.{RouteOf}
 use Rattle.api.specs.declared.routes.Methods.{Methods}
-use Rattle.api.specs.declared.routes.Form.TheVariants.{Empty, Members}
+use Rattle.rolls.specs.declared.import.ImportKind.{ImportKind}
+use Rattle.rolls.specs.declared.import.ImportKind.TheVariants as kind
+use Rattle.api.specs.declared.routes.Form.TheVariants.{Empty, Members, Raw}
 use Rattle.api.specs.declared.routes.Segments.{Segments}
 use Rattle.api.specs.declared.routes.Segments.TheVariants.{Any, Numbers}
 use Rattle.api.specs.declared.routes.Call.{Call}
@@ -43,6 +45,10 @@ list = record { segments = Any; get = None; put = Some (Members put.List); post 
 abbrev pub round : Methods
 round = record { segments = Numbers; get = Some (Empty call.GetRound); put = None; post = None; delete = None }
 
+-- an import is sent under its id
+abbrev pub import : ImportKind → Methods
+import what = record { segments = Any; get = None; put = None; post = Some (Raw what); delete = None }
+
 -- a row of the router without a parameter
 abbrev pub fixed : List ℕ → Methods → List ℕ × RouteOf Methods
 fixed front methods = (front, record { pattern = front; text = front; names = []; value = methods })
@@ -62,7 +68,11 @@ row front name methods = (
 -- the routes, in the router's order
 unfoldable pub all_routes : RowsOf (RouteOf Methods)
 all_routes =
-    row (codes "/lists/") (codes "code") list
+    row (codes "/imports/lists/") (codes "code") (import kind.Lists)
+    ∷ row (codes "/imports/projects/") (codes "code") (import kind.Projects)
+    ∷ row (codes "/imports/students/") (codes "code") (import kind.Students)
+    ∷ row (codes "/imports/supervisors/") (codes "code") (import kind.Supervisors)
+    ∷ row (codes "/lists/") (codes "code") list
     ∷ fixed (codes "/preview") (read call.Preview)
     ∷ row (codes "/projects/") (codes "code") (entry put.Project call.GetProject)
     ∷ fixed (codes "/rounds/close") (asked call.Close)

@@ -4,14 +4,20 @@ use Rattle.serde_json.specs.Data.{Data, null, number, unsigned, string, array, o
 use Rattle.serde_json.specs.View.{items_of}
 use Rattle.serde_json.specs.Written.{items_text, compact_text}
 use Rattle.rolls.specs.declared.refusal.Refusal.{Refusal}
+use Rattle.rolls.specs.declared.refusal.Refusal.TheVariants as no
 use Rattle.rolls.specs.declared.request.Reply.{Reply}
 use Rattle.rolls.specs.declared.request.Reply.TheVariants as reply
 use Rattle.rolls.specs.declared.rounds.Placement.{Placement}
 use Rattle.rolls.specs.Told.{number_of, status_of, name_of}
 use Rattle.api.specs.Text.{text_type, typed_answer, json_answer, fault_answer}
 
--- the answer of a refusal
+-- a refused record in JSON
+abbrev pub row_text : ℕ → ℕ → List ℕ
+row_text n inner = codes "{\"fault\":\"Row\",\"inner\":" ++ decimal inner ++ codes ",\"number\":29,\"record\":" ++ decimal n ++ codes "}"
+
+-- the answer of a refusal; that of a record tells the record too
 abbrev pub refusal_text : Refusal → List ℕ
+refusal_text (no.Row n inner) = json_answer (status_of (no.Row n inner)) (row_text n inner)
 refusal_text refusal = fault_answer (status_of refusal) (name_of refusal) (number_of refusal)
 
 -- a supervisor in JSON
@@ -81,6 +87,10 @@ closed_text round size profile =
 abbrev pub preview_text : ℕ → List ℕ → List ℕ
 preview_text size profile = codes "{\"profile\":[" ++ numbers_text profile ++ codes ",\"size\":" ++ decimal size ++ codes "}"
 
+-- an import in JSON
+abbrev pub rows_text : ℕ → List ℕ
+rows_text rows = codes "{\"rows\":" ++ decimal rows ++ codes "}"
+
 -- the answer of success
 abbrev pub reply_text : Reply → List ℕ
 reply_text reply.Done = json_answer 200 done_text
@@ -92,6 +102,7 @@ reply_text (reply.Round round is_open placed profile students) = json_answer 200
 reply_text (reply.Closed round size profile) = json_answer 200 (closed_text round size profile)
 reply_text (reply.Preview size profile) = json_answer 200 (preview_text size profile)
 reply_text (reply.Text text) = typed_answer 200 text_type text
+reply_text (reply.Rows rows) = json_answer 200 (rows_text rows)
 
 -- the text of an answer
 abbrev pub text_of : Result Reply Refusal → List ℕ
@@ -109,4 +120,5 @@ IsRead (Ok (reply.Round round is_open placed profile students)) = ⊥
 IsRead (Ok (reply.Closed round size profile)) = ⊥
 IsRead (Ok (reply.Preview size profile)) = ⊥
 IsRead (Ok (reply.Text text)) = Unit {0}
+IsRead (Ok (reply.Rows rows)) = ⊥
 IsRead (Err refusal) = ⊥

@@ -9,7 +9,7 @@ use crate::members::{choices_of, name_of, project_members, read_json, supervisor
 use crate::routes::{Call, Form, Methods, Place, Put, number_of, place_of, router};
 use http::Method;
 use matchit::Router;
-use rolls::{Plain, Refusal, Request, Text};
+use rolls::{Bytes, ImportKind, Plain, Refusal, Request, Text};
 use serde_json::Value;
 use std::alloc::{AllocError, Global};
 use std::str;
@@ -147,6 +147,22 @@ fn empty_asks(alloc: Global, call: Call, code: &str, body: &[u8]) -> Result<Requ
     }
 }
 
+/// The import that a body is the text of.
+fn import_asks(
+    alloc: Global,
+    kind: ImportKind,
+    code: &str,
+    body: &[u8],
+) -> Result<Request, AllocError>
+    ensures { IfOk result (λ request. by_body (Form.Raw kind) code.now body.now ≡ Ok request) }
+{
+    Ok(Request::Import {
+        id: Text::of(alloc, code)?,
+        kind,
+        bytes: Bytes::new(alloc, Vec::from_slice(alloc, body)?)?,
+    })
+}
+
 /// What a body asks.
 fn by_body(alloc: Global, form: Form, code: &str, body: &[u8]) -> Result<Request, Refusal>
     ensures ok { IfOk result (λ request. by_body form code.now body.now ≡ Ok request) }
@@ -157,6 +173,10 @@ fn by_body(alloc: Global, form: Form, code: &str, body: &[u8]) -> Result<Request
         Form::Members(what) => match object_asks(alloc, what, code, body) {
             Ok(plain) => Ok(Request::Plain(plain)),
             Err(refusal) => Err(refusal),
+        },
+        Form::Raw(kind) => match import_asks(alloc, kind, code, body) {
+            Ok(request) => Ok(request),
+            Err(_) => Err(Refusal::Memory),
         },
     }
 }

@@ -1,9 +1,10 @@
 //! What the paths of messages name.
 ghost use Rattle.std.specs.Prelude.{◌≡◌, ℕ, List, [], ◌∷◌, MatchOption, IfOk, IfErr, OnOk, codes};
 ghost use Rattle.std.specs.Str.{all_ascii_digits};
-ghost use Rattle.api.specs.Routes.{number_of, fits, read, asked, entry, list, round, all_routes, NamesBy, IsNowhere};
+ghost use Rattle.api.specs.Routes.{number_of, fits, read, asked, entry, list, round, import, all_routes, NamesBy, IsNowhere};
 
 use matchit::{InsertError, Router};
+use rolls::ImportKind;
 use std::alloc::Global;
 
 /// What an empty body asks.
@@ -37,6 +38,8 @@ pub enum Form {
     Empty(Call),
     /// A body of members.
     Members(Put),
+    /// The text of an import, whatever it is.
+    Raw(ImportKind),
 }
 
 /// Which segments stand for the parameters of a path.
@@ -163,6 +166,19 @@ fn round() -> Methods
     }
 }
 
+/// An import is sent under its id.
+fn import(kind: ImportKind) -> Methods
+    ensures { result ≡ import kind }
+{
+    Methods {
+        segments: Segments::Any,
+        get: None,
+        put: None,
+        post: Some(Form::Raw(kind)),
+        delete: None,
+    }
+}
+
 /// The router of all paths. It fails for want of memory alone.
 pub fn router(alloc: Global) -> Result<Router<Methods>, InsertError>
     ensures routes { IfOk result (λ router. router ≡ all_routes) }
@@ -194,6 +210,13 @@ fn insert_routes(router: &mut Router<Methods>) -> Result<(), InsertError>
     router.insert("/rounds/{code}", round())?;
     router.insert("/preview", read(Call::Preview))?;
     router.insert("/roundtext", read(Call::RoundText))?;
+    router.insert(
+        "/imports/supervisors/{code}",
+        import(ImportKind::Supervisors),
+    )?;
+    router.insert("/imports/projects/{code}", import(ImportKind::Projects))?;
+    router.insert("/imports/students/{code}", import(ImportKind::Students))?;
+    router.insert("/imports/lists/{code}", import(ImportKind::Lists))?;
     Ok(())
 }
 

@@ -6,7 +6,7 @@ ghost use Rattle.serde_json.specs.View.{view};
 ghost use Rattle.serde_json.specs.Written.{compact_text};
 ghost use Rattle.wire.specs.Answers.{answer_bytes};
 ghost use Rattle.api.specs.Text.{reason_of, typed_answer, json_answer};
-ghost use Rattle.api.specs.Texts.{refusal_text, supervisor_data, project_data, list_data, placed_data, student_data, truth_text, opened_text, round_text, closed_text, preview_text, reply_text, text_of, IsRead};
+ghost use Rattle.api.specs.Texts.{refusal_text, row_text, rows_text, supervisor_data, project_data, list_data, placed_data, student_data, truth_text, opened_text, round_text, closed_text, preview_text, reply_text, text_of, IsRead};
 
 use crate::answers::{JSON, TEXT, answer_head, json, push, push_labelled, push_numbers, refused};
 use arrayvec::ArrayVec;
@@ -27,11 +27,28 @@ fn status_of(refusal: Refusal) -> StatusCode
     }
 }
 
+/// The body of a refused record.
+fn row_body(number: u32, inner: u32) -> ShortText
+    ensures items { result.items ≡ row_text number inner }
+    ensures len { array_vec_len result ≤ 184 }
+{
+    let mut out = ArrayVec::new();
+    push_labelled(&mut out, b"{\"fault\":\"Row\",\"inner\":", inner);
+    push_labelled(&mut out, b",\"number\":29,\"record\":", number);
+    push(&mut out, b"}");
+    out
+}
+
 /// The answer of a refusal, which takes no memory.
 pub fn refusal_answer(refusal: Refusal) -> ShortText
     ensures { result.items ≡ refusal_text refusal }
 {
-    refused(status_of(refusal), refusal.name(), refusal.number())
+    match refusal {
+        Refusal::Row { record, inner } => {
+            json(status_of(refusal), row_body(record, inner).as_slice())
+        }
+        _ => refused(status_of(refusal), refusal.name(), refusal.number()),
+    }
 }
 
 /// The answer of a change, which takes no memory.
@@ -49,6 +66,17 @@ fn round_answer(body: &ShortText) -> ShortText
     ensures { result.items ≡ json_answer 200 body.now.items }
 {
     json(StatusCode::OK, body.as_slice())
+}
+
+/// The body of an import.
+fn rows_body(rows: u32) -> ShortText
+    ensures items { result.items ≡ rows_text rows }
+    ensures len { array_vec_len result ≤ 184 }
+{
+    let mut out = ArrayVec::new();
+    push_labelled(&mut out, b"{\"rows\":", rows);
+    push(&mut out, b"}");
+    out
 }
 
 /// The body of an opened round.
@@ -296,6 +324,7 @@ fn reply_answer(alloc: Global, reply: &Reply) -> Result<Answer, AllocError>
             Ok(Answer::Short(round_answer(&preview_body(*size, profile))))
         }
         Reply::Text(text) => with_head(alloc, TEXT, text.as_str()),
+        Reply::Rows(rows) => Ok(Answer::Short(round_answer(&rows_body(*rows)))),
     }
 }
 

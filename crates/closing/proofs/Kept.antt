@@ -151,6 +151,9 @@ module _ (M : List CodePair) (o : State) (fit : IsFit o) where
       lists_fit = lists_fit;
       placements_rise = rises_put_all placement_key (map (kept o) M) o.placements fit.placements_rise;
       placements_fit = placements_fit;
+      imports_rise = fit.imports_rise;
+      few_imports = fit.few_imports;
+      imports_fit = fit.imports_fit;
       projects_within = projects_within;
       supervisors_within = supervisors_within;
     }

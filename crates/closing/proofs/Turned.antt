@@ -88,6 +88,7 @@ module _ (M : List CodePair) (o : State) (fit : IsFit o) (may : MayClose o M) wh
   close_turns (key.Supervisor code) = others_stay (map (kept o) M) round_put (key.Supervisor code) (λ s. refl)
   close_turns (key.Project code) = others_stay (map (kept o) M) round_put (key.Project code) (λ s. refl)
   close_turns (key.Student code) = others_stay (map (kept o) M) round_put (key.Student code) (λ s. refl)
+  close_turns (key.Import id) = others_stay (map (kept o) M) round_put (key.Import id) (λ s. refl)
   close_turns (key.Round n) = others_stay (map (kept o) M) round_put (key.Round n) (λ s. refl) ∙ round_turned n
   close_turns (key.Choice round student place) =
       others_stay (map (kept o) M) round_put (key.Choice round student place) (λ s. refl)

@@ -1,3 +1,4 @@
+pub mod Refused
 pub mod Settling
 mod Running
 mod Reopening

@@ -13,8 +13,7 @@ use Rattle.rolls.specs.State.{State}
 use Rattle.rolls.specs.Rows.{row_of, after_changes, Turns}
 use Rattle.rolls.specs.declared.request.Request.{Request}
 use Rattle.rolls.specs.Fit.{IsFit}
-use Rattle.rolls.specs.Refusing.{refusal}
-use Rattle.rolls.specs.Run.{Makes}
+use Rattle.rolls.specs.Run.{Makes, refusal}
 use Rattle.allotment.specs.Layers.{layers}
 use Rattle.store.specs.Tables.{TablesHold, StandsFor, Opens}
 use Rattle.store.specs.Saving.{Saves}
@@ -58,7 +57,7 @@ kept_keeps office old new P survives kept keeps clean is_open =
     subst (λ (db : Database). StandsFor db office) (sym k.1) (keeps (was_clean old new P survives clean) k.0)
 
 -- what a crash may leave of saved changes is what it may leave of the request
-left_carried : (q : Request) (office next : State) (done : Done) (old : Seen) → refusal office q ≡ None → Makes layers office q done.reply next → IsFit next → Turns done.changes.items office next → (IsTrue old.is_open → StandsFor old.now office)
+left_carried : (q : Request) (office next : State) (done : Done) (old : Seen) → refusal layers office q ≡ None → Makes layers office q done.reply next → IsFit next → Turns done.changes.items office next → (IsTrue old.is_open → StandsFor old.now office)
     → (trees : Trees) → IsLeft (Saves done.changes.items) old trees → IsLeft (λ _. StandsForOne (CarriesOut office q)) old trees
 left_carried q office next done old none made fit turns stands trees left = record {
   was_open = left.was_open;
@@ -69,7 +68,7 @@ left_carried q office next done old none made fit turns stands trees left = reco
 }
 
 -- the same of the call
-pub call_carried : (q : Request) (office next : State) (done : Done) (old new : Seen) → refusal office q ≡ None → Makes layers office q done.reply next → IsFit next → Turns done.changes.items office next → Keeps old office
+pub call_carried : (q : Request) (office next : State) (done : Done) (old new : Seen) → refusal layers office q ≡ None → Makes layers office q done.reply next → IsFit next → Turns done.changes.items office next → Keeps old office
     → Survives old new (IsLeft (Saves done.changes.items) old) → Survives old new (IsLeft (λ _. StandsForOne (CarriesOut office q)) old)
 call_carried q office next done old new none made fit turns keeps it =
     survives_weaker old new _ _ (λ clean trees left. left_carried q office next done old none made fit turns (λ up. keeps (was_clean old new _ it clean) up) trees left) it

@@ -1,17 +1,19 @@
 -- What a desk keeps between requests, and what a crash leaves of one.
-use Rattle.std.specs.Prelude.{◌≡◌, ◌||◌, ◌++◌, ◌∷◌, IsTrue, Bool, false, is_some, List, Result, Ok}
+use Rattle.std.specs.Prelude.{◌≡◌, ℕ, ◌||◌, ◌++◌, ◌∷◌, IsTrue, Bool, false, is_some, List, Result, Ok, Option, None, IfSome}
 use Rattle.sqlite.specs.Effect.{Database}
 use Rattle.sqlite.specs.State.{State as Seen, HasCleanDisk}
 use Rattle.sqlite.specs.Held.{state}
 use Rattle.sqlite_trees.specs.declared.store.Store.{Ghosts}
 use Rattle.rolls.specs.declared.request.Reply.{Reply}
-use Rattle.rolls.specs.State.{State}
+use Rattle.rolls.specs.declared.request.Reply.TheVariants as reply
+use Rattle.rolls.specs.State.{State, kept_rows}
 use Rattle.rolls.specs.declared.refusal.Refusal.{Refusal}
 use Rattle.rolls.specs.declared.request.Request.{Request}
+use Rattle.rolls.specs.declared.request.Request.TheVariants as request
 use Rattle.rolls.specs.Reads.{changes_nothing}
-use Rattle.rolls.specs.Refusing.{refusal}
+use Rattle.rolls.specs.Refusing.{refusal_of}
 use Rattle.rolls.specs.Fit.{IsFit}
-use Rattle.rolls.specs.Run.{Run, Step}
+use Rattle.rolls.specs.Run.{Run, Step, refusal}
 use Rattle.allotment.specs.Layers.{layers}
 use Rattle.desk.specs.Kept.{Kept}
 use Rattle.store.specs.Tables.{StandsFor}
@@ -52,4 +54,16 @@ pub record StandsForOne (IsOne : State → Type 0) (db : Database) : Type 0 wher
 
 -- whether no table is needed: the office refuses the request, or the request changes nothing of it
 abbrev pub needs_no_table : State → Request → Bool
-needs_no_table office request = is_some (refusal office request) || changes_nothing office request
+needs_no_table office request = is_some (refusal layers office request) || changes_nothing office request
+
+-- how many rows an import has that is asked for once more; none of another request
+abbrev pub repeated_rows : State → Request → Option ℕ
+repeated_rows office (request.Import id kind bytes) = kept_rows office id
+repeated_rows office (request.Plain p) = None
+repeated_rows office request.Close = None
+repeated_rows office request.Preview = None
+repeated_rows office request.RoundText = None
+
+-- a kept import that is asked for once more, with the same kind and bytes, answers its own number of rows
+abbrev pub AnswersKept : State → Request → Result Reply Refusal → Type 0
+AnswersKept office request answer = refusal_of office request ≡ None → IfSome (repeated_rows office request) (λ rows. answer ≡ Ok (reply.Rows rows))

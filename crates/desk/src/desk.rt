@@ -8,12 +8,12 @@ ghost use Rattle.rolls.specs.Rows.{Turns};
 ghost use Rattle.rolls.specs.Fit.{IsFit};
 ghost use Rattle.store.specs.Saving.{AreActedOn, Saves};
 ghost use Rattle.rolls.specs.Reads.{is_read, changes_nothing};
-ghost use Rattle.rolls.specs.Refusing.{plain_refusal, refusal};
-ghost use Rattle.rolls.specs.Run.{Makes, Step, Run};
+ghost use Rattle.rolls.specs.Refusing.{plain_refusal, refusal_of};
+ghost use Rattle.rolls.specs.Run.{Makes, MayRefuse, Step, Run, refusal};
 ghost use Rattle.allotment.specs.Layers.{layers};
 ghost use Rattle.store.specs.Tables.{Opens, Founds, HasNone, LeavesAlone};
 ghost use Rattle.store.specs.Reading.{AreListed, IsDamaged};
-ghost use Rattle.desk.specs.Keeping.{Begins, CarriesOut, Keeps, StandsForOne, needs_no_table};
+ghost use Rattle.desk.specs.Keeping.{AnswersKept, Begins, CarriesOut, Keeps, StandsForOne, needs_no_table};
 
 use office::Office;
 use rolls::{Done, Plain, Refusal, Reply, Request};
@@ -58,15 +58,17 @@ fn refusal_of_fault(fault: StoreFault) -> Refusal
 }
 
 /// What a request that changes the office makes of it.
-fn made(alloc: Global, office: &mut Office, request: Request) -> Result<Done, AllocError>
+fn made(alloc: Global, office: &mut Office, request: Request) -> Result<Done, Refusal>
     requires change { changes_nothing office.old request ≡ false }
-    requires allowed { refusal office.old request ≡ None }
-    ensures made { IfOk result (λ done. Makes layers office.old request done.reply office.new) }
+    requires allowed { refusal_of office.old request ≡ None }
+    ensures made { IfOk result (λ done. (refusal layers office.old request ≡ None) × Makes layers office.old request done.reply office.new) }
     ensures turns { IfOk result (λ done. let changes = done.changes in Turns changes.items office.old office.new) }
+    ensures refused { IfErr result (MayRefuse (refusal layers office.old request)) }
 {
     match request {
-        Request::Plain(plain) => office.make(plain),
-        Request::Close => allotment::close(alloc, office),
+        Request::Plain(plain) => Ok(office.make(plain)?),
+        Request::Close => Ok(allotment::close(alloc, office)?),
+        Request::Import { id, kind, bytes } => allotment::import(alloc, office, id, kind, bytes),
         Request::Preview | Request::RoundText => unreachable!(),
     }
 }
@@ -156,7 +158,10 @@ impl<S: Alter> Desk<S> {
         ensures step { Step layers self.old.office request result self.new.office }
         ensures tables { Keeps (state S.Store self.new.store) self.new.office }
         ensures quiet { needs_no_table self.old.office request ≡ true → self.new.store ≡ self.old.store }
-        ensures named { IfSome (refusal self.old.office request) (λ r. result ≡ Err r) }
+        ensures named { IfSome (refusal_of self.old.office request) (λ r. result ≡ Err r) }
+
+        // A kept import that comes once more answers its number; no table is touched for it, and it takes no memory.
+        ensures repeated { AnswersKept self.old.office request result }
         ensures storage { result ≡ Err Refusal.Storage → changes_nothing self.old.office request ≡ false }
 
         // What a crash leaves: what it could leave before, or, where the connection was open, the tables of an office that the
@@ -183,6 +188,10 @@ impl<S: Alter> Desk<S> {
                 }
             }
             Request::Close => self.change(Request::Close),
+            Request::Import { id, kind, bytes } => match self.office.kept_rows(id.as_str()) {
+                Some(rows) => Ok(Reply::Rows(rows)),
+                None => self.change(Request::Import { id, kind, bytes }),
+            },
             Request::Preview => Ok(allotment::preview(self.alloc, &self.office)?),
             Request::RoundText => Ok(allotment::round_text(self.alloc, &self.office)?),
         }
@@ -203,7 +212,8 @@ impl<S: Alter> Desk<S> {
     /// A change is made on a copy, which becomes the office once its changes are saved.
     fn change(&mut self, request: Request) -> Result<Reply, Refusal>
         requires change { changes_nothing self.old.office request ≡ false }
-        requires allowed { refusal self.old.office request ≡ None }
+        requires allowed { refusal_of self.old.office request ≡ None }
+        ensures quiet { IfSome (refusal layers self.old.office request) (λ _. self.new.store ≡ self.old.store) }
         ensures step { Step layers self.old.office request result self.new.office }
         ensures tables { Keeps (state S.Store self.new.store) self.new.office }
         ensures crash { Survives (state S.Store self.old.store) (state S.Store self.new.store) (IsLeft (λ _. StandsForOne (CarriesOut self.old.office request)) (state S.Store self.old.store)) }
@@ -214,7 +224,10 @@ impl<S: Alter> Desk<S> {
     {
         self.keeps();
         let mut next = self.office.copy()?;
-        let done = made(self.alloc, &mut next, request)?;
+        let done = match made(self.alloc, &mut next, request) {
+            Ok(done) => done,
+            Err(refusal) => return Err(refusal),
+        };
         next.fit();
         self.settle(&mut next, done)
     }

@@ -1,9 +1,11 @@
 -- A fault that is handed on.
-use Rattle.std.proofs.Common.{◌≡◌, Result, Err, refl}
+use Rattle.std.proofs.Common.{◌≡◌, Result, Ok, Err, sym, ap}
+use Rattle.std.specs.Result.{IsErrAnd}
 use Rattle.drafts.specs.declared.fault.RowsFault.{RowsFault}
 use Rattle.drafts.specs.declared.fault.RowsFault.TheVariants.{Memory, Unfit}
 
 -- it is the one that was met
-pub of_fault : {A B : Type 0} (fault : RowsFault) → ◌≡◌ {A = Result A RowsFault} (Err fault) (Err Unfit) → ◌≡◌ {A = Result B RowsFault} (Err fault) (Err Unfit)
-of_fault Memory is = cc
-of_fault Unfit is = refl
+pub handed_on : {A B : Type 0} (result : Result A RowsFault) (fault : RowsFault) → IsErrAnd result (λ e. e ≡ fault) → result ≡ Err Unfit → ◌≡◌ {A = Result B RowsFault} (Err fault) (Err Unfit)
+handed_on (Ok x) fault same is = cc
+handed_on (Err Memory) fault same is = cc
+handed_on (Err Unfit) fault same is = ap Err (sym same)

@@ -1,5 +1,5 @@
 -- Rows that are taken in one after another: what they hold has exactly these rows, and none only where no fit office has them.
-use Rattle.std.proofs.Common.{◌≡◌, ℕ, zero, suc, ◌+◌, ◌≤◌, Bool, true, false, not, cond, List, [], ◌∷◌, ◌++◌, Option, Some, None, refl, sym, ap, subst, ◌∙◌, arith}
+use Rattle.std.proofs.Common.{◌≡◌, ℕ, suc, ◌+◌, ◌≤◌, Bool, true, false, not, cond, List, [], ◌∷◌, ◌++◌, Option, Some, None, refl, sym, ap, subst, ◌∙◌, arith}
 use Rattle.std.specs.Prelude.{◌&&◌, ◌||◌}
 use Rattle.std.specs.Cmp.{first_so, second_so}
 use Rattle.std.specs.List.{list_any, AllByRecursion}
@@ -146,16 +146,8 @@ gathered_some w fit o (r ∷ rows) new order each =
 -- ---- from the empty office
 
 empty_has_none : (k : RowKey) → row_of empty k ≡ None
-empty_has_none (key.Supervisor code) = refl
-empty_has_none (key.Project code) = refl
-empty_has_none (key.Student code) = refl
-empty_has_none (key.Round number) = refl
-empty_has_none (key.Choice round student place) = no_choice round student place
-  where
-    no_choice : (n : ℕ) (s : List ℕ) (p : ℕ) → row_of empty (key.Choice n s p) ≡ None
-    no_choice n s zero = refl
-    no_choice n s (suc i) = ap (option_map (row.Choice n s (suc i))) (choice_at [] i)
-empty_has_none (key.Placement student) = refl
+empty_has_none (key.Choice n s (suc i)) = ap (option_map (row.Choice n s (suc i))) (choice_at [] i)
+empty_has_none k = refl
 
 all_fresh : (rows : List Row) → AllByRecursion (IsFresh empty) rows
 all_fresh [] = tt

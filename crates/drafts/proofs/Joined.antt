@@ -231,9 +231,15 @@ joined o h =
 pub whole_fit : (o : State) → IsDrafted o → is_whole o ≡ true → IsFit o
 whole_fit o d whole =
     let j = joined o whole in
-    let few1 = second_so (nat_le (length o.supervisors) 100) (nat_le (length o.projects) 400 && (nat_le (length o.students) 500 && nat_le (length o.rounds) 12)) j.few in
-    let few2 = second_so (nat_le (length o.projects) 400) (nat_le (length o.students) 500 && nat_le (length o.rounds) 12) few1 in
-    let projects : AllByRecursion (ProjectFits o) o.projects = all_weaker (λ p. ProjectForm p × (has_supervisor o p.supervisor ≡ true)) (ProjectFits o)
+    let supervisors = nat_le (length o.supervisors) 100 in
+    let projects = nat_le (length o.projects) 400 in
+    let students = nat_le (length o.students) 500 in
+    let rounds = nat_le (length o.rounds) 12 in
+    let imports = nat_le (length o.imports) 200 in
+    let few1 = second_so supervisors (projects && (students && (rounds && imports))) j.few in
+    let few2 = second_so projects (students && (rounds && imports)) few1 in
+    let few3 = second_so students (rounds && imports) few2 in
+    let offered : AllByRecursion (ProjectFits o) o.projects = all_weaker (λ p. ProjectForm p × (has_supervisor o p.supervisor ≡ true)) (ProjectFits o)
     (λ p h. record { code = h.0.code; label = h.0.label; supervisor = h.1; quota = h.0.quota }) o.projects
     (all_both ProjectForm (λ p. has_supervisor o p.supervisor ≡ true) o.projects d.projects.each (tested (λ p. has_supervisor o p.supervisor) o.projects j.offered)) in
     let lists = lists_fit o d j.lists in
@@ -243,21 +249,24 @@ whole_fit o d whole =
       supervisors_rise = d.supervisors.rise;
       projects_rise = d.projects.rise;
       students_rise = d.students.rise;
-      few_supervisors = at_most _ _ (first_so (nat_le (length o.supervisors) 100) (nat_le (length o.projects) 400 && (nat_le (length o.students) 500 && nat_le (length o.rounds) 12)) j.few);
-      few_projects = at_most _ _ (first_so (nat_le (length o.projects) 400) (nat_le (length o.students) 500 && nat_le (length o.rounds) 12) few1);
-      few_students = at_most _ _ (first_so (nat_le (length o.students) 500) (nat_le (length o.rounds) 12) few2);
+      few_supervisors = at_most _ _ (first_so supervisors (projects && (students && (rounds && imports))) j.few);
+      few_projects = at_most _ _ (first_so projects (students && (rounds && imports)) few1);
+      few_students = at_most _ _ (first_so students (rounds && imports) few2);
       supervisors_fit = d.supervisors.each;
-      projects_fit = projects;
+      projects_fit = offered;
       students_fit = d.students.each;
       numbered = j.numbered;
-      few_rounds = at_most _ _ (second_so (nat_le (length o.students) 500) (nat_le (length o.rounds) 12) few2);
+      few_rounds = at_most _ _ (first_so rounds imports few3);
       last_open = j.last_open;
       lists_rise = λ n. (d.lists n).rise;
       lists_fit = lists;
       placements_rise = d.placements;
       placements_fit = placements;
+      imports_rise = d.imports.rise;
+      few_imports = at_most _ _ (second_so rounds imports few3);
+      imports_fit = d.imports.each;
       projects_within = projects_within o known j.projects;
-      supervisors_within = supervisors_within o projects j.supervisors;
+      supervisors_within = supervisors_within o offered j.supervisors;
     }
 
 -- and a fit office goes together
@@ -265,7 +274,8 @@ pub fit_whole : (o : State) → IsFit o → is_whole o ≡ true
 fit_whole o fit =
     let few = both_so (nat_le (length o.supervisors) 100) _ (within _ _ fit.few_supervisors)
     (both_so (nat_le (length o.projects) 400) _ (within _ _ fit.few_projects)
-    (both_so (nat_le (length o.students) 500) _ (within _ _ fit.few_students) (within _ _ fit.few_rounds))) in
+    (both_so (nat_le (length o.students) 500) _ (within _ _ fit.few_students)
+    (both_so (nat_le (length o.rounds) 12) _ (within _ _ fit.few_rounds) (within _ _ fit.few_imports)))) in
     both_so (are_few o) _ few
     (both_so (are_offered o) _ (all_pass (ProjectFits o) (λ p. has_supervisor o p.supervisor) (λ p fits. fits.supervisor) o.projects fit.projects_fit)
     (both_so (are_rounds o) _ (both_so (are_numbered 1 o.rounds) _ fit.numbered (both_so (only_last_open o.rounds) _ fit.last_open (fit_lists o fit)))

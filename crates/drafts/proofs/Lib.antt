@@ -6,5 +6,4 @@ pub mod Gathered
 pub mod Joined
 pub mod Chosen
 pub mod GoesOn
-pub mod AllOn
 pub mod Faults

@@ -117,12 +117,8 @@ within_by place false h = omega arith
 
 -- no stage is past the last
 few_stages : (k : RowKey) → stage_of k < 9
-few_stages (key.Supervisor code) = omega arith
-few_stages (key.Project code) = omega arith
-few_stages (key.Student code) = omega arith
-few_stages (key.Round number) = omega arith
 few_stages (key.Choice round student place) = within_by place (nat_le place 8) refl
-few_stages (key.Placement student) = omega arith
+few_stages k = omega arith
 
 seen_staged : {A : Type 0} (f : Row → A → A) (z : A) (k : RowKey) (rows : List Row) → seen f z k (staged rows) ≡ seen f z k rows
 seen_staged f z k rows = seen_in_stages f z 9 0 k rows (omega arith) (omega (arith, few_stages k))

@@ -9,12 +9,13 @@ use Rattle.std.proofs.lemmas.List.{length-append}
 use Rattle.spa.specs.Text.{is_code, is_label}
 use Rattle.rolls.specs.declared.entries.Project.{Project}
 use Rattle.rolls.specs.declared.rounds.Listed.{Listed}
+use Rattle.rolls.specs.declared.import.ImportKind.{ImportKind}
 use Rattle.rolls.specs.declared.row.Row.{Row}
 use Rattle.rolls.specs.declared.row.Row.TheVariants as row
 use Rattle.rolls.specs.declared.row.RowKey.{RowKey}
 use Rattle.rolls.specs.Roll.{Key, put, rises}
-use Rattle.rolls.specs.State.{State, empty, supervisor_key, project_key, student_key, round_key, list_key, placement_key, lists_of}
-use Rattle.rolls.specs.Fit.{SupervisorFits, StudentFits}
+use Rattle.rolls.specs.State.{State, empty, supervisor_key, project_key, student_key, round_key, list_key, placement_key, import_key, lists_of}
+use Rattle.rolls.specs.Fit.{SupervisorFits, StudentFits, ImportFits}
 use Rattle.rolls.specs.Rows.{row_of, key_of, same_row}
 use Rattle.rolls.proofs.Places.{rises-put}
 use Rattle.rolls.proofs.Finding.{all-put}
@@ -52,6 +53,7 @@ pub record IsDrafted (o : State) : Type 0 where
   pub rounds : rises round_key o.rounds ≡ true
   pub lists : (n : ℕ) → AreOf list_key HasChoices (lists_of o n)
   pub placements : rises placement_key o.placements ≡ true
+  pub imports : AreOf import_key ImportFits o.imports
 
 pub drafted_shaped : (o : State) → IsDrafted o → IsShaped o
 drafted_shaped o d = record {
@@ -62,6 +64,7 @@ drafted_shaped o d = record {
   lists_rise = λ n. (d.lists n).rise;
   lists_some = λ n. (d.lists n).each;
   placements_rise = d.placements;
+  imports_rise = d.imports.rise;
 }
 
 pub empty_drafted : IsDrafted empty
@@ -72,6 +75,7 @@ empty_drafted = record {
   rounds = refl;
   lists = λ n. record { rise = refl; each = tt };
   placements = refl;
+  imports = record { rise = refl; each = tt };
 }
 
 -- one more row was taken in
@@ -100,6 +104,7 @@ drafted_supervisor o code label quota form d =
       rounds = d.rounds;
       lists = d.lists;
       placements = d.placements;
+      imports = d.imports;
     }
 
 drafted_project : (o : State) (code label supervisor : List ℕ) (quota : ℕ) → has_form o (row.Project code label supervisor quota) ≡ true → IsDrafted o → IsDrafted (with_row (row.Project code label supervisor quota) o)
@@ -117,6 +122,7 @@ drafted_project o code label supervisor quota form d =
       rounds = d.rounds;
       lists = d.lists;
       placements = d.placements;
+      imports = d.imports;
     }
 
 drafted_student : (o : State) (code label : List ℕ) → has_form o (row.Student code label) ≡ true → IsDrafted o → IsDrafted (with_row (row.Student code label) o)
@@ -129,6 +135,7 @@ drafted_student o code label form d =
       rounds = d.rounds;
       lists = d.lists;
       placements = d.placements;
+      imports = d.imports;
     }
 
 drafted_round : (o : State) (number : ℕ) (is_open : Bool) → row_of o (key_of (row.Round number is_open)) ≡ None → IsDrafted o → IsDrafted (with_row (row.Round number is_open) o)
@@ -139,6 +146,7 @@ drafted_round o number is_open free d = record {
   rounds = rises-put round_key (record { number = number; is_open = is_open; lists = [] }) o.rounds d.rounds;
   lists = λ n. subst (AreOf list_key HasChoices) (sym (lists_kept o (record { number = number; is_open = is_open; lists = [] }) (absent number _ free) n)) (d.lists n);
   placements = d.placements;
+  imports = d.imports;
 }
 
 chosen_lists : (o : State) (n : ℕ) (s c : List ℕ) (k : ℕ) (b : Bool) → AreOf list_key HasChoices (lists_of o n) → AreOf list_key HasChoices (lists_of o k)
@@ -157,6 +165,7 @@ drafted_choice o n s p c form d =
       rounds = rises-put round_key (record next.round { lists = with_choice s c next.round.lists }) o.rounds d.rounds;
       lists = λ k. subst (AreOf list_key HasChoices) (sym (lists_chosen o n s p c next k)) (chosen_lists o n s c k (bytes_eq (k ∷ []) (n ∷ [])) (d.lists n) (d.lists k));
       placements = d.placements;
+      imports = d.imports;
     } in
     subst IsDrafted (chosen_is o n s p c next) chosen
 
@@ -168,7 +177,26 @@ drafted_placement o student round project rank d = record {
   rounds = d.rounds;
   lists = d.lists;
   placements = rises-put placement_key (record { student = student; round = round; project = project; rank = rank }) o.placements d.placements;
+  imports = d.imports;
 }
+
+drafted_import : (o : State) (id : List ℕ) (kind : ImportKind) (bytes : List ℕ) (rows : ℕ) → has_form o (row.Import id kind bytes rows) ≡ true → IsDrafted o → IsDrafted (with_row (row.Import id kind bytes rows) o)
+drafted_import o id kind bytes rows form d =
+    let rest = second_so (is_code id) (nat_le (length bytes) 65536 && nat_le rows 65536) form in
+    let fits : ImportFits (record { id = id; kind = kind; bytes = bytes; rows = rows }) = record {
+      id = first_so (is_code id) (nat_le (length bytes) 65536 && nat_le rows 65536) form;
+      bytes = at_most (length bytes) 65536 (first_so (nat_le (length bytes) 65536) (nat_le rows 65536) rest);
+      rows = at_most rows 65536 (second_so (nat_le (length bytes) 65536) (nat_le rows 65536) rest);
+    } in
+    record {
+      supervisors = d.supervisors;
+      projects = d.projects;
+      students = d.students;
+      rounds = d.rounds;
+      lists = d.lists;
+      placements = d.placements;
+      imports = put_of import_key ImportFits _ o.imports fits d.imports;
+    }
 
 drafted_with : (o : State) (r : Row) → has_form o r ≡ true → row_of o (key_of r) ≡ None → IsDrafted o → IsDrafted (with_row r o)
 drafted_with o (row.Supervisor code label quota) form free = drafted_supervisor o code label quota form
@@ -177,6 +205,7 @@ drafted_with o (row.Student code label) form free = drafted_student o code label
 drafted_with o (row.Round number is_open) form free = drafted_round o number is_open free
 drafted_with o (row.Choice n s p c) form free = drafted_choice o n s p c form
 drafted_with o (row.Placement student round project rank) form free = drafted_placement o student round project rank
+drafted_with o (row.Import id kind bytes rows) form free = drafted_import o id kind bytes rows form
 
 -- ---- any row
 

@@ -13,16 +13,18 @@ use Rattle.rolls.specs.declared.entries.Student.{Student}
 use Rattle.rolls.specs.declared.rounds.Round.{Round}
 use Rattle.rolls.specs.declared.rounds.Listed.{Listed}
 use Rattle.rolls.specs.declared.rounds.Placement.{Placement}
+use Rattle.rolls.specs.declared.import.Import.{Import}
+use Rattle.rolls.specs.declared.import.ImportKind.{ImportKind}
 use Rattle.rolls.specs.declared.row.Row.{Row}
 use Rattle.rolls.specs.declared.row.Row.TheVariants as row
 use Rattle.rolls.specs.declared.row.RowKey.{RowKey}
 use Rattle.rolls.specs.declared.row.RowKey.TheVariants as key
 use Rattle.rolls.specs.Roll.{Key, find}
-use Rattle.rolls.specs.State.{State, supervisor_key, project_key, student_key, list_key, placement_key, has_project, has_student, has_round, round_of, lists_of, list_of, choices_in}
-use Rattle.rolls.specs.Fit.{IsFit, SupervisorFits, ProjectFits, StudentFits, ListFits, PlacementFits}
-use Rattle.rolls.specs.Rows.{row_of, key_of, supervisor_row, project_row, student_row, round_row, placement_row, choice_in}
+use Rattle.rolls.specs.State.{State, supervisor_key, project_key, student_key, list_key, placement_key, import_key, has_project, has_student, has_round, round_of, lists_of, list_of, choices_in}
+use Rattle.rolls.specs.Fit.{IsFit, SupervisorFits, ProjectFits, StudentFits, ListFits, PlacementFits, ImportFits}
+use Rattle.rolls.specs.Rows.{row_of, key_of, supervisor_row, project_row, student_row, round_row, placement_row, import_row, choice_in}
 use Rattle.rolls.proofs.Found.{found_key, holds_of_found}
-use Rattle.rolls.proofs.Determined.{entry_back, same_entry, choice_at, supervisor_in, project_in, student_in, placement_in, project_chosen}
+use Rattle.rolls.proofs.Determined.{entry_back, same_entry, choice_at, supervisor_in, project_in, student_in, placement_in, import_in, project_chosen}
 use Rattle.drafts.specs.Gathering.{stage_of, has_form}
 
 pub both_so : (a b : Bool) → a ≡ true → b ≡ true → (a && b) ≡ true
@@ -81,7 +83,7 @@ student_code w fit s h = known_code student_key (λ (e : Student). e.code) Stude
 project_code : (w : State) → IsFit w → (p : List ℕ) → has_project w p ≡ true → is_code p ≡ true
 project_code w fit p h = known_code project_key (λ (e : Project). e.code) (ProjectFits w) (λ e. refl) (λ e f. f.code) p w.projects fit.projects_fit h
 
--- ---- rolls and placements
+-- ---- rolls, placements and imports
 
 form_of_supervisor : (w : State) → IsFit w → (o : State) (code label : List ℕ) (quota : ℕ) → row_of w (key.Supervisor code) ≡ Some (row.Supervisor code label quota) → has_form o (row.Supervisor code label quota) ≡ true
 form_of_supervisor w fit o code label quota there =
@@ -109,6 +111,12 @@ form_of_placement w fit o student round project rank there =
     let fits : PlacementFits w p = holds_of_found placement_key (PlacementFits w) (0, student) w.placements p fit.placements_fit (entry_back placement_row placement_in (λ e. refl) _ _ there) in
     let here = listed w fit.lists_fit round student (rank - 1) project fits.listed in
     both_so (is_code student) _ (student_code w fit student here.student) (project_code w fit project here.project)
+
+form_of_import : (w : State) → IsFit w → (o : State) (id : List ℕ) (kind : ImportKind) (bytes : List ℕ) (rows : ℕ) → row_of w (key.Import id) ≡ Some (row.Import id kind bytes rows) → has_form o (row.Import id kind bytes rows) ≡ true
+form_of_import w fit o id kind bytes rows there =
+    let i : Import = record { id = id; kind = kind; bytes = bytes; rows = rows } in
+    let fits : ImportFits i = holds_of_found import_key ImportFits (0, id) w.imports i fit.imports_fit (entry_back import_row import_in (λ e. refl) _ _ there) in
+    both_so (is_code id) _ fits.id (both_so (nat_le (length bytes) 65536) _ (within (length bytes) 65536 fits.bytes) (within rows 65536 fits.rows))
 
 -- ---- choices
 
@@ -185,3 +193,4 @@ form_of w fit o (row.Student code label) there behind free = form_of_student w f
 form_of w fit o (row.Round number is_open) there behind free = refl
 form_of w fit o (row.Choice n s p c) there behind free = form_of_choice w fit o n s p c there behind free
 form_of w fit o (row.Placement student round project rank) there behind free = form_of_placement w fit o student round project rank there
+form_of w fit o (row.Import id kind bytes rows) there behind free = form_of_import w fit o id kind bytes rows there

@@ -14,8 +14,8 @@ use Rattle.rolls.specs.declared.row.Row.TheVariants as row
 use Rattle.rolls.specs.declared.row.RowKey.{RowKey}
 use Rattle.rolls.specs.declared.row.RowKey.TheVariants as key
 use Rattle.rolls.specs.Roll.{Key, key_cmp, find, put, same_key}
-use Rattle.rolls.specs.State.{State, supervisor_key, project_key, student_key, round_key, list_key, placement_key, round_of, has_round, lists_of, choices_in}
-use Rattle.rolls.specs.Rows.{row_of, key_of, same_row, same_parts, supervisor_row, project_row, student_row, round_row, placement_row, choice_in}
+use Rattle.rolls.specs.State.{State, supervisor_key, project_key, student_key, round_key, list_key, placement_key, import_key, round_of, has_round, lists_of, choices_in}
+use Rattle.rolls.specs.Rows.{row_of, key_of, same_row, same_parts, supervisor_row, project_row, student_row, round_row, placement_row, import_row, choice_in}
 use Rattle.rolls.proofs.Finding.{find-put, same_code, is_equal}
 use Rattle.rolls.proofs.Found.{found_key}
 use Rattle.rolls.proofs.Same.{keys_exact}
@@ -70,15 +70,12 @@ absent number (Some r) h = cc
 
 turns_with_round : (o : State) (number : ℕ) (is_open : Bool) → row_of o (key.Round number) ≡ None
     → (k : RowKey) → cond (same_row k (key.Round number)) (Some (row.Round number is_open)) (row_of o k) ≡ row_of (with_row (row.Round number is_open) o) k
-turns_with_round o number is_open free (key.Supervisor code) = refl
-turns_with_round o number is_open free (key.Project code) = refl
-turns_with_round o number is_open free (key.Student code) = refl
 turns_with_round o number is_open free (key.Round k) =
     turned round_key round_row (record { number = number; is_open = is_open; lists = [] }) o.rounds (k, []) (same_parts ((k ∷ []) ∷ []) ((number ∷ []) ∷ [])) (number_alone k number)
 turns_with_round o number is_open free (key.Choice k student place) =
     ap (λ lists. option_map (row.Choice k student place) (choice_in (choices_among student lists) place))
     (sym (lists_kept o (record { number = number; is_open = is_open; lists = [] }) (absent number (round_of o number) free) k))
-turns_with_round o number is_open free (key.Placement student) = refl
+turns_with_round o number is_open free k = refl
 
 -- ---- one more choice
 
@@ -168,15 +165,12 @@ module _ (o : State) (n : ℕ) (s : List ℕ) (p : ℕ) (c : List ℕ) (next : I
   round_by k false e = refl
 
   turns_by_chosen : (k : RowKey) → cond (same_row k (key.Choice n s p)) (Some (row.Choice n s p c)) (row_of o k) ≡ row_of (chosen_with o next.round s c) k
-  turns_by_chosen (key.Supervisor code) = refl
-  turns_by_chosen (key.Project code) = refl
-  turns_by_chosen (key.Student code) = refl
   turns_by_chosen (key.Round k) =
       round_by k (same_key (k, []) (next.round.number, [])) refl ∙ ap (option_map round_row) (sym (find-put round_key (k, []) (record next.round { lists = with_choice s c next.round.lists }) o.rounds))
   turns_by_chosen (key.Choice k t q) =
       choice_by k t q (bytes_eq (k ∷ []) (n ∷ [])) (bytes_eq t s) (bytes_eq (q ∷ []) (p ∷ [])) refl refl refl
       ∙ ap (λ lists. option_map (row.Choice k t q) (choice_in (choices_among t lists) q)) (sym (lists_chosen k))
-  turns_by_chosen (key.Placement student) = refl
+  turns_by_chosen k = refl
 
 -- ---- each kind of row
 
@@ -200,30 +194,12 @@ is_next o n s p c form =
 -- the row stands at its key, and elsewhere what stood there
 pub turns_with : (o : State) (r : Row) → has_form o r ≡ true → row_of o (key_of r) ≡ None → (k : RowKey) → cond (same_row k (key_of r)) (Some r) (row_of o k) ≡ row_of (with_row r o) k
 turns_with o (row.Supervisor code label quota) form free (key.Supervisor k) = turned supervisor_key supervisor_row (record { code = code; label = label; quota = quota }) o.supervisors (0, k) (same_parts (k ∷ []) (code ∷ [])) (code_alone k code)
-turns_with o (row.Supervisor code label quota) form free (key.Project k) = refl
-turns_with o (row.Supervisor code label quota) form free (key.Student k) = refl
-turns_with o (row.Supervisor code label quota) form free (key.Round k) = refl
-turns_with o (row.Supervisor code label quota) form free (key.Choice k t q) = refl
-turns_with o (row.Supervisor code label quota) form free (key.Placement k) = refl
-turns_with o (row.Project code label supervisor quota) form free (key.Supervisor k) = refl
 turns_with o (row.Project code label supervisor quota) form free (key.Project k) = turned project_key project_row (record { code = code; label = label; supervisor = supervisor; quota = quota }) o.projects (0, k) (same_parts (k ∷ []) (code ∷ [])) (code_alone k code)
-turns_with o (row.Project code label supervisor quota) form free (key.Student k) = refl
-turns_with o (row.Project code label supervisor quota) form free (key.Round k) = refl
-turns_with o (row.Project code label supervisor quota) form free (key.Choice k t q) = refl
-turns_with o (row.Project code label supervisor quota) form free (key.Placement k) = refl
-turns_with o (row.Student code label) form free (key.Supervisor k) = refl
-turns_with o (row.Student code label) form free (key.Project k) = refl
 turns_with o (row.Student code label) form free (key.Student k) = turned student_key student_row (record { code = code; label = label }) o.students (0, k) (same_parts (k ∷ []) (code ∷ [])) (code_alone k code)
-turns_with o (row.Student code label) form free (key.Round k) = refl
-turns_with o (row.Student code label) form free (key.Choice k t q) = refl
-turns_with o (row.Student code label) form free (key.Placement k) = refl
 turns_with o (row.Round number is_open) form free k = turns_with_round o number is_open free k
 turns_with o (row.Choice n s p c) form free k =
     let next = is_next o n s p c form in
     turns_by_chosen o n s p c next k ∙ ap (λ (m : State). row_of m k) (chosen_is o n s p c next)
-turns_with o (row.Placement student round project rank) form free (key.Supervisor k) = refl
-turns_with o (row.Placement student round project rank) form free (key.Project k) = refl
-turns_with o (row.Placement student round project rank) form free (key.Student k) = refl
-turns_with o (row.Placement student round project rank) form free (key.Round k) = refl
-turns_with o (row.Placement student round project rank) form free (key.Choice k t q) = refl
 turns_with o (row.Placement student round project rank) form free (key.Placement k) = turned placement_key placement_row (record { student = student; round = round; project = project; rank = rank }) o.placements (0, k) (same_parts (k ∷ []) (student ∷ [])) (code_alone k student)
+turns_with o (row.Import id kind bytes rows) form free (key.Import k) = turned import_key import_row (record { id = id; kind = kind; bytes = bytes; rows = rows }) o.imports (0, k) (same_parts (k ∷ []) (id ∷ [])) (code_alone k id)
+turns_with o r form free k = refl

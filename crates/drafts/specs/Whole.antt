@@ -10,7 +10,9 @@ use Rattle.rolls.specs.Fit.{are_numbered, only_last_open, is_distinct}
 
 -- nothing is too long
 abbrev pub are_few : State → Bool
-are_few o = nat_le (length o.supervisors) 100 && (nat_le (length o.projects) 400 && (nat_le (length o.students) 500 && nat_le (length o.rounds) 12))
+are_few o =
+    nat_le (length o.supervisors) 100 && (nat_le (length o.projects) 400 && (nat_le (length o.students) 500
+    && (nat_le (length o.rounds) 12 && nat_le (length o.imports) 200)))
 
 -- the supervisor of each project is on the roll
 abbrev pub are_offered : State → Bool

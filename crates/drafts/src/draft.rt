@@ -6,7 +6,10 @@ ghost use Rattle.drafts.specs.View.{drafted};
 ghost use Rattle.drafts.specs.Gathering.{taken_in, choices_among, with_choice};
 
 use crate::fault::RowsFault;
-use rolls::{Choices, Listed, Placement, Project, Round, Row, Student, Supervisor, Table, Text};
+use rolls::{
+    Bytes, Choices, Import, ImportKind, Listed, MOST_IMPORT_BYTES, Placement, Project, Round, Row,
+    Student, Supervisor, Table, Text,
+};
 use spa::{Code, Label, MOST_PLACES, RANKS};
 use std::alloc::{AllocError, Global};
 
@@ -23,6 +26,8 @@ pub struct Draft {
     pub rounds: Table<Round>,
     /// The placements, by student.
     pub placements: Table<Placement>,
+    /// The imports that were made, by id.
+    pub imports: Table<Import>,
 }
 
 /// These projects, and one more behind them.
@@ -88,6 +93,7 @@ impl Draft {
             students: Table::new(alloc),
             rounds: Table::new(alloc),
             placements: Table::new(alloc),
+            imports: Table::new(alloc),
         }
     }
 
@@ -222,6 +228,34 @@ impl Draft {
         Ok(())
     }
 
+    /// Takes in an import's row. Its text is shared with the row.
+    fn take_import(
+        &mut self,
+        id: &Text,
+        kind: ImportKind,
+        bytes: &Bytes,
+        rows: u32,
+    ) -> Result<(), RowsFault>
+        ensures taken { OnOk result (taken_in (drafted self.old) (Row.Import id.now kind bytes.now rows) ≡ Some (drafted self.new)) }
+        ensures unfit { result ≡ Err RowsFault.Unfit → taken_in (drafted self.old) (Row.Import id.now kind bytes.now rows) ≡ None }
+    {
+        let id = Code::read(id.as_str())?;
+        if bytes.as_slice().len() > MOST_IMPORT_BYTES || rows as usize > MOST_IMPORT_BYTES {
+            return Err(RowsFault::Unfit);
+        }
+        if self.imports.by_code(id.as_str()).is_some() {
+            return Err(RowsFault::Unfit);
+        }
+        let bytes = bytes.copy()?;
+        self.imports.put(Import {
+            id,
+            kind,
+            bytes,
+            rows,
+        })?;
+        Ok(())
+    }
+
     /// Takes in a row.
     pub(crate) fn take_in(&mut self, alloc: Global, row: &Row) -> Result<(), RowsFault>
         ensures taken { OnOk result (taken_in (drafted self.old) row.now ≡ Some (drafted self.new)) }
@@ -251,6 +285,12 @@ impl Draft {
                 project,
                 rank,
             } => self.take_placement(student, *round, project, *rank),
+            Row::Import {
+                id,
+                kind,
+                bytes,
+                rows,
+            } => self.take_import(id, *kind, bytes, *rows),
         }
     }
 }

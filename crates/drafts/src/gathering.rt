@@ -33,10 +33,7 @@ fn take_stage(draft: &mut Draft, alloc: Global, rows: &[Row], stage: u32) -> Res
 {
     for row in rows {
         if stage_of(row) == stage {
-            match draft.take_in(alloc, row) {
-                Ok(()) => {}
-                Err(fault) => return Err(fault),
-            }
+            draft.take_in(alloc, row)?;
         }
     }
     Ok(())
@@ -49,10 +46,7 @@ fn take_all(alloc: Global, rows: &[Row]) -> Result<Draft, RowsFault>
 {
     let mut found = Draft::new(alloc);
     for stage in 0..STAGES {
-        match take_stage(&mut found, alloc, rows, stage) {
-            Ok(()) => {}
-            Err(fault) => return Err(fault),
-        }
+        take_stage(&mut found, alloc, rows, stage)?;
     }
     Ok(found)
 }
@@ -63,10 +57,7 @@ pub fn gather(alloc: Global, rows: &[Row]) -> Result<Draft, RowsFault>
     ensures rows { IfOk result (λ draft. AreRowsOf rows.now (drafted draft)) }
     ensures unfit { result ≡ Err RowsFault.Unfit → (o : State) → IsFit o → AreRowsOf rows.now o → ⊥ }
 {
-    let draft = match take_all(alloc, rows) {
-        Ok(draft) => draft,
-        Err(fault) => return Err(fault),
-    };
+    let draft = take_all(alloc, rows)?;
     if !draft.is_whole() {
         return Err(RowsFault::Unfit);
     }

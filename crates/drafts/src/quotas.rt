@@ -61,12 +61,9 @@ impl Draft {
         ensures { result ≡ list_all (λ p. nat_le (placed_in_project (drafted self.now) p.code) p.quota) self.now.projects }
     {
         let projects = self.projects.entries();
-        for project in projects {
-            if !self.is_project_within(project) {
-                return false;
-            }
-        }
-        true
+        projects
+            .iter()
+            .all(|project| self.is_project_within(project))
     }
 
     /// Whether no supervisor has more students than the quota.
@@ -74,12 +71,9 @@ impl Draft {
         ensures { result ≡ list_all (λ s. nat_le (placed_with_supervisor (drafted self.now) s.code) s.quota) self.now.supervisors }
     {
         let supervisors = self.supervisors.entries();
-        for supervisor in supervisors {
-            if !self.is_supervisor_within(supervisor) {
-                return false;
-            }
-        }
-        true
+        supervisors
+            .iter()
+            .all(|supervisor| self.is_supervisor_within(supervisor))
     }
 
     /// Whether no project and no supervisor has more students than the quota.

@@ -11,7 +11,7 @@ ghost use Rattle.drafts.specs.Gathering.{choices_among};
 ghost use Rattle.drafts.specs.Whole.{is_whole, are_few, are_offered, are_rounds, is_list, is_placement};
 
 use crate::draft::Draft;
-use rolls::{Listed, MOST_ROUNDS, Placement, Round, Table};
+use rolls::{Listed, MOST_IMPORTS, MOST_ROUNDS, Placement, Round, Table};
 use spa::{Code, MOST_PROJECTS, MOST_STUDENTS, MOST_SUPERVISORS, RANKS};
 
 /// Whether the rounds have the numbers from 1 on.
@@ -82,6 +82,7 @@ impl Draft {
             && self.projects.entries().len() <= MOST_PROJECTS
             && self.students.entries().len() <= MOST_STUDENTS
             && self.rounds.entries().len() <= MOST_ROUNDS as usize
+            && self.imports.entries().len() <= MOST_IMPORTS
     }
 
     /// Whether the supervisor of each project is on the roll.
@@ -89,28 +90,18 @@ impl Draft {
         ensures { result ≡ are_offered (drafted self.now) }
     {
         let projects = self.projects.entries();
-        for project in projects {
-            if self
-                .supervisors
+        projects.iter().all(|project| {
+            self.supervisors
                 .by_code(project.supervisor.as_str())
-                .is_none()
-            {
-                return false;
-            }
-        }
-        true
+                .is_some()
+        })
     }
 
     /// Whether each of these projects is on the roll.
     fn are_known(&self, projects: &[Code]) -> bool
         ensures { result ≡ list_all (has_project (drafted self.now)) projects.now }
     {
-        for project in projects {
-            if self.projects.by_code(project.as_str()).is_none() {
-                return false;
-            }
-        }
-        true
+        projects.iter().all(|project| self.projects.by_code(project.as_str()).is_some())
     }
 
     /// Whether a round before this one placed the student.
@@ -141,12 +132,7 @@ impl Draft {
     fn are_lists(&self, number: u32, lists: &[Listed]) -> bool
         ensures { result ≡ list_all (is_list (drafted self.now) number) lists.now }
     {
-        for listed in lists {
-            if !self.is_list(number, listed) {
-                return false;
-            }
-        }
-        true
+        lists.iter().all(|listed| self.is_list(number, listed))
     }
 
     /// Whether the lists of each round are such.
@@ -154,12 +140,7 @@ impl Draft {
         ensures { result ≡ list_all (λ r. list_all (is_list (drafted self.now) r.number) r.lists) self.now.rounds }
     {
         let rounds = self.rounds.entries();
-        for round in rounds {
-            if !self.are_lists(round.number, round.lists.entries()) {
-                return false;
-            }
-        }
-        true
+        rounds.iter().all(|round| self.are_lists(round.number, round.lists.entries()))
     }
 
     /// Whether the rounds follow one another, and their lists are such.
@@ -187,12 +168,9 @@ impl Draft {
         ensures { result ≡ list_all (is_placement (drafted self.now)) self.now.placements }
     {
         let placements = self.placements.entries();
-        for placement in placements {
-            if !self.is_placement(placement) {
-                return false;
-            }
-        }
-        true
+        placements
+            .iter()
+            .all(|placement| self.is_placement(placement))
     }
 
     /// Whether all of it goes together.

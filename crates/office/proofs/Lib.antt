@@ -2,3 +2,4 @@ pub mod Made
 pub mod Listing
 pub mod Few
 pub mod Reading
+pub mod Importing

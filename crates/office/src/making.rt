@@ -8,7 +8,7 @@ use spa::{Code, Label};
 use std::alloc::{AllocError, Global};
 
 /// A code of a text that was judged to be one.
-fn code_of(text: &str) -> Code
+pub fn code_of(text: &str) -> Code
     requires { IsTrue (is_code text.now) }
     ensures { result ≡ text.now }
 {

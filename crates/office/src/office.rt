@@ -1,6 +1,7 @@
 //! The office.
 
 mod ending;
+mod importing;
 mod judging;
 mod lists;
 mod placed;
@@ -11,13 +12,13 @@ mod rounds;
 ghost use Rattle.std.specs.Prelude.{◌≡◌, ◌∷◌, not, IfOk, OnErr, Err, None, []};
 ghost use Rattle.rolls.specs.State.{State, empty, lists_of};
 ghost use Rattle.rolls.specs.Fit.{IsFit};
-ghost use Rattle.rolls.specs.Refusing.{first, plain_refusal, refusal};
+ghost use Rattle.rolls.specs.Refusing.{first, plain_refusal, refusal_of};
 ghost use Rattle.rolls.specs.Answers.{Answers, IsDone};
 ghost use Rattle.rolls.specs.From.{AreRowsOf};
 
 use drafts::{RowsFault, gather};
 use rolls::{
-    Done, Listed, Placement, Plain, Project, Refusal, Reply, Request, Round, Row, Student,
+    Done, Import, Listed, Placement, Plain, Project, Refusal, Reply, Request, Round, Row, Student,
     Supervisor, Table,
 };
 use std::alloc::{AllocError, Global};
@@ -32,6 +33,7 @@ pub struct Office {
     students: Table<Student>,
     rounds: Table<Round>,
     placements: Table<Placement>,
+    imports: Table<Import>,
 }
 
 impl Model for Office {
@@ -58,6 +60,7 @@ impl Office {
             students: Table::new(alloc),
             rounds: Table::new(alloc),
             placements: Table::new(alloc),
+            imports: Table::new(alloc),
         }
     }
 
@@ -74,6 +77,7 @@ impl Office {
                 students: draft.students,
                 rounds: draft.rounds,
                 placements: draft.placements,
+                imports: draft.imports,
             }),
             Err(fault) => Err(fault),
         }
@@ -91,6 +95,7 @@ impl Office {
             students: self.students.duplicate(alloc)?,
             rounds: self.rounds.duplicate(alloc)?,
             placements: self.placements.duplicate(alloc)?,
+            imports: self.imports.duplicate(alloc)?,
         })
     }
 
@@ -139,6 +144,13 @@ impl Office {
         self.placements.entries()
     }
 
+    /// The imports that were made, by id.
+    pub fn imports(&self) -> &[Import]
+        ensures all { let o = self.now in result.now ≡ o.imports }
+    {
+        self.imports.entries()
+    }
+
     /// Every office is fit.
     pub fn fit(&self)
         ensures fit { IsFit self.now }
@@ -146,13 +158,17 @@ impl Office {
         let _ = &self.students;
     }
 
-    /// The first refusal that applies to a request, if any. Takes no memory.
+    /// The first refusal that applies to a request, if any; of an import, the first for which its text has not to be read.
+    /// Takes no memory.
     pub fn refusal_of(&self, request: &Request) -> Option<Refusal>
-        ensures refusal { result ≡ refusal self.now request.now }
+        ensures refusal { result ≡ refusal_of self.now request.now }
     {
         match request {
             Request::Plain(plain) => self.plain_refusal(plain),
             Request::Close | Request::Preview | Request::RoundText => self.open_refusal(),
+            Request::Import { id, kind, bytes } => {
+                self.import_refusal(id.as_str(), *kind, bytes.as_slice())
+            }
         }
     }
 

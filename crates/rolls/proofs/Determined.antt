@@ -16,13 +16,14 @@ use Rattle.rolls.specs.declared.entries.Student.{Student}
 use Rattle.rolls.specs.declared.rounds.Round.{Round}
 use Rattle.rolls.specs.declared.rounds.Listed.{Listed}
 use Rattle.rolls.specs.declared.rounds.Placement.{Placement}
+use Rattle.rolls.specs.declared.import.Import.{Import}
 use Rattle.rolls.specs.declared.row.Row.{Row}
 use Rattle.rolls.specs.declared.row.Row.TheVariants as row
 use Rattle.rolls.specs.declared.row.RowKey.{RowKey}
 use Rattle.rolls.specs.declared.row.RowKey.TheVariants as key
 use Rattle.rolls.specs.Roll.{Key, code_cmp, same_key, find, rises, is_below}
-use Rattle.rolls.specs.State.{State, supervisor_key, project_key, student_key, round_key, list_key, placement_key, lists_of, list_of, round_of}
-use Rattle.rolls.specs.Rows.{row_of, supervisor_row, project_row, student_row, round_row, placement_row, choice_in}
+use Rattle.rolls.specs.State.{State, supervisor_key, project_key, student_key, round_key, list_key, placement_key, import_key, lists_of, list_of, round_of}
+use Rattle.rolls.specs.Rows.{row_of, supervisor_row, project_row, student_row, round_row, placement_row, import_row, choice_in}
 use Rattle.rolls.specs.Fit.{IsFit, ListFits, are_numbered}
 use Rattle.rolls.specs.Laws.{RowsGiveOffice}
 use Rattle.rolls.proofs.Finding.{all_weaker}
@@ -38,6 +39,7 @@ pub record IsShaped (o : State) : Type 0 where
   pub lists_rise : (n : ℕ) → rises list_key (lists_of o n) ≡ true
   pub lists_some : (n : ℕ) → AllByRecursion (λ l. 1 ≤ length l.choices) (lists_of o n)
   pub placements_rise : rises placement_key o.placements ≡ true
+  pub imports_rise : rises import_key o.imports ≡ true
 
 -- ---- rows give back entries
 
@@ -57,6 +59,10 @@ student_in _ = None
 abbrev pub placement_in : Row → Option Placement
 placement_in (row.Placement student round project rank) = Some (record { student = student; round = round; project = project; rank = rank })
 placement_in _ = None
+
+abbrev pub import_in : Row → Option Import
+import_in (row.Import id kind bytes rows) = Some (record { id = id; kind = kind; bytes = bytes; rows = rows })
+import_in _ = None
 
 -- whether the round of a row is open
 abbrev open_in : Row → Option (ℕ × Bool)
@@ -184,7 +190,8 @@ module _ (o n : State) (of : IsShaped o) (nf : IsShaped n) (same : (k : RowKey) 
       let students = same_by_code student_key (λ s. s.code) (λ s. refl) o.students n.students of.students_rise nf.students_rise (λ code. same_entry student_row student_in (λ e. refl) _ _ (same (key.Student code))) in
       let rounds = same_found round_key o.rounds n.rounds of.rounds_rise nf.rounds_rise (found_round o.rounds n.rounds private_round) in
       let placements = same_by_code placement_key (λ p. p.student) (λ p. refl) o.placements n.placements of.placements_rise nf.placements_rise (λ code. same_entry placement_row placement_in (λ e. refl) _ _ (same (key.Placement code))) in
-      λ i. record { supervisors = supervisors i; projects = projects i; students = students i; rounds = rounds i; placements = placements i }
+      let imports = same_by_code import_key (λ i. i.id) (λ i. refl) o.imports n.imports of.imports_rise nf.imports_rise (λ id. same_entry import_row import_in (λ e. refl) _ _ (same (key.Import id))) in
+      λ i. record { supervisors = supervisors i; projects = projects i; students = students i; rounds = rounds i; placements = placements i; imports = imports i }
 
 -- ---- a fit office has this shape
 
@@ -212,6 +219,7 @@ fit_shaped o fit = record {
   lists_rise = fit.lists_rise;
   lists_some = λ n. all_weaker (ListFits o n) (λ l. 1 ≤ length l.choices) (λ l fits. fits.some) (lists_of o n) (fit.lists_fit n);
   placements_rise = fit.placements_rise;
+  imports_rise = fit.imports_rise;
 }
 
 pub rows_determine : RowsGiveOffice

@@ -34,7 +34,8 @@ of_table (suc zero) (code ∷ _) = key.Project code
 of_table (suc (suc zero)) (code ∷ _) = key.Student code
 of_table (suc (suc (suc zero))) ((number ∷ _) ∷ _) = key.Round number
 of_table (suc (suc (suc (suc zero)))) ((round ∷ _) ∷ student ∷ (place ∷ _) ∷ _) = key.Choice round student place
-of_table _ (student ∷ _) = key.Placement student
+of_table (suc (suc (suc (suc (suc zero))))) (student ∷ _) = key.Placement student
+of_table _ (id ∷ _) = key.Import id
 of_table _ _ = key.Supervisor []
 
 abbrev from_parts : List (List ℕ) → RowKey
@@ -48,6 +49,7 @@ parts_back (key.Student code) = refl
 parts_back (key.Round number) = refl
 parts_back (key.Choice round student place) = refl
 parts_back (key.Placement student) = refl
+parts_back (key.Import id) = refl
 
 -- keys that are the same are one
 pub same_row_is : (k l : RowKey) → same_row k l ≡ true → k ≡ l

@@ -9,8 +9,9 @@ use Rattle.rolls.specs.declared.entries.Student.{Student}
 use Rattle.rolls.specs.declared.rounds.Round.{Round}
 use Rattle.rolls.specs.declared.rounds.Listed.{Listed}
 use Rattle.rolls.specs.declared.rounds.Placement.{Placement}
+use Rattle.rolls.specs.declared.import.Import.{Import}
 use Rattle.rolls.specs.Roll.{rises}
-use Rattle.rolls.specs.State.{State, supervisor_key, project_key, student_key, list_key, placement_key, has_supervisor, has_project, has_student, is_placed_before, is_closed, lists_of, choices_in, quota_in, quota_with, placed_in_project, placed_with_supervisor}
+use Rattle.rolls.specs.State.{State, supervisor_key, project_key, student_key, list_key, placement_key, import_key, has_supervisor, has_project, has_student, is_placed_before, is_closed, lists_of, choices_in, quota_in, quota_with, placed_in_project, placed_with_supervisor}
 
 -- a supervisor with a code, a label and a quota of at most 500
 abbrev pub SupervisorFits : Supervisor → Type 0
@@ -70,6 +71,14 @@ PlacementFits o p = record {
   listed : slice_get (choices_in o p.round p.student) (p.rank - 1) ≡ Some p.project;
 }
 
+-- an import with a code for its id, and a text and rows within their limits
+abbrev pub ImportFits : Import → Type 0
+ImportFits i = record {
+  id : IsTrue (is_code i.id);
+  bytes : length i.bytes ≤ 65536;
+  rows : i.rows ≤ 65536;
+}
+
 -- An office is as the rules have it: no key stands twice, nothing is too long, each entry fits, and no project and no supervisor
 -- has more students over all rounds than the quota.
 pub record IsFit (o : State) : Type 0 where
@@ -89,5 +98,8 @@ pub record IsFit (o : State) : Type 0 where
   pub lists_fit : (n : ℕ) → AllByRecursion (ListFits o n) (lists_of o n)
   pub placements_rise : IsTrue (rises placement_key o.placements)
   pub placements_fit : AllByRecursion (PlacementFits o) o.placements
+  pub imports_rise : IsTrue (rises import_key o.imports)
+  pub few_imports : length o.imports ≤ 200
+  pub imports_fit : AllByRecursion ImportFits o.imports
   pub projects_within : (p : List ℕ) → placed_in_project o p ≤ quota_in o p
   pub supervisors_within : (s : List ℕ) → placed_with_supervisor o s ≤ quota_with o s

@@ -4,7 +4,7 @@ use Rattle.rolls.specs.declared.request.Plain.{Plain}
 use Rattle.rolls.specs.declared.request.Plain.TheVariants.{PutSupervisor, PutProject, PutStudent, OpenRound, PutList, DropList, ReopenRound, GetSupervisor, GetProject, GetStudent, GetRound}
 use Rattle.rolls.specs.declared.request.Request.{Request}
 use Rattle.rolls.specs.declared.request.Request.TheVariants as request
-use Rattle.rolls.specs.State.{State}
+use Rattle.rolls.specs.State.{State, has_import}
 
 -- whether a plain request only reads
 abbrev pub is_read : Plain → Bool
@@ -26,3 +26,4 @@ changes_nothing o (request.Plain p) = is_read p
 changes_nothing o request.Close = false
 changes_nothing o request.Preview = true
 changes_nothing o request.RoundText = true
+changes_nothing o (request.Import id kind bytes) = has_import o id

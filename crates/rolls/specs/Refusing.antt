@@ -4,9 +4,11 @@ use Rattle.std.specs.List.{list_any}
 use Rattle.std.specs.Option.{option_map_or}
 use Rattle.std.specs.Str.{bytes_eq}
 use Rattle.spa.specs.Text.{is_code, is_label}
+use Rattle.rolls.specs.declared.import.ImportKind.{ImportKind}
+use Rattle.rolls.specs.Kinds.{same_kind}
 use Rattle.rolls.specs.declared.refusal.Refusal.{Refusal}
 use Rattle.rolls.specs.declared.refusal.Refusal.TheVariants as no
-use Rattle.rolls.specs.State.{State, project_of, has_supervisor, has_project, has_student, has_round, has_list, is_placed, last_round, round_is_open, placed_in_project, placed_with_supervisor}
+use Rattle.rolls.specs.State.{State, project_of, import_of, has_supervisor, has_project, has_student, has_round, has_list, has_import, is_placed, last_round, round_is_open, placed_in_project, placed_with_supervisor}
 use Rattle.rolls.specs.declared.request.Plain.{Plain}
 use Rattle.rolls.specs.declared.request.Plain.TheVariants.{PutSupervisor, PutProject, PutStudent, OpenRound, PutList, DropList, ReopenRound, GetSupervisor, GetProject, GetStudent, GetRound}
 use Rattle.rolls.specs.declared.request.Request.{Request}
@@ -95,6 +97,19 @@ reopening_tests o =
 abbrev pub open_tests : State → List (Bool × Refusal)
 open_tests o = (not (round_is_open o), no.NoRoundOpen) ∷ []
 
+-- an import is kept under this id with another kind or other bytes
+abbrev pub is_other_import : State → List ℕ → ImportKind → List ℕ → Bool
+is_other_import o id kind bytes = option_map_or (λ i. not (same_kind kind i.kind && bytes_eq bytes i.bytes)) (import_of o id) false
+
+-- what an import is judged by before its text is read
+abbrev pub import_tests : State → List ℕ → ImportKind → List ℕ → List (Bool × Refusal)
+import_tests o id kind bytes =
+    (not (is_code id), no.Code)
+    ∷ (nat_lt 65536 (length bytes), no.TooLarge)
+    ∷ (is_other_import o id kind bytes, no.ImportIdUsed)
+    ∷ (not (has_import o id) && nat_le 200 (length o.imports), no.RollFull)
+    ∷ []
+
 -- the first refusal of a plain request
 abbrev pub plain_refusal : State → Plain → Option Refusal
 plain_refusal o (PutSupervisor code label quota) = first (supervisor_tests o code label quota)
@@ -109,9 +124,10 @@ plain_refusal o (GetProject code) = first ((not (has_project o code), no.Unknown
 plain_refusal o (GetStudent code) = first ((not (has_student o code), no.UnknownStudent) ∷ [])
 plain_refusal o (GetRound round) = first ((not (has_round o round), no.UnknownRound) ∷ [])
 
--- the first refusal of a request
-abbrev pub refusal : State → Request → Option Refusal
-refusal o (request.Plain p) = plain_refusal o p
-refusal o request.Close = first (open_tests o)
-refusal o request.Preview = first (open_tests o)
-refusal o request.RoundText = first (open_tests o)
+-- the first refusal of a request for which no import text has to be read
+abbrev pub refusal_of : State → Request → Option Refusal
+refusal_of o (request.Plain p) = plain_refusal o p
+refusal_of o request.Close = first (open_tests o)
+refusal_of o request.Preview = first (open_tests o)
+refusal_of o request.RoundText = first (open_tests o)
+refusal_of o (request.Import id kind bytes) = first (import_tests o id kind bytes)

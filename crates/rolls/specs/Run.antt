@@ -10,14 +10,27 @@ use Rattle.rolls.specs.State.{State}
 use Rattle.rolls.specs.Instances.{round_instance}
 use Rattle.rolls.specs.declared.request.Request.{Request}
 use Rattle.rolls.specs.declared.request.Request.TheVariants as request
-use Rattle.rolls.specs.Refusing.{refusal}
+use Rattle.rolls.specs.declared.request.Plain.{Plain}
+use Rattle.rolls.specs.declared.import.ImportKind.{ImportKind}
+use Rattle.rolls.specs.Refusing.{refusal_of}
+use Rattle.rolls.specs.Importing.{import_refusal, rows_in, after_import, import_reply}
 use Rattle.rolls.specs.Stepping.{after_plain, plain_reply}
 use Rattle.rolls.specs.Closing.{MayClose, after_close, closed_reply, preview_reply}
 
--- what the office takes from elsewhere: which matchings of an instance a closing may take, and the text of an instance
+-- what the office takes from elsewhere: which matchings of an instance a closing may take, the text of an instance, and the plain
+-- requests of an import text, or why it is none
 pub record Layers : Type 1 where
   pub MayTake : Instance → List CodePair → Type 0
   pub round_text : Instance → List ℕ
+  pub records : ImportKind → List ℕ → Result (List Plain) Refusal
+
+-- the first refusal of a request
+abbrev pub refusal : Layers → State → Request → Option Refusal
+refusal on o (request.Plain p) = refusal_of o (request.Plain p)
+refusal on o request.Close = refusal_of o request.Close
+refusal on o request.Preview = refusal_of o request.Preview
+refusal on o request.RoundText = refusal_of o request.RoundText
+refusal on o (request.Import id kind bytes) = import_refusal o id kind bytes (on.records kind bytes)
 
 -- from the office o, a request that nothing refuses gets this answer and leaves the office n
 abbrev pub Makes : Layers → State → Request → Reply → State → Type 0
@@ -27,6 +40,8 @@ Makes on o request.Close a n =
 Makes on o request.Preview a n =
     (M : List CodePair) × MayClose o M × on.MayTake (round_instance o) M × (a ≡ preview_reply M o) × (n ≡ o)
 Makes on o request.RoundText a n = (a ≡ reply.Text (on.round_text (round_instance o))) × (n ≡ o)
+Makes on o (request.Import id kind bytes) a n =
+    (a ≡ import_reply id (rows_in (on.records kind bytes)) o) × (n ≡ after_import id kind bytes (rows_in (on.records kind bytes)) o)
 
 -- the first refusal that applies, in whose place, or in that of an answer, want of memory or a fault of the tables may stand
 abbrev pub MayRefuse : Option Refusal → Refusal → Type 0
@@ -34,8 +49,8 @@ MayRefuse first r = (r ≡ no.Memory) ⊎ ((r ≡ no.Storage) ⊎ (first ≡ Som
 
 -- one step: a refused request leaves the office as it was, and any other makes what it asks for
 abbrev pub Step : Layers → State → Request → Result Reply Refusal → State → Type 0
-Step on o q (Err r) n = (n ≡ o) × MayRefuse (refusal o q) r
-Step on o q (Ok a) n = (refusal o q ≡ None) × Makes on o q a n
+Step on o q (Err r) n = (n ≡ o) × MayRefuse (refusal on o q) r
+Step on o q (Ok a) n = (refusal on o q ≡ None) × Makes on o q a n
 
 -- a run: as many answers as requests, each step from the office that the one before left
 abbrev pub Run : Layers → State → List Request → List (Result Reply Refusal) → State → Type 0

@@ -8,19 +8,22 @@ use Rattle.rolls.specs.declared.entries.Student.{Student}
 use Rattle.rolls.specs.declared.rounds.Round.{Round}
 use Rattle.rolls.specs.declared.rounds.Listed.{Listed}
 use Rattle.rolls.specs.declared.rounds.Placement.{Placement}
+use Rattle.rolls.specs.declared.import.Import.{Import}
 use Rattle.rolls.specs.Roll.{Key, of_code, of_number, find}
 
--- the office: its three rolls by code, the rounds by number, each with its lists, and the placements by student
+-- the office: its three rolls by code, the rounds by number, each with its lists, the placements by student, and the imports
+-- that were made, by id
 pub record State : Type 0 where
   pub supervisors : List Supervisor
   pub projects : List Project
   pub students : List Student
   pub rounds : List Round
   pub placements : List Placement
+  pub imports : List Import
 
 -- the office that holds nothing
 abbrev pub empty : State
-empty = record { supervisors = []; projects = []; students = []; rounds = []; placements = [] }
+empty = record { supervisors = []; projects = []; students = []; rounds = []; placements = []; imports = [] }
 
 -- a supervisor's key
 abbrev pub supervisor_key : Supervisor → Key
@@ -46,6 +49,10 @@ list_key l = of_code l.student
 abbrev pub placement_key : Placement → Key
 placement_key p = of_code p.student
 
+-- the key of an import
+abbrev pub import_key : Import → Key
+import_key i = of_code i.id
+
 -- the supervisor with this code
 abbrev pub supervisor_of : State → List ℕ → Option Supervisor
 supervisor_of o code = find supervisor_key (of_code code) o.supervisors
@@ -66,6 +73,10 @@ round_of o n = find round_key (of_number n) o.rounds
 abbrev pub placement_of : State → List ℕ → Option Placement
 placement_of o student = find placement_key (of_code student) o.placements
 
+-- the import with this id
+abbrev pub import_of : State → List ℕ → Option Import
+import_of o id = find import_key (of_code id) o.imports
+
 -- whether a supervisor is on the roll
 abbrev pub has_supervisor : State → List ℕ → Bool
 has_supervisor o code = is_some (supervisor_of o code)
@@ -81,6 +92,14 @@ has_student o code = is_some (student_of o code)
 -- whether there is a round of this number
 abbrev pub has_round : State → ℕ → Bool
 has_round o n = is_some (round_of o n)
+
+-- whether an import was made under this id
+abbrev pub has_import : State → List ℕ → Bool
+has_import o id = is_some (import_of o id)
+
+-- how many rows the import of this id has
+abbrev pub kept_rows : State → List ℕ → Option ℕ
+kept_rows o id = option_map (λ i. i.rows) (import_of o id)
 
 -- whether a round placed the student
 abbrev pub is_placed : State → List ℕ → Bool

@@ -20,7 +20,7 @@ mod table;
 mod text;
 
 pub use entries::{Project, Student, Supervisor};
-pub use import::ImportKind;
+pub use import::{Bytes, Import, ImportKind};
 pub use laws::{rows_law, table_law};
 pub use refusal::Refusal;
 pub use request::{Done, Plain, Reply, Request};
@@ -31,3 +31,9 @@ pub use text::{Text, Texts};
 
 /// The most rounds of an office.
 pub const MOST_ROUNDS: u32 = 12;
+
+/// The most imports that an office keeps.
+pub const MOST_IMPORTS: usize = 200;
+
+/// The most bytes of an import text, and so the most rows of an import.
+pub const MOST_IMPORT_BYTES: usize = 65_536;

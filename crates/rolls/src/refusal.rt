@@ -61,6 +61,16 @@ pub enum Refusal {
     NoList,
     /// 26: no round has the number.
     UnknownRound,
+    /// 27: the id is that of a kept import of another kind or with other bytes.
+    ImportIdUsed,
+    /// 28: an import text does not begin with the header of its kind, or a quote has no partner.
+    Header,
+    /// 29: a record of an import is refused; `inner` is the number of its own refusal.
+    Row {
+        /// The record's number, from 1 after the header.
+        record: u32,
+        inner: u32,
+    },
     /// 30: the tables stand for no office; on opening only.
     Damaged,
 }
@@ -107,6 +117,9 @@ impl Refusal {
             Refusal::RepeatedProject => Told { number: 24, status: 400, name: "RepeatedProject" },
             Refusal::NoList => Told { number: 25, status: 404, name: "NoList" },
             Refusal::UnknownRound => Told { number: 26, status: 404, name: "UnknownRound" },
+            Refusal::ImportIdUsed => Told { number: 27, status: 409, name: "ImportIdUsed" },
+            Refusal::Header => Told { number: 28, status: 400, name: "Header" },
+            Refusal::Row { .. } => Told { number: 29, status: 409, name: "Row" },
             Refusal::Damaged => Told { number: 30, status: 503, name: "Damaged" },
         }
     }

@@ -3,6 +3,7 @@
 ghost use Rattle.std.specs.Prelude.{◌≡◌};
 ghost use Rattle.rolls.specs.Reads.{is_read};
 
+use crate::import::{Bytes, ImportKind};
 use crate::rounds::{Choices, Placement};
 use crate::row::Change;
 use crate::text::{Text, Texts};
@@ -93,6 +94,13 @@ pub enum Request {
     Preview,
     /// The instance of the open round, as a round text.
     RoundText,
+    /// Makes the plain requests of an import text's records, one after another, all of them or none, and keeps the import.
+    /// The same import once more changes nothing.
+    Import {
+        id: Text,
+        kind: ImportKind,
+        bytes: Bytes,
+    },
 }
 
 /// The answer to a request that was done.
@@ -145,6 +153,8 @@ pub enum Reply {
     },
     /// A text.
     Text(Text),
+    /// An import: how many rows it has.
+    Rows(u32),
 }
 
 /// What a request made: its answer, and what it changes in the tables.

@@ -1,5 +1,6 @@
 //! The rows of the tables, and changes of them.
 
+use crate::import::{Bytes, ImportKind};
 use crate::text::Text;
 
 /// A row of a table.
@@ -42,6 +43,13 @@ pub enum Row {
         project: Text,
         rank: u32,
     },
+    /// Of the table `import`.
+    Import {
+        id: Text,
+        kind: ImportKind,
+        bytes: Bytes,
+        rows: u32,
+    },
 }
 
 /// The key of a row, and its table.
@@ -59,6 +67,8 @@ pub enum RowKey {
     Choice(u32, Text, u32),
     /// A student's code in the table `placement`.
     Placement(Text),
+    /// An id in the table `import`.
+    Import(Text),
 }
 
 /// A change of the tables.

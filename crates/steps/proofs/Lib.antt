@@ -7,3 +7,4 @@ pub mod Changed
 pub mod Turning
 pub mod Turned
 pub mod OneMore
+pub mod Imported

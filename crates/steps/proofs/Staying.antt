@@ -12,10 +12,12 @@ use Rattle.rolls.specs.declared.entries.Student.{Student}
 use Rattle.rolls.specs.declared.rounds.Round.{Round}
 use Rattle.rolls.specs.declared.rounds.Listed.{Listed}
 use Rattle.rolls.specs.declared.rounds.Placement.{Placement}
+use Rattle.rolls.specs.declared.import.Import.{Import}
 use Rattle.rolls.specs.Roll.{Key, put, same_key, rises}
-use Rattle.rolls.specs.State.{State, supervisor_key, project_key, student_key, list_key, placement_key, project_of, has_supervisor, has_project, has_student, list_of, lists_of, choices_in, is_offered_by, placed_with_supervisor, placed_in_project, quota_with}
-use Rattle.rolls.specs.Fit.{IsFit, SupervisorFits, ProjectFits, StudentFits, ListFits, PlacementFits, are_numbered, only_last_open}
+use Rattle.rolls.specs.State.{State, supervisor_key, project_key, student_key, list_key, placement_key, import_key, project_of, has_supervisor, has_project, has_student, has_import, list_of, lists_of, choices_in, is_offered_by, placed_with_supervisor, placed_in_project, quota_with}
+use Rattle.rolls.specs.Fit.{IsFit, SupervisorFits, ProjectFits, StudentFits, ListFits, PlacementFits, ImportFits, are_numbered, only_last_open}
 use Rattle.rolls.specs.Refusing.{is_moved}
+use Rattle.rolls.specs.Importing.{with_import}
 use Rattle.rolls.proofs.Places.{rises-put}
 use Rattle.rolls.proofs.Finding.{find-put, length-put, all-put, all_weaker, same_code}
 use Rattle.rolls.proofs.Found.{holds_of_found}
@@ -53,6 +55,9 @@ fit_with_supervisor o s fit fits enough free = record {
   lists_fit = fit.lists_fit;
   placements_rise = fit.placements_rise;
   placements_fit = fit.placements_fit;
+  imports_rise = fit.imports_rise;
+  few_imports = fit.few_imports;
+  imports_fit = fit.imports_fit;
   projects_within = fit.projects_within;
   supervisors_within = λ c. number_still supervisor_key (λ (e : Supervisor). e.quota) (placed_with_supervisor o c) (0, c) s o.supervisors
       (λ same. subst (λ d. placed_with_supervisor o d ≤ s.quota) (ap (λ (k : Key). k.1) (sym same)) enough) (fit.supervisors_within c);
@@ -130,6 +135,9 @@ fit_with_project o p fit fits moved enough free = record {
   lists_fit = λ n. all_weaker (ListFits o n) (ListFits (with_project o p) n) (list_fits_still o p n) (lists_of o n) (fit.lists_fit n);
   placements_rise = fit.placements_rise;
   placements_fit = fit.placements_fit;
+  imports_rise = fit.imports_rise;
+  few_imports = fit.few_imports;
+  imports_fit = fit.imports_fit;
   projects_within = λ c. number_still project_key (λ (e : Project). e.quota) (placed_in_project o c) (0, c) p o.projects
       (λ same. subst (λ d. placed_in_project o d ≤ p.quota) (ap (λ (k : Key). k.1) (sym same)) enough) (fit.projects_within c);
   supervisors_within = λ s. subst (λ n. n ≤ quota_with o s) (sym (count_same (λ (q : Placement). is_offered_by (with_project o p) s q.project) (λ q. is_offered_by o s q.project) o.placements
@@ -171,6 +179,36 @@ fit_with_student o s fit fits free = record {
   lists_fit = λ n. all_weaker (ListFits o n) (ListFits (with_student o s) n) (known_list_still o s n) (lists_of o n) (fit.lists_fit n);
   placements_rise = fit.placements_rise;
   placements_fit = fit.placements_fit;
+  imports_rise = fit.imports_rise;
+  few_imports = fit.few_imports;
+  imports_fit = fit.imports_fit;
+  projects_within = fit.projects_within;
+  supervisors_within = fit.supervisors_within;
+}
+
+-- ---- an import is kept
+
+pub fit_with_import : (i : Import) (o : State) → IsFit o → ImportFits i → (not (has_import o i.id) && nat_le 200 (length o.imports)) ≡ false → IsFit (with_import i o)
+fit_with_import i o fit fits free = record {
+  supervisors_rise = fit.supervisors_rise;
+  projects_rise = fit.projects_rise;
+  students_rise = fit.students_rise;
+  few_supervisors = fit.few_supervisors;
+  few_projects = fit.few_projects;
+  few_students = fit.few_students;
+  supervisors_fit = fit.supervisors_fit;
+  projects_fit = fit.projects_fit;
+  students_fit = fit.students_fit;
+  numbered = fit.numbered;
+  few_rounds = fit.few_rounds;
+  last_open = fit.last_open;
+  lists_rise = fit.lists_rise;
+  lists_fit = fit.lists_fit;
+  placements_rise = fit.placements_rise;
+  placements_fit = fit.placements_fit;
+  imports_rise = rises-put import_key i o.imports fit.imports_rise;
+  few_imports = room 200 (has_import o i.id) (length o.imports) _ free fit.few_imports (length-put import_key i o.imports fit.imports_rise);
+  imports_fit = all-put import_key ImportFits i o.imports fits fit.imports_fit;
   projects_within = fit.projects_within;
   supervisors_within = fit.supervisors_within;
 }
@@ -206,6 +244,9 @@ fit_with_rounds o rounds placements fit step = record {
   lists_fit = step.lists_fit;
   placements_rise = step.placements_rise;
   placements_fit = step.placements_fit;
+  imports_rise = fit.imports_rise;
+  few_imports = fit.few_imports;
+  imports_fit = fit.imports_fit;
   projects_within = λ c. let less = step.counts_fall (λ p. bytes_eq c p.project) in let within = fit.projects_within c in omega (arith, less, within);
   supervisors_within = λ c. let less = step.counts_fall (λ p. is_offered_by o c p.project) in let within = fit.supervisors_within c in omega (arith, less, within);
 }

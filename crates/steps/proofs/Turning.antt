@@ -15,6 +15,7 @@ use Rattle.rolls.specs.declared.entries.Student.{Student}
 use Rattle.rolls.specs.declared.rounds.Round.{Round}
 use Rattle.rolls.specs.declared.rounds.Listed.{Listed}
 use Rattle.rolls.specs.declared.rounds.Placement.{Placement}
+use Rattle.rolls.specs.declared.import.Import.{Import}
 use Rattle.rolls.specs.declared.row.Row.{Row}
 use Rattle.rolls.specs.declared.row.Row.TheVariants as row
 use Rattle.rolls.specs.declared.row.RowKey.{RowKey}
@@ -22,10 +23,11 @@ use Rattle.rolls.specs.declared.row.RowKey.TheVariants as key
 use Rattle.rolls.specs.declared.row.Change.{Change}
 use Rattle.rolls.specs.declared.row.Change.TheVariants as change
 use Rattle.rolls.specs.Roll.{Key, find, has, put, same_key}
-use Rattle.rolls.specs.State.{State, supervisor_key, project_key, student_key, round_key, list_key, placement_key, lists_of, list_of, round_of, placement_of, last_round, is_open, choices_in}
+use Rattle.rolls.specs.State.{State, supervisor_key, project_key, student_key, round_key, list_key, placement_key, import_key, lists_of, list_of, round_of, placement_of, last_round, is_open, choices_in}
 use Rattle.rolls.specs.Fit.{IsFit, are_numbered}
-use Rattle.rolls.specs.Rows.{Turns, row_of, same_row, after_change, after_changes, supervisor_row, project_row, student_row, round_row, placement_row, choice_in}
+use Rattle.rolls.specs.Rows.{Turns, row_of, same_row, after_change, after_changes, supervisor_row, project_row, student_row, round_row, placement_row, import_row, choice_in}
 use Rattle.rolls.specs.Stepping.{after_opening, after_reopening}
+use Rattle.rolls.specs.Importing.{with_import}
 use Rattle.rolls.proofs.Finding.{find-put}
 use Rattle.rolls.proofs.LastRound.{last_changed, other_kept, reading_kept, reading_after_opening, some_round, round_number, same_lists, same_round, other_round}
 use Rattle.steps.specs.Changes.{list_changes, reopening_changes}
@@ -55,6 +57,7 @@ turns_supervisor o s (key.Student code) = refl
 turns_supervisor o s (key.Round n) = refl
 turns_supervisor o s (key.Choice n student place) = refl
 turns_supervisor o s (key.Placement student) = refl
+turns_supervisor o s (key.Import id) = refl
 
 pub turns_project : (o : State) (p : Project) → Turns (change.Put (project_row p) ∷ []) o (with_project o p)
 turns_project o p (key.Supervisor code) = refl
@@ -63,6 +66,7 @@ turns_project o p (key.Student code) = refl
 turns_project o p (key.Round n) = refl
 turns_project o p (key.Choice n student place) = refl
 turns_project o p (key.Placement student) = refl
+turns_project o p (key.Import id) = refl
 
 pub turns_student : (o : State) (s : Student) → Turns (change.Put (student_row s) ∷ []) o (with_student o s)
 turns_student o s (key.Supervisor code) = refl
@@ -71,6 +75,16 @@ turns_student o s (key.Student code) = turned student_key student_row s o.studen
 turns_student o s (key.Round n) = refl
 turns_student o s (key.Choice n student place) = refl
 turns_student o s (key.Placement student) = refl
+turns_student o s (key.Import id) = refl
+
+pub turns_import : (i : Import) (o : State) → Turns (change.Put (import_row i) ∷ []) o (with_import i o)
+turns_import i o (key.Supervisor code) = refl
+turns_import i o (key.Project code) = refl
+turns_import i o (key.Student code) = refl
+turns_import i o (key.Round n) = refl
+turns_import i o (key.Choice n student place) = refl
+turns_import i o (key.Placement student) = refl
+turns_import i o (key.Import id) = turned import_key import_row i o.imports (0, id) _ (code_test id i.id)
 
 -- ---- the next round
 
@@ -85,6 +99,7 @@ turns_opened o numbered (key.Student code) = refl
 turns_opened o numbered (key.Round n) = turned round_key round_row (record { number = last_round o + 1; is_open = true; lists = [] }) o.rounds (n, []) _ (round_test n (last_round o + 1))
 turns_opened o numbered (key.Choice n student place) = same_choice o (after_opening o) n student place (reading_after_opening o numbered (λ (r : Round). r.lists) [] refl n)
 turns_opened o numbered (key.Placement student) = refl
+turns_opened o numbered (key.Import id) = refl
 
 -- ---- a list of the last round
 
@@ -138,6 +153,7 @@ module _ (g : List Listed → List Listed) (student : List ℕ) (new : List (Lis
   turns_lists (key.Student code) = elsewhere (key.Student code) (λ p. refl)
   turns_lists (key.Round n) = elsewhere (key.Round n) (λ p. refl) ∙ same_round_row n
   turns_lists (key.Placement s) = elsewhere (key.Placement s) (λ p. refl)
+  turns_lists (key.Import id) = elsewhere (key.Import id) (λ p. refl)
   turns_lists (key.Choice n s place) = elim (cases_eq n (last_round o)) [
     | inl last ↦ subst (λ m. after_changes changes (row_of o) (key.Choice m s place) ≡ row_of (with_lists g o) (key.Choice m s place)) (sym last) (in_last s place)
     | inr other ↦
@@ -210,6 +226,7 @@ module _ (o : State) (fit : IsFit o) (some : 1 ≤ last_round o) where
   turns_reopened (key.Supervisor code) = beside (key.Supervisor code) (λ s. refl)
   turns_reopened (key.Project code) = beside (key.Project code) (λ s. refl)
   turns_reopened (key.Student code) = beside (key.Student code) (λ s. refl)
+  turns_reopened (key.Import id) = beside (key.Import id) (λ s. refl)
   turns_reopened (key.Round n) = beside (key.Round n) (λ s. refl) ∙ round_there n
   turns_reopened (key.Choice n s place) =
       beside (key.Choice n s place) (λ t. refl)

@@ -13,4 +13,4 @@ mod changes;
 mod laws;
 
 pub use changes::{kept_placements, list_changes, reopening_changes};
-pub use laws::{fit_law, turns_law};
+pub use laws::{fit_law, following_law, keeping_law, turns_law};

@@ -24,7 +24,7 @@ use Rattle.rolls.specs.declared.row.RowKey.{RowKey}
 use Rattle.rolls.specs.declared.row.RowKey.TheVariants as key
 use Rattle.rolls.specs.Rows.{key_of, same_row}
 use Rattle.tables.specs.declared.table.Table.{Table}
-use Rattle.tables.specs.declared.table.Table.TheVariants.{Edition, Supervisor, Project, Student, Round, Choice, Placement}
+use Rattle.tables.specs.declared.table.Table.TheVariants.{Edition, Supervisor, Project, Student, Round, Choice, Placement, Import}
 use Rattle.tables.specs.Table.{same_table}
 use Rattle.tables.proofs.Runs.{same_table_is, same_table_self}
 use Rattle.tables.proofs.Testing.{equal_int}
@@ -55,6 +55,7 @@ table_at_key (key.Student code) = Student
 table_at_key (key.Round number) = Round
 table_at_key (key.Choice round student place) = Choice
 table_at_key (key.Placement student) = Placement
+table_at_key (key.Import id) = Import
 
 -- the columns of a key
 abbrev pub key_columns : RowKey → Cells
@@ -64,6 +65,7 @@ key_columns (key.Student code) = Text code ∷ []
 key_columns (key.Round number) = Int (pos number) ∷ []
 key_columns (key.Choice round student place) = Int (pos round) ∷ Text student ∷ Int (pos place) ∷ []
 key_columns (key.Placement student) = Text student ∷ []
+key_columns (key.Import id) = Text id ∷ []
 
 -- a row has the table of its key
 pub same_tables : (r : Row) → table_at_key (key_of r) ≡ table_of r
@@ -73,6 +75,7 @@ same_tables (row.Student c l) = refl
 same_tables (row.Round n o) = refl
 same_tables (row.Choice n s k p) = refl
 same_tables (row.Placement s n p k) = refl
+same_tables (row.Import i w b n) = refl
 
 -- each key is of the table of a roll
 pub in_rolls : (k : RowKey) → IsRoll (table_at_key k)
@@ -83,6 +86,7 @@ in_rolls (key.Student code) = inr (inr (inl refl))
 in_rolls (key.Round number) = inr (inr (inr (inl refl)))
 in_rolls (key.Choice round student place) = inr (inr (inr (inr (inl refl))))
 in_rolls (key.Placement student) = inr (inr (inr (inr (inr (inl refl)))))
+in_rolls (key.Import id) = inr (inr (inr (inr (inr (inr (inl refl))))))
 
 are_once : List Table → Bool
 are_once [] = true
@@ -134,6 +138,7 @@ drops_own (key.Student code) (row.Student c l) h = ap (λ t. not (t && true)) (s
 drops_own (key.Round number) (row.Round n o) h = ap (λ t. not (t && true)) (sym (equal_number n number))
 drops_own (key.Choice round student place) (row.Choice n s k p) h = λ i. not (sym (equal_number n round) i && (sym (equal_text s student) i && (sym (equal_number k place) i && true)))
 drops_own (key.Placement student) (row.Placement s n p k) h = ap (λ t. not (t && true)) (sym (equal_text s student))
+drops_own (key.Import id) (row.Import i w b n) h = ap (λ t. not (t && true)) (sym (equal_text i id))
 drops_own _ _ h = absurd (cc)
 
 -- a row of another table has another key
@@ -144,6 +149,7 @@ other_key (key.Student code) (row.Student c l) apart = absurd (apart refl)
 other_key (key.Round number) (row.Round n o) apart = absurd (apart refl)
 other_key (key.Choice round student place) (row.Choice n s k p) apart = absurd (apart refl)
 other_key (key.Placement student) (row.Placement s n p k) apart = absurd (apart refl)
+other_key (key.Import id) (row.Import i w b n) apart = absurd (apart refl)
 other_key _ _ apart = refl
 
 -- the key of one table is that of no row of another

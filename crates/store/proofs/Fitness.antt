@@ -14,11 +14,11 @@ use Rattle.rolls.specs.declared.row.Row.TheVariants as row
 use Rattle.rolls.specs.declared.row.RowKey.{RowKey}
 use Rattle.rolls.specs.Roll.{Key, find}
 use Rattle.spa.proofs.Texts.{code_utf8, label_utf8}
-use Rattle.rolls.specs.State.{State, supervisor_of, project_of, student_of, round_of, placement_of, supervisor_key, project_key, student_key, list_key, placement_key, has_supervisor, has_project, has_student, last_round, lists_of, list_of, choices_in}
-use Rattle.rolls.specs.Fit.{IsFit, SupervisorFits, ProjectFits, StudentFits, ListFits, PlacementFits}
+use Rattle.rolls.specs.State.{State, supervisor_of, project_of, student_of, round_of, placement_of, import_of, supervisor_key, project_key, student_key, list_key, placement_key, import_key, has_supervisor, has_project, has_student, last_round, lists_of, list_of, choices_in}
+use Rattle.rolls.specs.Fit.{IsFit, SupervisorFits, ProjectFits, StudentFits, ListFits, PlacementFits, ImportFits}
 use Rattle.rolls.proofs.Found.{found_key, holds_of_found}
 use Rattle.rolls.proofs.LastRound.{round_within}
-use Rattle.rolls.specs.Rows.{key_of, same_row, row_of, supervisor_row, project_row, student_row, round_row, placement_row, choice_in}
+use Rattle.rolls.specs.Rows.{key_of, same_row, row_of, supervisor_row, project_row, student_row, round_row, placement_row, import_row, choice_in}
 use Rattle.rolls.specs.From.{row_in, are_apart}
 use Rattle.tables.specs.declared.table.Table.{Table}
 use Rattle.store.specs.Rows.{columns, is_in, columns_of, AreRowsAt}
@@ -148,6 +148,11 @@ typed_at o fit (row.Placement student round project rank) h =
     let fits = holds_of_found placement_key (PlacementFits o) (0, student) o.placements p fit.placements_fit it.1 in
     let stands = choice_stands o fit p.round p.student (p.rank - 1) p.project fits.listed in
     subst IsTyped it.2 (code_utf8 p.student stands.student, omega (arith, stands.round), code_utf8 p.project stands.project, omega (arith, stands.place, fits.rank))
+typed_at o fit (row.Import id kind bytes rows) h =
+    let it = mapped import_row (import_of o id) (row.Import id kind bytes rows) h in
+    let i = it.0 in
+    let fits = holds_of_found import_key ImportFits (0, id) o.imports i fit.imports_fit it.1 in
+    subst IsTyped it.2 (code_utf8 i.id fits.id, omega (arith, fits.rows))
 
 -- each row of a fit office has UTF-8 texts and a small quota
 pub is_typed : (o : State) (list : List Row) (r : Row) → IsFit o → AreRowsAt list (row_of o) → Has list r → IsTyped r

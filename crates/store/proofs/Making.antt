@@ -38,6 +38,7 @@ no_row (key.Student code) = refl
 no_row (key.Round number) = refl
 no_row (key.Choice round student place) = ap (option_map (row.Choice round student place)) (nothing_at place)
 no_row (key.Placement student) = refl
+no_row (key.Import id) = refl
 
 no_rows : AreRowsAt [] (row_of empty)
 no_rows = record { apart = refl; each = no_row }

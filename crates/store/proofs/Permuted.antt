@@ -14,8 +14,12 @@ use Rattle.rolls.specs.declared.row.Row.TheVariants as row
 use Rattle.rolls.specs.declared.row.RowKey.{RowKey}
 use Rattle.rolls.specs.Rows.{key_of, same_row}
 use Rattle.rolls.specs.From.{row_in, are_apart}
+use Rattle.std.specs.Str.{bytes_eq}
+use Rattle.rolls.specs.Kinds.{word_of}
+use Rattle.rolls.specs.declared.import.ImportKind.{ImportKind}
+use Rattle.rolls.specs.declared.import.ImportKind.TheVariants as kind
 use Rattle.tables.specs.declared.table.Table.{Table}
-use Rattle.tables.specs.declared.table.Table.TheVariants.{Supervisor, Project, Student, Round, Choice}
+use Rattle.tables.specs.declared.table.Table.TheVariants.{Supervisor, Project, Student, Round, Choice, Placement}
 use Rattle.store.specs.Rows.{IsRoll, columns, is_in, columns_of, rolls, table_of, AreRowsAt}
 use Rattle.tables.proofs.Runs.{same_table_is}
 use Rattle.store.proofs.Columns.{is_roll}
@@ -107,6 +111,18 @@ text_in (Real x) = []
 text_in (Text t) = t
 text_in (Blob b) = []
 
+blob_in : Value → List ℕ
+blob_in Null = []
+blob_in (Int n) = []
+blob_in (Real x) = []
+blob_in (Text t) = []
+blob_in (Blob b) = b
+
+-- the kind of this word
+kind_in : List ℕ → ImportKind
+kind_in word =
+    cond (bytes_eq word (word_of kind.Supervisors)) kind.Supervisors (cond (bytes_eq word (word_of kind.Projects)) kind.Projects (cond (bytes_eq word (word_of kind.Students)) kind.Students kind.Lists))
+
 natural : ℤ → ℕ
 natural (pos n) = n
 natural (negsuc n) = 0
@@ -125,10 +141,11 @@ row_from Project v = row.Project (text_in (column v 0)) (text_in (column v 1)) (
 row_from Student v = row.Student (text_in (column v 0)) (text_in (column v 1))
 row_from Round v = row.Round (number_in (column v 0)) (number_in (column v 1) == 1)
 row_from Choice v = row.Choice (number_in (column v 0)) (text_in (column v 1)) (number_in (column v 2)) (text_in (column v 3))
-row_from _ v = row.Placement (text_in (column v 0)) (number_in (column v 1)) (text_in (column v 2)) (number_in (column v 3))
+row_from Placement v = row.Placement (text_in (column v 0)) (number_in (column v 1)) (text_in (column v 2)) (number_in (column v 3))
+row_from _ v = row.Import (text_in (column v 0)) (kind_in (text_in (column v 1))) (blob_in (column v 2)) (number_in (column v 3))
 
 own_columns : (r : Row) → row_from (table_of r) (columns r) ≡ r
-unfolding row_from text_in number_in natural
+unfolding row_from text_in blob_in kind_in number_in natural
 own_columns (row.Supervisor c l n) = refl
 own_columns (row.Project c l s n) = refl
 own_columns (row.Student c l) = refl
@@ -136,6 +153,10 @@ own_columns (row.Round n true) = refl
 own_columns (row.Round n false) = refl
 own_columns (row.Choice n s k p) = refl
 own_columns (row.Placement s n p k) = refl
+own_columns (row.Import i kind.Supervisors b n) = refl
+own_columns (row.Import i kind.Projects b n) = refl
+own_columns (row.Import i kind.Students b n) = refl
+own_columns (row.Import i kind.Lists b n) = refl
 
 from_columns : (table : Table) (r : Row) → is_in table r ≡ true → row_from table (columns r) ≡ r
 from_columns table r h = subst (λ t. row_from t (columns r) ≡ r) (sym (same_table_is table (table_of r) h)) (own_columns r)
@@ -189,6 +210,7 @@ of_one (row.Student c l) = refl
 of_one (row.Round n o) = refl
 of_one (row.Choice n s k p) = refl
 of_one (row.Placement s n p k) = refl
+of_one (row.Import i w b n) = refl
 
 sorted : (rows : List Row) → IsPermutation rows (gathered rolls rows)
 unfolding gathered

@@ -25,6 +25,7 @@ IsTyped (row.Student code label) = IsUtf8 code × IsUtf8 label
 IsTyped (row.Round number is_open) = number < 2 ^ 32
 IsTyped (row.Choice round student place project) = (round < 2 ^ 32) × IsUtf8 student × (place < 2 ^ 32) × IsUtf8 project
 IsTyped (row.Placement student round project rank) = IsUtf8 student × (round < 2 ^ 32) × IsUtf8 project × (rank < 2 ^ 32)
+IsTyped (row.Import id kind bytes rows) = IsUtf8 id × (rows < 2 ^ 32)
 
 -- a row of the table, whose columns these are after its rowid
 abbrev pub IsRowWith : Table → Cells → Row → Type 0

@@ -1,19 +1,20 @@
 -- The rows of the tables as SQL has them.
 use Rattle.std.specs.Prelude.{◌≡◌, pos, cond, Bool, IsTrue, List, [], ◌∷◌, map, filter, Option}
-use Rattle.sqlite.specs.declared.types.Value.TheVariants.{Int, Text}
+use Rattle.sqlite.specs.declared.types.Value.TheVariants.{Int, Text, Blob}
 use Rattle.sqlite.specs.Order.{Row as Cells}
 use Rattle.sqlite_rules.specs.Lists.{Has}
 use Rattle.tables.specs.declared.table.Table.{Table}
-use Rattle.tables.specs.declared.table.Table.TheVariants.{Edition, Supervisor, Project, Student, Round, Choice, Placement}
+use Rattle.tables.specs.declared.table.Table.TheVariants.{Edition, Supervisor, Project, Student, Round, Choice, Placement, Import}
 use Rattle.tables.specs.Table.{same_table}
 use Rattle.rolls.specs.declared.row.Row.{Row}
 use Rattle.rolls.specs.declared.row.Row.TheVariants as row
 use Rattle.rolls.specs.declared.row.RowKey.{RowKey}
 use Rattle.rolls.specs.From.{are_apart, row_in}
+use Rattle.rolls.specs.Kinds.{word_of}
 
 -- the tables that hold rows of an office; each comes after those that it refers to
 abbrev pub rolls : List Table
-rolls = Supervisor ∷ Project ∷ Student ∷ Round ∷ Choice ∷ Placement ∷ []
+rolls = Supervisor ∷ Project ∷ Student ∷ Round ∷ Choice ∷ Placement ∷ Import ∷ []
 
 -- the table is one of those
 unfoldable pub IsRoll : Table → Type 0
@@ -31,6 +32,7 @@ table_of (row.Student code label) = Student
 table_of (row.Round number is_open) = Round
 table_of (row.Choice round student place project) = Choice
 table_of (row.Placement student round project rank) = Placement
+table_of (row.Import id kind bytes rows) = Import
 
 -- the columns of a row
 abbrev pub columns : Row → Cells
@@ -40,6 +42,7 @@ columns (row.Student code label) = Text code ∷ Text label ∷ []
 columns (row.Round number is_open) = Int (pos number) ∷ Int (pos (cond is_open 1 0)) ∷ []
 columns (row.Choice round student place project) = Int (pos round) ∷ Text student ∷ Int (pos place) ∷ Text project ∷ []
 columns (row.Placement student round project rank) = Text student ∷ Int (pos round) ∷ Text project ∷ Int (pos rank) ∷ []
+columns (row.Import id kind bytes rows) = Text id ∷ Text (word_of kind) ∷ Blob bytes ∷ Int (pos rows) ∷ []
 
 -- whether it is a row of this table
 abbrev pub is_in : Table → Row → Bool

@@ -3,7 +3,7 @@
 use tables::Table;
 
 /// Every table. Each is made after those that it refers to.
-pub const TABLES: [Table; 7] = [
+pub const TABLES: [Table; 8] = [
     Table::Edition,
     Table::Supervisor,
     Table::Project,
@@ -11,14 +11,16 @@ pub const TABLES: [Table; 7] = [
     Table::Round,
     Table::Choice,
     Table::Placement,
+    Table::Import,
 ];
 
 /// The tables that hold rows of an office.
-pub const ROLLS: [Table; 6] = [
+pub const ROLLS: [Table; 7] = [
     Table::Supervisor,
     Table::Project,
     Table::Student,
     Table::Round,
     Table::Choice,
     Table::Placement,
+    Table::Import,
 ];

@@ -1,14 +1,15 @@
 //! Rows as they are read.
 
-ghost use Rattle.std.specs.Prelude.{◌≡◌, ◌≢◌, ◌<◌, ◌^◌, ℕ, pos, Bool, cond, List, IsUtf8, IfOk, drop, length};
-ghost use Rattle.sqlite.specs.declared.types.Value.TheVariants.{Int, Text as Words};
+ghost use Rattle.std.specs.Prelude.{◌≡◌, ◌≢◌, ◌<◌, ◌^◌, ℕ, pos, Bool, IsTrue, false, cond, List, IsUtf8, IfOk, drop, length};
+ghost use Rattle.sqlite.specs.declared.types.Value.TheVariants.{Int, Blob, Text as Words};
 ghost use Rattle.sqlite.specs.Order.{Row as AnyCells, column};
 ghost use Rattle.sqlite_rules.specs.Lists.{Has};
-ghost use Rattle.tables.specs.declared.table.Table.TheVariants.{Supervisor, Project, Student, Round, Choice, Placement};
+ghost use Rattle.tables.specs.declared.table.Table.TheVariants.{Supervisor, Project, Student, Round, Choice, Placement, Import};
+ghost use Rattle.rolls.specs.Kinds.{word_of};
 ghost use Rattle.store.specs.Reading.{IsNoRow, IsRowWith, AreRowsOf};
 
 use crate::fault::StoreFault;
-use rolls::{Row, Text};
+use rolls::{Bytes, ImportKind, Row, Text};
 use sqlite::Row as Cells;
 use sqlite_value::value::ValueRef;
 use std::alloc::Global;
@@ -58,6 +59,55 @@ fn flag_at(cells: &Cells, at: usize) -> Result<bool, StoreFault>
         1 => Ok(true),
         _ => Err(StoreFault::Damaged),
     }
+}
+
+/// The bytes in a column.
+fn blob_at(alloc: Global, cells: &Cells, at: usize) -> Result<Bytes, StoreFault>
+    ensures blob { IfOk result (λ bytes. column cells.now at ≡ Blob bytes) }
+    ensures damaged { result ≡ Err StoreFault.Damaged → (bytes : List ℕ) → column cells.now at ≢ Blob bytes }
+{
+    let Ok(value) = cells.get_ref(at) else {
+        return Err(StoreFault::Storage);
+    };
+    let ValueRef::Blob(bytes) = value else {
+        return Err(StoreFault::Damaged);
+    };
+    let bytes = Vec::from_slice(alloc, bytes)?;
+    Ok(Bytes::new(alloc, bytes)?)
+}
+
+/// Whether these bytes are the word of a kind.
+fn names(bytes: &[u8], kind: ImportKind) -> bool
+    ensures right { IsTrue result → bytes.now ≡ word_of kind }
+    ensures wrong { result ≡ false → bytes.now ≢ word_of kind }
+{
+    bytes == kind.word().as_bytes()
+}
+
+/// The kind of an import in a column, where its word stands.
+fn kind_at(cells: &Cells, at: usize) -> Result<ImportKind, StoreFault>
+    ensures kind { IfOk result (λ kind. column cells.now at ≡ Words (word_of kind)) }
+    ensures damaged { result ≡ Err StoreFault.Damaged → (kind : ImportKind) → column cells.now at ≢ Words (word_of kind) }
+{
+    let Ok(value) = cells.get_ref(at) else {
+        return Err(StoreFault::Storage);
+    };
+    let ValueRef::Text(word) = value else {
+        return Err(StoreFault::Damaged);
+    };
+    if names(word, ImportKind::Supervisors) {
+        return Ok(ImportKind::Supervisors);
+    }
+    if names(word, ImportKind::Projects) {
+        return Ok(ImportKind::Projects);
+    }
+    if names(word, ImportKind::Students) {
+        return Ok(ImportKind::Students);
+    }
+    if names(word, ImportKind::Lists) {
+        return Ok(ImportKind::Lists);
+    }
+    Err(StoreFault::Damaged)
 }
 
 /// A row of `supervisor`.
@@ -139,6 +189,20 @@ fn placement_with(alloc: Global, cells: &Cells) -> Result<Row, StoreFault>
     })
 }
 
+/// A row of `import`.
+fn import_with(alloc: Global, cells: &Cells) -> Result<Row, StoreFault>
+    requires width { length cells.now ≡ 5 }
+    ensures row { IfOk result (IsRowWith Import cells.now) }
+    ensures damaged { result ≡ Err StoreFault.Damaged → IsNoRow Import (drop 1 cells.now) }
+{
+    Ok(Row::Import {
+        id: text_at(alloc, cells, 1)?,
+        kind: kind_at(cells, 2)?,
+        bytes: blob_at(alloc, cells, 3)?,
+        rows: number_at(cells, 4)?,
+    })
+}
+
 /// The row with these columns, which come after its rowid.
 fn row_with(alloc: Global, table: Table, cells: &Cells) -> Result<Row, StoreFault>
     ensures row { IfOk result (IsRowWith table cells.now) }
@@ -154,7 +218,8 @@ fn row_with(alloc: Global, table: Table, cells: &Cells) -> Result<Row, StoreFaul
         Table::Round => round_with(cells),
         Table::Choice => choice_with(alloc, cells),
         Table::Placement => placement_with(alloc, cells),
-        Table::Edition | Table::Import => Err(StoreFault::Storage),
+        Table::Import => import_with(alloc, cells),
+        Table::Edition => Err(StoreFault::Storage),
     }
 }
 

@@ -69,6 +69,16 @@ fn put_row<S: Alter>(tx: &mut Transaction<'_, S>, row: &Row) -> Result<(), Table
             Table::Placement,
             params![student.as_str(), *round, project.as_str(), *rank],
         ),
+        Row::Import {
+            id,
+            kind,
+            bytes,
+            rows,
+        } => put(
+            tx,
+            Table::Import,
+            params![id.as_str(), kind.word(), bytes.as_slice(), *rows],
+        ),
     }
 }
 
@@ -86,6 +96,7 @@ fn take_row<S: Alter>(tx: &mut Transaction<'_, S>, key: &RowKey) -> Result<(), T
             delete(tx, Table::Choice, params![*round, student.as_str(), *place])
         }
         RowKey::Placement(student) => delete(tx, Table::Placement, params![student.as_str()]),
+        RowKey::Import(id) => delete(tx, Table::Import, params![id.as_str()]),
     }
 }
 

@@ -392,7 +392,7 @@ fn is_answer(outcome: &Outcome, want: &str, end: End) -> bool {
 }
 
 /// Whether the bytes get this one answer, and this end.
-fn is_told(
+pub(crate) fn is_told(
     alloc: Global,
     desk: &mut Desk<MemStore>,
     bytes: &[u8],

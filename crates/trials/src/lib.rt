@@ -31,6 +31,8 @@ mod round_texts;
 #[cfg(test)]
 mod rounds;
 #[cfg(test)]
+mod sent_imports;
+#[cfg(test)]
 mod stores;
 #[cfg(test)]
 mod streams;

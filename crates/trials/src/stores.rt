@@ -129,7 +129,7 @@ fn saved_changes_are_read_back(rt: HostRuntime) -> Result<(), Fail> {
 
 /// Another table and those of an office, with nobody on its rolls.
 #[rattlefmt::skip]
-static TABLES: [&str; 9] = [
+static TABLES: [&str; 10] = [
     "CREATE TABLE other (a INTEGER);",
     "CREATE TABLE edition (id INTEGER NOT NULL PRIMARY KEY CHECK (id = 1), number INTEGER NOT NULL) STRICT;",
     "CREATE TABLE supervisor (code TEXT NOT NULL PRIMARY KEY, label TEXT NOT NULL, quota INTEGER NOT NULL) STRICT;",
@@ -138,6 +138,7 @@ static TABLES: [&str; 9] = [
     "CREATE TABLE round (number INTEGER NOT NULL PRIMARY KEY, open INTEGER NOT NULL) STRICT;",
     "CREATE TABLE choice (round INTEGER NOT NULL REFERENCES round (number), student TEXT NOT NULL REFERENCES student (code), place INTEGER NOT NULL, project TEXT NOT NULL REFERENCES project (code), PRIMARY KEY (round, student, place), UNIQUE (round, student, project)) STRICT;",
     "CREATE TABLE placement (student TEXT NOT NULL PRIMARY KEY REFERENCES student (code), round INTEGER NOT NULL REFERENCES round (number), project TEXT NOT NULL REFERENCES project (code), rank INTEGER NOT NULL) STRICT;",
+    "CREATE TABLE import (id TEXT NOT NULL PRIMARY KEY, kind TEXT NOT NULL, bytes BLOB NOT NULL, rows INTEGER NOT NULL) STRICT;",
     "INSERT INTO edition VALUES (1, 1);",
 ];
 
@@ -177,6 +178,17 @@ static OF_ROUNDS: [HandMade; 13] = [
     ("listed once placed",   "INSERT INTO round VALUES (1, 0), (2, 1); INSERT INTO choice VALUES (1, 'A', 1, 'P'), (2, 'A', 1, 'Q'); INSERT INTO placement VALUES ('A', 1, 'P', 1)", Err(StoreFault::Damaged)),
     ("a project is over",    "INSERT INTO round VALUES (1, 0); INSERT INTO choice VALUES (1, 'A', 1, 'P'), (1, 'B', 1, 'P'); INSERT INTO placement VALUES ('A', 1, 'P', 1), ('B', 1, 'P', 1)", Err(StoreFault::Damaged)),
     ("a supervisor is over", "UPDATE supervisor SET quota = 1; INSERT INTO round VALUES (1, 0); INSERT INTO choice VALUES (1, 'A', 1, 'Q'), (1, 'B', 1, 'Q'); INSERT INTO placement VALUES ('A', 1, 'Q', 1), ('B', 1, 'Q', 1)", Err(StoreFault::Damaged)),
+];
+
+/// The same of imports.
+#[rattlefmt::skip]
+static OF_IMPORTS: [HandMade; 6] = [
+    ("two imports",      "INSERT INTO import VALUES ('I1', 'students', x'410A', 65536), ('I2', 'lists', x'', 0)", Ok((0, 0, 0))),
+    ("an unknown kind",  "INSERT INTO import VALUES ('I1', 'rooms', x'', 0)", Err(StoreFault::Damaged)),
+    ("no code as id",    "INSERT INTO import VALUES ('-A', 'students', x'', 0)", Err(StoreFault::Damaged)),
+    ("too many rows",    "INSERT INTO import VALUES ('I1', 'students', x'', 65537)", Err(StoreFault::Damaged)),
+    ("rows below 0",     "INSERT INTO import VALUES ('I1', 'students', x'', -1)", Err(StoreFault::Damaged)),
+    ("imports missing",  "DROP TABLE import", Err(StoreFault::Damaged)),
 ];
 
 /// Executes each statement.
@@ -245,7 +257,8 @@ fn compare_hand_made(
 #[test]
 fn hand_made_tables_are_judged(rt: HostRuntime) -> Result<(), Fail> {
     compare_hand_made(rt.alloc(), &rt, "", HAND_MADE.as_slice())?;
-    compare_hand_made(rt.alloc(), &rt, ROLLS, OF_ROUNDS.as_slice())
+    compare_hand_made(rt.alloc(), &rt, ROLLS, OF_ROUNDS.as_slice())?;
+    compare_hand_made(rt.alloc(), &rt, "", OF_IMPORTS.as_slice())
 }
 
 /// The empty office's tables beside another table, which is as it was.

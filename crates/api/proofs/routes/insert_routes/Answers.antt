@@ -6,10 +6,11 @@ use Rattle.matchit.specs.Router.{RouteOf, Refused, nearest}
 use Rattle.matchit.specs.declared.error.InsertError.{InsertError}
 use Rattle.matchit.specs.declared.error.InsertError.TheVariants.{Conflict, InvalidParam, InvalidParamSegment, InvalidCatchAll, OutOfMemory}
 use Rattle.matchit.proofs.OnLiterals.{matchit_on_literals}
+use Rattle.rolls.specs.declared.import.ImportKind.TheVariants as kind
 use Rattle.api.specs.declared.routes.Methods.{Methods}
 use Rattle.api.specs.declared.routes.Call.TheVariants as call
 use Rattle.api.specs.declared.routes.Put.TheVariants as put
-use Rattle.api.specs.Routes.{all_routes, row, fixed, read, asked, entry, list, round}
+use Rattle.api.specs.Routes.{all_routes, row, fixed, read, asked, entry, list, round, import}
 use Rattle.api.proofs.routes.insert_routes.Goals as goal
 
 -- where no row conflicts with a pattern, it is refused for want of memory alone
@@ -47,6 +48,18 @@ rounds = row (codes "/rounds/") (codes "code") round
 
 abbrev preview : List ℕ × RouteOf Methods
 preview = fixed (codes "/preview") (read call.Preview)
+
+abbrev roundtext : List ℕ × RouteOf Methods
+roundtext = fixed (codes "/roundtext") (read call.RoundText)
+
+abbrev import_supervisors : List ℕ × RouteOf Methods
+import_supervisors = row (codes "/imports/supervisors/") (codes "code") (import kind.Supervisors)
+
+abbrev import_projects : List ℕ × RouteOf Methods
+import_projects = row (codes "/imports/projects/") (codes "code") (import kind.Projects)
+
+abbrev import_students : List ℕ × RouteOf Methods
+import_students = row (codes "/imports/students/") (codes "code") (import kind.Students)
 
 pub returns-in_err-insert-clause-memory : goal.returns-in_err-insert-clause-memory
 unfolding matchit_on_literals
@@ -108,6 +121,30 @@ returns-in_err-insert-10-clause-memory c =
     let p = err_from_is_err_and c.from_residual-in_err-insert-10.result c.from_residual-in_err-insert-10.ensures.1 in
     rw (p.1, p.2) (no_conflict (codes "/roundtext") (lists ∷ preview ∷ projects ∷ close ∷ reopen ∷ rounds ∷ opening ∷ students ∷ supervisors ∷ []) c.in_err-insert-10.field-0.0 refl (rw (c.in_ok-insert-9.ensures.1, c.in_ok-insert-8.ensures.1, c.in_ok-insert-7.ensures.1, c.in_ok-insert-6.ensures.1, c.in_ok-insert-5.ensures.1, c.in_ok-insert-4.ensures.1, c.in_ok-insert-3.ensures.1, c.in_ok-insert-2.ensures.1, c.in_ok-insert.ensures.1, c.requires) at c.in_err-insert-10.ensures.1))
 
+pub returns-in_err-insert-11-clause-memory : goal.returns-in_err-insert-11-clause-memory
+unfolding matchit_on_literals
+returns-in_err-insert-11-clause-memory c =
+    let p = err_from_is_err_and c.from_residual-in_err-insert-11.result c.from_residual-in_err-insert-11.ensures.1 in
+    rw (p.1, p.2) (no_conflict (codes "/imports/supervisors/" ++ 256 ∷ []) (lists ∷ preview ∷ projects ∷ close ∷ reopen ∷ rounds ∷ opening ∷ roundtext ∷ students ∷ supervisors ∷ []) c.in_err-insert-11.field-0.0 refl (rw (c.in_ok-insert-10.ensures.1, c.in_ok-insert-9.ensures.1, c.in_ok-insert-8.ensures.1, c.in_ok-insert-7.ensures.1, c.in_ok-insert-6.ensures.1, c.in_ok-insert-5.ensures.1, c.in_ok-insert-4.ensures.1, c.in_ok-insert-3.ensures.1, c.in_ok-insert-2.ensures.1, c.in_ok-insert.ensures.1, c.requires) at c.in_err-insert-11.ensures.1))
+
+pub returns-in_err-insert-12-clause-memory : goal.returns-in_err-insert-12-clause-memory
+unfolding matchit_on_literals
+returns-in_err-insert-12-clause-memory c =
+    let p = err_from_is_err_and c.from_residual-in_err-insert-12.result c.from_residual-in_err-insert-12.ensures.1 in
+    rw (p.1, p.2) (no_conflict (codes "/imports/projects/" ++ 256 ∷ []) (import_supervisors ∷ lists ∷ preview ∷ projects ∷ close ∷ reopen ∷ rounds ∷ opening ∷ roundtext ∷ students ∷ supervisors ∷ []) c.in_err-insert-12.field-0.0 refl (rw (c.in_ok-insert-11.ensures.1, c.in_ok-insert-10.ensures.1, c.in_ok-insert-9.ensures.1, c.in_ok-insert-8.ensures.1, c.in_ok-insert-7.ensures.1, c.in_ok-insert-6.ensures.1, c.in_ok-insert-5.ensures.1, c.in_ok-insert-4.ensures.1, c.in_ok-insert-3.ensures.1, c.in_ok-insert-2.ensures.1, c.in_ok-insert.ensures.1, c.requires) at c.in_err-insert-12.ensures.1))
+
+pub returns-in_err-insert-13-clause-memory : goal.returns-in_err-insert-13-clause-memory
+unfolding matchit_on_literals
+returns-in_err-insert-13-clause-memory c =
+    let p = err_from_is_err_and c.from_residual-in_err-insert-13.result c.from_residual-in_err-insert-13.ensures.1 in
+    rw (p.1, p.2) (no_conflict (codes "/imports/students/" ++ 256 ∷ []) (import_projects ∷ import_supervisors ∷ lists ∷ preview ∷ projects ∷ close ∷ reopen ∷ rounds ∷ opening ∷ roundtext ∷ students ∷ supervisors ∷ []) c.in_err-insert-13.field-0.0 refl (rw (c.in_ok-insert-12.ensures.1, c.in_ok-insert-11.ensures.1, c.in_ok-insert-10.ensures.1, c.in_ok-insert-9.ensures.1, c.in_ok-insert-8.ensures.1, c.in_ok-insert-7.ensures.1, c.in_ok-insert-6.ensures.1, c.in_ok-insert-5.ensures.1, c.in_ok-insert-4.ensures.1, c.in_ok-insert-3.ensures.1, c.in_ok-insert-2.ensures.1, c.in_ok-insert.ensures.1, c.requires) at c.in_err-insert-13.ensures.1))
+
+pub returns-in_err-insert-14-clause-memory : goal.returns-in_err-insert-14-clause-memory
+unfolding matchit_on_literals
+returns-in_err-insert-14-clause-memory c =
+    let p = err_from_is_err_and c.from_residual-in_err-insert-14.result c.from_residual-in_err-insert-14.ensures.1 in
+    rw (p.1, p.2) (no_conflict (codes "/imports/lists/" ++ 256 ∷ []) (import_projects ∷ import_students ∷ import_supervisors ∷ lists ∷ preview ∷ projects ∷ close ∷ reopen ∷ rounds ∷ opening ∷ roundtext ∷ students ∷ supervisors ∷ []) c.in_err-insert-14.field-0.0 refl (rw (c.in_ok-insert-13.ensures.1, c.in_ok-insert-12.ensures.1, c.in_ok-insert-11.ensures.1, c.in_ok-insert-10.ensures.1, c.in_ok-insert-9.ensures.1, c.in_ok-insert-8.ensures.1, c.in_ok-insert-7.ensures.1, c.in_ok-insert-6.ensures.1, c.in_ok-insert-5.ensures.1, c.in_ok-insert-4.ensures.1, c.in_ok-insert-3.ensures.1, c.in_ok-insert-2.ensures.1, c.in_ok-insert.ensures.1, c.requires) at c.in_err-insert-14.ensures.1))
+
 pub returns-clause-routes : goal.returns-clause-routes
 unfolding matchit_on_literals all_routes
-returns-clause-routes c = rw (c.read-2.ensures, c.in_ok-insert-9.ensures.1, c.read.ensures, c.in_ok-insert-8.ensures.1, c.round.ensures, c.in_ok-insert-7.ensures.1, c.asked-3.ensures, c.in_ok-insert-6.ensures.1, c.asked-2.ensures, c.in_ok-insert-5.ensures.1, c.asked.ensures, c.in_ok-insert-4.ensures.1, c.list.ensures, c.in_ok-insert-3.ensures.1, c.entry-3.ensures, c.in_ok-insert-2.ensures.1, c.entry-2.ensures, c.in_ok-insert.ensures.1, c.entry.ensures, c.requires) at c.in_ok-insert-10.ensures.1
+returns-clause-routes c = rw (c.import-4.ensures, c.in_ok-insert-13.ensures.1, c.import-3.ensures, c.in_ok-insert-12.ensures.1, c.import-2.ensures, c.in_ok-insert-11.ensures.1, c.import.ensures, c.in_ok-insert-10.ensures.1, c.read-2.ensures, c.in_ok-insert-9.ensures.1, c.read.ensures, c.in_ok-insert-8.ensures.1, c.round.ensures, c.in_ok-insert-7.ensures.1, c.asked-3.ensures, c.in_ok-insert-6.ensures.1, c.asked-2.ensures, c.in_ok-insert-5.ensures.1, c.asked.ensures, c.in_ok-insert-4.ensures.1, c.list.ensures, c.in_ok-insert-3.ensures.1, c.entry-3.ensures, c.in_ok-insert-2.ensures.1, c.entry-2.ensures, c.in_ok-insert.ensures.1, c.entry.ensures, c.requires) at c.in_ok-insert-14.ensures.1

@@ -31,3 +31,8 @@ pub returns-in-Placement-clause-step : goal.returns-in-Placement-clause-step
 returns-in-Placement-clause-step g c =
     rw c.in-Placement.is (part_as _ _ _ _ _ (λ _ p. stepped_as _ _ _ _ (hold_put _ _ _) p)
     (rw (c.params-to_sql-in-Placement.ensures, c.params-to_sql-in-Placement-2.ensures, c.params-to_sql-in-Placement-3.ensures, c.params-to_sql-in-Placement-4.ensures, c.as_str-in-Placement.ensures, c.as_str-in-Placement-2.ensures) at c.put-in-Placement.ensures.step))
+
+pub returns-in-Import-clause-step : goal.returns-in-Import-clause-step
+returns-in-Import-clause-step g c =
+    rw c.in-Import.is (part_as _ _ _ _ _ (λ _ p. stepped_as _ _ _ _ (hold_put _ _ _) p)
+    (rw (c.params-to_sql-in-Import.ensures, c.params-to_sql-in-Import-2.ensures, c.params-to_sql-in-Import-3.ensures, c.params-to_sql-in-Import-4.ensures, c.as_str-in-Import.ensures, c.word.ensures, c.as_slice.ensures) at c.put-in-Import.ensures.step))

@@ -21,3 +21,6 @@ returns-in-Choice-clause-step g c =
 
 pub returns-in-Placement-clause-step : goal.returns-in-Placement-clause-step
 returns-in-Placement-clause-step g c = rw c.in-Placement.is (part_as _ _ _ _ _ (λ _ p. stepped_as _ _ _ _ (hold_take _ _ _) p) (rw (c.params-to_sql-in-Placement.ensures, c.as_str-in-Placement.ensures) at c.delete-in-Placement.ensures.step))
+
+pub returns-in-Import-clause-step : goal.returns-in-Import-clause-step
+returns-in-Import-clause-step g c = rw c.in-Import.is (part_as _ _ _ _ _ (λ _ p. stepped_as _ _ _ _ (hold_take _ _ _) p) (rw (c.params-to_sql-in-Import.ensures, c.as_str-in-Import.ensures) at c.delete-in-Import.ensures.step))

@@ -8,9 +8,9 @@ use Rattle.rolls.specs.declared.refusal.Refusal.{Refusal}
 use Rattle.rolls.specs.declared.request.Request.{Request}
 use Rattle.rolls.specs.declared.request.Request.TheVariants as request
 use Rattle.rolls.specs.State.{State}
-use Rattle.rolls.specs.Run.{Makes}
+use Rattle.rolls.specs.Run.{Makes, refusal}
 use Rattle.allotment.specs.Layers.{layers}
-use Rattle.rolls.specs.Refusing.{refusal}
+use Rattle.rolls.specs.Refusing.{refusal_of}
 use Rattle.desk.proofs.desk.Desk.ask.Goals as goal
 
 -- the refusal that was found is the one that is due
@@ -19,8 +19,8 @@ due found r e = subst (λ (o : Option Refusal). IfSome o (λ (s : Refusal). ◌�
 
 pub returns-in-Some-clause-named : goal.returns-in-Some-clause-named
 returns-in-Some-clause-named g c =
-    due (refusal c.args.self.now.office c.args.request) c.in-Some.refusal
-    (sym (c.refusal_of.ensures.refusal ∙ ap (λ k. refusal k.office c.args.request) c.self.view_is) ∙ c.in-Some.is)
+    due (refusal_of c.args.self.now.office c.args.request) c.in-Some.refusal
+    (sym (c.refusal_of.ensures.refusal ∙ ap (λ k. refusal_of k.office c.args.request) c.self.view_is) ∙ c.in-Some.is)
 
 pub read-requires : goal.read-requires
 read-requires g c = record { read = sym c.if-is_read.ensures.read; allowed = search rules }
@@ -41,7 +41,8 @@ pub returns-in_ok-preview-in-Preview-clause-step : goal.returns-in_ok-preview-in
 returns-in_ok-preview-in-Preview-clause-step g c =
     let o : State = c.args.self.now.office in
     let answer = c.in_ok-preview-in-Preview.field-0 in
-    let none : refusal o c.args.request ≡ None = search rules in
+    let judged : refusal_of o c.args.request ≡ None = search rules in
+    let none : refusal layers o c.args.request ≡ None = subst (λ (q : Request). refusal layers o q ≡ None) (sym c.in-Preview.is) (subst (λ (q : Request). refusal_of o q ≡ None) c.in-Preview.is judged) in
     (none, subst (λ (q : Request). Makes layers o q answer o) (sym c.in-Preview.is) (subst (λ (x : State). Makes layers x request.Preview answer x) (ap (λ k. k.office) c.self.view_is) c.in_ok-preview-in-Preview.ensures.made))
 
 pub returns-in-Close-clause-crash : goal.returns-in-Close-clause-crash

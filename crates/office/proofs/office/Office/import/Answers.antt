@@ -1,0 +1,32 @@
+use Rattle.std.proofs.Common.{rules, ◌≡◌, ℕ, List, None, Some, Ok, Err, inl, inr, sym, ap, subst, ◌∙◌, refl, ◌⊎◌}
+use Rattle.rolls.specs.State.{State}
+use Rattle.rolls.specs.State.{kept_rows}
+use Rattle.rolls.specs.Refusing.{first, import_tests}
+use Rattle.rolls.specs.Importing.{rows_refusal}
+use Rattle.rolls.specs.Answers.{Imports}
+use Rattle.office.proofs.Importing.{kept_answered, rows_decide}
+use Rattle.office.proofs.office.Office.import.Goals as goal
+
+pub returns-in-Some-kept_rows : goal.returns-in-Some-kept_rows
+returns-in-Some-kept_rows c =
+    record { step = kept_answered c.args.id c.args.kind c.args.bytes c.args.rows.items c.args.self.now (search rules) c.in-Some-kept_rows.rows (search rules) c.answered.result c.answered.ensures.reply c.answered.ensures.changes }
+
+pub returns-in-Ok : goal.returns-in-Ok
+returns-in-Ok c = record {
+  step = subst (λ (new : State). Imports c.args.id c.args.kind c.args.bytes c.args.rows.items c.args.self.now new (Ok c.in-Ok.done)) (sym c.swap.ensures.x_after)
+      (subst (λ (old : State). Imports c.args.id c.args.kind c.args.bytes c.args.rows.items old c.import_new.new.self (Ok c.in-Ok.done)) c.in_ok-next.ensures.same c.in-Ok.ensures.ok);
+}
+
+pub returns : goal.returns
+returns c =
+    let passed : first (import_tests c.args.self.now c.args.id c.args.kind c.args.bytes) ≡ None = search rules in
+    let free : kept_rows c.args.self.now c.args.id ≡ None = search rules in
+    record {
+      step = record {
+        reason = elim c.in-Err.ensures.err [
+          | inl memory ↦ inl memory
+          | inr refused ↦ inr (rows_decide c.args.id c.args.kind c.args.bytes c.args.rows.items c.args.self.now passed free ∙ subst (λ (old : State). rows_refusal 1 old c.args.rows.items ≡ Some c.in-Err.refusal) c.in_ok-next.ensures.same refused)
+        ];
+        same = refl;
+      };
+    }

@@ -1,0 +1,13 @@
+-- Plain requests that were made one after another.
+use Rattle.std.specs.Prelude.{◌≡◌, List, None}
+use Rattle.rolls.specs.declared.request.Plain.{Plain}
+use Rattle.rolls.specs.declared.row.Change.{Change}
+use Rattle.rolls.specs.State.{State}
+use Rattle.rolls.specs.Rows.{Turns}
+use Rattle.rolls.specs.Importing.{rows_refusal, after_rows}
+
+-- none of them was refused, and these changes turn the rows
+pub record AreMade (rows : List Plain) (old new : State) (changes : List Change) : Type 0 where
+  pub allowed : rows_refusal 1 old rows ≡ None
+  pub after : new ≡ after_rows rows old
+  pub turns : Turns changes old new
