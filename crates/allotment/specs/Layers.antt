@@ -9,6 +9,7 @@ use Rattle.rolls.specs.declared.refusal.Refusal.{Refusal}
 use Rattle.rolls.specs.declared.refusal.Refusal.TheVariants as no
 use Rattle.rolls.specs.declared.request.Plain.{Plain}
 use Rattle.rolls.specs.Run.{Layers}
+use Rattle.reports.specs.Texts.{report_text}
 use Rattle.imports.specs.declared.fault.ImportFault.{ImportFault}
 use Rattle.imports.specs.declared.fault.ImportFault.TheVariants.{Memory, Header, Fields}
 use Rattle.imports.specs.Requests.{requests_of}
@@ -34,11 +35,12 @@ abbrev pub as_read : Result (List Plain) ImportFault → Result (List Plain) Ref
 as_read (Ok rows) = Ok rows
 as_read (Err fault) = Err (refused_as fault)
 
--- a closing takes a greedy maximum matching of the round's instance, the text of an instance is its round text, and the requests of
--- an import are those of the records that `csv` reads from its text
+-- a closing takes a greedy maximum matching of the round's instance, the text of an instance is its round text, a report is its text,
+-- and the requests of an import are those of the records that `csv` reads from its text
 abbrev pub layers : Layers
 layers = record {
   MayTake = IsGreedyMaximumByCodes;
   round_text = λ l. round_text (alone l);
+  report = report_text;
   records = λ kind bytes. as_read (requests_of kind bytes);
 }

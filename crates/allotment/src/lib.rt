@@ -1,8 +1,8 @@
-//! What the office takes from the layers beside it: a matching for the open round's closing and preview, its round text, and the
-//! records of an import text.
+//! What the office takes from the layers beside it: a matching for the open round's closing and preview, its round text, the text
+//! of a report, and the records of an import text.
 //!
 //! `office` takes any matching of the round's instance, and any requests as an import's; `solver` finds a greedy maximum
-//! matching, and `imports` reads a text. Here they meet. Nothing here holds an office or touches a table: `desk` does.
+//! matching, `reports` writes reports, and `imports` reads a text. Here they meet. Nothing here holds an office or touches a table: `desk` does.
 //!
 //! Promised: each function makes exactly the step of its request, or refuses it as the definition does; out of memory the
 //! office is as before.
@@ -20,7 +20,7 @@ use closing::{places_law, preview_reply};
 use imports::{ImportFault, read_import};
 use intake::write_round;
 use office::Office;
-use rolls::{Bytes, Done, ImportKind, Refusal, Reply, Text};
+use rolls::{Bytes, Done, ImportKind, Refusal, Reply, ReportKind, Text};
 use solver::solve;
 use std::alloc::{AllocError, Global};
 
@@ -60,6 +60,21 @@ pub fn round_text(alloc: Global, office: &Office) -> Result<Reply, AllocError>
     instance.fit();
     let text = write_round(alloc, &instance, None)?;
     Ok(Reply::Text(Text::of(alloc, text.as_str())?))
+}
+
+/// A report of a round.
+pub fn report(
+    alloc: Global,
+    office: &Office,
+    kind: ReportKind,
+    round: u32,
+) -> Result<Reply, Refusal>
+    requires known { refusal_of office.now (request.Report kind round) ≡ None }
+    ensures made { IfOk result (λ reply. Makes layers office.now (request.Report kind round) reply office.now) }
+    ensures refused { IfErr result (λ r. r ≡ Refusal.Memory) }
+{
+    let told = reports::report(alloc, office, kind, round)?;
+    Ok(Reply::Text(Text::of(alloc, told.as_str())?))
 }
 
 /// The number by which a record with another number of fields is refused: that of `Members`.

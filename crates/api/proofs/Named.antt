@@ -1,21 +1,23 @@
 -- A path that is named finds its route, and what a path finds names it.
-use Rattle.std.proofs.Common.{MatchOption, ◌≡◌, ◌<◌, inl, inr, ℕ, ◌+◌, ◌-◌, ◌==◌, Bool, true, false, cond, ◌&&◌, ltb, leb, suc, ◌≤◌, List, [], ◌∷◌, ◌++◌, length, take, drop, get_or, Option, Some, None, option_map, unwrap_or, if◌then◌else◌, refl, sym, ap, ◌∙◌, subst, arith, append-nil, codes}
+use Rattle.std.proofs.Common.{MatchOption, ◌≡◌, ◌<◌, inl, inr, ℕ, ◌+◌, ◌-◌, ◌==◌, Bool, true, false, cond, ◌&&◌, ltb, leb, suc, ◌≤◌, List, [], ◌∷◌, ◌++◌, length, map, take, drop, get_or, Option, Some, None, option_map, unwrap_or, if◌then◌else◌, refl, sym, ap, ◌∙◌, subst, arith, append-nil, codes}
 use Rattle.std.specs.Str.{IsUtf8}
 use borrow.Author.Tests.{ltb-true, lt-ltb, le-ltb, le-leb, ne_eqb}
 use Rattle.std.proofs.Math.Seq.{drop-append_seam}
+use Rattle.std.proofs.Math.ListN.{get_or-append}
 use Rattle.std.proofs.lemmas.Str.{IsUtf8-drop, IsCharBoundary-after_ascii}
 use Rattle.std.proofs.lemmas.List.{take_all, length-append}
-use Rattle.matchit.specs.Seek.{first, segment}
+use Rattle.matchit.specs.Seek.{first, segment, own}
 use Rattle.matchit.specs.Rows.{RowsOf}
 use Rattle.matchit.specs.Router.{RouteOf}
 use Rattle.matchit.specs.Params.{walk, wild_from, wild_stop, next_at, part_of, named, AllText}
 use Rattle.rolls.specs.declared.import.ImportKind.TheVariants as kind
+use Rattle.rolls.specs.declared.report.ReportKind.TheVariants as of
 use Rattle.api.specs.declared.routes.Methods.{Methods}
 use Rattle.api.specs.declared.routes.Segments.{Segments}
-use Rattle.api.specs.declared.routes.Segments.TheVariants.{Any}
+use Rattle.api.specs.declared.routes.Segments.TheVariants.{Any, Numbers}
 use Rattle.api.specs.declared.routes.Call.TheVariants as call
 use Rattle.api.specs.declared.routes.Put.TheVariants as put
-use Rattle.api.specs.Routes.{is_segment, row, fixed, read, asked, entry, list, round, import, fits, all_routes, fill, AreSegments, AllFit, HasRow, Names, NamesBy, IsNowhere, first_of}
+use Rattle.api.specs.Routes.{is_segment, row, fixed, read, asked, entry, list, numbered, import, fits, all_routes, fill, AreSegments, AllFit, HasRow, Names, NamesBy, IsNowhere, first_of}
 use Rattle.api.proofs.Found.{steps, found_along, ends_here, param_leaf, number_leaf}
 use Rattle.api.proofs.Sound.{both, makes, AllPlain, plain_all}
 
@@ -142,186 +144,113 @@ pub record Read (path : List ℕ) (route : RouteOf Methods) (values : List (List
   pub unfit : AllFit route.value.segments values → fits route.value.segments (code_in route path) ≡ true
   pub at : AllFit route.value.segments values → first all_routes path ≡ Some route
 
--- a row without a parameter finds its path
-record Lies (front : List ℕ) (methods : Methods) : Type 0 where
-  pub literal : is_literal front ≡ true
-  pub any : methods.segments ≡ Any
-  pub at : first all_routes front ≡ Some (fixed front methods).1
+-- a row of the router reads each path that its pattern makes
+abbrev Stands : List ℕ × RouteOf Methods → Type 0
+Stands r = (path : List ℕ) (values : List (List ℕ)) → fill r.0 values ≡ Some path → AreSegments values → Read path r.1 values
 
-lies_read : (front : List ℕ) (methods : Methods) → Lies front methods → (path : List ℕ) (pattern : List ℕ) (values : List (List ℕ))
-    → pattern ≡ front → fill pattern values ≡ Some path → Read path (fixed front methods).1 values
-lies_read front methods lies path pattern values is filled =
-    let u = unfilled front values path lies.literal (subst (λ p. fill p values ≡ Some path) is filled) in
-    record {
-      one = u.0;
-      code = sym (ap first_of u.0);
-      texts = λ utf8. tt;
-      fit = λ f. subst (AllFit methods.segments) (sym u.0) tt;
-      unfit = λ f. ap (λ (s : Segments). fits s []) lies.any;
-      at = λ f. ap (first all_routes) u.1 ∙ lies.at;
-    }
+-- a row that does
+abbrev Standing : Type 0
+Standing = (r : List ℕ × RouteOf Methods) × Stands r
 
--- a row with a parameter finds its path, and its path what it names
-record Stands (front : List ℕ) (methods : Methods) : Type 0 where
-  pub literal : is_literal front ≡ true
-  pub leaf : (text : List ℕ) → is_segment text ≡ true → fits methods.segments text ≡ true → first (steps front all_routes) text ≡ Some (row front (codes "code") methods).1
-  pub label : part_of (row front (codes "code") methods).1.text (length front + 1) (length front + 1 + 4) ≡ codes "code"
-  pub utf8 : (text : List ℕ) → IsUtf8 (front ++ text) → IsUtf8 text
+-- a row without a parameter does: what goes on with its pattern ends there
+unfoldable lies : (front : List ℕ) (methods : Methods) → is_literal front ≡ true → methods.segments ≡ Any → own (steps front all_routes) ≡ Some (fixed front methods).1 → Standing
+lies front methods literal any here = (
+  fixed front methods,
+  λ path values filled segments.
+      let k = (fixed front methods).1 in
+      let u = unfilled front values path literal filled in
+      let at : first all_routes front ≡ Some k = ap (first all_routes) (sym (append-nil front)) ∙ found_along front all_routes [] k (ends_here k (steps front all_routes) here) in
+      record {
+        one = u.0;
+        code = sym (ap first_of u.0);
+        texts = λ utf8. tt;
+        fit = λ f. subst (AllFit methods.segments) (sym u.0) tt;
+        unfit = λ f. ap (λ (s : Segments). fits s []) any;
+        at = λ f. ap (first all_routes) u.1 ∙ at;
+      },
+)
 
-stands_read : (front : List ℕ) (methods : Methods) → Stands front methods → (path : List ℕ) (pattern : List ℕ) (values : List (List ℕ))
-    → pattern ≡ front ++ 256 ∷ [] → fill pattern values ≡ Some path → AreSegments values → Read path (row front (codes "code") methods).1 values
+-- what is behind a byte of ASCII in a text is a text
+text_behind : (front text : List ℕ) (n : ℕ) → length front ≡ n + 1 → get_or front n 0 ≡ 47 → IsUtf8 (front ++ text) → IsUtf8 text
+text_behind front text n size slash u =
+    let inside : n < length front = omega (arith, size) in
+    let at : get_or (front ++ text) n 0 ≡ 47 = get_or-append front text 0 n inside ∙ slash in
+    let within : n < length (front ++ text) = simp length-append (omega (arith, inside)) in
+    subst IsUtf8 (ap (λ k. drop k (front ++ text)) (sym size) ∙ drop-append_seam front text)
+    (IsUtf8-drop (front ++ text) (n + 1) u (IsCharBoundary-after_ascii (front ++ text) n u within (omega (arith, at))))
+
+-- a row with a parameter does, where each segment that fits is found behind its front
+unfoldable stands : (front : List ℕ) (n : ℕ) (methods : Methods) → is_literal front ≡ true → length front ≡ n + 1 → get_or front n 0 ≡ 47
+    → part_of (row front (codes "code") methods).1.text (length front + 1) (length front + 1 + 4) ≡ codes "code"
+    → ((text : List ℕ) → is_segment text ≡ true → fits methods.segments text ≡ true → first (steps front all_routes) text ≡ Some (row front (codes "code") methods).1)
+    → Standing
 unfolding lib.Utf8.encode
-stands_read front methods stands path pattern values is filled segments =
-    let b = behind front values path stands.literal (subst (λ p. fill p values ≡ Some path) is filled) in
+stands front n methods literal size slash label leaf = (
+  row front (codes "code") methods,
+  λ path values filled segments.
+      let b = behind front values path literal filled in
+      let r = (row front (codes "code") methods).1 in
+      let walked : walk r.pattern r.text path r.names 0 0 ≡ (codes "code", b.text) ∷ []
+      = subst (λ p. walk r.pattern r.text p r.names 0 0 ≡ (codes "code", b.text) ∷ []) (sym b.whole)
+      (walk_behind front r.text b.text (length front + 1) (length front + 1 + 4) literal ∙ ap (λ (t : List ℕ). (t, b.text) ∷ []) label) in
+      let code : code_in r path ≡ b.text = ap (λ (w : List (List ℕ × List ℕ)). unwrap_or (named (codes "code") w) []) walked in
+      record {
+        one = b.one ∙ ap (λ (t : List ℕ). t ∷ []) (sym code);
+        code = code ∙ sym (ap first_of b.one);
+        texts = λ utf8. subst AllText (sym walked) ((codes "code", (refl, refl)), text_behind front b.text n size slash (subst IsUtf8 b.whole utf8), tt);
+        fit = λ f. subst (AllFit methods.segments) (sym b.one) (sym (ap (fits methods.segments) code) ∙ f, tt);
+        unfit = λ f. ap (fits methods.segments) code ∙ (subst (AllFit methods.segments) b.one f).0;
+        at = λ f. ap (first all_routes) b.whole ∙ found_along front all_routes b.text r (leaf b.text (subst AreSegments b.one segments).0 (subst (AllFit methods.segments) b.one f).0);
+      },
+)
+
+-- where no other row begins so, each segment is found
+unfoldable alone : (front : List ℕ) (n : ℕ) (methods : Methods) → is_literal front ≡ true → length front ≡ n + 1 → get_or front n 0 ≡ 47
+    → part_of (row front (codes "code") methods).1.text (length front + 1) (length front + 1 + 4) ≡ codes "code"
+    → steps front all_routes ≡ (256 ∷ [], (row front (codes "code") methods).1) ∷ [] → Standing
+alone front n methods literal size slash label only =
     let r = (row front (codes "code") methods).1 in
-    let walked : walk r.pattern r.text path r.names 0 0 ≡ (codes "code", b.text) ∷ []
-    = subst (λ p. walk r.pattern r.text p r.names 0 0 ≡ (codes "code", b.text) ∷ []) (sym b.whole)
-    (walk_behind front r.text b.text (length front + 1) (length front + 1 + 4) stands.literal ∙ ap (λ (t : List ℕ). (t, b.text) ∷ []) stands.label) in
-    let code : code_in r path ≡ b.text = ap (λ (w : List (List ℕ × List ℕ)). unwrap_or (named (codes "code") w) []) walked in
-    record {
-      one = b.one ∙ ap (λ (t : List ℕ). t ∷ []) (sym code);
-      code = code ∙ sym (ap first_of b.one);
-      texts = λ utf8. subst AllText (sym walked) ((codes "code", (refl, refl)), stands.utf8 b.text (subst IsUtf8 b.whole utf8), tt);
-      fit = λ f. subst (AllFit methods.segments) (sym b.one) (sym (ap (fits methods.segments) code) ∙ f, tt);
-      unfit = λ f. ap (fits methods.segments) code ∙ (subst (AllFit methods.segments) b.one f).0;
-      at = λ f. ap (first all_routes) b.whole ∙ found_along front all_routes b.text r (stands.leaf b.text (subst AreSegments b.one segments).0 (subst (AllFit methods.segments) b.one f).0);
-    }
+    stands front n methods literal size slash label (λ text segment fit. ap (λ (rows : RowsOf (RouteOf Methods)). first rows text) only ∙ param_leaf r text segment)
 
--- a row of the router is one of both, with its front and its methods
-record Standing (pattern : List ℕ) (route : RouteOf Methods) : Type 0 where
-  pub read : (path : List ℕ) (values : List (List ℕ)) → fill pattern values ≡ Some path → AreSegments values → Read path route values
-
-with_parameter : (front : List ℕ) (methods : Methods) → Stands front methods → (pattern : List ℕ) (route : RouteOf Methods)
-    → (pattern ≡ front ++ 256 ∷ []) × (route ≡ (row front (codes "code") methods).1) → Standing pattern route
-with_parameter front methods stands pattern route is = record {
-  read = λ path values filled segments. subst (λ (r : RouteOf Methods). Read path r values) (sym is.1) (stands_read front methods stands path pattern values is.0 filled segments);
-}
-
-without : (front : List ℕ) (methods : Methods) → Lies front methods → (pattern : List ℕ) (route : RouteOf Methods)
-    → (pattern ≡ front) × (route ≡ (fixed front methods).1) → Standing pattern route
-without front methods lies pattern route is = record {
-  read = λ path values filled segments. subst (λ (r : RouteOf Methods). Read path r values) (sym is.1) (lies_read front methods lies path pattern values is.0 filled);
-}
-
-lists : Stands (codes "/lists/") (list)
+-- a route a line
+unfoldable all_standing : List Standing
 unfolding all_routes is_literal
-lists = record {
-  literal = refl;
-  leaf = λ text segment fit. param_leaf (row (codes "/lists/") (codes "code") (list)).1 text segment;
-  label = refl;
-  utf8 = λ text u. IsUtf8-drop (codes "/lists/" ++ text) 7 u (IsCharBoundary-after_ascii (codes "/lists/" ++ text) 6 u (omega arith) (omega arith));
-}
+all_standing =
+    alone (codes "/imports/lists/") 14 (import kind.Lists) refl refl refl refl refl
+    ∷ alone (codes "/imports/projects/") 17 (import kind.Projects) refl refl refl refl refl
+    ∷ alone (codes "/imports/students/") 17 (import kind.Students) refl refl refl refl refl
+    ∷ alone (codes "/imports/supervisors/") 20 (import kind.Supervisors) refl refl refl refl refl
+    ∷ alone (codes "/lists/") 6 list refl refl refl refl refl
+    ∷ lies (codes "/preview") (read call.Preview) refl refl refl
+    ∷ alone (codes "/projects/") 9 (entry put.Project call.GetProject) refl refl refl refl refl
+    ∷ alone (codes "/reports/loads/") 14 (numbered (call.Report of.Loads)) refl refl refl refl refl
+    ∷ alone (codes "/reports/placements/") 19 (numbered (call.Report of.Placements)) refl refl refl refl refl
+    ∷ alone (codes "/reports/profile/") 16 (numbered (call.Report of.Profile)) refl refl refl refl refl
+    ∷ alone (codes "/reports/unplaced/") 17 (numbered (call.Report of.Unplaced)) refl refl refl refl refl
+    ∷ lies (codes "/rounds/close") (asked call.Close) refl refl refl
+    ∷ lies (codes "/rounds/reopen") (asked call.ReopenRound) refl refl refl
+    ∷ stands (codes "/rounds/") 7 (numbered call.GetRound) refl refl refl refl beside_words
+    ∷ lies (codes "/rounds") (asked call.OpenRound) refl refl refl
+    ∷ lies (codes "/roundtext") (read call.RoundText) refl refl refl
+    ∷ alone (codes "/students/") 9 (entry put.Student call.GetStudent) refl refl refl refl refl
+    ∷ alone (codes "/supervisors/") 12 (entry put.Supervisor call.GetSupervisor) refl refl refl refl refl
+    ∷ []
+  where
+    beside_words : (text : List ℕ) → is_segment text ≡ true → fits Numbers text ≡ true → first (steps (codes "/rounds/") all_routes) text ≡ Some (row (codes "/rounds/") (codes "code") (numbered call.GetRound)).1
+    beside_words text segment fit = number_leaf (row (codes "/rounds/") (codes "code") (numbered call.GetRound)).1 (fixed (codes "/rounds/close") (asked call.Close)).1 (fixed (codes "/rounds/reopen") (asked call.ReopenRound)).1 99 114 (codes "lose") (codes "eopen") text refl refl refl refl segment fit
 
-preview : Lies (codes "/preview") (read call.Preview)
-unfolding all_routes is_literal
-preview = record { literal = refl; any = refl; at = found_along (codes "/preview") all_routes [] (fixed (codes "/preview") (read call.Preview)).1 (ends_here (fixed (codes "/preview") (read call.Preview)).1 (steps (codes "/preview") all_routes) refl) }
+-- these are all rows
+all_rows : map (λ s. s.0) all_standing ≡ all_routes
+unfolding all_routes all_standing lies stands alone
+all_rows = refl
 
-projects : Stands (codes "/projects/") (entry put.Project call.GetProject)
-unfolding all_routes is_literal
-projects = record {
-  literal = refl;
-  leaf = λ text segment fit. param_leaf (row (codes "/projects/") (codes "code") (entry put.Project call.GetProject)).1 text segment;
-  label = refl;
-  utf8 = λ text u. IsUtf8-drop (codes "/projects/" ++ text) 10 u (IsCharBoundary-after_ascii (codes "/projects/" ++ text) 9 u (omega arith) (omega arith));
-}
-
-close : Lies (codes "/rounds/close") (asked call.Close)
-unfolding all_routes is_literal
-close = record { literal = refl; any = refl; at = found_along (codes "/rounds/close") all_routes [] (fixed (codes "/rounds/close") (asked call.Close)).1 (ends_here (fixed (codes "/rounds/close") (asked call.Close)).1 (steps (codes "/rounds/close") all_routes) refl) }
-
-reopen : Lies (codes "/rounds/reopen") (asked call.ReopenRound)
-unfolding all_routes is_literal
-reopen = record { literal = refl; any = refl; at = found_along (codes "/rounds/reopen") all_routes [] (fixed (codes "/rounds/reopen") (asked call.ReopenRound)).1 (ends_here (fixed (codes "/rounds/reopen") (asked call.ReopenRound)).1 (steps (codes "/rounds/reopen") all_routes) refl) }
-
-rounds : Stands (codes "/rounds/") (round)
-unfolding all_routes is_literal
-rounds = record {
-  literal = refl;
-  leaf = λ text segment fit. number_leaf (row (codes "/rounds/") (codes "code") round).1 (fixed (codes "/rounds/close") (asked call.Close)).1 (fixed (codes "/rounds/reopen") (asked call.ReopenRound)).1 99 114 (codes "lose") (codes "eopen") text refl refl refl refl segment fit;
-  label = refl;
-  utf8 = λ text u. IsUtf8-drop (codes "/rounds/" ++ text) 8 u (IsCharBoundary-after_ascii (codes "/rounds/" ++ text) 7 u (omega arith) (omega arith));
-}
-
-opening : Lies (codes "/rounds") (asked call.OpenRound)
-unfolding all_routes is_literal
-opening = record { literal = refl; any = refl; at = found_along (codes "/rounds") all_routes [] (fixed (codes "/rounds") (asked call.OpenRound)).1 (ends_here (fixed (codes "/rounds") (asked call.OpenRound)).1 (steps (codes "/rounds") all_routes) refl) }
-
-roundtext : Lies (codes "/roundtext") (read call.RoundText)
-unfolding all_routes is_literal
-roundtext = record { literal = refl; any = refl; at = found_along (codes "/roundtext") all_routes [] (fixed (codes "/roundtext") (read call.RoundText)).1 (ends_here (fixed (codes "/roundtext") (read call.RoundText)).1 (steps (codes "/roundtext") all_routes) refl) }
-
-students : Stands (codes "/students/") (entry put.Student call.GetStudent)
-unfolding all_routes is_literal
-students = record {
-  literal = refl;
-  leaf = λ text segment fit. param_leaf (row (codes "/students/") (codes "code") (entry put.Student call.GetStudent)).1 text segment;
-  label = refl;
-  utf8 = λ text u. IsUtf8-drop (codes "/students/" ++ text) 10 u (IsCharBoundary-after_ascii (codes "/students/" ++ text) 9 u (omega arith) (omega arith));
-}
-
-supervisors : Stands (codes "/supervisors/") (entry put.Supervisor call.GetSupervisor)
-unfolding all_routes is_literal
-supervisors = record {
-  literal = refl;
-  leaf = λ text segment fit. param_leaf (row (codes "/supervisors/") (codes "code") (entry put.Supervisor call.GetSupervisor)).1 text segment;
-  label = refl;
-  utf8 = λ text u. IsUtf8-drop (codes "/supervisors/" ++ text) 13 u (IsCharBoundary-after_ascii (codes "/supervisors/" ++ text) 12 u (omega arith) (omega arith));
-}
-
-import_lists : Stands (codes "/imports/lists/") (import kind.Lists)
-unfolding all_routes is_literal
-import_lists = record {
-  literal = refl;
-  leaf = λ text segment fit. param_leaf (row (codes "/imports/lists/") (codes "code") (import kind.Lists)).1 text segment;
-  label = refl;
-  utf8 = λ text u. IsUtf8-drop (codes "/imports/lists/" ++ text) 15 u (IsCharBoundary-after_ascii (codes "/imports/lists/" ++ text) 14 u (omega arith) (omega arith));
-}
-
-import_projects : Stands (codes "/imports/projects/") (import kind.Projects)
-unfolding all_routes is_literal
-import_projects = record {
-  literal = refl;
-  leaf = λ text segment fit. param_leaf (row (codes "/imports/projects/") (codes "code") (import kind.Projects)).1 text segment;
-  label = refl;
-  utf8 = λ text u. IsUtf8-drop (codes "/imports/projects/" ++ text) 18 u (IsCharBoundary-after_ascii (codes "/imports/projects/" ++ text) 17 u (omega arith) (omega arith));
-}
-
-import_students : Stands (codes "/imports/students/") (import kind.Students)
-unfolding all_routes is_literal
-import_students = record {
-  literal = refl;
-  leaf = λ text segment fit. param_leaf (row (codes "/imports/students/") (codes "code") (import kind.Students)).1 text segment;
-  label = refl;
-  utf8 = λ text u. IsUtf8-drop (codes "/imports/students/" ++ text) 18 u (IsCharBoundary-after_ascii (codes "/imports/students/" ++ text) 17 u (omega arith) (omega arith));
-}
-
-import_supervisors : Stands (codes "/imports/supervisors/") (import kind.Supervisors)
-unfolding all_routes is_literal
-import_supervisors = record {
-  literal = refl;
-  leaf = λ text segment fit. param_leaf (row (codes "/imports/supervisors/") (codes "code") (import kind.Supervisors)).1 text segment;
-  label = refl;
-  utf8 = λ text u. IsUtf8-drop (codes "/imports/supervisors/" ++ text) 21 u (IsCharBoundary-after_ascii (codes "/imports/supervisors/" ++ text) 20 u (omega arith) (omega arith));
-}
-
--- each row is one
-standing : (pattern : List ℕ) (route : RouteOf Methods) → HasRow pattern route all_routes → Standing pattern route
-unfolding all_routes
-standing pattern route (inl is) = with_parameter (codes "/imports/lists/") (import kind.Lists) import_lists pattern route is
-standing pattern route (inr (inl is)) = with_parameter (codes "/imports/projects/") (import kind.Projects) import_projects pattern route is
-standing pattern route (inr (inr (inl is))) = with_parameter (codes "/imports/students/") (import kind.Students) import_students pattern route is
-standing pattern route (inr (inr (inr (inl is)))) = with_parameter (codes "/imports/supervisors/") (import kind.Supervisors) import_supervisors pattern route is
-standing pattern route (inr (inr (inr (inr (inl is))))) = with_parameter (codes "/lists/") (list) lists pattern route is
-standing pattern route (inr (inr (inr (inr (inr (inl is)))))) = without (codes "/preview") (read call.Preview) preview pattern route is
-standing pattern route (inr (inr (inr (inr (inr (inr (inl is))))))) = with_parameter (codes "/projects/") (entry put.Project call.GetProject) projects pattern route is
-standing pattern route (inr (inr (inr (inr (inr (inr (inr (inl is)))))))) = without (codes "/rounds/close") (asked call.Close) close pattern route is
-standing pattern route (inr (inr (inr (inr (inr (inr (inr (inr (inl is))))))))) = without (codes "/rounds/reopen") (asked call.ReopenRound) reopen pattern route is
-standing pattern route (inr (inr (inr (inr (inr (inr (inr (inr (inr (inl is)))))))))) = with_parameter (codes "/rounds/") (round) rounds pattern route is
-standing pattern route (inr (inr (inr (inr (inr (inr (inr (inr (inr (inr (inl is))))))))))) = without (codes "/rounds") (asked call.OpenRound) opening pattern route is
-standing pattern route (inr (inr (inr (inr (inr (inr (inr (inr (inr (inr (inr (inl is)))))))))))) = without (codes "/roundtext") (read call.RoundText) roundtext pattern route is
-standing pattern route (inr (inr (inr (inr (inr (inr (inr (inr (inr (inr (inr (inr (inl is))))))))))))) = with_parameter (codes "/students/") (entry put.Student call.GetStudent) students pattern route is
-standing pattern route (inr (inr (inr (inr (inr (inr (inr (inr (inr (inr (inr (inr (inr (inl is)))))))))))))) = with_parameter (codes "/supervisors/") (entry put.Supervisor call.GetSupervisor) supervisors pattern route is
-standing pattern route (inr (inr (inr (inr (inr (inr (inr (inr (inr (inr (inr (inr (inr (inr none)))))))))))))) = absurd none
+-- a row that is listed is one of them
+one_stands : (all : List Standing) (pattern : List ℕ) (route : RouteOf Methods) → HasRow pattern route (map (λ s. s.0) all) → (path : List ℕ) (values : List (List ℕ))
+    → fill pattern values ≡ Some path → AreSegments values → Read path route values
+one_stands [] pattern route none path values filled segments = absurd none
+one_stands (s ∷ all) pattern route (inl is) path values filled segments =
+    subst (λ (k : RouteOf Methods). Read path k values) (sym is.1) (s.1 path values (subst (λ p. fill p values ≡ Some path) is.0 filled) segments)
+one_stands (s ∷ all) pattern route (inr is) path values filled segments = one_stands all pattern route is path values filled segments
 
 -- the rows are plain
 rows_plain : AllPlain all_routes
@@ -331,7 +260,7 @@ rows_plain = plain_all all_routes refl
 -- in any row
 read_row : (path : List ℕ) (route : RouteOf Methods) (pattern : List ℕ) (values : List (List ℕ)) → HasRow pattern route all_routes → fill pattern values ≡ Some path → AreSegments values
     → Read path route values
-read_row path route pattern values listed filled segments = (standing pattern route listed).read path values filled segments
+read_row path route pattern values listed filled segments = one_stands all_standing pattern route (subst (HasRow pattern route) (sym all_rows) listed) path values filled segments
 
 -- what is known of a route that a path found
 pub record Taken (path : List ℕ) (route : RouteOf Methods) : Type 0 where

@@ -38,6 +38,7 @@ called call.ReopenRound code = request.Plain plain.ReopenRound
 called call.GetRound code = request.Plain (plain.GetRound (unwrap_or (number_of code) 0))
 called call.Preview code = request.Preview
 called call.RoundText code = request.RoundText
+called (call.Report kind) code = request.Report kind (unwrap_or (number_of code) 0)
 
 -- a request, or the refusal of other members
 abbrev pub asked_or : Option Plain → Result Request Refusal

@@ -8,6 +8,7 @@ use Rattle.matchit.specs.Router.{RouteOf}
 use Rattle.api.specs.declared.routes.Methods.{Methods}
 use Rattle.rolls.specs.declared.import.ImportKind.{ImportKind}
 use Rattle.rolls.specs.declared.import.ImportKind.TheVariants as kind
+use Rattle.rolls.specs.declared.report.ReportKind.TheVariants as of
 use Rattle.api.specs.declared.routes.Form.TheVariants.{Empty, Members, Raw}
 use Rattle.api.specs.declared.routes.Segments.{Segments}
 use Rattle.api.specs.declared.routes.Segments.TheVariants.{Any, Numbers}
@@ -41,9 +42,9 @@ entry what how = record { segments = Any; get = Some (Empty how); put = Some (Me
 abbrev pub list : Methods
 list = record { segments = Any; get = None; put = Some (Members put.List); post = None; delete = Some (Empty call.DropList) }
 
--- a round is read by its number
-abbrev pub round : Methods
-round = record { segments = Numbers; get = Some (Empty call.GetRound); put = None; post = None; delete = None }
+-- something of a round is read by its number
+abbrev pub numbered : Call → Methods
+numbered what = record { segments = Numbers; get = Some (Empty what); put = None; post = None; delete = None }
 
 -- an import is sent under its id
 abbrev pub import : ImportKind → Methods
@@ -75,14 +76,22 @@ all_routes =
     ∷ row (codes "/lists/") (codes "code") list
     ∷ fixed (codes "/preview") (read call.Preview)
     ∷ row (codes "/projects/") (codes "code") (entry put.Project call.GetProject)
+    ∷ row (codes "/reports/loads/") (codes "code") (numbered (call.Report of.Loads))
+    ∷ row (codes "/reports/placements/") (codes "code") (numbered (call.Report of.Placements))
+    ∷ row (codes "/reports/profile/") (codes "code") (numbered (call.Report of.Profile))
+    ∷ row (codes "/reports/unplaced/") (codes "code") (numbered (call.Report of.Unplaced))
     ∷ fixed (codes "/rounds/close") (asked call.Close)
     ∷ fixed (codes "/rounds/reopen") (asked call.ReopenRound)
-    ∷ row (codes "/rounds/") (codes "code") round
+    ∷ row (codes "/rounds/") (codes "code") (numbered call.GetRound)
     ∷ fixed (codes "/rounds") (asked call.OpenRound)
     ∷ fixed (codes "/roundtext") (read call.RoundText)
     ∷ row (codes "/students/") (codes "code") (entry put.Student call.GetStudent)
     ∷ row (codes "/supervisors/") (codes "code") (entry put.Supervisor call.GetSupervisor)
     ∷ []
+
+-- a path as it is written, with what each method asks of it
+abbrev pub written : List ℕ × RouteOf Methods → List ℕ × Methods
+written r = (r.1.text, r.1.value)
 
 -- a pattern with these texts put in for its parameters, in order
 abbrev pub fill : List ℕ → List (List ℕ) → Option (List ℕ)

@@ -129,6 +129,10 @@ fn called(alloc: Global, call: Call, code: &str) -> Result<Request, AllocError>
         }),
         Call::Preview => Request::Preview,
         Call::RoundText => Request::RoundText,
+        Call::Report(kind) => Request::Report {
+            kind,
+            round: number_of(code).unwrap_or(0),
+        },
     })
 }
 

@@ -1,10 +1,10 @@
 //! What the paths of messages name.
-ghost use Rattle.std.specs.Prelude.{◌≡◌, ℕ, List, [], ◌∷◌, MatchOption, IfOk, IfErr, OnOk, codes};
+ghost use Rattle.std.specs.Prelude.{◌≡◌, ℕ, List, [], ◌∷◌, MatchOption, IfOk, IfErr, map, codes};
 ghost use Rattle.std.specs.Str.{all_ascii_digits};
-ghost use Rattle.api.specs.Routes.{number_of, fits, read, asked, entry, list, round, import, all_routes, NamesBy, IsNowhere};
+ghost use Rattle.api.specs.Routes.{number_of, fits, read, asked, entry, list, numbered, import, written, all_routes, NamesBy, IsNowhere};
 
 use matchit::{InsertError, Router};
-use rolls::ImportKind;
+use rolls::{ImportKind, ReportKind};
 use std::alloc::Global;
 
 /// What an empty body asks.
@@ -20,6 +20,7 @@ pub enum Call {
     GetRound,
     Preview,
     RoundText,
+    Report(ReportKind),
 }
 
 /// What a body of members puts.
@@ -153,13 +154,13 @@ fn list() -> Methods
     }
 }
 
-/// A round is read by its number.
-fn round() -> Methods
-    ensures { result ≡ round }
+/// Something of a round is read by its number.
+fn numbered(call: Call) -> Methods
+    ensures { result ≡ numbered call }
 {
     Methods {
         segments: Segments::Numbers,
-        get: Some(Form::Empty(Call::GetRound)),
+        get: Some(Form::Empty(call)),
         put: None,
         post: None,
         delete: None,
@@ -179,45 +180,63 @@ fn import(kind: ImportKind) -> Methods
     }
 }
 
+/// How many routes there are.
+const ROUTES: usize = 18;
+
+/// The routes: the paths that they are for, and what each method asks of them.
+fn routes() -> [(&'static str, Methods); ROUTES]
+    ensures { map (λ r. (r.0.now, r.1)) result ≡ map written all_routes }
+{
+    [
+        ("/imports/lists/{code}", import(ImportKind::Lists)),
+        ("/imports/projects/{code}", import(ImportKind::Projects)),
+        ("/imports/students/{code}", import(ImportKind::Students)),
+        (
+            "/imports/supervisors/{code}",
+            import(ImportKind::Supervisors),
+        ),
+        ("/lists/{code}", list()),
+        ("/preview", read(Call::Preview)),
+        ("/projects/{code}", entry(Put::Project, Call::GetProject)),
+        (
+            "/reports/loads/{code}",
+            numbered(Call::Report(ReportKind::Loads)),
+        ),
+        (
+            "/reports/placements/{code}",
+            numbered(Call::Report(ReportKind::Placements)),
+        ),
+        (
+            "/reports/profile/{code}",
+            numbered(Call::Report(ReportKind::Profile)),
+        ),
+        (
+            "/reports/unplaced/{code}",
+            numbered(Call::Report(ReportKind::Unplaced)),
+        ),
+        ("/rounds/close", asked(Call::Close)),
+        ("/rounds/reopen", asked(Call::ReopenRound)),
+        ("/rounds/{code}", numbered(Call::GetRound)),
+        ("/rounds", asked(Call::OpenRound)),
+        ("/roundtext", read(Call::RoundText)),
+        ("/students/{code}", entry(Put::Student, Call::GetStudent)),
+        (
+            "/supervisors/{code}",
+            entry(Put::Supervisor, Call::GetSupervisor),
+        ),
+    ]
+}
+
 /// The router of all paths. It fails for want of memory alone.
 pub fn router(alloc: Global) -> Result<Router<Methods>, InsertError>
     ensures routes { IfOk result (λ router. router ≡ all_routes) }
     ensures memory { IfErr result (λ error. error ≡ InsertError.OutOfMemory) }
 {
     let mut router = Router::new(alloc);
-    match insert_routes(&mut router) {
-        Ok(()) => Ok(router),
-        Err(error) => Err(error),
+    for (path, methods) in routes() {
+        router.insert(path, methods)?;
     }
-}
-
-/// The routes, put into a router that has none.
-fn insert_routes(router: &mut Router<Methods>) -> Result<(), InsertError>
-    requires { router.old ≡ [] }
-    ensures routes { OnOk result (router.new ≡ all_routes) }
-    ensures memory { IfErr result (λ error. error ≡ InsertError.OutOfMemory) }
-{
-    router.insert(
-        "/supervisors/{code}",
-        entry(Put::Supervisor, Call::GetSupervisor),
-    )?;
-    router.insert("/projects/{code}", entry(Put::Project, Call::GetProject))?;
-    router.insert("/students/{code}", entry(Put::Student, Call::GetStudent))?;
-    router.insert("/lists/{code}", list())?;
-    router.insert("/rounds", asked(Call::OpenRound))?;
-    router.insert("/rounds/close", asked(Call::Close))?;
-    router.insert("/rounds/reopen", asked(Call::ReopenRound))?;
-    router.insert("/rounds/{code}", round())?;
-    router.insert("/preview", read(Call::Preview))?;
-    router.insert("/roundtext", read(Call::RoundText))?;
-    router.insert(
-        "/imports/supervisors/{code}",
-        import(ImportKind::Supervisors),
-    )?;
-    router.insert("/imports/projects/{code}", import(ImportKind::Projects))?;
-    router.insert("/imports/students/{code}", import(ImportKind::Students))?;
-    router.insert("/imports/lists/{code}", import(ImportKind::Lists))?;
-    Ok(())
+    Ok(router)
 }
 
 /// What a path names.

@@ -18,6 +18,7 @@ refused_so o (request.Plain p) r h = h
 refused_so o request.Close r h = h
 refused_so o request.Preview r h = h
 refused_so o request.RoundText r h = h
+refused_so o (request.Report kind round) r h = h
 refused_so o (request.Import id kind bytes) r h = ap (λ (x : Option Refusal). or_else x (if has_import o id then None else text_refusal (layers.records kind bytes) o)) h
 
 -- a kept import is refused by nothing else

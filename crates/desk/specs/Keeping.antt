@@ -63,6 +63,7 @@ repeated_rows office (request.Plain p) = None
 repeated_rows office request.Close = None
 repeated_rows office request.Preview = None
 repeated_rows office request.RoundText = None
+repeated_rows office (request.Report kind round) = None
 
 -- a kept import that is asked for once more, with the same kind and bytes, answers its own number of rows
 abbrev pub AnswersKept : State → Request → Result Reply Refusal → Type 0

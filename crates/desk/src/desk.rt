@@ -69,7 +69,7 @@ fn made(alloc: Global, office: &mut Office, request: Request) -> Result<Done, Re
         Request::Plain(plain) => Ok(office.make(plain)?),
         Request::Close => Ok(allotment::close(alloc, office)?),
         Request::Import { id, kind, bytes } => allotment::import(alloc, office, id, kind, bytes),
-        Request::Preview | Request::RoundText => unreachable!(),
+        Request::Preview | Request::RoundText | Request::Report { .. } => unreachable!(),
     }
 }
 
@@ -194,6 +194,9 @@ impl<S: Alter> Desk<S> {
             },
             Request::Preview => Ok(allotment::preview(self.alloc, &self.office)?),
             Request::RoundText => Ok(allotment::round_text(self.alloc, &self.office)?),
+            Request::Report { kind, round } => {
+                allotment::report(self.alloc, &self.office, kind, round)
+            }
         }
     }
 

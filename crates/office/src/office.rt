@@ -12,7 +12,7 @@ mod rounds;
 ghost use Rattle.std.specs.Prelude.{◌≡◌, ◌∷◌, not, IfOk, OnErr, Err, None, []};
 ghost use Rattle.rolls.specs.State.{State, empty, lists_of};
 ghost use Rattle.rolls.specs.Fit.{IsFit};
-ghost use Rattle.rolls.specs.Refusing.{first, plain_refusal, refusal_of};
+ghost use Rattle.rolls.specs.Refusing.{first, plain_refusal, refusal_of, round_tests};
 ghost use Rattle.rolls.specs.Answers.{Answers, IsDone};
 ghost use Rattle.rolls.specs.From.{AreRowsOf};
 
@@ -166,6 +166,7 @@ impl Office {
         match request {
             Request::Plain(plain) => self.plain_refusal(plain),
             Request::Close | Request::Preview | Request::RoundText => self.open_refusal(),
+            Request::Report { round, .. } => self.round_refusal(*round),
             Request::Import { id, kind, bytes } => {
                 self.import_refusal(id.as_str(), *kind, bytes.as_slice())
             }
@@ -260,13 +261,18 @@ impl Office {
                     Refusal::UnknownStudent,
                 )
             }
-            Plain::GetRound { round } => {
-                unless(
-                    self.rounds.by_number(*round).is_some(),
-                    Refusal::UnknownRound,
-                )
-            }
+            Plain::GetRound { round } => self.round_refusal(*round),
         }
+    }
+
+    /// Why nothing is told of a round.
+    fn round_refusal(&self, round: u32) -> Option<Refusal>
+        ensures { result ≡ first (round_tests self.now round) }
+    {
+        unless(
+            self.rounds.by_number(round).is_some(),
+            Refusal::UnknownRound,
+        )
     }
 }
 

@@ -26,4 +26,5 @@ changes_nothing o (request.Plain p) = is_read p
 changes_nothing o request.Close = false
 changes_nothing o request.Preview = true
 changes_nothing o request.RoundText = true
+changes_nothing o (request.Report kind round) = true
 changes_nothing o (request.Import id kind bytes) = has_import o id

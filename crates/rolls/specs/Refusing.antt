@@ -97,6 +97,10 @@ reopening_tests o =
 abbrev pub open_tests : State → List (Bool × Refusal)
 open_tests o = (not (round_is_open o), no.NoRoundOpen) ∷ []
 
+-- what a request for a round is judged by
+abbrev pub round_tests : State → ℕ → List (Bool × Refusal)
+round_tests o round = (not (has_round o round), no.UnknownRound) ∷ []
+
 -- an import is kept under this id with another kind or other bytes
 abbrev pub is_other_import : State → List ℕ → ImportKind → List ℕ → Bool
 is_other_import o id kind bytes = option_map_or (λ i. not (same_kind kind i.kind && bytes_eq bytes i.bytes)) (import_of o id) false
@@ -122,7 +126,7 @@ plain_refusal o ReopenRound = first (reopening_tests o)
 plain_refusal o (GetSupervisor code) = first ((not (has_supervisor o code), no.UnknownSupervisor) ∷ [])
 plain_refusal o (GetProject code) = first ((not (has_project o code), no.UnknownProject) ∷ [])
 plain_refusal o (GetStudent code) = first ((not (has_student o code), no.UnknownStudent) ∷ [])
-plain_refusal o (GetRound round) = first ((not (has_round o round), no.UnknownRound) ∷ [])
+plain_refusal o (GetRound round) = first (round_tests o round)
 
 -- the first refusal of a request for which no import text has to be read
 abbrev pub refusal_of : State → Request → Option Refusal
@@ -130,4 +134,5 @@ refusal_of o (request.Plain p) = plain_refusal o p
 refusal_of o request.Close = first (open_tests o)
 refusal_of o request.Preview = first (open_tests o)
 refusal_of o request.RoundText = first (open_tests o)
+refusal_of o (request.Report kind round) = first (round_tests o round)
 refusal_of o (request.Import id kind bytes) = first (import_tests o id kind bytes)

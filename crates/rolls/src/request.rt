@@ -4,6 +4,7 @@ ghost use Rattle.std.specs.Prelude.{◌≡◌};
 ghost use Rattle.rolls.specs.Reads.{is_read};
 
 use crate::import::{Bytes, ImportKind};
+use crate::report::ReportKind;
 use crate::rounds::{Choices, Placement};
 use crate::row::Change;
 use crate::text::{Text, Texts};
@@ -94,6 +95,11 @@ pub enum Request {
     Preview,
     /// The instance of the open round, as a round text.
     RoundText,
+    /// A report of a round, as a text.
+    Report {
+        kind: ReportKind,
+        round: u32,
+    },
     /// Makes the plain requests of an import text's records, one after another, all of them or none, and keeps the import.
     /// The same import once more changes nothing.
     Import {

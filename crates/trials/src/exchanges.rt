@@ -444,6 +444,24 @@ pub(crate) fn compare_exchanges(
     Ok(())
 }
 
+/// Compares the text that is answered.
+pub(crate) fn compare_text(
+    alloc: Global,
+    rt: &impl Abort,
+    desk: &mut Desk<MemStore>,
+    asked: &str,
+    text: &str,
+) -> Result<(), Fail> {
+    let message = message(alloc, asked, "")?;
+    let len = text.len();
+    let want = format!(in alloc;
+        "HTTP/1.1 200 OK\r\nContent-Type: text/plain; charset=utf-8\r\nContent-Length: {len}\r\n\r\n{text}"
+    )?;
+    let got = served(alloc, desk, message.as_bytes(), 1000, 1000);
+    assert!(rt; is_answer(&got, want.as_str(), End::Closed), "{asked}");
+    Ok(())
+}
+
 #[test]
 fn requests_are_answered(rt: HostRuntime) -> Result<(), Fail> {
     let mut desk = new_desk(rt.alloc(), &rt)?;

@@ -33,6 +33,8 @@ mod rounds;
 #[cfg(test)]
 mod sent_imports;
 #[cfg(test)]
+mod sent_reports;
+#[cfg(test)]
 mod stores;
 #[cfg(test)]
 mod streams;

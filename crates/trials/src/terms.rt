@@ -2,14 +2,9 @@
 //! anew.
 
 use crate::desks::{desk_over, new_desk};
-use crate::exchanges::{compare_exchanges, message, served};
-use desk::Desk;
-use sqlite::MemStore;
-use std::alloc::Global;
-use std::process::Abort;
+use crate::exchanges::{compare_exchanges, compare_text};
 use std::rt::HostRuntime;
 use std::test::Fail;
-use web::{End, Served};
 
 /// A supervisor of quota 5 with projects P and Q of quota 1 and Z of quota 0, and students A, B and C.
 #[rattlefmt::skip]
@@ -105,25 +100,6 @@ static AFTER: &str =
 /// The text of the first round before it closes.
 static TEXT: &str = "S,L,5\nP,P,L,1\nP,Q,L,1\nP,Z,L,0\nC,A,P,Q\nC,C,Z,P\n";
 
-/// Compares the round text.
-fn compare_text(alloc: Global, rt: &impl Abort, desk: &mut Desk<MemStore>) -> Result<(), Fail> {
-    let asked = message(alloc, "GET /roundtext", "")?;
-    let len = TEXT.len();
-    let want = format!(in alloc;
-        "HTTP/1.1 200 OK\r\nContent-Type: text/plain; charset=utf-8\r\nContent-Length: {len}\r\n\r\n{TEXT}"
-    )?;
-    let got = served(alloc, desk, asked.as_bytes(), 1000, 1000);
-    assert_eq!(rt; got.written.as_slice(), want.as_bytes());
-    assert_eq!(rt;
-        got.result,
-        Ok(Served {
-            answered: 1,
-            end: End::Closed
-        })
-    );
-    Ok(())
-}
-
 #[test]
 fn rounds_open_close_and_open_again(rt: HostRuntime) -> Result<(), Fail> {
     let alloc = rt.alloc();
@@ -131,7 +107,7 @@ fn rounds_open_close_and_open_again(rt: HostRuntime) -> Result<(), Fail> {
     compare_exchanges(alloc, &rt, &mut desk, ROLLS)?;
     compare_exchanges(alloc, &rt, &mut desk, SHUT)?;
     compare_exchanges(alloc, &rt, &mut desk, LISTS)?;
-    compare_text(alloc, &rt, &mut desk)?;
+    compare_text(alloc, &rt, &mut desk, "GET /roundtext", TEXT)?;
     compare_exchanges(alloc, &rt, &mut desk, CLOSED)?;
     compare_exchanges(alloc, &rt, &mut desk, AFTER)?;
     let mut again = desk_over(alloc, &rt, desk.into_connection());

@@ -1,0 +1,48 @@
+//! The reports on a round of an office, as texts of lines.
+//!
+//! Nothing here decides what is placed: the reports read what an `Office` lends.
+//!
+//! Promised: `report` writes exactly the bytes that `report_text` of `specs/Texts.antt` makes of the abstract office, or refuses
+//! a round that is not known, and want of memory alone keeps it from either.
+#![tactic(auto)]
+
+mod find;
+mod loads_report;
+mod placements_report;
+mod profile_report;
+mod unplaced_report;
+
+ghost use Rattle.std.specs.Prelude.{◌≡◌, ◌⊎◌, IfOk, IfErr, Some, None, string_bytes};
+ghost use Rattle.rolls.specs.Refusing.{refusal_of};
+ghost use Rattle.rolls.specs.declared.request.Request.TheVariants as request;
+ghost use Rattle.reports.specs.Texts.{report_text};
+
+use loads_report::loads;
+use office::Office;
+use placements_report::placements;
+use profile_report::profile;
+use rolls::{Refusal, ReportKind, Request};
+use std::alloc::Global;
+use unplaced_report::unplaced;
+
+/// A report on a round that the office knows.
+pub fn report(
+    alloc: Global,
+    office: &Office,
+    kind: ReportKind,
+    round: u32,
+) -> Result<String, Refusal>
+    ensures text { IfOk result (λ text. string_bytes text ≡ report_text office.now kind round) }
+    ensures known { IfOk result (λ _. refusal_of office.now (request.Report kind round) ≡ None) }
+    ensures refused { IfErr result (λ r. (r ≡ Refusal.Memory) ⊎ (refusal_of office.now (request.Report kind round) ≡ Some r)) }
+{
+    if let Some(refusal) = office.refusal_of(&Request::Report { kind, round }) {
+        return Err(refusal);
+    }
+    Ok(match kind {
+        ReportKind::Profile => profile(alloc, office, round)?,
+        ReportKind::Loads => loads(alloc, office, round)?,
+        ReportKind::Unplaced => unplaced(alloc, office, round)?,
+        ReportKind::Placements => placements(alloc, office, round)?,
+    })
+}
