@@ -1,10 +1,12 @@
 -- a search goes on by one node
-use Rattle.std.proofs.Common.{◌≡◌, ℕ, ◌+◌, ◌<◌, ◌≤◌, List, length, set, true, Option, Some, None, refl, arith, sym, ◌∙◌, ap, length-set, not}
+use Rattle.std.proofs.Common.{◌≡◌, ℕ, ◌+◌, ◌<◌, ◌≤◌, inl, inr, List, length, set, true, Option, Some, None, refl, arith, sym, ◌∙◌, ap, length-set, not}
 use Rattle.std.proofs.lemmas.Bool.{and_from}
 use Rattle.spa.specs.Laws.{Ops, IsWorth, AtMost}
 use Rattle.network.specs.Marks.{is_settled, is_open_mark, blank, mark_at, key_at, settled_as, unsettled}
-use Rattle.network.specs.Search.{Reaches, Relaxes, IsSearch, IsRunning, Feasible, OffersOf}
+use Rattle.network.specs.Search.{Reaches, Meets, Relaxes, IsSearch, IsRunning, Feasible, OffersOf}
 use Rattle.network.specs.Arcs.{Arc, OfStudent, IsFormed, sink_of}
+use Rattle.network.specs.Ways.{SearchArc}
+use Rattle.network.proofs.Spared.{plain}
 use Rattle.network.proofs.Settle.{Change, is_node, stayed, offered, change, settles}
 use Rattle.network.proofs.Begin.{relaxed_unsettled, settled_one, open_left, open_within, begins, left_at_begin}
 use Rattle.network.specs.declared.flow.Flow.{Flow}
@@ -31,9 +33,9 @@ module _ {G : Type 0} {o : Ops G} (laws : IsWorth o) where
   start_small f formed student (Swap p) x b d = absurd d
   start_small f formed student (Room p) x b d = absurd d
 
-  module _ (first : Origin → G → ℕ → Type 0) (arc : ℕ → Origin → G → ℕ → Type 0) (potentials : List G) (sink : ℕ) (marks middle new : List (Mark G)) (rank node : ℕ)
-      (running : IsRunning o first arc potentials sink marks rank node) (middle_is : middle ≡ set marks node (settled_as (mark_at o marks node) rank))
-      (relaxed : Relaxes o (OffersOf o arc node (mark_at o marks node).label) middle new)
+  module _ (F : Flow G) (first : Origin → G → ℕ → Type 0) (arc : ℕ → Origin → G → ℕ → Type 0) (potentials : List G) (sink : ℕ) (marks middle new : List (Mark G)) (rank node : ℕ)
+      (running : IsRunning o F first arc potentials sink marks rank node) (middle_is : middle ≡ set marks node (settled_as (mark_at o marks node) rank))
+      (relaxed : Relaxes o F (OffersOf o arc node (mark_at o marks node).label) middle new)
       (feasible : Feasible o arc potentials) (small : (a : ℕ) (w : Origin) (c : G) (b : ℕ) → arc a w c b → o.span c ≤ 2) (other : node ≡ sink → ⊥) where
     -- the node is one of the marks
     within : node < length marks
@@ -41,11 +43,11 @@ module _ {G : Type 0} {o : Ops G} (laws : IsWorth o) where
 
     -- each mark stays, or is settled or replaced by an offer
     changes : (b : ℕ) → Change o (OffersOf o arc node (mark_at o marks node).label) node rank b (mark_at o marks b) (mark_at o new b)
-    changes = change laws first arc potentials marks middle new node rank within middle_is relaxed
+    changes = change laws F first arc potentials marks middle new node rank within middle_is relaxed
 
     -- one more node is settled
-    pub search_now : IsSearch o first arc potentials new (rank + 1)
-    search_now = settles laws first arc potentials marks middle new node rank running.search running.chosen running.best feasible small changes relaxed.taken
+    pub search_now : IsSearch o F first arc potentials new (rank + 1)
+    search_now = settles laws F first arc potentials marks middle new node rank running.search running.chosen running.best feasible small changes relaxed.taken
 
     -- there are as many marks as before
     pub len_now : length new ≡ length potentials
@@ -54,7 +56,7 @@ module _ {G : Type 0} {o : Ops G} (laws : IsWorth o) where
     -- and one node less is left
     pub left_now : rank + 1 + unsettled new ≡ length potentials
     left_now =
-        let e = relaxed_unsettled laws _ middle new relaxed in
+        let e = relaxed_unsettled laws F _ middle new relaxed in
         let s = settled_one laws marks node rank running.chosen in
         let m : unsettled middle ≡ unsettled (set marks node (settled_as (mark_at o marks node) rank)) = ap unsettled middle_is in
         omega (arith, e, s, m, running.left)
@@ -72,43 +74,48 @@ module _ {G : Type 0} {o : Ops G} (laws : IsWorth o) where
     few_now = let h = open_left laws new sink sink_now in omega (arith, left_now, h)
 
 -- a search before its next choice
-pub record IsReady {G : Type 0} (o : Ops G) (first : Origin → G → ℕ → Type 0) (arc : ℕ → Origin → G → ℕ → Type 0) (potentials : List G) (sink : ℕ) (marks : List (Mark G)) (rank : ℕ) : Type 0 where
-  pub search : IsSearch o first arc potentials marks rank
+pub record IsReady {G : Type 0} (o : Ops G) (F : Flow G) (first : Origin → G → ℕ → Type 0) (arc : ℕ → Origin → G → ℕ → Type 0) (potentials : List G) (sink : ℕ) (marks : List (Mark G)) (rank : ℕ) : Type 0 where
+  pub search : IsSearch o F first arc potentials marks rank
   pub len : length marks ≡ length potentials
   pub left : rank + unsettled marks ≡ length potentials
   pub sink_open : is_open_mark (mark_at o marks sink) ≡ true
   pub few : rank < length potentials
 
+-- the sink is offered nothing that is spared
+pub sink_met : {G : Type 0} {o : Ops G} (f : Flow G) (student : ℕ) (marks : List (Mark G)) → Meets o f marks (Leave student) (sink_of f) o.zero → Reaches o marks (sink_of f) o.zero
+sink_met f student marks (inl r) = r
+sink_met f student marks (inr s) = absurd (let h = s.0 in cc)
+
 -- a search goes on
 pub ready_next : {G : Type 0} {o : Ops G} (laws : IsWorth o) (f : Flow G) → IsFormed o f → (student : ℕ) (marks new : List (Mark G)) (rank node : ℕ)
-    → IsRunning o (OfStudent o f student o.zero) (Arc o f) f.potentials.items (sink_of f) marks rank node → node < sink_of f → Feasible o (Arc o f) f.potentials.items
-    → Relaxes o (OffersOf o (Arc o f) node (mark_at o marks node).label) (set marks node (settled_as (mark_at o marks node) rank)) new
-    → IsReady o (OfStudent o f student o.zero) (Arc o f) f.potentials.items (sink_of f) new (rank + 1)
+    → IsRunning o f (OfStudent o f student o.zero) (SearchArc o f) f.potentials.items (sink_of f) marks rank node → node < sink_of f → Feasible o (SearchArc o f) f.potentials.items
+    → Relaxes o f (OffersOf o (SearchArc o f) node (mark_at o marks node).label) (set marks node (settled_as (mark_at o marks node) rank)) new
+    → IsReady o f (OfStudent o f student o.zero) (SearchArc o f) f.potentials.items (sink_of f) new (rank + 1)
 ready_next {G} {o} laws f formed student marks new rank node running lt feasible relaxed =
     let middle = set marks node (settled_as (mark_at o marks node) rank) in
     let first = OfStudent o f student o.zero in
     let other : node ≡ sink_of f → ⊥ = λ (e : node ≡ sink_of f). omega (arith, e, lt) in
-    let small = arc_small laws f formed in
+    let small = λ (a : ℕ) (w : Origin) (c : G) (b : ℕ) (d : SearchArc o f a w c b). arc_small laws f formed a w c b (plain o f a w c b d) in
     record {
-      search = search_now laws first (Arc o f) f.potentials.items (sink_of f) marks middle new rank node running refl relaxed feasible small other;
-      len = len_now laws first (Arc o f) f.potentials.items (sink_of f) marks middle new rank node running refl relaxed feasible small other;
-      left = left_now laws first (Arc o f) f.potentials.items (sink_of f) marks middle new rank node running refl relaxed feasible small other;
-      sink_open = sink_now laws first (Arc o f) f.potentials.items (sink_of f) marks middle new rank node running refl relaxed feasible small other;
-      few = (let h = few_now laws first (Arc o f) f.potentials.items (sink_of f) marks middle new rank node running refl relaxed feasible small other in h);
+      search = search_now laws f first (SearchArc o f) f.potentials.items (sink_of f) marks middle new rank node running refl relaxed feasible small other;
+      len = len_now laws f first (SearchArc o f) f.potentials.items (sink_of f) marks middle new rank node running refl relaxed feasible small other;
+      left = left_now laws f first (SearchArc o f) f.potentials.items (sink_of f) marks middle new rank node running refl relaxed feasible small other;
+      sink_open = sink_now laws f first (SearchArc o f) f.potentials.items (sink_of f) marks middle new rank node running refl relaxed feasible small other;
+      few = (let h = few_now laws f first (SearchArc o f) f.potentials.items (sink_of f) marks middle new rank node running refl relaxed feasible small other in h);
     }
 
 -- a search begins
 pub ready_first : {G : Type 0} {o : Ops G} (laws : IsWorth o) (f : Flow G) → IsFormed o f → (student : ℕ) (marks new : List (Mark G))
-    → length marks ≡ length f.potentials.items → ((b : ℕ) → mark_at o marks b ≡ blank o) → Relaxes o (OfStudent o f student o.zero) marks new
-    → IsReady o (OfStudent o f student o.zero) (Arc o f) f.potentials.items (sink_of f) new 0
+    → length marks ≡ length f.potentials.items → ((b : ℕ) → mark_at o marks b ≡ blank o) → Relaxes o f (OfStudent o f student o.zero) marks new
+    → IsReady o f (OfStudent o f student o.zero) (SearchArc o f) f.potentials.items (sink_of f) new 0
 ready_first {G} {o} laws f formed student marks new len fresh relaxed =
     let first = OfStudent o f student o.zero in
-    let search : IsSearch o first (Arc o f) f.potentials.items new 0 = begins laws first (Arc o f) f.potentials.items marks new fresh (start_small laws f formed student) relaxed in
-    let sink : Reaches o new (sink_of f) o.zero = search.begun (Leave student) o.zero (sink_of f) (refl, refl, refl) in
+    let search : IsSearch o f first (SearchArc o f) f.potentials.items new 0 = begins laws f first (SearchArc o f) f.potentials.items marks new fresh (start_small laws f formed student) relaxed in
+    let sink : Reaches o new (sink_of f) o.zero = sink_met f student new (search.begun (Leave student) o.zero (sink_of f) (refl, refl, refl)) in
     record {
       search = search;
       len = relaxed.len ∙ len;
-      left = (let e = relaxed_unsettled laws first marks new relaxed in let b = left_at_begin laws marks fresh in omega (arith, e, b, len));
+      left = (let e = relaxed_unsettled laws f first marks new relaxed in let b = left_at_begin laws marks fresh in omega (arith, e, b, len));
       sink_open = and_from _ _ sink.seen (unranked (mark_at o new (sink_of f)).rank (λ r e. let h = (search.ranks (sink_of f) r e).0 in omega (arith, h)));
       few = omega (arith, formed.potentials);
     } where
@@ -118,7 +125,7 @@ ready_first {G} {o} laws f formed student marks new len fresh relaxed =
 
 -- a search whose next node is the sink has found its walk
 pub ready_chosen : {G : Type 0} {o : Ops G} (f : Flow G) (first : Origin → G → ℕ → Type 0) (marks : List (Mark G)) (rank node : ℕ)
-    → IsReady o first (Arc o f) f.potentials.items (sink_of f) marks rank → is_open_mark (mark_at o marks node) ≡ true
+    → IsReady o f first (SearchArc o f) f.potentials.items (sink_of f) marks rank → is_open_mark (mark_at o marks node) ≡ true
     → ((b : ℕ) → is_open_mark (mark_at o marks b) ≡ true → AtMost o (key_at o marks f.potentials.items b) (key_at o marks f.potentials.items node))
-    → IsRunning o first (Arc o f) f.potentials.items (sink_of f) marks rank node
+    → IsRunning o f first (SearchArc o f) f.potentials.items (sink_of f) marks rank node
 ready_chosen f first marks rank node r e best = record { search = r.search; len = r.len; left = r.left; sink_open = r.sink_open; chosen = e; best = best }

@@ -5,7 +5,8 @@ use Rattle.std.proofs.lemmas.List.{get_or_past}
 use Rattle.std.proofs.lemmas.List.Sums.{sum_by-set, sum_by-cons, get_or-le-sum_by}
 use Rattle.spa.specs.Laws.{Ops, IsWorth}
 use Rattle.network.specs.Marks.{is_seen, is_settled, is_open_mark, blank, mark_at, settled_as, unsettled}
-use Rattle.network.specs.Search.{Replaced, Reaches, Taken, Relaxes, FromNode, IsSearch}
+use Rattle.network.specs.Search.{Replaced, Meets, Taken, Relaxes, FromNode, IsSearch}
+use Rattle.network.specs.declared.flow.Flow.{Flow}
 use Rattle.network.proofs.Settle.{open_rank, settled_rank}
 use Rattle.network.specs.declared.marks.Origin.{Origin}
 use Rattle.network.specs.declared.marks.Mark.{Mark}
@@ -35,8 +36,8 @@ module _ {G : Type 0} {o : Ops G} (laws : IsWorth o) where
   open_within marks w e = elim (cases_lt w (length marks)) [ inl lt ↦ lt | inr le ↦ absurd (past_closed marks w le e) ]
 
   -- relaxations settle no node
-  pub relaxed_unsettled : (offer : Origin → G → ℕ → Type 0) (m n : List (Mark G)) → Relaxes o offer m n → unsettled n ≡ unsettled m
-  relaxed_unsettled offer m n r = sum_same weight (blank o) n m r.len (λ k. go k (r.moves k)) where
+  pub relaxed_unsettled : (F : Flow G) (offer : Origin → G → ℕ → Type 0) (m n : List (Mark G)) → Relaxes o F offer m n → unsettled n ≡ unsettled m
+  relaxed_unsettled F offer m n r = sum_same weight (blank o) n m r.len (λ k. go k (r.moves k)) where
     go : (k : ℕ) → (mark_at o n k ≡ mark_at o m k) ⊎ Replaced o offer k (mark_at o m k) (mark_at o n k) → weight (mark_at o n k) ≡ weight (mark_at o m k)
     go k (inl e) = ap weight e
     go k (inr f) = ap (λ z. cond (is_settled z) 0 1) (f.is_open ∙ sym f.was_open)
@@ -68,12 +69,12 @@ module _ {G : Type 0} {o : Ops G} (laws : IsWorth o) where
   left_at_begin m h = all_left m h
 
   -- the marks after the start's offers
-  pub begins : (first : Origin → G → ℕ → Type 0) (arc : ℕ → Origin → G → ℕ → Type 0) (potentials : List G) (m n : List (Mark G)) → ((b : ℕ) → mark_at o m b ≡ blank o)
-      → ((w : Origin) (x : G) (b : ℕ) → first w x b → o.span x ≤ 1) → Relaxes o first m n → IsSearch o first arc potentials n 0
-  begins first arc potentials m n fresh small r = record {
+  pub begins : (F : Flow G) (first : Origin → G → ℕ → Type 0) (arc : ℕ → Origin → G → ℕ → Type 0) (potentials : List G) (m n : List (Mark G)) → ((b : ℕ) → mark_at o m b ≡ blank o)
+      → ((w : Origin) (x : G) (b : ℕ) → first w x b → o.span x ≤ 1) → Relaxes o F first m n → IsSearch o F first arc potentials n 0
+  begins F first arc potentials m n fresh small r = record {
     from = λ b e. go_from b e (r.moves b);
     ranks = λ b k e. absurd (closed b k e (r.moves b));
-    begun = λ w x b f. go_begun x b (r.taken w x b f);
+    begun = λ w x b f. go_begun w x b (r.taken w x b f);
     done = λ a k w c b e f. absurd (closed a k e (r.moves a));
     ordered = λ a k b e f. absurd (closed a k e (r.moves a));
     spans = λ b. go_span b (r.moves b);
@@ -86,9 +87,9 @@ module _ {G : Type 0} {o : Ops G} (laws : IsWorth o) where
     go_from b e (inl f) = absurd (let g : false ≡ true = sym (ap (λ (z : Mark G). is_seen z.origin) (f ∙ fresh b)) ∙ e in cc)
     go_from b e (inr f) = inl f.offered
 
-    go_begun : (x : G) (b : ℕ) → Taken o n b x → Reaches o n b x
-    go_begun x b (inl s) = let t = settled_rank (mark_at o n b).rank s in absurd (closed b t.0 t.1 (r.moves b))
-    go_begun x b (inr s) = s
+    go_begun : (w : Origin) (x : G) (b : ℕ) → Taken o F n w b x → Meets o F n w b x
+    go_begun w x b (inl s) = let t = settled_rank (mark_at o n b).rank s in absurd (closed b t.0 t.1 (r.moves b))
+    go_begun w x b (inr s) = s
 
     go_span : (b : ℕ) → (mark_at o n b ≡ mark_at o m b) ⊎ Replaced o first b (mark_at o m b) (mark_at o n b) → o.span (mark_at o n b).label ≤ 2 * 0 + 1
     go_span b (inl f) = let g : (mark_at o n b).label ≡ o.zero = ap (λ (z : Mark G). z.label) (f ∙ fresh b) in rw g (omega (arith, laws.span_zero))

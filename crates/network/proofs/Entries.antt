@@ -25,8 +25,8 @@ module _ {G : Type 0} {o : Ops G} (laws : IsWorth o) (f : Flow G) (student : ℕ
   Below i w x b = EntriesBelow o f student label i w x b
 
   -- no entry offers nothing
-  pub entries_none : (m : List (Mark G)) → Relaxes o (Below 0) m m
-  entries_none m = relaxes_as laws (λ w x b. ⊥) (Below 0) m m (λ w x b h. absurd h) back (relaxes_none laws m) where
+  pub entries_none : (m : List (Mark G)) → Relaxes o f (Below 0) m m
+  entries_none m = relaxes_as laws f (λ w x b. ⊥) (Below 0) m m (λ w x b h. absurd h) back (relaxes_none laws f m) where
     back : (w : Origin) (x : G) (b : ℕ) → Below 0 w x b → ⊥
     back Unseen x b h = h
     back (Entry s k) x b h = omega (arith, h.0)
@@ -36,10 +36,10 @@ module _ {G : Type 0} {o : Ops G} (laws : IsWorth o) (f : Flow G) (student : ℕ
     back (Room l) x b h = h
 
   -- one entry more
-  pub entries_more : (l m n : List (Mark G)) (i p : ℕ) (worth : G) → Relaxes o (Below i) l m → HasEntry f.lists.items student i p worth
-      → Relaxes o (OneOffer (Entry student i) (o.plus label worth) p) m n → Relaxes o (Below (i + 1)) l n
+  pub entries_more : (l m n : List (Mark G)) (i p : ℕ) (worth : G) → Relaxes o f (Below i) l m → HasEntry f.lists.items student i p worth
+      → Relaxes o f (OneOffer (Entry student i) (o.plus label worth) p) m n → Relaxes o f (Below (i + 1)) l n
   entries_more l m n i p worth e h r =
-      relaxes_as laws (λ w x b. Below i w x b ⊎ OneOffer (Entry student i) (o.plus label worth) p w x b) (Below (i + 1)) l n to back (relaxes_then laws _ _ l m n e r) where
+      relaxes_as laws f (λ w x b. Below i w x b ⊎ OneOffer (Entry student i) (o.plus label worth) p w x b) (Below (i + 1)) l n to back (relaxes_then laws f _ _ l m n e r) where
         to : (w : Origin) (x : G) (b : ℕ) → Below i w x b ⊎ OneOffer (Entry student i) (o.plus label worth) p w x b → Below (i + 1) w x b
         to Unseen x b = elim [ inl g ↦ g | inr g ↦ let e = g.0 in cc ]
         to (Entry s k) x b = elim [
@@ -66,9 +66,9 @@ module _ {G : Type 0} {o : Ops G} (laws : IsWorth o) (f : Flow G) (student : ℕ
 
   -- all entries and the sink
   pub entries_all : (l m n : List (Mark G)) (i : ℕ) → ((row : Vec (ℕ × G) Global) → slice_get f.lists.items student ≡ Some row → i ≡ length row.items)
-      → Relaxes o (Below i) l m → Relaxes o (OneOffer (Leave student) label (sink_of f)) m n → Relaxes o (OfStudent o f student label) l n
+      → Relaxes o f (Below i) l m → Relaxes o f (OneOffer (Leave student) label (sink_of f)) m n → Relaxes o f (OfStudent o f student label) l n
   entries_all l m n i len e r =
-      relaxes_as laws (λ w x b. Below i w x b ⊎ OneOffer (Leave student) label (sink_of f) w x b) (OfStudent o f student label) l n to back (relaxes_then laws _ _ l m n e r) where
+      relaxes_as laws f (λ w x b. Below i w x b ⊎ OneOffer (Leave student) label (sink_of f) w x b) (OfStudent o f student label) l n to back (relaxes_then laws f _ _ l m n e r) where
         to : (w : Origin) (x : G) (b : ℕ) → Below i w x b ⊎ OneOffer (Leave student) label (sink_of f) w x b → OfStudent o f student label w x b
         to Unseen x b = elim [ inl g ↦ g | inr g ↦ let e = g.0 in cc ]
         to (Entry s k) x b = elim [ inl g ↦ g.1 | inr g ↦ let e = g.0 in absurd (cc) ]

@@ -26,6 +26,7 @@ pub mod PushOther
 pub mod PushReady
 pub mod PushStart
 pub mod Spans
+pub mod Spared
 pub mod Append
 pub mod Regrow
 pub mod Lists

@@ -4,12 +4,14 @@ use Rattle.std.proofs.lemmas.Option.{slice_get_within}
 use Rattle.std.proofs.lemmas.Bool.{and_from}
 use Rattle.spa.specs.Laws.{Ops, IsWorth, AtMost}
 use Rattle.network.specs.Marks.{is_settled, is_open_mark, mark_at, potential_at, key_at}
-use Rattle.network.specs.Search.{Reaches}
+use Rattle.network.specs.Search.{Reaches, Meets}
 use Rattle.network.specs.Arcs.{IsFormed, project_count, sink_of}
-use Rattle.network.specs.Labels.{HasWay, at_sink, by_supervisor, by_project, IsNextOnWay, IsBounded, IsUnderway}
+use Rattle.network.specs.Labels.{IsUnderway}
+use Rattle.network.specs.Ways.{is_spare, HasWay, at_sink, by_supervisor, by_project, IsNextOnWay, IsBounded}
 use Rattle.network.proofs.Group.{at_most_trans, at_most_shift, zero_left}
 use Rattle.network.proofs.Settle.{open_rank, settled_rank}
 use Rattle.network.specs.declared.flow.Flow.{Flow}
+use Rattle.network.specs.declared.marks.Origin.{Origin}
 use Rattle.network.specs.declared.marks.Origin.TheVariants.{Offer, Room}
 use Rattle.network.specs.declared.marks.Mark.{Mark}
 
@@ -18,6 +20,11 @@ pub way_within : {G : Type 0} {o : Ops G} (f : Flow G) → IsFormed o f → (v :
 way_within f formed v (at_sink e) = omega (arith, e)
 way_within f formed v (by_supervisor l e room) = omega (arith, e, room.0)
 way_within f formed v (by_project l q at room above) = let lt = slice_get_within f.projects.items v _ at in omega (arith, lt)
+
+-- an offer that may not be spared reached its node
+surely : {G : Type 0} {o : Ops G} (f : Flow G) (marks : List (Mark G)) (w : Origin) (b : ℕ) (x : G) → is_spare w ≡ false → Meets o f marks w b x → Reaches o marks b x
+surely f marks w b x sure (inl r) = r
+surely f marks w b x sure (inr s) = absurd (let h = s.0 in cc)
 
 module _ {G : Type 0} {o : Ops G} (laws : IsWorth o) where
   -- along an arc of no worth to a potential as high
@@ -61,12 +68,12 @@ module _ {G : Type 0} {o : Ops G} (laws : IsWorth o) where
         go (by_supervisor l e room) =
             let t = settled_rank (mark_at o marks end).rank s in
             let is : n ≡ sink_of f = next.1 (omega (arith, e)) in
-            let r : Reaches o marks (sink_of f) (o.plus (mark_at o marks end).label o.zero) = u.done end t.0 (Room l) o.zero (sink_of f) t.1 (record { from_supervisor = e; known = room.0; room = room.1; to_sink = refl; is = refl }) in
+            let r : Reaches o marks (sink_of f) (o.plus (mark_at o marks end).label o.zero) = surely f marks (Room l) _ _ refl (u.done end t.0 (Room l) o.zero (sink_of f) t.1 (record { from_supervisor = e; known = room.0; room = room.1; to_sink = refl; is = refl })) in
             let over : AtMost o (potential_at o f.potentials.items end) (potential_at o f.potentials.items (sink_of f)) = rw e (u.below.supervisors l room.0) in
             (rw is (record { way = at_sink refl; reached = inr (r.seen, carried bound _ _ _ _ enough r.enough over) }), omega (arith, is, e, room.0))
         go (by_project l q at above room) =
             let t = settled_rank (mark_at o marks end).rank s in
             let is : n ≡ project_count f + l = next.0 l q at in
             let lt = slice_get_within f.projects.items end _ at in
-            let r : Reaches o marks (project_count f + l) (o.plus (mark_at o marks end).label o.zero) = u.done end t.0 (Offer end) o.zero (project_count f + l) t.1 (record { supervisor = l; quota = q; from_project = refl; project = at; room = above; to_supervisor = refl; is = refl }) in
+            let r : Reaches o marks (project_count f + l) (o.plus (mark_at o marks end).label o.zero) = surely f marks (Offer end) _ _ refl (u.done end t.0 (Offer end) o.zero (project_count f + l) t.1 (record { supervisor = l; quota = q; from_project = refl; project = at; room = above; to_supervisor = refl; is = refl })) in
             (rw is (record { way = by_supervisor l refl room; reached = inr (r.seen, carried bound _ _ _ _ enough r.enough (u.below.projects end l q at)) }), omega (arith, is, lt))

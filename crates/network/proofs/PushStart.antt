@@ -4,13 +4,17 @@ use Rattle.std.specs.declared.vec.Vec.{Vec}
 use Rattle.std.specs.declared.alloc.Global.{Global}
 use Rattle.spa.specs.Laws.{Ops, IsWorth, AtMost}
 use Rattle.network.proofs.Group.{at_most_trans, at_most_shift, moved_back, zero_left}
-use Rattle.network.specs.Marks.{mark_at, potential_at, is_settled}
+use Rattle.network.specs.Marks.{mark_at, potential_at, key_at, is_settled}
 use Rattle.network.specs.Search.{rank_or, FromNode, IsFound, Feasible, lowered}
 use Rattle.network.specs.Arcs.{Holds, Arc, OfStudent, sink_of, project_count, IsFormed}
 use Rattle.network.specs.Fair.{potential, IsFair, IsFairBut}
+use Rattle.network.specs.Ways.{IsOutdone, HasRoom, HasWay, at_sink, by_supervisor, by_project, SearchArc}
 use Rattle.network.specs.Push.{IsCounted, IsStep, IsFirst, HasSteps, IsPushing}
-use Rattle.network.proofs.Settle.{open_rank}
-use Rattle.network.proofs.Lower.{falls, stays_feasible, first_covered, tight_arc, tight_first}
+use Rattle.network.proofs.Settle.{open_rank, settled_rank}
+use Rattle.network.proofs.Advance.{sink_met}
+use Rattle.std.proofs.lemmas.Bool.{cases_Bool}
+use Rattle.network.proofs.Spared.{plain, searched, in_both}
+use Rattle.network.proofs.Lower.{open_below, falls, ends_below, stays, stays_feasible, first_covered, tight_arc, tight_first}
 use Rattle.network.proofs.Fair.{fair_placed, fair_placed_least, fair_waiting, fair_waiting_least, fair_room, fair_project, fair_supervisor_room}
 use Rattle.network.specs.declared.flow.Flow.{Flow}
 use Rattle.network.specs.declared.marks.Origin.{Origin}
@@ -32,7 +36,7 @@ module _ {G : Type 0} {o : Ops G} (laws : IsWorth o) (f : Flow G) (fresh : ℕ) 
       rw (d.is, zero_left laws, d.to_sink, fair.sink, d.from_supervisor) (fair.supervisor_room l d.known d.room)
 
   module _ (formed : IsFormed o f) (marks : List (Mark G)) (len : length marks ≡ length f.potentials.items)
-      (found : IsFound o (OfStudent o f fresh o.zero) (Arc o f) f.potentials.items marks (sink_of f))
+      (found : IsFound o f (OfStudent o f fresh o.zero) (SearchArc o f) f.potentials.items marks (sink_of f))
       (none : slice_get f.held.items fresh ≡ Some None) (counted : IsCounted f (sink_of f))
       (H : Vec G Global) (long : length H.items ≡ length f.potentials.items)
       (low_is : (v : ℕ) → potential_at o H.items v ≡ lowered o marks f.potentials.items (mark_at o marks (sink_of f)).label v) where
@@ -55,15 +59,60 @@ module _ {G : Type 0} {o : Ops G} (laws : IsWorth o) (f : Flow G) (fresh : ℕ) 
 
     -- potentials only fall
     down : (v : ℕ) → AtMost o (low v) (potential o f v)
-    down = falls laws (OfStudent o f fresh o.zero) (Arc o f) f.potentials.items marks (sink_of f) found.settled found.search found.opened found.best fair.sink
+    down = falls laws f (OfStudent o f fresh o.zero) (SearchArc o f) marks (sink_of f) found.settled found.search found.opened found.best fair.sink
 
-    -- no arc improves under the new ones
+    -- a settled supervisor with room ends no higher than the sink
+    room_ends : (l : ℕ) → HasRoom f l → is_settled (mark_at o marks (project_count f + l)).rank ≡ true → AtMost o (key_at o marks f.potentials.items (project_count f + l)) top
+    room_ends l room s =
+        let t = settled_rank (mark_at o marks (project_count f + l)).rank s in
+        let open_sink = (open_rank (mark_at o marks (sink_of f)) found.opened).1 in
+        ends_below laws f (OfStudent o f fresh o.zero) (SearchArc o f) marks (sink_of f) found.settled found.search found.opened found.best fair.sink
+        (project_count f + l) t.0 (Room l) o.zero (sink_of f) refl t.1 (record { from_supervisor = refl; known = room.0; room = room.1; to_sink = refl; is = refl })
+        (rw (zero_left laws, fair.sink) (fair.supervisor l room.0))
+        (λ z. absurd (let no : is_settled None ≡ true = rw open_sink at z in cc))
+
+    -- and so does each node with a way
+    way_ends : (a : ℕ) → HasWay f a → is_settled (mark_at o marks a).rank ≡ true → AtMost o (key_at o marks f.potentials.items a) top
+    way_ends a (at_sink e) s =
+        let open_sink = (open_rank (mark_at o marks (sink_of f)) found.opened).1 in
+        let no : is_settled None ≡ true = rw (e, open_sink) at s in absurd (cc)
+    way_ends a (by_supervisor l e room) s = rw e (room_ends l room (rw e at s))
+    way_ends a (by_project l q at above room) s =
+        let t = settled_rank (mark_at o marks a).rank s in
+        ends_below laws f (OfStudent o f fresh o.zero) (SearchArc o f) marks (sink_of f) found.settled found.search found.opened found.best fair.sink
+        a t.0 (Offer a) o.zero (project_count f + l) refl t.1 (record { supervisor = l; quota = q; from_project = refl; project = at; room = above; to_supervisor = refl; is = refl })
+        (rw (zero_left laws) (fair.project a l q at)) (room_ends l room)
+
+    -- what a walk by some end outdoes comes to no more than the walk to the sink
+    outdone : (x : G) → IsOutdone o f marks x → AtMost o x top
+    outdone x h = elim h.1.reached [
+      | inl p ↦
+          (let least : AtMost o o.zero top = (sink_met f fresh marks (found.search.begun (Leave fresh) o.zero (sink_of f) (refl, refl, refl))).enough in
+          let here : AtMost o x o.zero = rw (p.0, fair.sink) at p.1 in
+          at_most_trans laws _ _ _ here least)
+      | inr p ↦ at_most_trans laws _ _ _ p.1 (elim (cases_Bool (is_settled (mark_at o marks h.0).rank)) [
+        | inl s ↦ way_ends h.0 h.1.way s
+        | inr s ↦ open_below laws f (OfStudent o f fresh o.zero) (SearchArc o f) marks (sink_of f) found.settled found.search found.opened found.best fair.sink h.0 p.0 s
+      ])
+    ]
+
+    -- no arc improves under the new ones, along which the search went
+    searched_arcs : (a : ℕ) (w : Origin) (c : G) (b : ℕ) → SearchArc o f a w c b → AtMost o (o.plus c (low b)) (low a)
+    searched_arcs = stays_feasible laws f (OfStudent o f fresh o.zero) (SearchArc o f) marks (sink_of f) found.settled found.search found.opened found.best fair.sink outdone
+        (λ a w c b d. but_feasible a w c b (plain o f a w c b d))
+
+    -- nor any other, since the potentials at nodes with a way stay
     arcs : (a : ℕ) (w : Origin) (c : G) (b : ℕ) → Arc o f a w c b → AtMost o (o.plus c (low b)) (low a)
-    arcs = stays_feasible laws (OfStudent o f fresh o.zero) (Arc o f) f.potentials.items marks (sink_of f) found.settled found.search found.opened found.best fair.sink but_feasible
+    arcs a w c b d = in_both o (HasWay f a) _ _ spared (λ none. searched_arcs a w c b (searched o f a w c b none d)) where
+      spared : HasWay f a → AtMost o (o.plus c (low b)) (low a)
+      spared way =
+          let falls_there : AtMost o (o.plus c (low b)) (o.plus c (potential o f b)) = rw (laws.comm c (low b), laws.comm c (potential o f b)) (at_most_shift laws _ _ c (down b)) in
+          let stays_here = stays laws f (OfStudent o f fresh o.zero) (SearchArc o f) marks (sink_of f) found.settled found.search found.opened found.best fair.sink a (way_ends a way) in
+          at_most_trans laws _ _ _ falls_there (at_most_trans laws _ _ _ (but_feasible a w c b d) stays_here)
 
     -- the new student is covered by the walk's worth
     begun : (w : Origin) (x : G) (b : ℕ) → OfStudent o f fresh o.zero w x b → AtMost o (o.plus x (low b)) top
-    begun = first_covered laws (OfStudent o f fresh o.zero) (Arc o f) f.potentials.items marks (sink_of f) found.settled found.search found.opened found.best fair.sink
+    begun = first_covered laws f (OfStudent o f fresh o.zero) (SearchArc o f) marks (sink_of f) found.settled found.search found.opened found.best fair.sink outdone
 
     -- an inequality of the lowered potentials, of the new flow's
     holds_of : (s a : ℕ) → Holds N s a → Holds f s a
@@ -123,10 +172,10 @@ module _ {G : Type 0} {o : Ops G} (laws : IsWorth o) (f : Flow G) (fresh : ℕ) 
       here : (v ≡ sink_of f) ⊎ (is_settled (mark_at o marks v).rank ≡ true)
       here = settled_or_sink v before
 
-      go : OfStudent o f fresh o.zero (mark_at o marks v).origin (mark_at o marks v).label v ⊎ FromNode o (Arc o f) marks found.settled v → IsFirst o N marks fresh top v ⊎ IsStep o N marks (length marks) v
+      go : OfStudent o f fresh o.zero (mark_at o marks v).origin (mark_at o marks v).label v ⊎ FromNode o (SearchArc o f) marks found.settled v → IsFirst o N marks fresh top v ⊎ IsStep o N marks (length marks) v
       go (inl h) = inl (record {
         offered = same_first _ _ v h;
-        tight = rw (low_is v) (tight_first laws (OfStudent o f fresh o.zero) (Arc o f) f.potentials.items marks (sink_of f) found.settled found.search found.opened found.best fair.sink v here);
+        tight = rw (low_is v) (tight_first laws f (OfStudent o f fresh o.zero) (SearchArc o f) marks (sink_of f) found.settled found.search found.opened found.best fair.sink v here);
       })
       go (inr h) = inr (record {
         before = h.before;
@@ -134,8 +183,8 @@ module _ {G : Type 0} {o : Ops G} (laws : IsWorth o) (f : Flow G) (fresh : ℕ) 
         worth = h.worth;
         settled = h.settled;
         earlier = rank_wider h.rank (mark_at o marks v).rank h.earlier;
-        along = same_arc h.before (mark_at o marks v).origin h.worth v h.along;
-        tight = rw (low_is v, low_is h.before) (tight_arc laws (OfStudent o f fresh o.zero) (Arc o f) f.potentials.items marks (sink_of f) found.settled found.search found.opened found.best fair.sink v here h);
+        along = same_arc h.before (mark_at o marks v).origin h.worth v (plain o f _ _ _ _ h.along);
+        tight = rw (low_is v, low_is h.before) (tight_arc laws f (OfStudent o f fresh o.zero) (SearchArc o f) marks (sink_of f) found.settled found.search found.opened found.best fair.sink v here h);
       })
 
     -- a found walk and the lowered potentials are where a push starts

@@ -11,7 +11,8 @@ use Rattle.spa.specs.Laws.{Ops, IsWorth, AtMost}
 use Rattle.network.proofs.Group.{at_most_refl, at_most_trans, at_most_rev, at_most_shift}
 use Rattle.network.specs.Marks.{is_seen, is_settled, is_open_mark, blank, mark_at, potential_at, key_at, improves, relaxed, settled_as}
 use Rattle.network.specs.Push.{one_if}
-use Rattle.network.specs.Labels.{count_of, AreLabels, AreKeyed, IsBounded, IsOrdered, IsQueue, IsQueueBut, IsWithout, HasWay, at_sink}
+use Rattle.network.specs.Labels.{count_of, AreLabels, AreKeyed, IsOrdered, IsQueue, IsQueueBut, IsWithout}
+use Rattle.network.specs.Ways.{IsBounded, HasWay, at_sink}
 use Rattle.network.specs.Arcs.{sink_of}
 use Rattle.network.proofs.Listed.{cond_one, stands, length_below}
 use Rattle.network.proofs.Labelled.{open_known, open_element, one_most, labels_set, labels_settled}

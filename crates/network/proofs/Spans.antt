@@ -4,14 +4,15 @@ use Rattle.std.proofs.lemmas.Bool.{cases_Bool, cond-true, cond-false}
 use Rattle.spa.specs.Laws.{Ops, IsWorth}
 use Rattle.network.specs.Marks.{mark_at, potential_at, is_settled}
 use Rattle.network.specs.Search.{IsFound, lowered}
-use Rattle.network.specs.Arcs.{Arc, IsFormed, sink_of}
+use Rattle.network.specs.Arcs.{IsFormed, sink_of}
+use Rattle.network.specs.Ways.{SearchArc}
 use Rattle.network.specs.Fair.{IsLow}
 use Rattle.network.specs.declared.flow.Flow.{Flow}
 use Rattle.network.specs.declared.marks.Origin.{Origin}
 use Rattle.network.specs.declared.marks.Mark.{Mark}
 
 module _ {G : Type 0} {o : Ops G} (laws : IsWorth o) (f : Flow G) (formed : IsFormed o f) (first : Origin → G → ℕ → Type 0) (marks : List (Mark G))
-    (found : IsFound o first (Arc o f) f.potentials.items marks (sink_of f)) where
+    (found : IsFound o f first (SearchArc o f) f.potentials.items marks (sink_of f)) where
   -- new potentials are small
   pub lowered_low : IsLow o f → (v : ℕ) → o.span (lowered o marks f.potentials.items (mark_at o marks (sink_of f)).label v) ≤ 2006
   lowered_low low v =

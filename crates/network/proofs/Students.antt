@@ -50,8 +50,8 @@ module _ {G : Type 0} {o : Ops G} (laws : IsWorth o) (f : Flow G) (a : ℕ) (lab
   Students i w x b = StudentsAmong o f a label xs i w x b
 
   -- no student is offered nothing
-  pub students_none : (m : List (Mark G)) → Relaxes o (Students 0) m m
-  students_none m = relaxes_as laws (λ w x b. ⊥) (Students 0) m m (λ w x b h. absurd h) back (relaxes_none laws m) where
+  pub students_none : (m : List (Mark G)) → Relaxes o f (Students 0) m m
+  students_none m = relaxes_as laws f (λ w x b. ⊥) (Students 0) m m (λ w x b h. absurd h) back (relaxes_none laws f m) where
     back : (w : Origin) (x : G) (b : ℕ) → Students 0 w x b → ⊥
     back Unseen x b h = h
     back (Entry s k) x b h = omega (arith, h.0.1)
@@ -62,8 +62,8 @@ module _ {G : Type 0} {o : Ops G} (laws : IsWorth o) (f : Flow G) (a : ℕ) (lab
 
   module _ (i t : ℕ) (at : slice_get xs i ≡ Some t) where
     -- a student who is not placed there adds no offer
-    pub students_skip : (l m : List (Mark G)) → (Holds f t a → ⊥) → Relaxes o (Students i) l m → Relaxes o (Students (i + 1)) l m
-    students_skip l m unheld = relaxes_as laws (Students i) (Students (i + 1)) l m to back where
+    pub students_skip : (l m : List (Mark G)) → (Holds f t a → ⊥) → Relaxes o f (Students i) l m → Relaxes o f (Students (i + 1)) l m
+    students_skip l m unheld = relaxes_as laws f (Students i) (Students (i + 1)) l m to back where
       to : (w : Origin) (x : G) (b : ℕ) → Students i w x b → Students (i + 1) w x b
       to Unseen x b h = h
       to (Entry s k) x b h = (among_more xs i s h.0, h.1)
@@ -81,9 +81,9 @@ module _ {G : Type 0} {o : Ops G} (laws : IsWorth o) (f : Flow G) (a : ℕ) (lab
       back (Room l) x b h = h
 
     -- a student who is placed there offers what the label less the worth of the place makes of the list
-    pub students_more : (l m n : List (Mark G)) (h : Holds f t a) → Relaxes o (Students i) l m → Relaxes o (OfStudent o f t (o.minus label h.worth)) m n → Relaxes o (Students (i + 1)) l n
+    pub students_more : (l m n : List (Mark G)) (h : Holds f t a) → Relaxes o f (Students i) l m → Relaxes o f (OfStudent o f t (o.minus label h.worth)) m n → Relaxes o f (Students (i + 1)) l n
     students_more l m n h e r =
-        relaxes_as laws (λ w x b. Students i w x b ⊎ OfStudent o f t (o.minus label h.worth) w x b) (Students (i + 1)) l n to back (relaxes_then laws _ _ l m n e r) where
+        relaxes_as laws f (λ w x b. Students i w x b ⊎ OfStudent o f t (o.minus label h.worth) w x b) (Students (i + 1)) l n to back (relaxes_then laws f _ _ l m n e r) where
           to : (w : Origin) (x : G) (b : ℕ) → Students i w x b ⊎ OfStudent o f t (o.minus label h.worth) w x b → Students (i + 1) w x b
           to Unseen x b = elim [ inl g ↦ g | inr g ↦ g ]
           to (Entry s k) x b = elim [

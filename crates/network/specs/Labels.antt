@@ -1,12 +1,13 @@
 -- The lists of the open and of the settled nodes, kept beside the marks of a search, and the order of the open ones.
-use Rattle.std.specs.Prelude.{◌≡◌, ℕ, ◌+◌, ◌<◌, ◌≤◌, ◌^◌, ◌⊎◌, ◌==◌, List, length, slice_get, slice_index, count_by, Some, true}
+use Rattle.std.specs.Prelude.{◌≡◌, ℕ, ◌+◌, ◌<◌, ◌≤◌, ◌^◌, ◌⊎◌, ◌==◌, List, length, slice_get, count_by, Some, true}
 use Rattle.std.specs.List.{remove, AllPairs}
 use Rattle.std.specs.Vec.{vec_capacity}
 use Rattle.spa.specs.Laws.{Ops, AtMost}
 use Rattle.network.specs.Marks.{is_seen, is_settled, is_open_mark, blank, mark_at, potential_at, key_at}
 use Rattle.network.specs.Push.{one_if}
-use Rattle.network.specs.Search.{Reaches}
-use Rattle.network.specs.Arcs.{Arc, project_count, sink_of}
+use Rattle.network.specs.Search.{Reaches, Meets}
+use Rattle.network.specs.Arcs.{project_count, sink_of}
+use Rattle.network.specs.Ways.{SearchArc, IsBounded}
 use Rattle.network.specs.declared.marks.Origin.{Origin}
 use Rattle.network.specs.declared.flow.Flow.{Flow}
 use Rattle.network.specs.declared.marks.Labels.{Labels}
@@ -47,25 +48,6 @@ pub record AreKeyed {G : Type 0} (o : Ops G) (f : Flow G) (marks : List (Mark G)
 abbrev pub IsOrdered : {G : Type 0} → Ops G → Flow G → List (Mark G) → List ℕ → Type 0
 IsOrdered o f marks nodes = AllPairs (λ a b. AtMost o (key_at o marks f.potentials.items a) (key_at o marks f.potentials.items b)) nodes
 
--- a supervisor has room
-abbrev pub HasRoom : {G : Type 0} → Flow G → ℕ → Type 0
-HasRoom f l = (l < length f.supervisors.items) × (slice_index f.load.items l < slice_index f.supervisors.items l)
-
--- a way to the sink that costs nothing: from the sink, a supervisor with room, or a project with room of such a supervisor
-pub data HasWay {G : Type 0} (f : Flow G) (v : ℕ) : Type 0 where
-  at_sink : v ≡ sink_of f → HasWay f v
-  by_supervisor : (l : ℕ) → v ≡ project_count f + l → HasRoom f l → HasWay f v
-  by_project : (l q : ℕ) → slice_get f.projects.items v ≡ Some (l, q) → slice_index f.filled.items v < q → HasRoom f l → HasWay f v
-
--- the next node on such a way
-abbrev pub IsNextOnWay : {G : Type 0} → Flow G → ℕ → ℕ → Type 0
-IsNextOnWay f v n = ((l q : ℕ) → slice_get f.projects.items v ≡ Some (l, q) → n ≡ project_count f + l) × (project_count f ≤ v → n ≡ sink_of f)
-
--- the bound is what a walk by the end comes to, or less
-pub record IsBounded {G : Type 0} (o : Ops G) (f : Flow G) (marks : List (Mark G)) (bound : G) (end : ℕ) : Type 0 where
-  pub way : HasWay f end
-  pub reached : ((end ≡ sink_of f) × AtMost o bound (potential_at o f.potentials.items end)) ⊎ ((is_seen (mark_at o marks end).origin ≡ true) × AtMost o bound (key_at o marks f.potentials.items end))
-
 -- the lists are right, and the open nodes in their order but those whose walks come to no more than the bound
 pub record IsQueue {G : Type 0} (o : Ops G) (f : Flow G) (l : Labels G) : Type 0 where
   pub labels : AreLabels o l
@@ -92,6 +74,6 @@ pub record IsBelow {G : Type 0} (o : Ops G) (f : Flow G) : Type 0 where
 -- a search before a choice: the arcs of settled nodes were compared, and the sink was reached and is not settled
 pub record IsUnderway {G : Type 0} (o : Ops G) (f : Flow G) (marks : List (Mark G)) : Type 0 where
   pub below : IsBelow o f
-  pub done : (a r : ℕ) (w : Origin) (c : G) (b : ℕ) → (mark_at o marks a).rank ≡ Some r → Arc o f a w c b → Reaches o marks b (o.plus (mark_at o marks a).label c)
+  pub done : (a r : ℕ) (w : Origin) (c : G) (b : ℕ) → (mark_at o marks a).rank ≡ Some r → SearchArc o f a w c b → Meets o f marks w b (o.plus (mark_at o marks a).label c)
   pub sink_open : is_open_mark (mark_at o marks (sink_of f)) ≡ true
   pub sink_least : Reaches o marks (sink_of f) o.zero

@@ -4,9 +4,10 @@ ghost use Rattle.std.specs.Prelude.{◌≡◌, ℕ, ◌+◌, ◌*◌, ◌<◌, �
 ghost use Rattle.spa.specs.declared.TheConstants.{RANKS};
 ghost use Rattle.network.specs.Marks.{mark_at};
 ghost use Rattle.network.specs.Labels.{AreLabels, AreBlank};
+ghost use Rattle.network.specs.Ways.{SearchArc};
 ghost use Rattle.network.specs.Kept.{IsKept};
 ghost use Rattle.network.specs.Search.{IsFound};
-ghost use Rattle.network.specs.Arcs.{Arc, IsFormed, HasEntry, OfStudent, sink_of, flow_arcs};
+ghost use Rattle.network.specs.Arcs.{IsFormed, HasEntry, OfStudent, sink_of, flow_arcs};
 ghost use Rattle.spa.specs.Laws.{AtMost};
 ghost use Rattle.network.specs.Fair.{IsFairBut, IsLow, potential};
 ghost use Rattle.network.specs.Push.{IsCounted, IsPushing, IsPushed};
@@ -28,7 +29,7 @@ fn lower_flow<G: Worth>(flow: &mut Flow<G>, fresh: usize, labels: &Labels<G>, to
     requires waiting { slice_get flow.old.held.items fresh ≡ Some None }
     requires labels { AreLabels G.ops labels.now }
     requires marks { length labels.now.marks.items ≡ length flow.old.potentials.items }
-    requires found { IsFound G.ops (OfStudent G.ops flow.old fresh G.ops.zero) (Arc G.ops flow.old) flow.old.potentials.items labels.now.marks.items (sink_of flow.old) }
+    requires found { IsFound G.ops flow.old (OfStudent G.ops flow.old fresh G.ops.zero) (SearchArc G.ops flow.old) flow.old.potentials.items labels.now.marks.items (sink_of flow.old) }
     requires top { top ≡ (mark_at G.ops labels.now.marks.items (sink_of flow.old)).label }
     ensures pushing { IsPushing G.ops flow.new labels.now.marks.items fresh top (sink_of flow.new) }
     ensures sink { sink_of flow.new ≡ sink_of flow.old }

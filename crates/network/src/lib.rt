@@ -10,7 +10,7 @@
 //! admitted to the flow that the ones before left: the arcs are kept, and a search touches what it reaches alone.
 //!
 //! Read on in `specs/Seen.antt`, which says all of this in lists alone, then in `specs/Fair.antt` (what the potentials
-//! keep), `specs/Search.antt` and `specs/Push.antt`.
+//! keep), `specs/Ways.antt` (what a search spares), `specs/Search.antt` and `specs/Push.antt`.
 #![tactic(auto)]
 
 mod admit;

@@ -4,13 +4,15 @@ ghost use Rattle.std.specs.Prelude.{◌≡◌, ℕ, ◌+◌, ◌*◌, ◌<◌, �
 ghost use Rattle.spa.specs.declared.TheConstants.{MOST_STUDENTS, RANKS};
 ghost use Rattle.network.specs.declared.TheConstants.{MOST_OFFERS};
 ghost use Rattle.network.specs.Labels.{IsQueue};
+ghost use Rattle.network.specs.Ways.{SearchArc};
 ghost use Rattle.network.specs.Kept.{numbers_at, IsKept};
 ghost use Rattle.network.specs.Search.{Relaxes, OffersOf};
-ghost use Rattle.network.specs.Arcs.{Arc, IsFormed, OfStudent, EntriesBelow, StudentsAmong, ProjectsAmong, list_cost, HasEntry, Holds, sink_of, project_count};
+ghost use Rattle.network.specs.Arcs.{IsFormed, OfStudent, EntriesBelow, StudentsAmong, ProjectsAmong, list_cost, HasEntry, Holds, sink_of, project_count};
 
 use crate::flow::Flow;
 use crate::kept::{Kept, projects_at, students_at};
 use crate::marks::{Labels, Origin, relax};
+use crate::ways::has_way;
 use spa::Worth;
 
 /// The entry at a position of a student's list.
@@ -57,7 +59,7 @@ fn relax_entry<G: Worth>(
     requires label { G.ops.span label < 2 ^ 32 }
     requires count { count.old < 2 ^ 40 }
     ensures queue { IsQueue G.ops flow.now labels.new }
-    ensures relaxes { (m : _) → Relaxes G.ops (EntriesBelow G.ops flow.now student label k) m labels.old.marks.items → Relaxes G.ops (EntriesBelow G.ops flow.now student label (k + 1)) m labels.new.marks.items }
+    ensures relaxes { (m : _) → Relaxes G.ops flow.now (EntriesBelow G.ops flow.now student label k) m labels.old.marks.items → Relaxes G.ops flow.now (EntriesBelow G.ops flow.now student label (k + 1)) m labels.new.marks.items }
     ensures count { count.new ≡ count.old + 1 }
 {
     let (project, worth) = entry(flow, student, k);
@@ -86,7 +88,7 @@ pub(crate) fn relax_entries<G: Worth>(
     requires label { G.ops.span label < 2 ^ 32 }
     requires count { count.old < 2 ^ 32 }
     ensures queue { IsQueue G.ops flow.now labels.new }
-    ensures relaxes { Relaxes G.ops (OfStudent G.ops flow.now student label) labels.old.marks.items labels.new.marks.items }
+    ensures relaxes { Relaxes G.ops flow.now (OfStudent G.ops flow.now student label) labels.old.marks.items labels.new.marks.items }
     ensures count { (row : _) → slice_get flow.now.lists.items student ≡ Some row → count.new ≡ count.old + length row.items + 1 }
     ensures small { count.new ≤ count.old + MOST_OFFERS }
 {
@@ -136,7 +138,7 @@ fn relax_student<G: Worth>(
     requires label { G.ops.span label < 2 ^ 31 }
     requires count { count.old < 2 ^ 32 }
     ensures queue { IsQueue G.ops flow.now labels.new }
-    ensures relaxes { (m : _) (xs : List ℕ) (i : ℕ) → slice_get xs i ≡ Some student → Relaxes G.ops (StudentsAmong G.ops flow.now project label xs i) m labels.old.marks.items → Relaxes G.ops (StudentsAmong G.ops flow.now project label xs (i + 1)) m labels.new.marks.items }
+    ensures relaxes { (m : _) (xs : List ℕ) (i : ℕ) → slice_get xs i ≡ Some student → Relaxes G.ops flow.now (StudentsAmong G.ops flow.now project label xs i) m labels.old.marks.items → Relaxes G.ops flow.now (StudentsAmong G.ops flow.now project label xs (i + 1)) m labels.new.marks.items }
     ensures grows { count.old ≤ count.new }
     ensures cost { count.new ≤ count.old + list_cost flow.now.lists.items student }
     ensures small { count.new ≤ count.old + MOST_OFFERS }
@@ -164,7 +166,7 @@ fn relax_students<G: Worth>(
     requires label { G.ops.span label < 2 ^ 31 }
     requires count { count.old < 2 ^ 31 }
     ensures queue { IsQueue G.ops flow.now labels.new }
-    ensures relaxes { Relaxes G.ops (StudentsAmong G.ops flow.now project label (numbers_at kept.now.seated.items project) (length (numbers_at kept.now.seated.items project))) labels.old.marks.items labels.new.marks.items }
+    ensures relaxes { Relaxes G.ops flow.now (StudentsAmong G.ops flow.now project label (numbers_at kept.now.seated.items project) (length (numbers_at kept.now.seated.items project))) labels.old.marks.items labels.new.marks.items }
     ensures grows { count.old ≤ count.new }
     ensures cost { count.new ≤ count.old + sum_by (λ row. length row.items + 1) flow.now.lists.items }
     ensures small { count.new ≤ count.old + MOST_STUDENTS * MOST_OFFERS }
@@ -209,7 +211,7 @@ pub(crate) fn supervisor_node<G: Worth>(flow: &Flow<G>, supervisor: usize) -> us
     flow.projects.len() + supervisor
 }
 
-/// The arcs out of a project.
+/// The arcs out of a project; where the way to the sink costs nothing, no other can be better.
 pub(crate) fn relax_project<G: Worth>(
     flow: &Flow<G>,
     kept: &Kept,
@@ -226,12 +228,14 @@ pub(crate) fn relax_project<G: Worth>(
     requires label { G.ops.span label < 2 ^ 31 }
     requires count { count.old < 2 ^ 31 }
     ensures queue { IsQueue G.ops flow.now labels.new }
-    ensures relaxes { Relaxes G.ops (OffersOf G.ops (Arc G.ops flow.now) at label) labels.old.marks.items labels.new.marks.items }
+    ensures relaxes { Relaxes G.ops flow.now (OffersOf G.ops (SearchArc G.ops flow.now) at label) labels.old.marks.items labels.new.marks.items }
     ensures grows { count.old ≤ count.new }
     ensures cost { count.new ≤ count.old + sum_by (λ row. length row.items + 1) flow.now.lists.items + 1 }
     ensures small { count.new ≤ count.old + MOST_STUDENTS * MOST_OFFERS + 1 }
 {
-    relax_students(flow, kept, at, label, labels, count);
+    if !has_way(flow, at) {
+        relax_students(flow, kept, at, label, labels, count);
+    }
     let (supervisor, quota) = project(flow, at);
     if project_has_room(flow, at, quota) {
         relax(
@@ -262,7 +266,7 @@ fn relax_swaps<G: Worth>(
     requires label { G.ops.span label < 2 ^ 31 }
     requires count { count.old < 2 ^ 31 }
     ensures queue { IsQueue G.ops flow.now labels.new }
-    ensures relaxes { Relaxes G.ops (ProjectsAmong G.ops flow.now supervisor label (numbers_at kept.now.offered.items supervisor) (length (numbers_at kept.now.offered.items supervisor))) labels.old.marks.items labels.new.marks.items }
+    ensures relaxes { Relaxes G.ops flow.now (ProjectsAmong G.ops flow.now supervisor label (numbers_at kept.now.offered.items supervisor) (length (numbers_at kept.now.offered.items supervisor))) labels.old.marks.items labels.new.marks.items }
     ensures grows { count.old ≤ count.new }
     ensures cost { count.new ≤ count.old + length flow.now.projects.items }
 {
@@ -279,7 +283,7 @@ fn relax_swaps<G: Worth>(
     }
 }
 
-/// The arcs out of a supervisor.
+/// The arcs out of a supervisor; where the way to the sink costs nothing, no other can be better.
 pub(crate) fn relax_supervisor<G: Worth>(
     flow: &Flow<G>,
     kept: &Kept,
@@ -296,11 +300,10 @@ pub(crate) fn relax_supervisor<G: Worth>(
     requires label { G.ops.span label < 2 ^ 31 }
     requires count { count.old < 2 ^ 31 }
     ensures queue { IsQueue G.ops flow.now labels.new }
-    ensures relaxes { Relaxes G.ops (OffersOf G.ops (Arc G.ops flow.now) (length flow.now.projects.items + supervisor) label) labels.old.marks.items labels.new.marks.items }
+    ensures relaxes { Relaxes G.ops flow.now (OffersOf G.ops (SearchArc G.ops flow.now) (length flow.now.projects.items + supervisor) label) labels.old.marks.items labels.new.marks.items }
     ensures grows { count.old ≤ count.new }
     ensures cost { count.new ≤ count.old + length flow.now.projects.items + 1 }
 {
-    relax_swaps(flow, kept, supervisor, label, labels, count);
     if supervisor_has_room(flow, supervisor) {
         relax(
             flow,
@@ -310,5 +313,7 @@ pub(crate) fn relax_supervisor<G: Worth>(
             Origin::Room(supervisor),
             count,
         );
+    } else {
+        relax_swaps(flow, kept, supervisor, label, labels, count);
     }
 }

@@ -4,10 +4,11 @@ ghost use Rattle.std.specs.Prelude.{◌≡◌, ℕ, ◌+◌, ◌*◌, ◌<◌, �
 ghost use Rattle.spa.specs.Laws.{AtMost};
 ghost use Rattle.network.specs.Marks.{mark_at, potential_at, key_at, blank, settled_as, is_open_mark};
 ghost use Rattle.network.specs.Labels.{AreLabels, IsBelow, IsQueue};
+ghost use Rattle.network.specs.Ways.{SearchArc};
 ghost use Rattle.network.specs.Kept.{IsKept};
 ghost use Rattle.network.specs.declared.TheConstants.{MOST_OFFERS, MOST_ARCS};
 ghost use Rattle.network.specs.Search.{Relaxes, OffersOf, Feasible, IsFound, IsRunning};
-ghost use Rattle.network.specs.Arcs.{Arc, IsFormed, OfStudent, sink_of, flow_arcs};
+ghost use Rattle.network.specs.Arcs.{IsFormed, OfStudent, sink_of, flow_arcs};
 
 use crate::flow::Flow;
 use crate::kept::Kept;
@@ -40,7 +41,7 @@ fn relax_node<G: Worth>(
     requires label { G.ops.span label < 2 ^ 31 }
     requires count { count.old < 2 ^ 31 }
     ensures queue { IsQueue G.ops flow.now labels.new }
-    ensures relaxes { Relaxes G.ops (OffersOf G.ops (Arc G.ops flow.now) node label) labels.old.marks.items labels.new.marks.items }
+    ensures relaxes { Relaxes G.ops flow.now (OffersOf G.ops (SearchArc G.ops flow.now) node label) labels.old.marks.items labels.new.marks.items }
     ensures grows { count.old ≤ count.new }
     ensures cost { count.new ≤ count.old + flow_arcs flow.now }
     ensures small { count.new ≤ count.old + MOST_ARCS }
@@ -71,7 +72,7 @@ fn expand<G: Worth>(
     requires label { G.ops.span (mark_at G.ops labels.old.marks.items node).label < 2 ^ 31 }
     requires count { count.old < 2 ^ 31 }
     ensures queue { IsQueue G.ops flow.now labels.new }
-    ensures relaxes { Relaxes G.ops (OffersOf G.ops (Arc G.ops flow.now) node (mark_at G.ops labels.old.marks.items node).label) (slice_set labels.old.marks.items node (settled_as (mark_at G.ops labels.old.marks.items node) rank)) labels.new.marks.items }
+    ensures relaxes { Relaxes G.ops flow.now (OffersOf G.ops (SearchArc G.ops flow.now) node (mark_at G.ops labels.old.marks.items node).label) (slice_set labels.old.marks.items node (settled_as (mark_at G.ops labels.old.marks.items node) rank)) labels.new.marks.items }
     ensures grows { count.old ≤ count.new }
     ensures cost { count.new ≤ count.old + flow_arcs flow.now }
     ensures small { count.new ≤ count.old + MOST_ARCS }
@@ -94,13 +95,13 @@ fn advance<G: Worth>(
     requires kept { IsKept flow.now kept.now }
     requires queue { IsQueue G.ops flow.now labels.old }
     requires formed { IsFormed G.ops flow.now }
-    requires running { IsRunning G.ops (OfStudent G.ops flow.now student G.ops.zero) (Arc G.ops flow.now) flow.now.potentials.items (sink_of flow.now) labels.old.marks.items rank node }
-    requires feasible { Feasible G.ops (Arc G.ops flow.now) flow.now.potentials.items }
+    requires running { IsRunning G.ops flow.now (OfStudent G.ops flow.now student G.ops.zero) (SearchArc G.ops flow.now) flow.now.potentials.items (sink_of flow.now) labels.old.marks.items rank node }
+    requires feasible { Feasible G.ops (SearchArc G.ops flow.now) flow.now.potentials.items }
     requires below { IsBelow G.ops flow.now }
     requires node { node < sink_of flow.now }
     requires count { count.old < 2 ^ 31 }
     ensures queue { IsQueue G.ops flow.now labels.new }
-    ensures running { IsRunning G.ops (OfStudent G.ops flow.now student G.ops.zero) (Arc G.ops flow.now) flow.now.potentials.items (sink_of flow.now) labels.new.marks.items (rank + 1) result }
+    ensures running { IsRunning G.ops flow.now (OfStudent G.ops flow.now student G.ops.zero) (SearchArc G.ops flow.now) flow.now.potentials.items (sink_of flow.now) labels.new.marks.items (rank + 1) result }
     ensures grows { count.old ≤ count.new }
     ensures cost { count.new ≤ count.old + flow_arcs flow.now }
     ensures small { count.new ≤ count.old + MOST_ARCS }
@@ -117,11 +118,11 @@ fn begin<G: Worth>(flow: &Flow<G>, student: usize, labels: &mut Labels<G>, count
     requires fresh { (b : ℕ) → mark_at G.ops labels.old.marks.items b ≡ blank G.ops }
     requires student { student < length flow.now.lists.items }
     requires potentials { (v : ℕ) → G.ops.span (potential_at G.ops flow.now.potentials.items v) ≤ 2 ^ 20 }
-    requires feasible { Feasible G.ops (Arc G.ops flow.now) flow.now.potentials.items }
+    requires feasible { Feasible G.ops (SearchArc G.ops flow.now) flow.now.potentials.items }
     requires below { IsBelow G.ops flow.now }
     requires count { count.old < 2 ^ 31 }
     ensures queue { IsQueue G.ops flow.now labels.new }
-    ensures running { IsRunning G.ops (OfStudent G.ops flow.now student G.ops.zero) (Arc G.ops flow.now) flow.now.potentials.items (sink_of flow.now) labels.new.marks.items 0 result }
+    ensures running { IsRunning G.ops flow.now (OfStudent G.ops flow.now student G.ops.zero) (SearchArc G.ops flow.now) flow.now.potentials.items (sink_of flow.now) labels.new.marks.items 0 result }
     ensures cost { (row : _) → slice_get flow.now.lists.items student ≡ Some row → count.new ≡ count.old + length row.items + 1 }
     ensures small { count.new ≤ count.old + MOST_OFFERS }
 {
@@ -144,12 +145,12 @@ pub(crate) fn search<G: Worth>(
     requires marks { length labels.old.marks.items ≡ length flow.now.potentials.items }
     requires fresh { (b : ℕ) → mark_at G.ops labels.old.marks.items b ≡ blank G.ops }
     requires student { student < length flow.now.lists.items }
-    requires feasible { Feasible G.ops (Arc G.ops flow.now) flow.now.potentials.items }
+    requires feasible { Feasible G.ops (SearchArc G.ops flow.now) flow.now.potentials.items }
     requires below { IsBelow G.ops flow.now }
     requires potentials { (v : ℕ) → G.ops.span (potential_at G.ops flow.now.potentials.items v) ≤ 2 ^ 20 }
     requires count { count.old < 2 ^ 30 }
     ensures labels { AreLabels G.ops labels.new }
-    ensures found { IsFound G.ops (OfStudent G.ops flow.now student G.ops.zero) (Arc G.ops flow.now) flow.now.potentials.items labels.new.marks.items (sink_of flow.now) }
+    ensures found { IsFound G.ops flow.now (OfStudent G.ops flow.now student G.ops.zero) (SearchArc G.ops flow.now) flow.now.potentials.items labels.new.marks.items (sink_of flow.now) }
     ensures len { length labels.new.marks.items ≡ length labels.old.marks.items }
     ensures least { (row : _) → slice_get flow.now.lists.items student ≡ Some row → count.old + length row.items + 1 ≤ count.new }
     ensures cost { (row : _) → slice_get flow.now.lists.items student ≡ Some row → count.new ≤ count.old + length row.items + 1 + sink_of flow.now * flow_arcs flow.now }

@@ -1,6 +1,6 @@
 //! The open nodes in their order, the best way to the sink found so far, and the choice of the next node.
 
-ghost use Rattle.std.specs.Prelude.{◌≡◌, ℕ, ◌+◌, ◌-◌, ◌<◌, ◌≤◌, ◌==◌, ◌^◌, length, slice_get, Some, true};
+ghost use Rattle.std.specs.Prelude.{◌≡◌, ℕ, ◌+◌, ◌-◌, ◌<◌, ◌≤◌, ◌==◌, ◌^◌, length, slice_get, Some, true, IsTrue};
 ghost use Rattle.std.specs.Vec.{vec_len, vec_capacity};
 ghost use Rattle.std.specs.Ordering.{is_gt};
 ghost use Rattle.spa.specs.Laws.{AtMost};
@@ -36,6 +36,19 @@ fn key_of<G: Worth>(flow: &Flow<G>, labels: &Labels<G>, node: usize) -> G
     labels.marks[node].label.plus(flow.potentials[node])
 }
 
+/// Does no walk by an open node come to more than this?
+fn ends_highest<G: Worth>(flow: &Flow<G>, labels: &Labels<G>, key: G) -> bool
+    requires keyed { AreKeyed G.ops flow.now labels.now.marks.items }
+    requires known { (k b : ℕ) → slice_get labels.now.frontier.items k ≡ Some b → b < length labels.now.marks.items }
+    requires ordered { IsOrdered G.ops flow.now labels.now.marks.items labels.now.frontier.items }
+    ensures { IsTrue result → (k b : ℕ) → slice_get labels.now.frontier.items k ≡ Some b → AtMost G.ops (key_at G.ops labels.now.marks.items flow.now.potentials.items b) key }
+{
+    match labels.frontier.last() {
+        None => true,
+        Some(top) => !exceeds(key_of(flow, labels, *top), key),
+    }
+}
+
 /// Where the node stands in the order: after all open nodes whose walks come to no more.
 fn place_for<G: Worth>(flow: &Flow<G>, labels: &Labels<G>, node: usize) -> usize
     requires keyed { AreKeyed G.ops flow.now labels.now.marks.items }
@@ -49,6 +62,9 @@ fn place_for<G: Worth>(flow: &Flow<G>, labels: &Labels<G>, node: usize) -> usize
     let key = key_of(flow, labels, node);
     let mut low = 0;
     let mut high = labels.frontier.len();
+    if ends_highest(flow, labels, key) {
+        return high;
+    }
     while low < high {
         let middle = low + (high - low) / 2;
         if exceeds(key_of(flow, labels, labels.frontier[middle]), key) {

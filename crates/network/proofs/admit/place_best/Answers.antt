@@ -3,10 +3,11 @@ use Rattle.std.proofs.lemmas.Option.{slice_get_within}
 use Rattle.network.specs.Kept.{IsKept}
 use Rattle.network.specs.Push.{IsPushing}
 use Rattle.network.proofs.PushStart.{but_feasible}
+use Rattle.network.proofs.Spared.{plain}
 use Rattle.network.proofs.admit.place_best.Goals as goal
 
 pub search-requires-clause-feasible : goal.search-requires-clause-feasible
-search-requires-clause-feasible g c = but_feasible g.met.G.Worth.laws c.args.flow.now c.args.fresh c.requires.fair
+search-requires-clause-feasible g c = λ a w x b d. but_feasible g.met.G.Worth.laws c.args.flow.now c.args.fresh c.requires.fair a w x b (plain g.G.Worth.ops c.args.flow.now a w x b d)
 
 pub search-requires-clause-student : goal.search-requires-clause-student
 search-requires-clause-student g c =

@@ -15,7 +15,7 @@ put_in_order-requires-clause-room g c = let fits = but_fits g.met.G.Worth.laws c
 
 pub returns-then-has_way-clause-queue : goal.returns-then-has_way-clause-queue
 returns-then-has_way-clause-queue g c =
-    rw c.key_of-key.ensures (queue_end g.met.G.Worth.laws c.args.flow.now c.args.labels.now c.args.node c.requires.queue c.requires.node (c.has_way.ensures c.if-has_way.true) (rw c.key_of-key.ensures at (sym c.exceeds.ensures ∙ c.if-not-exceeds.false)))
+    rw c.key_of-key.ensures (queue_end g.met.G.Worth.laws c.args.flow.now c.args.labels.now c.args.node c.requires.queue c.requires.node (c.has_way.ensures.way c.if-has_way.true) (rw c.key_of-key.ensures at (sym c.exceeds.ensures ∙ c.if-not-exceeds.false)))
 
 pub returns-else-has_way-clause-queue : goal.returns-else-has_way-clause-queue
 returns-else-has_way-clause-queue g c =

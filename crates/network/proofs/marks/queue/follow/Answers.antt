@@ -1,7 +1,8 @@
 use Rattle.std.proofs.Common.{◌≡◌, sym, ◌∙◌, ap}
 use Rattle.std.specs.Prelude.{true, false}
 use Rattle.network.specs.Marks.{is_settled, mark_at}
-use Rattle.network.specs.Labels.{IsBounded, IsUnderway}
+use Rattle.network.specs.Labels.{IsUnderway}
+use Rattle.network.specs.Ways.{IsBounded}
 use Rattle.network.specs.declared.marks.Labels.{Labels}
 use Rattle.network.proofs.Queue.{queue_onward}
 use Rattle.network.proofs.Onward.{end_open, way_next}
