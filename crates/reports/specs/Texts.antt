@@ -20,11 +20,11 @@ left width text = text ++ replicate (width - length text) 32
 abbrev pub right : ℕ → ℕ → List ℕ
 right width n = replicate (width - length (decimal n)) 32 ++ decimal n
 
--- a line of profile: a name and how many
+-- a line of profile: a name, and how many
 abbrev pub count_row : List ℕ → ℕ → List ℕ
 count_row name count = left 8 name ++ right 5 count ++ 10 ∷ []
 
--- how many students a round placed at a rank
+-- the line of a rank: how many students the round placed at it
 abbrev pub rank_row : State → ℕ → ℕ → List ℕ
 rank_row o n rank = count_row (codes "RANK " ++ decimal rank) (placed_at_rank o n rank)
 

@@ -1,11 +1,11 @@
 //! The report `loads`.
 
-ghost use Rattle.std.specs.Prelude.{◌≡◌, ℕ, ◌++◌, ◌∷◌, [], IfOk, OnOk, string_bytes, flat_map, filter};
+ghost use Rattle.std.specs.Prelude.{◌≡◌, ◌++◌, ◌∷◌, [], IfOk, OnOk, string_bytes, flat_map, filter};
 ghost use Rattle.std.specs.Str.{bytes_eq};
 ghost use Rattle.rolls.specs.State.{is_offered_by};
 ghost use Rattle.reports.specs.Texts.{placed_with_supervisor_by, placed_in_project_by, load_row, project_row, offered_rows, supervisor_rows, loads_text};
 
-use crate::find::find;
+use crate::find::project_of;
 use office::Office;
 use rolls::{Project, Supervisor};
 use spa::Code;
@@ -16,8 +16,7 @@ use std::fmt::Write;
 fn is_offered_by(office: &Office, supervisor: &str, project: &str) -> bool
     ensures { result ≡ is_offered_by office.now supervisor.now project.now }
 {
-    office.fit();
-    match find(office.projects(), 0, project) {
+    match project_of(office, project) {
         Some(entry) => supervisor == entry.supervisor.as_str(),
         None => false,
     }
@@ -56,7 +55,7 @@ fn push_load(
     ensures { OnOk result (string_bytes out.new ≡ string_bytes out.old ++ load_row width code.now placed quota) }
 {
     let code = code.as_str();
-    write!(out, "{code:<width$}{placed:>5}{quota:>5}\n")?;
+    writeln!(out, "{code:<width$}{placed:>5}{quota:>5}")?;
     Ok(())
 }
 

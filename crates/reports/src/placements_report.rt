@@ -1,6 +1,6 @@
 //! The report `placements`.
 
-ghost use Rattle.std.specs.Prelude.{◌≡◌, ℕ, ◌++◌, ◌∷◌, [], ◌==◌, IfOk, OnOk, string_bytes, flat_map, filter};
+ghost use Rattle.std.specs.Prelude.{◌≡◌, ◌++◌, ◌∷◌, [], ◌==◌, IfOk, OnOk, string_bytes, flat_map, filter};
 ghost use Rattle.reports.specs.Texts.{placement_row, placements_text};
 
 use office::Office;
@@ -16,7 +16,7 @@ fn push_placement(out: &mut String, round: u32, placement: &Placement) -> Result
         let student = placement.student.as_str();
         let project = placement.project.as_str();
         let rank = placement.rank;
-        write!(out, "{student:<16} {project:<16} {rank:>2}\n")?;
+        writeln!(out, "{student:<16} {project:<16} {rank:>2}")?;
     }
     Ok(())
 }

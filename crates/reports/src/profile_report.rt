@@ -1,12 +1,12 @@
 //! The report `profile`.
 
-ghost use Rattle.std.specs.Prelude.{◌≡◌, ℕ, ◌++◌, ◌∷◌, [], ◌==◌, ◌&&◌, IfOk, OnOk, string_bytes, flat_map, map, length, count_by, codes, decimal};
+ghost use Rattle.std.specs.Prelude.{◌≡◌, ◌++◌, IfOk, OnOk, string_bytes, flat_map};
 ghost use Rattle.std.specs.List.{range_with_len};
 ghost use Rattle.spa.specs.declared.TheConstants.{RANKS};
 ghost use Rattle.rolls.specs.State.{is_open, placed_in_round, placed_at_rank};
 ghost use Rattle.reports.specs.Texts.{rank_row, state_word, profile_text};
 
-use crate::find::find;
+use crate::find::round_of;
 use office::Office;
 use spa::RANKS;
 use std::alloc::{AllocError, Global};
@@ -16,8 +16,7 @@ use std::fmt::Write;
 fn is_open(office: &Office, round: u32) -> bool
     ensures { result ≡ is_open office.now round }
 {
-    office.fit();
-    match find(office.rounds(), round, "") {
+    match round_of(office, round) {
         Some(found) => found.is_open,
         None => false,
     }
@@ -63,7 +62,7 @@ fn push_ranks(out: &mut String, office: &Office, round: u32) -> Result<(), Alloc
     for k in 0..RANKS {
         let rank = k as u32 + 1;
         let placed = placed_at_rank(office, round, rank);
-        write!(out, "RANK {rank:<3}{placed:>5}\n")?;
+        writeln!(out, "RANK {rank:<3}{placed:>5}")?;
     }
     Ok(())
 }

@@ -1,9 +1,9 @@
 //! The report `unplaced`.
 
-ghost use Rattle.std.specs.Prelude.{◌≡◌, ℕ, ◌++◌, ◌∷◌, [], IfOk, OnOk, string_bytes, flat_map, filter};
+ghost use Rattle.std.specs.Prelude.{◌≡◌, ◌++◌, ◌∷◌, [], IfOk, OnOk, string_bytes, flat_map, filter};
 ghost use Rattle.reports.specs.Texts.{is_placed_by, is_unplaced, student_row, unplaced_text};
 
-use crate::find::find;
+use crate::find::placement_of;
 use office::Office;
 use rolls::Student;
 use std::alloc::{AllocError, Global};
@@ -13,8 +13,7 @@ use std::fmt::Write;
 fn is_placed_by(office: &Office, round: u32, student: &str) -> bool
     ensures { result ≡ is_placed_by office.now round student.now }
 {
-    office.fit();
-    match find(office.placements(), 0, student) {
+    match placement_of(office, student) {
         Some(placement) => placement.round == round,
         None => false,
     }
@@ -40,7 +39,7 @@ fn push_student(
     if is_unplaced(office, round, student) {
         let code = student.code.as_str();
         let label = student.label.as_str();
-        write!(out, "{code:<16} {label}\n")?;
+        writeln!(out, "{code:<16} {label}")?;
     }
     Ok(())
 }

@@ -6,12 +6,12 @@ use Rattle.reports.proofs.Lines.{joined, chosen}
 use Rattle.reports.specs.Texts.{left, right, placement_row}
 use Rattle.reports.proofs.placements_report.push_placement.Goals as goal
 
-pub returns-in_ok-write : goal.returns-in_ok-write
-returns-in_ok-write c =
+pub returns-in_ok-writeln : goal.returns-in_ok-writeln
+returns-in_ok-writeln c =
     let student = left_code 16 _ _ _ (ap (λ s. styled_text s c.as_str-student.result.now) c.laid_out.ensures) c.as_str-student.ensures.value c.as_str-student.ensures.form in
     let project = left_code 16 _ _ _ (ap (λ s. styled_text s c.as_str-project.result.now) c.laid_out-then-placement-round.ensures) c.as_str-project.ensures.value c.as_str-project.ensures.form in
     let rank = ap (λ s. styled_decimal s c.args.placement.now.rank) c.laid_out-then-placement-round-2.ensures ∙ right_number 2 c.args.placement.now.rank (omega arith) in
     let p = c.args.placement.now in
-    c.in_ok-write.ensures.bytes ∙ (λ i. string_bytes c.args.out.now ++ (student i ++ (32 ∷ (project i ++ (32 ∷ (rank i ++ 10 ∷ []))))))
+    c.in_ok-writeln.ensures.bytes ∙ (λ i. string_bytes c.args.out.now ++ (student i ++ (32 ∷ (project i ++ (32 ∷ (rank i ++ 10 ∷ []))))))
     ∙ ap (λ l. string_bytes c.args.out.now ++ l) (joined (left 16 p.student) (32 ∷ left 16 p.project) (32 ∷ right 2 p.rank) (10 ∷ []))
     ∙ ap (λ l. string_bytes c.args.out.now ++ l) (chosen placement_row (λ p. p.round == c.args.round) c.args.placement.now (eq-eqb _ _ c.if-placement-round.true))

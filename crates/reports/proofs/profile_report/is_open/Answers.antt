@@ -1,9 +1,10 @@
-use Rattle.std.proofs.Common.{List, ap, ◌∙◌}
+use Rattle.std.proofs.Common.{false, Option, ap}
+use Rattle.std.specs.Option.{option_map_or}
 use Rattle.rolls.specs.declared.rounds.Round.{Round}
-use Rattle.rolls.specs.State.{round_key}
-use Rattle.rolls.specs.Roll.{rises}
-use Rattle.rolls.proofs.LastRound.{rounds_rise}
 use Rattle.reports.proofs.profile_report.is_open.Goals as goal
 
-pub find-requires : goal.find-requires
-find-requires c = ap (λ (rs : List Round). rises round_key rs) c.rounds.ensures.all ∙ rounds_rise c.args.office.now c.fit.ensures.fit.numbered
+pub returns-in-Some : goal.returns-in-Some
+returns-in-Some c = ap (λ (x : Option Round). option_map_or (λ r. r.is_open) x false) c.in-Some.ensures
+
+pub returns-in-None : goal.returns-in-None
+returns-in-None c = ap (λ (x : Option Round). option_map_or (λ r. r.is_open) x false) c.in-None.ensures

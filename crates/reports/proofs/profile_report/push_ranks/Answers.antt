@@ -20,5 +20,5 @@ loop-k-preserved c =
     let placed = placed_at_rank c.args.office.now c.args.round rank in
     let digits = ap (λ s. styled_decimal s rank) c.laid_out.ensures ∙ left_number 3 rank (omega arith) in
     let count = ap (λ s. styled_decimal s c.placed_at_rank-placed.result) c.laid_out-in-loop-k.ensures ∙ right_number 5 c.placed_at_rank-placed.result (omega arith) ∙ ap (right 5) c.placed_at_rank-placed.ensures in
-    let wrote = c.in_ok-write.ensures.bytes ∙ (λ i. old ++ (codes "RANK " ++ (digits i ++ (count i ++ 10 ∷ [])))) ∙ ap (λ l. old ++ l) (named (decimal rank) (right 5 placed)) in
+    let wrote = c.in_ok-writeln.ensures.bytes ∙ (λ i. old ++ (codes "RANK " ++ (digits i ++ (count i ++ 10 ∷ [])))) ∙ ap (λ l. old ++ l) (named (decimal rank) (right 5 placed)) in
     appended (rank_row c.args.office.now c.args.round) rank _ _ _ _ _ (next_number rank (RANKS - c.loop-k.k) (RANKS - rank) (omega arith)) wrote c.loop-k.invariant

@@ -1,0 +1,9 @@
+use Rattle.std.proofs.Common.{List, ap, ◌∙◌}
+use Rattle.rolls.specs.declared.rounds.Round.{Round}
+use Rattle.rolls.specs.State.{round_key}
+use Rattle.rolls.specs.Roll.{rises}
+use Rattle.rolls.proofs.LastRound.{rounds_rise}
+use Rattle.reports.proofs.find.round_of.Goals as goal
+
+pub find-requires : goal.find-requires
+find-requires c = ap (λ (rs : List Round). rises round_key rs) c.rounds.ensures.all ∙ rounds_rise c.args.office.now c.fit.ensures.fit.numbered
