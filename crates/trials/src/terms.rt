@@ -3,6 +3,10 @@
 
 use crate::desks::{desk_over, new_desk};
 use crate::exchanges::{compare_exchanges, compare_text};
+use desk::Desk;
+use sqlite::MemStore;
+use std::alloc::Global;
+use std::process::Abort;
 use std::rt::HostRuntime;
 use std::test::Fail;
 
