@@ -1,1 +1,4 @@
 pub mod Risen
+pub mod SameRound
+pub mod Listings
+pub mod Joining

@@ -1,10 +1,9 @@
 -- What the office takes from the layers beside it.
-use Rattle.std.specs.Prelude.{ℕ, List, [], map, None, Result, Ok, Err}
+use Rattle.std.specs.Prelude.{List, [], map, None, Result, Ok, Err}
 use Rattle.spa.specs.Instance.{Instance}
 use Rattle.spa.specs.Coded.{IsGreedyMaximumByCodes}
 use Rattle.intake.specs.Parts.{Parts}
 use Rattle.intake.specs.Lines.{round_text}
-use Rattle.rolls.specs.declared.import.ImportKind.{ImportKind}
 use Rattle.rolls.specs.declared.refusal.Refusal.{Refusal}
 use Rattle.rolls.specs.declared.refusal.Refusal.TheVariants as no
 use Rattle.rolls.specs.declared.request.Plain.{Plain}

@@ -1,12 +1,15 @@
-//! What the office takes from the layers beside it: a matching for the open round's closing and preview, its round text, the text
-//! of a report, and the records of an import text.
+//! What the office takes from the layers beside it: a matching for the open round's closing, the session that its previews are read
+//! from, its round text, the text of a report, and the records of an import text.
 //!
 //! `office` takes any matching of the round's instance, and any requests as an import's; `solver` finds a greedy maximum
 //! matching, `reports` writes reports, and `imports` reads a text. Here they meet. Nothing here holds an office or touches a table: `desk` does.
 //!
 //! Promised: each function makes exactly the step of its request, or refuses it as the definition does; out of memory the
-//! office is as before.
+//! office is as before. A session sits in an office where it has the rolls and the lists of its open round, the lists in any order
+//! (`specs/Sittings.antt`): a preview that is read from it is what closing the round would answer.
 #![tactic(auto)]
+
+mod sitting;
 
 ghost use Rattle.std.specs.Prelude.{◌≡◌, ◌⊎◌, IfOk, IfErr, OnErr, IsTrue, Some, None, false};
 ghost use Rattle.rolls.specs.State.{round_is_open, has_import};
@@ -16,11 +19,12 @@ ghost use Rattle.rolls.specs.Run.{Makes, refusal};
 ghost use Rattle.rolls.specs.declared.request.Request.TheVariants as request;
 ghost use Rattle.allotment.specs.Layers.{layers, refused_as};
 
-use closing::{places_law, preview_reply};
+use closing::places_law;
 use imports::{ImportFault, read_import};
 use intake::write_round;
 use office::Office;
 use rolls::{Bytes, Done, ImportKind, Refusal, Reply, ReportKind, Text};
+pub use sitting::{join, read_preview, sit};
 use solver::solve;
 use std::alloc::{AllocError, Global};
 
@@ -36,18 +40,6 @@ pub fn close(alloc: Global, office: &mut Office) -> Result<Done, AllocError>
     instance.fit();
     let solved = solve(alloc, &instance)?;
     office.close(&solved.matching)
-}
-
-/// What closing the open round now would answer.
-pub fn preview(alloc: Global, office: &Office) -> Result<Reply, AllocError>
-    requires open { IsTrue (round_is_open office.now) }
-    ensures made { IfOk result (λ reply. Makes layers office.now request.Preview reply office.now) }
-{
-    places_law();
-    let instance = office.instance()?;
-    instance.fit();
-    let solved = solve(alloc, &instance)?;
-    Ok(preview_reply(&instance, &solved.matching))
 }
 
 /// The instance of the open round, as a round text.

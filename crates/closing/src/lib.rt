@@ -7,12 +7,10 @@
 //! rows. Begin with `specs/Laws.antt`.
 #![tactic(auto)]
 
-mod answering;
 mod keeping;
 mod laws;
 mod making;
 
-pub use answering::preview_reply;
 pub use keeping::{close_changes, placements_after, placements_of};
 pub use laws::{closing_law, few_law, places_law};
 pub use making::{is_offered_by, placed_in_project, placed_with_supervisor, round_instance};

@@ -2,3 +2,4 @@ pub mod Refused
 pub mod Settling
 mod Running
 mod Reopening
+mod Following

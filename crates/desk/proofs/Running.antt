@@ -1,5 +1,5 @@
 -- A run, request after request, and what a crash leaves of it.
-use Rattle.std.proofs.Common.{◌≡◌, List, [], ◌∷◌, ◌++◌, Result, IsTrue, inl, refl, sym, ap, subst, ◌∙◌, arith, append-nil}
+use Rattle.std.proofs.Common.{◌≡◌, Option, List, [], ◌∷◌, ◌++◌, Result, IsTrue, inl, refl, sym, ap, subst, ◌∙◌, arith, append-nil}
 use Rattle.std.proofs.lemmas.List.{append_assoc}
 use Rattle.sqlite.specs.State.{State as Seen, HasCleanDisk, Survives}
 use Rattle.sqlite.specs.Tree.{Trees}
@@ -11,7 +11,9 @@ use Rattle.rolls.specs.declared.request.Request.{Request}
 use Rattle.rolls.specs.State.{State}
 use Rattle.rolls.specs.Run.{Run, Step}
 use Rattle.allotment.specs.Layers.{layers}
+use Rattle.solver.specs.Sitting.{Sitting}
 use Rattle.desk.specs.Keeping.{Begins, CarriesOut, StandsForOne}
+use Rattle.desk.specs.Sessions.{GoesOn, RunsOn}
 
 -- all requests but the rest are answered by a run
 pub record HasRun (office : State) (all rest : List Request) (answers : List (Result Reply Refusal)) (now : State) : Type 0 where
@@ -92,6 +94,43 @@ module _ (o m n : State) (all left rest : List Request) (q : Request) (a : Resul
         step = record { office = it.step.office; one = now_begins h it.step.office it.step.one; fit = it.step.fit; stands = it.step.stands };
         same = it.same;
       }) one two
+
+-- ---- the session
+
+-- all requests but the rest are answered by a run over which the session goes on
+pub record HasRunOn (office : State) (session : Option Sitting) (all rest : List Request) (answers : List (Result Reply Refusal)) (now : State) (kept : Option Sitting) : Type 0 where
+  pub done : List Request
+  pub split : all ≡ done ++ rest
+  pub run : RunsOn office session done answers now kept
+
+-- a run and one step more
+runs_on_more : (o : State) (s : Option Sitting) (first : List Request) (given : List (Result Reply Refusal)) (m : State) (u : Option Sitting) (n : State) (t : Option Sitting) (q : Request) (a : Result Reply Refusal)
+    → RunsOn o s first given m u → Step layers m q a n → GoesOn m q a u t → RunsOn o s (first ++ q ∷ []) (given ++ a ∷ []) n t
+runs_on_more o s [] [] m u n t q a run step goes =
+    (n, t, subst (λ (x : State). Step layers x q a n) run.0 step, subst (λ (x : State). GoesOn x q a s t) run.0 (subst (λ (x : Option Sitting). GoesOn m q a x t) run.1 goes), (refl, refl))
+runs_on_more o s [] (b ∷ given) m u n t q a run step goes = absurd run
+runs_on_more o s (p ∷ first) [] m u n t q a run step goes = absurd run
+runs_on_more o s (p ∷ first) (b ∷ given) m u n t q a run step goes = (run.0, run.1, run.2, run.3, runs_on_more run.0 run.1 first given m u n t q a run.4 step goes)
+
+-- nothing is answered yet
+pub run_on_none : (o : State) (s : Option Sitting) (all : List Request) → HasRunOn o s all all [] o s
+run_on_none o s all = record { done = []; split = refl; run = (refl, refl) }
+
+-- one more is answered
+pub one_more_on : (o : State) (s : Option Sitting) (m : State) (u : Option Sitting) (n : State) (t : Option Sitting) (all left rest : List Request) (q : Request) (a : Result Reply Refusal) (given answers : List (Result Reply Refusal))
+    → left ≡ q ∷ rest → answers ≡ given ++ a ∷ [] → HasRunOn o s all left given m u → Step layers m q a n → GoesOn m q a u t → HasRunOn o s all rest answers n t
+one_more_on o s m u n t all left rest q a given answers next added h step goes = record {
+  done = h.done ++ q ∷ [];
+  split = h.split ∙ ap (λ qs. h.done ++ qs) next ∙ sym (append_assoc h.done (q ∷ []) rest);
+  run = subst (λ (xs : List (Result Reply Refusal)). RunsOn o s (h.done ++ q ∷ []) xs n t) (sym added) (runs_on_more o s h.done given m u n t q a h.run step goes);
+}
+
+-- all are answered
+pub run_on_all : (o : State) (s : Option Sitting) (n : State) (t : Option Sitting) (all rest : List Request) (answers : List (Result Reply Refusal)) → rest ≡ [] → HasRunOn o s all rest answers n t → RunsOn o s all answers n t
+run_on_all o s n t all rest answers none h =
+    subst (λ (qs : List Request). RunsOn o s qs answers n t) (sym (h.split ∙ ap (λ qs. h.done ++ qs) none ∙ append-nil h.done)) h.run
+
+-- ---- crashes
 
 -- nothing was left yet
 pub crash_none : (s : Seen) (P : Trees → Type 0) → Survives s s P

@@ -16,6 +16,7 @@ use Rattle.rolls.specs.Fit.{IsFit}
 use Rattle.rolls.specs.Run.{Run, Step, refusal}
 use Rattle.allotment.specs.Layers.{layers}
 use Rattle.desk.specs.Kept.{Kept}
+use Rattle.desk.specs.Sessions.{SitsAt}
 use Rattle.store.specs.Tables.{StandsFor}
 
 -- The tables stand for the office. Where a fault of the disk has shut the connection it shows no tables, and
@@ -23,10 +24,11 @@ use Rattle.store.specs.Tables.{StandsFor}
 abbrev pub Keeps : Seen → State → Type 0
 Keeps seen office = HasCleanDisk seen → IsTrue seen.is_open → StandsFor seen.now office
 
--- the tables stand for the office, and no transaction is open
+-- the tables stand for the office, no transaction is open, and a session that is kept sits in the office
 pub record IsKeeping {S : Type 0} (ghosts : Ghosts S) (kept : Kept S) : Type 0 where
   pub stands : Keeps (state ghosts kept.store) kept.office
   pub ended : kept.store.in_transaction ≡ false
+  pub sits : SitsAt kept.office kept.session
 
 -- the request, carried out, makes of the office the next one
 abbrev pub CarriesOut : State → Request → State → Type 0

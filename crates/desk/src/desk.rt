@@ -1,6 +1,6 @@
 //! The desk.
 
-ghost use Rattle.std.specs.Prelude.{◌≡◌, ◌≢◌, ◌⊎◌, Err, IfOk, IfErr, IsErr, IfSome, IsTrue, OnOk, OnErr, None, false, true};
+ghost use Rattle.std.specs.Prelude.{◌≡◌, ◌≢◌, ◌⊎◌, Err, IfOk, IfErr, IsErr, IfSome, IsTrue, OnOk, OnErr, None, option_map, false, true};
 ghost use Rattle.sqlite.specs.State.{HasCleanDisk, IsLive, Survives};
 ghost use Rattle.sqlite.specs.Held.{state};
 ghost use Rattle.tables.specs.Steps.{IsKept, IsLeft};
@@ -14,21 +14,25 @@ ghost use Rattle.allotment.specs.Layers.{layers};
 ghost use Rattle.store.specs.Tables.{Opens, Founds, HasNone, LeavesAlone};
 ghost use Rattle.store.specs.Reading.{AreListed, IsDamaged};
 ghost use Rattle.desk.specs.Keeping.{AnswersKept, Begins, CarriesOut, Keeps, StandsForOne, needs_no_table};
+ghost use Rattle.desk.specs.Sessions.{GoesOn, RunsOn, SitsAt};
 
+use crate::sessions::{fate_of, next_session};
 use office::Office;
 use rolls::{Done, Plain, Refusal, Reply, Request};
+use solver::Session;
 use sqlite::{Alter, Connection};
 use std::alloc::{AllocError, Global};
 use std::marker::Model;
 use std::mem;
 use store::{Store, StoreFault};
 
-/// An office in memory beside the tables that stand for it.
+/// An office in memory beside the tables that stand for it, and a session of its open round where a preview was asked for.
 #[derive(Drop)]
 pub struct Desk<S: Alter> {
     alloc: Global,
     office: Office,
     store: Store<S>,
+    session: Option<Session>,
 }
 
 impl<S: Alter> Model for Desk<S> {
@@ -39,9 +43,9 @@ impl<S: Alter> Model for Desk<S> {
 
     ghost coded = { kept_code S.code };
 
-    ghost view = { λ d. record { office = d.office; store = d.store } };
+    ghost view = { λ d. record { office = d.office; store = d.store; session = d.session } };
 
-    ghost invariant = { λ d. IsKeeping S.Store (record { office = d.office; store = d.store }) };
+    ghost invariant = { λ d. IsKeeping S.Store (record { office = d.office; store = d.store; session = d.session }) };
 }
 
 /// The refusal that a fault of the store is answered by.
@@ -98,23 +102,26 @@ impl<S: Alter> Desk<S> {
         ensures crash_err { IfErr result (λ e. Survives (state S.Store connection) (state S.Store e.1) (IsLeft Founds (state S.Store connection))) }
         ensures alone { IfOk result (λ desk. HasCleanDisk (state S.Store desk.store) → LeavesAlone (state S.Store desk.store)) }
         ensures is_open { IfOk result (λ desk. HasCleanDisk (state S.Store desk.store) → IsTrue (state S.Store desk.store).is_open) }
+        ensures no_session { IfOk result (λ desk. desk.session ≡ None) }
     {
         match Store::open(alloc, connection) {
             Ok((store, office)) => Ok(Desk {
                 alloc,
                 office,
                 store,
+                session: None,
             }),
             Err((fault, connection)) => Err((refusal_of_fault(fault), connection)),
         }
     }
 
-    /// The tables of every desk stand for its office, which is fit.
+    /// The tables of every desk stand for its office, which is fit, and a session that it keeps sits in its open round.
     pub fn keeps(&self)
         ensures tables { Keeps (state S.Store self.now.store) self.now.office }
         ensures ended { self.now.store.in_transaction ≡ false }
         ensures fit { IsFit self.now.office }
         ensures live { IsLive (state S.Store self.now.store) }
+        ensures sits { SitsAt self.now.office self.now.session }
     {
         self.office.fit();
         self.store.shows();
@@ -128,9 +135,21 @@ impl<S: Alter> Desk<S> {
             alloc: _,
             office,
             store,
+            session,
         } = self;
         drop(office);
+        drop(session);
         store.into_connection()
+    }
+
+    /// The relaxations of the kept session since it was started; none where no session is kept. Takes no memory.
+    pub fn session_steps(&self) -> Option<u64>
+        ensures steps { result ≡ option_map (λ s. s.steps) self.now.session }
+    {
+        match &self.session {
+            Some(session) => Some(session.steps()),
+            None => None,
+        }
     }
 
     /// All the requests in turn, each answered by a step. Want of memory for the answers comes before the first request
@@ -139,6 +158,9 @@ impl<S: Alter> Desk<S> {
         ensures run { IfOk result (λ answers. Run layers self.old.office requests.items answers.items self.new.office) }
         ensures tables { Keeps (state S.Store self.new.store) self.new.office }
         ensures err { OnErr result (self.new ≡ self.old) }
+
+        // The session goes on over each request in turn.
+        ensures session { IfOk result (λ answers. RunsOn self.old.office self.old.session requests.items answers.items self.new.office self.new.session) }
 
         // What a crash leaves: what it could leave before, or, where the connection was open, the tables of an office that some
         // beginning of the run makes.
@@ -175,6 +197,10 @@ impl<S: Alter> Desk<S> {
 
         // Where a foreign key would write other rows too, no change is made.
         ensures acted_on { changes_nothing self.old.office request ≡ false → AreActedOn (state S.Store self.old.store).now.schema → IsErr result }
+
+        // A refusal leaves the session, and so do reads, puts of students and repeated imports. An answered preview leaves one, a
+        // first list joins the one that is kept or drops it, and every other change leaves none.
+        ensures session { GoesOn self.old.office request result self.old.session self.new.session }
     {
         if let Some(refusal) = self.office.refusal_of(&request) {
             return Err(refusal);
@@ -192,7 +218,7 @@ impl<S: Alter> Desk<S> {
                 Some(rows) => Ok(Reply::Rows(rows)),
                 None => self.change(Request::Import { id, kind, bytes }),
             },
-            Request::Preview => Ok(allotment::preview(self.alloc, &self.office)?),
+            Request::Preview => self.preview(),
             Request::RoundText => Ok(allotment::round_text(self.alloc, &self.office)?),
             Request::Report { kind, round } => {
                 allotment::report(self.alloc, &self.office, kind, round)
@@ -208,11 +234,40 @@ impl<S: Alter> Desk<S> {
         ensures store { self.new.store ≡ self.old.store }
         ensures tables { Keeps (state S.Store self.new.store) self.new.office }
         ensures storage { result ≢ Err Refusal.Storage }
+        ensures session { self.new.session ≡ self.old.session }
     {
         Ok(self.office.make(plain)?.reply)
     }
 
-    /// A change is made on a copy, which becomes the office once its changes are saved.
+    /// A preview is read from the session. Where none is kept one is started.
+    fn preview(&mut self) -> Result<Reply, Refusal>
+        requires allowed { refusal_of self.old.office Request.Preview ≡ None }
+        ensures step { Step layers self.old.office Request.Preview result self.new.office }
+        ensures store { self.new.store ≡ self.old.store }
+        ensures tables { Keeps (state S.Store self.new.store) self.new.office }
+        ensures storage { result ≢ Err Refusal.Storage }
+        ensures session { GoesOn self.old.office Request.Preview result self.old.session self.new.session }
+    {
+        self.keeps();
+        if let Some(session) = &self.session {
+            return Ok(allotment::read_preview(session));
+        }
+        let session = allotment::sit(self.alloc, &self.office)?;
+        let reply = allotment::read_preview(&session);
+        self.keep_session(Some(session));
+        Ok(reply)
+    }
+
+    /// A session is kept in the place of the one before.
+    fn keep_session(&mut self, session: Option<Session>)
+        requires sits { SitsAt self.old.office session }
+        ensures kept { self.new ≡ record self.old { session = session } }
+        ensures tables { Keeps (state S.Store self.new.store) self.new.office }
+    {
+        self.session = session;
+    }
+
+    /// A change is saved, and the session follows it.
     fn change(&mut self, request: Request) -> Result<Reply, Refusal>
         requires change { changes_nothing self.old.office request ≡ false }
         requires allowed { refusal_of self.old.office request ≡ None }
@@ -224,6 +279,38 @@ impl<S: Alter> Desk<S> {
         ensures stays_open { HasCleanDisk (state S.Store self.new.store) → OnOk result (IsTrue (state S.Store self.new.store).is_open) }
         ensures stays_shut { HasCleanDisk (state S.Store self.new.store) → IsTrue (state S.Store self.new.store).is_open → IsTrue (state S.Store self.old.store).is_open }
         ensures acted_on { AreActedOn (state S.Store self.old.store).now.schema → IsErr result }
+        ensures session { GoesOn self.old.office request result self.old.session self.new.session }
+    {
+        self.keeps();
+        let fate = fate_of(self.alloc, &self.office, &request)?;
+        let kept = self.session.take();
+        match self.save(request) {
+            Ok(reply) => {
+                let next = next_session(self.alloc, &self.office, kept, fate);
+                self.keep_session(next);
+                Ok(reply)
+            }
+            Err(refusal) => {
+                self.keep_session(kept);
+                Err(refusal)
+            }
+        }
+    }
+
+    /// A change is made on a copy, which becomes the office once its changes are saved.
+    fn save(&mut self, request: Request) -> Result<Reply, Refusal>
+        requires change { changes_nothing self.old.office request ≡ false }
+        requires allowed { refusal_of self.old.office request ≡ None }
+        requires no_session { self.old.session ≡ None }
+        ensures quiet { IfSome (refusal layers self.old.office request) (λ _. self.new.store ≡ self.old.store) }
+        ensures step { Step layers self.old.office request result self.new.office }
+        ensures tables { Keeps (state S.Store self.new.store) self.new.office }
+        ensures crash { Survives (state S.Store self.old.store) (state S.Store self.new.store) (IsLeft (λ _. StandsForOne (CarriesOut self.old.office request)) (state S.Store self.old.store)) }
+        ensures alone { HasCleanDisk (state S.Store self.new.store) → OnOk result (LeavesAlone (state S.Store self.new.store)) }
+        ensures stays_open { HasCleanDisk (state S.Store self.new.store) → OnOk result (IsTrue (state S.Store self.new.store).is_open) }
+        ensures stays_shut { HasCleanDisk (state S.Store self.new.store) → IsTrue (state S.Store self.new.store).is_open → IsTrue (state S.Store self.old.store).is_open }
+        ensures acted_on { AreActedOn (state S.Store self.old.store).now.schema → IsErr result }
+        ensures no_session { self.new.session ≡ None }
     {
         self.keeps();
         let mut next = self.office.copy()?;
@@ -238,6 +325,7 @@ impl<S: Alter> Desk<S> {
     /// The changes are saved, and then the office and the next one are exchanged.
     fn settle(&mut self, next: &mut Office, done: Done) -> Result<Reply, Refusal>
         requires turns { let changes = done.changes in Turns changes.items self.old.office next.old }
+        requires no_session { self.old.session ≡ None }
         ensures ok { IfOk result (λ reply. (reply ≡ done.reply) × (self.new.office ≡ next.old)) }
         ensures err { IfErr result (λ refusal. ((refusal ≡ Refusal.Memory) ⊎ (refusal ≡ Refusal.Storage)) × (self.new.office ≡ self.old.office)) }
         ensures tables { Keeps (state S.Store self.new.store) self.new.office }
@@ -246,6 +334,7 @@ impl<S: Alter> Desk<S> {
         ensures stays_open { HasCleanDisk (state S.Store self.new.store) → OnOk result (IsTrue (state S.Store self.new.store).is_open) }
         ensures stays_shut { HasCleanDisk (state S.Store self.new.store) → IsTrue (state S.Store self.new.store).is_open → IsTrue (state S.Store self.old.store).is_open }
         ensures acted_on { AreActedOn (state S.Store self.old.store).now.schema → result ≡ Err Refusal.Storage }
+        ensures no_session { self.new.session ≡ None }
     {
         match self.store.save(&done.changes) {
             Ok(()) => {

@@ -8,9 +8,9 @@ ghost use Rattle.spa.specs.Matched.{pairs};
 ghost use Rattle.verdict.specs.Verdict.{IsProvedBest};
 ghost use Rattle.solver.specs.Solved.{IsOf, AreRowsOf, ArePricesOf};
 
-use crate::worths::{numbers, weigh};
+use crate::worths::{admit_weighed, numbers};
 use network::Network;
-use spa::{Instance, Lex, Matching, PLACES, RANKS, lex_law, list_law, order_law};
+use spa::{Instance, Lex, Matching, PLACES, RANKS, lex_law, order_law};
 use std::alloc::{AllocError, Global};
 use verdict::{Prices, verdict_law};
 
@@ -25,12 +25,10 @@ pub struct Solved {
 fn admit_all(alloc: Global, instance: &Instance) -> Result<Network<Lex>, AllocError>
     ensures { IfOk result (λ n. IsOf instance.now.shape n) }
 {
-    lex_law();
     let mut network = Network::start(alloc, instance.supervisors(), instance.projects())?;
     let mut entries = Vec::with_capacity(alloc, RANKS)?;
     for student in 0..instance.student_count() {
-        weigh(instance.list(student), &mut entries)?;
-        network.admit(&entries)?;
+        admit_weighed(&mut network, &mut entries, instance.list(student))?;
     }
     Ok(network)
 }
@@ -95,7 +93,6 @@ pub fn solve(alloc: Global, instance: &Instance) -> Result<Solved, AllocError>
     ensures proved { IfOk result (λ s. IsProvedBest greedy instance.now.shape s.matching.places.items s.prices) }
     ensures greedy_maximum { IfOk result (λ s. IsGreedyMaximum instance.now.shape (pairs instance.now.shape s.matching.places.items)) }
 {
-    list_law(instance);
     order_law();
     lex_law();
     verdict_law(instance);

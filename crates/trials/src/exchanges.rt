@@ -412,7 +412,7 @@ pub(crate) fn message(alloc: Global, asked: &str, body: &str) -> Result<String, 
 }
 
 /// The first cell of a line, without the blanks around it, and what is behind its bar.
-fn first_cell(line: &str) -> (&str, &str) {
+pub(crate) fn first_cell(line: &str) -> (&str, &str) {
     match line.split_once('|') {
         Some((cell, rest)) => (cell.trim(), rest),
         None => (line.trim(), ""),

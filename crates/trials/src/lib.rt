@@ -35,6 +35,10 @@ mod sent_imports;
 #[cfg(test)]
 mod sent_reports;
 #[cfg(test)]
+mod sessions;
+#[cfg(test)]
+mod sittings;
+#[cfg(test)]
 mod stores;
 #[cfg(test)]
 mod streams;

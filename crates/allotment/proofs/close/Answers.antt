@@ -7,9 +7,7 @@ use Rattle.rolls.specs.Closing.{MayClose}
 use Rattle.rolls.specs.Answers.{IsClosed}
 use Rattle.rolls.specs.declared.request.Done.{Done}
 use Rattle.closing.specs.Places.{ArePlacesOf, AreTaken}
-use Rattle.std.proofs.Common.{rules, ◌≡◌, IfOk, OnErr, IsTrue, ℕ, ◌+◌, ◌-◌, ◌*◌, ◌<◌, ◌≤◌, length, ◌/◌, ◌%◌, Bool, true, false, nat_eq, nat_lt, List, [], ◌∷◌, ◌++◌, slice_index_or, slice_set, bit_and, bit_or, Fits, w8, w32, w64, Bor, MutBor}
-use Rattle.rolls.specs.State.{round_is_open}
-use Rattle.rolls.specs.Rows.{Turns}
+use Rattle.std.proofs.Common.{IfOk, List}
 use Rattle.rolls.specs.Run.{Makes}
 use Rattle.rolls.specs.declared.request.Request.TheVariants as request
 use Rattle.allotment.specs.Layers.{layers}

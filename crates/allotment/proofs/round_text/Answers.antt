@@ -1,8 +1,7 @@
-use Rattle.std.proofs.Common.{◌≡◌, ℕ, ◌-◌, List, [], Option, refl, sym, ap, subst, ◌∙◌}
+use Rattle.std.proofs.Common.{ℕ, ◌-◌, List, [], Option, refl, sym, ap, subst, ◌∙◌}
 use Rattle.spa.specs.Instance.{Instance, Supervisor, Project, Student, supervisor_codes, project_codes, student_codes}
 use Rattle.spa.specs.Named.{Named, instance_of}
 use Rattle.rolls.specs.State.{State, supervisor_key, project_key, list_key, last_round, lists_of, placed_in_project, placed_with_supervisor}
-use Rattle.rolls.specs.Instances.{round_instance}
 use Rattle.rolls.specs.declared.request.Reply.TheVariants as reply
 use Rattle.intake.specs.Parts.{Parts, Rise}
 use Rattle.intake.specs.Lines.{round_text}

@@ -11,6 +11,7 @@ use Rattle.rolls.specs.State.{State}
 use Rattle.rolls.specs.Run.{Makes, refusal}
 use Rattle.allotment.specs.Layers.{layers}
 use Rattle.rolls.specs.Refusing.{refusal_of}
+use Rattle.desk.proofs.Following.{read_goes}
 use Rattle.desk.proofs.desk.Desk.ask.Goals as goal
 
 -- the refusal that was found is the one that is due
@@ -37,13 +38,9 @@ returns-else-is_read-clause-alone g c = λ _. c.change.ensures.alone
 pub returns-else-is_read-clause-acted_on : goal.returns-else-is_read-clause-acted_on
 returns-else-is_read-clause-acted_on g c = λ _. c.change.ensures.acted_on
 
-pub returns-in_ok-preview-in-Preview-clause-step : goal.returns-in_ok-preview-in-Preview-clause-step
-returns-in_ok-preview-in-Preview-clause-step g c =
-    let o : State = c.args.self.now.office in
-    let answer = c.in_ok-preview-in-Preview.field-0 in
-    let judged : refusal_of o c.args.request ≡ None = search rules in
-    let none : refusal layers o c.args.request ≡ None = subst (λ (q : Request). refusal layers o q ≡ None) (sym c.in-Preview.is) (subst (λ (q : Request). refusal_of o q ≡ None) c.in-Preview.is judged) in
-    (none, subst (λ (q : Request). Makes layers o q answer o) (sym c.in-Preview.is) (subst (λ (x : State). Makes layers x request.Preview answer x) (ap (λ k. k.office) c.self.view_is) c.in_ok-preview-in-Preview.ensures.made))
+pub returns-then-is_read-clause-session : goal.returns-then-is_read-clause-session
+returns-then-is_read-clause-session g c =
+    read_goes c.args.self.now.office c.args.request c.in-Plain.plain c.read.result c.args.self.now.session c.read.new.self.session c.in-Plain.is (sym c.if-is_read.ensures.read) c.read.ensures.session
 
 pub returns-in-Close-clause-crash : goal.returns-in-Close-clause-crash
 returns-in-Close-clause-crash g c =

@@ -10,6 +10,7 @@ pub invariant_of-result : goal.invariant_of-result
 invariant_of-result g c = record {
   stands = λ clean is_open. opened_stands _ _ c.in-Ok.office (c.in-Ok.ensures.ok clean);
   ended = c.in-Ok.ensures.ended;
+  sits = tt;
 }
 
 pub returns-in-Ok-clause-tables : goal.returns-in-Ok-clause-tables

@@ -1,7 +1,7 @@
 use Rattle.std.proofs.Common.{rules, ◌≡◌, ℕ, ◌+◌, ◌≤◌, List, [], ◌∷◌, length, arith, refl, ap}
 use Rattle.sqlite.specs.Held.{state}
 use Rattle.rolls.specs.declared.request.Request.{Request}
-use Rattle.desk.proofs.Running.{run_all, one_more, crash_more, still_shut}
+use Rattle.desk.proofs.Running.{run_all, run_on_all, one_more, one_more_on, crash_more, still_shut}
 use Rattle.desk.proofs.desk.Desk.run.Goals as goal
 
 no_items : (requests : List Request) → length requests ≡ 0 → requests ≡ []
@@ -12,6 +12,11 @@ pub returns-clause-run : goal.returns-clause-run
 returns-clause-run g c =
     let none : length c.loop-request.request-iterator.rest.items ≡ 0 = search rules in
     run_all c.args.self.now.office c.loop-request.self.office c.args.requests.items c.loop-request.request-iterator.rest.items c.loop-request.answers.items (no_items _ none) c.loop-request.invariant.rest
+
+pub returns-clause-session : goal.returns-clause-session
+returns-clause-session g c =
+    let none : length c.loop-request.request-iterator.rest.items ≡ 0 = search rules in
+    run_on_all c.args.self.now.office c.args.self.now.session c.loop-request.self.office c.loop-request.self.session c.args.requests.items c.loop-request.request-iterator.rest.items c.loop-request.answers.items (no_items _ none) c.loop-request.invariant.goes
 
 pub returns-clause-crash : goal.returns-clause-crash
 returns-clause-crash g c = c.loop-request.invariant.crash
@@ -31,6 +36,8 @@ loop-request-preserved g c =
     record {
       rest = one_more c.args.self.now.office c.loop-request.self.office c.ask-answer.new.self.office c.args.requests.items c.loop-request.request-iterator.rest.items c.next.new.self.rest.items c.in-Some.request c.ask-answer.result
           c.loop-request.answers.items c.push.new.self.items next added l.rest c.ask-answer.ensures.step;
+      goes = one_more_on c.args.self.now.office c.args.self.now.session c.loop-request.self.office c.loop-request.self.session c.ask-answer.new.self.office c.ask-answer.new.self.session c.args.requests.items
+          c.loop-request.request-iterator.rest.items c.next.new.self.rest.items c.in-Some.request c.ask-answer.result c.loop-request.answers.items c.push.new.self.items next added l.goes c.ask-answer.ensures.step c.ask-answer.ensures.session;
       tables = c.ask-answer.ensures.tables;
       crash = crash_more c.args.self.now.office c.loop-request.self.office c.ask-answer.new.self.office c.args.requests.items c.loop-request.request-iterator.rest.items c.next.new.self.rest.items c.in-Some.request c.ask-answer.result
           c.loop-request.answers.items c.push.new.self.items next added l.rest (state g.S.Store c.args.self.now.store) (state g.S.Store c.loop-request.self.store) (state g.S.Store c.ask-answer.new.self.store) l.shut l.crash c.ask-answer.ensures.crash;

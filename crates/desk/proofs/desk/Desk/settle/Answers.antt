@@ -1,4 +1,4 @@
-use Rattle.std.proofs.Common.{◌≡◌, List, refl, sym, ap, subst}
+use Rattle.std.proofs.Common.{◌≡◌, List, Option, refl, sym, ap, subst, ◌∙◌}
 use Rattle.sqlite.specs.State.{State as Seen, Survives}
 use Rattle.sqlite.specs.Held.{state}
 use Rattle.tables.specs.Steps.{IsLeft}
@@ -6,6 +6,8 @@ use Rattle.rolls.specs.declared.row.Change.{Change}
 use Rattle.rolls.specs.State.{State}
 use Rattle.rolls.specs.Rows.{Turns}
 use Rattle.store.specs.Saving.{Saves}
+use Rattle.solver.specs.Sitting.{Sitting}
+use Rattle.desk.specs.Sessions.{SitsAt}
 use Rattle.desk.proofs.Settling.{saved_keeps, kept_keeps}
 use Rattle.desk.proofs.desk.Desk.settle.Goals as goal
 
@@ -18,6 +20,7 @@ invariant_of-self g c = record {
   stands = saved_keeps c.args.done.changes.items c.deref.result.now c.deref.ensures.value c.args.self.now.office c.self.inside.office c.swap.new.x (ap (λ k. k.office) c.self.view_is)
       (state g.S.Store c.self.inside.store) (state g.S.Store c.save.new.self) _ (turned c.args.done.changes.items c.args.self.now.office c.args.next.now c.swap.new.x c.swap.ensures.x_after c.requires.turns) c.save.ensures.crash c.in-Ok.ensures.ok c.self.invariant.stands;
   ended = c.save.ensures.ended c.self.invariant.ended;
+  sits = subst (λ (kept : Option Sitting). SitsAt c.swap.new.x kept) (sym (ap (λ k. k.session) c.self.view_is ∙ c.requires.no_session)) tt;
 }
 
 pub returns-in-Ok-clause-tables : goal.returns-in-Ok-clause-tables

@@ -1,0 +1,72 @@
+-- Two instances of one round. What is said of matchings by codes reads an instance by what is found at a code, so the same
+-- matchings are greedy maximum in both.
+use Rattle.std.proofs.Common.{◌≡◌, ℕ, suc, zero, ◌+◌, ◌<◌, ◌≤◌, List, [], ◌∷◌, length, count_by, find, All, Contains, slice_index, refl, sym, ap, subst, ◌∙◌, arith}
+use Rattle.std.specs.Prelude.{◌==◌, not, pos}
+use Rattle.std.specs.List.{prefix_len}
+use Rattle.std.specs.Option.{option_map_or}
+use Rattle.std.specs.Str.{bytes_eq}
+use Rattle.spa.specs.declared.TheConstants.{RANKS}
+use Rattle.spa.specs.Order.{Precedes}
+use Rattle.spa.specs.Instance.{Instance, Supervisor, Project, Student}
+use Rattle.spa.specs.Coded.{CodePair, choices_of, IsMatchingByCodes, IsGreedyMaximumByCodes}
+use Rattle.rolls.specs.Stepping.{counted}
+use Rattle.allotment.specs.Sittings.{IsSameRound}
+
+-- the other way round
+pub turned_round : (l m : Instance) → IsSameRound l m → IsSameRound m l
+turned_round l m same = record {
+  supervisors = sym same.supervisors;
+  projects = sym same.projects;
+  found = λ code. sym (same.found code);
+  as_many = sym same.as_many;
+}
+
+-- equal instances are of one round
+pub equal_round : (l m : Instance) → l ≡ m → IsSameRound l m
+equal_round l m e = record {
+  supervisors = ap (λ (x : Instance). x.supervisors) e;
+  projects = ap (λ (x : Instance). x.projects) e;
+  found = λ code. ap (λ (x : Instance). find (λ e. bytes_eq code e.code) x.students) e;
+  as_many = ap (λ (x : Instance). length x.students) e;
+}
+
+-- the profile where students list these projects
+abbrev pub profile_by : (List ℕ → List (List ℕ)) → List CodePair → ℕ → ℕ
+profile_by choices M k = count_by (λ e. 1 + prefix_len (λ q. not (bytes_eq q e.project)) (choices e.student) == k + 1) M
+
+module _ (l m : Instance) (same : IsSameRound l m) where
+  -- each student lists the same
+  pub choices_same : choices_of l ≡ choices_of m
+  choices_same = λ i code. option_map_or (λ (e : Student). e.list) (same.found code i) []
+
+  pub matching_same : (M : List CodePair) → IsMatchingByCodes l M → IsMatchingByCodes m M
+  matching_same M h = record {
+    listed = subst (λ (c : List ℕ → List (List ℕ)). All (λ e. Contains (c e.student) e.project) M) choices_same h.listed;
+    student_once = h.student_once;
+    project_within = λ p. subst (λ (ps : List Project). count_by (λ e. bytes_eq p e.project) M ≤ option_map_or (λ (e : Project). e.quota) (find (λ e. bytes_eq p e.code) ps) 0) same.projects (h.project_within p);
+    supervisor_within = λ s.
+        subst (λ (ss : List Supervisor). count_by (λ e. bytes_eq s (option_map_or (λ (x : Project). x.supervisor) (find (λ x. bytes_eq e.project x.code) m.projects) [])) M ≤ option_map_or (λ (e : Supervisor). e.quota) (find (λ e. bytes_eq s e.code) ss) 0) same.supervisors
+        (subst (λ (ps : List Project). count_by (λ e. bytes_eq s (option_map_or (λ (x : Project). x.supervisor) (find (λ x. bytes_eq e.project x.code) ps) [])) M ≤ option_map_or (λ (e : Supervisor). e.quota) (find (λ e. bytes_eq s e.code) l.supervisors) 0) same.projects
+        (h.supervisor_within s));
+  }
+
+-- a greedy maximum matching is one in both
+pub greedy_same : (l m : Instance) → IsSameRound l m → (M : List CodePair) → IsGreedyMaximumByCodes l M → IsGreedyMaximumByCodes m M
+greedy_same l m same M h =
+    let back = matching_same m l (turned_round l m same) in
+    record {
+      matching = matching_same l m same M h.matching;
+      largest = λ N n. h.largest N (back N n);
+      first = λ N n e before. h.first N (back N n) e
+          (subst (λ (c : List ℕ → List (List ℕ)). Precedes RANKS (λ k. pos (profile_by c M k)) (λ k. pos (profile_by c N k))) (sym (choices_same l m same)) before);
+    }
+
+-- a list of what f gives at the numbers from k on
+pub counted_is : (n k : ℕ) (xs : List ℕ) (f : ℕ → ℕ) → length xs ≡ n → ((j : ℕ) → j < n → slice_index xs j ≡ f (k + j)) → xs ≡ counted k n f
+counted_is zero k [] f e h = refl
+counted_is zero k (x ∷ xs) f e h = absurd (omega (arith, e))
+counted_is (suc n) k [] f e h = absurd (omega (arith, e))
+counted_is (suc n) k (x ∷ xs) f e h =
+    let first : x ≡ f k = h 0 (omega arith) ∙ ap f (omega arith) in
+    let rest = counted_is n (suc k) xs f (omega (arith, e)) (λ j l. h (suc j) (omega (arith, l)) ∙ ap f (omega arith)) in
+    λ i. first i ∷ rest i

@@ -1,0 +1,10 @@
+use Rattle.std.proofs.Common.{◌≡◌, take}
+use Rattle.allotment.proofs.sitting.admit_all.Given as goal
+
+-- the first students are admitted
+abbrev pub invariant-loop-student : goal.invariant-loop-student
+invariant-loop-student l = l.session.shape ≡ record {
+  supervisors = l.instance.shape.supervisors;
+  projects = l.instance.shape.projects;
+  students = take l.student l.instance.shape.students;
+}

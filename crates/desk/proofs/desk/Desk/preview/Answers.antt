@@ -1,0 +1,15 @@
+use Rattle.std.proofs.Common.{◌≡◌, sym, ap, subst, ◌∙◌}
+use Rattle.rolls.specs.State.{State}
+use Rattle.rolls.specs.declared.request.Request.TheVariants as request
+use Rattle.rolls.specs.Run.{Makes}
+use Rattle.allotment.specs.Layers.{layers}
+use Rattle.allotment.specs.Sittings.{SitsIn}
+use Rattle.desk.proofs.desk.Desk.preview.Goals as goal
+
+pub returns-clause-step : goal.returns-clause-step
+returns-clause-step g c =
+    let o : State = c.args.self.now.office in
+    let reply = c.read_preview-reply.result in
+    let sits : SitsIn o c.in_ok-session.session.shape = subst (λ (x : State). SitsIn x c.in_ok-session.session.shape) (ap (λ k. k.office) c.self.view_is) c.in_ok-session.ensures.sits in
+    let made : Makes layers o request.Preview reply o = c.read_preview-reply.ensures.made o sits in
+    (c.requires.allowed, subst (λ (x : State). Makes layers o request.Preview reply x) (sym (ap (λ k. k.office) c.keep_session.ensures.kept)) made)

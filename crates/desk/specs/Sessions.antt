@@ -1,0 +1,82 @@
+-- What becomes of the session that a desk keeps.
+use Rattle.std.specs.Prelude.{◌≡◌, ℕ, List, [], ◌∷◌, IsTrue, ⊤, Option, Some, None, is_some, IfSome, Result, Ok, Err, if◌then◌else◌}
+use Rattle.rolls.specs.State.{State, last_round, has_list, has_import}
+use Rattle.rolls.specs.declared.refusal.Refusal.{Refusal}
+use Rattle.rolls.specs.declared.request.Plain.{Plain}
+use Rattle.rolls.specs.declared.request.Plain.TheVariants.{PutSupervisor, PutProject, PutStudent, OpenRound, PutList, DropList, ReopenRound, GetSupervisor, GetProject, GetStudent, GetRound}
+use Rattle.rolls.specs.declared.request.Reply.{Reply}
+use Rattle.rolls.specs.declared.request.Request.{Request}
+use Rattle.rolls.specs.declared.request.Request.TheVariants as request
+use Rattle.rolls.specs.Run.{Step}
+use Rattle.solver.specs.Sitting.{Sitting}
+use Rattle.allotment.specs.Layers.{layers}
+use Rattle.allotment.specs.Sittings.{SitsIn, MayJoin, IsOneMore}
+use Rattle.desk.specs.declared.sessions.Fate.{Fate}
+use Rattle.desk.specs.declared.sessions.Fate.TheVariants.{Stays, Starts, Joins, Ends}
+
+-- what a put of a list makes of a session: a student's first list in the open round joins it, and one over another ends it
+abbrev pub list_fate : State → List ℕ → Fate
+list_fate o student = if has_list o (last_round o) student then Ends else Joins student
+
+-- what a plain request, once carried out, makes of it
+abbrev pub plain_fate : State → Plain → Fate
+plain_fate o (PutSupervisor code label quota) = Ends
+plain_fate o (PutProject code label supervisor quota) = Ends
+plain_fate o (PutStudent code label) = Stays
+plain_fate o OpenRound = Ends
+plain_fate o (PutList student choices) = list_fate o student
+plain_fate o (DropList student) = Ends
+plain_fate o ReopenRound = Ends
+plain_fate o (GetSupervisor code) = Stays
+plain_fate o (GetProject code) = Stays
+plain_fate o (GetStudent code) = Stays
+plain_fate o (GetRound round) = Stays
+
+-- the same of each request
+abbrev pub fate_of : State → Request → Fate
+fate_of o (request.Plain p) = plain_fate o p
+fate_of o request.Close = Ends
+fate_of o request.Preview = Starts
+fate_of o request.RoundText = Stays
+fate_of o (request.Report kind round) = Stays
+fate_of o (request.Import id kind bytes) = if has_import o id then Stays else Ends
+
+-- a session that is kept stays, and where none is kept one is started
+abbrev pub IsStarted : Option Sitting → Option Sitting → Type 0
+IsStarted None new = IsTrue (is_some new)
+IsStarted (Some s) new = new ≡ Some s
+
+-- a session that is kept has one student more, or is dropped
+abbrev pub IsJoined : Option Sitting → Option Sitting → Type 0
+IsJoined None new = new ≡ None
+IsJoined (Some s) new = IfSome new (IsOneMore s)
+
+-- from the session before to the one after
+abbrev pub Goes : Fate → Option Sitting → Option Sitting → Type 0
+Goes Stays old new = new ≡ old
+Goes Starts old new = IsStarted old new
+Goes (Joins student) old new = IsJoined old new
+Goes Ends old new = new ≡ None
+
+-- the same over a request that was asked: a refused one leaves the session
+abbrev pub GoesOn : State → Request → Result Reply Refusal → Option Sitting → Option Sitting → Type 0
+GoesOn o q (Ok reply) old new = Goes (fate_of o q) old new
+GoesOn o q (Err refusal) old new = new ≡ old
+
+-- over a run: each request is a step of the office, and the session goes on over each
+abbrev pub RunsOn : State → Option Sitting → List Request → List (Result Reply Refusal) → State → Option Sitting → Type 0
+RunsOn o old [] [] n new = (n ≡ o) × (new ≡ old)
+RunsOn o old (q ∷ qs) (a ∷ answers) n new = (m : State) × (kept : Option Sitting) × Step layers o q a m × GoesOn o q a old kept × RunsOn m kept qs answers n new
+RunsOn o old [] (a ∷ answers) n new = ⊥
+RunsOn o old (q ∷ qs) [] n new = ⊥
+
+-- a session that is kept sits in the office
+abbrev pub SitsAt : State → Option Sitting → Type 0
+SitsAt o kept = IfSome kept (λ s. SitsIn o s.shape)
+
+-- a session that is kept may meet this fate in an office that was just changed
+abbrev pub MayMeet : Fate → State → Option Sitting → Type 0
+MayMeet Stays o kept = SitsAt o kept
+MayMeet Starts o kept = ⊥
+MayMeet (Joins student) o kept = IfSome kept (λ s. MayJoin o s.shape student)
+MayMeet Ends o kept = ⊤

@@ -1,0 +1,6 @@
+use Rattle.spa.specs.Matched.{pairs}
+use Rattle.network.specs.Seen.{shape_of}
+use Rattle.solver.proofs.session.Session.matched.Goals as goal
+
+pub returns : goal.returns
+returns c = rw (← c.self.view_is) ((pairs (shape_of c.self.inside.network) c.self.inside.network.places, c.best.ensures.greedy_maximum))

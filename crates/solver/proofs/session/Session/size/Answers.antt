@@ -1,0 +1,10 @@
+use Rattle.std.proofs.Common.{◌∙◌}
+use Rattle.spa.specs.Matched.{pairs}
+use Rattle.network.specs.Seen.{shape_of}
+use Rattle.solver.proofs.Alike.{same_size}
+use Rattle.solver.proofs.session.Session.size.Goals as goal
+
+pub returns-clause-size : goal.returns-clause-size
+returns-clause-size c =
+    let v = c.self.inside.network in
+    rw (← c.self.view_is) (λ M best. c.placed.ensures.count ∙ same_size (shape_of v) (pairs (shape_of v) v.places) M c.best.ensures.greedy_maximum best)

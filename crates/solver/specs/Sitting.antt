@@ -1,0 +1,37 @@
+-- What callers see of a session: the students admitted so far with their lists, and the relaxations.
+use Rattle.std.specs.Prelude.{◌≡◌, ℕ, ◌+◌, ◌*◌, ◌≤◌, ◌++◌, ◌∷◌, [], List, length, sum_by}
+use Rattle.spa.specs.Shape.{Shape}
+
+-- the value of a session
+pub record Sitting : Type 0 where
+  -- the rolls, and the lists admitted so far, by position
+  pub shape : Shape
+  -- the relaxations since the start
+  pub steps : ℕ
+
+-- no student is admitted yet
+abbrev pub nobody : List ℕ → List (ℕ × ℕ) → Shape
+nobody supervisors projects = record { supervisors = supervisors; projects = projects; students = [] }
+
+-- one more student, with this list
+abbrev pub with_list : Shape → List ℕ → Shape
+with_list i list = record i { students = i.students ++ list ∷ [] }
+
+-- students, projects, supervisors and the sink
+abbrev pub node_count : Shape → ℕ
+node_count i = length i.students + length i.projects + length i.supervisors + 1
+
+-- list entries, students, and twice the projects and the supervisors
+abbrev pub arc_count : Shape → ℕ
+arc_count i = sum_by length i.students + length i.students + 2 * length i.projects + 2 * length i.supervisors
+
+-- how many relaxations the admission of the last student takes at most: a round over all arcs for each node, and one more
+abbrev pub most_relaxations : Shape → ℕ
+most_relaxations i = (node_count i + 1) * arc_count i
+
+-- a student was admitted with this list
+pub record IsAdmitted (old new : Sitting) (list : List ℕ) (relaxations : ℕ) : Type 0 where
+  pub shape : new.shape ≡ with_list old.shape list
+  pub counted : new.steps ≡ old.steps + relaxations
+  pub compared : length list ≤ relaxations
+  pub bound : relaxations ≤ most_relaxations new.shape

@@ -1,0 +1,159 @@
+//! A session: students are admitted one by one, and the best matching of those admitted is always at hand.
+#![tactic(auto)]
+
+ghost use Rattle.std.specs.Prelude.{◌≡◌, ◌≢◌, ℕ, ◌<◌, ◌≤◌, List, length, slice_index, All, AllPairs, IfOk, OnErr};
+ghost use Rattle.spa.specs.declared.TheConstants.{MOST_SUPERVISORS, MOST_PROJECTS, MOST_STUDENTS, MOST_PLACES, RANKS};
+ghost use Rattle.spa.specs.Shape.{IsSound};
+ghost use Rattle.spa.specs.Matching.{Pair, IsGreedyMaximum, profile};
+ghost use Rattle.spa.specs.Matched.{pairs, HasPlaces};
+ghost use Rattle.network.specs.Seen.{shape_of};
+ghost use Rattle.solver.specs.Sitting.{nobody, IsAdmitted};
+ghost use Rattle.solver.specs.Solved.{IsOf};
+ghost use Rattle.solver.specs.Kept.{IsKept};
+
+use crate::worths::admit_weighed;
+use network::{Admitted, Network};
+use spa::{Lex, RANKS, lex_law, order_law};
+use std::alloc::{AllocError, Global};
+use std::marker::Model;
+
+/// A law with nothing to do: the places of a session's network stand for a greedy maximum matching.
+fn best(network: &Network<Lex>)
+    requires weighed { IsOf (shape_of network.now) network.now }
+    requires sound { IsSound (shape_of network.now) }
+    ensures places { HasPlaces (shape_of network.now) network.now.places }
+    ensures greedy_maximum { IsGreedyMaximum (shape_of network.now) (pairs (shape_of network.now) network.now.places) }
+{
+    lex_law();
+    order_law();
+    network.priced();
+}
+
+/// How many students have a place.
+fn placed(network: &Network<Lex>, students: usize) -> u32
+    requires kept { IsKept network.now students }
+    requires places { HasPlaces (shape_of network.now) network.now.places }
+    ensures count { result ≡ length (pairs (shape_of network.now) network.now.places) }
+    ensures few { result ≤ students }
+{
+    let mut placed = 0;
+    for student in 0..students {
+        if let Some(_) = network.place_of(student) {
+            placed += 1;
+        }
+    }
+    placed
+}
+
+/// How many students have place 1 of their lists and so on.
+fn ranked(network: &Network<Lex>, students: usize) -> [u32; RANKS]
+    requires kept { IsKept network.now students }
+    requires places { HasPlaces (shape_of network.now) network.now.places }
+    ensures profile { (k : ℕ) → k < RANKS → slice_index result k ≡ profile (shape_of network.now) (pairs (shape_of network.now) network.now.places) k }
+    ensures few { (k : ℕ) → k < RANKS → slice_index result k ≤ students }
+    ensures whole { length result ≡ RANKS }
+{
+    let mut counts = [0; RANKS];
+    for student in 0..students {
+        if let Some(place) = network.place_of(student) {
+            counts[place - 1] += 1;
+        }
+    }
+    counts
+}
+
+/// Rolls, and the students admitted so far, with a greedy maximum matching of their lists.
+#[derive(Drop)]
+pub struct Session {
+    network: Network<Lex>,
+    students: usize,
+    // Room for a list with its weights, so that an admission asks for none.
+    entries: Vec<(usize, Lex)>,
+}
+
+impl Model for Session {
+    ghost use Rattle.solver.specs.Sitting.{Sitting};
+    ghost use Rattle.solver.specs.Kept.{sitting_of, IsKept};
+
+    ghost Value = { Sitting };
+
+    ghost view = { λ s. sitting_of s.network };
+
+    ghost invariant = { λ s. IsKept s.network s.students };
+}
+
+impl Session {
+    /// The session of supervisors with their quotas, and of projects with supervisor, by position, and quota. Nobody is
+    /// admitted yet. An `Err` is want of memory.
+    pub fn start(
+        alloc: Global,
+        supervisors: &[u32],
+        projects: &[(usize, u32)],
+    ) -> Result<Session, AllocError>
+        requires few_supervisors { length supervisors.now ≤ MOST_SUPERVISORS }
+        requires few_projects { length projects.now ≤ MOST_PROJECTS }
+        requires offered { All (λ p. p.0 < length supervisors.now) projects.now }
+        requires supervisor_quotas { All (λ q. q ≤ MOST_PLACES) supervisors.now }
+        requires project_quotas { All (λ p. p.1 ≤ MOST_PLACES) projects.now }
+        ensures shape { IfOk result (λ s. s.shape ≡ nobody supervisors.now projects.now) }
+        ensures steps { IfOk result (λ s. s.steps ≡ 0) }
+    {
+        let network = Network::start(alloc, supervisors, projects)?;
+        let entries = Vec::with_capacity(alloc, RANKS)?;
+        Ok(Session {
+            network,
+            students: 0,
+            entries,
+        })
+    }
+
+    /// One more student is admitted, with a list of projects by position, first choice first. After an `Err`, which is
+    /// want of memory, nobody was admitted and nothing has changed.
+    pub fn admit(&mut self, list: &[usize]) -> Result<Admitted, AllocError>
+        requires few { length self.old.shape.students < MOST_STUDENTS }
+        requires some { 1 ≤ length list.now }
+        requires short { length list.now ≤ RANKS }
+        requires known { All (λ p. p < length self.old.shape.projects) list.now }
+        requires distinct { AllPairs (λ p q. p ≢ q) list.now }
+        ensures admitted { IfOk result (λ a. IsAdmitted self.old self.new list.now a.relaxations) }
+        ensures memory { OnErr result (self.new ≡ self.old) }
+    {
+        let admitted = admit_weighed(&mut self.network, &mut self.entries, list)?;
+        self.students += 1;
+        Ok(admitted)
+    }
+
+    /// The law that the students admitted so far have a greedy maximum matching: no matching has more pairs, and none
+    /// with as many has a better profile.
+    pub fn matched(&self)
+        ensures { (M : List Pair) × IsGreedyMaximum self.now.shape M }
+    {
+        best(&self.network);
+    }
+
+    /// How many pairs a greedy maximum matching of the students admitted so far has. Takes no memory.
+    pub fn size(&self) -> u32
+        ensures size { (M : List Pair) → IsGreedyMaximum self.now.shape M → result ≡ length M }
+        ensures few { result ≤ 500 }
+    {
+        best(&self.network);
+        placed(&self.network, self.students)
+    }
+
+    /// How many pairs of it have rank 1 and so on. Takes no memory.
+    pub fn profile(&self) -> [u32; RANKS]
+        ensures profile { (M : List Pair) → IsGreedyMaximum self.now.shape M → (k : ℕ) → k < RANKS → slice_index result k ≡ profile self.now.shape M k }
+        ensures few { (k : ℕ) → k < RANKS → slice_index result k ≤ 500 }
+        ensures whole { length result ≡ RANKS }
+    {
+        best(&self.network);
+        ranked(&self.network, self.students)
+    }
+
+    /// The relaxations since the start. Takes no memory.
+    pub fn steps(&self) -> u64
+        ensures { result ≡ self.now.steps }
+    {
+        self.network.steps()
+    }
+}
