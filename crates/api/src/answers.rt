@@ -18,7 +18,7 @@ pub fn push(out: &mut ShortText, bytes: &[u8])
 }
 
 /// Appends a number's digits.
-fn push_number(out: &mut ShortText, number: u64)
+pub fn push_number(out: &mut ShortText, number: u64)
     requires { array_vec_len out.old + 20 ≤ 320 }
     ensures items { out.new.items ≡ out.old.items ++ decimal number }
     ensures len { array_vec_len out.new ≤ array_vec_len out.old + 20 }

@@ -16,6 +16,7 @@ mod requests;
 mod routes;
 mod texts;
 
+pub use answers::{push, push_labelled, push_number};
 pub use laws::one_request;
 pub use requests::Routes;
 pub use texts::{answer_of, refusal_answer};

@@ -1,2 +1,2 @@
 mod Limited
-pub mod Subcommands
+mod Telling

@@ -1,23 +1,45 @@
 //! Files, read in one piece.
 
-ghost use Rattle.std.specs.Prelude.{◌≡◌, ◌+◌, take, IfOk, IfSome};
+ghost use Rattle.std.specs.Prelude.{◌≡◌, ◌⊎◌, ◌+◌, ◌^◌, ◌<◌, take, IfOk, IfErr, IfSome};
 
-use intake::MOST_BYTES;
+use rolls::Refusal;
 use std::alloc::Global;
 use std::fs::File;
 use std::io::{self, Read};
 use std::rt::HostRuntime;
 
-/// The bytes of a file, of which no more are read than show that it is too large for a round text.
-pub(crate) fn read_file(rt: &HostRuntime, path: &str) -> io::Result<Vec<u8>> {
-    read_some(rt.alloc(), File::open(rt, path)?)
+/// The refusal of a file that cannot be read.
+fn refusal_of(error: io::Error) -> Refusal
+    ensures { (result ≡ Refusal.Memory) ⊎ (result ≡ Refusal.Storage) }
+{
+    if error.kind() == io::ErrorKind::OutOfMemory {
+        Refusal::Memory
+    } else {
+        Refusal::Storage
+    }
+}
+
+/// The bytes of a file, of which no more are read than show that there are more than so many.
+pub(crate) fn read_file(rt: &HostRuntime, path: &str, most: usize) -> Result<Vec<u8>, Refusal>
+    requires { most < 2 ^ 32 }
+    ensures { IfErr result (λ r. (r ≡ Refusal.Memory) ⊎ (r ≡ Refusal.Storage)) }
+{
+    let file = match File::open(rt, path) {
+        Ok(file) => file,
+        Err(error) => return Err(refusal_of(error)),
+    };
+    match read_some(rt.alloc(), file, most) {
+        Ok(bytes) => Ok(bytes),
+        Err(error) => Err(refusal_of(error)),
+    }
 }
 
 /// What a reader gives up to its end, or up to the first byte above the limit.
-fn read_some<R: Read + Drop>(alloc: Global, reader: R) -> io::Result<Vec<u8>>
-    ensures { IfOk result (λ bytes. IfSome (R.remaining reader) (λ all. bytes.items ≡ take (MOST_BYTES + 1) all)) }
+fn read_some<R: Read + Drop>(alloc: Global, reader: R, most: usize) -> io::Result<Vec<u8>>
+    requires { most < 2 ^ 32 }
+    ensures { IfOk result (λ bytes. IfSome (R.remaining reader) (λ all. bytes.items ≡ take (most + 1) all)) }
 {
     let mut bytes = Vec::new(alloc);
-    reader.take(MOST_BYTES as u64 + 1).read_to_end(&mut bytes)?;
+    reader.take(most as u64 + 1).read_to_end(&mut bytes)?;
     Ok(bytes)
 }

@@ -1,14 +1,16 @@
-//! The command line: the words of a line, as `clap` reads them, the file that it names, and what it prints.
+//! The lines of the program: what each does, what it prints where, and its status.
 //!
-//! What a line makes of its file is `lines`' matter. Here words become a line, a file becomes its bytes, and a result or
-//! a fault becomes a text on standard output or standard error with a status.
+//! The words of a line become a `Line` in `words`. Here a file becomes its bytes, a database the desk that keeps its
+//! tables, and a result, an answer or a fault becomes a text on standard output or standard error with a status.
 //!
-//! Promised: words are a line only where `clap`'s reading of the command gives that subcommand with that file, and of a
-//! file no more is kept than shows that it is too large. Begin with `specs/Words.antt`.
+//! Promised: what is printed, where and with which status is an outcome of the line that `clap` reads from the words: a
+//! round file's result, or the answer of one step of a fit office, or the lines of the connections served; where a
+//! writer fails the status is 1. Begin with `specs/Outcomes.antt`.
 #![tactic(auto)]
 
 mod files;
+mod opening;
 mod run;
-pub mod words;
+mod texts;
 
-pub use run::line;
+pub use run::{line, tell_line};

@@ -1,69 +1,298 @@
 //! A whole line: its words, what it prints, and its status.
 
-ghost use Rattle.std.specs.Prelude.{◌≡◌, ◌≤◌, ◌⊎◌};
+ghost use Rattle.std.specs.Prelude.{◌≡◌, ◌-◌, ◌^◌, ◌<◌, ◌+◌, ◌≤◌, map, string_bytes, IfOk};
+ghost use Rattle.lines.specs.Rounds.{IsSolved, IsChecked};
+ghost use Rattle.cli.specs.Outcomes.{Printed, Tells, Asks, Imports, ImportsFile, OnFile, Serves, ServesAt, MayCome, ComesTo, refusal_line, of_round, reply_text};
 
 use crate::files::read_file;
-use crate::words::{Line, LineFault, command};
+use crate::opening::open_desk;
+use crate::texts::{bad_line, closed_line, labelled, refusal_line};
+use desk::Desk;
+use intake::MOST_BYTES;
 use lines::{Trouble, checked, solved};
-use rolls::Refusal;
-use std::io::{self, Write};
+use rolls::{Bytes, ImportKind, MOST_IMPORT_BYTES, Plain, Refusal, Reply, Request, Text};
+use sqlite::Alter;
+use std::alloc::{AllocError, Global};
+use std::io::Write;
+use std::net::{Ipv4Addr, TcpListener};
 use std::rt::HostRuntime;
+use web::{Sink, Watched, serve_on, write_all};
+use words::{Line, LineFault, command};
 
-/// Writes a text in one piece, and gives the status, or 1 where it could not be written.
-fn print<W: Write>(out: &mut W, text: &str, status: u8) -> u8
-    ensures { (result ≡ status) ⊎ (result ≡ 1) }
+/// Writes a text, and gives the status, or 1 where it could not be written.
+fn print<W: Sink>(out: &mut W, text: &[u8], status: u8) -> u8
+    requires { W.failures out.old < 2 ^ 64 - 1 }
+    ensures { Printed text.now status (W.written out.old) (W.written out.new) (W.failures out.old) (W.failures out.new) result }
 {
-    match out.write_all(text.as_bytes()) {
+    match write_all(out, text) {
         Ok(()) => status,
         Err(_) => 1,
     }
 }
 
-/// The status of a line that failed, whether or not its fault could be written.
-fn failure(_written: io::Result<()>) -> u8
-    ensures { result ≡ 1 }
+/// Writes a refusal, and gives its status.
+fn refuse<W: Sink>(err: &mut W, refusal: Refusal) -> u8
+    requires { W.failures err.old < 2 ^ 64 - 1 }
+    ensures { Printed (refusal_line refusal) 1 (W.written err.old) (W.written err.new) (W.failures err.old) (W.failures err.new) result }
 {
-    1
+    print(err, refusal_line(refusal).as_slice(), 1)
 }
 
-/// What the line prints on standard output.
-fn result_of(rt: &HostRuntime, line: &Line) -> Result<String, Trouble> {
-    match line {
-        Line::Solve(file) => solved(rt.alloc(), &read_file(rt, file)?),
-        Line::Check(file) => checked(rt.alloc(), &read_file(rt, file)?),
+/// Writes what is printed of an answer.
+fn print_reply<W: Sink>(out: &mut W, reply: &Reply) -> u8
+    requires { W.failures out.old < 2 ^ 64 - 1 }
+    ensures { Printed (reply_text reply.now) 0 (W.written out.old) (W.written out.new) (W.failures out.old) (W.failures out.new) result }
+{
+    match reply {
+        Reply::Rows(rows) => print(out, labelled(b"rows ", *rows).as_slice(), 0),
+        Reply::Opened { round } => print(out, labelled(b"round ", *round).as_slice(), 0),
+        Reply::Closed {
+            round,
+            size,
+            profile,
+        } => print(out, closed_line(*round, *size, profile).as_slice(), 0),
+        Reply::Text(text) => print(out, text.as_str().as_bytes(), 0),
+        Reply::Done
+        | Reply::Supervisor { .. }
+        | Reply::Project { .. }
+        | Reply::Student { .. }
+        | Reply::Round { .. }
+        | Reply::Preview { .. } => print(out, b"", 0),
     }
 }
 
-/// Does all of a line, of which the first word is the program's name, and gives the status of the program.
+/// Tells what came of the text of a round file.
+fn tell_round<O: Sink, E: Sink>(came: Result<String, Trouble>, out: &mut O, err: &mut E) -> u8
+    requires out { O.failures out.old < 2 ^ 64 - 1 }
+    requires err { E.failures err.old < 2 ^ 64 - 1 }
+    ensures { Tells (λ o. o ≡ of_round came) (O.written out.old) (O.written out.new) (E.written err.old) (E.written err.new) (O.failures out.old + E.failures err.old) (O.failures out.new + E.failures err.new) result }
+{
+    match came {
+        Ok(text) => print(out, text.as_bytes(), 0),
+        Err(Trouble::Failed(text)) => print(out, text.as_bytes(), 1),
+        Err(Trouble::Refused(refusal)) => refuse(err, refusal),
+        Err(Trouble::BadLine(number)) => print(err, bad_line(number).as_slice(), 1),
+    }
+}
+
+/// Asks a request of the office of a database, and tells what comes of it.
+fn ask<O: Sink, E: Sink>(
+    rt: &HostRuntime,
+    database: &str,
+    request: Request,
+    out: &mut O,
+    err: &mut E,
+) -> u8
+    requires out { O.failures out.old < 2 ^ 64 - 1 }
+    requires err { E.failures err.old < 2 ^ 64 - 1 }
+    ensures { Tells (Asks request) (O.written out.old) (O.written out.new) (E.written err.old) (E.written err.new) (O.failures out.old + E.failures err.old) (O.failures out.new + E.failures err.new) result }
+{
+    let mut desk = match open_desk(rt, database) {
+        Ok(desk) => desk,
+        Err(refusal) => return refuse(err, refusal),
+    };
+    desk.keeps();
+    match desk.ask(request) {
+        Ok(reply) => print_reply(out, &reply),
+        Err(refusal) => refuse(err, refusal),
+    }
+}
+
+/// The request of an import of a file's bytes.
+fn import_of(
+    rt: &HostRuntime,
+    kind: ImportKind,
+    id: &str,
+    bytes: Vec<u8>,
+) -> Result<Request, AllocError>
+    ensures { IfOk result (λ q. q ≡ Request.Import id.now kind bytes.items) }
+{
+    Ok(Request::Import {
+        id: Text::of(rt.alloc(), id)?,
+        kind,
+        bytes: Bytes::new(rt.alloc(), bytes)?,
+    })
+}
+
+/// Imports a file's bytes into the office of a database.
+fn import<O: Sink, E: Sink>(
+    rt: &HostRuntime,
+    database: &str,
+    kind: ImportKind,
+    id: &str,
+    bytes: Vec<u8>,
+    out: &mut O,
+    err: &mut E,
+) -> u8
+    requires out { O.failures out.old < 2 ^ 64 - 1 }
+    requires err { E.failures err.old < 2 ^ 64 - 1 }
+    ensures { Tells (Imports id.now kind bytes.items) (O.written out.old) (O.written out.new) (E.written err.old) (E.written err.new) (O.failures out.old + E.failures err.old) (O.failures out.new + E.failures err.new) result }
+{
+    if bytes.len() > MOST_IMPORT_BYTES {
+        return refuse(err, Refusal::TooLarge);
+    }
+    match import_of(rt, kind, id, bytes) {
+        Ok(request) => ask(rt, database, request, out, err),
+        Err(_) => refuse(err, Refusal::Memory),
+    }
+}
+
+/// Solves the round of a file.
+fn solve_file<O: Sink, E: Sink>(rt: &HostRuntime, file: &str, out: &mut O, err: &mut E) -> u8
+    requires out { O.failures out.old < 2 ^ 64 - 1 }
+    requires err { E.failures err.old < 2 ^ 64 - 1 }
+    ensures { Tells (OnFile IsSolved) (O.written out.old) (O.written out.new) (E.written err.old) (E.written err.new) (O.failures out.old + E.failures err.old) (O.failures out.new + E.failures err.new) result }
+{
+    match read_file(rt, file, MOST_BYTES) {
+        Ok(bytes) => tell_round(solved(rt.alloc(), &bytes), out, err),
+        Err(refusal) => refuse(err, refusal),
+    }
+}
+
+/// Checks the matching and the prices of the round of a file.
+fn check_file<O: Sink, E: Sink>(rt: &HostRuntime, file: &str, out: &mut O, err: &mut E) -> u8
+    requires out { O.failures out.old < 2 ^ 64 - 1 }
+    requires err { E.failures err.old < 2 ^ 64 - 1 }
+    ensures { Tells (OnFile IsChecked) (O.written out.old) (O.written out.new) (E.written err.old) (E.written err.new) (O.failures out.old + E.failures err.old) (O.failures out.new + E.failures err.new) result }
+{
+    match read_file(rt, file, MOST_BYTES) {
+        Ok(bytes) => tell_round(checked(rt.alloc(), &bytes), out, err),
+        Err(refusal) => refuse(err, refusal),
+    }
+}
+
+/// Imports a file into the office of a database.
+fn import_file<O: Sink, E: Sink>(
+    rt: &HostRuntime,
+    database: &str,
+    kind: ImportKind,
+    id: &str,
+    file: &str,
+    out: &mut O,
+    err: &mut E,
+) -> u8
+    requires out { O.failures out.old < 2 ^ 64 - 1 }
+    requires err { E.failures err.old < 2 ^ 64 - 1 }
+    ensures { Tells (ImportsFile id.now kind) (O.written out.old) (O.written out.new) (E.written err.old) (E.written err.new) (O.failures out.old + E.failures err.old) (O.failures out.new + E.failures err.new) result }
+{
+    match read_file(rt, file, MOST_IMPORT_BYTES) {
+        Ok(bytes) => import(rt, database, kind, id, bytes, out, err),
+        Err(refusal) => refuse(err, refusal),
+    }
+}
+
+/// Serves so many connections of a listener at a desk, and writes a line of each after that of the port.
+fn serve_at<S: Alter, O: Sink>(
+    alloc: Global,
+    desk: &mut Desk<S>,
+    listener: &TcpListener,
+    port: u16,
+    count: u32,
+    out: &mut O,
+) -> u8
+    requires { O.failures out.old < 2 ^ 64 - 1 }
+    ensures { Serves desk.old.office port count (O.written out.old) (O.written out.new) (O.failures out.old) (O.failures out.new) result }
+{
+    match write_all(out, labelled(b"listening ", u32::from(port)).as_slice()) {
+        Err(_) => 1,
+        Ok(()) => match serve_on(alloc, desk, listener, count, out) {
+            Ok(()) => 0,
+            Err(_) => 1,
+        },
+    }
+}
+
+/// Serves so many connections to a port of the loopback address at the office of a database.
+fn serve<O: Sink, E: Sink>(
+    rt: &HostRuntime,
+    database: &str,
+    port: u16,
+    count: u32,
+    out: &mut O,
+    err: &mut E,
+) -> u8
+    requires out { O.failures out.old < 2 ^ 64 - 1 }
+    requires err { E.failures err.old < 2 ^ 64 - 1 }
+    ensures { Tells (ServesAt port count) (O.written out.old) (O.written out.new) (E.written err.old) (E.written err.new) (O.failures out.old + E.failures err.old) (O.failures out.new + E.failures err.new) result }
+{
+    let mut desk = match open_desk(rt, database) {
+        Ok(desk) => desk,
+        Err(refusal) => return refuse(err, refusal),
+    };
+    desk.keeps();
+    let Ok(listener) = TcpListener::bind(rt, (Ipv4Addr::LOCALHOST, port)) else {
+        return print(err, labelled(b"no port ", u32::from(port)).as_slice(), 1);
+    };
+    serve_at(rt.alloc(), &mut desk, &listener, port, count, out)
+}
+
+/// Does a line, and tells what comes of it. A file is read first, then a database is opened, then a port is bound, and then the
+/// request is judged.
+fn do_line<O: Sink, E: Sink>(rt: &HostRuntime, line: Line, out: &mut O, err: &mut E) -> u8
+    requires out { O.failures out.old < 2 ^ 64 - 1 }
+    requires err { E.failures err.old < 2 ^ 64 - 1 }
+    ensures { Tells (MayCome line) (O.written out.old) (O.written out.new) (E.written err.old) (E.written err.new) (O.failures out.old + E.failures err.old) (O.failures out.new + E.failures err.new) result }
+{
+    match line {
+        Line::Serve {
+            database,
+            port,
+            count,
+        } => serve(rt, &database, port, count, out, err),
+        Line::Import {
+            database,
+            kind,
+            id,
+            file,
+        } => import_file(rt, &database, kind, &id, &file, out, err),
+        Line::OpenRound(database) => {
+            ask(rt, &database, Request::Plain(Plain::OpenRound), out, err)
+        }
+        Line::ReopenRound(database) => {
+            ask(rt, &database, Request::Plain(Plain::ReopenRound), out, err)
+        }
+        Line::CloseRound(database) => ask(rt, &database, Request::Close, out, err),
+        Line::Report {
+            database,
+            kind,
+            round,
+        } => ask(rt, &database, Request::Report { kind, round }, out, err),
+        Line::Solve(file) => solve_file(rt, &file, out, err),
+        Line::Check(file) => check_file(rt, &file, out, err),
+    }
+}
+
+/// Does the line of these words, of which the first is the program's name, and gives the status of the program.
 ///
-/// The result goes to `out` with status 0; a check that failed goes to `out` with status 1. A refusal or a bad line of a
-/// file goes to `err` with status 1, a fault of the line to `err` with status 2, and help to `out` with status 0. Where
-/// `out` or `err` fails, the status is 1.
+/// A result goes to `out` with status 0, and a check that failed to `out` with status 1. A refusal, a bad line of a round
+/// text or a port that cannot be bound goes to `err` with status 1, a fault of the line to `err` with status 2, and help to
+/// `out` with status 0. Where a writer fails, the status is 1, and what was done stays done.
+pub fn tell_line<O: Sink, E: Sink>(
+    rt: &HostRuntime,
+    words: &[String],
+    out: &mut O,
+    err: &mut E,
+) -> u8
+    requires out { O.failures out.old < 2 ^ 64 - 1 }
+    requires err { E.failures err.old < 2 ^ 64 - 1 }
+    ensures { Tells (ComesTo (map string_bytes words.now)) (O.written out.old) (O.written out.new) (E.written err.old) (E.written err.new) (O.failures out.old + E.failures err.old) (O.failures out.new + E.failures err.new) result }
+{
+    match command(rt.alloc(), words) {
+        Ok(line) => do_line(rt, line, out, err),
+        Err(LineFault::Memory) => refuse(err, Refusal::Memory),
+        Err(LineFault::Help(text)) => print(out, text.as_bytes(), 0),
+        Err(LineFault::Fault(text)) => print(err, text.as_bytes(), 2),
+    }
+}
+
+/// Does the line of these words with any two writers, as `tell_line` does.
 pub fn line<O: Write + Drop, E: Write + Drop>(
     rt: &HostRuntime,
     words: Vec<String>,
-    mut out: O,
-    mut err: E,
+    out: O,
+    err: E,
 ) -> u8
     ensures { result ≤ 2 }
 {
-    let line = match command(rt.alloc(), &words) {
-        Ok(line) => line,
-        Err(LineFault::Memory) => return refuse(&mut err, Refusal::Memory),
-        Err(LineFault::Help(text)) => return print(&mut out, &text, 0),
-        Err(LineFault::Fault(text)) => return print(&mut err, &text, 2),
-    };
-    match result_of(rt, &line) {
-        Ok(text) => print(&mut out, &text, 0),
-        Err(Trouble::Failed(text)) => print(&mut out, &text, 1),
-        Err(Trouble::Refused(refusal)) => refuse(&mut err, refusal),
-        Err(Trouble::BadLine(n)) => failure(writeln!(err, "bad line {n}")),
-    }
-}
-
-/// Prints a refusal, and gives its status.
-fn refuse<W: Write>(err: &mut W, refusal: Refusal) -> u8
-    ensures { result ≡ 1 }
-{
-    failure(writeln!(err, "refused {}: {}", refusal.number(), refusal.name()))
+    tell_line(rt, &words, &mut Watched::new(out), &mut Watched::new(err))
 }

@@ -13,15 +13,14 @@ const ROUND: &str =
 
 /// What a line printed on standard output and on standard error, and its status.
 #[derive(Drop)]
-struct Printed {
+pub(crate) struct Printed {
     out: Vec<u8>,
     err: Vec<u8>,
     status: u8,
 }
 
-/// Writes a file `round.txt` with this text, and gives these words, parted by spaces.
-fn written(rt: &HostRuntime, words: &str, text: &str) -> Result<Vec<String>, Fail> {
-    fs::write(rt, "round.txt", text)?;
+/// These words, parted by spaces.
+fn parted(rt: &HostRuntime, words: &str) -> Result<Vec<String>, Fail> {
     let mut list = Vec::new(rt.alloc());
     for word in words.split(' ') {
         list.push(String::from_str(rt.alloc(), word)?)?;
@@ -29,10 +28,22 @@ fn written(rt: &HostRuntime, words: &str, text: &str) -> Result<Vec<String>, Fai
     Ok(list)
 }
 
+/// Writes a file `round.txt` with this text, and gives these words.
+fn written(rt: &HostRuntime, words: &str, text: &str) -> Result<Vec<String>, Fail> {
+    fs::write(rt, "round.txt", text)?;
+    parted(rt, words)
+}
+
 /// Does the line of these words over that file.
 fn done(rt: &HostRuntime, words: &str, text: &str) -> Result<Printed, Fail> {
+    fs::write(rt, "round.txt", text)?;
+    do_words(rt, words)
+}
+
+/// Does the line of these words.
+pub(crate) fn do_words(rt: &HostRuntime, words: &str) -> Result<Printed, Fail> {
     let alloc = rt.alloc();
-    let list = written(rt, words, text)?;
+    let list = parted(rt, words)?;
     let mut out = Vec::new(alloc);
     let mut err = Vec::new(alloc);
     let status = line(rt, list, &mut out, &mut err);
@@ -40,7 +51,7 @@ fn done(rt: &HostRuntime, words: &str, text: &str) -> Result<Printed, Fail> {
 }
 
 /// Asserts what was printed.
-fn prints(rt: &impl Abort, printed: &Printed, out: &str, err: &str, status: u8) {
+pub(crate) fn prints(rt: &impl Abort, printed: &Printed, out: &str, err: &str, status: u8) {
     assert_eq!(rt; printed.out.as_slice(), out.as_bytes());
     assert_eq!(rt; printed.err.as_slice(), err.as_bytes());
     assert_eq!(rt; printed.status, status);
@@ -132,11 +143,40 @@ fn a_large_file_is_refused(rt: HostRuntime) -> Result<(), Fail> {
 
 /// What `--help` prints.
 const HELP: &str =
-    "Usage: spadesk <COMMAND>\n\nCommands:\n  solve  Prints the round of FILE with a greedy maximum matching and prices\n  check  Checks the matching and the prices of the round of FILE\n  help   Print this message or the help of the given subcommand(s)\n\nOptions:\n  -h, --help  Print help\n";
+    "Keeps a school's dissertation projects, and places students on them by their lists
+
+Usage: spadesk <COMMAND>
+
+Commands:
+  serve         Serves the database to COUNT connections, one after another, then ends
+  import        Imports supervisors, projects, students or lists from a CSV file
+  open-round    Opens the next round, for which students may then have lists
+  reopen-round  Opens the last round again: its lists stay, its placements go
+  close-round   Closes the open round and places the students who have lists in it
+  report        Prints a report of one round
+  solve         Prints the round of FILE with a greedy maximum matching and prices
+  check         Checks the matching and the prices of the round of FILE
+  help          Print this message or the help of the given subcommand(s)
+
+Options:
+  -h, --help  Print help
+
+Example: spadesk help import
+";
 
 /// What `check --help` prints.
-const CHECK_HELP: &str =
-    "Checks the matching and the prices of the round of FILE\n\nUsage: spadesk check <FILE>\n\nArguments:\n  <FILE>  \n\nOptions:\n  -h, --help  Print help\n";
+const CHECK_HELP: &str = "Checks the matching and the prices of the round of FILE
+
+Usage: spadesk check <FILE>
+
+Arguments:
+  <FILE>  The file to read
+
+Options:
+  -h, --help  Print help
+
+Example: spadesk check round.txt
+";
 
 // The words, and what they print on standard output and on standard error.
 #[rattlefmt::skip]
@@ -146,7 +186,7 @@ fn words_of_no_line() -> [(&'static str, &'static str, &'static str); 6] {
         ("spadesk check --help",       CHECK_HELP,  ""),
         ("spadesk solve",              "",          "error: the following required arguments were not provided:\n  <FILE>\n\nUsage: spadesk solve <FILE>\n\nFor more information, try '--help'.\n"),
         ("spadesk solve a.txt b.txt",  "",          "error: unexpected argument 'b.txt' found\n\nUsage: spadesk solve <FILE>\n\nFor more information, try '--help'.\n"),
-        ("spadesk report a.txt",       "",          "error: unrecognized subcommand 'report'\n\nUsage: spadesk <COMMAND>\n\nFor more information, try '--help'.\n"),
+        ("spadesk rounds a.txt",       "",          "error: unrecognized subcommand 'rounds'\n\nUsage: spadesk <COMMAND>\n\nFor more information, try '--help'.\n"),
         ("spadesk --port 80",          "",          "error: unexpected argument '--port' found\n\nUsage: spadesk <COMMAND>\n\nFor more information, try '--help'.\n"),
     ]
 }

@@ -13,6 +13,8 @@ mod closings;
 #[cfg(test)]
 mod command_lines;
 #[cfg(test)]
+mod connections;
+#[cfg(test)]
 mod desks;
 #[cfg(test)]
 mod disks;
@@ -23,6 +25,8 @@ mod import_texts;
 #[cfg(test)]
 mod instances;
 #[cfg(test)]
+mod line_words;
+#[cfg(test)]
 mod offices;
 #[cfg(test)]
 mod rolls_of;
@@ -30,6 +34,8 @@ mod rolls_of;
 mod round_texts;
 #[cfg(test)]
 mod rounds;
+#[cfg(test)]
+mod school_lines;
 #[cfg(test)]
 mod sent_imports;
 #[cfg(test)]

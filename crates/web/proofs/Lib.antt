@@ -1,2 +1,3 @@
+mod Connecting
 pub mod Seen
 pub mod Stepping

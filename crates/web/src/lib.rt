@@ -7,7 +7,10 @@
 //! messages of the stream. The words that put both together are in `specs/Serving.antt`; begin there.
 #![tactic(auto)]
 
+mod connections;
 mod service;
 
+pub use api::{push, push_labelled, push_number};
+pub use connections::{OutFault, serve_on};
 pub use service::serve_stream;
-pub use wire::{End, Served, Sink, Source, StreamFault, Watched};
+pub use wire::{End, Served, ShortText, Sink, Source, StreamFault, Watched, write_all};

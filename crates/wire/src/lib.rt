@@ -26,3 +26,4 @@ pub use handling::{Answer, Handler, ShortText};
 pub use laws::one_reading;
 pub use outcome::{End, Served, StreamFault};
 pub use service::serve_messages;
+pub use writing::write_all;

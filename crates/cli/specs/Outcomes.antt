@@ -1,0 +1,183 @@
+-- What a line of the program comes to: what it prints where, and its status.
+use Rattle.std.specs.Prelude.{◌≡◌, ◌⊎◌, ℕ, ◌+◌, ◌<◌, List, [], ◌∷◌, ◌++◌, length, flat_map, codes, decimal, string_bytes, Option, Result, Ok, Err, String}
+use Rattle.std.specs.declared.alloc.Global.{Global}
+use Rattle.std.specs.Io.KnownBytes.{Appends}
+use Rattle.rolls.specs.declared.import.ImportKind.{ImportKind}
+use Rattle.rolls.specs.declared.refusal.Refusal.{Refusal}
+use Rattle.rolls.specs.declared.refusal.Refusal.TheVariants as no
+use Rattle.rolls.specs.declared.request.Plain.TheVariants as plain
+use Rattle.rolls.specs.declared.request.Reply.{Reply}
+use Rattle.rolls.specs.declared.request.Reply.TheVariants as reply
+use Rattle.rolls.specs.declared.request.Request.{Request}
+use Rattle.rolls.specs.declared.request.Request.TheVariants as request
+use Rattle.rolls.specs.declared.TheConstants.{MOST_IMPORT_BYTES}
+use Rattle.rolls.specs.State.{State}
+use Rattle.rolls.specs.Fit.{IsFit}
+use Rattle.rolls.specs.Run.{Step}
+use Rattle.rolls.specs.Told.{number_of, name_of}
+use Rattle.allotment.specs.Layers.{layers}
+use Rattle.web.specs.Connections.{Connect, lines_after}
+use Rattle.lines.specs.Rounds.{IsSolved, IsChecked}
+use Rattle.lines.specs.declared.rounds.Trouble.{Trouble}
+use Rattle.lines.specs.declared.rounds.Trouble.TheVariants.{Refused, BadLine, Failed}
+use Rattle.words.specs.declared.line.Line.{Line}
+use Rattle.words.specs.declared.line.Line.TheVariants as line
+use Rattle.words.specs.declared.line.LineFault.{LineFault}
+use Rattle.words.specs.declared.line.LineFault.TheVariants.{Memory, Help, Fault}
+use Rattle.words.specs.Reading.{IsAnswer}
+use Rattle.wire.specs.declared.outcome.Served.{Served}
+use Rattle.wire.specs.declared.outcome.StreamFault.{StreamFault}
+
+-- what is written on standard output and on standard error, and the status
+pub record Outcome : Type 0 where
+  pub out : List ℕ
+  pub err : List ℕ
+  pub status : ℕ
+
+-- a result
+abbrev pub prints : List ℕ → Outcome
+prints text = record { out = text; err = []; status = 0 }
+
+-- a message, with this status
+abbrev pub tells : ℕ → List ℕ → Outcome
+tells status text = record { out = []; err = text; status = status }
+
+-- the line of a refusal with this number and this name
+abbrev pub named_line : ℕ → List ℕ → List ℕ
+named_line number name = codes "refused " ++ decimal number ++ codes ": " ++ name ++ 10 ∷ []
+
+-- the line of a refusal; that of a record also tells which one, and the number of its own refusal
+abbrev pub refusal_line : Refusal → List ℕ
+refusal_line (no.Row n inner) = codes "refused 29: Row " ++ decimal n ++ 32 ∷ decimal inner ++ 10 ∷ []
+refusal_line refusal = named_line (number_of refusal) (name_of refusal)
+
+-- a refusal
+abbrev pub refused : Refusal → Outcome
+refused refusal = tells 1 (refusal_line refusal)
+
+-- the line of a round text's bad line
+abbrev pub bad_line : ℕ → List ℕ
+bad_line n = codes "bad line " ++ decimal n ++ 10 ∷ []
+
+-- what comes of the text of a round file
+abbrev pub of_round : Result (String Global) Trouble → Outcome
+of_round (Ok text) = prints (string_bytes text)
+of_round (Err (Refused refusal)) = refused refusal
+of_round (Err (BadLine n)) = tells 1 (bad_line n)
+of_round (Err (Failed text)) = record { out = string_bytes text; err = []; status = 1 }
+
+-- numbers, each after a space
+abbrev pub counts_text : List ℕ → List ℕ
+counts_text counts = flat_map (λ n. 32 ∷ decimal n) counts
+
+-- the line of a closed round
+abbrev pub closed_line : ℕ → ℕ → List ℕ → List ℕ
+closed_line round size profile =
+    codes "round " ++ decimal round ++ codes " size " ++ decimal size ++ codes " profile" ++ counts_text profile ++ 10 ∷ []
+
+-- what is printed of an answer; no line asks for the others
+abbrev pub reply_text : Reply → List ℕ
+reply_text (reply.Rows n) = codes "rows " ++ decimal n ++ 10 ∷ []
+reply_text (reply.Opened round) = codes "round " ++ decimal round ++ 10 ∷ []
+reply_text (reply.Closed round size profile) = closed_line round size profile
+reply_text (reply.Text text) = text
+reply_text _ = []
+
+-- what comes of an answer
+abbrev pub of_answer : Result Reply Refusal → Outcome
+of_answer (Ok answer) = prints (reply_text answer)
+of_answer (Err refusal) = refused refusal
+
+-- a file could not be read: there was no memory for it, or it is refused
+abbrev pub IsUnread : Outcome → Type 0
+IsUnread o = (o ≡ refused no.Memory) ⊎ (o ≡ refused no.Storage)
+
+-- a line on a round file: it could not be read, or what comes of its bytes
+abbrev pub OnFile : (List ℕ → Result (String Global) Trouble → Type 0) → Outcome → Type 0
+OnFile Is o = IsUnread o ⊎ ((bytes : List ℕ) × (came : Result (String Global) Trouble) × Is bytes came × (o ≡ of_round came))
+
+-- the database could not be opened, or its tables stand for no office
+abbrev pub IsUnopened : Outcome → Type 0
+IsUnopened o = (o ≡ refused no.Memory) ⊎ ((o ≡ refused no.Storage) ⊎ (o ≡ refused no.Damaged))
+
+-- a request was asked of an office, which is fit, and this is what comes of the answer
+pub record IsAsked (asked : Request) (o : Outcome) : Type 0 where
+  pub office : State
+  pub fit : IsFit office
+  pub answer : Result Reply Refusal
+  pub next : State
+  pub step : Step layers office asked answer next
+  pub is : o ≡ of_answer answer
+
+-- a line that asks this of the office of a database
+abbrev pub Asks : Request → Outcome → Type 0
+Asks asked o = IsUnopened o ⊎ IsAsked asked o
+
+-- the line that is printed once a port is bound
+abbrev pub listening : ℕ → List ℕ
+listening port = codes "listening " ++ decimal port ++ 10 ∷ []
+
+-- the line of a port that cannot be bound
+abbrev pub no_port : ℕ → List ℕ
+no_port port = codes "no port " ++ decimal port ++ 10 ∷ []
+
+-- so many connections were served at this office
+pub record IsServed (office : State) (port count : ℕ) (text : List ℕ) : Type 0 where
+  pub came : List (Result Served StreamFault)
+  pub counted : length came ≡ count
+  pub next : State
+  pub served : Connect office came next
+  pub is : text ≡ listening port ++ lines_after 0 came
+
+-- so many connections were served at this office and the lines of all were written, or the writer failed
+abbrev pub Serves : State → ℕ → ℕ → Option (List ℕ) → Option (List ℕ) → ℕ → ℕ → ℕ → Type 0
+Serves office port count w0 w failures0 failures status =
+    ((text : List ℕ) × IsServed office port count text × (failures ≡ failures0) × Appends w0 w text × (status ≡ 0))
+    ⊎ ((failures ≡ failures0 + 1) × (status ≡ 1))
+
+-- a line that serves so many connections: the database could not be opened, or the port not bound, or they were served at a fit office
+abbrev pub ServesAt : ℕ → ℕ → Outcome → Type 0
+ServesAt port count o =
+    IsUnopened o ⊎ ((o ≡ tells 1 (no_port port)) ⊎ ((office : State) × IsFit office × (text : List ℕ) × IsServed office port count text × (o ≡ prints text)))
+
+-- a line that imports these bytes: there are too many, or what comes of the import
+abbrev pub Imports : List ℕ → ImportKind → List ℕ → Outcome → Type 0
+Imports id kind bytes o =
+    ((MOST_IMPORT_BYTES < length bytes) × (o ≡ refused no.TooLarge)) ⊎ ((o ≡ refused no.Memory) ⊎ Asks (request.Import id kind bytes) o)
+
+-- a line that imports a file: it could not be read, or what comes of importing its bytes
+abbrev pub ImportsFile : List ℕ → ImportKind → Outcome → Type 0
+ImportsFile id kind o = IsUnread o ⊎ ((bytes : List ℕ) × Imports id kind bytes o)
+
+-- what a line may come to
+abbrev pub MayCome : Line → Outcome → Type 0
+MayCome (line.Serve database port count) o = ServesAt port count o
+MayCome (line.Import database kind id file) o = ImportsFile (string_bytes id) kind o
+MayCome (line.OpenRound database) o = Asks (request.Plain plain.OpenRound) o
+MayCome (line.ReopenRound database) o = Asks (request.Plain plain.ReopenRound) o
+MayCome (line.CloseRound database) o = Asks request.Close o
+MayCome (line.Report database kind round) o = Asks (request.Report kind round) o
+MayCome (line.Solve file) o = OnFile IsSolved o
+MayCome (line.Check file) o = OnFile IsChecked o
+
+-- what words may come to: what their line does, or their fault
+abbrev pub MayComeOf : Result Line LineFault → Outcome → Type 0
+MayComeOf (Ok line) o = MayCome line o
+MayComeOf (Err Memory) o = o ≡ refused no.Memory
+MayComeOf (Err (Help text)) o = o ≡ prints (string_bytes text)
+MayComeOf (Err (Fault text)) o = o ≡ tells 2 (string_bytes text)
+
+-- a text was written and the status is this, or the writer failed and the status is 1
+abbrev pub Printed : List ℕ → ℕ → Option (List ℕ) → Option (List ℕ) → ℕ → ℕ → ℕ → Type 0
+Printed text status w0 w failures0 failures ends =
+    ((failures ≡ failures0) × Appends w0 w text × (ends ≡ status)) ⊎ ((failures ≡ failures0 + 1) × (ends ≡ 1))
+
+-- one of these outcomes was written and its status is this, or one call of a writer failed and the status is 1
+abbrev pub Tells : (Outcome → Type 0) → Option (List ℕ) → Option (List ℕ) → Option (List ℕ) → Option (List ℕ) → ℕ → ℕ → ℕ → Type 0
+Tells Is out0 out err0 err failures0 failures status =
+    ((o : Outcome) × Is o × (failures ≡ failures0) × Appends out0 out o.out × Appends err0 err o.err × (status ≡ o.status))
+    ⊎ ((failures ≡ failures0 + 1) × (status ≡ 1))
+
+-- what the words may come to
+abbrev pub ComesTo : List (List ℕ) → Outcome → Type 0
+ComesTo words o = (command : Result Line LineFault) × IsAnswer words command × MayComeOf command o

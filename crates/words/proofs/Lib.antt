@@ -1,0 +1,7 @@
+pub mod Faults
+pub mod Found
+pub mod Loops
+pub mod Simple
+pub mod Subcommands
+pub mod Taken
+pub mod Values

@@ -1,0 +1,4 @@
+pub mod Kinds
+pub mod Program
+pub mod Reading
+pub mod Table

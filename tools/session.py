@@ -1,0 +1,63 @@
+#!/usr/bin/env python3
+"""Counted instructions of a preview and of a list, with a kept session and without.
+
+tools/session.py SPADESK     needs valgrind
+
+The program serves streams at the limits: 100 supervisors, 300 projects and 500 students, of whom 499 have a list. Each figure is
+the difference of two streams that differ in their last message.
+"""
+import random
+import re
+import subprocess
+import sys
+
+
+def message(method, path, body=""):
+    return f"{method} {path} HTTP/1.1\r\nContent-Length: {len(body)}\r\n\r\n{body}"
+
+
+def school():
+    """The messages up to the round with 499 lists."""
+    draw = random.Random(1)
+    supervisors = "code,name,quota\n" + "".join(f"L{n},Lee,6\n" for n in range(100))
+    projects = "code,name,supervisor,quota\n" + "".join(f"P{n},Pumps,L{n % 100},2\n" for n in range(300))
+    students = "code,name\n" + "".join(f"S{n},Ann\n" for n in range(500))
+    lists = "student,choices\n" + "".join(
+        f"S{n},{' '.join(f'P{p}' for p in draw.sample(range(300), 8))}\n" for n in range(499)
+    )
+    return [
+        message("POST", "/imports/supervisors/I1", supervisors),
+        message("POST", "/imports/projects/I2", projects),
+        message("POST", "/imports/students/I3", students),
+        message("POST", "/rounds"),
+        message("POST", "/imports/lists/I4", lists),
+    ]
+
+
+def counted(program, messages):
+    """How many instructions the program takes to serve these messages, each of which must be answered with success."""
+    tool = ["valgrind", "--tool=cachegrind", "--cache-sim=no", "--cachegrind-out-file=/dev/null", program]
+    ran = subprocess.run(tool, input="".join(messages).encode(), capture_output=True, check=True)
+    answers = ran.stdout.decode()
+    if answers.count("HTTP/1.1 200 OK") != len(messages):
+        sys.exit(f"not all of {len(messages)} messages were answered with success")
+    return int(re.search(r"I\s+refs:\s+([\d,]+)", ran.stderr.decode())[1].replace(",", ""))
+
+
+def main(program):
+    base = school()
+    preview = message("GET", "/preview")
+    put = message("PUT", "/lists/S499", '{"choices":["P1","P2","P3","P4","P5","P6","P7","P8"]}')
+    start = counted(program, base)
+    first = counted(program, [*base, preview])
+    second = counted(program, [*base, preview, preview])
+    alone = counted(program, [*base, put])
+    joined = counted(program, [*base, preview, put])
+    print(f"preview without a session {first - start}")
+    print(f"preview with a session    {second - first}  {(second - first) / (first - start):.4f}")
+    print(f"list without a session    {alone - start}")
+    print(f"list with a session       {joined - first}  {(joined - first) / (alone - start):.2f}")
+
+
+if __name__ == "__main__":
+    main(*sys.argv[1:])
