@@ -3,8 +3,8 @@
 
 tools/session.py SPADESK     needs valgrind
 
-The program serves streams at the limits: 100 supervisors, 300 projects and 500 students, of whom 499 have a list. Each figure is
-the difference of two streams that differ in their last message.
+The program serves streams at the limits: 100 supervisors, 300 projects and 500 students, of whom 498 have a list. Each figure is
+the difference of two streams that differ in their last message; of lists it is the second that is put.
 """
 import random
 import re
@@ -17,13 +17,13 @@ def message(method, path, body=""):
 
 
 def school():
-    """The messages up to the round with 499 lists."""
+    """The messages up to the round with 498 lists."""
     draw = random.Random(1)
     supervisors = "code,name,quota\n" + "".join(f"L{n},Lee,6\n" for n in range(100))
     projects = "code,name,supervisor,quota\n" + "".join(f"P{n},Pumps,L{n % 100},2\n" for n in range(300))
     students = "code,name\n" + "".join(f"S{n},Ann\n" for n in range(500))
     lists = "student,choices\n" + "".join(
-        f"S{n},{' '.join(f'P{p}' for p in draw.sample(range(300), 8))}\n" for n in range(499)
+        f"S{n},{' '.join(f'P{p}' for p in draw.sample(range(300), 8))}\n" for n in range(498)
     )
     return [
         message("POST", "/imports/supervisors/I1", supervisors),
@@ -47,16 +47,16 @@ def counted(program, messages):
 def main(program):
     base = school()
     preview = message("GET", "/preview")
-    put = message("PUT", "/lists/S499", '{"choices":["P1","P2","P3","P4","P5","P6","P7","P8"]}')
+    puts = [message("PUT", f"/lists/S{n}", '{"choices":["P1","P2","P3","P4","P5","P6","P7","P8"]}') for n in (498, 499)]
     start = counted(program, base)
     first = counted(program, [*base, preview])
     second = counted(program, [*base, preview, preview])
-    alone = counted(program, [*base, put])
-    joined = counted(program, [*base, preview, put])
+    alone = counted(program, [*base, *puts]) - counted(program, [*base, puts[0]])
+    joined = counted(program, [*base, preview, *puts]) - counted(program, [*base, preview, puts[0]])
     print(f"preview without a session {first - start}")
     print(f"preview with a session    {second - first}  {(second - first) / (first - start):.4f}")
-    print(f"list without a session    {alone - start}")
-    print(f"list with a session       {joined - first}  {(joined - first) / (alone - start):.2f}")
+    print(f"list without a session    {alone}")
+    print(f"list with a session       {joined}  {joined / alone:.2f}")
 
 
 if __name__ == "__main__":
