@@ -93,7 +93,7 @@ fn list_of(alloc: Global, office: &Office, student: &str) -> Result<Vec<usize>, 
 {
     office.fit();
     match office.list_of(office.last_round(), student) {
-        Some(listed) => positions_of(alloc, office.projects(), listed.choices.codes()),
+        Some(listed) => positions_of(alloc, office.projects(), listed.choices.as_slice()),
         None => Ok(Vec::new(alloc)),
     }
 }

@@ -177,7 +177,7 @@ fn codes_value(alloc: Global, choices: &Choices) -> Result<Value, AllocError>
     ensures { IfOk result (λ value. view value ≡ list_data (Some choices.now)) }
 {
     let mut items = Vec::new(alloc);
-    for code in choices.codes() {
+    for code in choices.as_slice() {
         items.push(Value::String(String::from_str(alloc, code.as_str())?))?;
     }
     Ok(Value::Array(items))

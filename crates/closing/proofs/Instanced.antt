@@ -41,21 +41,21 @@ module _ (o : State) (fit : IsFit o) where
 
   instance_within : IsWithin (round_instance o)
   instance_within = record {
-    supervisors = rw (length-map o.supervisors supervisor_left) fit.few_supervisors;
-    projects = rw (length-map o.projects project_left) fit.few_projects;
-    students = omega (arith, length-map (lists_of o (last_round o)) student_listed, few_lists o fit (last_round o), fit.few_students);
+    supervisors = rw (length-map o.supervisors supervisor_left) fit.supervisors.few;
+    projects = rw (length-map o.projects project_left) fit.projects.few;
+    students = omega (arith, length-map (lists_of o (last_round o)) student_listed, few_lists o fit (last_round o), fit.students.few);
     supervisor_quotas = All-from_recursion (λ q. q ≤ MOST_PLACES) (map (λ e. e.quota) (round_instance o).supervisors)
         (all_made (λ (e : spa.Supervisor). e.quota) (λ q. q ≤ MOST_PLACES) (round_instance o).supervisors (all_made supervisor_left (λ e. e.quota ≤ MOST_PLACES) o.supervisors
-        (all_weaker SupervisorFits (λ s. s.quota - placed_with_supervisor o s.code ≤ MOST_PLACES) (λ s f. omega (arith, f.quota)) o.supervisors fit.supervisors_fit)));
+        (all_weaker SupervisorFits (λ s. s.quota - placed_with_supervisor o s.code ≤ MOST_PLACES) (λ s f. omega (arith, f.quota)) o.supervisors fit.supervisors.each)));
     project_quotas = All-from_recursion (λ q. q ≤ MOST_PLACES) (map (λ e. e.quota) (round_instance o).projects)
         (all_made (λ (e : spa.Project). e.quota) (λ q. q ≤ MOST_PLACES) (round_instance o).projects (all_made project_left (λ e. e.quota ≤ MOST_PLACES) o.projects
-        (all_weaker (ProjectFits o) (λ p. p.quota - placed_in_project o p.code ≤ MOST_PLACES) (λ p f. omega (arith, f.quota)) o.projects fit.projects_fit)));
+        (all_weaker (ProjectFits o) (λ p. p.quota - placed_in_project o p.code ≤ MOST_PLACES) (λ p f. omega (arith, f.quota)) o.projects fit.projects.each)));
   }
 
   codes_apart : HasDistinctCodes (round_instance o)
   codes_apart = record {
-    supervisors = apart_since_rise (supervisor_codes (round_instance o)) (rises_made (λ (e : spa.Supervisor). (0, e.code)) code_key (λ e. e.code) (λ e f. refl) (round_instance o).supervisors ∙ rises_made supervisor_key (λ e. (0, e.code)) supervisor_left (λ e f. refl) o.supervisors ∙ fit.supervisors_rise);
-    projects = apart_since_rise (project_codes (round_instance o)) (rises_made (λ (e : spa.Project). (0, e.code)) code_key (λ e. e.code) (λ e f. refl) (round_instance o).projects ∙ rises_made project_key (λ e. (0, e.code)) project_left (λ e f. refl) o.projects ∙ fit.projects_rise);
+    supervisors = apart_since_rise (supervisor_codes (round_instance o)) (rises_made (λ (e : spa.Supervisor). (0, e.code)) code_key (λ e. e.code) (λ e f. refl) (round_instance o).supervisors ∙ rises_made supervisor_key (λ e. (0, e.code)) supervisor_left (λ e f. refl) o.supervisors ∙ fit.supervisors.rise);
+    projects = apart_since_rise (project_codes (round_instance o)) (rises_made (λ (e : spa.Project). (0, e.code)) code_key (λ e. e.code) (λ e f. refl) (round_instance o).projects ∙ rises_made project_key (λ e. (0, e.code)) project_left (λ e f. refl) o.projects ∙ fit.projects.rise);
     students = apart_since_rise (student_codes (round_instance o)) (rises_made (λ (e : spa.Student). (0, e.code)) code_key (λ e. e.code) (λ e f. refl) (round_instance o).students ∙ rises_made list_key (λ e. (0, e.code)) student_listed (λ e f. refl) (lists_of o (last_round o)) ∙ fit.lists_rise (last_round o));
   }
 
@@ -64,7 +64,7 @@ module _ (o : State) (fit : IsFit o) where
       all_made (λ (e : spa.Project). e.supervisor) (Contains (supervisor_codes (round_instance o))) (round_instance o).projects
       (all_made project_left (λ e. Contains (supervisor_codes (round_instance o)) e.supervisor) o.projects
       (all_weaker (ProjectFits o) (λ p. Contains (supervisor_codes (round_instance o)) p.supervisor)
-      (λ p f. contains_found supervisor_key supervisor_left (λ e. e.code) (λ e. refl) p.supervisor o.supervisors f.supervisor) o.projects fit.projects_fit))
+      (λ p f. contains_found supervisor_key supervisor_left (λ e. e.code) (λ e. refl) p.supervisor o.supervisors f.supervisor) o.projects fit.projects.each))
 
   list_sound : (l : Listed) → ListFits o (last_round o) l → IsSoundList (project_codes (round_instance o)) l.choices
   list_sound l f = (

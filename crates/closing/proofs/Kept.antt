@@ -135,15 +135,9 @@ module _ (M : List CodePair) (o : State) (fit : IsFit o) where
     -- the office after closing is fit
     pub close_keeps_fit : IsFit (after_close M o)
     close_keeps_fit = record {
-      supervisors_rise = fit.supervisors_rise;
-      projects_rise = fit.projects_rise;
-      students_rise = fit.students_rise;
-      few_supervisors = fit.few_supervisors;
-      few_projects = fit.few_projects;
-      few_students = fit.few_students;
-      supervisors_fit = fit.supervisors_fit;
-      projects_fit = fit.projects_fit;
-      students_fit = fit.students_fit;
+      supervisors = fit.supervisors;
+      projects = fit.projects;
+      students = fit.students;
       numbered = numbered_kept closed_round (λ r. refl) o fit.numbered;
       few_rounds = omega (arith, last_kept closed_round (λ r. refl) o fit.numbered, fit.few_rounds);
       last_open = last_open_kept closed_round (λ r. refl) o fit.numbered fit.last_open;
@@ -151,9 +145,7 @@ module _ (M : List CodePair) (o : State) (fit : IsFit o) where
       lists_fit = lists_fit;
       placements_rise = rises_put_all placement_key (map (kept o) M) o.placements fit.placements_rise;
       placements_fit = placements_fit;
-      imports_rise = fit.imports_rise;
-      few_imports = fit.few_imports;
-      imports_fit = fit.imports_fit;
+      imports = fit.imports;
       projects_within = projects_within;
       supervisors_within = supervisors_within;
     }

@@ -79,8 +79,8 @@ module _ (o : State) where
 
     -- there are no more placements than students
     pub few_placed : length o.placements ≤ length o.students
-    few_placed = fewer placement_key student_key o.placements o.students fit.placements_rise fit.students_rise (all_weaker (PlacementFits o) (λ p. has_student o p.student ≡ true) placed_student o.placements fit.placements_fit)
+    few_placed = fewer placement_key student_key o.placements o.students fit.placements_rise fit.students.rise (all_weaker (PlacementFits o) (λ p. has_student o p.student ≡ true) placed_student o.placements fit.placements_fit)
 
     -- and no more lists in a round
     pub few_lists : (n : ℕ) → length (lists_of o n) ≤ length o.students
-    few_lists n = fewer list_key student_key (lists_of o n) o.students (fit.lists_rise n) fit.students_rise (all_weaker (ListFits o n) (λ l. has_student o l.student ≡ true) (λ l f. f.student) (lists_of o n) (fit.lists_fit n))
+    few_lists n = fewer list_key student_key (lists_of o n) o.students (fit.lists_rise n) fit.students.rise (all_weaker (ListFits o n) (λ l. has_student o l.student ≡ true) (λ l f. f.student) (lists_of o n) (fit.lists_fit n))

@@ -16,7 +16,7 @@ fn placed_at(round: u32, listed: &Listed, place: u8) -> Placement
     requires { let list = listed.now in IsPlaceOf list.choices place }
     ensures { result ≡ placed_at round listed.now place }
 {
-    let choices = listed.choices.codes();
+    let choices = listed.choices.as_slice();
     Placement {
         student: listed.student.copy(),
         round,

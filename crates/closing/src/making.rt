@@ -84,7 +84,7 @@ fn codes_of(alloc: Global, choices: &Choices) -> Result<Vec<Code>, AllocError>
     ensures { IfOk result (λ codes. codes.items ≡ choices.now) }
 {
     let mut copies = Vec::new(alloc);
-    for code in choices.codes() {
+    for code in choices.as_slice() {
         copies.push(code.copy())?;
     }
     Ok(copies)

@@ -187,9 +187,9 @@ fit_within : (o : State) → IsFit o → are_within o ≡ true
 fit_within o fit =
     both_so (list_all (λ p. nat_le (placed_in_project o p.code) p.quota) o.projects) _
     (all_pass (λ p. project_of o p.code ≡ Some p) (λ p. nat_le (placed_in_project o p.code) p.quota)
-    (λ p e. within _ _ (subst (λ x. placed_in_project o p.code ≤ option_map_or (λ (p : Project). p.quota) x 0) e (fit.projects_within p.code))) o.projects (found_each project_key o.projects fit.projects_rise))
+    (λ p e. within _ _ (subst (λ x. placed_in_project o p.code ≤ option_map_or (λ (p : Project). p.quota) x 0) e (fit.projects_within p.code))) o.projects (found_each project_key o.projects fit.projects.rise))
     (all_pass (λ s. supervisor_of o s.code ≡ Some s) (λ s. nat_le (placed_with_supervisor o s.code) s.quota)
-    (λ s e. within _ _ (subst (λ x. placed_with_supervisor o s.code ≤ option_map_or (λ (s : Supervisor). s.quota) x 0) e (fit.supervisors_within s.code))) o.supervisors (found_each supervisor_key o.supervisors fit.supervisors_rise))
+    (λ s e. within _ _ (subst (λ x. placed_with_supervisor o s.code ≤ option_map_or (λ (s : Supervisor). s.quota) x 0) e (fit.supervisors_within s.code))) o.supervisors (found_each supervisor_key o.supervisors fit.supervisors.rise))
 
 -- ---- the whole
 
@@ -241,20 +241,14 @@ whole_fit o d whole =
     let few3 = second_so students (rounds && imports) few2 in
     let offered : AllByRecursion (ProjectFits o) o.projects = all_weaker (λ p. ProjectForm p × (has_supervisor o p.supervisor ≡ true)) (ProjectFits o)
     (λ p h. record { code = h.0.code; label = h.0.label; supervisor = h.1; quota = h.0.quota }) o.projects
-    (all_both ProjectForm (λ p. has_supervisor o p.supervisor ≡ true) o.projects d.projects.each (tested (λ p. has_supervisor o p.supervisor) o.projects j.offered)) in
+    (all_both ProjectForm (λ p. has_supervisor o p.supervisor ≡ true) o.projects d.rolls.projects.each (tested (λ p. has_supervisor o p.supervisor) o.projects j.offered)) in
     let lists = lists_fit o d j.lists in
     let placements : AllByRecursion (PlacementFits o) o.placements = all_weaker _ (PlacementFits o) (placement_fits o) o.placements (tested (is_placement o) o.placements j.placements) in
     let known = all_weaker (PlacementFits o) (λ (p : Placement). has_project o p.project ≡ true) (λ p fits. (listed o lists p.round p.student (p.rank - 1) p.project fits.listed).project) o.placements placements in
     record {
-      supervisors_rise = d.supervisors.rise;
-      projects_rise = d.projects.rise;
-      students_rise = d.students.rise;
-      few_supervisors = at_most _ _ (first_so supervisors (projects && (students && (rounds && imports))) j.few);
-      few_projects = at_most _ _ (first_so projects (students && (rounds && imports)) few1);
-      few_students = at_most _ _ (first_so students (rounds && imports) few2);
-      supervisors_fit = d.supervisors.each;
-      projects_fit = offered;
-      students_fit = d.students.each;
+      supervisors = record { rise = d.rolls.supervisors.rise; few = at_most _ _ (first_so supervisors (projects && (students && (rounds && imports))) j.few); each = d.rolls.supervisors.each };
+      projects = record { rise = d.rolls.projects.rise; few = at_most _ _ (first_so projects (students && (rounds && imports)) few1); each = offered };
+      students = record { rise = d.rolls.students.rise; few = at_most _ _ (first_so students (rounds && imports) few2); each = d.rolls.students.each };
       numbered = j.numbered;
       few_rounds = at_most _ _ (first_so rounds imports few3);
       last_open = j.last_open;
@@ -262,9 +256,7 @@ whole_fit o d whole =
       lists_fit = lists;
       placements_rise = d.placements;
       placements_fit = placements;
-      imports_rise = d.imports.rise;
-      few_imports = at_most _ _ (second_so rounds imports few3);
-      imports_fit = d.imports.each;
+      imports = record { rise = d.imports.rise; few = at_most _ _ (second_so rounds imports few3); each = d.imports.each };
       projects_within = projects_within o known j.projects;
       supervisors_within = supervisors_within o offered j.supervisors;
     }
@@ -272,11 +264,11 @@ whole_fit o d whole =
 -- and a fit office goes together
 pub fit_whole : (o : State) → IsFit o → is_whole o ≡ true
 fit_whole o fit =
-    let few = both_so (nat_le (length o.supervisors) 100) _ (within _ _ fit.few_supervisors)
-    (both_so (nat_le (length o.projects) 400) _ (within _ _ fit.few_projects)
-    (both_so (nat_le (length o.students) 500) _ (within _ _ fit.few_students)
-    (both_so (nat_le (length o.rounds) 12) _ (within _ _ fit.few_rounds) (within _ _ fit.few_imports)))) in
+    let few = both_so (nat_le (length o.supervisors) 100) _ (within _ _ fit.supervisors.few)
+    (both_so (nat_le (length o.projects) 400) _ (within _ _ fit.projects.few)
+    (both_so (nat_le (length o.students) 500) _ (within _ _ fit.students.few)
+    (both_so (nat_le (length o.rounds) 12) _ (within _ _ fit.few_rounds) (within _ _ fit.imports.few)))) in
     both_so (are_few o) _ few
-    (both_so (are_offered o) _ (all_pass (ProjectFits o) (λ p. has_supervisor o p.supervisor) (λ p fits. fits.supervisor) o.projects fit.projects_fit)
+    (both_so (are_offered o) _ (all_pass (ProjectFits o) (λ p. has_supervisor o p.supervisor) (λ p fits. fits.supervisor) o.projects fit.projects.each)
     (both_so (are_rounds o) _ (both_so (are_numbered 1 o.rounds) _ fit.numbered (both_so (only_last_open o.rounds) _ fit.last_open (fit_lists o fit)))
     (both_so (list_all (is_placement o) o.placements) _ (all_pass (PlacementFits o) (is_placement o) (fits_placement o) o.placements fit.placements_fit) (fit_within o fit))))

@@ -7,7 +7,9 @@ use Rattle.std.specs.Str.{bytes_eq}
 use Rattle.std.proofs.lemmas.Bool.Decides.{nat_tests}
 use Rattle.std.proofs.lemmas.List.{length-append}
 use Rattle.spa.specs.Text.{is_code, is_label}
+use Rattle.rolls.specs.declared.entries.Supervisor.{Supervisor}
 use Rattle.rolls.specs.declared.entries.Project.{Project}
+use Rattle.rolls.specs.declared.entries.Student.{Student}
 use Rattle.rolls.specs.declared.rounds.Listed.{Listed}
 use Rattle.rolls.specs.declared.import.ImportKind.{ImportKind}
 use Rattle.rolls.specs.declared.row.Row.{Row}
@@ -46,10 +48,15 @@ ProjectForm p = record {
 abbrev pub HasChoices : Listed → Type 0
 HasChoices l = 1 ≤ length l.choices
 
+-- the three rolls
+pub record AreRolls (ss : List Supervisor) (ps : List Project) (ts : List Student) : Type 0 where
+  pub supervisors : AreOf supervisor_key SupervisorFits ss
+  pub projects : AreOf project_key ProjectForm ps
+  pub students : AreOf student_key StudentFits ts
+
+-- what the rows that were taken in so far make
 pub record IsDrafted (o : State) : Type 0 where
-  pub supervisors : AreOf supervisor_key SupervisorFits o.supervisors
-  pub projects : AreOf project_key ProjectForm o.projects
-  pub students : AreOf student_key StudentFits o.students
+  pub rolls : AreRolls o.supervisors o.projects o.students
   pub rounds : rises round_key o.rounds ≡ true
   pub lists : (n : ℕ) → AreOf list_key HasChoices (lists_of o n)
   pub placements : rises placement_key o.placements ≡ true
@@ -57,9 +64,9 @@ pub record IsDrafted (o : State) : Type 0 where
 
 pub drafted_shaped : (o : State) → IsDrafted o → IsShaped o
 drafted_shaped o d = record {
-  supervisors_rise = d.supervisors.rise;
-  projects_rise = d.projects.rise;
-  students_rise = d.students.rise;
+  supervisors_rise = d.rolls.supervisors.rise;
+  projects_rise = d.rolls.projects.rise;
+  students_rise = d.rolls.students.rise;
   rounds_rise = d.rounds;
   lists_rise = λ n. (d.lists n).rise;
   lists_some = λ n. (d.lists n).each;
@@ -69,9 +76,7 @@ drafted_shaped o d = record {
 
 pub empty_drafted : IsDrafted empty
 empty_drafted = record {
-  supervisors = record { rise = refl; each = tt };
-  projects = record { rise = refl; each = tt };
-  students = record { rise = refl; each = tt };
+  rolls = record { supervisors = record { rise = refl; each = tt }; projects = record { rise = refl; each = tt }; students = record { rise = refl; each = tt } };
   rounds = refl;
   lists = λ n. record { rise = refl; each = tt };
   placements = refl;
@@ -98,9 +103,7 @@ drafted_supervisor o code label quota form d =
       quota = at_most quota 500 (second_so (is_label label) (nat_le quota 500) rest);
     } in
     record {
-      supervisors = put_of supervisor_key SupervisorFits _ o.supervisors fits d.supervisors;
-      projects = d.projects;
-      students = d.students;
+      rolls = record { supervisors = put_of supervisor_key SupervisorFits _ o.supervisors fits d.rolls.supervisors; projects = d.rolls.projects; students = d.rolls.students };
       rounds = d.rounds;
       lists = d.lists;
       placements = d.placements;
@@ -116,9 +119,7 @@ drafted_project o code label supervisor quota form d =
       quota = at_most quota 500 (second_so (is_code supervisor) (nat_le quota 500) (second_so (is_label label) (is_code supervisor && nat_le quota 500) rest));
     } in
     record {
-      supervisors = d.supervisors;
-      projects = put_of project_key ProjectForm _ o.projects fits d.projects;
-      students = d.students;
+      rolls = record { supervisors = d.rolls.supervisors; projects = put_of project_key ProjectForm _ o.projects fits d.rolls.projects; students = d.rolls.students };
       rounds = d.rounds;
       lists = d.lists;
       placements = d.placements;
@@ -129,9 +130,7 @@ drafted_student : (o : State) (code label : List ℕ) → has_form o (row.Studen
 drafted_student o code label form d =
     let fits : StudentFits (record { code = code; label = label }) = record { code = first_so (is_code code) (is_label label) form; label = second_so (is_code code) (is_label label) form } in
     record {
-      supervisors = d.supervisors;
-      projects = d.projects;
-      students = put_of student_key StudentFits _ o.students fits d.students;
+      rolls = record { supervisors = d.rolls.supervisors; projects = d.rolls.projects; students = put_of student_key StudentFits _ o.students fits d.rolls.students };
       rounds = d.rounds;
       lists = d.lists;
       placements = d.placements;
@@ -140,9 +139,7 @@ drafted_student o code label form d =
 
 drafted_round : (o : State) (number : ℕ) (is_open : Bool) → row_of o (key_of (row.Round number is_open)) ≡ None → IsDrafted o → IsDrafted (with_row (row.Round number is_open) o)
 drafted_round o number is_open free d = record {
-  supervisors = d.supervisors;
-  projects = d.projects;
-  students = d.students;
+  rolls = d.rolls;
   rounds = rises-put round_key (record { number = number; is_open = is_open; lists = [] }) o.rounds d.rounds;
   lists = λ n. subst (AreOf list_key HasChoices) (sym (lists_kept o (record { number = number; is_open = is_open; lists = [] }) (absent number _ free) n)) (d.lists n);
   placements = d.placements;
@@ -159,9 +156,7 @@ drafted_choice : (o : State) (n : ℕ) (s : List ℕ) (p : ℕ) (c : List ℕ) �
 drafted_choice o n s p c form d =
     let next = is_next o n s p c form in
     let chosen : IsDrafted (chosen_with o next.round s c) = record {
-      supervisors = d.supervisors;
-      projects = d.projects;
-      students = d.students;
+      rolls = d.rolls;
       rounds = rises-put round_key (record next.round { lists = with_choice s c next.round.lists }) o.rounds d.rounds;
       lists = λ k. subst (AreOf list_key HasChoices) (sym (lists_chosen o n s p c next k)) (chosen_lists o n s c k (bytes_eq (k ∷ []) (n ∷ [])) (d.lists n) (d.lists k));
       placements = d.placements;
@@ -171,9 +166,7 @@ drafted_choice o n s p c form d =
 
 drafted_placement : (o : State) (student : List ℕ) (round : ℕ) (project : List ℕ) (rank : ℕ) → IsDrafted o → IsDrafted (with_row (row.Placement student round project rank) o)
 drafted_placement o student round project rank d = record {
-  supervisors = d.supervisors;
-  projects = d.projects;
-  students = d.students;
+  rolls = d.rolls;
   rounds = d.rounds;
   lists = d.lists;
   placements = rises-put placement_key (record { student = student; round = round; project = project; rank = rank }) o.placements d.placements;
@@ -189,9 +182,7 @@ drafted_import o id kind bytes rows form d =
       rows = at_most rows 65536 (second_so (nat_le (length bytes) 65536) (nat_le rows 65536) rest);
     } in
     record {
-      supervisors = d.supervisors;
-      projects = d.projects;
-      students = d.students;
+      rolls = d.rolls;
       rounds = d.rounds;
       lists = d.lists;
       placements = d.placements;

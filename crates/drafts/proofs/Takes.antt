@@ -78,30 +78,30 @@ listed w fits n s i c is = of_list (list_of w n s) refl is
         }
 
 student_code : (w : State) → IsFit w → (s : List ℕ) → has_student w s ≡ true → is_code s ≡ true
-student_code w fit s h = known_code student_key (λ (e : Student). e.code) StudentFits (λ e. refl) (λ e f. f.code) s w.students fit.students_fit h
+student_code w fit s h = known_code student_key (λ (e : Student). e.code) StudentFits (λ e. refl) (λ e f. f.code) s w.students fit.students.each h
 
 project_code : (w : State) → IsFit w → (p : List ℕ) → has_project w p ≡ true → is_code p ≡ true
-project_code w fit p h = known_code project_key (λ (e : Project). e.code) (ProjectFits w) (λ e. refl) (λ e f. f.code) p w.projects fit.projects_fit h
+project_code w fit p h = known_code project_key (λ (e : Project). e.code) (ProjectFits w) (λ e. refl) (λ e f. f.code) p w.projects fit.projects.each h
 
 -- ---- rolls, placements and imports
 
 form_of_supervisor : (w : State) → IsFit w → (o : State) (code label : List ℕ) (quota : ℕ) → row_of w (key.Supervisor code) ≡ Some (row.Supervisor code label quota) → has_form o (row.Supervisor code label quota) ≡ true
 form_of_supervisor w fit o code label quota there =
     let s : Supervisor = record { code = code; label = label; quota = quota } in
-    let fits : SupervisorFits s = holds_of_found supervisor_key SupervisorFits (0, code) w.supervisors s fit.supervisors_fit (entry_back supervisor_row supervisor_in (λ e. refl) _ _ there) in
+    let fits : SupervisorFits s = holds_of_found supervisor_key SupervisorFits (0, code) w.supervisors s fit.supervisors.each (entry_back supervisor_row supervisor_in (λ e. refl) _ _ there) in
     both_so (is_code code) _ fits.code (both_so (is_label label) _ fits.label (within quota 500 fits.quota))
 
 form_of_project : (w : State) → IsFit w → (o : State) (code label supervisor : List ℕ) (quota : ℕ) → row_of w (key.Project code) ≡ Some (row.Project code label supervisor quota) → has_form o (row.Project code label supervisor quota) ≡ true
 form_of_project w fit o code label supervisor quota there =
     let p : Project = record { code = code; label = label; supervisor = supervisor; quota = quota } in
-    let fits : ProjectFits w p = holds_of_found project_key (ProjectFits w) (0, code) w.projects p fit.projects_fit (entry_back project_row project_in (λ e. refl) _ _ there) in
-    let offered = known_code supervisor_key (λ (e : Supervisor). e.code) SupervisorFits (λ e. refl) (λ e f. f.code) supervisor w.supervisors fit.supervisors_fit fits.supervisor in
+    let fits : ProjectFits w p = holds_of_found project_key (ProjectFits w) (0, code) w.projects p fit.projects.each (entry_back project_row project_in (λ e. refl) _ _ there) in
+    let offered = known_code supervisor_key (λ (e : Supervisor). e.code) SupervisorFits (λ e. refl) (λ e f. f.code) supervisor w.supervisors fit.supervisors.each fits.supervisor in
     both_so (is_code code) _ fits.code (both_so (is_label label) _ fits.label (both_so (is_code supervisor) _ offered (within quota 500 fits.quota)))
 
 form_of_student : (w : State) → IsFit w → (o : State) (code label : List ℕ) → row_of w (key.Student code) ≡ Some (row.Student code label) → has_form o (row.Student code label) ≡ true
 form_of_student w fit o code label there =
     let s : Student = record { code = code; label = label } in
-    let fits : StudentFits s = holds_of_found student_key StudentFits (0, code) w.students s fit.students_fit (entry_back student_row student_in (λ e. refl) _ _ there) in
+    let fits : StudentFits s = holds_of_found student_key StudentFits (0, code) w.students s fit.students.each (entry_back student_row student_in (λ e. refl) _ _ there) in
     both_so (is_code code) _ fits.code fits.label
 
 form_of_placement : (w : State) → IsFit w → (o : State) (student : List ℕ) (round : ℕ) (project : List ℕ) (rank : ℕ)
@@ -115,7 +115,7 @@ form_of_placement w fit o student round project rank there =
 form_of_import : (w : State) → IsFit w → (o : State) (id : List ℕ) (kind : ImportKind) (bytes : List ℕ) (rows : ℕ) → row_of w (key.Import id) ≡ Some (row.Import id kind bytes rows) → has_form o (row.Import id kind bytes rows) ≡ true
 form_of_import w fit o id kind bytes rows there =
     let i : Import = record { id = id; kind = kind; bytes = bytes; rows = rows } in
-    let fits : ImportFits i = holds_of_found import_key ImportFits (0, id) w.imports i fit.imports_fit (entry_back import_row import_in (λ e. refl) _ _ there) in
+    let fits : ImportFits i = holds_of_found import_key ImportFits (0, id) w.imports i fit.imports.each (entry_back import_row import_in (λ e. refl) _ _ there) in
     both_so (is_code id) _ fits.id (both_so (nat_le (length bytes) 65536) _ (within (length bytes) 65536 fits.bytes) (within rows 65536 fits.rows))
 
 -- ---- choices

@@ -55,7 +55,7 @@ fn next_choices(
     ensures unfit { result ≡ Err RowsFault.Unfit → (length (choices_among student.now lists.now) + 1 == place) ≡ false }
 {
     let before = match lists.by_code(student.as_str()) {
-        Some(listed) => listed.choices.codes(),
+        Some(listed) => listed.choices.as_slice(),
         None => &[],
     };
     if place < 1 || before.len() != (place - 1) as usize {

@@ -64,7 +64,7 @@ fn stands_at_rank(lists: &Table<Listed>, placement: &Placement) -> bool
     ensures { let p = placement.now in result ≡ option_map_or (bytes_eq p.project) (slice_get (choices_among p.student lists.now) (p.rank - 1)) false }
 {
     let choices = match lists.by_code(placement.student.as_str()) {
-        Some(listed) => listed.choices.codes(),
+        Some(listed) => listed.choices.as_slice(),
         None => &[],
     };
     match choices.get(placement.rank.saturating_sub(1) as usize) {
@@ -124,7 +124,7 @@ impl Draft {
         if self.is_placed_before(listed.student.as_str(), number) {
             return false;
         }
-        let choices = listed.choices.codes();
+        let choices = listed.choices.as_slice();
         choices.len() <= RANKS && is_distinct(choices) && self.are_known(choices)
     }
 

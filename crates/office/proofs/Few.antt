@@ -7,10 +7,10 @@ use Rattle.rolls.specs.Fit.{IsFit}
 use Rattle.closing.proofs.Opened.{few_placed, few_lists}
 
 pub placements_few : (o : State) → IsFit o → length o.placements ≤ 500
-placements_few o fit = let few = few_placed o fit in omega (arith, few, fit.few_students)
+placements_few o fit = let few = few_placed o fit in omega (arith, few, fit.students.few)
 
 pub counted_few : (o : State) → IsFit o → (p : Placement → Bool) → count_by p o.placements ≤ 500
 counted_few o fit p = let some = count_by-le-length p o.placements in let few = placements_few o fit in omega (arith, some, few)
 
 pub lists_few : (o : State) → IsFit o → (n : ℕ) → length (lists_of o n) ≤ 500
-lists_few o fit n = let few = few_lists o fit n in omega (arith, few, fit.few_students)
+lists_few o fit n = let few = few_lists o fit n in omega (arith, few, fit.students.few)

@@ -212,14 +212,14 @@ numbered_rise m (r ∷ rs) h =
 
 pub fit_shaped : (o : State) → IsFit o → IsShaped o
 fit_shaped o fit = record {
-  supervisors_rise = fit.supervisors_rise;
-  projects_rise = fit.projects_rise;
-  students_rise = fit.students_rise;
+  supervisors_rise = fit.supervisors.rise;
+  projects_rise = fit.projects.rise;
+  students_rise = fit.students.rise;
   rounds_rise = numbered_rise 1 o.rounds fit.numbered;
   lists_rise = fit.lists_rise;
   lists_some = λ n. all_weaker (ListFits o n) (λ l. 1 ≤ length l.choices) (λ l fits. fits.some) (lists_of o n) (fit.lists_fit n);
   placements_rise = fit.placements_rise;
-  imports_rise = fit.imports_rise;
+  imports_rise = fit.imports.rise;
 }
 
 pub rows_determine : RowsGiveOffice

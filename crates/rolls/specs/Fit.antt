@@ -10,7 +10,7 @@ use Rattle.rolls.specs.declared.rounds.Round.{Round}
 use Rattle.rolls.specs.declared.rounds.Listed.{Listed}
 use Rattle.rolls.specs.declared.rounds.Placement.{Placement}
 use Rattle.rolls.specs.declared.import.Import.{Import}
-use Rattle.rolls.specs.Roll.{rises}
+use Rattle.rolls.specs.Roll.{Key, rises}
 use Rattle.rolls.specs.State.{State, supervisor_key, project_key, student_key, list_key, placement_key, import_key, has_supervisor, has_project, has_student, is_placed_before, is_closed, lists_of, choices_in, quota_in, quota_with, placed_in_project, placed_with_supervisor}
 
 -- a supervisor with a code, a label and a quota of at most 500
@@ -79,18 +79,18 @@ ImportFits i = record {
   rows : i.rows ≤ 65536;
 }
 
--- An office is as the rules have it: no key stands twice, nothing is too long, each entry fits, and no project and no supervisor
--- has more students over all rounds than the quota.
+-- entries of one kind: no key stands twice, there are no more than so many, and each is as it must be
+pub record AreEntries {E : Type 0} (key : E → Key) (Fits : E → Type 0) (most : ℕ) (entries : List E) : Type 0 where
+  pub rise : IsTrue (rises key entries)
+  pub few : length entries ≤ most
+  pub each : AllByRecursion Fits entries
+
+-- An office is as the rules have it: its entries are, its rounds are numbered and only the last is open, and no project and no
+-- supervisor has more students over all rounds than the quota.
 pub record IsFit (o : State) : Type 0 where
-  pub supervisors_rise : IsTrue (rises supervisor_key o.supervisors)
-  pub projects_rise : IsTrue (rises project_key o.projects)
-  pub students_rise : IsTrue (rises student_key o.students)
-  pub few_supervisors : length o.supervisors ≤ 100
-  pub few_projects : length o.projects ≤ 400
-  pub few_students : length o.students ≤ 500
-  pub supervisors_fit : AllByRecursion SupervisorFits o.supervisors
-  pub projects_fit : AllByRecursion (ProjectFits o) o.projects
-  pub students_fit : AllByRecursion StudentFits o.students
+  pub supervisors : AreEntries supervisor_key SupervisorFits 100 o.supervisors
+  pub projects : AreEntries project_key (ProjectFits o) 400 o.projects
+  pub students : AreEntries student_key StudentFits 500 o.students
   pub numbered : IsTrue (are_numbered 1 o.rounds)
   pub few_rounds : length o.rounds ≤ 12
   pub last_open : IsTrue (only_last_open o.rounds)
@@ -98,8 +98,6 @@ pub record IsFit (o : State) : Type 0 where
   pub lists_fit : (n : ℕ) → AllByRecursion (ListFits o n) (lists_of o n)
   pub placements_rise : IsTrue (rises placement_key o.placements)
   pub placements_fit : AllByRecursion (PlacementFits o) o.placements
-  pub imports_rise : IsTrue (rises import_key o.imports)
-  pub few_imports : length o.imports ≤ 200
-  pub imports_fit : AllByRecursion ImportFits o.imports
+  pub imports : AreEntries import_key ImportFits 200 o.imports
   pub projects_within : (p : List ℕ) → placed_in_project o p ≤ quota_in o p
   pub supervisors_within : (s : List ℕ) → placed_with_supervisor o s ≤ quota_with o s

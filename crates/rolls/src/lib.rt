@@ -11,12 +11,14 @@
 
 mod entries;
 mod import;
+mod keys;
 mod laws;
 mod refusal;
 mod report;
 mod request;
 mod rounds;
 mod row;
+mod shared;
 mod table;
 mod text;
 
@@ -28,6 +30,7 @@ pub use report::ReportKind;
 pub use request::{Done, Plain, Reply, Request};
 pub use rounds::{Choices, Listed, Placement, Round};
 pub use row::{Change, Row, RowKey};
+pub use shared::Shared;
 pub use table::{Duplicate, Keyed, Table};
 pub use text::{Text, Texts};
 

@@ -1,7 +1,7 @@
 -- A fit office stays fit. A put adds an entry to one roll: what was known is known still, and quotas stay high enough. An
 -- opening, a list and a reopening change only the rounds and leave out placements, which has one form for all of them.
 use Rattle.std.proofs.Common.{◌≡◌, ℕ, ◌-◌, ◌≤◌, Bool, true, false, not, cond, List, [], length, Option, Some, None, is_some, slice_get, refl, sym, ap, subst, ◌∙◌, arith}
-use Rattle.std.specs.Prelude.{◌&&◌, nat_le, count_by}
+use Rattle.std.specs.Prelude.{◌&&◌, nat_le, count_by, find}
 use Rattle.std.specs.Option.{option_map_or}
 use Rattle.std.specs.List.{AllByRecursion}
 use Rattle.std.specs.Str.{bytes_eq}
@@ -15,13 +15,28 @@ use Rattle.rolls.specs.declared.rounds.Placement.{Placement}
 use Rattle.rolls.specs.declared.import.Import.{Import}
 use Rattle.rolls.specs.Roll.{Key, put, same_key, rises}
 use Rattle.rolls.specs.State.{State, supervisor_key, project_key, student_key, list_key, placement_key, import_key, project_of, has_supervisor, has_project, has_student, has_import, list_of, lists_of, choices_in, is_offered_by, placed_with_supervisor, placed_in_project, quota_with}
-use Rattle.rolls.specs.Fit.{IsFit, SupervisorFits, ProjectFits, StudentFits, ListFits, PlacementFits, ImportFits, are_numbered, only_last_open}
+use Rattle.rolls.specs.Fit.{AreEntries, IsFit, SupervisorFits, ProjectFits, StudentFits, ListFits, PlacementFits, ImportFits, are_numbered, only_last_open}
 use Rattle.rolls.specs.Refusing.{is_moved}
 use Rattle.rolls.specs.Importing.{with_import}
 use Rattle.rolls.proofs.Places.{rises-put}
 use Rattle.rolls.proofs.Finding.{find-put, length-put, all-put, all_weaker, same_code}
 use Rattle.rolls.proofs.Found.{holds_of_found}
 use Rattle.steps.proofs.Entries.{room, found_still, number_still, all_at, count_same}
+
+-- ---- entries of one kind
+
+-- an entry is put where there is room for it
+entries_put : {E : Type 0} (key : E → Key) (Fits : E → Type 0) (most : ℕ) (e : E) (es : List E) → AreEntries key Fits most es → Fits e → (not (is_some (find (λ x. same_key (key e) (key x)) es)) && nat_le most (length es)) ≡ false
+    → AreEntries key Fits most (put key e es)
+entries_put key Fits most e es are fits free = record {
+  rise = rises-put key e es are.rise;
+  few = room most (is_some (find (λ x. same_key (key e) (key x)) es)) (length es) _ free are.few (length-put key e es are.rise);
+  each = all-put key Fits e es fits are.each;
+}
+
+-- less is asked of each
+entries_weaker : {E : Type 0} (key : E → Key) (P Q : E → Type 0) (most : ℕ) (es : List E) → ((e : E) → P e → Q e) → AreEntries key P most es → AreEntries key Q most es
+entries_weaker key P Q most es weaker are = record { rise = are.rise; few = are.few; each = all_weaker P Q weaker es are.each }
 
 -- ---- a supervisor is put
 
@@ -39,15 +54,9 @@ project_fits_still o s p h = record {
 
 pub fit_with_supervisor : (o : State) (s : Supervisor) → IsFit o → SupervisorFits s → placed_with_supervisor o s.code ≤ s.quota → (not (has_supervisor o s.code) && nat_le 100 (length o.supervisors)) ≡ false → IsFit (with_supervisor o s)
 fit_with_supervisor o s fit fits enough free = record {
-  supervisors_rise = rises-put supervisor_key s o.supervisors fit.supervisors_rise;
-  projects_rise = fit.projects_rise;
-  students_rise = fit.students_rise;
-  few_supervisors = room 100 (has_supervisor o s.code) (length o.supervisors) _ free fit.few_supervisors (length-put supervisor_key s o.supervisors fit.supervisors_rise);
-  few_projects = fit.few_projects;
-  few_students = fit.few_students;
-  supervisors_fit = all-put supervisor_key SupervisorFits s o.supervisors fits fit.supervisors_fit;
-  projects_fit = all_weaker (ProjectFits o) (ProjectFits (with_supervisor o s)) (project_fits_still o s) o.projects fit.projects_fit;
-  students_fit = fit.students_fit;
+  supervisors = entries_put supervisor_key SupervisorFits 100 s o.supervisors fit.supervisors fits free;
+  projects = entries_weaker project_key (ProjectFits o) (ProjectFits (with_supervisor o s)) 400 o.projects (project_fits_still o s) fit.projects;
+  students = fit.students;
   numbered = fit.numbered;
   few_rounds = fit.few_rounds;
   last_open = fit.last_open;
@@ -55,9 +64,7 @@ fit_with_supervisor o s fit fits enough free = record {
   lists_fit = fit.lists_fit;
   placements_rise = fit.placements_rise;
   placements_fit = fit.placements_fit;
-  imports_rise = fit.imports_rise;
-  few_imports = fit.few_imports;
-  imports_fit = fit.imports_fit;
+  imports = fit.imports;
   projects_within = fit.projects_within;
   supervisors_within = λ c. number_still supervisor_key (λ (e : Supervisor). e.quota) (placed_with_supervisor o c) (0, c) s o.supervisors
       (λ same. subst (λ d. placed_with_supervisor o d ≤ s.quota) (ap (λ (k : Key). k.1) (sym same)) enough) (fit.supervisors_within c);
@@ -119,15 +126,9 @@ list_fits_still o p n l h = record {
 
 pub fit_with_project : (o : State) (p : Project) → IsFit o → ProjectFits o p → is_moved o p.code p.supervisor ≡ false → placed_in_project o p.code ≤ p.quota → (not (has_project o p.code) && nat_le 400 (length o.projects)) ≡ false → IsFit (with_project o p)
 fit_with_project o p fit fits moved enough free = record {
-  supervisors_rise = fit.supervisors_rise;
-  projects_rise = rises-put project_key p o.projects fit.projects_rise;
-  students_rise = fit.students_rise;
-  few_supervisors = fit.few_supervisors;
-  few_projects = room 400 (has_project o p.code) (length o.projects) _ free fit.few_projects (length-put project_key p o.projects fit.projects_rise);
-  few_students = fit.few_students;
-  supervisors_fit = fit.supervisors_fit;
-  projects_fit = all-put project_key (ProjectFits o) p o.projects fits fit.projects_fit;
-  students_fit = fit.students_fit;
+  supervisors = fit.supervisors;
+  projects = entries_put project_key (ProjectFits o) 400 p o.projects fit.projects fits free;
+  students = fit.students;
   numbered = fit.numbered;
   few_rounds = fit.few_rounds;
   last_open = fit.last_open;
@@ -135,9 +136,7 @@ fit_with_project o p fit fits moved enough free = record {
   lists_fit = λ n. all_weaker (ListFits o n) (ListFits (with_project o p) n) (list_fits_still o p n) (lists_of o n) (fit.lists_fit n);
   placements_rise = fit.placements_rise;
   placements_fit = fit.placements_fit;
-  imports_rise = fit.imports_rise;
-  few_imports = fit.few_imports;
-  imports_fit = fit.imports_fit;
+  imports = fit.imports;
   projects_within = λ c. number_still project_key (λ (e : Project). e.quota) (placed_in_project o c) (0, c) p o.projects
       (λ same. subst (λ d. placed_in_project o d ≤ p.quota) (ap (λ (k : Key). k.1) (sym same)) enough) (fit.projects_within c);
   supervisors_within = λ s. subst (λ n. n ≤ quota_with o s) (sym (count_same (λ (q : Placement). is_offered_by (with_project o p) s q.project) (λ q. is_offered_by o s q.project) o.placements
@@ -163,15 +162,9 @@ known_list_still o s n l h = record {
 
 pub fit_with_student : (o : State) (s : Student) → IsFit o → StudentFits s → (not (has_student o s.code) && nat_le 500 (length o.students)) ≡ false → IsFit (with_student o s)
 fit_with_student o s fit fits free = record {
-  supervisors_rise = fit.supervisors_rise;
-  projects_rise = fit.projects_rise;
-  students_rise = rises-put student_key s o.students fit.students_rise;
-  few_supervisors = fit.few_supervisors;
-  few_projects = fit.few_projects;
-  few_students = room 500 (has_student o s.code) (length o.students) _ free fit.few_students (length-put student_key s o.students fit.students_rise);
-  supervisors_fit = fit.supervisors_fit;
-  projects_fit = fit.projects_fit;
-  students_fit = all-put student_key StudentFits s o.students fits fit.students_fit;
+  supervisors = fit.supervisors;
+  projects = fit.projects;
+  students = entries_put student_key StudentFits 500 s o.students fit.students fits free;
   numbered = fit.numbered;
   few_rounds = fit.few_rounds;
   last_open = fit.last_open;
@@ -179,9 +172,7 @@ fit_with_student o s fit fits free = record {
   lists_fit = λ n. all_weaker (ListFits o n) (ListFits (with_student o s) n) (known_list_still o s n) (lists_of o n) (fit.lists_fit n);
   placements_rise = fit.placements_rise;
   placements_fit = fit.placements_fit;
-  imports_rise = fit.imports_rise;
-  few_imports = fit.few_imports;
-  imports_fit = fit.imports_fit;
+  imports = fit.imports;
   projects_within = fit.projects_within;
   supervisors_within = fit.supervisors_within;
 }
@@ -190,15 +181,9 @@ fit_with_student o s fit fits free = record {
 
 pub fit_with_import : (i : Import) (o : State) → IsFit o → ImportFits i → (not (has_import o i.id) && nat_le 200 (length o.imports)) ≡ false → IsFit (with_import i o)
 fit_with_import i o fit fits free = record {
-  supervisors_rise = fit.supervisors_rise;
-  projects_rise = fit.projects_rise;
-  students_rise = fit.students_rise;
-  few_supervisors = fit.few_supervisors;
-  few_projects = fit.few_projects;
-  few_students = fit.few_students;
-  supervisors_fit = fit.supervisors_fit;
-  projects_fit = fit.projects_fit;
-  students_fit = fit.students_fit;
+  supervisors = fit.supervisors;
+  projects = fit.projects;
+  students = fit.students;
   numbered = fit.numbered;
   few_rounds = fit.few_rounds;
   last_open = fit.last_open;
@@ -206,9 +191,7 @@ fit_with_import i o fit fits free = record {
   lists_fit = fit.lists_fit;
   placements_rise = fit.placements_rise;
   placements_fit = fit.placements_fit;
-  imports_rise = rises-put import_key i o.imports fit.imports_rise;
-  few_imports = room 200 (has_import o i.id) (length o.imports) _ free fit.few_imports (length-put import_key i o.imports fit.imports_rise);
-  imports_fit = all-put import_key ImportFits i o.imports fits fit.imports_fit;
+  imports = entries_put import_key ImportFits 200 i o.imports fit.imports fits free;
   projects_within = fit.projects_within;
   supervisors_within = fit.supervisors_within;
 }
@@ -228,15 +211,9 @@ pub record IsRoundStep (o : State) (rounds : List Round) (placements : List Plac
 
 pub fit_with_rounds : (o : State) (rounds : List Round) (placements : List Placement) → IsFit o → IsRoundStep o rounds placements → IsFit (record o { rounds = rounds; placements = placements })
 fit_with_rounds o rounds placements fit step = record {
-  supervisors_rise = fit.supervisors_rise;
-  projects_rise = fit.projects_rise;
-  students_rise = fit.students_rise;
-  few_supervisors = fit.few_supervisors;
-  few_projects = fit.few_projects;
-  few_students = fit.few_students;
-  supervisors_fit = fit.supervisors_fit;
-  projects_fit = fit.projects_fit;
-  students_fit = fit.students_fit;
+  supervisors = fit.supervisors;
+  projects = fit.projects;
+  students = fit.students;
   numbered = step.numbered;
   few_rounds = step.few_rounds;
   last_open = step.last_open;
@@ -244,9 +221,7 @@ fit_with_rounds o rounds placements fit step = record {
   lists_fit = step.lists_fit;
   placements_rise = step.placements_rise;
   placements_fit = step.placements_fit;
-  imports_rise = fit.imports_rise;
-  few_imports = fit.few_imports;
-  imports_fit = fit.imports_fit;
+  imports = fit.imports;
   projects_within = λ c. let less = step.counts_fall (λ p. bytes_eq c p.project) in let within = fit.projects_within c in omega (arith, less, within);
   supervisors_within = λ c. let less = step.counts_fall (λ p. is_offered_by o c p.project) in let within = fit.supervisors_within c in omega (arith, less, within);
 }

@@ -68,17 +68,17 @@ module _ (o : State) (fit : IsFit o) where
   supervisor_is_code : (code : List ℕ) → has_supervisor o code ≡ true → is_code code ≡ true
   supervisor_is_code code h =
       let it = entry (supervisor_of o code) h in
-      ap (λ (k : Key). is_code k.1) (found_key supervisor_key (0, code) o.supervisors it.0 it.1) ∙ (holds_of_found supervisor_key SupervisorFits (0, code) o.supervisors it.0 fit.supervisors_fit it.1).code
+      ap (λ (k : Key). is_code k.1) (found_key supervisor_key (0, code) o.supervisors it.0 it.1) ∙ (holds_of_found supervisor_key SupervisorFits (0, code) o.supervisors it.0 fit.supervisors.each it.1).code
 
   project_is_code : (code : List ℕ) → has_project o code ≡ true → is_code code ≡ true
   project_is_code code h =
       let it = entry (project_of o code) h in
-      ap (λ (k : Key). is_code k.1) (found_key project_key (0, code) o.projects it.0 it.1) ∙ (holds_of_found project_key (ProjectFits o) (0, code) o.projects it.0 fit.projects_fit it.1).code
+      ap (λ (k : Key). is_code k.1) (found_key project_key (0, code) o.projects it.0 it.1) ∙ (holds_of_found project_key (ProjectFits o) (0, code) o.projects it.0 fit.projects.each it.1).code
 
   student_is_code : (code : List ℕ) → has_student o code ≡ true → is_code code ≡ true
   student_is_code code h =
       let it = entry (student_of o code) h in
-      ap (λ (k : Key). is_code k.1) (found_key student_key (0, code) o.students it.0 it.1) ∙ (holds_of_found student_key StudentFits (0, code) o.students it.0 fit.students_fit it.1).code
+      ap (λ (k : Key). is_code k.1) (found_key student_key (0, code) o.students it.0 it.1) ∙ (holds_of_found student_key StudentFits (0, code) o.students it.0 fit.students.each it.1).code
 
   -- what is listed stands in a list
   listed : (round : ℕ) (student : List ℕ) (i : ℕ) (project : List ℕ) (x : Option Listed) → list_of o round student ≡ x → slice_get (option_map_or (λ l. l.choices) x []) i ≡ Some project
@@ -120,17 +120,17 @@ unfolding mapped project_in
 typed_at o fit (row.Supervisor code label quota) h =
     let it = mapped supervisor_row (supervisor_of o code) (row.Supervisor code label quota) h in
     let s = it.0 in
-    let fits = holds_of_found supervisor_key SupervisorFits (0, code) o.supervisors s fit.supervisors_fit it.1 in
+    let fits = holds_of_found supervisor_key SupervisorFits (0, code) o.supervisors s fit.supervisors.each it.1 in
     subst IsTyped it.2 (code_utf8 s.code fits.code, label_utf8 s.label fits.label, omega (arith, fits.quota))
 typed_at o fit (row.Project code label supervisor quota) h =
     let it = mapped project_row (project_of o code) (row.Project code label supervisor quota) h in
     let p = it.0 in
-    let fits = holds_of_found project_key (ProjectFits o) (0, code) o.projects p fit.projects_fit it.1 in
+    let fits = holds_of_found project_key (ProjectFits o) (0, code) o.projects p fit.projects.each it.1 in
     subst IsTyped it.2 (code_utf8 p.code fits.code, label_utf8 p.label fits.label, code_utf8 p.supervisor (supervisor_is_code o fit p.supervisor fits.supervisor), omega (arith, fits.quota))
 typed_at o fit (row.Student code label) h =
     let it = mapped student_row (student_of o code) (row.Student code label) h in
     let s = it.0 in
-    let fits = holds_of_found student_key StudentFits (0, code) o.students s fit.students_fit it.1 in
+    let fits = holds_of_found student_key StudentFits (0, code) o.students s fit.students.each it.1 in
     subst IsTyped it.2 (code_utf8 s.code fits.code, label_utf8 s.label fits.label)
 typed_at o fit (row.Round number is_open) h =
     let it = mapped round_row (round_of o number) (row.Round number is_open) h in
@@ -151,7 +151,7 @@ typed_at o fit (row.Placement student round project rank) h =
 typed_at o fit (row.Import id kind bytes rows) h =
     let it = mapped import_row (import_of o id) (row.Import id kind bytes rows) h in
     let i = it.0 in
-    let fits = holds_of_found import_key ImportFits (0, id) o.imports i fit.imports_fit it.1 in
+    let fits = holds_of_found import_key ImportFits (0, id) o.imports i fit.imports.each it.1 in
     subst IsTyped it.2 (code_utf8 i.id fits.id, omega (arith, fits.rows))
 
 -- each row of a fit office has UTF-8 texts and a small quota

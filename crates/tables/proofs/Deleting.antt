@@ -40,7 +40,8 @@ use Rattle.tables.proofs.Inserting.{went, same_value}
 use Rattle.tables.proofs.Understood.{planned_of, Means, IsWriteText, runs_by, and_then_ok, ends_in_write, on_table_writes, compiles_to_write}
 use Rattle.tables.proofs.Keyed.{taken_out, still_keyed, map_filter}
 use Rattle.tables.proofs.Adding.{Has, has_listed, on_table_is}
-use Rattle.tables.proofs.Finding.{finding, found_program, accepted, hit, found}
+use Rattle.tables.proofs.Finding.{found_program, accepted, hit, found}
+use Rattle.tables.proofs.Selecting.{finding}
 
 -- A text that deletes, read under any schema that lists the table, and what its test finds: the rows that begin with
 -- its parameters, where those are of these kinds.

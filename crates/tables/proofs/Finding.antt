@@ -14,33 +14,7 @@ use Rattle.sqlite.specs.Command.{Command}
 use Rattle.sqlite.specs.Program.{overlay}
 use Rattle.sqlite.specs.Order.{Row}
 use Rattle.sqlite.specs.Effect.{Database, Answers}
-use Rattle.tables.proofs.Selecting.{no_overlay}
-
-abbrev pub finding : ℕ → List Term → List Term → Draft
-finding tree tests project = record {
-  from = inner tree end;
-  filter = tests;
-  group = None;
-  project = project;
-  distinct = false;
-  collations = [];
-  order = [];
-  limit = lit (Int (negsuc 0));
-  offset = lit (Int (pos 0));
-}
-
-abbrev pub found_query : ℕ → List Term → List Term → Query
-found_query tree tests project = record {
-  from = inner tree end;
-  filter = tests;
-  group = None;
-  project = project;
-  distinct = false;
-  collations = [];
-  order = [];
-  limit = lit (Int (negsuc 0));
-  offset = lit (Int (pos 0));
-}
+use Rattle.tables.proofs.Selecting.{no_overlay, found_query}
 
 abbrev pub found_program : ℕ → List Term → List Term → Program
 found_program tree tests project = record { lets = []; body = found_query tree tests project }

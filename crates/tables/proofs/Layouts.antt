@@ -6,6 +6,7 @@ use Rattle.std.specs.Str.{bytes_eq}
 use Rattle.std.proofs.lemmas.Bool.{and_parts}
 use Rattle.std.proofs.lemmas.Slice.Eq.{bytes_eq-Decides}
 use Rattle.std.proofs.lemmas.Bool.Decides.{Decides-eqb}
+use Rattle.std.proofs.lemmas.List.{map-id}
 use Rattle.sqlite.specs.Kind.{Kind}
 use Rattle.sqlite.specs.Kind.TheVariants.{Integer, Real, Text, Blob, Any}
 use Rattle.sqlite.specs.Table.{Table}
@@ -24,7 +25,7 @@ use Rattle.sqlite_schema.specs.Rules.{kind_code}
 use Rattle.tables.specs.declared.table.Table.{Table as Ours}
 use Rattle.tables.specs.Table.{Shape, shape_of, table_at, Place, required, referring, ascending, made_at}
 use Rattle.tables.specs.Inert.{is_passive}
-use Rattle.tables.specs.Layout.{is_nothing, is_binary, same_key, is_required, are_required, is_referring, are_referring, are_same, are_plain, is_untimed, has_shape, IsNamed, IsListed, place_of}
+use Rattle.tables.specs.Layout.{is_nothing, is_binary, same_key, is_required, is_referring, are_told, are_plain, is_untimed, has_shape, IsNamed, IsListed, place_of}
 
 same_bytes : (a b : List ℕ) → bytes_eq a b ≡ true → a ≡ b
 same_bytes a b h = (bytes_eq-Decides a b).0 h
@@ -75,11 +76,12 @@ required_is told c h =
       collation = binary_is c.collation a.1 i;
     }
 
-required_are : (told : List (List ℕ × Kind)) (columns : List Column) → are_required told columns ≡ true → columns ≡ map required told
-required_are [] [] h = refl
-required_are (one ∷ more) (c ∷ columns) h = let p = and_parts _ _ h in λ i. required_is one c p.0 i ∷ required_are more columns p.1 i
-required_are [] (c ∷ columns) h = absurd (cc)
-required_are (one ∷ more) [] h = absurd (cc)
+-- lists whose entries are as they are told are made of what is told
+told_are : {A B : Type 0} (is : A → B → Bool) (make : A → B) → ((a : A) (b : B) → is a b ≡ true → b ≡ make a) → (said : List A) (bs : List B) → are_told is said bs ≡ true → bs ≡ map make said
+told_are is make made [] [] h = refl
+told_are is make made (a ∷ said) (b ∷ bs) h = let p = and_parts _ _ h in λ i. made a b p.0 i ∷ told_are is make made said bs p.1 i
+told_are is make made [] (b ∷ bs) h = absurd (cc)
+told_are is make made (a ∷ said) [] h = absurd (cc)
 
 at_is : {X : Type 0} (test : X → Bool) (o : Option X) (x : X) → ((y : X) → test y ≡ true → y ≡ x) → option_map_or test o false ≡ true → o ≡ Some x
 at_is test None x is h = absurd (cc)
@@ -120,18 +122,6 @@ referring_is link r h =
       on_update = passive_is r.on_update b.1 i;
       is_deferred = falls r.is_deferred a.1 i;
     }
-
-referring_are : (links : List (ℕ × List ℕ × List ℕ)) (references : List Reference) → are_referring links references ≡ true → references ≡ map referring links
-referring_are [] [] h = refl
-referring_are (one ∷ more) (r ∷ references) h = let p = and_parts _ _ h in λ i. referring_is one r p.0 i ∷ referring_are more references p.1 i
-referring_are [] (r ∷ references) h = absurd (cc)
-referring_are (one ∷ more) [] h = absurd (cc)
-
-same_are : (told lists : List (List ℕ)) → are_same told lists ≡ true → lists ≡ told
-same_are [] [] h = refl
-same_are (one ∷ more) (places ∷ lists) h = let p = and_parts _ _ h in λ i. same_bytes places one p.0 i ∷ same_are more lists p.1 i
-same_are [] (places ∷ lists) h = absurd (cc)
-same_are (one ∷ more) [] h = absurd (cc)
 
 order_is : (o : Order) → (o.digits == 0) ≡ true → o ≡ plain
 order_is o h = λ i. record { digits = same_number o.digits 0 h i }
@@ -179,13 +169,13 @@ shape_is shape t h =
     λ i. record {
       name = same_bytes t.name shape.name d.0 i;
       tree = t.tree;
-      columns = required_are shape.columns t.columns c.1 i;
+      columns = told_are is_required required required_is shape.columns t.columns c.1 i;
       key = same_key_is t.key shape.key m.0 i;
       primary = same_bytes t.primary shape.primary m.1 i;
-      uniques = same_are shape.uniques t.uniques l.1 i;
+      uniques = (told_are (λ places list. bytes_eq list places) (λ places. places) (λ places list. same_bytes list places) shape.uniques t.uniques l.1 ∙ map-id shape.uniques) i;
       orders = plain_are (length shape.uniques) t.orders k.1 i;
       checks = t.checks;
-      references = referring_are shape.links t.references b.1 i;
+      references = told_are is_referring referring referring_is shape.links t.references b.1 i;
       computed = u.computed i;
       stamps = record { places = u.places i; terms = u.terms i; formats = u.formats i };
       is_counted = u.counted i;

@@ -5,6 +5,7 @@ mod Puts
 mod Rowids
 mod Keyed
 mod Adding
+mod Alike
 mod Appending
 mod Creating
 mod Selecting

@@ -148,34 +148,42 @@ key_out name is_alias = record { name = name; is_alias = is_alias; is_column = t
 abbrev pub id_out : Output
 id_out = key_out (codes "rowid") false
 
-abbrev draft : ℕ → List Output → Draft
-draft tree outs = record {
+-- a query of the rows of one tree that pass some tests, as it is drafted
+abbrev pub finding : ℕ → List Term → List Term → Draft
+finding tree tests project = record {
   from = inner tree end;
-  filter = [];
+  filter = tests;
   group = None;
-  project = map (λ (o : Output). o.term) outs;
+  project = project;
   distinct = false;
   collations = [];
   order = [];
   limit = lit (Int (negsuc 0));
   offset = lit (Int (pos 0));
 }
+
+-- and as it is run
+abbrev pub found_query : ℕ → List Term → List Term → Query
+found_query tree tests project = record {
+  from = inner tree end;
+  filter = tests;
+  group = None;
+  project = project;
+  distinct = false;
+  collations = [];
+  order = [];
+  limit = lit (Int (negsuc 0));
+  offset = lit (Int (pos 0));
+}
+
+abbrev draft : ℕ → List Output → Draft
+draft tree outs = finding tree [] (map (λ (o : Output). o.term) outs)
 
 abbrev names : List Output → List (List ℕ)
 names outs = map (λ (o : Output). o.name) outs
 
 abbrev pub whole_query : ℕ → List Output → Query
-whole_query tree outs = record {
-  from = inner tree end;
-  filter = [];
-  group = None;
-  project = map (λ (o : Output). o.term) outs;
-  distinct = false;
-  collations = [];
-  order = [];
-  limit = lit (Int (negsuc 0));
-  offset = lit (Int (pos 0));
-}
+whole_query tree outs = found_query tree [] (map (λ (o : Output). o.term) outs)
 
 -- what a core of one table and these columns is resolved to
 pub record IsResolved (schema : Schema) (core : Core) (name : List ℕ) (at tree budget : ℕ) (outs : List Output) : Type 0 where

@@ -42,7 +42,8 @@ use Rattle.tables.specs.Writes.{begins_with}
 use Rattle.tables.proofs.Places.{nowhere}
 use Rattle.tables.proofs.Creating.{IsCreate, made_command}
 use Rattle.tables.proofs.Adding.{IsInsert}
-use Rattle.tables.proofs.Finding.{hit, finding}
+use Rattle.tables.proofs.Finding.{hit}
+use Rattle.tables.proofs.Selecting.{finding}
 use Rattle.tables.proofs.Deleting.{IsDelete}
 use Rattle.tables.proofs.Updating.{IsUpdate, showing}
 use Rattle.tables.proofs.Selecting.{IsPlainSelect, IsResolved, IsSelect, bounds_at, started, spent}

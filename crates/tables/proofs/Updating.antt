@@ -46,7 +46,8 @@ use Rattle.tables.proofs.Understood.{planned_of, Means, IsWriteText, runs_by, an
 use Rattle.tables.proofs.Keyed.{taken_out, still_keyed, map_filter, kept_has, passes}
 use Rattle.tables.proofs.Rowids.{put_all_permutes, keyed_put_all}
 use Rattle.tables.proofs.Adding.{Has as Finds, has_listed, on_table_is}
-use Rattle.tables.proofs.Finding.{finding, found_program, accepted, hit, found}
+use Rattle.tables.proofs.Finding.{found_program, accepted, hit, found}
+use Rattle.tables.proofs.Selecting.{finding}
 
 -- what an UPDATE shows of a row that it finds: its rowid, the rowid that it gets, which is the same, and the other columns
 abbrev pub showing : List Term → List Term

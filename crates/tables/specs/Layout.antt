@@ -44,32 +44,18 @@ same_key (Some a) None = false
 abbrev pub is_required : List ℕ × Kind → Column → Bool
 is_required told c = bytes_eq c.name told.0 && (kind_code c.kind == kind_code told.1) && c.is_strict && c.not_null && is_nothing c.default && is_binary c.collation
 
--- the columns are those that are told, in turn
-abbrev pub are_required : List (List ℕ × Kind) → List Column → Bool
-are_required [] [] = true
-are_required (told ∷ more) (c ∷ columns) = is_required told c && are_required more columns
-are_required [] (c ∷ columns) = false
-are_required (told ∷ more) [] = false
-
 -- as this reference is made: of one column to one, with NO ACTION
 abbrev pub is_referring : ℕ × List ℕ × List ℕ → Reference → Bool
 is_referring link r =
     bytes_eq r.columns (link.0 ∷ []) && bytes_eq r.parent link.1 && ((length r.parent_columns == 1) && option_map_or (λ c. bytes_eq c link.2) (slice_get r.parent_columns 0) false)
     && is_passive r.on_delete && is_passive r.on_update && not r.is_deferred
 
--- the references are those that are told, in turn
-abbrev pub are_referring : List (ℕ × List ℕ × List ℕ) → List Reference → Bool
-are_referring [] [] = true
-are_referring (link ∷ more) (r ∷ references) = is_referring link r && are_referring more references
-are_referring [] (r ∷ references) = false
-are_referring (link ∷ more) [] = false
-
--- the lists of columns are those that are told, in turn
-abbrev pub are_same : List (List ℕ) → List (List ℕ) → Bool
-are_same [] [] = true
-are_same (told ∷ more) (places ∷ lists) = bytes_eq places told && are_same more lists
-are_same [] (places ∷ lists) = false
-are_same (told ∷ more) [] = false
+-- there are as many as are told, each as the one that is told at its place
+abbrev pub are_told : {A B : Type 0} → (A → B → Bool) → List A → List B → Bool
+are_told is [] [] = true
+are_told is (a ∷ more) (b ∷ rest) = is a b && are_told is more rest
+are_told is [] (b ∷ rest) = false
+are_told is (a ∷ more) [] = false
 
 -- so many orders, each ascending
 abbrev pub are_plain : ℕ → List Order → Bool
@@ -81,11 +67,11 @@ is_untimed t = (length t.computed == 0) && (length t.stamps.places == 0) && (len
 
 -- the keys of the table are those that are told
 abbrev pub has_keys : Shape → AnyTable → Bool
-has_keys shape t = same_key t.key shape.key && bytes_eq t.primary shape.primary && are_same shape.uniques t.uniques && are_plain (length shape.uniques) t.orders
+has_keys shape t = same_key t.key shape.key && bytes_eq t.primary shape.primary && are_told (λ places list. bytes_eq list places) shape.uniques t.uniques && are_plain (length shape.uniques) t.orders
 
 -- the table is as one of this shape is made
 abbrev pub has_shape : Shape → AnyTable → Bool
-has_shape shape t = bytes_eq t.name shape.name && has_keys shape t && are_required shape.columns t.columns && are_referring shape.links t.references && is_untimed t
+has_shape shape t = bytes_eq t.name shape.name && has_keys shape t && are_told is_required shape.columns t.columns && are_told is_referring shape.links t.references && is_untimed t
 
 -- the schema's first table of this name is this one
 pub record IsNamed (schema : Schema) (name : List ℕ) (table : AnyTable) : Type 0 where

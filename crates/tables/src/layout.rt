@@ -6,7 +6,7 @@ ghost use Rattle.std.specs.Option.{option_map_or};
 ghost use Rattle.std.specs.List.{list_all};
 ghost use Rattle.sqlite_schema.specs.Names.{table_named};
 ghost use Rattle.tables.specs.Table.{column_by, link_by, places_by, shape_of, table_at, told_by};
-ghost use Rattle.tables.specs.Layout.{is_required, are_required, is_referring, are_referring, are_same, are_plain, is_untimed, has_keys, has_shape, IsNamed, IsListed, IsUnlisted};
+ghost use Rattle.tables.specs.Layout.{is_required, are_told, is_referring, are_plain, is_untimed, has_keys, has_shape, IsNamed, IsListed, IsUnlisted};
 ghost use Rattle.sqlite.specs.Table.{Table as AnyTable};
 
 use crate::inert::is_passive;
@@ -29,21 +29,13 @@ fn is_required(column: &Column, told: &Told) -> bool
 }
 
 fn are_required(columns: &[Column], told: &[Told]) -> bool
-    ensures { result ≡ are_required (map column_by told.now) columns.now }
+    ensures { result ≡ are_told is_required (map column_by told.now) columns.now }
 {
-    let mut rest = columns;
-    let mut more = told;
-    while let [column, columns @ ..] = rest {
-        let [one, others @ ..] = more else {
-            return false;
-        };
-        if !is_required(column, one) {
-            return false;
-        }
-        rest = columns;
-        more = others;
-    }
-    matches!(more, [])
+    columns.len() == told.len()
+        && columns
+            .iter()
+            .zip(told)
+            .all(|(column, told)| is_required(column, told))
 }
 
 fn is_alone(names: &Items<Bytes>, name: &str) -> bool
@@ -68,39 +60,23 @@ fn is_referring(reference: &Reference, link: &Link) -> bool
 }
 
 fn are_referring(references: &[Reference], links: &[Link]) -> bool
-    ensures { result ≡ are_referring (map link_by links.now) references.now }
+    ensures { result ≡ are_told is_referring (map link_by links.now) references.now }
 {
-    let mut rest = references;
-    let mut more = links;
-    while let [reference, references @ ..] = rest {
-        let [link, others @ ..] = more else {
-            return false;
-        };
-        if !is_referring(reference, link) {
-            return false;
-        }
-        rest = references;
-        more = others;
-    }
-    matches!(more, [])
+    references.len() == links.len()
+        && references
+            .iter()
+            .zip(links)
+            .all(|(reference, link)| is_referring(reference, link))
 }
 
 fn are_same(lists: &[Items<usize>], told: &[&[usize]]) -> bool
-    ensures { result ≡ are_same (map places_by told.now) lists.now }
+    ensures { result ≡ are_told (λ places list. bytes_eq list places) (map places_by told.now) lists.now }
 {
-    let mut rest = lists;
-    let mut more = told;
-    while let [places, lists @ ..] = rest {
-        let [one, others @ ..] = more else {
-            return false;
-        };
-        if places.as_slice() != *one {
-            return false;
-        }
-        rest = lists;
-        more = others;
-    }
-    matches!(more, [])
+    lists.len() == told.len()
+        && lists
+            .iter()
+            .zip(told)
+            .all(|(list, places)| list.as_slice() == *places)
 }
 
 fn are_ascending(orders: &[Order]) -> bool

@@ -13,13 +13,13 @@ pub write_round-requires-clause-supervisors : goal.write_round-requires-clause-s
 write_round-requires-clause-supervisors c =
     let o : State = c.args.office.now in
     subst (λ (l : Instance). Rise (supervisor_codes l)) (sym c.in_ok-instance.ensures.instance)
-    (risen {F = Supervisor} supervisor_key (λ s. record { code = s.code; quota = s.quota - placed_with_supervisor o s.code }) (λ e. e.code) (λ _. refl) o.supervisors c.fit.ensures.fit.supervisors_rise)
+    (risen {F = Supervisor} supervisor_key (λ s. record { code = s.code; quota = s.quota - placed_with_supervisor o s.code }) (λ e. e.code) (λ _. refl) o.supervisors c.fit.ensures.fit.supervisors.rise)
 
 pub write_round-requires-clause-projects : goal.write_round-requires-clause-projects
 write_round-requires-clause-projects c =
     let o : State = c.args.office.now in
     subst (λ (l : Instance). Rise (project_codes l)) (sym c.in_ok-instance.ensures.instance)
-    (risen {F = Project} project_key (λ p. record { code = p.code; supervisor = p.supervisor; quota = p.quota - placed_in_project o p.code }) (λ e. e.code) (λ _. refl) o.projects c.fit.ensures.fit.projects_rise)
+    (risen {F = Project} project_key (λ p. record { code = p.code; supervisor = p.supervisor; quota = p.quota - placed_in_project o p.code }) (λ e. e.code) (λ _. refl) o.projects c.fit.ensures.fit.projects.rise)
 
 pub write_round-requires-clause-students : goal.write_round-requires-clause-students
 write_round-requires-clause-students c =

@@ -32,7 +32,7 @@ impl Office {
         ensures { result ≡ length (choices_in self.now round student.now) }
     {
         match self.list_of(round, student) {
-            Some(list) => list.choices.codes().len(),
+            Some(list) => list.choices.as_slice().len(),
             None => 0,
         }
     }

@@ -5,7 +5,7 @@ use Rattle.closing.proofs.laws.few_law.Goals as goal
 pub returns : goal.returns
 returns c o fit = record {
   placements = few_placed o fit;
-  few_placements = omega (arith, few_placed o fit, fit.few_students);
+  few_placements = omega (arith, few_placed o fit, fit.students.few);
   lists = few_lists o fit;
-  few_lists = λ n. omega (arith, few_lists o fit n, fit.few_students);
+  few_lists = λ n. omega (arith, few_lists o fit n, fit.students.few);
 }

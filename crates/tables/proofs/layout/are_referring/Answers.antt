@@ -1,15 +1,11 @@
-use Rattle.std.proofs.Common.{◌≡◌, ◌<◌, ◌≤◌, List, [], ◌∷◌, length, map, false, refl, sym, ◌∙◌, arith}
-use Rattle.tables.specs.declared.table.Link.{Link}
-use Rattle.sqlite_schema.specs.declared.schema.Reference.{Reference}
+use Rattle.std.proofs.Common.{◌≡◌, true, false, rules, arith}
+use Rattle.std.proofs.lemmas.Iterator.{cases_from_all, YieldsList-from_zip, YieldsList-from_slice}
 use Rattle.tables.specs.Table.{link_by}
-use Rattle.tables.specs.Layout.{are_referring}
+use Rattle.tables.specs.Layout.{is_referring}
+use Rattle.tables.proofs.Alike.{alike}
 use Rattle.tables.proofs.layout.are_referring.Goals as goal
 
--- where more are told than there are
-too_few : (more : List (Link)) (rest : List (Reference)) → length rest < 1 → 1 ≤ length more → are_referring (map link_by more) rest ≡ false
-too_few [] rest h k = absurd (omega (arith, k))
-too_few (one ∷ more) [] h k = refl
-too_few (one ∷ more) (x ∷ rest) h k = absurd (omega (arith, h))
-
-pub returns-in_default-matches : goal.returns-in_default-matches
-returns-in_default-matches c = sym (c.loop-rest.invariant ∙ too_few c.loop-rest.more.now c.loop-rest.rest.now (omega (arith, c.in_default.len_below)) (omega (arith, c.in_default-matches.len_at_least)))
+pub returns-then-references-links : goal.returns-then-references-links
+returns-then-references-links c =
+    alike is_referring link_by c.all.result c.args.references.now c.args.links.now c.if-references-links.true
+    (cases_from_all c.all.new.self _ _ (λ p. is_referring (link_by p.1) p.0 ≡ true) (λ p. is_referring (link_by p.1) p.0 ≡ false) c.all.ensures.ran (YieldsList-from_zip (YieldsList-from_slice c.args.references.now cc) (YieldsList-from_slice c.args.links.now cc)) (λ x q k. search (rules)) (λ x q k. search (rules)))

@@ -1,15 +1,11 @@
-use Rattle.std.proofs.Common.{◌≡◌, ◌<◌, ◌≤◌, List, [], ◌∷◌, length, map, false, refl, sym, ◌∙◌, arith}
-use Rattle.tables.specs.declared.table.Told.{Told}
-use Rattle.sqlite_schema.specs.declared.schema.Column.{Column}
+use Rattle.std.proofs.Common.{◌≡◌, true, false, rules, arith}
+use Rattle.std.proofs.lemmas.Iterator.{cases_from_all, YieldsList-from_zip, YieldsList-from_slice}
 use Rattle.tables.specs.Table.{column_by}
-use Rattle.tables.specs.Layout.{are_required}
+use Rattle.tables.specs.Layout.{is_required}
+use Rattle.tables.proofs.Alike.{alike}
 use Rattle.tables.proofs.layout.are_required.Goals as goal
 
--- where more are told than there are
-too_few : (more : List (Told)) (rest : List (Column)) → length rest < 1 → 1 ≤ length more → are_required (map column_by more) rest ≡ false
-too_few [] rest h k = absurd (omega (arith, k))
-too_few (one ∷ more) [] h k = refl
-too_few (one ∷ more) (x ∷ rest) h k = absurd (omega (arith, h))
-
-pub returns-in_default-matches : goal.returns-in_default-matches
-returns-in_default-matches c = sym (c.loop-rest.invariant ∙ too_few c.loop-rest.more.now c.loop-rest.rest.now (omega (arith, c.in_default.len_below)) (omega (arith, c.in_default-matches.len_at_least)))
+pub returns-then-columns-told : goal.returns-then-columns-told
+returns-then-columns-told c =
+    alike is_required column_by c.all.result c.args.columns.now c.args.told.now c.if-columns-told.true
+    (cases_from_all c.all.new.self _ _ (λ p. is_required (column_by p.1) p.0 ≡ true) (λ p. is_required (column_by p.1) p.0 ≡ false) c.all.ensures.ran (YieldsList-from_zip (YieldsList-from_slice c.args.columns.now cc) (YieldsList-from_slice c.args.told.now cc)) (λ x q k. search (rules)) (λ x q k. search (rules)))

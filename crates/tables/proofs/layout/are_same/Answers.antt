@@ -1,14 +1,11 @@
-use Rattle.std.proofs.Common.{◌≡◌, ◌<◌, ◌≤◌, ℕ, List, [], ◌∷◌, length, map, false, refl, sym, ◌∙◌, arith}
-use Rattle.std.specs.Borrow.{Bor}
+use Rattle.std.proofs.Common.{◌≡◌, ℕ, List, true, false, rules, arith}
+use Rattle.std.proofs.lemmas.Iterator.{cases_from_all, YieldsList-from_zip, YieldsList-from_slice}
 use Rattle.tables.specs.Table.{places_by}
-use Rattle.tables.specs.Layout.{are_same}
+use Rattle.std.specs.Str.{bytes_eq}
+use Rattle.tables.proofs.Alike.{alike}
 use Rattle.tables.proofs.layout.are_same.Goals as goal
 
--- where more are told than there are
-too_few : (more : List (Bor (List ℕ))) (rest : List (List ℕ)) → length rest < 1 → 1 ≤ length more → are_same (map places_by more) rest ≡ false
-too_few [] rest h k = absurd (omega (arith, k))
-too_few (one ∷ more) [] h k = refl
-too_few (one ∷ more) (x ∷ rest) h k = absurd (omega (arith, h))
-
-pub returns-in_default-matches : goal.returns-in_default-matches
-returns-in_default-matches c = sym (c.loop-rest.invariant ∙ too_few c.loop-rest.more.now c.loop-rest.rest.now (omega (arith, c.in_default.len_below)) (omega (arith, c.in_default-matches.len_at_least)))
+pub returns-then-lists-told : goal.returns-then-lists-told
+returns-then-lists-told c =
+    alike (λ (places list : List ℕ). bytes_eq list places) places_by c.all.result c.args.lists.now c.args.told.now c.if-lists-told.true
+    (cases_from_all c.all.new.self _ _ (λ p. bytes_eq p.0 (places_by p.1) ≡ true) (λ p. bytes_eq p.0 (places_by p.1) ≡ false) c.all.ensures.ran (YieldsList-from_zip (YieldsList-from_slice c.args.lists.now cc) (YieldsList-from_slice c.args.told.now cc)) (λ x q k. search (rules)) (λ x q k. search (rules)))
