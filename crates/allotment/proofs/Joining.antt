@@ -220,8 +220,8 @@ module _ (o n : State) (student : List ℕ) (first : IsFirstList o student n) (o
         let projects : length (project_codes (round_instance n)) ≡ length i.shape.projects = ap (λ (cs : List (List ℕ)). length cs) same_codes ∙ sound.projects.one_each in
         record {
           few = omega (arith, many, same.as_many, length-map (lists_of o (last_round o)) listed, many_lists, few);
-          some = omega (arith, long, own_fits.some);
-          short = omega (arith, long, own_fits.few);
+          some = omega (arith, long, own_fits.choices.some);
+          short = omega (arith, long, own_fits.choices.few);
           known = subst (λ (m : ℕ). All (λ p. p < m) list) projects ranking.known;
           distinct = ranking.apart;
         }

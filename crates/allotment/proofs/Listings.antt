@@ -63,7 +63,7 @@ module _ (o : State) (fit : IsFit o) (student : List ℕ) (l : Listed) (found : 
       record {
         named = ap (λ (xs : List (List ℕ)). map (code_at xs) ps) (sym codes) ∙ named ∙ choices;
         known = subst (λ (n : ℕ). All (λ p. p < n) ps) many known;
-        apart = positions_apart (code_at (map (λ (p : Project). p.code) o.projects)) ps l.choices named (apart_since_distinct l.choices listed_fits.distinct);
+        apart = positions_apart (code_at (map (λ (p : Project). p.code) o.projects)) ps l.choices named (apart_since_distinct l.choices listed_fits.choices.distinct);
       }
 
   pub ranked : {E : Type 0} (r : Result (Vec ℕ Global) E) → IfOk r (λ v. All (λ p. p < length o.projects) v.items) → IfOk r (λ v. map (code_at (map (λ (p : Project). p.code) o.projects)) v.items ≡ l.choices)

@@ -68,11 +68,11 @@ module _ (o : State) (fit : IsFit o) where
 
   list_sound : (l : Listed) → ListFits o (last_round o) l → IsSoundList (project_codes (round_instance o)) l.choices
   list_sound l f = (
-    (f.some, f.few),
+    (f.choices.some, f.choices.few),
     record {
       known = λ p c h is. all_at (Contains (project_codes (round_instance o))) l.choices
           (all_weaker (λ c. has_project o c ≡ true) (Contains (project_codes (round_instance o))) (λ c h. contains_found project_key project_left (λ e. e.code) (λ e. refl) c o.projects h) l.choices f.projects) p c is;
-      apart = apart_since_distinct l.choices f.distinct;
+      apart = apart_since_distinct l.choices f.choices.distinct;
     },
   )
 

@@ -78,9 +78,7 @@ module _ (M : List CodePair) (o : State) (fit : IsFit o) where
         by_round (Some r) is =
             all_weaker (ListFits o n) (ListFits (after_close M o) n) (λ (l : Listed) f. record {
               student = f.student;
-              some = f.some;
-              few = f.few;
-              distinct = f.distinct;
+              choices = f.choices;
               projects = f.projects;
               not_placed = not_placed n (round_within o fit.numbered n r is).within l.student f.not_placed;
             }) (lists_of o n) (fit.lists_fit n)

@@ -44,7 +44,7 @@ module _ (o : State) (fit : IsFit o) where
   -- a placement at a place has the rank of its pair
   same_placement : (l : Listed) (k : ℕ) → ListsOwn l → IsPlaceOf l.choices k → placed_at (last_round o) l k ≡ kept o (record { student = l.student; project = code_at l.choices (k - 1) })
   same_placement l k own place =
-      let p : prefix_len (λ q. not (bytes_eq q (code_at l.choices (k - 1)))) l.choices ≡ k - 1 = place_of_code l.choices (k - 1) own.1.distinct (omega (arith, place.first, place.last)) in
+      let p : prefix_len (λ q. not (bytes_eq q (code_at l.choices (k - 1)))) l.choices ≡ k - 1 = place_of_code l.choices (k - 1) own.1.choices.distinct (omega (arith, place.first, place.last)) in
       let r : k ≡ rank_by_codes (round_instance o) (record { student = l.student; project = code_at l.choices (k - 1) }) =
       omega (arith, p, place.first) ∙ ap (λ (xs : List (List ℕ)). 1 + prefix_len (λ q. not (bytes_eq q (code_at l.choices (k - 1)))) xs) (sym own.0) in
       λ i. record { student = l.student; round = last_round o; project = code_at l.choices (k - 1); rank = r i }

@@ -87,9 +87,7 @@ list_fits o n l h some =
     let b3 = second_so (nat_le (length l.choices) 8) (is_distinct l.choices && known) b2 in
     record {
       student = first_so (has_student o l.student) (not (is_placed_before o l.student n) && (nat_le (length l.choices) 8 && (is_distinct l.choices && known))) h;
-      some = some;
-      few = at_most _ _ (first_so (nat_le (length l.choices) 8) (is_distinct l.choices && known) b2);
-      distinct = first_so (is_distinct l.choices) known b3;
+      choices = record { some = some; few = at_most _ _ (first_so (nat_le (length l.choices) 8) (is_distinct l.choices && known) b2); distinct = first_so (is_distinct l.choices) known b3 };
       projects = tested (has_project o) l.choices (second_so (is_distinct l.choices) known b3);
       not_placed = not_true _ (first_so (not (is_placed_before o l.student n)) (nat_le (length l.choices) 8 && (is_distinct l.choices && known)) b1);
     }
@@ -97,8 +95,8 @@ list_fits o n l h some =
 fits_list : (o : State) (n : ℕ) (l : Listed) → ListFits o n l → is_list o n l ≡ true
 fits_list o n l fits =
     both_so (has_student o l.student) _ fits.student (both_so (not (is_placed_before o l.student n)) _ (is_not _ fits.not_placed)
-    (both_so (nat_le (length l.choices) 8) _ (within _ _ fits.few)
-    (both_so (is_distinct l.choices) _ fits.distinct (all_pass (λ p. IsTrue (has_project o p)) (has_project o) (λ p h. h) l.choices fits.projects))))
+    (both_so (nat_le (length l.choices) 8) _ (within _ _ fits.choices.few)
+    (both_so (is_distinct l.choices) _ fits.choices.distinct (all_pass (λ p. IsTrue (has_project o p)) (has_project o) (λ p h. h) l.choices fits.projects))))
 
 lists_fit : (o : State) → IsDrafted o → list_all (λ r. list_all (is_list o r.number) r.lists) o.rounds ≡ true → (n : ℕ) → AllByRecursion (ListFits o n) (lists_of o n)
 lists_fit o d h n = of_round (round_of o n) refl (d.lists n).each

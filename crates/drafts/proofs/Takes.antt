@@ -74,7 +74,7 @@ listed w fits n s i c is = of_list (list_of w n s) refl is
           round = some_round (round_of w n) l e;
           student = ap (λ (q : Key). has_student w q.1) (found_key list_key (0, s) (lists_of w n) l e) ∙ fit.student;
           project = all_at (λ p. IsTrue (has_project w p)) l.choices i c fit.projects h;
-          few = omega (arith, fit.few, slice_get_within l.choices i c h);
+          few = omega (arith, fit.choices.few, slice_get_within l.choices i c h);
         }
 
 student_code : (w : State) → IsFit w → (s : List ℕ) → has_student w s ≡ true → is_code s ≡ true

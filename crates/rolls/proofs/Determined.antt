@@ -217,7 +217,7 @@ fit_shaped o fit = record {
   students_rise = fit.students.rise;
   rounds_rise = numbered_rise 1 o.rounds fit.numbered;
   lists_rise = fit.lists_rise;
-  lists_some = λ n. all_weaker (ListFits o n) (λ l. 1 ≤ length l.choices) (λ l fits. fits.some) (lists_of o n) (fit.lists_fit n);
+  lists_some = λ n. all_weaker (ListFits o n) (λ l. 1 ≤ length l.choices) (λ l fits. fits.choices.some) (lists_of o n) (fit.lists_fit n);
   placements_rise = fit.placements_rise;
   imports_rise = fit.imports.rise;
 }

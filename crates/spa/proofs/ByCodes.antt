@@ -16,7 +16,7 @@ use Rattle.spa.specs.Codes.{code_at, AreApart}
 use Rattle.spa.specs.Instance.{Supervisor, Project, Student}
 use Rattle.spa.specs.Shape.{list_of, supervisor_of, project_quota, supervisor_quota}
 use Rattle.spa.specs.Matching.{Pair, IsMatching, IsGreedyMaximum, rank, profile}
-use Rattle.spa.specs.Named.{Named, IsFit, instance_of, supervisors_named, projects_named, students_named}
+use Rattle.spa.specs.Named.{Names, Named, IsFit, instance_of, supervisors_named, projects_named, students_named}
 use Rattle.spa.specs.Coded.{CodePair, choices_of, offerer_of, places_in, places_with, IsMatchingByCodes, rank_by_codes, profile_by_codes, IsGreedyMaximumByCodes, codes_of}
 use Rattle.spa.proofs.Duality.{each_from, listed_student, listed_project}
 use Rattle.spa.proofs.Places.{slice_get_at}
@@ -88,6 +88,12 @@ record IsRoll {E : Type 0} (code : E → List ℕ) (codes : List (List ℕ)) (es
   at : (k : ℕ) (d : E) → k < length codes → get_or es k d ≡ make k
   coded : (k : ℕ) → code (make k) ≡ code_at codes k
   apart : AreApart codes (length codes)
+
+-- entries that are made one for each name are a roll
+named_roll : {E : Type 0} (code : E → List ℕ) {codes : List (List ℕ)} (n : ℕ) → Names codes n → (es : List E) (make : ℕ → E) → (length codes ≡ n → length es ≡ length codes)
+    → ((k : ℕ) (d : E) → length codes ≡ n → k < length codes → get_or es k d ≡ make k) → ((k : ℕ) → code (make k) ≡ code_at codes k) → IsRoll code codes es make
+named_roll code {codes} n names es make many at coded =
+    record { many = many names.one_each; at = λ k d h. at k d names.one_each h; coded = coded; apart = subst (AreApart codes) (sym names.one_each) names.distinct }
 
 -- a look-up by a code finds the entry at its position
 entry_at : {E : Type 0} (code : E → List ℕ) (codes : List (List ℕ)) (es : List E) (make : ℕ → E) → IsRoll code codes es make → (k : ℕ) → k < length codes → find (λ e. bytes_eq (code_at codes k) (code e)) es ≡ Some (make k)
@@ -167,30 +173,15 @@ many_students projects (c ∷ codes) (xs ∷ xss) e = let r = many_students proj
 module _ (i : Named) (fit : IsFit i) where
   -- the supervisors of a fit instance are entries by their codes
   supervisors_roll : IsRoll (λ e. e.code) i.supervisor_codes (supervisors_named i.supervisor_codes i.shape.supervisors) (supervisor_at i.supervisor_codes i.shape.supervisors)
-  supervisors_roll = record {
-    many = many_supervisors i.supervisor_codes i.shape.supervisors fit.supervisors.one_each;
-    at = λ k d h. supervisors_at i.supervisor_codes i.shape.supervisors k d fit.supervisors.one_each h;
-    coded = λ k. refl;
-    apart = subst (AreApart i.supervisor_codes) (sym fit.supervisors.one_each) fit.supervisors.distinct;
-  }
+  supervisors_roll = named_roll (λ e. e.code) _ fit.supervisors _ _ (many_supervisors i.supervisor_codes i.shape.supervisors) (λ k d. supervisors_at i.supervisor_codes i.shape.supervisors k d) (λ k. refl)
 
   -- so are the projects
   projects_roll : IsRoll (λ e. e.code) i.project_codes (projects_named i.supervisor_codes i.project_codes i.shape.projects) (project_at i.supervisor_codes i.project_codes i.shape.projects)
-  projects_roll = record {
-    many = many_projects i.supervisor_codes i.project_codes i.shape.projects fit.projects.one_each;
-    at = λ k d h. projects_at i.supervisor_codes i.project_codes i.shape.projects k d fit.projects.one_each h;
-    coded = λ k. refl;
-    apart = subst (AreApart i.project_codes) (sym fit.projects.one_each) fit.projects.distinct;
-  }
+  projects_roll = named_roll (λ e. e.code) _ fit.projects _ _ (many_projects i.supervisor_codes i.project_codes i.shape.projects) (λ k d. projects_at i.supervisor_codes i.project_codes i.shape.projects k d) (λ k. refl)
 
   -- and the students
   students_roll : IsRoll (λ e. e.code) i.student_codes (students_named i.project_codes i.student_codes i.shape.students) (student_at i.project_codes i.student_codes i.shape.students)
-  students_roll = record {
-    many = many_students i.project_codes i.student_codes i.shape.students fit.students.one_each;
-    at = λ k d h. students_at i.project_codes i.student_codes i.shape.students k d fit.students.one_each h;
-    coded = λ k. refl;
-    apart = subst (AreApart i.student_codes) (sym fit.students.one_each) fit.students.distinct;
-  }
+  students_roll = named_roll (λ e. e.code) _ fit.students _ _ (many_students i.project_codes i.student_codes i.shape.students) (λ k d. students_at i.project_codes i.student_codes i.shape.students k d) (λ k. refl)
 
   -- what a code's look-ups find
   choices_at : (s : ℕ) → s < length i.student_codes → choices_of (instance_of i) (code_at i.student_codes s) ≡ map (code_at i.project_codes) (list_of i.shape s)

@@ -4,11 +4,10 @@ use Rattle.std.proofs.lemmas.Int.{ints}
 use Rattle.std.proofs.lemmas.Bool.{cases_lt}
 use Rattle.spa.specs.declared.TheConstants.{RANKS, PLACES}
 use Rattle.spa.specs.Order.{greedy, plus}
-use Rattle.spa.specs.Shape.{Shape, IsSound}
+use Rattle.spa.specs.Shape.{Shape}
 use Rattle.spa.specs.Matching.{Pair, IsBest, IsGreedyMaximum, profile, weight_row}
-use Rattle.spa.specs.Prices.{ProveBest}
 use Rattle.spa.proofs.Orders.{RowAtMost, RowAtMost_refl, RowAtMost_trans, RowAtMost-plus, at_most_from, not_before}
-use Rattle.spa.proofs.Duality.{IsSumOrder, best_from_prices}
+use Rattle.spa.proofs.Duality.{IsSumOrder}
 
 -- rows are at most by their first places alone
 pub RowAtMost_same : (n : ℕ) (v w x y : ℕ → ℤ) → ((t : ℕ) → t < n → v t ≡ w t) → ((t : ℕ) → t < n → x t ≡ y t) → RowAtMost n v x → RowAtMost n w y

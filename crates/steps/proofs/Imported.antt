@@ -1,8 +1,7 @@
 -- Changes one after another, and requests that keep no import.
-use Rattle.std.proofs.Common.{◌≡◌, List, [], ◌∷◌, ◌++◌, Option, refl, ap, ◌∙◌}
+use Rattle.std.proofs.Common.{◌≡◌, List, [], ◌∷◌, ◌++◌, Option, refl, ◌∙◌}
 use Rattle.rolls.specs.declared.row.Row.{Row}
 use Rattle.rolls.specs.declared.row.RowKey.{RowKey}
-use Rattle.rolls.specs.declared.row.RowKey.TheVariants as key
 use Rattle.rolls.specs.declared.row.Change.{Change}
 use Rattle.rolls.specs.declared.row.Change.TheVariants as change
 use Rattle.rolls.specs.declared.request.Plain.{Plain}
@@ -10,7 +9,6 @@ use Rattle.rolls.specs.declared.request.Plain.TheVariants.{PutSupervisor, PutPro
 use Rattle.rolls.specs.State.{State}
 use Rattle.rolls.specs.Rows.{row_of, after_change, after_changes}
 use Rattle.rolls.specs.Stepping.{after_plain}
-use Rattle.rolls.specs.Importing.{after_rows}
 use Rattle.steps.specs.Laws.{TurnsFollow, ImportsStay}
 
 -- what a change leaves at a key hangs on what stood at that key alone

@@ -86,7 +86,7 @@ choices_hold o fit n student P none each = hold (list_of o n student) refl
 
 -- there are at most 8
 pub choices_few : (o : State) → IsFit o → (n : ℕ) (student : List ℕ) → length (choices_in o n student) ≤ 8
-choices_few o fit n student = choices_hold o fit n student (λ cs. length cs ≤ 8) (omega arith) (λ l fits. fits.few)
+choices_few o fit n student = choices_hold o fit n student (λ cs. length cs ≤ 8) (omega arith) (λ l fits. fits.choices.few)
 
 -- and each is known
 pub listed_known : (o : State) → IsFit o → (n : ℕ) (student project : List ℕ) (k : ℕ) → slice_get (choices_in o n student) k ≡ Some project → has_project o project ≡ true
@@ -117,9 +117,7 @@ offered_still o p moved s c known =
 list_fits_still : (o : State) (p : Project) (n : ℕ) (l : Listed) → ListFits o n l → ListFits (with_project o p) n l
 list_fits_still o p n l h = record {
   student = h.student;
-  some = h.some;
-  few = h.few;
-  distinct = h.distinct;
+  choices = h.choices;
   projects = all_weaker (λ c. has_project o c ≡ true) (λ c. has_project (with_project o p) c ≡ true) (λ c. found_still project_key (0, c) p o.projects) l.choices h.projects;
   not_placed = h.not_placed;
 }
@@ -153,9 +151,7 @@ with_student o s = record o { students = put student_key s o.students }
 known_list_still : (o : State) (s : Student) (n : ℕ) (l : Listed) → ListFits o n l → ListFits (with_student o s) n l
 known_list_still o s n l h = record {
   student = found_still student_key (0, l.student) s o.students h.student;
-  some = h.some;
-  few = h.few;
-  distinct = h.distinct;
+  choices = h.choices;
   projects = h.projects;
   not_placed = h.not_placed;
 }

@@ -101,9 +101,7 @@ unplaced_still t (Some p) n h = kept (t p)
 list_fits_reopened : (o : State) → IsFit o → (n : ℕ) (l : Listed) → ListFits o n l → ListFits (after_reopening o) n l
 list_fits_reopened o fit n l h = record {
   student = h.student;
-  some = h.some;
-  few = h.few;
-  distinct = h.distinct;
+  choices = h.choices;
   projects = h.projects;
   not_placed =
       ap (λ (x : Option Placement). option_map_or (λ p. nat_lt p.round n) x false) (find-filter placement_key (λ (p : Placement). not (p.round == last_round o)) (0, l.student) o.placements fit.placements_rise)

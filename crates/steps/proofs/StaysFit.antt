@@ -56,9 +56,11 @@ list_fits student choices o none =
     let size : (nat_le 1 (length choices) && nat_le (length choices) 8) ≡ true = not_false _ passed.1.1.1.0 in
     record {
       student = not_false _ passed.1.0;
-      some = leb-true 1 (length choices) (first_so (nat_le 1 (length choices)) (nat_le (length choices) 8) size);
-      few = leb-true (length choices) 8 (second_so (nat_le 1 (length choices)) (nat_le (length choices) 8) size);
-      distinct = choices_distinct o [] choices passed.1.1.1.1;
+      choices = record {
+        some = leb-true 1 (length choices) (first_so (nat_le 1 (length choices)) (nat_le (length choices) 8) size);
+        few = leb-true (length choices) 8 (second_so (nat_le 1 (length choices)) (nat_le (length choices) 8) size);
+        distinct = choices_distinct o [] choices passed.1.1.1.1;
+      };
       projects = choices_known o [] choices passed.1.1.1.1;
       not_placed = placed_nowhere (last_round o) (placement_of o student) passed.1.1.0;
     }

@@ -107,7 +107,7 @@ module _ (o : State) (fit : IsFit o) where
       record {
         round = omega (arith, number, fit.few_rounds);
         student = ap (λ (k : Key). is_code k.1) (found_key list_key (0, student) (lists_of o round) l there.1) ∙ student_is_code l.student fits.student;
-        place = let low = below l.choices i project there.2 in omega (arith, low, fits.few);
+        place = let low = below l.choices i project there.2 in omega (arith, low, fits.choices.few);
         project = project_is_code project (all_at (λ p. IsTrue (has_project o p)) l.choices i project fits.projects there.2);
       }
 

@@ -1,12 +1,11 @@
 -- The rows that a statement over one table finds.
-use Rattle.std.proofs.Common.{◌≡◌, ℕ, List, [], ◌∷◌, ◌++◌, None, Ok, Err, ap, refl, sym, subst₂, ◌∙◌, false, pos, negsuc, Bool, true, if◌then◌else◌, cond, map, filter}
+use Rattle.std.proofs.Common.{◌≡◌, ℕ, List, [], ◌∷◌, ◌++◌, Ok, Err, ap, refl, sym, subst₂, ◌∙◌, false, Bool, true, if◌then◌else◌, cond, map, filter}
 use Rattle.std.specs.List.{flat_map, list_all}
 use Rattle.std.specs.List.Sorted.{IsPermutation}
 use Rattle.std.proofs.lemmas.List.Sorted.{IsPermutation-map}
-use Rattle.sqlite_draft.specs.declared.query.Draft.{Draft}
-use Rattle.sqlite_sql.specs.Term.{Term, Env, lit, eval_all, holds}
-use Rattle.sqlite_sql.specs.Query.{Query, inner, end, IsAnswer, output, Output}
-use Rattle.sqlite.specs.declared.types.Value.TheVariants.{Null, Int}
+use Rattle.sqlite_sql.specs.Term.{Term, Env, eval_all, holds}
+use Rattle.sqlite_sql.specs.Query.{IsAnswer, output, Output}
+use Rattle.sqlite.specs.declared.types.Value.TheVariants.{Null}
 use Rattle.sqlite_schema.specs.declared.program.Program.{Program}
 use Rattle.sqlite_resolve.specs.Lowering.{Checked, and_then}
 use Rattle.sqlite_resolve.specs.declared.error.CompileError.TheVariants.{Mismatch}

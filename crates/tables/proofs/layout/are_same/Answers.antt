@@ -1,4 +1,4 @@
-use Rattle.std.proofs.Common.{◌≡◌, ℕ, List, true, false, rules, arith}
+use Rattle.std.proofs.Common.{◌≡◌, ℕ, List, true, false, rules}
 use Rattle.std.proofs.lemmas.Iterator.{cases_from_all, YieldsList-from_zip, YieldsList-from_slice}
 use Rattle.tables.specs.Table.{places_by}
 use Rattle.std.specs.Str.{bytes_eq}
