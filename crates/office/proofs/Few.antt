@@ -1,5 +1,5 @@
 -- What is counted of a fit office is small.
-use Rattle.std.proofs.Common.{◌≡◌, ℕ, ◌≤◌, Bool, length, count_by, arith}
+use Rattle.std.proofs.Common.{ℕ, ◌≤◌, Bool, length, count_by, arith}
 use Rattle.std.proofs.lemmas.List.Sums.{count_by-le-length}
 use Rattle.rolls.specs.declared.rounds.Placement.{Placement}
 use Rattle.rolls.specs.State.{State, lists_of}

@@ -1,7 +1,7 @@
 -- An import makes its rows one after another. While it is under way, what is left decides as the whole did from the office
 -- before; at the end nothing is left, so all rows were made.
-use Rattle.std.proofs.Common.{◌≡◌, ℕ, suc, ◌+◌, ◌≤◌, List, [], ◌∷◌, ◌++◌, length, Option, Some, None, refl, sym, ap, subst, ◌∙◌, arith, append-nil, inl, inr, ◌⊎◌}
-use Rattle.std.specs.Prelude.{◌&&◌, not, nat_le, Bool, true, false, is_some, Ok, Err, if◌then◌else◌}
+use Rattle.std.proofs.Common.{◌≡◌, ℕ, suc, ◌+◌, List, [], ◌∷◌, ◌++◌, length, Option, Some, None, refl, sym, ap, subst, ◌∙◌, arith}
+use Rattle.std.specs.Prelude.{◌&&◌, not, nat_le, Bool, true, false, is_some, Ok, if◌then◌else◌}
 use Rattle.std.specs.Option.{option_map, unwrap_or}
 use Rattle.rolls.specs.declared.import.Import.{Import}
 use Rattle.rolls.specs.declared.import.ImportKind.{ImportKind}
@@ -18,7 +18,7 @@ use Rattle.rolls.specs.Rows.{Turns, import_row}
 use Rattle.rolls.specs.Refusing.{first, plain_refusal, import_tests}
 use Rattle.rolls.specs.Stepping.{after_plain}
 use Rattle.rolls.specs.Told.{number_of}
-use Rattle.rolls.specs.Importing.{or_else, at_record, rows_refusal, after_rows, import_refusal, with_import, after_import, import_reply}
+use Rattle.rolls.specs.Importing.{or_else, at_record, rows_refusal, after_rows, import_refusal, with_import}
 use Rattle.rolls.specs.Answers.{IsDone, Imports}
 use Rattle.rolls.proofs.Allowed.{allowed}
 use Rattle.steps.proofs.Imported.{turns_follow, keep_none}

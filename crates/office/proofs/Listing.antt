@@ -1,7 +1,7 @@
 -- What is known where a list may be put or dropped: there is an open round, the choices are few and known, and so is the
 -- student.
-use Rattle.std.proofs.Common.{◌≡◌, ℕ, zero, suc, ◌≤◌, ◌==◌, Bool, true, false, not, ◌&&◌, nat_le, List, [], length, Option, Some, None, is_some, IsTrue, refl, sym, ap, ◌∙◌, arith}
-use Rattle.std.specs.Cmp.{first_so, second_so}
+use Rattle.std.proofs.Common.{◌≡◌, ℕ, zero, suc, ◌≤◌, ◌==◌, true, false, ◌&&◌, nat_le, List, [], length, Option, Some, None, is_some, refl, ap, arith}
+use Rattle.std.specs.Cmp.{second_so}
 use Rattle.std.specs.Option.{option_map_or}
 use Rattle.std.specs.List.{AllByRecursion}
 use Rattle.std.proofs.lemmas.Bool.Decides.{nat_tests}

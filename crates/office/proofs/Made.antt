@@ -1,5 +1,5 @@
 -- A plain request was made: the office after it is the one that is asked for, so it is fit, and the changes turn the rows.
-use Rattle.std.proofs.Common.{◌≡◌, List, Option, Some, None, refl, sym, ap, subst, ◌∙◌}
+use Rattle.std.proofs.Common.{◌≡◌, List, Option, Some, None, sym, ap, subst, ◌∙◌}
 use Rattle.std.specs.Option.{option_map_or}
 use Rattle.rolls.specs.declared.rounds.Round.{Round}
 use Rattle.rolls.specs.declared.request.Plain.{Plain}

@@ -1,7 +1,5 @@
-use Rattle.std.proofs.Common.{◌≡◌, List, ℕ, length, arith, refl, sym, ap, ◌∙◌, subst}
+use Rattle.std.proofs.Common.{◌≡◌, sym, ap, ◌∙◌, subst}
 use Rattle.std.specs.Prelude.{count_by, ◌==◌, ◌&&◌, ◌+◌, false}
-use Rattle.rolls.specs.declared.rounds.Round.{Round}
-use Rattle.rolls.specs.declared.rounds.Placement.{Placement}
 use Rattle.rolls.specs.declared.request.Reply.TheVariants as reply
 use Rattle.rolls.specs.declared.request.Done.{Done}
 use Rattle.rolls.specs.Roll.{put_all}
@@ -15,8 +13,6 @@ use Rattle.closing.specs.Places.{placed_by}
 use Rattle.closing.specs.Changes.{after_placing, closing_changes, placed_reply}
 use Rattle.office.specs.View.{state_of}
 use Rattle.office.proofs.Made.{last_put}
-use Rattle.office.proofs.Few.{lists_few}
-use Rattle.office.proofs.Listing.{open_round}
 use Rattle.office.proofs.office.Office.close.Goals as goal
 use Rattle.office.proofs.office.Office.close.Goals.{Joined-self-placements}
 

@@ -1,8 +1,8 @@
-use Rattle.std.proofs.Common.{◌≡◌, ◌++◌, [], ◌∷◌, Some, IsTrue, take, refl, sym, ap, subst, ◌∙◌}
+use Rattle.std.proofs.Common.{◌++◌, [], ◌∷◌, IsTrue, take, sym, ap, subst, ◌∙◌}
 use Rattle.std.specs.List.{AllByRecursion}
 use Rattle.std.specs.Prelude.{option_copied}
 use Rattle.std.proofs.lemmas.List.{take_more, drop_more}
-use Rattle.rolls.specs.State.{State, has_project, project_of, project_key}
+use Rattle.rolls.specs.State.{has_project, project_key}
 use Rattle.rolls.specs.Roll.{Key}
 use Rattle.rolls.proofs.Found.{found_key}
 use Rattle.office.proofs.office.Office.codes_of.Goals as goal

@@ -1,16 +1,15 @@
-use Rattle.std.proofs.Common.{◌≡◌, ℕ, ◌≤◌, length, List, [], Some, arith, refl, sym, ap, subst, ◌∙◌}
+use Rattle.std.proofs.Common.{◌≡◌, length, List, [], arith, refl, ap, subst, ◌∙◌}
 use Rattle.rolls.specs.Fit.{IsFit}
 use Rattle.rolls.specs.declared.rounds.Round.{Round}
 use Rattle.rolls.specs.declared.rounds.Listed.{Listed}
 use Rattle.rolls.specs.Roll.{put, take_out}
-use Rattle.rolls.specs.State.{State, list_key, round_key, round_of, last_round, choices_in}
-use Rattle.rolls.specs.Stepping.{after_plain, with_last}
+use Rattle.rolls.specs.State.{list_key, round_key, last_round, choices_in}
+use Rattle.rolls.specs.Stepping.{after_plain}
 use Rattle.steps.specs.Changes.{list_changes}
 use Rattle.steps.proofs.Staying.{choices_few}
 use Rattle.office.specs.View.{state_of}
 use Rattle.office.proofs.Made.{made_fit, made_done, last_put}
 use Rattle.rolls.specs.declared.request.Plain.TheVariants.{DropList}
-use Rattle.office.proofs.Listing.{drop_open}
 use Rattle.office.proofs.office.Office.drop_list.Goals as goal
 use Rattle.office.proofs.office.Office.drop_list.Goals.{After-drop-student-inside-2}
 

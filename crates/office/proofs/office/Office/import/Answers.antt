@@ -1,4 +1,4 @@
-use Rattle.std.proofs.Common.{rules, ◌≡◌, ℕ, List, None, Some, Ok, Err, inl, inr, sym, ap, subst, ◌∙◌, refl, ◌⊎◌}
+use Rattle.std.proofs.Common.{rules, ◌≡◌, None, Some, Ok, inl, inr, sym, subst, ◌∙◌, refl}
 use Rattle.rolls.specs.State.{State}
 use Rattle.rolls.specs.State.{kept_rows}
 use Rattle.rolls.specs.Refusing.{first, import_tests}

@@ -1,9 +1,7 @@
 use Rattle.std.proofs.Common.{◌≡◌, ℕ, List, ◌∷◌, [], ◌++◌, length, sym, ap, subst, ◌∙◌}
 use Rattle.std.specs.Prelude.{◌&&◌, not, nat_le, false}
-use Rattle.rolls.specs.declared.import.Import.{Import}
 use Rattle.rolls.specs.declared.request.Reply.TheVariants as reply
 use Rattle.rolls.specs.declared.row.Row.TheVariants as row
-use Rattle.rolls.specs.declared.row.Change.{Change}
 use Rattle.rolls.specs.declared.row.Change.TheVariants as change
 use Rattle.rolls.specs.State.{State, has_import}
 use Rattle.rolls.specs.Importing.{with_import}

@@ -1,5 +1,4 @@
 use Rattle.std.proofs.Common.{List, count_by, arith, ap, ◌∙◌}
-use Rattle.std.specs.Str.{bytes_eq}
 use Rattle.rolls.specs.declared.rounds.Placement.{Placement}
 use Rattle.rolls.specs.State.{State, is_offered_by}
 use Rattle.office.specs.View.{state_of}

@@ -1,19 +1,19 @@
-use Rattle.std.proofs.Common.{◌≡◌, ℕ, ◌≤◌, length, true, List, Option, Some, arith, refl, sym, ap, subst, ◌∙◌}
+use Rattle.std.proofs.Common.{◌≡◌, ℕ, length, true, List, arith, refl, sym, ap, subst, ◌∙◌}
 use Rattle.std.specs.Prelude.{option_copied}
 use Rattle.std.specs.List.{AllByRecursion}
 use Rattle.rolls.specs.Fit.{IsFit}
 use Rattle.rolls.specs.declared.rounds.Round.{Round}
 use Rattle.rolls.specs.declared.rounds.Listed.{Listed}
-use Rattle.rolls.specs.Roll.{Key, put, take_out}
-use Rattle.rolls.specs.State.{State, has_project, list_key, round_key, student_key, round_of, last_round, choices_in}
-use Rattle.rolls.specs.Stepping.{after_plain, with_last}
+use Rattle.rolls.specs.Roll.{Key, put}
+use Rattle.rolls.specs.State.{State, has_project, list_key, round_key, student_key, last_round, choices_in}
+use Rattle.rolls.specs.Stepping.{after_plain}
 use Rattle.rolls.proofs.Found.{found_key}
 use Rattle.steps.specs.Changes.{list_changes}
 use Rattle.steps.proofs.Staying.{choices_few}
 use Rattle.office.specs.View.{state_of}
 use Rattle.office.proofs.Made.{made_fit, made_done, last_put}
 use Rattle.rolls.specs.declared.request.Plain.TheVariants.{PutList}
-use Rattle.office.proofs.Listing.{list_open, list_student, list_few, list_known}
+use Rattle.office.proofs.Listing.{list_few, list_known}
 use Rattle.office.proofs.office.Office.put_list.Goals as goal
 use Rattle.office.proofs.office.Office.put_list.Goals.{After-drop-student-inside-2}
 

@@ -1,13 +1,12 @@
-use Rattle.std.proofs.Common.{◌≡◌, ◌==◌, true, false, not, List, [], ◌∷◌, is_some, refl, sym, ap, subst, ◌∙◌}
-use Rattle.std.specs.List.{filter}
+use Rattle.std.proofs.Common.{◌≡◌, ◌==◌, true, not, List, sym, ap, subst, ◌∙◌}
 use Rattle.rolls.specs.declared.rounds.Round.{Round}
 use Rattle.rolls.specs.declared.rounds.Placement.{Placement}
 use Rattle.rolls.specs.declared.request.Reply.TheVariants as reply
 use Rattle.rolls.specs.declared.request.Plain.TheVariants.{ReopenRound}
-use Rattle.rolls.specs.Roll.{put, rises}
-use Rattle.rolls.specs.State.{State, round_key, placement_key, round_of, last_round}
+use Rattle.rolls.specs.Roll.{rises}
+use Rattle.rolls.specs.State.{State, placement_key, last_round}
 use Rattle.rolls.specs.Fit.{IsFit}
-use Rattle.rolls.specs.Stepping.{after_plain, with_last}
+use Rattle.rolls.specs.Stepping.{after_plain}
 use Rattle.rolls.proofs.Places.{rises-filter}
 use Rattle.steps.specs.Changes.{reopening_changes, kept_placements}
 use Rattle.office.specs.View.{state_of}

@@ -1,4 +1,4 @@
-use Rattle.std.proofs.Common.{◌≡◌, ℕ, zero, suc, ◌+◌, ◌<◌, ◌≤◌, List, [], ◌∷◌, length, count_by, ◌==◌, ◌&&◌, slice_index, refl, ap, ◌∙◌, arith}
+use Rattle.std.proofs.Common.{◌≡◌, ℕ, zero, suc, ◌+◌, ◌<◌, List, [], ◌∷◌, length, count_by, ◌==◌, ◌&&◌, slice_index, refl, ap, ◌∙◌, arith}
 use Rattle.spa.specs.declared.TheConstants.{RANKS}
 use Rattle.rolls.specs.Stepping.{counted}
 use Rattle.office.proofs.office.placed.ranked.Goals as goal
