@@ -25,6 +25,7 @@ pub mod PushEntry
 pub mod PushOther
 pub mod PushReady
 pub mod PushStart
+pub mod Searching
 pub mod Spans
 pub mod Spared
 pub mod Append

@@ -7,6 +7,7 @@ use Rattle.std.proofs.lemmas.Bool.{cases_lt}
 use Rattle.std.proofs.lemmas.List.{length-map, get_or_past}
 use Rattle.std.proofs.lemmas.List.FromFn.{get_or-map-range_with_len, length-range_with_len}
 use Rattle.std.proofs.lemmas.Option.{slice_get-get_or, slice_get_within}
+use Rattle.network.specs.declared.TheConstants.{LARGEST_PRICE}
 use Rattle.spa.specs.Laws.{Ops, IsWorth, AtMost}
 use Rattle.spa.specs.Shape.{Shape, supervisor_of, project_quota, supervisor_quota}
 use Rattle.spa.specs.Matched.{QuotasSuffice}
@@ -119,7 +120,7 @@ module _ {G : Type 0} {o : Ops G} (laws : IsWorth o) where
           (subst (AtMost o w) (laws.assoc (student_price o f s) (project_price o f p) (supervisor_price o f (supervisor_of i p))) c)
 
       -- zero is small
-      zero_small : o.span o.zero ≤ 4012
+      zero_small : o.span o.zero ≤ LARGEST_PRICE
       zero_small = omega (arith, laws.span_zero)
 
       -- lists of the flow's prices are prices
@@ -132,9 +133,9 @@ module _ {G : Type 0} {o : Ops G} (laws : IsWorth o) where
         projects_not_below = each_price (λ x. AtMost o o.zero x) y (project_price o f) y_is (λ p lt. hold.projects p) (at_most_refl laws o.zero);
         supervisors_not_below = each_price (λ x. AtMost o o.zero x) z (supervisor_price o f) z_is (λ l lt. hold.supervisors l (omega (arith, lt, z_long))) (at_most_refl laws o.zero);
         covered = covers;
-        students_small = each_price (λ x. o.span x ≤ 4012) u (student_price o f) u_is (λ s lt. omega (arith, hold.student_spans s)) zero_small;
-        projects_small = each_price (λ x. o.span x ≤ 4012) y (project_price o f) y_is (λ p lt. hold.project_spans p) zero_small;
-        supervisors_small = each_price (λ x. o.span x ≤ 4012) z (supervisor_price o f) z_is (λ l lt. omega (arith, hold.supervisor_spans l)) zero_small;
+        students_small = each_price (λ x. o.span x ≤ LARGEST_PRICE) u (student_price o f) u_is (λ s lt. omega (arith, hold.student_spans s)) zero_small;
+        projects_small = each_price (λ x. o.span x ≤ LARGEST_PRICE) y (project_price o f) y_is (λ p lt. hold.project_spans p) zero_small;
+        supervisors_small = each_price (λ x. o.span x ≤ LARGEST_PRICE) z (supervisor_price o f) z_is (λ l lt. omega (arith, hold.supervisor_spans l)) zero_small;
         equal = all_paid;
       }
 

@@ -1,5 +1,6 @@
 -- Potentials that are fair to every student, project and supervisor.
 use Rattle.std.specs.Prelude.{◌≡◌, ℕ, ◌+◌, ◌≤◌, ◌<◌, length, slice_index, slice_get, Some, None}
+use Rattle.network.specs.declared.TheConstants.{LARGEST_POTENTIAL}
 use Rattle.spa.specs.Laws.{Ops, AtMost}
 use Rattle.network.specs.Marks.{potential_at}
 use Rattle.network.specs.Arcs.{HasEntry, Holds, project_count, sink_of}
@@ -35,4 +36,4 @@ pub record IsFairBut {G : Type 0} (o : Ops G) (f : Flow G) (fresh : ℕ) : Type 
 
 -- the potentials are numbers of few bits, however many students were admitted
 abbrev pub IsLow : {G : Type 0} → Ops G → Flow G → Type 0
-IsLow o f = (v : ℕ) → o.span (potential o f v) ≤ 2006
+IsLow o f = (v : ℕ) → o.span (potential o f v) ≤ LARGEST_POTENTIAL

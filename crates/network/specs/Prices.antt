@@ -2,6 +2,7 @@
 use Rattle.std.specs.Prelude.{◌≡◌, ℕ, ◌+◌, ◌≤◌, ◌<◌, length, Option, Some, None, slice_get, slice_index}
 use Rattle.std.specs.declared.vec.Vec.{Vec}
 use Rattle.std.specs.declared.alloc.Global.{Global}
+use Rattle.network.specs.declared.TheConstants.{LARGEST_PRICE, LARGEST_POTENTIAL}
 use Rattle.spa.specs.Laws.{Ops, AtMost}
 use Rattle.network.specs.Seen.{multiple, sum_of}
 use Rattle.network.specs.Arcs.{project_count, HasEntry}
@@ -68,7 +69,7 @@ pub record PotentialPrices {G : Type 0} (o : Ops G) (f : Flow G) : Type 0 where
   pub supervisors : (l : ℕ) → l < length f.supervisors.items → AtMost o o.zero (supervisor_price o f l)
   pub covered : (s k p l q : ℕ) (w : G) → HasEntry f.lists.items s k p w → slice_get f.projects.items p ≡ Some (l, q)
       → AtMost o w (o.plus (o.plus (student_price o f s) (project_price o f p)) (supervisor_price o f l))
-  pub student_spans : (s : ℕ) → o.span (student_price o f s) ≤ 2007
-  pub project_spans : (p : ℕ) → o.span (project_price o f p) ≤ 4012
-  pub supervisor_spans : (l : ℕ) → o.span (supervisor_price o f l) ≤ 2006
+  pub student_spans : (s : ℕ) → o.span (student_price o f s) ≤ LARGEST_POTENTIAL + 1
+  pub project_spans : (p : ℕ) → o.span (project_price o f p) ≤ LARGEST_PRICE
+  pub supervisor_spans : (l : ℕ) → o.span (supervisor_price o f l) ≤ LARGEST_POTENTIAL
   pub equal : price_sum o f ≡ placed_worth o f

@@ -1,19 +1,28 @@
 //! The relaxations of the arcs out of one node.
 
-ghost use Rattle.std.specs.Prelude.{◌≡◌, ℕ, ◌+◌, ◌*◌, ◌<◌, ◌≤◌, ◌^◌, length, slice_get, slice_index, Some, IfSome, IfNone, sum_by, nat_lt, List};
-ghost use Rattle.spa.specs.declared.TheConstants.{MOST_STUDENTS, RANKS};
-ghost use Rattle.network.specs.declared.TheConstants.{MOST_OFFERS};
-ghost use Rattle.network.specs.Labels.{IsQueue};
+ghost use Rattle.std.specs.Prelude.{◌≡◌, ℕ, ◌+◌, ◌<◌, ◌≤◌, length, slice_get, slice_index, Some, sum_by, nat_lt};
+ghost use Rattle.spa.specs.declared.TheConstants.{RANKS};
+ghost use Rattle.network.specs.declared.TheConstants.{MOST_OFFERS, MOST_ARCS};
+ghost use Rattle.network.specs.declared.marks.Origin.TheVariants.{Entry};
+ghost use Rattle.network.specs.Labels.{MayCompare, HasCompared};
 ghost use Rattle.network.specs.Ways.{SearchArc};
 ghost use Rattle.network.specs.Kept.{numbers_at, IsKept};
-ghost use Rattle.network.specs.Search.{Relaxes, OffersOf};
-ghost use Rattle.network.specs.Arcs.{IsFormed, OfStudent, EntriesBelow, StudentsAmong, ProjectsAmong, list_cost, HasEntry, Holds, sink_of, project_count};
+ghost use Rattle.network.specs.Search.{OneOffer, OffersOf};
+ghost use Rattle.network.specs.Arcs.{IsFormed, OfStudent, StudentsAmong, ProjectsAmong, list_cost, HasEntry, Holds, sink_of, project_count};
 
-use crate::flow::Flow;
-use crate::kept::{Kept, projects_at, students_at};
-use crate::marks::{Labels, Origin, relax};
+use crate::flow::{Flow, held_by};
+use crate::kept::{projects_at, students_at};
+use crate::marks::{Labels, Offer, Origin, relax};
+use crate::residual::Residual;
 use crate::ways::has_way;
 use spa::Worth;
+
+/// A choice of a student: the entry at this position of the list.
+#[derive(Clone, Copy)]
+pub(crate) struct Choice {
+    pub student: usize,
+    pub position: usize,
+}
 
 /// The entry at a position of a student's list.
 pub(crate) fn entry<G: Worth>(flow: &Flow<G>, student: usize, k: usize) -> (usize, G)
@@ -29,6 +38,7 @@ pub(crate) fn list_len<G: Worth>(flow: &Flow<G>, student: usize) -> usize
     requires formed { IsFormed G.ops flow.now }
     requires student { student < length flow.now.lists.items }
     ensures row { (row : _) → slice_get flow.now.lists.items student ≡ Some row → result ≡ length row.items }
+    ensures cost { result + 1 ≡ list_cost flow.now.lists.items student }
     ensures short { result ≤ RANKS }
 {
     flow.lists[student].len()
@@ -43,137 +53,73 @@ pub(crate) fn sink<G: Worth>(flow: &Flow<G>) -> usize
 }
 
 /// One entry of a student's list is offered what the label makes of it.
-fn relax_entry<G: Worth>(
-    flow: &Flow<G>,
-    student: usize,
-    k: usize,
-    label: G,
-    labels: &mut Labels<G>,
-    count: &mut u64,
-)
-    requires queue { IsQueue G.ops flow.now labels.old }
-    requires formed { IsFormed G.ops flow.now }
-    requires marks { length labels.old.marks.items ≡ length flow.now.potentials.items }
-    requires student { student < length flow.now.lists.items }
-    requires listed { (row : _) → slice_get flow.now.lists.items student ≡ Some row → k < length row.items }
-    requires label { G.ops.span label < 2 ^ 32 }
-    requires count { count.old < 2 ^ 40 }
-    ensures queue { IsQueue G.ops flow.now labels.new }
-    ensures relaxes { (m : _) → Relaxes G.ops flow.now (EntriesBelow G.ops flow.now student label k) m labels.old.marks.items → Relaxes G.ops flow.now (EntriesBelow G.ops flow.now student label (k + 1)) m labels.new.marks.items }
-    ensures count { count.new ≡ count.old + 1 }
+fn relax_choice<G: Worth>(flow: &Flow<G>, labels: &mut Labels<G>, choice: Choice, label: G)
+    requires ready { MayCompare G.ops flow.now labels.old label 1 1 }
+    requires student { choice.student < length flow.now.lists.items }
+    requires listed { (row : _) → slice_get flow.now.lists.items choice.student ≡ Some row → choice.position < length row.items }
+    ensures { (p : ℕ) × (w : G) × HasEntry flow.now.lists.items choice.student choice.position p w × HasCompared G.ops flow.now (OneOffer (Entry choice.student choice.position) (G.ops.plus label w) p) labels.old labels.new 1 1 }
 {
-    let (project, worth) = entry(flow, student, k);
-    relax(
-        flow,
-        labels,
-        project,
-        label.plus(worth),
-        Origin::Entry(student, k),
-        count,
-    );
+    let (node, worth) = entry(flow, choice.student, choice.position);
+    let offer = Offer {
+        node,
+        label: label.plus(worth),
+        origin: Origin::Entry(choice.student, choice.position),
+    };
+    relax(flow, labels, &offer);
 }
 
 /// Each entry of a student's list, and the sink, is offered what the label makes of it.
 pub(crate) fn relax_entries<G: Worth>(
     flow: &Flow<G>,
+    labels: &mut Labels<G>,
     student: usize,
     label: G,
-    labels: &mut Labels<G>,
-    count: &mut u64,
 )
-    requires queue { IsQueue G.ops flow.now labels.old }
-    requires formed { IsFormed G.ops flow.now }
-    requires marks { length labels.old.marks.items ≡ length flow.now.potentials.items }
+    requires ready { MayCompare G.ops flow.now labels.old label 1 MOST_OFFERS }
     requires student { student < length flow.now.lists.items }
-    requires label { G.ops.span label < 2 ^ 32 }
-    requires count { count.old < 2 ^ 32 }
-    ensures queue { IsQueue G.ops flow.now labels.new }
-    ensures relaxes { Relaxes G.ops flow.now (OfStudent G.ops flow.now student label) labels.old.marks.items labels.new.marks.items }
-    ensures count { (row : _) → slice_get flow.now.lists.items student ≡ Some row → count.new ≡ count.old + length row.items + 1 }
-    ensures small { count.new ≤ count.old + MOST_OFFERS }
+    ensures { HasCompared G.ops flow.now (OfStudent G.ops flow.now student label) labels.old labels.new (list_cost flow.now.lists.items student) (list_cost flow.now.lists.items student) }
 {
-    let entries = list_len(flow, student);
-    for k in 0..entries {
-        relax_entry(flow, student, k, label, labels, count);
+    for position in 0..list_len(flow, student) {
+        relax_choice(flow, labels, Choice { student, position }, label);
     }
-    relax(
-        flow,
-        labels,
-        sink(flow),
+    let offer = Offer {
+        node: sink(flow),
         label,
-        Origin::Leave(student),
-        count,
-    );
+        origin: Origin::Leave(student),
+    };
+    relax(flow, labels, &offer);
 }
 
-/// The worth of the student's place, where that is at the project.
-fn held<G: Worth>(flow: &Flow<G>, student: usize, project: usize) -> Option<G>
-    requires formed { IsFormed G.ops flow.now }
+/// The offers of a student who is placed at some project: the label less the worth of the place goes on to the list.
+fn relax_student<G: Worth>(flow: &Flow<G>, labels: &mut Labels<G>, student: usize, label: G)
+    requires ready { MayCompare G.ops flow.now labels.old label 2 MOST_OFFERS }
     requires student { student < length flow.now.lists.items }
-    ensures some { IfSome result (λ w. (h : Holds flow.now student project) × (h.worth ≡ w)) }
-    ensures none { IfNone result (Holds flow.now student project → ⊥) }
+    ensures { (p : ℕ) (h : Holds flow.now student p) → HasCompared G.ops flow.now (OfStudent G.ops flow.now student (G.ops.minus label h.worth)) labels.old labels.new 0 (list_cost flow.now.lists.items student) }
 {
-    match flow.held[student] {
-        None => None,
-        Some(k) => {
-            let (at, worth) = entry(flow, student, k);
-            if at == project { Some(worth) } else { None }
-        }
-    }
-}
-
-/// The offers of one student, where placed at the project.
-fn relax_student<G: Worth>(
-    flow: &Flow<G>,
-    project: usize,
-    student: usize,
-    label: G,
-    labels: &mut Labels<G>,
-    count: &mut u64,
-)
-    requires formed { IsFormed G.ops flow.now }
-    requires queue { IsQueue G.ops flow.now labels.old }
-    requires marks { length labels.old.marks.items ≡ length flow.now.potentials.items }
-    requires student { student < length flow.now.lists.items }
-    requires label { G.ops.span label < 2 ^ 31 }
-    requires count { count.old < 2 ^ 32 }
-    ensures queue { IsQueue G.ops flow.now labels.new }
-    ensures relaxes { (m : _) (xs : List ℕ) (i : ℕ) → slice_get xs i ≡ Some student → Relaxes G.ops flow.now (StudentsAmong G.ops flow.now project label xs i) m labels.old.marks.items → Relaxes G.ops flow.now (StudentsAmong G.ops flow.now project label xs (i + 1)) m labels.new.marks.items }
-    ensures grows { count.old ≤ count.new }
-    ensures cost { count.new ≤ count.old + list_cost flow.now.lists.items student }
-    ensures small { count.new ≤ count.old + MOST_OFFERS }
-{
-    match held(flow, student, project) {
+    match held_by(flow, student) {
         None => {}
-        Some(worth) => relax_entries(flow, student, label.minus(worth), labels, count),
+        Some(position) => {
+            let (_, worth) = entry(flow, student, position);
+            relax_entries(flow, labels, student, label.minus(worth));
+        }
     }
 }
 
 /// The offers of all students who are placed at the project.
 fn relax_students<G: Worth>(
-    flow: &Flow<G>,
-    kept: &Kept,
+    residual: &Residual<G>,
+    labels: &mut Labels<G>,
     project: usize,
     label: G,
-    labels: &mut Labels<G>,
-    count: &mut u64,
 )
-    requires formed { IsFormed G.ops flow.now }
-    requires kept { IsKept flow.now kept.now }
-    requires queue { IsQueue G.ops flow.now labels.old }
-    requires marks { length labels.old.marks.items ≡ length flow.now.potentials.items }
-    requires project { project < length flow.now.projects.items }
-    requires label { G.ops.span label < 2 ^ 31 }
-    requires count { count.old < 2 ^ 31 }
-    ensures queue { IsQueue G.ops flow.now labels.new }
-    ensures relaxes { Relaxes G.ops flow.now (StudentsAmong G.ops flow.now project label (numbers_at kept.now.seated.items project) (length (numbers_at kept.now.seated.items project))) labels.old.marks.items labels.new.marks.items }
-    ensures grows { count.old ≤ count.new }
-    ensures cost { count.new ≤ count.old + sum_by (λ row. length row.items + 1) flow.now.lists.items }
-    ensures small { count.new ≤ count.old + MOST_STUDENTS * MOST_OFFERS }
+    requires ready { MayCompare G.ops residual.now.flow labels.old label 2 MOST_ARCS }
+    requires kept { IsKept residual.now.flow residual.now.kept }
+    requires project { project < length residual.now.flow.projects.items }
+    ensures { HasCompared G.ops residual.now.flow (StudentsAmong G.ops residual.now.flow project label (numbers_at residual.now.kept.seated.items project) (length (numbers_at residual.now.kept.seated.items project))) labels.old labels.new 0 (sum_by (λ row. length row.items + 1) residual.now.flow.lists.items) }
 {
-    let students = students_at(kept, project);
+    let students = students_at(&residual.kept, project);
     for i in 0..students.len() {
-        relax_student(flow, project, students[i], label, labels, count);
+        relax_student(&residual.flow, labels, students[i], label);
     }
 }
 
@@ -213,107 +159,74 @@ pub(crate) fn supervisor_node<G: Worth>(flow: &Flow<G>, supervisor: usize) -> us
 
 /// The arcs out of a project; where the way to the sink costs nothing, no other can be better.
 pub(crate) fn relax_project<G: Worth>(
-    flow: &Flow<G>,
-    kept: &Kept,
+    residual: &Residual<G>,
+    labels: &mut Labels<G>,
     at: usize,
     label: G,
-    labels: &mut Labels<G>,
-    count: &mut u64,
 )
-    requires kept { IsKept flow.now kept.now }
-    requires queue { IsQueue G.ops flow.now labels.old }
-    requires formed { IsFormed G.ops flow.now }
-    requires marks { length labels.old.marks.items ≡ length flow.now.potentials.items }
-    requires at { at < length flow.now.projects.items }
-    requires label { G.ops.span label < 2 ^ 31 }
-    requires count { count.old < 2 ^ 31 }
-    ensures queue { IsQueue G.ops flow.now labels.new }
-    ensures relaxes { Relaxes G.ops flow.now (OffersOf G.ops (SearchArc G.ops flow.now) at label) labels.old.marks.items labels.new.marks.items }
-    ensures grows { count.old ≤ count.new }
-    ensures cost { count.new ≤ count.old + sum_by (λ row. length row.items + 1) flow.now.lists.items + 1 }
-    ensures small { count.new ≤ count.old + MOST_STUDENTS * MOST_OFFERS + 1 }
+    requires ready { MayCompare G.ops residual.now.flow labels.old label 2 MOST_ARCS }
+    requires kept { IsKept residual.now.flow residual.now.kept }
+    requires at { at < length residual.now.flow.projects.items }
+    ensures { HasCompared G.ops residual.now.flow (OffersOf G.ops (SearchArc G.ops residual.now.flow) at label) labels.old labels.new 0 (sum_by (λ row. length row.items + 1) residual.now.flow.lists.items + 1) }
 {
+    let flow = &residual.flow;
     if !has_way(flow, at) {
-        relax_students(flow, kept, at, label, labels, count);
+        relax_students(residual, labels, at, label);
     }
     let (supervisor, quota) = project(flow, at);
     if project_has_room(flow, at, quota) {
-        relax(
-            flow,
-            labels,
-            supervisor_node(flow, supervisor),
+        let offer = Offer {
+            node: supervisor_node(flow, supervisor),
             label,
-            Origin::Offer(at),
-            count,
-        );
+            origin: Origin::Offer(at),
+        };
+        relax(flow, labels, &offer);
     }
 }
 
 /// A supervisor's offers to all of the supervisor's projects.
 fn relax_swaps<G: Worth>(
-    flow: &Flow<G>,
-    kept: &Kept,
+    residual: &Residual<G>,
+    labels: &mut Labels<G>,
     supervisor: usize,
     label: G,
-    labels: &mut Labels<G>,
-    count: &mut u64,
 )
-    requires formed { IsFormed G.ops flow.now }
-    requires kept { IsKept flow.now kept.now }
-    requires queue { IsQueue G.ops flow.now labels.old }
-    requires marks { length labels.old.marks.items ≡ length flow.now.potentials.items }
-    requires supervisor { supervisor < length flow.now.supervisors.items }
-    requires label { G.ops.span label < 2 ^ 31 }
-    requires count { count.old < 2 ^ 31 }
-    ensures queue { IsQueue G.ops flow.now labels.new }
-    ensures relaxes { Relaxes G.ops flow.now (ProjectsAmong G.ops flow.now supervisor label (numbers_at kept.now.offered.items supervisor) (length (numbers_at kept.now.offered.items supervisor))) labels.old.marks.items labels.new.marks.items }
-    ensures grows { count.old ≤ count.new }
-    ensures cost { count.new ≤ count.old + length flow.now.projects.items }
+    requires ready { MayCompare G.ops residual.now.flow labels.old label 2 MOST_ARCS }
+    requires kept { IsKept residual.now.flow residual.now.kept }
+    requires supervisor { supervisor < length residual.now.flow.supervisors.items }
+    ensures { HasCompared G.ops residual.now.flow (ProjectsAmong G.ops residual.now.flow supervisor label (numbers_at residual.now.kept.offered.items supervisor) (length (numbers_at residual.now.kept.offered.items supervisor))) labels.old labels.new 0 (length residual.now.flow.projects.items) }
 {
-    let projects = projects_at(kept, supervisor);
+    let projects = projects_at(&residual.kept, supervisor);
     for i in 0..projects.len() {
-        relax(
-            flow,
-            labels,
-            projects[i],
+        let offer = Offer {
+            node: projects[i],
             label,
-            Origin::Swap(supervisor),
-            count,
-        );
+            origin: Origin::Swap(supervisor),
+        };
+        relax(&residual.flow, labels, &offer);
     }
 }
 
 /// The arcs out of a supervisor; where the way to the sink costs nothing, no other can be better.
 pub(crate) fn relax_supervisor<G: Worth>(
-    flow: &Flow<G>,
-    kept: &Kept,
+    residual: &Residual<G>,
+    labels: &mut Labels<G>,
     supervisor: usize,
     label: G,
-    labels: &mut Labels<G>,
-    count: &mut u64,
 )
-    requires kept { IsKept flow.now kept.now }
-    requires queue { IsQueue G.ops flow.now labels.old }
-    requires formed { IsFormed G.ops flow.now }
-    requires marks { length labels.old.marks.items ≡ length flow.now.potentials.items }
-    requires supervisor { supervisor < length flow.now.supervisors.items }
-    requires label { G.ops.span label < 2 ^ 31 }
-    requires count { count.old < 2 ^ 31 }
-    ensures queue { IsQueue G.ops flow.now labels.new }
-    ensures relaxes { Relaxes G.ops flow.now (OffersOf G.ops (SearchArc G.ops flow.now) (length flow.now.projects.items + supervisor) label) labels.old.marks.items labels.new.marks.items }
-    ensures grows { count.old ≤ count.new }
-    ensures cost { count.new ≤ count.old + length flow.now.projects.items + 1 }
+    requires ready { MayCompare G.ops residual.now.flow labels.old label 2 MOST_ARCS }
+    requires kept { IsKept residual.now.flow residual.now.kept }
+    requires supervisor { supervisor < length residual.now.flow.supervisors.items }
+    ensures { HasCompared G.ops residual.now.flow (OffersOf G.ops (SearchArc G.ops residual.now.flow) (length residual.now.flow.projects.items + supervisor) label) labels.old labels.new 0 (length residual.now.flow.projects.items + 1) }
 {
-    if supervisor_has_room(flow, supervisor) {
-        relax(
-            flow,
-            labels,
-            sink(flow),
+    if supervisor_has_room(&residual.flow, supervisor) {
+        let offer = Offer {
+            node: sink(&residual.flow),
             label,
-            Origin::Room(supervisor),
-            count,
-        );
+            origin: Origin::Room(supervisor),
+        };
+        relax(&residual.flow, labels, &offer);
     } else {
-        relax_swaps(flow, kept, supervisor, label, labels, count);
+        relax_swaps(residual, labels, supervisor, label);
     }
 }

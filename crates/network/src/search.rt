@@ -1,19 +1,18 @@
 //! A search for a best walk to the sink.
 
-ghost use Rattle.std.specs.Prelude.{◌≡◌, ℕ, ◌+◌, ◌*◌, ◌<◌, ◌≤◌, ◌^◌, length, slice_get, slice_set, Some, true};
-ghost use Rattle.spa.specs.Laws.{AtMost};
-ghost use Rattle.network.specs.Marks.{mark_at, potential_at, key_at, blank, settled_as, is_open_mark};
-ghost use Rattle.network.specs.Labels.{AreLabels, IsBelow, IsQueue};
+ghost use Rattle.std.specs.Prelude.{◌≡◌, ◌+◌, ◌*◌, ◌<◌, ◌≤◌, length};
+ghost use Rattle.network.specs.Marks.{mark_at};
+ghost use Rattle.network.specs.Labels.{MayCompare, HasCompared};
 ghost use Rattle.network.specs.Ways.{SearchArc};
 ghost use Rattle.network.specs.Kept.{IsKept};
-ghost use Rattle.network.specs.declared.TheConstants.{MOST_OFFERS, MOST_ARCS};
-ghost use Rattle.network.specs.Search.{Relaxes, OffersOf, Feasible, IsFound, IsRunning};
-ghost use Rattle.network.specs.Arcs.{IsFormed, OfStudent, sink_of, flow_arcs};
+ghost use Rattle.network.specs.declared.TheConstants.{MOST_ARCS, MOST_COMPARED};
+ghost use Rattle.network.specs.Search.{OffersOf};
+ghost use Rattle.network.specs.Arcs.{list_cost, sink_of, flow_arcs};
+ghost use Rattle.network.specs.State.{IsPoised, HasFound};
 
-use crate::flow::Flow;
-use crate::kept::Kept;
 use crate::marks::{Labels, choose, reset, settle};
 use crate::relaxes::{relax_entries, relax_project, relax_supervisor, sink};
+use crate::residual::Residual;
 use spa::Worth;
 
 /// The label of a node.
@@ -25,141 +24,38 @@ pub(crate) fn label_of<G: Worth>(labels: &Labels<G>, node: usize) -> G
 }
 
 /// The arcs out of a node.
-fn relax_node<G: Worth>(
-    flow: &Flow<G>,
-    kept: &Kept,
-    node: usize,
-    label: G,
-    labels: &mut Labels<G>,
-    count: &mut u64,
-)
-    requires kept { IsKept flow.now kept.now }
-    requires queue { IsQueue G.ops flow.now labels.old }
-    requires formed { IsFormed G.ops flow.now }
-    requires marks { length labels.old.marks.items ≡ length flow.now.potentials.items }
-    requires node { node < sink_of flow.now }
-    requires label { G.ops.span label < 2 ^ 31 }
-    requires count { count.old < 2 ^ 31 }
-    ensures queue { IsQueue G.ops flow.now labels.new }
-    ensures relaxes { Relaxes G.ops flow.now (OffersOf G.ops (SearchArc G.ops flow.now) node label) labels.old.marks.items labels.new.marks.items }
-    ensures grows { count.old ≤ count.new }
-    ensures cost { count.new ≤ count.old + flow_arcs flow.now }
-    ensures small { count.new ≤ count.old + MOST_ARCS }
+fn relax_node<G: Worth>(residual: &Residual<G>, labels: &mut Labels<G>, node: usize, label: G)
+    requires ready { MayCompare G.ops residual.now.flow labels.old label 2 MOST_ARCS }
+    requires kept { IsKept residual.now.flow residual.now.kept }
+    requires node { node < sink_of residual.now.flow }
+    ensures { HasCompared G.ops residual.now.flow (OffersOf G.ops (SearchArc G.ops residual.now.flow) node label) labels.old labels.new 0 (flow_arcs residual.now.flow) }
 {
-    let projects = flow.projects.len();
+    let projects = residual.flow.projects.len();
     if node < projects {
-        relax_project(flow, kept, node, label, labels, count);
+        relax_project(residual, labels, node, label);
     } else {
-        relax_supervisor(flow, kept, node - projects, label, labels, count);
+        relax_supervisor(residual, labels, node - projects, label);
     }
 }
 
-/// The node is settled, and its arcs are relaxed.
-fn expand<G: Worth>(
-    flow: &Flow<G>,
-    kept: &Kept,
-    node: usize,
-    rank: usize,
-    labels: &mut Labels<G>,
-    count: &mut u64,
-)
-    requires kept { IsKept flow.now kept.now }
-    requires queue { IsQueue G.ops flow.now labels.old }
-    requires opened { is_open_mark (mark_at G.ops labels.old.marks.items node) ≡ true }
-    requires formed { IsFormed G.ops flow.now }
-    requires marks { length labels.old.marks.items ≡ length flow.now.potentials.items }
-    requires node { node < sink_of flow.now }
-    requires label { G.ops.span (mark_at G.ops labels.old.marks.items node).label < 2 ^ 31 }
-    requires count { count.old < 2 ^ 31 }
-    ensures queue { IsQueue G.ops flow.now labels.new }
-    ensures relaxes { Relaxes G.ops flow.now (OffersOf G.ops (SearchArc G.ops flow.now) node (mark_at G.ops labels.old.marks.items node).label) (slice_set labels.old.marks.items node (settled_as (mark_at G.ops labels.old.marks.items node) rank)) labels.new.marks.items }
-    ensures grows { count.old ≤ count.new }
-    ensures cost { count.new ≤ count.old + flow_arcs flow.now }
-    ensures small { count.new ≤ count.old + MOST_ARCS }
-{
-    let label = label_of(labels, node);
-    settle(labels, node, rank);
-    relax_node(flow, kept, node, label, labels, count);
-}
-
-/// The node is settled, its arcs are relaxed, and the next node is chosen.
-fn advance<G: Worth>(
-    flow: &Flow<G>,
-    kept: &Kept,
-    student: usize,
-    node: usize,
-    rank: usize,
-    labels: &mut Labels<G>,
-    count: &mut u64,
-) -> usize
-    requires kept { IsKept flow.now kept.now }
-    requires queue { IsQueue G.ops flow.now labels.old }
-    requires formed { IsFormed G.ops flow.now }
-    requires running { IsRunning G.ops flow.now (OfStudent G.ops flow.now student G.ops.zero) (SearchArc G.ops flow.now) flow.now.potentials.items (sink_of flow.now) labels.old.marks.items rank node }
-    requires feasible { Feasible G.ops (SearchArc G.ops flow.now) flow.now.potentials.items }
-    requires below { IsBelow G.ops flow.now }
-    requires node { node < sink_of flow.now }
-    requires count { count.old < 2 ^ 31 }
-    ensures queue { IsQueue G.ops flow.now labels.new }
-    ensures running { IsRunning G.ops flow.now (OfStudent G.ops flow.now student G.ops.zero) (SearchArc G.ops flow.now) flow.now.potentials.items (sink_of flow.now) labels.new.marks.items (rank + 1) result }
-    ensures grows { count.old ≤ count.new }
-    ensures cost { count.new ≤ count.old + flow_arcs flow.now }
-    ensures small { count.new ≤ count.old + MOST_ARCS }
-{
-    expand(flow, kept, node, rank, labels, count);
-    choose(flow, labels)
-}
-
-/// The first offers, and the first choice.
-fn begin<G: Worth>(flow: &Flow<G>, student: usize, labels: &mut Labels<G>, count: &mut u64) -> usize
-    requires labels { AreLabels G.ops labels.old }
-    requires formed { IsFormed G.ops flow.now }
-    requires marks { length labels.old.marks.items ≡ length flow.now.potentials.items }
-    requires fresh { (b : ℕ) → mark_at G.ops labels.old.marks.items b ≡ blank G.ops }
-    requires student { student < length flow.now.lists.items }
-    requires potentials { (v : ℕ) → G.ops.span (potential_at G.ops flow.now.potentials.items v) ≤ 2 ^ 20 }
-    requires feasible { Feasible G.ops (SearchArc G.ops flow.now) flow.now.potentials.items }
-    requires below { IsBelow G.ops flow.now }
-    requires count { count.old < 2 ^ 31 }
-    ensures queue { IsQueue G.ops flow.now labels.new }
-    ensures running { IsRunning G.ops flow.now (OfStudent G.ops flow.now student G.ops.zero) (SearchArc G.ops flow.now) flow.now.potentials.items (sink_of flow.now) labels.new.marks.items 0 result }
-    ensures cost { (row : _) → slice_get flow.now.lists.items student ≡ Some row → count.new ≡ count.old + length row.items + 1 }
-    ensures small { count.new ≤ count.old + MOST_OFFERS }
-{
-    reset(flow, labels);
-    relax_entries(flow, student, G::zero(), labels, count);
-    choose(flow, labels)
-}
-
 /// A search from a student to the sink.
-pub(crate) fn search<G: Worth>(
-    flow: &Flow<G>,
-    kept: &Kept,
-    student: usize,
-    labels: &mut Labels<G>,
-    count: &mut u64,
-)
-    requires kept { IsKept flow.now kept.now }
-    requires labels { AreLabels G.ops labels.old }
-    requires formed { IsFormed G.ops flow.now }
-    requires marks { length labels.old.marks.items ≡ length flow.now.potentials.items }
-    requires fresh { (b : ℕ) → mark_at G.ops labels.old.marks.items b ≡ blank G.ops }
-    requires student { student < length flow.now.lists.items }
-    requires feasible { Feasible G.ops (SearchArc G.ops flow.now) flow.now.potentials.items }
-    requires below { IsBelow G.ops flow.now }
-    requires potentials { (v : ℕ) → G.ops.span (potential_at G.ops flow.now.potentials.items v) ≤ 2 ^ 20 }
-    requires count { count.old < 2 ^ 30 }
-    ensures labels { AreLabels G.ops labels.new }
-    ensures found { IsFound G.ops flow.now (OfStudent G.ops flow.now student G.ops.zero) (SearchArc G.ops flow.now) flow.now.potentials.items labels.new.marks.items (sink_of flow.now) }
-    ensures len { length labels.new.marks.items ≡ length labels.old.marks.items }
-    ensures least { (row : _) → slice_get flow.now.lists.items student ≡ Some row → count.old + length row.items + 1 ≤ count.new }
-    ensures cost { (row : _) → slice_get flow.now.lists.items student ≡ Some row → count.new ≤ count.old + length row.items + 1 + sink_of flow.now * flow_arcs flow.now }
+pub(crate) fn search<G: Worth>(residual: &Residual<G>, labels: &mut Labels<G>, student: usize)
+    requires poised { IsPoised G.ops residual.now labels.old student MOST_COMPARED }
+    ensures found { HasFound G.ops residual.now.flow student labels.new }
+    ensures least { labels.old.compared + list_cost residual.now.flow.lists.items student ≤ labels.new.compared }
+    ensures cost { labels.new.compared ≤ labels.old.compared + list_cost residual.now.flow.lists.items student + sink_of residual.now.flow * flow_arcs residual.now.flow }
 {
-    let mut node = begin(flow, student, labels, count);
+    let flow = &residual.flow;
+    reset(flow, labels);
+    relax_entries(flow, labels, student, G::zero());
+    let mut node = choose(flow, labels);
     let end = sink(flow);
     let mut rank: usize = 0;
     while node != end {
-        node = advance(flow, kept, student, node, rank, labels, count);
+        let label = label_of(labels, node);
+        settle(labels, node, rank);
+        relax_node(residual, labels, node, label);
+        node = choose(flow, labels);
         rank += 1;
     }
 }
