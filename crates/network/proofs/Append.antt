@@ -108,11 +108,7 @@ module _ {G : Type 0} {o : Ops G} (f : Flow G) (pushed : IsPushed o f)
     placed = λ s a k p w h e. pushed.fair.placed s a k p w (holds_old s a h) (entry_old s k p w (not_last s h.place h.placed) e);
     placed_least = λ s a h. pushed.fair.placed_least s a (holds_old s a h);
     unplaced = λ s k p w ne none e. pushed.fair.unplaced s k p w ne (none_old s ne none) (entry_old s k p w ne e);
-    project = pushed.fair.project;
-    project_room = pushed.fair.project_room;
-    supervisor = pushed.fair.supervisor;
-    supervisor_room = pushed.fair.supervisor_room;
-    sink = pushed.fair.sink;
+    nodes = pushed.fair.nodes;
   }
 
   -- a list is an old one, or the new one

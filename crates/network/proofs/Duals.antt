@@ -68,7 +68,7 @@ module _ {G : Type 0} {o : Ops G} (laws : IsWorth o) where
     -- nor is a project's below zero
     project_least : (p : ℕ) (x : Option (ℕ × ℕ)) → slice_get f.projects.items p ≡ x → AtMost o o.zero (project_price_at o f p x)
     project_least p None e = at_most_refl laws o.zero
-    project_least p (Some d) e = rest_least _ _ (pushed.fair.project p d.0 d.1 e)
+    project_least p (Some d) e = rest_least _ _ (pushed.fair.nodes.project p d.0 d.1 e)
 
     -- or large
     project_span : (p : ℕ) (x : Option (ℕ × ℕ)) → o.span (project_price_at o f p x) ≤ LARGEST_PRICE
@@ -80,7 +80,7 @@ module _ {G : Type 0} {o : Ops G} (laws : IsWorth o) where
     prices_hold = record {
       students = λ s. student_least s (slice_get f.held.items s) refl;
       projects = λ p. project_least p (slice_get f.projects.items p) refl;
-      supervisors = λ l lt. rest_least _ _ (pushed.fair.supervisor l lt);
+      supervisors = λ l lt. rest_least _ _ (pushed.fair.nodes.supervisor l lt);
       covered = λ s k p l q w h e.
           let y : project_price o f p ≡ o.minus (H (project_count f + l)) (H p) = ap (project_price_at o f p) e in
           let left = price_left (student_price o f s) (H (project_count f + l)) (H p) in

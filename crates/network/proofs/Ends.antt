@@ -43,11 +43,7 @@ module _ {G : Type 0} {o : Ops G} (laws : IsWorth o) (f : Flow G) (formed : IsFo
     ];
     waiting = λ k p w h. absurd (past_entry f k p w h);
     waiting_least = at_most_refl laws o.zero;
-    project = fair.project;
-    project_room = fair.project_room;
-    supervisor = fair.supervisor;
-    supervisor_room = fair.supervisor_room;
-    sink = fair.sink;
+    nodes = fair.nodes;
   }
 
   module _ (P : Vec (Option ℕ) Global) (s : ℕ) (x : Option ℕ) (set_is : P.items ≡ set f.held.items s x) where
@@ -76,11 +72,7 @@ module _ {G : Type 0} {o : Ops G} (laws : IsWorth o) (f : Flow G) (formed : IsFo
         ];
         waiting = fair.waiting;
         waiting_least = fair.waiting_least;
-        project = fair.project;
-        project_room = fair.project_room;
-        supervisor = fair.supervisor;
-        supervisor_room = fair.supervisor_room;
-        sink = fair.sink;
+        nodes = fair.nodes;
       }
 
       pub leave_counted : a < project_count f → IsCounted f (sink_of f) → IsCounted N a
@@ -128,11 +120,7 @@ module _ {G : Type 0} {o : Ops G} (laws : IsWorth o) (f : Flow G) (formed : IsFo
         ];
         waiting = λ i p v h. absurd (past_entry f i p v h);
         waiting_least = at_most_refl laws o.zero;
-        project = fair.project;
-        project_room = fair.project_room;
-        supervisor = fair.supervisor;
-        supervisor_room = fair.supervisor_room;
-        sink = fair.sink;
+        nodes = fair.nodes;
       }
 
       pub place_counted : b < project_count f → IsCounted f b → IsCounted N (sink_of f)
@@ -172,14 +160,16 @@ module _ {G : Type 0} {o : Ops G} (laws : IsWorth o) (f : Flow G) (formed : IsFo
       unplaced = fair.unplaced;
       waiting = fair.waiting;
       waiting_least = fair.waiting_least;
-      project = fair.project;
-      project_room = fair.project_room;
-      supervisor = fair.supervisor;
-      supervisor_room = λ m lt room. fair.supervisor_room m lt (elim (cases_eq m l) [
-        | inl e ↦ (let z : slice_index L.items m ≡ y = ap (λ z. slice_index L.items z) e ∙ load_here in let u = ap (λ z. slice_index f.load.items z) e in omega (arith, room, z, u, more))
-        | inr ne ↦ omega (arith, room, load_other m ne)
-      ]);
-      sink = fair.sink;
+      nodes = record {
+        project = fair.nodes.project;
+        project_room = fair.nodes.project_room;
+        supervisor = fair.nodes.supervisor;
+        supervisor_room = λ m lt room. fair.nodes.supervisor_room m lt (elim (cases_eq m l) [
+          | inl e ↦ (let z : slice_index L.items m ≡ y = ap (λ z. slice_index L.items z) e ∙ load_here in let u = ap (λ z. slice_index f.load.items z) e in omega (arith, room, z, u, more))
+          | inr ne ↦ omega (arith, room, load_other m ne)
+        ]);
+        sink = fair.nodes.sink;
+      };
     }
 
     -- the hole moves to the supervisor

@@ -155,15 +155,8 @@ module _ {G : Type 0} {o : Ops G} where
 
   -- the bound, the end and the count of labels that were compared are no part of the lists
   pub labels_kept : (l : Labels G) (bound : G) (end compared : ℕ) → AreLabels o l → AreLabels o (record l { bound = bound; end = end; compared = compared })
-  labels_kept l bound end compared are = record {
-    frontier = are.frontier;
-    touched = are.touched;
-    settled = are.settled;
-    blank = are.blank;
-    frontier_room = are.frontier_room;
-    touched_room = are.touched_room;
-    settled_room = are.settled_room;
-  }
+  labels_kept l bound end compared are =
+      record { frontier = are.frontier; touched = are.touched; settled = are.settled; blank = are.blank; frontier_room = are.frontier_room; touched_room = are.touched_room; settled_room = are.settled_room }
 
   -- nor of what is blank
   pub blank_counted : (l n : Labels G) (nodes : ℕ) → n ≡ record l { compared = n.compared } → AreBlank o l nodes → AreBlank o n nodes

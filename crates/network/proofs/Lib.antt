@@ -14,6 +14,7 @@ pub mod Listed
 pub mod Labelled
 pub mod Queue
 pub mod Onward
+pub mod Changed
 pub mod Transfer
 pub mod Seated
 pub mod Seats

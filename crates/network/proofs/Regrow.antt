@@ -51,11 +51,7 @@ module _ {G : Type 0} {o : Ops G} (f : Flow G) (pushed : IsPushed o f)
     unplaced = λ s k p w ne none e. pushed.fair.unplaced s k p w (λ q. ne (q ∙ sym long)) (place_old s None none) (entry_old s k p w e);
     waiting = λ k p w e. pushed.fair.waiting k p w (let e' : HasEntry f.lists.items (length L.items) k p w = entry_old (length L.items) k p w e in subst (λ z. HasEntry f.lists.items z k p w) long e');
     waiting_least = pushed.fair.waiting_least;
-    project = pushed.fair.project;
-    project_room = pushed.fair.project_room;
-    supervisor = pushed.fair.supervisor;
-    supervisor_room = pushed.fair.supervisor_room;
-    sink = pushed.fair.sink;
+    nodes = pushed.fair.nodes;
   }
 
   -- the seats are the same

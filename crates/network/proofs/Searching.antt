@@ -46,7 +46,7 @@ module _ {G : Type 0} {o : Ops G} (laws : IsWorth o) (f : Flow G) (student : ℕ
   -- what a choice may rely on
   pub ready_underway : (marks : List (Mark G)) (rank : ℕ) → Ready marks rank → IsUnderway o f marks
   ready_underway marks rank r = record {
-    below = record { projects = awaiting.fair.project; supervisors = λ l lt. rw awaiting.fair.sink (awaiting.fair.supervisor l lt) };
+    below = record { projects = awaiting.fair.nodes.project; supervisors = λ l lt. rw awaiting.fair.nodes.sink (awaiting.fair.nodes.supervisor l lt) };
     done = r.search.done;
     sink_open = r.sink_open;
     sink_least = sink_met f student marks (r.search.begun (Leave student) o.zero (sink_of f) (refl, refl, refl));

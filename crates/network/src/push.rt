@@ -22,34 +22,21 @@ fn set_held<G>(flow: &mut Flow<G>, student: usize, entry: Option<usize>)
     flow.held[student] = entry;
 }
 
-/// A project counts one more.
-fn count_up<G>(flow: &mut Flow<G>, project: usize)
-    requires project { project < length flow.old.filled.items }
-    requires room { slice_index flow.old.filled.items project < MOST_PLACES }
-    ensures filled { flow.new.filled.items ≡ slice_set flow.old.filled.items project (slice_index flow.old.filled.items project + 1) }
-    ensures rest { flow.new ≡ record flow.old { filled = flow.new.filled } }
+/// A project or a supervisor counts one more.
+fn count_up(counts: &mut Vec<u32>, at: usize)
+    requires at { at < length counts.old.items }
+    requires room { slice_index counts.old.items at < MOST_PLACES }
+    ensures { counts.new.items ≡ slice_set counts.old.items at (slice_index counts.old.items at + 1) }
 {
-    flow.filled[project] += 1;
+    counts[at] += 1;
 }
 
-/// A project counts one less.
-fn count_down<G>(flow: &mut Flow<G>, project: usize)
-    requires project { project < length flow.old.filled.items }
-    requires some { 0 < slice_index flow.old.filled.items project }
-    ensures filled { flow.new.filled.items ≡ slice_set flow.old.filled.items project (slice_index flow.old.filled.items project - 1) }
-    ensures rest { flow.new ≡ record flow.old { filled = flow.new.filled } }
+/// One that counts any counts one less.
+fn count_down(counts: &mut Vec<u32>, at: usize)
+    requires { 0 < slice_index counts.old.items at }
+    ensures { counts.new.items ≡ slice_set counts.old.items at (slice_index counts.old.items at - 1) }
 {
-    flow.filled[project] -= 1;
-}
-
-/// A supervisor counts one more.
-fn load_up<G>(flow: &mut Flow<G>, supervisor: usize)
-    requires supervisor { supervisor < length flow.old.load.items }
-    requires room { slice_index flow.old.load.items supervisor < MOST_PLACES }
-    ensures load { flow.new.load.items ≡ slice_set flow.old.load.items supervisor (slice_index flow.old.load.items supervisor + 1) }
-    ensures rest { flow.new ≡ record flow.old { load = flow.new.load } }
-{
-    flow.load[supervisor] += 1;
+    counts[at] -= 1;
 }
 
 /// How a node was reached.
@@ -130,17 +117,17 @@ fn step<G: Worth>(residual: &mut Residual<G>, labels: &Labels<G>, hole: usize) -
         }
         Origin::Leave(student) => push_leave(residual, labels, hole, student),
         Origin::Offer(project) => {
-            count_up(&mut residual.flow, project);
+            count_up(&mut residual.flow.filled, project);
             Some(project)
         }
         Origin::Swap(supervisor) => {
             let next = supervisor_node(&residual.flow, supervisor);
-            count_down(&mut residual.flow, hole);
+            count_down(&mut residual.flow.filled, hole);
             Some(next)
         }
         Origin::Room(supervisor) => {
             let next = supervisor_node(&residual.flow, supervisor);
-            load_up(&mut residual.flow, supervisor);
+            count_up(&mut residual.flow.load, supervisor);
             Some(next)
         }
     }

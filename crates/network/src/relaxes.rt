@@ -2,11 +2,12 @@
 
 ghost use Rattle.std.specs.Prelude.{◌≡◌, ℕ, ◌+◌, ◌<◌, ◌≤◌, length, slice_get, slice_index, Some, sum_by, nat_lt};
 ghost use Rattle.spa.specs.declared.TheConstants.{RANKS};
-ghost use Rattle.network.specs.declared.TheConstants.{MOST_OFFERS, MOST_ARCS};
+ghost use Rattle.network.specs.declared.TheConstants.{MOST_OFFERS};
 ghost use Rattle.network.specs.declared.marks.Origin.TheVariants.{Entry};
 ghost use Rattle.network.specs.Labels.{MayCompare, HasCompared};
 ghost use Rattle.network.specs.Ways.{SearchArc};
-ghost use Rattle.network.specs.Kept.{numbers_at, IsKept};
+ghost use Rattle.network.specs.Kept.{numbers_at};
+ghost use Rattle.network.specs.State.{MayExpand};
 ghost use Rattle.network.specs.Search.{OneOffer, OffersOf};
 ghost use Rattle.network.specs.Arcs.{IsFormed, OfStudent, StudentsAmong, ProjectsAmong, list_cost, HasEntry, Holds, sink_of, project_count};
 
@@ -106,18 +107,12 @@ fn relax_student<G: Worth>(flow: &Flow<G>, labels: &mut Labels<G>, student: usiz
 }
 
 /// The offers of all students who are placed at the project.
-fn relax_students<G: Worth>(
-    residual: &Residual<G>,
-    labels: &mut Labels<G>,
-    project: usize,
-    label: G,
-)
-    requires ready { MayCompare G.ops residual.now.flow labels.old label 2 MOST_ARCS }
-    requires kept { IsKept residual.now.flow residual.now.kept }
-    requires project { project < length residual.now.flow.projects.items }
-    ensures { HasCompared G.ops residual.now.flow (StudentsAmong G.ops residual.now.flow project label (numbers_at residual.now.kept.seated.items project) (length (numbers_at residual.now.kept.seated.items project))) labels.old labels.new 0 (sum_by (λ row. length row.items + 1) residual.now.flow.lists.items) }
+fn relax_students<G: Worth>(residual: &Residual<G>, labels: &mut Labels<G>, at: usize, label: G)
+    requires ready { MayExpand G.ops residual.now labels.old label }
+    requires at { at < length residual.now.flow.projects.items }
+    ensures { HasCompared G.ops residual.now.flow (StudentsAmong G.ops residual.now.flow at label (numbers_at residual.now.kept.seated.items at) (length (numbers_at residual.now.kept.seated.items at))) labels.old labels.new 0 (sum_by (λ row. length row.items + 1) residual.now.flow.lists.items) }
 {
-    let students = students_at(&residual.kept, project);
+    let students = students_at(&residual.kept, at);
     for i in 0..students.len() {
         relax_student(&residual.flow, labels, students[i], label);
     }
@@ -164,8 +159,7 @@ pub(crate) fn relax_project<G: Worth>(
     at: usize,
     label: G,
 )
-    requires ready { MayCompare G.ops residual.now.flow labels.old label 2 MOST_ARCS }
-    requires kept { IsKept residual.now.flow residual.now.kept }
+    requires ready { MayExpand G.ops residual.now labels.old label }
     requires at { at < length residual.now.flow.projects.items }
     ensures { HasCompared G.ops residual.now.flow (OffersOf G.ops (SearchArc G.ops residual.now.flow) at label) labels.old labels.new 0 (sum_by (λ row. length row.items + 1) residual.now.flow.lists.items + 1) }
 {
@@ -185,23 +179,17 @@ pub(crate) fn relax_project<G: Worth>(
 }
 
 /// A supervisor's offers to all of the supervisor's projects.
-fn relax_swaps<G: Worth>(
-    residual: &Residual<G>,
-    labels: &mut Labels<G>,
-    supervisor: usize,
-    label: G,
-)
-    requires ready { MayCompare G.ops residual.now.flow labels.old label 2 MOST_ARCS }
-    requires kept { IsKept residual.now.flow residual.now.kept }
-    requires supervisor { supervisor < length residual.now.flow.supervisors.items }
-    ensures { HasCompared G.ops residual.now.flow (ProjectsAmong G.ops residual.now.flow supervisor label (numbers_at residual.now.kept.offered.items supervisor) (length (numbers_at residual.now.kept.offered.items supervisor))) labels.old labels.new 0 (length residual.now.flow.projects.items) }
+fn relax_swaps<G: Worth>(residual: &Residual<G>, labels: &mut Labels<G>, at: usize, label: G)
+    requires ready { MayExpand G.ops residual.now labels.old label }
+    requires at { at < length residual.now.flow.supervisors.items }
+    ensures { HasCompared G.ops residual.now.flow (ProjectsAmong G.ops residual.now.flow at label (numbers_at residual.now.kept.offered.items at) (length (numbers_at residual.now.kept.offered.items at))) labels.old labels.new 0 (length residual.now.flow.projects.items) }
 {
-    let projects = projects_at(&residual.kept, supervisor);
+    let projects = projects_at(&residual.kept, at);
     for i in 0..projects.len() {
         let offer = Offer {
             node: projects[i],
             label,
-            origin: Origin::Swap(supervisor),
+            origin: Origin::Swap(at),
         };
         relax(&residual.flow, labels, &offer);
     }
@@ -211,22 +199,21 @@ fn relax_swaps<G: Worth>(
 pub(crate) fn relax_supervisor<G: Worth>(
     residual: &Residual<G>,
     labels: &mut Labels<G>,
-    supervisor: usize,
+    at: usize,
     label: G,
 )
-    requires ready { MayCompare G.ops residual.now.flow labels.old label 2 MOST_ARCS }
-    requires kept { IsKept residual.now.flow residual.now.kept }
-    requires supervisor { supervisor < length residual.now.flow.supervisors.items }
-    ensures { HasCompared G.ops residual.now.flow (OffersOf G.ops (SearchArc G.ops residual.now.flow) (length residual.now.flow.projects.items + supervisor) label) labels.old labels.new 0 (length residual.now.flow.projects.items + 1) }
+    requires ready { MayExpand G.ops residual.now labels.old label }
+    requires at { at < length residual.now.flow.supervisors.items }
+    ensures { HasCompared G.ops residual.now.flow (OffersOf G.ops (SearchArc G.ops residual.now.flow) (length residual.now.flow.projects.items + at) label) labels.old labels.new 0 (length residual.now.flow.projects.items + 1) }
 {
-    if supervisor_has_room(&residual.flow, supervisor) {
+    if supervisor_has_room(&residual.flow, at) {
         let offer = Offer {
             node: sink(&residual.flow),
             label,
-            origin: Origin::Room(supervisor),
+            origin: Origin::Room(at),
         };
         relax(&residual.flow, labels, &offer);
     } else {
-        relax_swaps(residual, labels, supervisor, label);
+        relax_swaps(residual, labels, at, label);
     }
 }

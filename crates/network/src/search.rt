@@ -2,13 +2,12 @@
 
 ghost use Rattle.std.specs.Prelude.{◌≡◌, ◌+◌, ◌*◌, ◌<◌, ◌≤◌, length};
 ghost use Rattle.network.specs.Marks.{mark_at};
-ghost use Rattle.network.specs.Labels.{MayCompare, HasCompared};
+ghost use Rattle.network.specs.Labels.{HasCompared};
 ghost use Rattle.network.specs.Ways.{SearchArc};
-ghost use Rattle.network.specs.Kept.{IsKept};
-ghost use Rattle.network.specs.declared.TheConstants.{MOST_ARCS, MOST_COMPARED};
+ghost use Rattle.network.specs.declared.TheConstants.{MOST_COMPARED};
 ghost use Rattle.network.specs.Search.{OffersOf};
 ghost use Rattle.network.specs.Arcs.{list_cost, sink_of, flow_arcs};
-ghost use Rattle.network.specs.State.{IsPoised, HasFound};
+ghost use Rattle.network.specs.State.{MayExpand, IsPoised, HasFound};
 
 use crate::marks::{Labels, choose, reset, settle};
 use crate::relaxes::{relax_entries, relax_project, relax_supervisor, sink};
@@ -25,8 +24,7 @@ pub(crate) fn label_of<G: Worth>(labels: &Labels<G>, node: usize) -> G
 
 /// The arcs out of a node.
 fn relax_node<G: Worth>(residual: &Residual<G>, labels: &mut Labels<G>, node: usize, label: G)
-    requires ready { MayCompare G.ops residual.now.flow labels.old label 2 MOST_ARCS }
-    requires kept { IsKept residual.now.flow residual.now.kept }
+    requires ready { MayExpand G.ops residual.now labels.old label }
     requires node { node < sink_of residual.now.flow }
     ensures { HasCompared G.ops residual.now.flow (OffersOf G.ops (SearchArc G.ops residual.now.flow) node label) labels.old labels.new 0 (flow_arcs residual.now.flow) }
 {

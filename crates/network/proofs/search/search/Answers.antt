@@ -50,10 +50,13 @@ relax_node-requires-clause-ready g c =
     let laws = g.met.G.Worth.laws in let f = c.args.residual.now.flow in let a = c.requires.poised.awaiting in let l = c.loop-node in
     let within = rank_within laws f c.args.student a l.labels.marks.items l.rank l.node l.invariant.running in
     record {
-      formed = a.formed;
-      queue = c.settle.ensures.queue f l.invariant.queue;
-      small = rw c.label_of-label.ensures (omega (arith, l.invariant.running.search.spans l.node, within, a.formed.few_projects, a.formed.few_supervisors));
-      room = omega (arith, c.settle.ensures.compared, l.invariant.small, within, a.formed.few_projects, a.formed.few_supervisors, c.requires.poised.room);
+      compare = record {
+        formed = a.formed;
+        queue = c.settle.ensures.queue f l.invariant.queue;
+        small = rw c.label_of-label.ensures (omega (arith, l.invariant.running.search.spans l.node, within, a.formed.few_projects, a.formed.few_supervisors));
+        room = omega (arith, c.settle.ensures.compared, l.invariant.small, within, a.formed.few_projects, a.formed.few_supervisors, c.requires.poised.room);
+      };
+      kept = c.requires.poised.kept;
     }
 
 pub relax_node-requires-clause-node : goal.relax_node-requires-clause-node
