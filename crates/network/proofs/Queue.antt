@@ -12,7 +12,7 @@ use Rattle.spa.specs.Laws.{Ops, IsWorth, AtMost}
 use Rattle.network.proofs.Group.{at_most_refl, at_most_trans, at_most_rev, at_most_shift}
 use Rattle.network.specs.Marks.{is_seen, is_settled, is_open_mark, blank, mark_at, potential_at, key_at, improves, relaxed, settled_as}
 use Rattle.network.specs.Push.{one_if}
-use Rattle.network.specs.Labels.{count_of, AreLabels, AreBlank, AreKeyed, IsOrdered, IsQueue, IsQueueBut, IsTouched, IsWithout}
+use Rattle.network.specs.Labels.{count_of, AreLabels, AreBlank, AreKeyed, IsOrdered, IsQueue, IsQueueBut, IsTouched, IsWithout, IsOpenEnd, IsBest}
 use Rattle.network.specs.Ways.{IsBounded, HasWay, at_sink}
 use Rattle.network.specs.Arcs.{sink_of}
 use Rattle.network.specs.Fair.{IsLow}
@@ -279,22 +279,7 @@ module _ {G : Type 0} {o : Ops G} (laws : IsWorth o) (f : Flow G) where
     pub queue_placed : (n : Labels G) → n ≡ record l { frontier = n.frontier } → IsOrdered o f l.marks.items n.frontier.items
         → ((b : ℕ) → count_of n.frontier.items b ≡ count_of l.frontier.items b + one_if (eqb node b)) → vec_capacity n.frontier ≡ vec_capacity l.frontier → IsQueue o f n
     queue_placed n rest ordered counts room = subst (IsQueue o f) (sym rest) (record {
-      labels = record {
-        frontier = λ b. elim (cases_eq node b) [
-          | inl e ↦
-              (let one : one_if (eqb node b) ≡ 1 = ap one_if (eq-eqb node b e) in
-              let open_one : one_if (is_open_mark (mark_at o l.marks.items b)) ≡ 1 = ap (λ z. one_if (is_open_mark (mark_at o l.marks.items z))) (sym e) ∙ ap one_if q.opened in
-              let none : count_of l.frontier.items b ≡ 0 = ap (count_of l.frontier.items) (sym e) ∙ q.gone in
-              omega (arith, counts b, one, open_one, none))
-          | inr ne ↦ (let z : one_if (eqb node b) ≡ 0 = ap one_if (ne_eqb node b ne) in omega (arith, counts b, z, q.labels.frontier b))
-        ];
-        touched = q.labels.touched;
-        settled = q.labels.settled;
-        blank = q.labels.blank;
-        frontier_room = omega (arith, room, q.labels.frontier_room);
-        touched_room = q.labels.touched_room;
-        settled_room = q.labels.settled_room;
-      };
+      labels = record { frontier = counted; touched = q.labels.touched; settled = q.labels.settled; blank = q.labels.blank; frontier_room = omega (arith, room, q.labels.frontier_room); touched_room = q.labels.touched_room; settled_room = q.labels.settled_room };
       keyed = q.keyed;
       ordered = ordered;
       left_out = λ b e. elim (cases_eq b node) [
@@ -302,7 +287,36 @@ module _ {G : Type 0} {o : Ops G} (laws : IsWorth o) (f : Flow G) where
         | inr ne ↦ elim (q.left_out b ne e) [ inl c ↦ inl (omega (arith, counts b, c)) | inr c ↦ inr c ]
       ];
       bounded = record { way = q.bounded.way; reached = q.bounded.reached };
-    })
+    }) where
+      counted : (b : ℕ) → count_of n.frontier.items b ≤ one_if (is_open_mark (mark_at o l.marks.items b))
+      counted b = elim (cases_eq node b) [
+        | inl e ↦
+            (let one : one_if (eqb node b) ≡ 1 = ap one_if (eq-eqb node b e) in
+            let open_one : one_if (is_open_mark (mark_at o l.marks.items b)) ≡ 1 = ap (λ z. one_if (is_open_mark (mark_at o l.marks.items z))) (sym e) ∙ ap one_if q.opened in
+            let none : count_of l.frontier.items b ≡ 0 = ap (count_of l.frontier.items) (sym e) ∙ q.gone in
+            omega (arith, counts b, one, open_one, none))
+        | inr ne ↦ (let z : one_if (eqb node b) ≡ 0 = ap one_if (ne_eqb node b ne) in omega (arith, counts b, z, q.labels.frontier b))
+      ]
+
+  -- the last of the open nodes in their order is the best, or the end
+  module _ (l : Labels G) (q : IsQueue o f l) (top : ℕ) (at : slice_get l.frontier.items (length l.frontier.items - 1) ≡ Some top) where
+    pub last_best : AtMost o l.bound (key_at o l.marks.items f.potentials.items top) → IsBest o f l.marks.items top
+    last_best above = record {
+      opened = open_element l q.labels (length l.frontier.items - 1) top at;
+      best = λ w e. elim (q.left_out w e) [
+        | inl there ↦ last_highest laws f l.marks.items l.frontier.items q.ordered top w at there
+        | inr below ↦ at_most_trans laws _ l.bound _ below above
+      ];
+    }
+
+    pub end_best : IsOpenEnd o f l → AtMost o (key_at o l.marks.items f.potentials.items top) l.bound → IsBest o f l.marks.items l.end
+    end_best end above = record {
+      opened = end.opened;
+      best = λ w e. at_most_trans laws _ l.bound _ (elim (q.left_out w e) [
+        | inl there ↦ at_most_trans laws _ (key_at o l.marks.items f.potentials.items top) _ (last_highest laws f l.marks.items l.frontier.items q.ordered top w at there) above
+        | inr below ↦ below
+      ]) end.enough;
+    }
 
   -- a node is settled and goes out
   module _ (l n : Labels G) (node rank : ℕ) (opened : is_open_mark (mark_at o l.marks.items node) ≡ true) (lt : node < length l.marks.items)

@@ -1,5 +1,5 @@
 -- a search for a student who awaits a place
-use Rattle.std.proofs.Common.{ℕ, ◌+◌, ◌<◌, ◌≤◌, List, length, refl, arith, set}
+use Rattle.std.proofs.Common.{◌≡◌, ℕ, ◌+◌, ◌<◌, ◌≤◌, List, length, refl, arith, set}
 use Rattle.std.proofs.lemmas.Option.{slice_get_within}
 use Rattle.spa.specs.Laws.{Ops, IsWorth}
 use Rattle.network.specs.Marks.{mark_at, settled_as}
@@ -38,11 +38,6 @@ module _ {G : Type 0} {o : Ops G} (laws : IsWorth o) (f : Flow G) (student : ℕ
   pub first_ready : (l : Labels G) (new : List (Mark G)) → AreBlank o l (length f.potentials.items) → Relaxes o f (OfStudent o f student o.zero) l.marks.items new → Ready new 0
   first_ready l new blank relaxed = ready_first laws f awaiting.formed student l.marks.items new blank.long blank.blank relaxed
 
-  -- and goes on by a node
-  pub next_ready : (marks new : List (Mark G)) (rank node : ℕ) → Running marks rank node → node < sink_of f
-      → Relaxes o f (OffersOf o (SearchArc o f) node (mark_at o marks node).label) (set marks node (settled_as (mark_at o marks node) rank)) new → Ready new (rank + 1)
-  next_ready marks new rank node running lt relaxed = ready_next laws f awaiting.formed student marks new rank node running lt feasible relaxed
-
   -- what a choice may rely on
   pub ready_underway : (marks : List (Mark G)) (rank : ℕ) → Ready marks rank → IsUnderway o f marks
   ready_underway marks rank r = record {
@@ -64,3 +59,10 @@ module _ {G : Type 0} {o : Ops G} (laws : IsWorth o) (f : Flow G) (student : ℕ
     -- and not all were settled before
     pub rank_within : rank ≤ sink_of f
     rank_within = let h = open_left laws marks (sink_of f) running.sink_open in omega (arith, h, running.left, awaiting.formed.potentials)
+
+  -- and goes on by a node
+  pub next_ready : (marks middle new : List (Mark G)) (label : G) (rank node : ℕ) → Running marks rank node → (node ≡ sink_of f → ⊥) → label ≡ (mark_at o marks node).label
+      → middle ≡ set marks node (settled_as (mark_at o marks node) rank) → Relaxes o f (OffersOf o (SearchArc o f) node label) middle new → Ready new (rank + 1)
+  next_ready marks middle new label rank node running other label_is middle_is relaxed =
+      let within = chosen_within marks rank node running in
+      ready_next laws f awaiting.formed student marks new rank node running (omega (arith, within, other)) feasible (rw (label_is, middle_is) at relaxed)

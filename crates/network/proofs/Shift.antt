@@ -10,8 +10,9 @@ use Rattle.network.specs.Marks.{mark_at}
 use Rattle.network.specs.Search.{rank_or}
 use Rattle.network.specs.Arcs.{Holds, Arc, project_count, IsFormed}
 use Rattle.network.specs.Fair.{potential, IsFair}
-use Rattle.network.specs.Push.{one_if, owner_at, seats_of, IsCounted, HasSteps}
+use Rattle.network.specs.Push.{one_if, owner_at, seats, seats_of, IsCounted, HasSteps}
 use Rattle.network.proofs.Changed.{steps_kept}
+use Rattle.network.proofs.Transfer.{not_project}
 use Rattle.network.proofs.Sums.{sum_to_change}
 use Rattle.network.specs.declared.flow.Flow.{Flow}
 use Rattle.network.specs.declared.marks.Origin.{Origin}
@@ -88,11 +89,7 @@ module _ {G : Type 0} {o : Ops G} (laws : IsWorth o) (f : Flow G) (formed : IsFo
       let c = ap (λ z. one_if (nat_eq l m) * z) now_here in
       omega (arith, change, a, b, c)
 
-  -- a supervisor is no project
-  not_project : (m r : ℕ) → r < project_count f → one_if (nat_eq (project_count f + m) r) ≡ 0
-  not_project m r lt = ap one_if (ne_eqb (project_count f + m) r (λ e. omega (arith, e, lt)))
-
-  -- nor a project a supervisor
+  -- a project is no supervisor
   not_node : (m r : ℕ) → r < project_count f → one_if (nat_eq r (project_count f + m)) ≡ 0
   not_node m r lt = ap one_if (ne_eqb r (project_count f + m) (λ e. omega (arith, e, lt)))
 
@@ -107,21 +104,25 @@ module _ {G : Type 0} {o : Ops G} (laws : IsWorth o) (f : Flow G) (formed : IsFo
   itself : (r : ℕ) → one_if (nat_eq r r) ≡ 1
   itself r = ap one_if (eq-eqb r r refl)
 
+  -- the projects' counts follow where the hole moves from one node to another
+  filled_project : (a b : ℕ) → ((r : ℕ) → r < project_count f → (r ≡ p → ⊥) → one_if (nat_eq r a) ≡ one_if (nat_eq r b)) → y + one_if (nat_eq p a) ≡ was p + one_if (nat_eq p b)
+      → ((r : ℕ) → r < project_count f → was r ≡ seats f r + one_if (nat_eq r a)) → (r : ℕ) → r < project_count f → now r ≡ seats f r + one_if (nat_eq r b)
+  filled_project a b others here before r lt = elim (cases_eq r p) [
+    | inl e ↦ (let z : now r ≡ y = ap now e ∙ now_here in let v : was r ≡ was p = ap was e in
+        let i = ap (λ z. one_if (nat_eq z a)) e in let j = ap (λ z. one_if (nat_eq z b)) e in omega (arith, before r lt, z, v, here, i, j))
+    | inr ne ↦ omega (arith, before r lt, now_other r ne, others r lt ne)
+  ]
+
   -- the hole moves from the supervisor to the project, which counts one more
   pub more_counted : y ≡ was p + 1 → was p < q → IsCounted f (project_count f + l) → IsCounted N p
   more_counted more room c = record {
-    project = λ r lt. elim (cases_eq r p) [
-      | inl e ↦ (let a = c.project r lt in let b = not_node l r lt in let z : now r ≡ y = ap now e ∙ now_here in let v : was r ≡ was p = ap was e in
-          let i : one_if (nat_eq r p) ≡ 1 = ap one_if (eq-eqb r p e) in omega (arith, a, b, z, v, more, i))
-      | inr ne ↦ (let a = c.project r lt in let b = not_node l r lt in let z = now_other r ne in
-          let i : one_if (nat_eq r p) ≡ 0 = ap one_if (ne_eqb r p ne) in omega (arith, a, b, z, i))
-    ];
+    project = filled_project (project_count f + l) p (λ r lt ne. not_node l r lt ∙ sym (ap one_if (ne_eqb r p ne))) (omega (arith, not_node l p p_within, itself p, more)) c.project;
     project_within = λ r m z e. elim (cases_eq r p) [
       | inl eq ↦ (let s = some_pair_parts _ _ _ _ (sym (rw eq at e) ∙ project) in let v : now r ≡ y = ap now eq ∙ now_here in omega (arith, s.1, v, more, room))
       | inr ne ↦ omega (arith, c.project_within r m z e, now_other r ne)
     ];
     supervisor = λ m lt.
-        let a = c.supervisor m lt in let b = node_is m in let d = not_project m p p_within in let s = seats_of_moved m in
+        let a = c.supervisor m lt in let b = node_is m in let d = not_project f m p p_within in let s = seats_of_moved m in
         let t : one_if (nat_eq l m) * y ≡ one_if (nat_eq l m) * was p + one_if (nat_eq l m) = ap (λ z. one_if (nat_eq l m) * z) more ∙ omega arith in
         omega (arith, a, b, d, s, t);
     supervisor_within = c.supervisor_within;
@@ -130,18 +131,13 @@ module _ {G : Type 0} {o : Ops G} (laws : IsWorth o) (f : Flow G) (formed : IsFo
   -- the hole moves from the project, which counts one less, to its supervisor
   pub less_counted : y + 1 ≡ was p → IsCounted f p → IsCounted N (project_count f + l)
   less_counted less c = record {
-    project = λ r lt. elim (cases_eq r p) [
-      | inl e ↦ (let a = c.project r lt in let b = not_node l r lt in let z : now r ≡ y = ap now e ∙ now_here in let v : was r ≡ was p = ap was e in
-          let i : one_if (nat_eq r p) ≡ 1 = ap one_if (eq-eqb r p e) in omega (arith, a, b, z, v, less, i))
-      | inr ne ↦ (let a = c.project r lt in let b = not_node l r lt in let z = now_other r ne in
-          let i : one_if (nat_eq r p) ≡ 0 = ap one_if (ne_eqb r p ne) in omega (arith, a, b, z, i))
-    ];
+    project = filled_project p (project_count f + l) (λ r lt ne. ap one_if (ne_eqb r p ne) ∙ sym (not_node l r lt)) (omega (arith, not_node l p p_within, itself p, less)) c.project;
     project_within = λ r m z e. elim (cases_eq r p) [
       | inl eq ↦ (let v : now r ≡ y = ap now eq ∙ now_here in let u : was r ≡ was p = ap was eq in omega (arith, c.project_within r m z e, v, u, less))
       | inr ne ↦ omega (arith, c.project_within r m z e, now_other r ne)
     ];
     supervisor = λ m lt.
-        let a = c.supervisor m lt in let b = node_is m in let d = not_project m p p_within in let s = seats_of_moved m in
+        let a = c.supervisor m lt in let b = node_is m in let d = not_project f m p p_within in let s = seats_of_moved m in
         let t : one_if (nat_eq l m) * was p ≡ one_if (nat_eq l m) * y + one_if (nat_eq l m) = ap (λ z. one_if (nat_eq l m) * z) (sym less) ∙ omega arith in
         omega (arith, a, b, d, s, t);
     supervisor_within = c.supervisor_within;

@@ -40,6 +40,10 @@ same_either a p = elim (cases_eq a p) [
   | inr ne ↦ ap one_if (ne_eqb a p ne ∙ sym (ne_eqb p a (λ e. ne (sym e))))
 ]
 
+-- a supervisor is no project
+pub not_project : {G : Type 0} (f : Flow G) (m r : ℕ) → r < project_count f → one_if (nat_eq (project_count f + m) r) ≡ 0
+not_project f m r lt = ap one_if (ne_eqb (project_count f + m) r (λ e. omega (arith, e, lt)))
+
 -- a student's seat is where the place is
 pub seat_held : {G : Type 0} (f : Flow G) (p s a : ℕ) → Holds f s a → seat f p s ≡ one_if (nat_eq a p)
 seat_held f p s a h = rw (h.placed, h.entry.student, h.entry.place) refl
@@ -135,9 +139,6 @@ module _ {G : Type 0} {o : Ops G} (laws : IsWorth o) (f : Flow G) (formed : IsFo
     transfer_counted la lb c = record {
       project = λ p lt. omega (arith, c.project p lt, seats_moved p, same_either a p, same_either b p);
       project_within = c.project_within;
-      supervisor = λ l lt.
-          let ea : one_if (nat_eq (project_count f + l) a) ≡ 0 = ap one_if (ne_eqb (project_count f + l) a (λ e. omega (arith, e, la))) in
-          let eb : one_if (nat_eq (project_count f + l) b) ≡ 0 = ap one_if (ne_eqb (project_count f + l) b (λ e. omega (arith, e, lb))) in
-          omega (arith, c.supervisor l lt, ea, eb);
+      supervisor = λ l lt. omega (arith, c.supervisor l lt, not_project f l a la, not_project f l b lb);
       supervisor_within = c.supervisor_within;
     }

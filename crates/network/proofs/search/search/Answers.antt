@@ -1,4 +1,4 @@
-use Rattle.std.proofs.Common.{arith, ◌≡◌, ◌≤◌, ◌<◌, ◌*◌, ◌+◌, ap, ◌∙◌}
+use Rattle.std.proofs.Common.{arith, ◌≡◌, ◌≤◌, ◌*◌, ◌+◌, ap, ◌∙◌, sym}
 use Rattle.std.proofs.Math.Nat.{mul-le-mul_right}
 use Rattle.network.specs.Arcs.{sink_of, flow_arcs}
 use Rattle.network.specs.declared.marks.Labels.{Labels}
@@ -68,31 +68,25 @@ relax_node-requires-clause-node g c =
 pub choose-node-requires-in-loop-node-clause-found : goal.choose-node-requires-in-loop-node-clause-found
 choose-node-requires-in-loop-node-clause-found g c =
     let laws = g.met.G.Worth.laws in let f = c.args.residual.now.flow in let p = c.requires.poised in let l = c.loop-node in
-    let within = chosen_within laws f c.args.student p.awaiting l.labels.marks.items l.rank l.node l.invariant.running in
-    let lt : l.node < sink_of f = omega (arith, within, c.loop-node-test.true, c.sink-end.ensures) in
     ready_underway laws f c.args.student p.awaiting c.relax_node.new.labels.marks.items (l.rank + 1)
-    (next_ready laws f c.args.student p.awaiting l.labels.marks.items c.relax_node.new.labels.marks.items l.rank l.node l.invariant.running lt
-    (rw (c.label_of-label.ensures, c.settle.ensures.marks) at c.relax_node.ensures.relaxes))
+    (next_ready laws f c.args.student p.awaiting l.labels.marks.items _ c.relax_node.new.labels.marks.items c.label_of-label.result l.rank l.node l.invariant.running (λ e. c.loop-node-test.true (e ∙ sym c.sink-end.ensures))
+    c.label_of-label.ensures c.settle.ensures.marks c.relax_node.ensures.relaxes)
 
 pub loop-node-smaller : goal.loop-node-smaller
 loop-node-smaller g c =
     let laws = g.met.G.Worth.laws in let f = c.args.residual.now.flow in let p = c.requires.poised in let l = c.loop-node in
-    let within = chosen_within laws f c.args.student p.awaiting l.labels.marks.items l.rank l.node l.invariant.running in
-    let lt : l.node < sink_of f = omega (arith, within, c.loop-node-test.true, c.sink-end.ensures) in
     let marks = ap (λ (z : Labels _). z.marks) c.choose-node-in-loop-node.ensures.rest in
-    let next = next_ready laws f c.args.student p.awaiting l.labels.marks.items c.relax_node.new.labels.marks.items l.rank l.node l.invariant.running lt
-    (rw (c.label_of-label.ensures, c.settle.ensures.marks) at c.relax_node.ensures.relaxes) in
+    let next = next_ready laws f c.args.student p.awaiting l.labels.marks.items _ c.relax_node.new.labels.marks.items c.label_of-label.result l.rank l.node l.invariant.running (λ e. c.loop-node-test.true (e ∙ sym c.sink-end.ensures))
+    c.label_of-label.ensures c.settle.ensures.marks c.relax_node.ensures.relaxes in
     rw marks (omega (arith, next.left, l.invariant.running.left))
 
 pub loop-node-preserved : goal.loop-node-preserved
 loop-node-preserved g c =
     let laws = g.met.G.Worth.laws in let f = c.args.residual.now.flow in let p = c.requires.poised in let l = c.loop-node in
-    let within = chosen_within laws f c.args.student p.awaiting l.labels.marks.items l.rank l.node l.invariant.running in
-    let lt : l.node < sink_of f = omega (arith, within, c.loop-node-test.true, c.sink-end.ensures) in
     let marks = ap (λ (z : Labels _). z.marks) c.choose-node-in-loop-node.ensures.rest in
     let counted = ap (λ (z : Labels _). z.compared) c.choose-node-in-loop-node.ensures.rest in
-    let next = next_ready laws f c.args.student p.awaiting l.labels.marks.items c.relax_node.new.labels.marks.items l.rank l.node l.invariant.running lt
-    (rw (c.label_of-label.ensures, c.settle.ensures.marks) at c.relax_node.ensures.relaxes) in
+    let next = next_ready laws f c.args.student p.awaiting l.labels.marks.items _ c.relax_node.new.labels.marks.items c.label_of-label.result l.rank l.node l.invariant.running (λ e. c.loop-node-test.true (e ∙ sym c.sink-end.ensures))
+    c.label_of-label.ensures c.settle.ensures.marks c.relax_node.ensures.relaxes in
     let few = arcs_few f p.awaiting.formed in
     let e = c.relax_node.ensures in
     let i = l.invariant in

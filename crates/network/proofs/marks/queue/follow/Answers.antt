@@ -10,9 +10,7 @@ use Rattle.network.proofs.marks.queue.follow.Goals as goal
 
 pub loop-labels-preserved : goal.loop-labels-preserved
 loop-labels-preserved g c =
-    let o = g.G.Worth.ops in
-    let f = c.args.flow.now in
-    let l = c.loop-labels.labels in
+    let o = g.G.Worth.ops in let f = c.args.flow.now in let l = c.loop-labels.labels in
     let marks : l.marks ≡ c.args.labels.now.marks = ap (λ (z : Labels _). z.marks) c.loop-labels.invariant.rest in
     let u : IsUnderway o f l.marks.items = rw marks c.requires.found in
     let s : is_settled (mark_at o l.marks.items l.end).rank ≡ true = sym c.is_done.ensures ∙ c.loop-labels-test.true in
@@ -27,9 +25,7 @@ returns-clause-queue g c = queue_onward g.met.G.Worth.laws c.args.flow.now c.arg
 
 pub returns-clause-end : goal.returns-clause-end
 returns-clause-end g c =
-    let o = g.G.Worth.ops in
-    let f = c.args.flow.now in
-    let l = c.loop-labels.labels in
+    let o = g.G.Worth.ops in let f = c.args.flow.now in let l = c.loop-labels.labels in
     let marks : l.marks ≡ c.args.labels.now.marks = ap (λ (z : Labels _). z.marks) c.loop-labels.invariant.rest in
     let s : is_settled (mark_at o c.args.labels.now.marks.items l.end).rank ≡ false = rw marks at (sym c.is_done.ensures ∙ c.loop-labels-test.false) in
     let bounded : IsBounded o f c.args.labels.now.marks.items l.bound l.end = rw marks at c.loop-labels.invariant.bounded in
