@@ -1,8 +1,8 @@
 -- a search goes on by one node
 use Rattle.std.proofs.Common.{◌≡◌, ℕ, ◌+◌, ◌<◌, ◌≤◌, inl, inr, List, length, set, true, Option, Some, None, refl, arith, sym, ◌∙◌, ap, length-set, not}
 use Rattle.std.proofs.lemmas.Bool.{and_from}
-use Rattle.spa.specs.Laws.{Ops, IsWorth, AtMost}
-use Rattle.network.specs.Marks.{is_settled, is_open_mark, blank, mark_at, key_at, settled_as, unsettled}
+use Rattle.spa.specs.Laws.{Ops, IsWorth}
+use Rattle.network.specs.Marks.{is_settled, is_open_mark, blank, mark_at, settled_as, unsettled}
 use Rattle.network.specs.Search.{Reaches, Meets, Relaxes, IsSearch, IsRunning, Feasible, OffersOf}
 use Rattle.network.specs.Arcs.{Arc, OfStudent, IsFormed, sink_of}
 use Rattle.network.specs.Ways.{SearchArc}
@@ -122,10 +122,3 @@ ready_first {G} {o} laws f formed student marks new len fresh relaxed =
       unranked : (r : Option ℕ) → ((k : ℕ) → r ≡ Some k → ⊥) → not (is_settled r) ≡ true
       unranked None h = refl
       unranked (Some k) h = absurd (h k refl)
-
--- a search whose next node is the sink has found its walk
-pub ready_chosen : {G : Type 0} {o : Ops G} (f : Flow G) (first : Origin → G → ℕ → Type 0) (marks : List (Mark G)) (rank node : ℕ)
-    → IsReady o f first (SearchArc o f) f.potentials.items (sink_of f) marks rank → is_open_mark (mark_at o marks node) ≡ true
-    → ((b : ℕ) → is_open_mark (mark_at o marks b) ≡ true → AtMost o (key_at o marks f.potentials.items b) (key_at o marks f.potentials.items node))
-    → IsRunning o f first (SearchArc o f) f.potentials.items (sink_of f) marks rank node
-ready_chosen f first marks rank node r e best = record { search = r.search; len = r.len; left = r.left; sink_open = r.sink_open; chosen = e; best = best }

@@ -4,11 +4,13 @@ use Rattle.std.specs.declared.vec.Vec.{Vec}
 use Rattle.std.specs.declared.alloc.Global.{Global}
 use Rattle.std.proofs.lemmas.List.{length-append}
 use Rattle.std.proofs.lemmas.Option.{slice_get_within, same_Some}
-use Rattle.spa.specs.declared.TheConstants.{MOST_STUDENTS, RANKS}
+use Rattle.spa.specs.declared.TheConstants.{RANKS}
 use Rattle.spa.specs.Laws.{Ops}
-use Rattle.network.specs.Arcs.{HasEntry, Holds, sink_of, project_count, IsFormed}
+use Rattle.network.specs.Arcs.{HasEntry, Holds, sink_of, IsFormed}
 use Rattle.network.specs.Fair.{IsFairBut}
 use Rattle.network.specs.Push.{sum_to, place_at, seat, seats, IsCounted, IsPushed}
+use Rattle.network.specs.Fair.{IsLow}
+use Rattle.network.specs.State.{MayEnter, IsAwaiting}
 use Rattle.network.proofs.Sums.{sum_to_same}
 use Rattle.network.specs.declared.flow.Flow.{Flow}
 
@@ -36,8 +38,7 @@ slice_get-either (x ∷ xs) y z (suc i) e = elim (slice_get-either xs y z i e) [
 module _ {G : Type 0} {o : Ops G} (f : Flow G) (pushed : IsPushed o f)
     (L : Vec (Vec (ℕ × G) Global) Global) (P : Vec (Option ℕ) Global) (row : Vec (ℕ × G) Global)
     (lists_are : L.items ≡ f.lists.items ++ row ∷ []) (places_are : P.items ≡ f.held.items ++ None ∷ [])
-    (few : length f.lists.items < MOST_STUDENTS) (short : length row.items ≤ RANKS)
-    (known : (k p : ℕ) (w : G) → slice_get row.items k ≡ Some (p, w) → (p < project_count f) × (o.span w ≤ 1)) where
+    (may : MayEnter o f row) where
   -- the flow with one more student
   abbrev pub A : Flow G
   A = record f { lists = L; held = P }
@@ -55,7 +56,7 @@ module _ {G : Type 0} {o : Ops G} (f : Flow G) (pushed : IsPushed o f)
   places_long = ap length places_are ∙ length-append f.held.items (None ∷ [])
 
   -- the new student has no place
-  pub no_place_yet : slice_get P.items last ≡ Some None
+  no_place_yet : slice_get P.items last ≡ Some None
   no_place_yet = rw (places_are, pushed.formed.students) (slice_get-last f.held.items None)
 
   -- the new student has the new list
@@ -101,17 +102,13 @@ module _ {G : Type 0} {o : Ops G} (f : Flow G) (pushed : IsPushed o f)
   }
 
   -- the potentials are fair to all but the new student
-  pub appended_fair : IsFairBut o A last
+  appended_fair : IsFairBut o A last
   unfolding holds_old
   appended_fair = record {
     placed = λ s a k p w h e. pushed.fair.placed s a k p w (holds_old s a h) (entry_old s k p w (not_last s h.place h.placed) e);
     placed_least = λ s a h. pushed.fair.placed_least s a (holds_old s a h);
     unplaced = λ s k p w ne none e. pushed.fair.unplaced s k p w ne (none_old s ne none) (entry_old s k p w ne e);
-    project = pushed.fair.project;
-    project_room = pushed.fair.project_room;
-    supervisor = pushed.fair.supervisor;
-    supervisor_room = pushed.fair.supervisor_room;
-    sink = pushed.fair.sink;
+    nodes = pushed.fair.nodes;
   }
 
   -- a list is an old one, or the new one
@@ -122,7 +119,7 @@ module _ {G : Type 0} {o : Ops G} (f : Flow G) (pushed : IsPushed o f)
   ]
 
   -- the flow is well formed
-  pub appended_formed : IsFormed o A
+  appended_formed : IsFormed o A
   appended_formed = record {
     students = omega (arith, lists_long, places_long, pushed.formed.students);
     filled = pushed.formed.filled;
@@ -130,7 +127,7 @@ module _ {G : Type 0} {o : Ops G} (f : Flow G) (pushed : IsPushed o f)
     potentials = pushed.formed.potentials;
     entries = λ s k p w e. elim (row_cases s e.row e.student) [
       | inl h ↦ pushed.formed.entries s k p w (record { row = e.row; student = h; place = e.place })
-      | inr h ↦ known k p w (ap (λ (r : Vec (ℕ × G) Global). slice_get r.items k) h ∙ e.place)
+      | inr h ↦ may.known k p w (ap (λ (r : Vec (ℕ × G) Global). slice_get r.items k) h ∙ e.place)
     ];
     placed = λ s k e.
         let h = pushed.formed.placed s k (place_old s k e) in
@@ -139,12 +136,12 @@ module _ {G : Type 0} {o : Ops G} (f : Flow G) (pushed : IsPushed o f)
     projects = pushed.formed.projects;
     quotas = pushed.formed.quotas;
     loads = pushed.formed.loads;
-    few_students = omega (arith, lists_long, few);
+    few_students = omega (arith, lists_long, may.few);
     few_projects = pushed.formed.few_projects;
     few_supervisors = pushed.formed.few_supervisors;
     short = λ s r e. elim (row_cases s r e) [
       | inl h ↦ pushed.formed.short s r h
-      | inr h ↦ subst (λ (z : Vec (ℕ × G) Global). length z.items ≤ RANKS) h short
+      | inr h ↦ subst (λ (z : Vec (ℕ × G) Global). length z.items ≤ RANKS) h may.short
     ];
   }
 
@@ -164,10 +161,14 @@ module _ {G : Type 0} {o : Ops G} (f : Flow G) (pushed : IsPushed o f)
       omega (arith, e, z, sum_to_same last (seat f p) (seat A p) (seat_same p))
 
   -- and the counts are right
-  pub appended_counted : IsCounted A (sink_of A)
+  appended_counted : IsCounted A (sink_of A)
   appended_counted = record {
     project = λ p lt. let s = seats_same p in omega (arith, s, pushed.counted.project p lt);
     project_within = pushed.counted.project_within;
     supervisor = pushed.counted.supervisor;
     supervisor_within = pushed.counted.supervisor_within;
   }
+
+  -- the new student awaits a place
+  pub appended_awaits : IsLow o f → IsAwaiting o A last
+  appended_awaits low = record { formed = appended_formed; fair = appended_fair; counted = appended_counted; waiting = no_place_yet; low = low }

@@ -1,6 +1,7 @@
 -- the prices of a pushed flow meet the dual conditions
 use Rattle.std.proofs.Common.{◌≡◌, ℕ, ◌+◌, ◌≤◌, length, Option, Some, None, slice_get, refl, arith, sym, ◌∙◌, ap}
 use Rattle.std.proofs.lemmas.Option.{slice_get_within, slice_get-get_or}
+use Rattle.network.specs.declared.TheConstants.{LARGEST_PRICE, LARGEST_POTENTIAL}
 use Rattle.spa.specs.Laws.{Ops, IsWorth, AtMost}
 use Rattle.network.proofs.Group.{at_most_refl, at_most_back, zero_left, swapped}
 use Rattle.network.specs.Arcs.{HasEntry, project_count}
@@ -44,7 +45,7 @@ module _ {G : Type 0} {o : Ops G} (laws : IsWorth o) where
         rw (held_price s h.0 k h.1 e h.2) (pushed.fair.placed_least s h.0 (record { place = k; worth = h.1; placed = e; entry = h.2 }))
 
     -- nor large
-    student_span : (s : ℕ) (x : Option (Option ℕ)) → slice_get f.held.items s ≡ x → o.span (student_price o f s) ≤ 2007
+    student_span : (s : ℕ) (x : Option (Option ℕ)) → slice_get f.held.items s ≡ x → o.span (student_price o f s) ≤ LARGEST_POTENTIAL + 1
     student_span s None e = rw ((free_price s None e).0 refl, laws.span_zero) (omega arith)
     student_span s (Some None) e = rw ((free_price s (Some None) e).1 refl, laws.span_zero) (omega arith)
     student_span s (Some (Some k)) e =
@@ -67,10 +68,10 @@ module _ {G : Type 0} {o : Ops G} (laws : IsWorth o) where
     -- nor is a project's below zero
     project_least : (p : ℕ) (x : Option (ℕ × ℕ)) → slice_get f.projects.items p ≡ x → AtMost o o.zero (project_price_at o f p x)
     project_least p None e = at_most_refl laws o.zero
-    project_least p (Some d) e = rest_least _ _ (pushed.fair.project p d.0 d.1 e)
+    project_least p (Some d) e = rest_least _ _ (pushed.fair.nodes.project p d.0 d.1 e)
 
     -- or large
-    project_span : (p : ℕ) (x : Option (ℕ × ℕ)) → o.span (project_price_at o f p x) ≤ 4012
+    project_span : (p : ℕ) (x : Option (ℕ × ℕ)) → o.span (project_price_at o f p x) ≤ LARGEST_PRICE
     project_span p None = rw laws.span_zero (omega arith)
     project_span p (Some d) = omega (arith, laws.span_minus (H (project_count f + d.0)) (H p), low (project_count f + d.0), low p)
 
@@ -79,7 +80,7 @@ module _ {G : Type 0} {o : Ops G} (laws : IsWorth o) where
     prices_hold = record {
       students = λ s. student_least s (slice_get f.held.items s) refl;
       projects = λ p. project_least p (slice_get f.projects.items p) refl;
-      supervisors = λ l lt. rest_least _ _ (pushed.fair.supervisor l lt);
+      supervisors = λ l lt. rest_least _ _ (pushed.fair.nodes.supervisor l lt);
       covered = λ s k p l q w h e.
           let y : project_price o f p ≡ o.minus (H (project_count f + l)) (H p) = ap (project_price_at o f p) e in
           let left = price_left (student_price o f s) (H (project_count f + l)) (H p) in

@@ -10,7 +10,7 @@ use Rattle.network.specs.Arcs.{HasEntry, Holds, sink_of, project_count, IsFormed
 use Rattle.network.specs.Fair.{potential, IsFair}
 use Rattle.network.specs.Push.{one_if, place_at, seat, IsCounted}
 use Rattle.network.proofs.Students.{holds_along}
-use Rattle.network.proofs.Transfer.{slice_get-set_same, place_other, seat_held, same_either}
+use Rattle.network.proofs.Transfer.{slice_get-set_same, place_other, seat_held, same_either, not_project}
 use Rattle.network.proofs.Group.{at_most_refl}
 use Rattle.network.proofs.Sums.{sum_to_change}
 use Rattle.network.specs.declared.flow.Flow.{Flow}
@@ -43,11 +43,7 @@ module _ {G : Type 0} {o : Ops G} (laws : IsWorth o) (f : Flow G) (formed : IsFo
     ];
     waiting = λ k p w h. absurd (past_entry f k p w h);
     waiting_least = at_most_refl laws o.zero;
-    project = fair.project;
-    project_room = fair.project_room;
-    supervisor = fair.supervisor;
-    supervisor_room = fair.supervisor_room;
-    sink = fair.sink;
+    nodes = fair.nodes;
   }
 
   module _ (P : Vec (Option ℕ) Global) (s : ℕ) (x : Option ℕ) (set_is : P.items ≡ set f.held.items s x) where
@@ -76,11 +72,7 @@ module _ {G : Type 0} {o : Ops G} (laws : IsWorth o) (f : Flow G) (formed : IsFo
         ];
         waiting = fair.waiting;
         waiting_least = fair.waiting_least;
-        project = fair.project;
-        project_room = fair.project_room;
-        supervisor = fair.supervisor;
-        supervisor_room = fair.supervisor_room;
-        sink = fair.sink;
+        nodes = fair.nodes;
       }
 
       pub leave_counted : a < project_count f → IsCounted f (sink_of f) → IsCounted N a
@@ -92,9 +84,7 @@ module _ {G : Type 0} {o : Ops G} (laws : IsWorth o) (f : Flow G) (formed : IsFo
             let new : seat N p s ≡ 0 = ap (λ z. place_at z (slice_get f.lists.items s) p) none_now in
             omega (arith, c.project p lt, not_sink f p lt, change, old, new, same_either a p);
         project_within = c.project_within;
-        supervisor = λ l lt.
-            let e : one_if (nat_eq (project_count f + l) a) ≡ 0 = ap one_if (ne_eqb (project_count f + l) a (λ z. omega (arith, z, la))) in
-            omega (arith, c.supervisor l lt, node_not_sink f l lt, e);
+        supervisor = λ l lt. omega (arith, c.supervisor l lt, node_not_sink f l lt, not_project f l a la);
         supervisor_within = c.supervisor_within;
       }
 
@@ -128,11 +118,7 @@ module _ {G : Type 0} {o : Ops G} (laws : IsWorth o) (f : Flow G) (formed : IsFo
         ];
         waiting = λ i p v h. absurd (past_entry f i p v h);
         waiting_least = at_most_refl laws o.zero;
-        project = fair.project;
-        project_room = fair.project_room;
-        supervisor = fair.supervisor;
-        supervisor_room = fair.supervisor_room;
-        sink = fair.sink;
+        nodes = fair.nodes;
       }
 
       pub place_counted : b < project_count f → IsCounted f b → IsCounted N (sink_of f)
@@ -144,9 +130,7 @@ module _ {G : Type 0} {o : Ops G} (laws : IsWorth o) (f : Flow G) (formed : IsFo
             let new = seat_held N p s b holds_now in
             omega (arith, c.project p lt, not_sink f p lt, change, old, new, same_either b p);
         project_within = c.project_within;
-        supervisor = λ l lt.
-            let e : one_if (nat_eq (project_count f + l) b) ≡ 0 = ap one_if (ne_eqb (project_count f + l) b (λ z. omega (arith, z, lb))) in
-            omega (arith, c.supervisor l lt, node_not_sink f l lt, e);
+        supervisor = λ l lt. omega (arith, c.supervisor l lt, node_not_sink f l lt, not_project f l b lb);
         supervisor_within = c.supervisor_within;
       }
 
@@ -164,6 +148,14 @@ module _ {G : Type 0} {o : Ops G} (laws : IsWorth o) (f : Flow G) (formed : IsFo
     load_other : (m : ℕ) → (m ≡ l → ⊥) → slice_index L.items m ≡ slice_index f.load.items m
     load_other m ne = rw set_is (get_or-set_other f.load.items l m y 0 ne)
 
+    -- what holds of all supervisors with room does so still
+    room_still : {X : ℕ → Type 0} → ((m : ℕ) → m < length f.supervisors.items → slice_index f.load.items m < slice_index f.supervisors.items m → X m)
+        → (m : ℕ) → m < length f.supervisors.items → slice_index L.items m < slice_index f.supervisors.items m → X m
+    room_still all m lt room = all m lt (elim (cases_eq m l) [
+      | inl e ↦ (let z : slice_index L.items m ≡ y = ap (λ z. slice_index L.items z) e ∙ load_here in let u = ap (λ z. slice_index f.load.items z) e in omega (arith, room, z, u, more))
+      | inr ne ↦ omega (arith, room, load_other m ne)
+    ])
+
     -- the potentials stay fair
     pub load_fair : (pending : ℕ) (top : G) → IsFair o f pending top → IsFair o M pending top
     load_fair pending top fair = record {
@@ -172,14 +164,7 @@ module _ {G : Type 0} {o : Ops G} (laws : IsWorth o) (f : Flow G) (formed : IsFo
       unplaced = fair.unplaced;
       waiting = fair.waiting;
       waiting_least = fair.waiting_least;
-      project = fair.project;
-      project_room = fair.project_room;
-      supervisor = fair.supervisor;
-      supervisor_room = λ m lt room. fair.supervisor_room m lt (elim (cases_eq m l) [
-        | inl e ↦ (let z : slice_index L.items m ≡ y = ap (λ z. slice_index L.items z) e ∙ load_here in let u = ap (λ z. slice_index f.load.items z) e in omega (arith, room, z, u, more))
-        | inr ne ↦ omega (arith, room, load_other m ne)
-      ]);
-      sink = fair.sink;
+      nodes = record { project = fair.nodes.project; project_room = fair.nodes.project_room; supervisor = fair.nodes.supervisor; supervisor_room = room_still fair.nodes.supervisor_room; sink = fair.nodes.sink };
     }
 
     -- the hole moves to the supervisor

@@ -2,36 +2,15 @@
 use Rattle.std.proofs.Common.{◌≡◌, ℕ, ◌+◌, ◌<◌, length, Some, slice_get, refl, ◌∙◌, ap, subst}
 use Rattle.std.specs.Prelude.{slice_index}
 use Rattle.spa.specs.Laws.{Ops, IsWorth, AtMost}
-use Rattle.network.proofs.Group.{moved_over, moved_back, zero_left}
-use Rattle.network.specs.Search.{Feasible}
-use Rattle.network.specs.Arcs.{HasEntry, Holds, Arc, OfStudent, sink_of, project_count, IsFormed}
-use Rattle.network.specs.Fair.{potential, IsFair}
+use Rattle.network.proofs.Group.{moved_over, zero_left}
+use Rattle.network.specs.Arcs.{HasEntry, Holds, Arc, OfStudent, sink_of, project_count}
+use Rattle.network.specs.Fair.{potential}
 use Rattle.network.specs.declared.flow.Flow.{Flow}
 use Rattle.network.specs.declared.marks.Origin.{Origin}
-use Rattle.network.specs.declared.marks.Origin.TheVariants.{Unseen, Entry, Leave, Offer, Swap, Room}
-
-module _ {G : Type 0} {o : Ops G} (laws : IsWorth o) (f : Flow G) where
-  -- the potential of a node
-  H : ℕ → G
-  H v = potential o f v
-
-  -- fair potentials allow no arc that improves
-  pub fair_feasible : (pending : ℕ) (top : G) → IsFair o f pending top → Feasible o (Arc o f) f.potentials.items
-  fair_feasible pending top fair a Unseen c b d = absurd d
-  fair_feasible pending top fair a (Entry s k) c b d = rw d.is (moved_back laws d.worth d.holds.worth _ _ (fair.placed s a k b d.worth d.holds d.entry))
-  fair_feasible pending top fair a (Leave s) c b d =
-      rw (d.is, d.to_sink, fair.sink) (moved_back laws o.zero d.holds.worth o.zero _ (rw (laws.unit o.zero) (fair.placed_least s a d.holds)))
-  fair_feasible pending top fair a (Offer p) c b d =
-      rw (d.is, zero_left laws, d.to_supervisor, d.from_project) (fair.project_room p d.supervisor d.quota d.project d.room)
-  fair_feasible pending top fair a (Swap l) c b d =
-      rw (d.is, zero_left laws, d.from_supervisor) (fair.project b l d.quota d.project)
-  fair_feasible pending top fair a (Room l) c b d =
-      rw (d.is, zero_left laws, d.to_sink, fair.sink, d.from_supervisor) (fair.supervisor_room l d.known d.room)
+use Rattle.network.specs.declared.marks.Origin.TheVariants.{Entry, Leave, Offer, Swap, Room}
 
 -- what a search finds out of fair potentials
-module _ {G : Type 0} {o : Ops G} (laws : IsWorth o) (f n : Flow G) (formed : IsFormed o f) (fresh : ℕ) (top : G)
-    (lists : n.lists ≡ f.lists) (held : n.held ≡ f.held) (projects : n.projects ≡ f.projects) (supervisors : n.supervisors ≡ f.supervisors) (filled : n.filled ≡ f.filled) (load : n.load ≡ f.load)
-    (low : ℕ → G)
+module _ {G : Type 0} {o : Ops G} (laws : IsWorth o) (f : Flow G) (fresh : ℕ) (top : G) (low : ℕ → G)
     (falls : (v : ℕ) → AtMost o (low v) (potential o f v))
     (feasible : (a : ℕ) (w : Origin) (c : G) (b : ℕ) → Arc o f a w c b → AtMost o (o.plus c (low b)) (low a))
     (first : (w : Origin) (x : G) (b : ℕ) → OfStudent o f fresh o.zero w x b → AtMost o (o.plus x (low b)) top)

@@ -153,6 +153,15 @@ module _ {G : Type 0} {o : Ops G} where
       | inr seen ↦ (let at = touched_found b seen in wiped at.0 b at.1)
     ]
 
+  -- the bound, the end and the count of labels that were compared are no part of the lists
+  pub labels_kept : (l : Labels G) (bound : G) (end compared : ℕ) → AreLabels o l → AreLabels o (record l { bound = bound; end = end; compared = compared })
+  labels_kept l bound end compared are =
+      record { frontier = are.frontier; touched = are.touched; settled = are.settled; blank = are.blank; frontier_room = are.frontier_room; touched_room = are.touched_room; settled_room = are.settled_room }
+
+  -- nor of what is blank
+  pub blank_counted : (l n : Labels G) (nodes : ℕ) → n ≡ record l { compared = n.compared } → AreBlank o l nodes → AreBlank o n nodes
+  blank_counted l n nodes is b = rw is (record { labels = labels_kept l l.bound l.end n.compared b.labels; blank = b.blank; long = b.long })
+
   -- blank marks with empty lists
   pub blank_are : (n : Labels G) (nodes : ℕ) → ((b : ℕ) → mark_at o n.marks.items b ≡ blank o) → n.frontier.items ≡ [] → n.touched.items ≡ [] → n.settled.items ≡ [] → length n.marks.items ≡ nodes
       → nodes ≤ vec_capacity n.frontier → nodes ≤ vec_capacity n.touched → nodes ≤ vec_capacity n.settled → AreBlank o n nodes

@@ -14,6 +14,7 @@ pub mod Listed
 pub mod Labelled
 pub mod Queue
 pub mod Onward
+pub mod Changed
 pub mod Transfer
 pub mod Seated
 pub mod Seats
@@ -25,6 +26,7 @@ pub mod PushEntry
 pub mod PushOther
 pub mod PushReady
 pub mod PushStart
+pub mod Searching
 pub mod Spans
 pub mod Spared
 pub mod Append

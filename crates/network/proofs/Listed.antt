@@ -3,7 +3,7 @@ use Rattle.std.proofs.Common.{◌≡◌, ℕ, zero, suc, ◌+◌, ◌*◌, ◌<�
 use Rattle.std.specs.List.{swap_remove}
 use Rattle.std.proofs.lemmas.Bool.{cases_eq}
 use Rattle.std.proofs.lemmas.List.Sums.{sum_by-cons, sum_by-append, sum_by-swap_remove}
-use Rattle.std.proofs.lemmas.Option.{same_Some}
+use Rattle.std.proofs.lemmas.Option.{same_Some, slice_get-get_or}
 use Rattle.network.specs.Push.{sum_to, one_if}
 use Rattle.network.specs.Labels.{count_of}
 use Rattle.network.proofs.Sums.{sum_to_same, sum_to_change, sum_to_zero, sum_to_most, sum_to_ones}
@@ -103,3 +103,7 @@ length_below m b xs h once lt none =
           omega (arith, count_first b xs n, z, c))
       | inr ne ↦ (let z : one_if (eqb b n) ≡ 0 = ap one_if (ne_eqb b n ne) in omega (arith, count_first b xs n, z, once n))
     ]
+
+-- an element of a list that is another
+pub item_at : {xs ys : List ℕ} {i : ℕ} → xs ≡ ys → i < length xs → slice_get ys i ≡ Some (get_or xs i 0)
+item_at {xs} {ys} {i} e lt = ap (λ z. slice_get z i) (sym e) ∙ slice_get-get_or xs i 0 lt

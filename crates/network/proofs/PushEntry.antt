@@ -9,6 +9,7 @@ use Rattle.network.specs.Marks.{mark_at}
 use Rattle.network.specs.Arcs.{HasEntry, EntryArc, OfStudent, IsFormed}
 use Rattle.network.specs.Fair.{potential, IsFair}
 use Rattle.network.specs.Push.{IsStep, IsFirst, IsPushing, IsPushed, IsNext}
+use Rattle.network.proofs.Changed.{reformed}
 use Rattle.network.proofs.Ends.{place_quiet, place_counted}
 use Rattle.network.proofs.Students.{holds_same}
 use Rattle.network.proofs.Transfer.{transfer_fair, transfer_counted, moved_steps, slice_get-set_same, place_other}
@@ -25,25 +26,12 @@ module _ {G : Type 0} {o : Ops G} (laws : IsWorth o) (f : Flow G) (formed : IsFo
 
   -- the parts still belong together
   pub placed_formed : ((k : ℕ) → x ≡ Some k → (p : ℕ) × (w : G) × HasEntry f.lists.items s k p w) → IsFormed o N
-  placed_formed known = record {
-    students = formed.students ∙ sym (ap length set_is ∙ length-set f.held.items s x);
-    filled = formed.filled;
-    load = formed.load;
-    potentials = formed.potentials;
-    entries = formed.entries;
-    placed = λ t k e. elim (cases_eq t s) [
-      | inl q ↦ (let z : Some x ≡ Some (Some k) = sym (rw set_is (slice_get-set_same f.held.items s x within)) ∙ (rw q at e) in
-          let kn = known k (same_Some _ _ z) in rw q kn)
-      | inr ne ↦ formed.placed t k (sym (place_other laws f formed P s x set_is t ne) ∙ e)
-    ];
-    projects = formed.projects;
-    quotas = formed.quotas;
-    loads = formed.loads;
-    few_students = formed.few_students;
-    few_projects = formed.few_projects;
-    few_supervisors = formed.few_supervisors;
-    short = formed.short;
-  }
+  placed_formed known = reformed f formed P f.filled f.load f.potentials (ap length set_is ∙ length-set f.held.items s x) refl refl refl
+      (λ t k e. elim (cases_eq t s) [
+        | inl q ↦ (let z : Some x ≡ Some (Some k) = sym (rw set_is (slice_get-set_same f.held.items s x within)) ∙ (rw q at e) in
+            let kn = known k (same_Some _ _ z) in rw q kn)
+        | inr ne ↦ formed.placed t k (sym (place_other laws f formed P s x set_is t ne) ∙ e)
+      ])
 
 module _ {G : Type 0} {o : Ops G} (laws : IsWorth o) (f : Flow G) (marks : List (Mark G)) (fresh : ℕ) (top : G) (hole s k : ℕ) (pushing : IsPushing o f marks fresh top hole)
     (origin : (mark_at o marks hole).origin ≡ Entry s k) (P : Vec (Option ℕ) Global) (set_is : P.items ≡ set f.held.items s (Some k)) where

@@ -1,16 +1,16 @@
 -- the hole at the sink or at a node that another node led to
-use Rattle.std.proofs.Common.{◌≡◌, ℕ, ◌+◌, ◌-◌, ◌<◌, ◌≤◌, ◌⊎◌, inl, inr, List, length, set, Option, Some, None, slice_get, refl, arith, sym, ◌∙◌, ap, length-set, get_or-set_other}
+use Rattle.std.proofs.Common.{◌≡◌, ℕ, ◌+◌, ◌-◌, ◌⊎◌, inl, inr, List, length, set, Option, Some, None, slice_get, refl, arith, sym, ◌∙◌, ap, length-set, get_or-set_other}
 use Rattle.std.specs.Prelude.{slice_index, nat_eq}
 use Rattle.std.specs.declared.vec.Vec.{Vec}
 use Rattle.std.specs.declared.alloc.Global.{Global}
 use Rattle.std.proofs.lemmas.Bool.{eq-eqb}
-use Rattle.std.proofs.lemmas.Option.{slice_get_within, same_Some}
+use Rattle.std.proofs.lemmas.Option.{slice_get_within}
 use Rattle.spa.specs.Laws.{Ops, IsWorth}
 use Rattle.network.specs.Marks.{mark_at}
-use Rattle.network.specs.Search.{rank_or}
 use Rattle.network.specs.Arcs.{HasEntry, LeaveArc, OfferArc, SwapArc, RoomArc, Arc, OfStudent, sink_of, project_count, IsFormed}
 use Rattle.network.specs.Fair.{potential}
-use Rattle.network.specs.Push.{one_if, IsCounted, IsStep, IsFirst, HasSteps, IsPushing, IsPushed, IsNext}
+use Rattle.network.specs.Push.{one_if, IsCounted, IsStep, IsFirst, IsPushing, IsPushed, IsNext}
+use Rattle.network.proofs.Changed.{reformed, steps_kept}
 use Rattle.network.proofs.Ends.{quiet_without, leave_fair, leave_counted, load_fair, load_counted}
 use Rattle.network.proofs.Shift.{filled_fair, more_counted, less_counted, filled_steps, now_here}
 use Rattle.network.proofs.PushEntry.{placed_formed}
@@ -34,7 +34,7 @@ module _ {G : Type 0} {o : Ops G} (laws : IsWorth o) (f : Flow G) (marks : List 
     go (inr h) = let arc : LeaveArc o f h.before s h.worth hole = rw origin at h.along in absurd (let z = arc.holds.placed in cc)
     go (inl h) =
         let off : OfStudent o f fresh o.zero (Leave s) (mark_at o marks hole).label hole = rw origin at h.offered in
-        let e : top ≡ o.zero = sym h.tight ∙ ap (λ z. o.plus z (potential o f hole)) off.2 ∙ zero_left laws (potential o f hole) ∙ ap (potential o f) off.1 ∙ pushing.fair.sink in
+        let e : top ≡ o.zero = sym h.tight ∙ ap (λ z. o.plus z (potential o f hole)) off.2 ∙ zero_left laws (potential o f hole) ∙ ap (potential o f) off.1 ∙ pushing.fair.nodes.sink in
         record {
           formed = pushing.formed;
           fair = quiet_without laws f pushing.formed fresh top e pushing.fair;
@@ -53,7 +53,7 @@ module _ {G : Type 0} {o : Ops G} (laws : IsWorth o) (f : Flow G) (marks : List 
     go (inr h) =
         let arc : LeaveArc o f h.before s h.worth hole = rw origin at h.along in
         let same = holds_same placed held arc.holds in
-        let at_sink : potential o f hole ≡ o.zero = ap (potential o f) arc.to_sink ∙ pushing.fair.sink in
+        let at_sink : potential o f hole ≡ o.zero = ap (potential o f) arc.to_sink ∙ pushing.fair.nodes.sink in
         let both : o.plus o.zero (potential o f hole) ≡ o.plus arc.holds.worth (potential o f h.before) =
         moved_same laws o.zero arc.holds.worth _ _ (ap (λ z. o.plus z (potential o f hole)) (sym arc.is) ∙ h.tight) in
         let tight : o.zero ≡ o.plus arc.holds.worth (potential o f h.before) = sym at_sink ∙ sym (zero_left laws (potential o f hole)) ∙ both in
@@ -72,21 +72,7 @@ module _ {G : Type 0} {o : Ops G} (laws : IsWorth o) (f : Flow G) (marks : List 
 
   -- another count leaves the flow well formed
   filled_formed : (F : Vec ℕ Global) (p y : ℕ) → F.items ≡ set f.filled.items p y → IsFormed o (record f { filled = F })
-  filled_formed F p y set_is = let g = pushing.formed in record {
-    students = g.students;
-    filled = ap length set_is ∙ length-set f.filled.items p y ∙ g.filled;
-    load = g.load;
-    potentials = g.potentials;
-    entries = g.entries;
-    placed = g.placed;
-    projects = g.projects;
-    quotas = g.quotas;
-    loads = g.loads;
-    few_students = g.few_students;
-    few_projects = g.few_projects;
-    few_supervisors = g.few_supervisors;
-    short = g.short;
-  }
+  filled_formed F p y set_is = reformed f pushing.formed f.held F f.load f.potentials refl (ap length set_is ∙ length-set f.filled.items p y) refl refl pushing.formed.placed
 
   -- the hole at a supervisor that a project led to: the project counts one more
   pub offer_next : (p : ℕ) (F : Vec ℕ Global) → F.items ≡ set f.filled.items p (slice_index f.filled.items p + 1) → (mark_at o marks hole).origin ≡ Offer p
@@ -101,7 +87,7 @@ module _ {G : Type 0} {o : Ops G} (laws : IsWorth o) (f : Flow G) (marks : List 
         record {
           pushing = record {
             formed = filled_formed F p (slice_index f.filled.items p + 1) set_is;
-            fair = filled_fair laws f pushing.formed F p arc.supervisor arc.quota (slice_index f.filled.items p + 1) set_is arc.project fresh top (λ lt. pushing.fair.project_room p arc.supervisor arc.quota arc.project arc.room) pushing.fair;
+            fair = filled_fair laws f pushing.formed F p arc.supervisor arc.quota (slice_index f.filled.items p + 1) set_is arc.project fresh top (λ lt. pushing.fair.nodes.project_room p arc.supervisor arc.quota arc.project arc.room) pushing.fair;
             counted = more_counted laws f pushing.formed F p arc.supervisor arc.quota (slice_index f.filled.items p + 1) set_is arc.project refl arc.room counted;
             steps = filled_steps laws f pushing.formed F p arc.supervisor arc.quota (slice_index f.filled.items p + 1) set_is arc.project marks fresh top (length marks) hole p h.rank settled h.earlier (inr refl) pushing.steps;
             waiting = pushing.waiting;
@@ -152,67 +138,26 @@ module _ {G : Type 0} {o : Ops G} (laws : IsWorth o) (f : Flow G) (marks : List 
         let g = pushing.formed in
         record {
           pushing = record {
-            formed = record {
-              students = g.students;
-              filled = g.filled;
-              load = ap length set_is ∙ length-set f.load.items l _ ∙ g.load;
-              potentials = g.potentials;
-              entries = g.entries;
-              placed = g.placed;
-              projects = g.projects;
-              quotas = g.quotas;
-              loads = g.loads;
-              few_students = g.few_students;
-              few_projects = g.few_projects;
-              few_supervisors = g.few_supervisors;
-              short = g.short;
-            };
+            formed = reformed f g f.held f.filled L f.potentials refl refl (ap length set_is ∙ length-set f.load.items l _) refl g.placed;
             fair = load_fair laws f g L l (slice_index f.load.items l + 1) arc.known set_is refl fresh top pushing.fair;
             counted = load_counted laws f g L l (slice_index f.load.items l + 1) arc.known set_is refl arc.room counted;
-            steps = kept h.rank settled h.earlier;
+            steps = steps_kept f f.held f.filled L marks fresh top (length marks) hole (project_count f + l) h.rank settled h.earlier still pushing.steps;
             waiting = pushing.waiting;
             seen = (pushing.ranked (project_count f + l) h.rank settled).1;
             ranked = pushing.ranked;
           };
           falls = rw settled h.earlier;
         } where
-          kept : (rn : ℕ) → (mark_at o marks (project_count f + l)).rank ≡ Some rn → rn < rank_or (length marks) (mark_at o marks hole).rank → HasSteps o (record f { load = L }) marks fresh top (length marks) (project_count f + l)
-          kept rn settled lower v seen before =
-              elim (pushing.steps v seen (inr below)) [
-                | inl h ↦ inl (record { offered = h.offered; tight = h.tight })
-                | inr h ↦ inr (record {
-                  before = h.before;
-                  rank = h.rank;
-                  worth = h.worth;
-                  settled = h.settled;
-                  earlier = h.earlier;
-                  along = still (mark_at o marks v).origin h.before h.worth (λ e. let z = ap (λ z. (mark_at o marks z).rank) e in let r : Some h.rank ≡ Some rn = sym h.settled ∙ z ∙ settled in
-                      let rr = same_Some h.rank rn r in omega (arith, h.earlier, at_most, rr)) h.along;
-                  tight = h.tight;
-                })
-              ] where
-                rank_next : rank_or (length marks) (mark_at o marks (project_count f + l)).rank ≡ rn
-                rank_next = ap (rank_or (length marks)) settled
-
-                at_most : rank_or (length marks) (mark_at o marks v).rank ≤ rn
-                at_most = elim before [
-                  | inl e ↦ (let z : rank_or (length marks) (mark_at o marks v).rank ≡ rn = ap (λ z. rank_or (length marks) (mark_at o marks z).rank) e ∙ rank_next in omega (arith, z))
-                  | inr lt ↦ omega (arith, lt, rank_next)
-                ]
-
-                below : rank_or (length marks) (mark_at o marks v).rank < rank_or (length marks) (mark_at o marks hole).rank
-                below = omega (arith, at_most, lower)
-
-                still : (w : Origin) (c : ℕ) (x : G) → (c ≡ project_count f + l → ⊥) → Arc o f c w x v → Arc o (record f { load = L }) c w x v
-                still Unseen c x ne d = d
-                still (Entry t i) c x ne d = record { holds = record { place = d.holds.place; worth = d.holds.worth; placed = d.holds.placed; entry = d.holds.entry }; worth = d.worth; entry = d.entry; is = d.is }
-                still (Leave t) c x ne d = record { holds = record { place = d.holds.place; worth = d.holds.worth; placed = d.holds.placed; entry = d.holds.entry }; is = d.is; to_sink = d.to_sink }
-                still (Offer i) c x ne d = record { supervisor = d.supervisor; quota = d.quota; from_project = d.from_project; project = d.project; room = d.room; to_supervisor = d.to_supervisor; is = d.is }
-                still (Swap i) c x ne d = record { quota = d.quota; from_supervisor = d.from_supervisor; project = d.project; is = d.is }
-                still (Room i) c x ne d = record {
-                  from_supervisor = d.from_supervisor;
-                  known = d.known;
-                  room = (let z : slice_index L.items i ≡ slice_index f.load.items i = rw set_is (get_or-set_other f.load.items l i _ 0 (λ e. ne (d.from_supervisor ∙ ap (λ z. project_count f + z) e))) in rw z d.room);
-                  to_sink = d.to_sink;
-                  is = d.is;
-                }
+          still : (w : Origin) (c : ℕ) (x : G) (v : ℕ) → (c ≡ project_count f + l → ⊥) → Arc o f c w x v → Arc o (record f { load = L }) c w x v
+          still Unseen c x v ne d = d
+          still (Entry t i) c x v ne d = record { holds = record { place = d.holds.place; worth = d.holds.worth; placed = d.holds.placed; entry = d.holds.entry }; worth = d.worth; entry = d.entry; is = d.is }
+          still (Leave t) c x v ne d = record { holds = record { place = d.holds.place; worth = d.holds.worth; placed = d.holds.placed; entry = d.holds.entry }; is = d.is; to_sink = d.to_sink }
+          still (Offer i) c x v ne d = record { supervisor = d.supervisor; quota = d.quota; from_project = d.from_project; project = d.project; room = d.room; to_supervisor = d.to_supervisor; is = d.is }
+          still (Swap i) c x v ne d = record { quota = d.quota; from_supervisor = d.from_supervisor; project = d.project; is = d.is }
+          still (Room i) c x v ne d = record {
+            from_supervisor = d.from_supervisor;
+            known = d.known;
+            room = (let z : slice_index L.items i ≡ slice_index f.load.items i = rw set_is (get_or-set_other f.load.items l i _ 0 (λ e. ne (d.from_supervisor ∙ ap (λ z. project_count f + z) e))) in rw z d.room);
+            to_sink = d.to_sink;
+            is = d.is;
+          }

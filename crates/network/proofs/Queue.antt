@@ -1,5 +1,5 @@
 -- The open nodes keep their order.
-use Rattle.std.proofs.Common.{◌≡◌, ℕ, ◌+◌, ◌-◌, ◌<◌, ◌≤◌, ◌^◌, ◌==◌, ◌⊎◌, inl, inr, List, length, set, get_or, Bool, true, false, cond, not, ◌&&◌, ◌||◌, Some, None, refl, sym, ◌∙◌, ap, subst, arith, slice_get, eqb, eq-eqb, ne_eqb, get_or-set_same, get_or-set_other, length-set}
+use Rattle.std.proofs.Common.{◌≡◌, ℕ, ◌+◌, ◌-◌, ◌<◌, ◌≤◌, ◌==◌, ◌⊎◌, inl, inr, List, length, set, get_or, Bool, true, false, cond, not, ◌&&◌, ◌||◌, Some, None, refl, sym, ◌∙◌, ap, subst, arith, slice_get, eqb, eq-eqb, ne_eqb, get_or-set_same, get_or-set_other, length-set}
 use Rattle.std.specs.List.{insert, remove, AllPairs}
 use Rattle.std.specs.Ordering.{is_gt}
 use Rattle.std.proofs.lemmas.Bool.{cases_eq, cases_lt, and_parts}
@@ -7,15 +7,17 @@ use Rattle.std.proofs.lemmas.Option.{slice_get-get_or, slice_get_within, get_or_
 use Rattle.std.proofs.lemmas.List.Edits.{length-insert, get_or-insert_below, get_or-insert_at, get_or-insert_above}
 use Rattle.std.proofs.lemmas.List.Quantifiers.{all_pairs_remove}
 use Rattle.std.proofs.lemmas.List.Sums.{sum_by-insert, sum_by-remove}
+use Rattle.network.specs.declared.TheConstants.{LARGEST_OFFER}
 use Rattle.spa.specs.Laws.{Ops, IsWorth, AtMost}
 use Rattle.network.proofs.Group.{at_most_refl, at_most_trans, at_most_rev, at_most_shift}
 use Rattle.network.specs.Marks.{is_seen, is_settled, is_open_mark, blank, mark_at, potential_at, key_at, improves, relaxed, settled_as}
 use Rattle.network.specs.Push.{one_if}
-use Rattle.network.specs.Labels.{count_of, AreLabels, AreKeyed, IsOrdered, IsQueue, IsQueueBut, IsWithout}
+use Rattle.network.specs.Labels.{count_of, AreLabels, AreBlank, AreKeyed, IsOrdered, IsQueue, IsQueueBut, IsTouched, IsWithout, IsOpenEnd, IsBest}
 use Rattle.network.specs.Ways.{IsBounded, HasWay, at_sink}
 use Rattle.network.specs.Arcs.{sink_of}
-use Rattle.network.proofs.Listed.{cond_one, stands, length_below}
-use Rattle.network.proofs.Labelled.{open_known, open_element, one_most, labels_set, labels_settled}
+use Rattle.network.specs.Fair.{IsLow}
+use Rattle.network.proofs.Listed.{cond_one, found, stands, length_below}
+use Rattle.network.proofs.Labelled.{open_known, open_element, one_most, labels_set, labels_settled, labels_kept}
 use Rattle.network.proofs.Settle.{open_rank}
 use Rattle.std.specs.Vec.{vec_capacity}
 use Rattle.std.specs.declared.vec.Vec.{Vec}
@@ -90,6 +92,14 @@ ordered_upto {G} {o} laws f m xs pairs i k a b at_i at_k le = elim (cases_eq k i
   | inr ne ↦ rw (get_or_from_slice_get xs k b 0 at_k, get_or_from_slice_get xs i a 0 at_i) at (pairs k i 0 (omega (arith, le, ne)) (slice_get_within xs i a at_i))
 ]
 
+-- and none to more than the last
+pub last_highest : {G : Type 0} {o : Ops G} → IsWorth o → (f : Flow G) (m : List (Mark G)) (xs : List ℕ) → IsOrdered o f m xs → (top w : ℕ) → slice_get xs (length xs - 1) ≡ Some top → 0 < count_of xs w
+    → AtMost o (key_at o m f.potentials.items w) (key_at o m f.potentials.items top)
+last_highest laws f m xs pairs top w at there =
+    let k = found xs w there in
+    let lt = slice_get_within xs k.0 w k.1 in
+    ordered_upto laws f m xs pairs (length xs - 1) k.0 top w at k.1 (omega (arith, lt))
+
 module _ {G : Type 0} (o : Ops G) where
   -- a better label is taken
   pub relaxed_better : (m : Mark G) (label : G) (origin : Origin) → improves o m label ≡ true → relaxed o m label origin ≡ record { label = label; origin = origin; rank = None }
@@ -121,7 +131,7 @@ module _ {G : Type 0} (o : Ops G) where
     rest_other k b e q = let s = stands xs k b e in let z : count_of xs b ≡ 0 = ap (count_of xs) q ∙ gone in omega (arith, s, z)
 
   -- one mark is set, and its label is small
-  pub keyed_set : (f : Flow G) (marks : List (Mark G)) (node : ℕ) (m : Mark G) → AreKeyed o f marks → node < length marks → o.span m.label ≤ 2 ^ 33 → AreKeyed o f (set marks node m)
+  pub keyed_set : (f : Flow G) (marks : List (Mark G)) (node : ℕ) (m : Mark G) → AreKeyed o f marks → node < length marks → o.span m.label ≤ LARGEST_OFFER → AreKeyed o f (set marks node m)
   keyed_set f marks node m k lt small = record {
     long = simp length-set k.long;
     low = k.low;
@@ -146,7 +156,7 @@ module _ {G : Type 0} (o : Ops G) where
 
 module _ {G : Type 0} {o : Ops G} (laws : IsWorth o) (f : Flow G) where
   -- a node takes a better label
-  module _ (l : Labels G) (q : IsQueue o f l) (node : ℕ) (lt : node < length l.marks.items) (label : G) (small : o.span label ≤ 2 ^ 33) (origin : Origin)
+  module _ (l : Labels G) (q : IsQueue o f l) (node : ℕ) (lt : node < length l.marks.items) (label : G) (small : o.span label ≤ LARGEST_OFFER) (origin : Origin)
       (seen : is_seen origin ≡ true) (better : improves o (mark_at o l.marks.items node) label ≡ true) where
     -- its mark, and all marks
     abbrev taken : Mark G
@@ -182,31 +192,54 @@ module _ {G : Type 0} {o : Ops G} (laws : IsWorth o) (f : Flow G) where
     }
 
     -- all but the node stand where they belong
-    pub queue_but : (n : Labels G) → n.marks.items ≡ marks_now → count_of n.frontier.items node ≡ 0
-        → ((b : ℕ) → (node ≡ b → ⊥) → count_of n.frontier.items b ≡ count_of l.frontier.items b) → IsWithout l.frontier.items n.frontier.items
-        → vec_capacity n.frontier ≡ vec_capacity l.frontier
-        → count_of n.touched.items node ≡ 1 → ((b : ℕ) → (node ≡ b → ⊥) → count_of n.touched.items b ≡ count_of l.touched.items b)
-        → vec_capacity n.touched ≡ vec_capacity l.touched → n.settled ≡ l.settled → n.bound ≡ l.bound → n.end ≡ l.end → IsQueueBut o f n node
-    queue_but n set_is gone others order room touched touched_others touched_room dones bound end = record {
+    pub queue_but : (t n : Labels G) → IsTouched l t node → t ≡ record l { frontier = t.frontier; touched = t.touched } → n ≡ record t { marks = n.marks } → n.marks.items ≡ set t.marks.items node taken → IsQueueBut o f n node
+    queue_but t n now t_rest n_rest n_set = record {
       labels =
           (let undone : one_if (is_settled (mark_at o l.marks.items node).rank) ≡ 0 = ap one_if (better_open o (mark_at o l.marks.items node) label better) in
           labels_set l q.labels n node taken lt set_is seen
-          (λ b ne. others b (λ e. ne (sym e))) (omega (arith, gone))
-          (λ b ne. touched_others b (λ e. ne (sym e))) touched
+          (λ b ne. rw frontier (now.others b (λ e. ne (sym e)))) (rw frontier (omega (arith, now.gone)))
+          (λ b ne. rw touched (now.touched_others b (λ e. ne (sym e)))) (rw touched now.touched)
           (λ b ne. ap (λ (z : Vec ℕ Global). count_of z.items b) dones)
           (ap (λ (z : Vec ℕ Global). count_of z.items node) dones ∙ q.labels.settled node ∙ undone)
-          room touched_room (ap vec_capacity dones));
+          (ap vec_capacity frontier ∙ now.room) (ap vec_capacity touched ∙ now.touched_room) (ap vec_capacity dones));
       keyed = rw set_is (keyed_set o f l.marks.items node taken q.keyed lt small);
-      ordered = rw set_is (ordered_same o f l.marks.items marks_now n.frontier.items (λ k b e. key_other o f l.marks.items node taken b (rest_other o l q.labels n.frontier.items node gone others k b e))
-          (ordered_out o f l.marks.items l.frontier.items n.frontier.items order q.ordered));
-      left_out = rw (set_is, bound) (λ b ne e. elim (q.left_out b (rw (there b ne) at e)) [
-        | inl c ↦ inl (omega (arith, c, others b (λ z. ne (sym z))))
+      ordered = rw (set_is, frontier) (ordered_same o f l.marks.items marks_now t.frontier.items (λ k b e. key_other o f l.marks.items node taken b (rest_other o l q.labels t.frontier.items node now.gone now.others k b e))
+          (ordered_out o f l.marks.items l.frontier.items t.frontier.items now.order q.ordered));
+      left_out = rw (set_is, bound, frontier) (λ b ne e. elim (q.left_out b (rw (there b ne) at e)) [
+        | inl c ↦ inl (omega (arith, c, now.others b (λ z. ne (sym z))))
         | inr c ↦ inr (rw (key_other o f l.marks.items node taken b ne) c)
       ]);
       bounded = rw (set_is, bound, end) bounded_now;
-      gone = gone;
+      gone = rw frontier now.gone;
       opened = rw (set_is, here) (ap (λ z. z && not (is_settled None)) seen);
-    }
+    } where
+      set_is : n.marks.items ≡ marks_now
+      set_is = rw (ap (λ (z : Labels G). z.marks) t_rest) at n_set
+
+      frontier : n.frontier ≡ t.frontier
+      frontier = ap (λ (z : Labels G). z.frontier) n_rest
+
+      touched : n.touched ≡ t.touched
+      touched = ap (λ (z : Labels G). z.touched) n_rest
+
+      dones : n.settled ≡ l.settled
+      dones = ap (λ (z : Labels G). z.settled) n_rest ∙ ap (λ (z : Labels G). z.settled) t_rest
+
+      bound : n.bound ≡ l.bound
+      bound = ap (λ (z : Labels G). z.bound) n_rest ∙ ap (λ (z : Labels G). z.bound) t_rest
+
+      end : n.end ≡ l.end
+      end = ap (λ (z : Labels G). z.end) n_rest ∙ ap (λ (z : Labels G). z.end) t_rest
+
+  -- the count of labels that were compared is no part of the queue
+  pub queue_counted : (l : Labels G) (n : ℕ) → IsQueue o f l → IsQueue o f (record l { compared = n })
+  queue_counted l n q = record {
+    labels = labels_kept l l.bound l.end n q.labels;
+    keyed = q.keyed;
+    ordered = q.ordered;
+    left_out = q.left_out;
+    bounded = q.bounded;
+  }
 
   -- a node that has a new label
   module _ (l : Labels G) (node : ℕ) (q : IsQueueBut o f l node) (lt : node < length l.marks.items) where
@@ -232,7 +265,7 @@ module _ {G : Type 0} {o : Ops G} (laws : IsWorth o) (f : Flow G) where
     queue_end way above =
         let up : AtMost o l.bound (key_at o l.marks.items f.potentials.items node) = at_most_rev laws _ _ above in
         record {
-          labels = record { frontier = q.labels.frontier; touched = q.labels.touched; settled = q.labels.settled; blank = q.labels.blank; frontier_room = q.labels.frontier_room; touched_room = q.labels.touched_room; settled_room = q.labels.settled_room };
+          labels = labels_kept l (key_at o l.marks.items f.potentials.items node) node l.compared q.labels;
           keyed = q.keyed;
           ordered = q.ordered;
           left_out = λ b e. elim (cases_eq b node) [
@@ -246,22 +279,7 @@ module _ {G : Type 0} {o : Ops G} (laws : IsWorth o) (f : Flow G) where
     pub queue_placed : (n : Labels G) → n ≡ record l { frontier = n.frontier } → IsOrdered o f l.marks.items n.frontier.items
         → ((b : ℕ) → count_of n.frontier.items b ≡ count_of l.frontier.items b + one_if (eqb node b)) → vec_capacity n.frontier ≡ vec_capacity l.frontier → IsQueue o f n
     queue_placed n rest ordered counts room = subst (IsQueue o f) (sym rest) (record {
-      labels = record {
-        frontier = λ b. elim (cases_eq node b) [
-          | inl e ↦
-              (let one : one_if (eqb node b) ≡ 1 = ap one_if (eq-eqb node b e) in
-              let open_one : one_if (is_open_mark (mark_at o l.marks.items b)) ≡ 1 = ap (λ z. one_if (is_open_mark (mark_at o l.marks.items z))) (sym e) ∙ ap one_if q.opened in
-              let none : count_of l.frontier.items b ≡ 0 = ap (count_of l.frontier.items) (sym e) ∙ q.gone in
-              omega (arith, counts b, one, open_one, none))
-          | inr ne ↦ (let z : one_if (eqb node b) ≡ 0 = ap one_if (ne_eqb node b ne) in omega (arith, counts b, z, q.labels.frontier b))
-        ];
-        touched = q.labels.touched;
-        settled = q.labels.settled;
-        blank = q.labels.blank;
-        frontier_room = omega (arith, room, q.labels.frontier_room);
-        touched_room = q.labels.touched_room;
-        settled_room = q.labels.settled_room;
-      };
+      labels = record { frontier = counted; touched = q.labels.touched; settled = q.labels.settled; blank = q.labels.blank; frontier_room = omega (arith, room, q.labels.frontier_room); touched_room = q.labels.touched_room; settled_room = q.labels.settled_room };
       keyed = q.keyed;
       ordered = ordered;
       left_out = λ b e. elim (cases_eq b node) [
@@ -269,7 +287,36 @@ module _ {G : Type 0} {o : Ops G} (laws : IsWorth o) (f : Flow G) where
         | inr ne ↦ elim (q.left_out b ne e) [ inl c ↦ inl (omega (arith, counts b, c)) | inr c ↦ inr c ]
       ];
       bounded = record { way = q.bounded.way; reached = q.bounded.reached };
-    })
+    }) where
+      counted : (b : ℕ) → count_of n.frontier.items b ≤ one_if (is_open_mark (mark_at o l.marks.items b))
+      counted b = elim (cases_eq node b) [
+        | inl e ↦
+            (let one : one_if (eqb node b) ≡ 1 = ap one_if (eq-eqb node b e) in
+            let open_one : one_if (is_open_mark (mark_at o l.marks.items b)) ≡ 1 = ap (λ z. one_if (is_open_mark (mark_at o l.marks.items z))) (sym e) ∙ ap one_if q.opened in
+            let none : count_of l.frontier.items b ≡ 0 = ap (count_of l.frontier.items) (sym e) ∙ q.gone in
+            omega (arith, counts b, one, open_one, none))
+        | inr ne ↦ (let z : one_if (eqb node b) ≡ 0 = ap one_if (ne_eqb node b ne) in omega (arith, counts b, z, q.labels.frontier b))
+      ]
+
+  -- the last of the open nodes in their order is the best, or the end
+  module _ (l : Labels G) (q : IsQueue o f l) (top : ℕ) (at : slice_get l.frontier.items (length l.frontier.items - 1) ≡ Some top) where
+    pub last_best : AtMost o l.bound (key_at o l.marks.items f.potentials.items top) → IsBest o f l.marks.items top
+    last_best above = record {
+      opened = open_element l q.labels (length l.frontier.items - 1) top at;
+      best = λ w e. elim (q.left_out w e) [
+        | inl there ↦ last_highest laws f l.marks.items l.frontier.items q.ordered top w at there
+        | inr below ↦ at_most_trans laws _ l.bound _ below above
+      ];
+    }
+
+    pub end_best : IsOpenEnd o f l → AtMost o (key_at o l.marks.items f.potentials.items top) l.bound → IsBest o f l.marks.items l.end
+    end_best end above = record {
+      opened = end.opened;
+      best = λ w e. at_most_trans laws _ l.bound _ (elim (q.left_out w e) [
+        | inl there ↦ at_most_trans laws _ (key_at o l.marks.items f.potentials.items top) _ (last_highest laws f l.marks.items l.frontier.items q.ordered top w at there) above
+        | inr below ↦ below
+      ]) end.enough;
+    }
 
   -- a node is settled and goes out
   module _ (l n : Labels G) (node rank : ℕ) (opened : is_open_mark (mark_at o l.marks.items node) ≡ true) (lt : node < length l.marks.items)
@@ -314,15 +361,15 @@ module _ {G : Type 0} {o : Ops G} (laws : IsWorth o) (f : Flow G) where
     }
 
   -- no node is open before the first offer
-  pub queue_first : (l n : Labels G) → AreLabels o l → length l.marks.items ≡ length f.potentials.items
-      → ((b : ℕ) → mark_at o l.marks.items b ≡ blank o) → ((v : ℕ) → o.span (potential_at o f.potentials.items v) ≤ 2 ^ 20)
+  pub queue_first : (l n : Labels G) → AreBlank o l (length f.potentials.items) → IsLow o f
       → n ≡ record l { bound = potential_at o f.potentials.items (sink_of f); end = sink_of f } → IsQueue o f n
-  queue_first l n are long fresh low is =
+  queue_first l n blank_now low is =
+      let fresh = blank_now.blank in
       let closed : (b : ℕ) → is_open_mark (mark_at o l.marks.items b) ≡ true → ⊥ = λ b e. (let c : is_open_mark (mark_at o l.marks.items b) ≡ false = ap is_open_mark (fresh b) in cc) in
       subst (IsQueue o f) (sym is) (record {
-        labels = record { frontier = are.frontier; touched = are.touched; settled = are.settled; blank = are.blank; frontier_room = are.frontier_room; touched_room = are.touched_room; settled_room = are.settled_room };
-        keyed = record { long = long; low = low; small = λ v. (let e : (mark_at o l.marks.items v).label ≡ o.zero = ap (λ (z : Mark G). z.label) (fresh v) in rw e (omega (arith, laws.span_zero))) };
-        ordered = λ i j d lt within. absurd (closed (get_or l.frontier.items j d) (open_element l are j (get_or l.frontier.items j d) (slice_get-get_or l.frontier.items j d within)));
+        labels = labels_kept l (potential_at o f.potentials.items (sink_of f)) (sink_of f) l.compared blank_now.labels;
+        keyed = record { long = blank_now.long; low = low; small = λ v. (let e : (mark_at o l.marks.items v).label ≡ o.zero = ap (λ (z : Mark G). z.label) (fresh v) in rw e (omega (arith, laws.span_zero))) };
+        ordered = λ i j d lt within. absurd (closed (get_or l.frontier.items j d) (open_element l blank_now.labels j (get_or l.frontier.items j d) (slice_get-get_or l.frontier.items j d within)));
         left_out = λ b e. absurd (closed b e);
         bounded = record { way = at_sink refl; reached = inl (refl, at_most_refl laws _) };
       })
@@ -334,7 +381,7 @@ module _ {G : Type 0} {o : Ops G} (laws : IsWorth o) (f : Flow G) where
       let bound = ap (λ (z : Labels G). z.bound) is in
       let same : IsBounded o f l.marks.items l.bound n.end = rw (marks, bound) at bounded in
       subst (IsQueue o f) (sym is) (record {
-        labels = record { frontier = q.labels.frontier; touched = q.labels.touched; settled = q.labels.settled; blank = q.labels.blank; frontier_room = q.labels.frontier_room; touched_room = q.labels.touched_room; settled_room = q.labels.settled_room };
+        labels = labels_kept l l.bound n.end l.compared q.labels;
         keyed = q.keyed;
         ordered = q.ordered;
         left_out = q.left_out;

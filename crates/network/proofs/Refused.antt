@@ -19,11 +19,7 @@ refused {G} {o} laws f fresh formed fair counted none = record {
     unplaced = fair.unplaced;
     waiting = none;
     waiting_least = at_most_refl laws o.zero;
-    project = fair.project;
-    project_room = fair.project_room;
-    supervisor = fair.supervisor;
-    supervisor_room = fair.supervisor_room;
-    sink = fair.sink;
+    nodes = fair.nodes;
   });
   counted = counted;
 }

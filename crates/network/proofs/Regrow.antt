@@ -1,12 +1,17 @@
 -- what is known of a pushed flow stays where its lists are held in other memory
-use Rattle.std.proofs.Common.{◌≡◌, ℕ, length, Option, Some, None, slice_get, arith, sym, ◌∙◌, ap, subst}
+use Rattle.std.proofs.Common.{◌≡◌, ℕ, Bool, [], ◌∷◌, ◌++◌, length, Option, Some, None, slice_get, arith, sym, ◌∙◌, ap, subst}
 use Rattle.std.specs.declared.vec.Vec.{Vec}
 use Rattle.std.specs.declared.alloc.Global.{Global}
 use Rattle.spa.specs.Laws.{Ops}
 use Rattle.network.specs.Arcs.{HasEntry, Holds}
 use Rattle.network.specs.Fair.{IsFair}
 use Rattle.network.specs.Push.{sum_to, place_at, seat, seats, IsPushed}
-use Rattle.network.specs.View.{IsReady}
+use Rattle.network.specs.Seen.{is_place}
+use Rattle.network.specs.State.{HasEntered}
+use Rattle.network.specs.View.{IsReady, IsIdle}
+use Rattle.network.specs.declared.residual.Residual.{Residual}
+use Rattle.network.specs.declared.marks.Labels.{Labels}
+use Rattle.network.proofs.Reseated.{regrown_kept}
 use Rattle.network.proofs.Sums.{sum_to_same}
 use Rattle.network.specs.declared.flow.Flow.{Flow}
 
@@ -46,11 +51,7 @@ module _ {G : Type 0} {o : Ops G} (f : Flow G) (pushed : IsPushed o f)
     unplaced = λ s k p w ne none e. pushed.fair.unplaced s k p w (λ q. ne (q ∙ sym long)) (place_old s None none) (entry_old s k p w e);
     waiting = λ k p w e. pushed.fair.waiting k p w (let e' : HasEntry f.lists.items (length L.items) k p w = entry_old (length L.items) k p w e in subst (λ z. HasEntry f.lists.items z k p w) long e');
     waiting_least = pushed.fair.waiting_least;
-    project = pushed.fair.project;
-    project_room = pushed.fair.project_room;
-    supervisor = pushed.fair.supervisor;
-    supervisor_room = pushed.fair.supervisor_room;
-    sink = pushed.fair.sink;
+    nodes = pushed.fair.nodes;
   }
 
   -- the seats are the same
@@ -91,3 +92,23 @@ module _ {G : Type 0} {o : Ops G} (f : Flow G) (pushed : IsPushed o f)
   -- and what holds between two calls
   pub regrown_ready : (steps : ℕ) → IsReady o f steps → IsReady o R steps
   regrown_ready steps ready = record { pushed = regrown; low = ready.low; counted = omega (arith, ready.counted, long) }
+
+-- so do the lists beside it, and the labels
+pub regrown_idle : {G : Type 0} {o : Ops G} (r : Residual G) (l : Labels G) (n : Flow G) → n.lists.items ≡ r.flow.lists.items → n.held.items ≡ r.flow.held.items → n ≡ record r.flow { lists = n.lists; held = n.held }
+    → IsIdle o r l → IsIdle o (record { flow = n; kept = r.kept }) l
+regrown_idle {G} {o} r l n lists held rest i = subst (λ z. IsIdle o (record { flow = z; kept = r.kept }) l) (sym rest) (record {
+  ready = regrown_ready r.flow i.ready.pushed n.lists n.held lists held l.compared i.ready;
+  kept = regrown_kept r.flow r.kept n.lists n.held lists held i.kept;
+  blank = i.blank;
+})
+
+-- and a student who entered then has entered what was before
+pub regrown_entered : {G : Type 0} (f m n : Flow G) (row : Vec (ℕ × G) Global) (placed : Bool) (x : ℕ) → m.lists.items ≡ f.lists.items → m ≡ record f { lists = m.lists; held = m.held } → HasEntered m n row placed x → HasEntered f n row placed x
+regrown_entered f m n row placed x lists rest e = record {
+  lists = e.lists ∙ ap (λ z. z ++ row ∷ []) lists;
+  projects = e.projects ∙ ap (λ (z : Flow _). z.projects.items) rest;
+  supervisors = e.supervisors ∙ ap (λ (z : Flow _). z.supervisors.items) rest;
+  placed = e.placed ∙ ap (λ z. is_place (slice_get n.held.items (length z))) lists;
+  compared = e.compared;
+  cost = e.cost;
+}

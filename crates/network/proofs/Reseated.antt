@@ -9,7 +9,7 @@ use Rattle.spa.specs.Laws.{Ops}
 use Rattle.network.specs.Arcs.{HasEntry, IsFormed}
 use Rattle.network.specs.Push.{one_if, entry_at, row_at, place_at, seats}
 use Rattle.network.specs.Labels.{count_of}
-use Rattle.network.specs.Kept.{numbers_at, room_at, AreSeated, AreOffered, IsKept}
+use Rattle.network.specs.Kept.{numbers_at, room_at, HasSameRoom, AreSeated, AreOffered, IsKept}
 use Rattle.network.proofs.Transfer.{slice_get-set_same, slice_get-set_other}
 use Rattle.network.proofs.Seated.{seated_long}
 use Rattle.network.specs.declared.flow.Flow.{Flow}
@@ -68,6 +68,10 @@ appended_seated lists row held projects seated long are = record {
         ])
   ]
 
+-- the room stays over two changes
+pub room_along : {a b c : Kept} → HasSameRoom a b → HasSameRoom b c → HasSameRoom a c
+room_along x y = record { room = λ p. y.room p ∙ x.room p; len = y.len ∙ x.len; offered = y.offered ∙ x.offered }
+
 -- a student with a place has one seat, at its project
 pub seat_is : {G : Type 0} (lists : List (Vec (ℕ × G) Global)) (s k p : ℕ) (w : G) (x : Option (Option ℕ)) → x ≡ Some (Some k) → HasEntry lists s k p w
     → (q : ℕ) → place_at x (slice_get lists s) q ≡ one_if (eqb p q)
@@ -100,16 +104,15 @@ module _ {G : Type 0} {o : Ops G} (f : Flow G) (formed : IsFormed o f) (k : Kept
       let same : h.2.row ≡ row = same_Some _ _ (sym h.2.student ∙ r) in
       subst (λ (z : Vec (ℕ × G) Global). j < length z.items) same (slice_get_within h.2.row.items j _ h.2.place)
 
-  module _ (P : Vec (Option ℕ) Global) (n : Kept) (s : ℕ) (x : Option ℕ) (lt : s < length f.held.items) (set_is : P.items ≡ set f.held.items s x)
-      (long : length n.seated.items ≡ length k.seated.items) (room : (p : ℕ) → room_at n.seated.items p ≡ room_at k.seated.items p) (offered : n.offered ≡ k.offered) where
+  module _ (P : Vec (Option ℕ) Global) (n : Kept) (s : ℕ) (x : Option ℕ) (lt : s < length f.held.items) (set_is : P.items ≡ set f.held.items s x) (same : HasSameRoom k n) where
     -- the lists follow a place
     pub kept_now : (was is : ℕ → ℕ) → ((p : ℕ) → place_at (slice_get f.held.items s) (slice_get f.lists.items s) p ≡ was p) → ((p : ℕ) → place_at (Some x) (slice_get f.lists.items s) p ≡ is p)
         → ((p t : ℕ) → count_of (numbers_at n.seated.items p) t + was p * one_if (eqb s t) ≡ count_of (numbers_at k.seated.items p) t + is p * one_if (eqb s t))
         → IsKept (record f { held = P }) n
     kept_now was is before after counts = record {
       seated = subst (λ z. AreSeated f.lists.items z f.projects.items n.seated.items) (sym set_is)
-          (reseated f.lists.items f.held.items f.projects.items k.seated.items n.seated.items kept.seated s x was is lt long room before after counts);
-      offered = subst (λ (z : Vec (Vec ℕ Global) Global). AreOffered f.supervisors.items f.projects.items z.items) (sym offered) kept.offered;
+          (reseated f.lists.items f.held.items f.projects.items k.seated.items n.seated.items kept.seated s x was is lt same.len same.room before after counts);
+      offered = subst (λ (z : Vec (Vec ℕ Global) Global). AreOffered f.supervisors.items f.projects.items z.items) (sym same.offered) kept.offered;
     }
 
 -- the lists beside a flow over other memory

@@ -4,11 +4,11 @@ use Rattle.std.specs.Prelude.{nat_eq}
 use Rattle.std.specs.declared.vec.Vec.{Vec}
 use Rattle.std.specs.declared.alloc.Global.{Global}
 use Rattle.std.proofs.lemmas.Bool.{cases_eq}
-use Rattle.std.proofs.lemmas.Option.{slice_get_within, slice_get_cases}
+use Rattle.std.proofs.lemmas.Option.{slice_get_within}
 use Rattle.spa.specs.declared.TheConstants.{MOST_STUDENTS}
 use Rattle.spa.specs.Laws.{Ops}
 use Rattle.network.specs.Arcs.{Holds, IsFormed, list_cost}
-use Rattle.network.specs.Push.{one_if, entry_at, row_at, place_at, seat, seats, owner_at}
+use Rattle.network.specs.Push.{one_if, entry_at, place_at, seat, seats, owner_at}
 use Rattle.network.specs.Labels.{count_of}
 use Rattle.network.specs.Kept.{numbers_at, IsKept}
 use Rattle.network.specs.Among.{Among}
@@ -32,11 +32,21 @@ place_most (Some None) r p = omega arith
 place_most (Some (Some k)) None p = omega arith
 place_most (Some (Some k)) (Some r) p = entry_most (slice_get r.items k) p
 
--- and none without a list
-place_none : {G : Type 0} (x : Option (Option ℕ)) (r : Option (Vec (ℕ × G) Global)) (p : ℕ) → r ≡ None → place_at x r p ≡ 0
-place_none None r p e = refl
-place_none (Some None) r p e = refl
-place_none (Some (Some k)) r p e = ap (λ z. row_at z k p) e
+-- a seat at the project is a place there
+place_found : {G : Type 0} (f : Flow G) (s p : ℕ) → 0 < seat f p s → Holds f s p
+place_found {G} f s p = go (slice_get f.held.items s) (slice_get f.lists.items s) refl refl where
+  at_entry : (k : ℕ) (row : Vec (ℕ × G) Global) → slice_get f.held.items s ≡ Some (Some k) → slice_get f.lists.items s ≡ Some row → (e : Option (ℕ × G)) → slice_get row.items k ≡ e → 0 < entry_at e p → Holds f s p
+  at_entry k row held list None at h = absurd (omega (arith, h))
+  at_entry k row held list (Some e) at h = elim (cases_eq e.0 p) [
+    | inl q ↦ record { place = k; worth = e.1; placed = held; entry = record { row = row; student = list; place = at ∙ ap (λ z. Some (z, e.1)) q } }
+    | inr ne ↦ (let z : one_if (nat_eq e.0 p) ≡ 0 = ap one_if (ne_eqb e.0 p ne) in absurd (omega (arith, h, z)))
+  ]
+
+  go : (x : Option (Option ℕ)) (r : Option (Vec (ℕ × G) Global)) → slice_get f.held.items s ≡ x → slice_get f.lists.items s ≡ r → 0 < place_at x r p → Holds f s p
+  go None r held list h = absurd (omega (arith, h))
+  go (Some None) r held list h = absurd (omega (arith, h))
+  go (Some (Some k)) None held list h = absurd (omega (arith, h))
+  go (Some (Some k)) (Some row) held list h = at_entry k row held list (slice_get row.items k) refl h
 
 -- a project that is a supervisor's
 owner_found : (x : Option (ℕ × ℕ)) (l : ℕ) → 0 < owner_at x l → (q : ℕ) × (x ≡ Some (l, q))
@@ -57,15 +67,13 @@ module _ {G : Type 0} {o : Ops G} (f : Flow G) (formed : IsFormed o f) (k : Kept
     abbrev S : List ℕ
     S = numbers_at k.seated.items p
 
-    -- each is known
+    -- each is placed there
+    pub seated_holds : (j s : ℕ) → slice_get S j ≡ Some s → Holds f s p
+    seated_holds j s e = let c = stands S j s e in place_found f s p (omega (arith, c, kept.seated.students p s known))
+
+    -- and known
     pub seated_known : (j s : ℕ) → slice_get S j ≡ Some s → s < length f.lists.items
-    seated_known j s e = elim (slice_get_cases f.lists.items s).1 [
-      | inl h ↦ h.1
-      | inr h ↦
-          (let z = place_none (slice_get f.held.items s) (slice_get f.lists.items s) p h.1 in
-          let c = stands S j s e in
-          absurd (omega (arith, z, c, kept.seated.students p s known)))
-    ]
+    seated_known j s e = slice_get_within f.lists.items s _ (seated_holds j s e).entry.student
 
     -- and stands once
     once : (s : ℕ) → count_of S s ≤ 1

@@ -4,13 +4,15 @@ use Rattle.std.specs.Prelude.{slice_index, nat_eq}
 use Rattle.std.specs.declared.vec.Vec.{Vec}
 use Rattle.std.specs.declared.alloc.Global.{Global}
 use Rattle.std.proofs.lemmas.Bool.{cases_eq, eq-eqb, ne_eqb}
-use Rattle.std.proofs.lemmas.Option.{slice_get_within, some_pair_parts, same_Some}
+use Rattle.std.proofs.lemmas.Option.{slice_get_within, some_pair_parts}
 use Rattle.spa.specs.Laws.{Ops, IsWorth, AtMost}
 use Rattle.network.specs.Marks.{mark_at}
 use Rattle.network.specs.Search.{rank_or}
 use Rattle.network.specs.Arcs.{Holds, Arc, project_count, IsFormed}
 use Rattle.network.specs.Fair.{potential, IsFair}
-use Rattle.network.specs.Push.{one_if, owner_at, seats_of, IsCounted, HasSteps}
+use Rattle.network.specs.Push.{one_if, owner_at, seats, seats_of, IsCounted, HasSteps}
+use Rattle.network.proofs.Changed.{steps_kept}
+use Rattle.network.proofs.Transfer.{not_project}
 use Rattle.network.proofs.Sums.{sum_to_change}
 use Rattle.network.specs.declared.flow.Flow.{Flow}
 use Rattle.network.specs.declared.marks.Origin.{Origin}
@@ -59,16 +61,18 @@ module _ {G : Type 0} {o : Ops G} (laws : IsWorth o) (f : Flow G) (formed : IsFo
     unplaced = fair.unplaced;
     waiting = fair.waiting;
     waiting_least = fair.waiting_least;
-    project = fair.project;
-    project_room = λ r m z e lt. elim (cases_eq r p) [
-      | inl eq ↦ (let s = some_pair_parts _ _ _ _ (sym (rw eq at e) ∙ project) in
-          let room : now p < q = (let z' : now r ≡ now p = ap now eq in omega (arith, lt, s.1, z')) in
-          rw (s.0, eq) (here room))
-      | inr ne ↦ fair.project_room r m z e (rw (sym (now_other r ne)) lt)
-    ];
-    supervisor = fair.supervisor;
-    supervisor_room = fair.supervisor_room;
-    sink = fair.sink;
+    nodes = record {
+      project = fair.nodes.project;
+      project_room = λ r m z e lt. elim (cases_eq r p) [
+        | inl eq ↦ (let s = some_pair_parts _ _ _ _ (sym (rw eq at e) ∙ project) in
+            let room : now p < q = (let z' : now r ≡ now p = ap now eq in omega (arith, lt, s.1, z')) in
+            rw (s.0, eq) (here room))
+        | inr ne ↦ fair.nodes.project_room r m z e (rw (sym (now_other r ne)) lt)
+      ];
+      supervisor = fair.nodes.supervisor;
+      supervisor_room = fair.nodes.supervisor_room;
+      sink = fair.nodes.sink;
+    };
   }
 
   -- the project is its supervisor's
@@ -85,11 +89,7 @@ module _ {G : Type 0} {o : Ops G} (laws : IsWorth o) (f : Flow G) (formed : IsFo
       let c = ap (λ z. one_if (nat_eq l m) * z) now_here in
       omega (arith, change, a, b, c)
 
-  -- a supervisor is no project
-  not_project : (m r : ℕ) → r < project_count f → one_if (nat_eq (project_count f + m) r) ≡ 0
-  not_project m r lt = ap one_if (ne_eqb (project_count f + m) r (λ e. omega (arith, e, lt)))
-
-  -- nor a project a supervisor
+  -- a project is no supervisor
   not_node : (m r : ℕ) → r < project_count f → one_if (nat_eq r (project_count f + m)) ≡ 0
   not_node m r lt = ap one_if (ne_eqb r (project_count f + m) (λ e. omega (arith, e, lt)))
 
@@ -104,21 +104,25 @@ module _ {G : Type 0} {o : Ops G} (laws : IsWorth o) (f : Flow G) (formed : IsFo
   itself : (r : ℕ) → one_if (nat_eq r r) ≡ 1
   itself r = ap one_if (eq-eqb r r refl)
 
+  -- the projects' counts follow where the hole moves from one node to another
+  filled_project : (a b : ℕ) → ((r : ℕ) → r < project_count f → (r ≡ p → ⊥) → one_if (nat_eq r a) ≡ one_if (nat_eq r b)) → y + one_if (nat_eq p a) ≡ was p + one_if (nat_eq p b)
+      → ((r : ℕ) → r < project_count f → was r ≡ seats f r + one_if (nat_eq r a)) → (r : ℕ) → r < project_count f → now r ≡ seats f r + one_if (nat_eq r b)
+  filled_project a b others here before r lt = elim (cases_eq r p) [
+    | inl e ↦ (let z : now r ≡ y = ap now e ∙ now_here in let v : was r ≡ was p = ap was e in
+        let i = ap (λ z. one_if (nat_eq z a)) e in let j = ap (λ z. one_if (nat_eq z b)) e in omega (arith, before r lt, z, v, here, i, j))
+    | inr ne ↦ omega (arith, before r lt, now_other r ne, others r lt ne)
+  ]
+
   -- the hole moves from the supervisor to the project, which counts one more
   pub more_counted : y ≡ was p + 1 → was p < q → IsCounted f (project_count f + l) → IsCounted N p
   more_counted more room c = record {
-    project = λ r lt. elim (cases_eq r p) [
-      | inl e ↦ (let a = c.project r lt in let b = not_node l r lt in let z : now r ≡ y = ap now e ∙ now_here in let v : was r ≡ was p = ap was e in
-          let i : one_if (nat_eq r p) ≡ 1 = ap one_if (eq-eqb r p e) in omega (arith, a, b, z, v, more, i))
-      | inr ne ↦ (let a = c.project r lt in let b = not_node l r lt in let z = now_other r ne in
-          let i : one_if (nat_eq r p) ≡ 0 = ap one_if (ne_eqb r p ne) in omega (arith, a, b, z, i))
-    ];
+    project = filled_project (project_count f + l) p (λ r lt ne. not_node l r lt ∙ sym (ap one_if (ne_eqb r p ne))) (omega (arith, not_node l p p_within, itself p, more)) c.project;
     project_within = λ r m z e. elim (cases_eq r p) [
       | inl eq ↦ (let s = some_pair_parts _ _ _ _ (sym (rw eq at e) ∙ project) in let v : now r ≡ y = ap now eq ∙ now_here in omega (arith, s.1, v, more, room))
       | inr ne ↦ omega (arith, c.project_within r m z e, now_other r ne)
     ];
     supervisor = λ m lt.
-        let a = c.supervisor m lt in let b = node_is m in let d = not_project m p p_within in let s = seats_of_moved m in
+        let a = c.supervisor m lt in let b = node_is m in let d = not_project f m p p_within in let s = seats_of_moved m in
         let t : one_if (nat_eq l m) * y ≡ one_if (nat_eq l m) * was p + one_if (nat_eq l m) = ap (λ z. one_if (nat_eq l m) * z) more ∙ omega arith in
         omega (arith, a, b, d, s, t);
     supervisor_within = c.supervisor_within;
@@ -127,18 +131,13 @@ module _ {G : Type 0} {o : Ops G} (laws : IsWorth o) (f : Flow G) (formed : IsFo
   -- the hole moves from the project, which counts one less, to its supervisor
   pub less_counted : y + 1 ≡ was p → IsCounted f p → IsCounted N (project_count f + l)
   less_counted less c = record {
-    project = λ r lt. elim (cases_eq r p) [
-      | inl e ↦ (let a = c.project r lt in let b = not_node l r lt in let z : now r ≡ y = ap now e ∙ now_here in let v : was r ≡ was p = ap was e in
-          let i : one_if (nat_eq r p) ≡ 1 = ap one_if (eq-eqb r p e) in omega (arith, a, b, z, v, less, i))
-      | inr ne ↦ (let a = c.project r lt in let b = not_node l r lt in let z = now_other r ne in
-          let i : one_if (nat_eq r p) ≡ 0 = ap one_if (ne_eqb r p ne) in omega (arith, a, b, z, i))
-    ];
+    project = filled_project p (project_count f + l) (λ r lt ne. ap one_if (ne_eqb r p ne) ∙ sym (not_node l r lt)) (omega (arith, not_node l p p_within, itself p, less)) c.project;
     project_within = λ r m z e. elim (cases_eq r p) [
       | inl eq ↦ (let v : now r ≡ y = ap now eq ∙ now_here in let u : was r ≡ was p = ap was eq in omega (arith, c.project_within r m z e, v, u, less))
       | inr ne ↦ omega (arith, c.project_within r m z e, now_other r ne)
     ];
     supervisor = λ m lt.
-        let a = c.supervisor m lt in let b = node_is m in let d = not_project m p p_within in let s = seats_of_moved m in
+        let a = c.supervisor m lt in let b = node_is m in let d = not_project f m p p_within in let s = seats_of_moved m in
         let t : one_if (nat_eq l m) * was p ≡ one_if (nat_eq l m) * y + one_if (nat_eq l m) = ap (λ z. one_if (nat_eq l m) * z) (sym less) ∙ omega arith in
         omega (arith, a, b, d, s, t);
     supervisor_within = c.supervisor_within;
@@ -147,45 +146,20 @@ module _ {G : Type 0} {o : Ops G} (laws : IsWorth o) (f : Flow G) (formed : IsFo
   -- the steps to nodes settled before stay
   pub filled_steps : (marks : List (Mark G)) (fresh : ℕ) (top : G) (K hole next rn : ℕ) → (mark_at o marks next).rank ≡ Some rn → rn < rank_or K (mark_at o marks hole).rank
       → ((now p ≤ was p) ⊎ (next ≡ p)) → HasSteps o f marks fresh top K hole → HasSteps o N marks fresh top K next
-  filled_steps marks fresh top K hole next rn settled lower kind steps v seen before =
-      elim (steps v seen (inr below)) [
-        | inl h ↦ inl (record { offered = h.offered; tight = h.tight })
-        | inr h ↦ inr (record {
-          before = h.before;
-          rank = h.rank;
-          worth = h.worth;
-          settled = h.settled;
-          earlier = h.earlier;
-          along = still (mark_at o marks v).origin h.before h.worth (λ e. let z = ap (λ z. (mark_at o marks z).rank) e in let r : Some h.rank ≡ Some rn = sym h.settled ∙ z ∙ settled in
-              let rr = same_Some h.rank rn r in omega (arith, h.earlier, at_most, rr)) h.along;
-          tight = h.tight;
-        })
-      ] where
-        rank_next : rank_or K (mark_at o marks next).rank ≡ rn
-        rank_next = ap (rank_or K) settled
+  filled_steps marks fresh top K hole next rn settled lower kind = steps_kept f f.held F f.load marks fresh top K hole next rn settled lower still where
+    room : (c i z : ℕ) → (c ≡ next → ⊥) → c ≡ i → was i < z → now i < z
+    room c i z ne e lt = elim (cases_eq i p) [
+      | inl eq ↦ elim kind [
+        | inl k ↦ (let a : now i ≡ now p = ap now eq in let b : was i ≡ was p = ap was eq in omega (arith, a, b, k, lt))
+        | inr k ↦ absurd (ne (e ∙ eq ∙ sym k))
+      ]
+      | inr no_p ↦ omega (arith, now_other i no_p, lt)
+    ]
 
-        at_most : rank_or K (mark_at o marks v).rank ≤ rn
-        at_most = elim before [
-          | inl e ↦ (let z : rank_or K (mark_at o marks v).rank ≡ rn = ap (λ z. rank_or K (mark_at o marks z).rank) e ∙ rank_next in omega (arith, z))
-          | inr l ↦ omega (arith, l, rank_next)
-        ]
-
-        below : rank_or K (mark_at o marks v).rank < rank_or K (mark_at o marks hole).rank
-        below = omega (arith, at_most, lower)
-
-        room : (c i z : ℕ) → (c ≡ next → ⊥) → c ≡ i → was i < z → now i < z
-        room c i z ne e lt = elim (cases_eq i p) [
-          | inl eq ↦ elim kind [
-            | inl k ↦ (let a : now i ≡ now p = ap now eq in let b : was i ≡ was p = ap was eq in omega (arith, a, b, k, lt))
-            | inr k ↦ absurd (ne (e ∙ eq ∙ sym k))
-          ]
-          | inr no_p ↦ omega (arith, now_other i no_p, lt)
-        ]
-
-        still : (w : Origin) (c : ℕ) (x : G) → (c ≡ next → ⊥) → Arc o f c w x v → Arc o N c w x v
-        still Unseen c x ne d = d
-        still (Entry t i) c x ne d = record { holds = after_holds t c d.holds; worth = d.worth; entry = d.entry; is = d.is }
-        still (Leave t) c x ne d = record { holds = after_holds t c d.holds; is = d.is; to_sink = d.to_sink }
-        still (Offer i) c x ne d = record { supervisor = d.supervisor; quota = d.quota; from_project = d.from_project; project = d.project; room = room c i d.quota ne d.from_project d.room; to_supervisor = d.to_supervisor; is = d.is }
-        still (Swap i) c x ne d = record { quota = d.quota; from_supervisor = d.from_supervisor; project = d.project; is = d.is }
-        still (Room i) c x ne d = record { from_supervisor = d.from_supervisor; known = d.known; room = d.room; to_sink = d.to_sink; is = d.is }
+    still : (w : Origin) (c : ℕ) (x : G) (v : ℕ) → (c ≡ next → ⊥) → Arc o f c w x v → Arc o N c w x v
+    still Unseen c x v ne d = d
+    still (Entry t i) c x v ne d = record { holds = after_holds t c d.holds; worth = d.worth; entry = d.entry; is = d.is }
+    still (Leave t) c x v ne d = record { holds = after_holds t c d.holds; is = d.is; to_sink = d.to_sink }
+    still (Offer i) c x v ne d = record { supervisor = d.supervisor; quota = d.quota; from_project = d.from_project; project = d.project; room = room c i d.quota ne d.from_project d.room; to_supervisor = d.to_supervisor; is = d.is }
+    still (Swap i) c x v ne d = record { quota = d.quota; from_supervisor = d.from_supervisor; project = d.project; is = d.is }
+    still (Room i) c x v ne d = record { from_supervisor = d.from_supervisor; known = d.known; room = d.room; to_sink = d.to_sink; is = d.is }

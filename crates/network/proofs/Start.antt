@@ -62,11 +62,13 @@ module _ {G : Type 0} {o : Ops G} (laws : IsWorth o) (f : Flow G)
         unplaced = λ s k p w ne none e. absurd (none_listed s k p w e);
         waiting = λ k p w e. absurd (none_listed _ k p w e);
         waiting_least = at_most_refl laws o.zero;
-        project = λ p l q e. zeros _ _;
-        project_room = λ p l q e lt. zeros _ _;
-        supervisor = λ l lt. rw (potentials (project_count f + l)) (at_most_refl laws o.zero);
-        supervisor_room = λ l lt room. rw (potentials (project_count f + l)) (at_most_refl laws o.zero);
-        sink = potentials _;
+        nodes = record {
+          project = λ p l q e. zeros _ _;
+          project_room = λ p l q e lt. zeros _ _;
+          supervisor = λ l lt. rw (potentials (project_count f + l)) (at_most_refl laws o.zero);
+          supervisor_room = λ l lt room. rw (potentials (project_count f + l)) (at_most_refl laws o.zero);
+          sink = potentials _;
+        };
       };
       counted = record {
         project = λ p lt.

@@ -61,25 +61,6 @@ module _ {G : Type 0} {o : Ops G} (laws : IsWorth o) (f : Flow G) (a : ℕ) (lab
     back (Room l) x b h = h
 
   module _ (i t : ℕ) (at : slice_get xs i ≡ Some t) where
-    -- a student who is not placed there adds no offer
-    pub students_skip : (l m : List (Mark G)) → (Holds f t a → ⊥) → Relaxes o f (Students i) l m → Relaxes o f (Students (i + 1)) l m
-    students_skip l m unheld = relaxes_as laws f (Students i) (Students (i + 1)) l m to back where
-      to : (w : Origin) (x : G) (b : ℕ) → Students i w x b → Students (i + 1) w x b
-      to Unseen x b h = h
-      to (Entry s k) x b h = (among_more xs i s h.0, h.1)
-      to (Leave s) x b h = (among_more xs i s h.0, h.1)
-      to (Offer p) x b h = h
-      to (Swap l) x b h = h
-      to (Room l) x b h = h
-
-      back : (w : Origin) (x : G) (b : ℕ) → Students (i + 1) w x b → Students i w x b
-      back Unseen x b h = h
-      back (Entry s k) x b h = (elim (among_either xs i t s at h.0) [ inl m ↦ m | inr e ↦ absurd (unheld (rw e at h.1.1.holds)) ], h.1)
-      back (Leave s) x b h = (elim (among_either xs i t s at h.0) [ inl m ↦ m | inr e ↦ absurd (unheld (rw e at h.1.1.holds)) ], h.1)
-      back (Offer p) x b h = h
-      back (Swap l) x b h = h
-      back (Room l) x b h = h
-
     -- a student who is placed there offers what the label less the worth of the place makes of the list
     pub students_more : (l m n : List (Mark G)) (h : Holds f t a) → Relaxes o f (Students i) l m → Relaxes o f (OfStudent o f t (o.minus label h.worth)) m n → Relaxes o f (Students (i + 1)) l n
     students_more l m n h e r =

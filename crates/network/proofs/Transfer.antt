@@ -1,10 +1,10 @@
 -- the student s changes place
-use Rattle.std.proofs.Common.{◌≡◌, ℕ, ◌+◌, ◌<◌, ◌≤◌, inl, inr, zero, suc, List, [], ◌∷◌, length, set, Option, Some, None, slice_get, refl, arith, sym, ◌∙◌, ap}
+use Rattle.std.proofs.Common.{◌≡◌, ℕ, ◌+◌, ◌<◌, inl, inr, zero, suc, List, [], ◌∷◌, length, set, Option, Some, None, slice_get, refl, arith, sym, ◌∙◌, ap}
 use Rattle.std.specs.Prelude.{nat_eq}
 use Rattle.std.specs.declared.vec.Vec.{Vec}
 use Rattle.std.specs.declared.alloc.Global.{Global}
 use Rattle.std.proofs.lemmas.Bool.{cases_eq, eq-eqb, ne_eqb}
-use Rattle.std.proofs.lemmas.Option.{slice_get_within, same_Some}
+use Rattle.std.proofs.lemmas.Option.{slice_get_within}
 use Rattle.spa.specs.Laws.{Ops, IsWorth}
 use Rattle.network.specs.Marks.{mark_at}
 use Rattle.network.specs.Search.{rank_or}
@@ -12,6 +12,7 @@ use Rattle.network.specs.Arcs.{HasEntry, Holds, Arc, project_count, IsFormed}
 use Rattle.network.specs.Fair.{potential, IsFair}
 use Rattle.network.specs.Push.{one_if, place_at, seat, seats, IsCounted, HasSteps}
 use Rattle.network.proofs.Students.{holds_along}
+use Rattle.network.proofs.Changed.{steps_kept}
 use Rattle.network.proofs.Sums.{sum_to_change}
 use Rattle.network.specs.declared.flow.Flow.{Flow}
 use Rattle.network.specs.declared.marks.Origin.{Origin}
@@ -38,6 +39,10 @@ same_either a p = elim (cases_eq a p) [
   | inl e ↦ ap one_if (eq-eqb a p e ∙ sym (eq-eqb p a (sym e)))
   | inr ne ↦ ap one_if (ne_eqb a p ne ∙ sym (ne_eqb p a (λ e. ne (sym e))))
 ]
+
+-- a supervisor is no project
+pub not_project : {G : Type 0} (f : Flow G) (m r : ℕ) → r < project_count f → one_if (nat_eq (project_count f + m) r) ≡ 0
+not_project f m r lt = ap one_if (ne_eqb (project_count f + m) r (λ e. omega (arith, e, lt)))
 
 -- a student's seat is where the place is
 pub seat_held : {G : Type 0} (f : Flow G) (p s a : ℕ) → Holds f s a → seat f p s ≡ one_if (nat_eq a p)
@@ -66,43 +71,18 @@ module _ {G : Type 0} {o : Ops G} (laws : IsWorth o) (f : Flow G) (formed : IsFo
     pub moved_steps : (marks : List (Mark G)) (fresh : ℕ) (top : G) (K hole ra : ℕ) → (mark_at o marks a).rank ≡ Some ra → ra < rank_or K (mark_at o marks hole).rank
         → HasSteps o f marks fresh top K hole → HasSteps o N marks fresh top K a
     unfolding holds_after
-    moved_steps marks fresh top K hole ra settled lower steps v seen before =
-        elim (steps v seen (inr below)) [
-          | inl h ↦ inl (record { offered = h.offered; tight = h.tight })
-          | inr h ↦ inr (record {
-            before = h.before;
-            rank = h.rank;
-            worth = h.worth;
-            settled = h.settled;
-            earlier = h.earlier;
-            along = still (mark_at o marks v).origin h.before h.worth (λ e. let q = ap (λ z. (mark_at o marks z).rank) e in let r : Some h.rank ≡ Some ra = sym h.settled ∙ q ∙ settled in
-                let rr = same_Some h.rank ra r in omega (arith, h.earlier, at_most_a, rr)) h.along;
-            tight = h.tight;
-          })
-        ] where
-          rank_a : rank_or K (mark_at o marks a).rank ≡ ra
-          rank_a = ap (rank_or K) settled
-
-          at_most_a : rank_or K (mark_at o marks v).rank ≤ ra
-          at_most_a = elim before [
-            | inl e ↦ (let q : rank_or K (mark_at o marks v).rank ≡ ra = ap (λ z. rank_or K (mark_at o marks z).rank) e ∙ rank_a in omega (arith, q))
-            | inr l ↦ omega (arith, l, rank_a)
-          ]
-
-          below : rank_or K (mark_at o marks v).rank < rank_or K (mark_at o marks hole).rank
-          below = omega (arith, at_most_a, lower)
-
-          still : (q : Origin) (c : ℕ) (v' : G) → (c ≡ a → ⊥) → Arc o f c q v' v → Arc o N c q v' v
-          still Unseen c v' ne d = d
-          still (Entry t i) c v' ne d =
-              let far : t ≡ s → ⊥ = λ (e : t ≡ s). ne (holds_along e d.holds.placed d.holds.entry was).0 in
-              record { holds = holds_after t c far d.holds; worth = d.worth; entry = d.entry; is = d.is }
-          still (Leave t) c v' ne d =
-              let far : t ≡ s → ⊥ = λ (e : t ≡ s). ne (holds_along e d.holds.placed d.holds.entry was).0 in
-              record { holds = holds_after t c far d.holds; is = d.is; to_sink = d.to_sink }
-          still (Offer p) c v' ne d = record { supervisor = d.supervisor; quota = d.quota; from_project = d.from_project; project = d.project; room = d.room; to_supervisor = d.to_supervisor; is = d.is }
-          still (Swap l) c v' ne d = record { quota = d.quota; from_supervisor = d.from_supervisor; project = d.project; is = d.is }
-          still (Room l) c v' ne d = record { from_supervisor = d.from_supervisor; known = d.known; room = d.room; to_sink = d.to_sink; is = d.is }
+    moved_steps marks fresh top K hole ra settled lower = steps_kept f P f.filled f.load marks fresh top K hole a ra settled lower still where
+      still : (q : Origin) (c : ℕ) (v : G) (b : ℕ) → (c ≡ a → ⊥) → Arc o f c q v b → Arc o N c q v b
+      still Unseen c v b ne d = d
+      still (Entry t i) c v b ne d =
+          let far : t ≡ s → ⊥ = λ (e : t ≡ s). ne (holds_along e d.holds.placed d.holds.entry was).0 in
+          record { holds = holds_after t c far d.holds; worth = d.worth; entry = d.entry; is = d.is }
+      still (Leave t) c v b ne d =
+          let far : t ≡ s → ⊥ = λ (e : t ≡ s). ne (holds_along e d.holds.placed d.holds.entry was).0 in
+          record { holds = holds_after t c far d.holds; is = d.is; to_sink = d.to_sink }
+      still (Offer p) c v b ne d = record { supervisor = d.supervisor; quota = d.quota; from_project = d.from_project; project = d.project; room = d.room; to_supervisor = d.to_supervisor; is = d.is }
+      still (Swap l) c v b ne d = record { quota = d.quota; from_supervisor = d.from_supervisor; project = d.project; is = d.is }
+      still (Room l) c v b ne d = record { from_supervisor = d.from_supervisor; known = d.known; room = d.room; to_sink = d.to_sink; is = d.is }
 
   module _ (a b k : ℕ) (w : G) (was : Holds f s a) (entry : HasEntry f.lists.items s k b w) (x_is : x ≡ Some k)
       (tight : o.plus w (potential o f b) ≡ o.plus was.worth (potential o f a)) where
@@ -142,11 +122,7 @@ module _ {G : Type 0} {o : Ops G} (laws : IsWorth o) (f : Flow G) (formed : IsFo
       ];
       waiting = fair.waiting;
       waiting_least = fair.waiting_least;
-      project = fair.project;
-      project_room = fair.project_room;
-      supervisor = fair.supervisor;
-      supervisor_room = fair.supervisor_room;
-      sink = fair.sink;
+      nodes = fair.nodes;
     }
 
     -- one seat moves
@@ -163,9 +139,6 @@ module _ {G : Type 0} {o : Ops G} (laws : IsWorth o) (f : Flow G) (formed : IsFo
     transfer_counted la lb c = record {
       project = λ p lt. omega (arith, c.project p lt, seats_moved p, same_either a p, same_either b p);
       project_within = c.project_within;
-      supervisor = λ l lt.
-          let ea : one_if (nat_eq (project_count f + l) a) ≡ 0 = ap one_if (ne_eqb (project_count f + l) a (λ e. omega (arith, e, la))) in
-          let eb : one_if (nat_eq (project_count f + l) b) ≡ 0 = ap one_if (ne_eqb (project_count f + l) b (λ e. omega (arith, e, lb))) in
-          omega (arith, c.supervisor l lt, ea, eb);
+      supervisor = λ l lt. omega (arith, c.supervisor l lt, not_project f l a la, not_project f l b lb);
       supervisor_within = c.supervisor_within;
     }

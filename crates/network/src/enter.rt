@@ -1,20 +1,15 @@
 //! One more student enters the flow.
 
-ghost use Rattle.std.specs.Prelude.{◌≡◌, ◌+◌, ◌*◌, ◌<◌, ◌≤◌, [], ◌∷◌, ◌++◌, length, slice_get, Some, None, OnOk};
+ghost use Rattle.std.specs.Prelude.{◌≡◌, ◌+◌, ◌<◌, ◌^◌, [], ◌∷◌, ◌++◌, length, slice_get, None, OnOk};
 ghost use Rattle.std.specs.Vec.{vec_len, vec_capacity};
-ghost use Rattle.spa.specs.declared.TheConstants.{MOST_STUDENTS, RANKS};
-ghost use Rattle.network.specs.Labels.{AreBlank};
-ghost use Rattle.network.specs.Kept.{IsKept};
-ghost use Rattle.network.specs.Arcs.{project_count, sink_of, flow_arcs};
-ghost use Rattle.network.specs.Fair.{IsLow};
-ghost use Rattle.network.specs.Push.{IsPushed};
+ghost use Rattle.network.specs.declared.TheConstants.{MOST_RELAXATIONS};
 ghost use Rattle.network.specs.Seen.{is_place};
-ghost use Rattle.network.specs.View.{IsKnownList};
+ghost use Rattle.network.specs.State.{IsAtRest, MayEnter, HasEntered};
 
 use crate::admit::place_new;
 use crate::flow::Flow;
-use crate::kept::Kept;
 use crate::marks::Labels;
+use crate::residual::Residual;
 use spa::Worth;
 use std::alloc::AllocError;
 
@@ -64,38 +59,24 @@ fn has_place<G: Worth>(flow: &Flow<G>, student: usize) -> bool
 
 /// The student is added and finds a place, or none.
 pub(crate) fn enter<G: Worth>(
-    flow: &mut Flow<G>,
-    kept: &mut Kept,
-    row: Vec<(usize, G)>,
+    residual: &mut Residual<G>,
     labels: &mut Labels<G>,
+    row: Vec<(usize, G)>,
 ) -> Admitted
-    requires pushed { IsPushed G.ops flow.old }
-    requires low { IsLow G.ops flow.old }
-    requires few { length flow.old.lists.items < MOST_STUDENTS }
-    requires short { length row.items ≤ RANKS }
-    requires known { IsKnownList G.ops (project_count flow.old) row.items }
-    requires list_room { vec_len flow.old.lists < vec_capacity flow.old.lists }
-    requires held_room { vec_len flow.old.held < vec_capacity flow.old.held }
-    requires kept { IsKept flow.old kept.old }
-    requires blank { AreBlank G.ops labels.old (length flow.old.potentials.items) }
-    ensures kept { IsKept flow.new kept.new }
-    ensures blank { AreBlank G.ops labels.new (length flow.new.potentials.items) }
-    ensures pushed { IsPushed G.ops flow.new }
-    ensures low { IsLow G.ops flow.new }
-    ensures lists { flow.new.lists.items ≡ flow.old.lists.items ++ row ∷ [] }
-    ensures projects { flow.new.projects ≡ flow.old.projects }
-    ensures supervisors { flow.new.supervisors ≡ flow.old.supervisors }
-    ensures placed { result.placed ≡ is_place (slice_get flow.new.held.items (length flow.old.lists.items)) }
-    ensures compared { length row.items ≤ result.relaxations }
-    ensures cost { result.relaxations ≤ 2 * length row.items + 1 + sink_of flow.new * flow_arcs flow.new }
+    requires rest { IsAtRest G.ops residual.old labels.old }
+    requires room { labels.old.compared + MOST_RELAXATIONS < 2 ^ 64 }
+    requires row { MayEnter G.ops residual.old.flow row }
+    ensures rest { IsAtRest G.ops residual.new labels.new }
+    ensures entered { HasEntered residual.old.flow residual.new.flow row result.placed result.relaxations }
+    ensures compared { labels.new.compared ≡ labels.old.compared + result.relaxations }
 {
-    let student = flow.lists.len();
-    append(flow, row);
-    let mut relaxations = 0;
-    place_new(flow, kept, student, labels, &mut relaxations);
-    let placed = has_place(flow, student);
+    let student = residual.flow.lists.len();
+    let before = labels.compared;
+    append(&mut residual.flow, row);
+    place_new(residual, labels, student);
+    let placed = has_place(&residual.flow, student);
     Admitted {
         placed,
-        relaxations,
+        relaxations: labels.compared - before,
     }
 }

@@ -28,6 +28,17 @@ pub struct Mark<G> {
     pub rank: Option<usize>,
 }
 
+/// A label that is offered to a node.
+#[derive(Clone, Copy)]
+pub struct Offer<G> {
+    /// To which node.
+    pub node: usize,
+    /// The worth of a walk to it.
+    pub label: G,
+    /// The last arc of that walk.
+    pub origin: Origin,
+}
+
 /// The marks of all nodes, and the lists of those that were reached, of those that may be chosen and of those that are
 /// settled.
 #[derive(Drop)]
@@ -43,6 +54,8 @@ pub struct Labels<G> {
     pub bound: G,
     /// The node from which that way goes on at no cost.
     pub end: usize,
+    /// How many labels were compared across an arc since the network began.
+    pub compared: u64,
 }
 
 mod blank;

@@ -1,20 +1,21 @@
-use Rattle.std.proofs.Common.{arith, rules, ◌≡◌, inl, inr, sym, ◌∙◌}
+use Rattle.std.proofs.Common.{arith, rules, ◌≡◌, ◌+◌, ap, inl, inr, sym, ◌∙◌}
 use Rattle.std.proofs.lemmas.Bool.{cases_eq}
 use Rattle.std.proofs.lemmas.Option.{slice_get_within}
 use Rattle.spa.specs.Laws.{AtMost}
+use Rattle.network.specs.declared.marks.Labels.{Labels}
 use Rattle.network.specs.Fair.{potential}
 use Rattle.network.proofs.Entries.{entry_same}
 use Rattle.network.proofs.admit.gains.Goals as goal
 
 pub potential_of-requires : goal.potential_of-requires
 potential_of-requires g c =
-    let e = (c.requires.formed.entries _ _ _ _ c.entry-project.ensures).0 in
-    omega (arith, e, c.requires.formed.potentials)
+    let e = (c.requires.awaiting.formed.entries _ _ _ _ c.entry-project.ensures).0 in
+    omega (arith, e, c.requires.awaiting.formed.potentials)
 
 pub plus-requires : goal.plus-requires
 plus-requires g c =
-    let e = (c.requires.formed.entries _ _ _ _ c.entry-project.ensures).1 in
-    rw c.potential_of.ensures (omega (arith, e, c.requires.low c.entry-project.result.0))
+    let e = (c.requires.awaiting.formed.entries _ _ _ _ c.entry-project.ensures).1 in
+    rw c.potential_of.ensures (omega (arith, e, c.requires.awaiting.low c.entry-project.result.0))
 
 pub loop-k-preserved : goal.loop-k-preserved
 loop-k-preserved g c =
@@ -29,6 +30,7 @@ loop-k-preserved g c =
         | inr ne ↦ c.loop-k.invariant.none k p w (omega (arith, lt, ne)) h
       ];
       counted = omega (arith, c.loop-k.invariant.counted);
+      rest = ap (λ (z : Labels _). record z { compared = c.loop-k.labels.compared + 1 }) c.loop-k.invariant.rest;
     }
 
 pub returns-clause-none : goal.returns-clause-none

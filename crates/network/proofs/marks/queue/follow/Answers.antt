@@ -10,9 +10,7 @@ use Rattle.network.proofs.marks.queue.follow.Goals as goal
 
 pub loop-labels-preserved : goal.loop-labels-preserved
 loop-labels-preserved g c =
-    let o = g.G.Worth.ops in
-    let f = c.args.flow.now in
-    let l = c.loop-labels.labels in
+    let o = g.G.Worth.ops in let f = c.args.flow.now in let l = c.loop-labels.labels in
     let marks : l.marks ≡ c.args.labels.now.marks = ap (λ (z : Labels _). z.marks) c.loop-labels.invariant.rest in
     let u : IsUnderway o f l.marks.items = rw marks c.requires.found in
     let s : is_settled (mark_at o l.marks.items l.end).rank ≡ true = sym c.is_done.ensures ∙ c.loop-labels-test.true in
@@ -25,12 +23,11 @@ loop-labels-preserved g c =
 pub returns-clause-queue : goal.returns-clause-queue
 returns-clause-queue g c = queue_onward g.met.G.Worth.laws c.args.flow.now c.args.labels.now c.loop-labels.labels c.requires.queue c.loop-labels.invariant.rest c.loop-labels.invariant.bounded
 
-pub returns-clause-enough : goal.returns-clause-enough
-returns-clause-enough g c =
-    let o = g.G.Worth.ops in
-    let f = c.args.flow.now in
-    let l = c.loop-labels.labels in
+pub returns-clause-end : goal.returns-clause-end
+returns-clause-end g c =
+    let o = g.G.Worth.ops in let f = c.args.flow.now in let l = c.loop-labels.labels in
     let marks : l.marks ≡ c.args.labels.now.marks = ap (λ (z : Labels _). z.marks) c.loop-labels.invariant.rest in
     let s : is_settled (mark_at o c.args.labels.now.marks.items l.end).rank ≡ false = rw marks at (sym c.is_done.ensures ∙ c.loop-labels-test.false) in
     let bounded : IsBounded o f c.args.labels.now.marks.items l.bound l.end = rw marks at c.loop-labels.invariant.bounded in
-    (end_open g.met.G.Worth.laws f c.requires.formed c.args.labels.now.marks.items c.requires.found l.bound l.end bounded s).1
+    let e = end_open g.met.G.Worth.laws f c.requires.formed c.args.labels.now.marks.items c.requires.found l.bound l.end bounded s in
+    rw marks (record { opened = e.0; enough = e.1 })
