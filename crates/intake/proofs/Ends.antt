@@ -64,12 +64,7 @@ priced n vs a w = record { none_or_all = w; prices = a.prices }
 -- a draft that may end is the parts of its text
 pub whole_parts : (p : Parts) → IsDraft p → IsWhole p → IsRoundParts (placed p)
 whole_parts p d w = record {
-  within = d.within;
-  supervisors = d.supervisors;
-  projects = d.projects;
-  students = d.students;
-  offered = d.offered;
-  listed = d.listed;
+  instance = d.instance;
   places = places_all p.instance.students p.places (length p.instance.students - length p.places) (omega (arith, places_few p.instance.students p.places d.places)) d.places;
   student_prices = priced (length p.instance.students) p.student_prices d.student_prices w.students;
   project_prices = priced (length p.instance.projects) p.project_prices d.project_prices w.projects;
@@ -95,7 +90,7 @@ not_unknown known names n all u = u.unknown (all_found (λ c. Contains known c) 
 -- the lists of a draft have no fault but want of memory
 list_fault : (p : Parts) (fault : InstanceFault) → IsDraft p → IsFirstListFault (project_codes p.instance) (map (λ e. e.list) p.instance.students) fault → fault ≡ Memory
 list_fault p fault d f =
-    let sound : IsSoundList (project_codes p.instance) f.list = all_found (IsSoundList (project_codes p.instance)) (map (λ e. e.list) p.instance.students) f.student f.list (All-map (IsSoundList (project_codes p.instance)) (λ e. e.list) p.instance.students d.listed) f.here in
+    let sound : IsSoundList (project_codes p.instance) f.list = all_found (IsSoundList (project_codes p.instance)) (map (λ e. e.list) p.instance.students) f.student f.list (All-map (IsSoundList (project_codes p.instance)) (λ e. e.list) p.instance.students d.instance.listed) f.here in
     go fault f.student f.list f.is_fault sound
   where
     go : (fault : InstanceFault) (s : ℕ) (list : List (List ℕ)) → IsListFault (project_codes p.instance) list s fault → IsSoundList (project_codes p.instance) list → fault ≡ Memory
@@ -112,11 +107,11 @@ list_fault p fault d f =
 -- the rolls of a draft have no fault but want of memory
 pub no_fault : (p : Parts) (fault : InstanceFault) → IsDraft p → IsFirstInstanceFault p.instance fault → fault ≡ Memory
 no_fault p Memory d h = refl
-no_fault p Limit d h = absurd (h d.within)
-no_fault p (RepeatedCode Supervisors n) d h = absurd (not_repeated (supervisor_codes p.instance) n d.supervisors.rise h.1)
-no_fault p (RepeatedCode Projects n) d h = absurd (not_repeated (project_codes p.instance) n d.projects.rise h.1.1)
-no_fault p (RepeatedCode Students n) d h = absurd (not_repeated (student_codes p.instance) n d.students.rise h.1.2)
-no_fault p (UnknownSupervisor n) d h = absurd (not_unknown (supervisor_codes p.instance) (map (λ e. e.supervisor) p.instance.projects) n (All-map (λ c. Contains (supervisor_codes p.instance) c) (λ e. e.supervisor) p.instance.projects d.offered) h.2)
+no_fault p Limit d h = absurd (h d.instance.within)
+no_fault p (RepeatedCode Supervisors n) d h = absurd (not_repeated (supervisor_codes p.instance) n d.instance.supervisors.rise h.1)
+no_fault p (RepeatedCode Projects n) d h = absurd (not_repeated (project_codes p.instance) n d.instance.projects.rise h.1.1)
+no_fault p (RepeatedCode Students n) d h = absurd (not_repeated (student_codes p.instance) n d.instance.students.rise h.1.2)
+no_fault p (UnknownSupervisor n) d h = absurd (not_unknown (supervisor_codes p.instance) (map (λ e. e.supervisor) p.instance.projects) n (All-map (λ c. Contains (supervisor_codes p.instance) c) (λ e. e.supervisor) p.instance.projects d.instance.offered) h.2)
 no_fault p (ListLength n) d h = list_fault p (ListLength n) d h.3
 no_fault p (UnknownProject n k) d h = list_fault p (UnknownProject n k) d h.3
 no_fault p (RepeatedProject n k) d h = list_fault p (RepeatedProject n k) d h.3
@@ -184,12 +179,7 @@ begins_z p d h =
     let more = price_more (supervisor_codes p.instance) p.supervisor_prices (replicate (n - length p.supervisor_prices) zeros) (omega (arith, d.supervisor_prices.few, length-map p.instance.supervisors (λ (e : Supervisor). e.code))) in
     begins_by p q (map (line (codes "Z")) more.0)
     (record {
-      within = d.within;
-      supervisors = d.supervisors;
-      projects = d.projects;
-      students = d.students;
-      offered = d.offered;
-      listed = d.listed;
+      instance = d.instance;
       places = d.places;
       last_place = d.last_place;
       student_prices = d.student_prices;
@@ -209,12 +199,7 @@ begins_y p d z h =
     let more = price_more (project_codes p.instance) p.project_prices (replicate (n - length p.project_prices) zeros) (omega (arith, d.project_prices.few, length-map p.instance.projects (λ (e : Project). e.code))) in
     begins_by p q (map (line (codes "Y")) more.0)
     (record {
-      within = d.within;
-      supervisors = d.supervisors;
-      projects = d.projects;
-      students = d.students;
-      offered = d.offered;
-      listed = d.listed;
+      instance = d.instance;
       places = d.places;
       last_place = d.last_place;
       student_prices = d.student_prices;
@@ -234,12 +219,7 @@ begins_u p d z y =
     let more = price_more (student_codes p.instance) p.student_prices (replicate (n - length p.student_prices) zeros) (omega (arith, d.student_prices.few, length-map p.instance.students (λ (e : Student). e.code))) in
     begins_by p q (map (line (codes "U")) more.0)
     (record {
-      within = d.within;
-      supervisors = d.supervisors;
-      projects = d.projects;
-      students = d.students;
-      offered = d.offered;
-      listed = d.listed;
+      instance = d.instance;
       places = d.places;
       last_place = d.last_place;
       student_prices = filled_prices n p.student_prices d.student_prices;

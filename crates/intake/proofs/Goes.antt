@@ -16,7 +16,7 @@ use Rattle.spa.specs.Codes.{code_at}
 use Rattle.spa.specs.Instance.{Supervisor, Project, Student, supervisor_codes, project_codes, student_codes}
 use Rattle.spa.specs.Made.{IsSoundList}
 use Rattle.verdict.specs.Rows.{InRange}
-use Rattle.intake.specs.Parts.{Parts, IsRoll, IsPrice, IsRoundParts}
+use Rattle.intake.specs.Parts.{Parts, IsRoll, IsPrice, IsRoundInstance, IsRoundParts}
 use Rattle.intake.specs.Lines.{Row, choice_code, line, sections, round_lines, supervisor_row, project_row, student_row, pair_rows, price_rows}
 use Rattle.intake.specs.Reading.{Begins}
 use Rattle.intake.specs.Draft.{IsDraft, IsField, IsFree}
@@ -140,24 +140,21 @@ module _ (c : ℕ) (low : c < 45) where
       (All-cons (IsFree c) (b ∷ []) (x ∷ map signed_decimal v) (letter_plain b l) (All-cons (IsFree c) x (map signed_decimal v) (code_plain x (All-head (λ x. IsTrue (is_code x)) x cs f)) (numbers_plain v (λ t h. price.range t (omega (arith, price.numbers))))))
       (prices_plain b cs vs l (All-tail (λ x. IsTrue (is_code x)) x cs f) (All-tail IsPrice v vs p))
 
-  -- no field of a draft has a comma in it
-  pub draft_plain : (p : Parts) → IsDraft p → Plain c (sections p)
-  draft_plain p d = (
-    supervisors_plain p.instance.supervisors d.supervisors.form d.within.supervisor_quotas,
+  -- nor any of an instance, places and prices
+  pub sections_plain : (p : Parts) → IsRoundInstance p.instance → All IsPrice p.student_prices → All IsPrice p.project_prices → All IsPrice p.supervisor_prices → Plain c (sections p)
+  sections_plain p i u y z = (
+    supervisors_plain p.instance.supervisors i.supervisors.form i.within.supervisor_quotas,
     (
-      projects_plain (supervisor_codes p.instance) p.instance.projects d.supervisors d.projects.form d.within.project_quotas d.offered,
+      projects_plain (supervisor_codes p.instance) p.instance.projects i.supervisors i.projects.form i.within.project_quotas i.offered,
       (
-        students_plain (project_codes p.instance) p.instance.students d.projects d.students.form d.listed,
+        students_plain (project_codes p.instance) p.instance.students i.projects i.students.form i.listed,
         (
-          pairs_plain (project_codes p.instance) p.instance.students p.places d.projects d.students.form d.listed,
+          pairs_plain (project_codes p.instance) p.instance.students p.places i.projects i.students.form i.listed,
           (
-            prices_plain 85 (student_codes p.instance) p.student_prices (apart 85 (omega arith)) d.students.form d.student_prices.prices,
+            prices_plain 85 (student_codes p.instance) p.student_prices (apart 85 (omega arith)) i.students.form u,
             (
-              prices_plain 89 (project_codes p.instance) p.project_prices (apart 89 (omega arith)) d.projects.form d.project_prices.prices,
-              (
-                prices_plain 90 (supervisor_codes p.instance) p.supervisor_prices (apart 90 (omega arith)) d.supervisors.form d.supervisor_prices.prices,
-                tt,
-              ),
+              prices_plain 89 (project_codes p.instance) p.project_prices (apart 89 (omega arith)) i.projects.form y,
+              (prices_plain 90 (supervisor_codes p.instance) p.supervisor_prices (apart 90 (omega arith)) i.supervisors.form z, tt),
             ),
           ),
         ),
@@ -165,30 +162,13 @@ module _ (c : ℕ) (low : c < 45) where
     ),
   )
 
-  -- nor of the parts of a text
+  -- nor any of the parts of a text
   pub parts_plain : (p : Parts) → IsRoundParts p → Plain c (sections p)
-  parts_plain p d = (
-    supervisors_plain p.instance.supervisors d.supervisors.form d.within.supervisor_quotas,
-    (
-      projects_plain (supervisor_codes p.instance) p.instance.projects d.supervisors d.projects.form d.within.project_quotas d.offered,
-      (
-        students_plain (project_codes p.instance) p.instance.students d.projects d.students.form d.listed,
-        (
-          pairs_plain (project_codes p.instance) p.instance.students p.places d.projects d.students.form d.listed,
-          (
-            prices_plain 85 (student_codes p.instance) p.student_prices (apart 85 (omega arith)) d.students.form d.student_prices.prices,
-            (
-              prices_plain 89 (project_codes p.instance) p.project_prices (apart 89 (omega arith)) d.projects.form d.project_prices.prices,
-              (
-                prices_plain 90 (supervisor_codes p.instance) p.supervisor_prices (apart 90 (omega arith)) d.supervisors.form d.supervisor_prices.prices,
-                tt,
-              ),
-            ),
-          ),
-        ),
-      ),
-    ),
-  )
+  parts_plain p v = sections_plain p v.instance v.student_prices.prices v.project_prices.prices v.supervisor_prices.prices
+
+-- the fields of the lines of a draft
+draft_back : (p : Parts) → IsDraft p → map fields_of (round_lines p) ≡ full (sections p)
+draft_back p d = sections_back (sections p) (sections_plain 44 (omega arith) p d.instance d.student_prices.prices d.project_prices.prices d.supervisor_prices.prices)
 
 -- the parts whose lines go on, and the section that the next row is in
 pub record GoesOn (old : Parts) (l : List ℕ) (r : Row) : Type 0 where
@@ -204,7 +184,7 @@ goes_on old l r d f b =
     sym (sections_back (sections p) (parts_plain 44 (omega arith) p b.2))
     ∙ ap (map fields_of) (b.3 ∙ append_assoc (round_lines old) (line l r ∷ []) b.1)
     ∙ map-append fields_of (round_lines old) (line l r ∷ b.1)
-    ∙ ap (λ (fs : List (List (List ℕ))). fs ++ fields_of (line l r) ∷ map fields_of b.1) (sections_back (sections old) (draft_plain 44 (omega arith) old d))
+    ∙ ap (λ (fs : List (List (List ℕ))). fs ++ fields_of (line l r) ∷ map fields_of b.1) (draft_back old d)
     ∙ ap (λ (fs : List (List ℕ)). full (sections old) ++ fs ∷ map fields_of b.1) (fields_back l r f) in
     record {
       parts = p;
@@ -215,5 +195,5 @@ goes_on old l r d f b =
 -- parts whose lines are those of a draft have its rows
 pub rows_alike : (old p : Parts) → IsDraft old → IsRoundParts p → round_lines p ≡ round_lines old → SameRows (sections p) (sections old)
 rows_alike old p d v h =
-    same_rows (sections p) (sections old) (sym (sections_back (sections p) (parts_plain 44 (omega arith) p v)) ∙ ap (map fields_of) h ∙ sections_back (sections old) (draft_plain 44 (omega arith) old d))
+    same_rows (sections p) (sections old) (sym (sections_back (sections p) (parts_plain 44 (omega arith) p v)) ∙ ap (map fields_of) h ∙ draft_back old d)
     (refl, (refl, (refl, (refl, (refl, (refl, (refl, tt))))))) refl refl

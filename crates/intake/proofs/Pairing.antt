@@ -81,7 +81,7 @@ listed_at es n m e st h r same found =
 -- a position in the list of a student is small
 pub small_place : (p : Parts) (s k : ℕ) (e : Student) → IsDraft p → slice_get p.instance.students s ≡ Some e → k < length e.list → k < 8
 small_place p s k e d here h =
-    let sound : IsSoundList (project_codes p.instance) e.list = all_found (λ (x : Student). IsSoundList (project_codes p.instance) x.list) p.instance.students s e d.listed here in
+    let sound : IsSoundList (project_codes p.instance) e.list = all_found (λ (x : Student). IsSoundList (project_codes p.instance) x.list) p.instance.students s e d.instance.listed here in
     omega (arith, sound.0.1)
 
 -- what is found at a position is one

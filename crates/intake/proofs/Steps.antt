@@ -81,7 +81,7 @@ nothing_known (x ∷ list) s = absurd (omega (arith, (s.1.known 0 x (omega arith
 
 -- where there are no projects there are no students
 pub no_students : (p : Parts) → IsDraft p → p.instance.projects ≡ [] → p.instance.students ≡ []
-no_students p d e = go p.instance.students (subst (λ (l : List Project). All (λ (s : Student). IsSoundList (map (λ e. e.code) l) s.list) p.instance.students) e d.listed)
+no_students p d e = go p.instance.students (subst (λ (l : List Project). All (λ (s : Student). IsSoundList (map (λ e. e.code) l) s.list) p.instance.students) e d.instance.listed)
   where
     go : (es : List Student) → All (λ (s : Student). IsSoundList [] s.list) es → es ≡ []
     go [] h = refl
@@ -168,18 +168,20 @@ supervisor_step p row e d t =
     let places = no_places p d students in
     let codes_are : supervisor_codes (with_supervisor p e).instance ≡ supervisor_codes p.instance ++ e.code ∷ [] = map_push (λ (e : Supervisor). e.code) p.instance.supervisors e in (
       record {
-        within = record {
-          supervisors = omega (arith, length_push p.instance.supervisors e, t.few);
-          projects = d.within.projects;
-          students = d.within.students;
-          supervisor_quotas = subst (λ (l : List ℕ). All (λ q. q ≤ MOST_PLACES) l) (sym (map_push (λ (e : Supervisor). e.quota) p.instance.supervisors e)) (All-push (λ q. q ≤ MOST_PLACES) (map (λ (e : Supervisor). e.quota) p.instance.supervisors) e.quota d.within.supervisor_quotas t.quota);
-          project_quotas = d.within.project_quotas;
+        instance = record {
+          within = record {
+            supervisors = omega (arith, length_push p.instance.supervisors e, t.few);
+            projects = d.instance.within.projects;
+            students = d.instance.within.students;
+            supervisor_quotas = subst (λ (l : List ℕ). All (λ q. q ≤ MOST_PLACES) l) (sym (map_push (λ (e : Supervisor). e.quota) p.instance.supervisors e)) (All-push (λ q. q ≤ MOST_PLACES) (map (λ (e : Supervisor). e.quota) p.instance.supervisors) e.quota d.instance.within.supervisor_quotas t.quota);
+            project_quotas = d.instance.within.project_quotas;
+          };
+          supervisors = subst IsRoll (sym codes_are) (roll_push (supervisor_codes p.instance) e.code d.instance.supervisors t.form t.next);
+          projects = d.instance.projects;
+          students = d.instance.students;
+          offered = subst (λ (l : List Project). All (λ q. Contains (supervisor_codes (with_supervisor p e).instance) q.supervisor) l) (sym t.turn) (All-nil (λ (q : Project). Contains (supervisor_codes (with_supervisor p e).instance) q.supervisor));
+          listed = d.instance.listed;
         };
-        supervisors = subst IsRoll (sym codes_are) (roll_push (supervisor_codes p.instance) e.code d.supervisors t.form t.next);
-        projects = d.projects;
-        students = d.students;
-        offered = subst (λ (l : List Project). All (λ q. Contains (supervisor_codes (with_supervisor p e).instance) q.supervisor) l) (sym t.turn) (All-nil (λ (q : Project). Contains (supervisor_codes (with_supervisor p e).instance) q.supervisor));
-        listed = d.listed;
         places = d.places;
         last_place = d.last_place;
         student_prices = d.student_prices;
@@ -205,18 +207,20 @@ project_step p row e d t =
     let places = no_places p d t.turn in
     let codes_are : project_codes (with_project p e).instance ≡ project_codes p.instance ++ e.code ∷ [] = map_push (λ (e : Project). e.code) p.instance.projects e in (
       record {
-        within = record {
-          supervisors = d.within.supervisors;
-          projects = omega (arith, length_push p.instance.projects e, t.few);
-          students = d.within.students;
-          supervisor_quotas = d.within.supervisor_quotas;
-          project_quotas = subst (λ (l : List ℕ). All (λ q. q ≤ MOST_PLACES) l) (sym (map_push (λ (e : Project). e.quota) p.instance.projects e)) (All-push (λ q. q ≤ MOST_PLACES) (map (λ (e : Project). e.quota) p.instance.projects) e.quota d.within.project_quotas t.quota);
+        instance = record {
+          within = record {
+            supervisors = d.instance.within.supervisors;
+            projects = omega (arith, length_push p.instance.projects e, t.few);
+            students = d.instance.within.students;
+            supervisor_quotas = d.instance.within.supervisor_quotas;
+            project_quotas = subst (λ (l : List ℕ). All (λ q. q ≤ MOST_PLACES) l) (sym (map_push (λ (e : Project). e.quota) p.instance.projects e)) (All-push (λ q. q ≤ MOST_PLACES) (map (λ (e : Project). e.quota) p.instance.projects) e.quota d.instance.within.project_quotas t.quota);
+          };
+          supervisors = d.instance.supervisors;
+          projects = subst IsRoll (sym codes_are) (roll_push (project_codes p.instance) e.code d.instance.projects t.form t.next);
+          students = d.instance.students;
+          offered = All-push (λ (q : Project). Contains (supervisor_codes p.instance) q.supervisor) p.instance.projects e d.instance.offered t.known;
+          listed = subst (λ (l : List Student). All (λ s. IsSoundList (project_codes (with_project p e).instance) s.list) l) (sym t.turn) (All-nil (λ (s : Student). IsSoundList (project_codes (with_project p e).instance) s.list));
         };
-        supervisors = d.supervisors;
-        projects = subst IsRoll (sym codes_are) (roll_push (project_codes p.instance) e.code d.projects t.form t.next);
-        students = d.students;
-        offered = All-push (λ (q : Project). Contains (supervisor_codes p.instance) q.supervisor) p.instance.projects e d.offered t.known;
-        listed = subst (λ (l : List Student). All (λ s. IsSoundList (project_codes (with_project p e).instance) s.list) l) (sym t.turn) (All-nil (λ (s : Student). IsSoundList (project_codes (with_project p e).instance) s.list));
         places = d.places;
         last_place = d.last_place;
         student_prices = d.student_prices;
@@ -240,18 +244,20 @@ pub student_step : (p : Parts) (row : Row) (e : Student) → IsDraft p → Takes
 student_step p row e d t =
     let codes_are : student_codes (with_student p e).instance ≡ student_codes p.instance ++ e.code ∷ [] = map_push (λ (e : Student). e.code) p.instance.students e in (
       record {
-        within = record {
-          supervisors = d.within.supervisors;
-          projects = d.within.projects;
-          students = omega (arith, length_push p.instance.students e, t.few);
-          supervisor_quotas = d.within.supervisor_quotas;
-          project_quotas = d.within.project_quotas;
+        instance = record {
+          within = record {
+            supervisors = d.instance.within.supervisors;
+            projects = d.instance.within.projects;
+            students = omega (arith, length_push p.instance.students e, t.few);
+            supervisor_quotas = d.instance.within.supervisor_quotas;
+            project_quotas = d.instance.within.project_quotas;
+          };
+          supervisors = d.instance.supervisors;
+          projects = d.instance.projects;
+          students = subst IsRoll (sym codes_are) (roll_push (student_codes p.instance) e.code d.instance.students t.form t.next);
+          offered = d.instance.offered;
+          listed = All-push (λ (s : Student). IsSoundList (project_codes p.instance) s.list) p.instance.students e d.instance.listed t.list;
         };
-        supervisors = d.supervisors;
-        projects = d.projects;
-        students = subst IsRoll (sym codes_are) (roll_push (student_codes p.instance) e.code d.students t.form t.next);
-        offered = d.offered;
-        listed = All-push (λ (s : Student). IsSoundList (project_codes p.instance) s.list) p.instance.students e d.listed t.list;
         places = subst (λ (l : List (Option ℕ)). ArePlaces (p.instance.students ++ e ∷ []) l) (sym t.turn) tt;
         last_place = d.last_place;
         student_prices = no_prices_yet _ p.student_prices t.prices.students;
@@ -275,12 +281,7 @@ pub pair_step : (p : Parts) (row : Row) (s k : ℕ) → IsDraft p → TakesPair 
 pair_step p row s k d t =
     let at : slice_get p.instance.students (s - length p.places + length p.places) ≡ Some t.student = (let e : s ≡ s - length p.places + length p.places = omega (arith, t.later) in subst (λ (n : ℕ). slice_get p.instance.students n ≡ Some t.student) e t.here) in (
       record {
-        within = d.within;
-        supervisors = d.supervisors;
-        projects = d.projects;
-        students = d.students;
-        offered = d.offered;
-        listed = d.listed;
+        instance = d.instance;
         places = places_push p.instance.students p.places (s - length p.places) k t.student at d.places t.place;
         last_place = ends_push (p.places ++ replicate (s - length p.places) None) k;
         student_prices = d.student_prices;
@@ -312,12 +313,7 @@ not_none xs e h = omega (arith, ap length e)
 pub student_price_step : (p : Parts) (row : Row) (v : List ℤ) → IsDraft p → TakesStudentPrice p row v → (let q : Parts = record p { student_prices = p.student_prices ++ v ∷ [] } in IsDraft q × (round_lines q ≡ round_lines p ++ line (codes "U") row ∷ []))
 student_price_step p row v d t = (
   record {
-    within = d.within;
-    supervisors = d.supervisors;
-    projects = d.projects;
-    students = d.students;
-    offered = d.offered;
-    listed = d.listed;
+    instance = d.instance;
     places = d.places;
     last_place = d.last_place;
     student_prices = prices_push (λ (e : Student). e.code) p.instance.students p.student_prices row v d.student_prices t.price;
@@ -336,12 +332,7 @@ student_price_step p row v d t = (
 pub project_price_step : (p : Parts) (row : Row) (v : List ℤ) → IsDraft p → TakesProjectPrice p row v → (let q : Parts = record p { project_prices = p.project_prices ++ v ∷ [] } in IsDraft q × (round_lines q ≡ round_lines p ++ line (codes "Y") row ∷ []))
 project_price_step p row v d t = (
   record {
-    within = d.within;
-    supervisors = d.supervisors;
-    projects = d.projects;
-    students = d.students;
-    offered = d.offered;
-    listed = d.listed;
+    instance = d.instance;
     places = d.places;
     last_place = d.last_place;
     student_prices = d.student_prices;
@@ -359,12 +350,7 @@ project_price_step p row v d t = (
 pub supervisor_price_step : (p : Parts) (row : Row) (v : List ℤ) → IsDraft p → TakesSupervisorPrice p row v → (let q : Parts = record p { supervisor_prices = p.supervisor_prices ++ v ∷ [] } in IsDraft q × (round_lines q ≡ round_lines p ++ line (codes "Z") row ∷ []))
 supervisor_price_step p row v d t = (
   record {
-    within = d.within;
-    supervisors = d.supervisors;
-    projects = d.projects;
-    students = d.students;
-    offered = d.offered;
-    listed = d.listed;
+    instance = d.instance;
     places = d.places;
     last_place = d.last_place;
     student_prices = d.student_prices;

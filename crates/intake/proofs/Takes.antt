@@ -106,17 +106,17 @@ supervisor_only old r d g =
     let at = next_at (sections p) (sections old) (codes "S") r 0 refl g.next in
     let i = at in
     let f = front supervisor_row (λ (e : Supervisor). e.code) supervisor_code p.instance.supervisors old.instance.supervisors r i.0.0 i.0.1 in
-    let quota = all_found (λ q. q ≤ MOST_PLACES) (map (λ (e : Supervisor). e.quota) p.instance.supervisors) (length old.instance.supervisors) f.e.quota g.valid.within.supervisor_quotas (get_mapped (λ (e : Supervisor). e.quota) p.instance.supervisors (length old.instance.supervisors) f.e f.here) in
+    let quota = all_found (λ q. q ≤ MOST_PLACES) (map (λ (e : Supervisor). e.quota) p.instance.supervisors) (length old.instance.supervisors) f.e.quota g.valid.instance.within.supervisor_quotas (get_mapped (λ (e : Supervisor). e.quota) p.instance.supervisors (length old.instance.supervisors) f.e f.here) in
     let within = within_get p.instance.supervisors (length old.instance.supervisors) f.e f.here in (
       f.e,
       record {
         turn = nothing_made project_row old.instance.projects i.1.0;
         prices = no_prices_of old d i.1.1.1.1.0 i.1.1.1.1.1.0 i.1.1.1.1.1.1.0;
         is = f.is;
-        form = all_found (λ c. IsTrue (is_code c)) (supervisor_codes p.instance) (length old.instance.supervisors) f.e.code g.valid.supervisors.form (get_mapped (λ (e : Supervisor). e.code) p.instance.supervisors (length old.instance.supervisors) f.e f.here);
+        form = all_found (λ c. IsTrue (is_code c)) (supervisor_codes p.instance) (length old.instance.supervisors) f.e.code g.valid.instance.supervisors.form (get_mapped (λ (e : Supervisor). e.code) p.instance.supervisors (length old.instance.supervisors) f.e f.here);
         quota = quota;
-        few = omega (arith, within, g.valid.within.supervisors);
-        next = front_rises supervisor_row (λ (e : Supervisor). e.code) p.instance.supervisors old.instance.supervisors r f g.valid.supervisors.rise;
+        few = omega (arith, within, g.valid.instance.within.supervisors);
+        next = front_rises supervisor_row (λ (e : Supervisor). e.code) p.instance.supervisors old.instance.supervisors r f g.valid.instance.supervisors.rise;
       },
     )
 
@@ -129,17 +129,17 @@ project_only old r d g =
     let n : ℕ = length old.instance.projects in
     let f = front project_row (λ (e : Project). e.code) project_code p.instance.projects old.instance.projects r i.0.0 i.0.1 in
     let within = within_get p.instance.projects n f.e f.here in
-    let owner = all_found (λ (e : Project). Contains (supervisor_codes p.instance) e.supervisor) p.instance.projects n f.e g.valid.offered f.here in (
+    let owner = all_found (λ (e : Project). Contains (supervisor_codes p.instance) e.supervisor) p.instance.projects n f.e g.valid.instance.offered f.here in (
       f.e,
       record {
         turn = nothing_made student_row old.instance.students i.1.0;
         prices = no_prices_of old d i.1.1.1.0 i.1.1.1.1.0 i.1.1.1.1.1.0;
         is = f.is;
-        form = all_found (λ c. IsTrue (is_code c)) (project_codes p.instance) n f.e.code g.valid.projects.form (get_mapped (λ (e : Project). e.code) p.instance.projects n f.e f.here);
-        quota = all_found (λ q. q ≤ MOST_PLACES) (map (λ (e : Project). e.quota) p.instance.projects) n f.e.quota g.valid.within.project_quotas (get_mapped (λ (e : Project). e.quota) p.instance.projects n f.e f.here);
+        form = all_found (λ c. IsTrue (is_code c)) (project_codes p.instance) n f.e.code g.valid.instance.projects.form (get_mapped (λ (e : Project). e.code) p.instance.projects n f.e f.here);
+        quota = all_found (λ q. q ≤ MOST_PLACES) (map (λ (e : Project). e.quota) p.instance.projects) n f.e.quota g.valid.instance.within.project_quotas (get_mapped (λ (e : Project). e.quota) p.instance.projects n f.e f.here);
         known = subst (λ (l : List (List ℕ)). Contains l f.e.supervisor) (same_codes supervisor_row (λ (e : Supervisor). e.code) supervisor_code p.instance.supervisors old.instance.supervisors at.0) owner;
-        few = omega (arith, within, g.valid.within.projects);
-        next = front_rises project_row (λ (e : Project). e.code) p.instance.projects old.instance.projects r f g.valid.projects.rise;
+        few = omega (arith, within, g.valid.instance.within.projects);
+        next = front_rises project_row (λ (e : Project). e.code) p.instance.projects old.instance.projects r f g.valid.instance.projects.rise;
       },
     )
 
@@ -160,16 +160,16 @@ student_only old r d g =
     let n : ℕ = length old.instance.students in
     let f = front student_row (λ (e : Student). e.code) student_code p.instance.students old.instance.students r i.0.0 i.0.1 in
     let within = within_get p.instance.students n f.e f.here in
-    let listed = all_found (λ (e : Student). IsSoundList (project_codes p.instance) e.list) p.instance.students n f.e g.valid.listed f.here in (
+    let listed = all_found (λ (e : Student). IsSoundList (project_codes p.instance) e.list) p.instance.students n f.e g.valid.instance.listed f.here in (
       f.e,
       record {
         turn = no_places old.instance.students old.places d.places d.last_place i.1.0;
         prices = no_prices_of old d i.1.1.0 i.1.1.1.0 i.1.1.1.1.0;
         is = f.is;
-        form = all_found (λ c. IsTrue (is_code c)) (student_codes p.instance) n f.e.code g.valid.students.form (get_mapped (λ (e : Student). e.code) p.instance.students n f.e f.here);
+        form = all_found (λ c. IsTrue (is_code c)) (student_codes p.instance) n f.e.code g.valid.instance.students.form (get_mapped (λ (e : Student). e.code) p.instance.students n f.e f.here);
         list = subst (λ (l : List (List ℕ)). IsSoundList l f.e.list) (same_codes project_row (λ (e : Project). e.code) project_code p.instance.projects old.instance.projects at.1.0) listed;
-        few = omega (arith, within, g.valid.within.students);
-        next = front_rises student_row (λ (e : Student). e.code) p.instance.students old.instance.students r f g.valid.students.rise;
+        few = omega (arith, within, g.valid.instance.within.students);
+        next = front_rises student_row (λ (e : Student). e.code) p.instance.students old.instance.students r f g.valid.instance.students.rise;
       },
     )
 
@@ -284,7 +284,7 @@ pair_only old r d g =
     let i = at.1.1.1 in
     let students : p.instance.students ≡ old.instance.students = same_students p.instance.students old.instance.students at.1.1.0 in
     let rows : pair_rows old.instance.students p.places ≡ pair_rows old.instance.students old.places ++ r ∷ i.0.0 = ap (λ (l : List Student). pair_rows l p.places) (sym students) ∙ i.0.1 in
-    let a = next_pair old.instance.students p.places old.places r i.0.0 d.students.rise d.places d.last_place rows in
+    let a = next_pair old.instance.students p.places old.places r i.0.0 d.instance.students.rise d.places d.last_place rows in
     let zipped : AllZip IsPlace old.instance.students p.places = subst (λ (l : List Student). AllZip IsPlace l p.places) students g.valid.places in (
       a.at,
       a.place,

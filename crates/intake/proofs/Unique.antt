@@ -160,15 +160,15 @@ one_rows p q v w e =
 pub one_text : (p q : Parts) → IsRoundParts p → IsRoundParts q → round_text p ≡ round_text q → p ≡ q
 one_text p q v w e =
     let s = one_rows p q v w e in
-    let supervisors : p.instance.supervisors ≡ q.instance.supervisors = same_supervisors p.instance.supervisors q.instance.supervisors v.within.supervisor_quotas w.within.supervisor_quotas s.0 in
-    let projects : p.instance.projects ≡ q.instance.projects = same_projects p.instance.projects q.instance.projects v.within.project_quotas w.within.project_quotas s.1.0 in
+    let supervisors : p.instance.supervisors ≡ q.instance.supervisors = same_supervisors p.instance.supervisors q.instance.supervisors v.instance.within.supervisor_quotas w.instance.within.supervisor_quotas s.0 in
+    let projects : p.instance.projects ≡ q.instance.projects = same_projects p.instance.projects q.instance.projects v.instance.within.project_quotas w.instance.within.project_quotas s.1.0 in
     let students : p.instance.students ≡ q.instance.students = same_students p.instance.students q.instance.students s.1.1.0 in
     let zipped : AllZip IsPlace q.instance.students p.places = subst (λ (l : List Student). AllZip IsPlace l p.places) students v.places in
     let pairs : pair_rows q.instance.students p.places ≡ pair_rows q.instance.students q.places = ap (λ (l : List Student). pair_rows l p.places) (sym students) ∙ s.1.1.1.0 in
     same_parts p.instance.supervisors q.instance.supervisors p.instance.projects q.instance.projects p.instance.students q.instance.students
     p.places q.places p.student_prices q.student_prices p.project_prices q.project_prices p.supervisor_prices q.supervisor_prices
     supervisors projects students
-    (same_places (project_codes q.instance) q.instance.students p.places q.places w.students.rise w.listed zipped w.places pairs)
+    (same_places (project_codes q.instance) q.instance.students p.places q.places w.instance.students.rise w.instance.listed zipped w.places pairs)
     (same_priced (λ (e : Student). e.code) p.instance.students q.instance.students p.student_prices q.student_prices students v.student_prices w.student_prices s.1.1.1.1.0)
     (same_priced (λ (e : Project). e.code) p.instance.projects q.instance.projects p.project_prices q.project_prices projects v.project_prices w.project_prices s.1.1.1.1.1.0)
     (same_priced (λ (e : Supervisor). e.code) p.instance.supervisors q.instance.supervisors p.supervisor_prices q.supervisor_prices supervisors v.supervisor_prices w.supervisor_prices s.1.1.1.1.1.1.0)

@@ -6,9 +6,9 @@ use Rattle.spa.specs.Text.{is_code}
 use Rattle.spa.specs.Shape.{IsPlaceOf}
 use Rattle.spa.specs.Codes.{code_at}
 use Rattle.spa.specs.Instance.{Supervisor, Project, Student, given, supervisor_codes, project_codes, student_codes}
-use Rattle.spa.specs.Made.{IsWithin, IsSoundList}
+use Rattle.spa.specs.Made.{IsSoundList}
 use Rattle.intake.specs.declared.draft.Draft.{Draft}
-use Rattle.intake.specs.Parts.{Parts, Rise, IsRoll, IsPlace, IsPrice}
+use Rattle.intake.specs.Parts.{Parts, Rise, IsRoundInstance, IsPlace, IsPrice}
 use Rattle.intake.specs.Lines.{Row, choice_code, line, round_lines, supervisor_row, project_row, student_row}
 use Rattle.intake.specs.Reading.{Begins}
 
@@ -45,12 +45,7 @@ NoneOrAll n vs = (length vs ≡ 0) ⊎ (length vs ≡ n)
 
 -- parts that more lines may complete: a section of prices is complete where one after it has begun
 pub record IsDraft (p : Parts) : Type 0 where
-  pub within : IsWithin p.instance
-  pub supervisors : IsRoll (supervisor_codes p.instance)
-  pub projects : IsRoll (project_codes p.instance)
-  pub students : IsRoll (student_codes p.instance)
-  pub offered : All (λ e. Contains (supervisor_codes p.instance) e.supervisor) p.instance.projects
-  pub listed : All (λ e. IsSoundList (project_codes p.instance) e.list) p.instance.students
+  pub instance : IsRoundInstance p.instance
   pub places : ArePlaces p.instance.students p.places
   pub last_place : EndsPlaced p.places
   pub student_prices : ArePricesUpTo (length p.instance.students) p.student_prices

@@ -12,7 +12,7 @@ use Rattle.intake.proofs.Pairing.{refers, nowhere, one_place, student_at, listed
 use Rattle.intake.proofs.draft.Draft.add_pair.Goals as goal
 
 pub position_at-requires : goal.position_at-requires
-position_at-requires c = subst IsRoll (student_keys c.args.self.now.students.items ∙ ap (map (λ e. e.0)) (sym c.deref.ensures.value)) c.requires.students
+position_at-requires c = subst IsRoll (student_keys c.args.self.now.students.items ∙ ap (map (λ e. e.0)) (sym c.deref.ensures.value)) c.requires.instance.students
 
 pub returns-in_default-position_at : goal.returns-in_default-position_at
 returns-in_default-position_at c = λ s k t.
@@ -25,7 +25,7 @@ pub returns-then-position-len : goal.returns-then-position-len
 returns-then-position-len c = λ s k t.
     let r = refers _ _ s k _ _ c.requires t (two_fields c.args.fields.now c.in-len2.len_at_least c.in-len2.len_below) in
     let keys = student_keys c.args.self.now.students.items ∙ ap (map (λ e. e.0)) (sym c.deref.ensures.value) in
-    let same : c.in-Some.position ≡ s = one_place _ c.in-Some.position s _ c.requires.students.rise
+    let same : c.in-Some.position ≡ s = one_place _ c.in-Some.position s _ c.requires.instance.students.rise
     (ap (λ (l : List (List ℕ)). slice_get l c.in-Some.position) keys ∙ c.in-Some.ensures.1) r.code in
     let many : c.len.result ≡ length c.args.self.now.places.items = search (rules) in
     omega (arith, t.later, c.if-position-len.true)
@@ -34,7 +34,7 @@ pub returns-in_default-position_in : goal.returns-in_default-position_in
 returns-in_default-position_in c = λ s k t.
     let r = refers _ _ s k _ _ c.requires t (two_fields c.args.fields.now c.in-len2.len_at_least c.in-len2.len_below) in
     let keys = student_keys c.args.self.now.students.items ∙ ap (map (λ e. e.0)) (sym c.deref.ensures.value) in
-    let same : c.in-Some.position ≡ s = one_place _ c.in-Some.position s _ c.requires.students.rise
+    let same : c.in-Some.position ≡ s = one_place _ c.in-Some.position s _ c.requires.instance.students.rise
     (ap (λ (l : List (List ℕ)). slice_get l c.in-Some.position) keys ∙ c.in-Some.ensures.1) r.code in
     let within : c.in-Some.position < length c.args.self.now.students.items = omega (arith, c.in-Some.ensures.0, ap length c.deref.ensures.value) in
     let list = listed_at c.args.self.now.students.items c.in-Some.position s c.index.result.now t.student within c.index.ensures same t.here in

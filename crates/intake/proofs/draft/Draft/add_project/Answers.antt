@@ -12,7 +12,7 @@ use Rattle.intake.proofs.Rolls.{project_keys, supervisor_keys, rise_moved, conta
 use Rattle.intake.proofs.draft.Draft.add_project.Goals as goal
 
 pub is_next-requires : goal.is_next-requires
-is_next-requires c = subst Rise (project_keys c.args.self.now.projects.items ∙ ap (map (λ e. e.0)) (sym c.deref.ensures.value)) c.requires.projects.rise
+is_next-requires c = subst Rise (project_keys c.args.self.now.projects.items ∙ ap (map (λ e. e.0)) (sym c.deref.ensures.value)) c.requires.instance.projects.rise
 
 pub returns-then-not-is_next : goal.returns-then-not-is_next
 returns-then-not-is_next c = λ e t.
@@ -24,7 +24,7 @@ returns-then-not-is_next c = λ e t.
     cc
 
 pub position_at-requires : goal.position_at-requires
-position_at-requires c = subst IsRoll (supervisor_keys c.args.self.now.supervisors.items ∙ ap (map (λ e. e.0)) (sym c.deref-2.ensures.value)) c.requires.supervisors
+position_at-requires c = subst IsRoll (supervisor_keys c.args.self.now.supervisors.items ∙ ap (map (λ e. e.0)) (sym c.deref-2.ensures.value)) c.requires.instance.supervisors
 
 pub returns-in_default-position_at : goal.returns-in_default-position_at
 returns-in_default-position_at c = λ e t.

@@ -10,10 +10,10 @@ use Rattle.intake.proofs.Rolls.{student_keys, project_keys, rise_moved, sound_mo
 use Rattle.intake.proofs.draft.Draft.add_student.Goals as goal
 
 pub is_next-requires : goal.is_next-requires
-is_next-requires c = subst Rise (student_keys c.args.self.now.students.items ∙ ap (map (λ e. e.0)) (sym c.deref.ensures.value)) c.requires.students.rise
+is_next-requires c = subst Rise (student_keys c.args.self.now.students.items ∙ ap (map (λ e. e.0)) (sym c.deref.ensures.value)) c.requires.instance.students.rise
 
 pub read_list-requires : goal.read_list-requires
-read_list-requires c = subst IsRoll (project_keys c.args.self.now.projects.items ∙ ap (map (λ e. e.0)) (sym c.deref-2.ensures.value)) c.requires.projects
+read_list-requires c = subst IsRoll (project_keys c.args.self.now.projects.items ∙ ap (map (λ e. e.0)) (sym c.deref-2.ensures.value)) c.requires.instance.projects
 
 pub returns-then-not-is_next : goal.returns-then-not-is_next
 returns-then-not-is_next c = λ e t.

@@ -10,7 +10,7 @@ use Rattle.intake.proofs.Rolls.{supervisor_keys, rise_moved}
 use Rattle.intake.proofs.draft.Draft.add_supervisor.Goals as goal
 
 pub is_next-requires : goal.is_next-requires
-is_next-requires c = subst Rise (supervisor_keys c.args.self.now.supervisors.items ∙ ap (map (λ e. e.0)) (sym c.deref.ensures.value)) c.requires.supervisors.rise
+is_next-requires c = subst Rise (supervisor_keys c.args.self.now.supervisors.items ∙ ap (map (λ e. e.0)) (sym c.deref.ensures.value)) c.requires.instance.supervisors.rise
 
 pub returns-then-not-is_next : goal.returns-then-not-is_next
 returns-then-not-is_next c = λ e t.
