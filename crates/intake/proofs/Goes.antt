@@ -168,7 +168,7 @@ module _ (c : ℕ) (low : c < 45) where
 
 -- the fields of the lines of a draft
 draft_back : (p : Parts) → IsDraft p → map fields_of (round_lines p) ≡ full (sections p)
-draft_back p d = sections_back (sections p) (sections_plain 44 (omega arith) p d.instance d.student_prices.prices d.project_prices.prices d.supervisor_prices.prices)
+draft_back p d = sections_back (sections p) (sections_plain 44 (omega arith) p d.instance d.prices.0.prices d.prices.2.0.prices d.prices.2.2.0.prices)
 
 -- the parts whose lines go on, and the section that the next row is in
 pub record GoesOn (old : Parts) (l : List ℕ) (r : Row) : Type 0 where

@@ -9,6 +9,7 @@ mod Numbers
 mod Order
 mod Pairing
 mod Pieces
+mod Prices
 mod Rolls
 mod Sections
 mod Size

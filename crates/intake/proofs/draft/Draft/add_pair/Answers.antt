@@ -15,14 +15,18 @@ pub position_at-requires : goal.position_at-requires
 position_at-requires c = subst IsRoll (student_keys c.args.self.now.students.items ∙ ap (map (λ e. e.0)) (sym c.deref.ensures.value)) c.requires.instance.students
 
 pub returns-in_default-position_at : goal.returns-in_default-position_at
-returns-in_default-position_at c = λ s k t.
+returns-in_default-position_at c = λ e t.
+    let s : ℕ = e.0 in
+    let k : ℕ = e.1 in
     let r = refers _ _ s k _ _ c.requires t (two_fields c.args.fields.now c.in-len2.len_at_least c.in-len2.len_below) in
     let keys = student_keys c.args.self.now.students.items ∙ ap (map (λ e. e.0)) (sym c.deref.ensures.value) in
     nowhere (map (λ e. e.0) c.deref.result.now) (length c.deref.result.now) s (get_or c.args.fields.now 0 blank).now _ (sym (length-map c.deref.result.now (λ e. e.0))) refl
     c.in_default-position_at.ensures (ap (λ (l : List (List ℕ)). slice_get l s) (sym keys) ∙ r.code)
 
 pub returns-then-position-len : goal.returns-then-position-len
-returns-then-position-len c = λ s k t.
+returns-then-position-len c = λ e t.
+    let s : ℕ = e.0 in
+    let k : ℕ = e.1 in
     let r = refers _ _ s k _ _ c.requires t (two_fields c.args.fields.now c.in-len2.len_at_least c.in-len2.len_below) in
     let keys = student_keys c.args.self.now.students.items ∙ ap (map (λ e. e.0)) (sym c.deref.ensures.value) in
     let same : c.in-Some.position ≡ s = one_place _ c.in-Some.position s _ c.requires.instance.students.rise
@@ -31,7 +35,9 @@ returns-then-position-len c = λ s k t.
     omega (arith, t.later, c.if-position-len.true)
 
 pub returns-in_default-position_in : goal.returns-in_default-position_in
-returns-in_default-position_in c = λ s k t.
+returns-in_default-position_in c = λ e t.
+    let s : ℕ = e.0 in
+    let k : ℕ = e.1 in
     let r = refers _ _ s k _ _ c.requires t (two_fields c.args.fields.now c.in-len2.len_at_least c.in-len2.len_below) in
     let keys = student_keys c.args.self.now.students.items ∙ ap (map (λ e. e.0)) (sym c.deref.ensures.value) in
     let same : c.in-Some.position ≡ s = one_place _ c.in-Some.position s _ c.requires.instance.students.rise
@@ -67,8 +73,7 @@ returns c =
     let first : c.index.result.now.0 ≡ (get_or c.args.fields.now 0 blank).now = same_found _ s _ _ (get_mapped (λ (x : Student). x.code) _ s _ here)
     (ap (λ (l : List (List ℕ)). slice_get l s) keys ∙ c.in-Some.ensures.1) in
     let second : (get_or c.args.fields.now 1 blank).now ≡ choice_code c.index.result.now.1.items k = sym (get_found c.deref-2.result.now before (get_or c.args.fields.now 1 blank).now [] c.in-Some-position_in.ensures.1) ∙ ap (λ (l : List (List ℕ)). code_at l before) c.deref-2.ensures.value ∙ ap (code_at c.index.result.now.1.items) (omega arith) in (
-      s,
-      k,
+      (s, k),
       record {
         prices = c.has_no_prices.ensures.0 c.if-not-has_no_prices.false;
         student = record { code = c.index.result.now.0; list = c.index.result.now.1.items };

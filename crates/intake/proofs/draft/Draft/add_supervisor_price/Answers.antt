@@ -1,16 +1,17 @@
 use Rattle.std.proofs.Common.{◌≡◌, length, map, sym, ap, ◌∙◌, rules}
-use Rattle.intake.proofs.Adding.{supervisor_price_adds, price_moved, none_or_all_moved}
-use Rattle.intake.proofs.Rolls.{supervisor_keys, student_count, project_count}
+use Rattle.intake.proofs.Adding.{price_moved, none_or_all_moved}
+use Rattle.intake.proofs.Prices.{price_adds}
+use Rattle.intake.proofs.Rolls.{supervisor_keys, student_code_count, project_code_count}
 use Rattle.intake.proofs.draft.Draft.add_supervisor_price.Goals as goal
 
 pub returns : goal.returns
 returns c =
     let keys = ap (map (λ e. e.0)) c.deref-2.ensures.value ∙ sym (supervisor_keys c.args.self.now.supervisors.items) in
     let len : c.len.result ≡ length c.args.self.now.students.items = search (rules) in
-    let many = len ∙ sym (student_count c.args.self.now.students.items) in
+    let many = len ∙ sym (student_code_count c.args.self.now.students.items) in
     let len2 : c.len-else-not-is_none_or_all.result ≡ length c.args.self.now.projects.items = search (rules) in
-    let others = len2 ∙ sym (project_count c.args.self.now.projects.items) in
-    supervisor_price_adds _ _ c.add_price.new.prices.items c.in_ok-added.added
-    (none_or_all_moved c.len.result _ c.deref.result.now _ many c.deref.ensures.value (c.is_none_or_all.ensures.0 c.if-not-is_none_or_all.false))
-    (none_or_all_moved c.len-else-not-is_none_or_all.result _ c.deref-else-not-is_none_or_all.result.now _ others c.deref-else-not-is_none_or_all.ensures.value (c.is_none_or_all-else-not-is_none_or_all.ensures.0 c.if-not-is_none_or_all-2.false))
-    (price_moved _ _ _ _ _ c.in_ok-added.added keys c.in_ok-added.ensures)
+    let others = len2 ∙ sym (project_code_count c.args.self.now.projects.items) in
+    price_adds 2 _ _ c.add_price.new.prices.items c.in_ok-added.added (
+      none_or_all_moved c.len.result _ c.deref.result.now _ many c.deref.ensures.value (c.is_none_or_all.ensures.0 c.if-not-is_none_or_all.false),
+      (none_or_all_moved c.len-else-not-is_none_or_all.result _ c.deref-else-not-is_none_or_all.result.now _ others c.deref-else-not-is_none_or_all.ensures.value (c.is_none_or_all-else-not-is_none_or_all.ensures.0 c.if-not-is_none_or_all-2.false), tt),
+    ) (price_moved _ _ _ _ _ c.in_ok-added.added keys c.in_ok-added.ensures)
