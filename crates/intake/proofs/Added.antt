@@ -8,14 +8,14 @@ use Rattle.intake.specs.Parts.{Parts}
 use Rattle.intake.specs.Lines.{Row, line, round_lines}
 use Rattle.intake.specs.Reading.{Begins}
 use Rattle.intake.specs.Draft.{IsDraft, IsField}
-use Rattle.intake.specs.Entries.{Adds, AddsLine, letter_of, line_of}
+use Rattle.intake.specs.Entries.{Adds, AddsLine, HasTurn, letter_of, line_of}
 use Rattle.intake.proofs.Goes.{goes_on}
 use Rattle.intake.proofs.Takes.{only, other_only}
 use Rattle.intake.proofs.Steps.{step}
 
--- a letter is a field
-letter_field : (s : SectionName) → IsField (letter_of s)
-letter_field s = go s
+-- a letter is a field, before those of a row
+letter_field : (s : SectionName) (row : Row) → All IsField row → All IsField (letter_of s ∷ row)
+letter_field s row f = All-cons IsField (letter_of s) row (go s) f
   where
     one : (b : ℕ) → (b == 44) ≡ false → IsField (b ∷ [])
     one b h = All-cons (λ b. (b == 44) ≡ false) b [] h (All-nil (λ b. (b == 44) ≡ false))
@@ -29,12 +29,12 @@ letter_field s = go s
     go ProjectPrices = one 89 refl
     go SupervisorPrices = one 90 refl
 
--- a line of a section
-pub section_line : (s : SectionName) (old : Parts) (row : Row) (new : Parts) (b : Bool) → IsDraft old → All IsField row → Adds s old row new b → AddsLine old (line (letter_of s) row) new b
-section_line s old row new true d f h =
-    let made = step s old row h.0 d h.1 in
+-- what is added in a section that has its turn
+pub section_line : (s : SectionName) (old : Parts) (row : Row) (new : Parts) (b : Bool) → IsDraft old → All IsField row → HasTurn s old → Adds s old row new b → AddsLine old (line (letter_of s) row) new b
+section_line s old row new true d f t h =
+    let made = step s old row h.0 d t h.1 in
     (subst IsDraft (sym h.2) made.0, ap round_lines h.2 ∙ made.1)
-section_line s old row new false d f h = λ b. (let t = only s old row d (goes_on old (letter_of s) row d (All-cons IsField (letter_of s) row (letter_field s) f) b) in h t.0 t.1)
+section_line s old row new false d f t h = λ b. (let g = only s old row d (goes_on old (letter_of s) row d (letter_field s row f) b) in h g.e g.next)
 
 -- the line of fields, said of them as they were read
 pub moved_line : (old new : Parts) (b : Bool) (fs : List (Bor (List ℕ))) (letter : Bor (List ℕ)) (row : List (Bor (List ℕ))) (l : List ℕ) → fs ≡ letter ∷ row → letter.now ≡ l → AddsLine old (line l (map (λ f. f.now) row)) new b → AddsLine old (line_of (map (λ f. f.now) fs)) new b
@@ -44,6 +44,11 @@ moved_line old new b fs letter row l e f h =
 -- the fields after the letter
 pub fields_after : (fs : List (Bor (List ℕ))) (letter : Bor (List ℕ)) (row : List (Bor (List ℕ))) → fs ≡ letter ∷ row → All IsField (map (λ f. f.now) fs) → All IsField (map (λ f. f.now) row)
 fields_after fs letter row e h = All-tail IsField letter.now (map (λ f. f.now) row) (subst (λ (l : List (Bor (List ℕ))). All IsField (map (λ f. f.now) l)) e h)
+
+-- a line of a section that has no turn
+pub no_turn : (s : SectionName) (old : Parts) (fs : List (Bor (List ℕ))) (letter : Bor (List ℕ)) (row : List (Bor (List ℕ))) → IsDraft old → All IsField (map (λ f. f.now) fs) → fs ≡ letter ∷ row → letter.now ≡ letter_of s → (HasTurn s old → ⊥) → AddsLine old (line_of (map (λ f. f.now) fs)) old false
+no_turn s old fs letter row d f e l off =
+    moved_line old old false fs letter row (letter_of s) e l (λ b. off (only s old (map (λ f. f.now) row) d (goes_on old (letter_of s) (map (λ f. f.now) row) d (letter_field s (map (λ f. f.now) row) (fields_after fs letter row e f)) b)).turn)
 
 -- a line with another letter, or without one
 pub no_line : (old : Parts) (fs : List (List ℕ)) → IsDraft old → All IsField fs → ((l : List ℕ) (row : Row) → fs ≡ l ∷ row → (s : SectionName) → l ≡ letter_of s → ⊥) → ¬ Begins (round_lines old ++ line_of fs ∷ [])

@@ -1,11 +1,10 @@
 -- What a row adds to a draft.
 use Rattle.std.proofs.Common.{◌≡◌, ℕ, ◌<◌, ◌≤◌, ℤ, Bool, List, [], ◌∷◌, ◌++◌, length, map, get_or, Option, refl, ap, ◌∙◌, subst, arith}
 use denote.Ref.{Bor}
-use Rattle.std.proofs.lemmas.List.{map_push, nil_from_length}
+use Rattle.std.proofs.lemmas.List.{map_push}
 use Rattle.spa.specs.Instance.{Instance, Supervisor, Project, Student, given, supervisors_of, projects_of, students_of}
 use Rattle.intake.specs.Parts.{Parts}
 use Rattle.intake.specs.declared.section.SectionName.TheVariants.{Supervisors, Projects, Students}
-use Rattle.intake.specs.Draft.{NoneOrAll}
 use Rattle.intake.specs.Entries.{AddsPrice, with_entry}
 use Rattle.intake.proofs.Lists.{blank}
 
@@ -49,14 +48,6 @@ student_added ss ps ts new ks u y z code list e =
     let f = λ (l : List Student). (let i : Instance = record { supervisors = supervisors_of ss; projects = projects_of ps; students = l } in let p : Parts = record { instance = i; places = ks; student_prices = u; project_prices = y; supervisor_prices = z } in p) in
     ap (λ (l : List (List ℕ × List (List ℕ))). parts ss ps l ks u y z) e ∙ ap f (map_push (λ (e : List ℕ × List (List ℕ)). let s : Student = record { code = e.0; list = e.1 } in s) ts (code, list))
 
--- a list without elements
-pub empty_is : {X : Type 0} (xs : List X) → length xs ≡ 0 → xs ≡ []
-empty_is xs h = nil_from_length xs h
-
 -- a price that was added, said of the same codes
 pub price_moved : (a b : List (List ℕ)) (old : List (List ℤ)) (row : List (List ℕ)) (new : List (List ℤ)) (r : Bool) → a ≡ b → AddsPrice a old row new r → AddsPrice b old row new r
 price_moved a b old row new r e h = subst (λ (l : List (List ℕ)). AddsPrice l old row new r) e h
-
--- none or all, said of the same prices and number
-pub none_or_all_moved : (m n : ℕ) (a b : List (List ℤ)) → m ≡ n → a ≡ b → NoneOrAll m a → NoneOrAll n b
-none_or_all_moved m n a b e f h = subst (λ (k : ℕ). NoneOrAll k b) e (subst (λ (l : List (List ℤ)). NoneOrAll m l) f h)

@@ -11,7 +11,7 @@ use Rattle.spa.specs.Instance.{Supervisor, Project, Student}
 use Rattle.intake.specs.Parts.{Parts, IsPrice, ArePricesOrNone, IsRoundParts}
 use Rattle.intake.specs.Lines.{Row, Priced, priced, price_section, price_rows}
 use Rattle.intake.specs.Draft.{ArePricesUpTo, NoneOrAll, AreUnpriced, AreComplete, ArePricedInTurn}
-use Rattle.intake.specs.Entries.{TakesPrice, TakesPriceAt, IsTurn, At, prices_at, with_prices, with_price, AddsOne, AddsPrice}
+use Rattle.intake.specs.Entries.{NextPrice, NextPriceAt, IsTurn, At, prices_at, with_prices, with_price, AddsOne, AddsPrice}
 use Rattle.intake.proofs.Pairing.{all_found}
 use Rattle.intake.proofs.Sections.{NoRows, NextAt, SameRows, Grows}
 
@@ -91,13 +91,13 @@ priced_changed (suc (suc zero)) vs p t = refl
 priced_changed (suc (suc (suc n))) vs p t = absurd t.1.1.1
 
 -- one price more at position n: they are prices
-pub pushed_prices : (n : ℕ) (xs : List Priced) (row : Row) (v : List ℤ) → ArePricedInTurn xs → At n (λ s. TakesPrice s.codes s.prices row v) xs → At n (λ s. ArePricesUpTo (length s.codes) (prices_at n xs ++ v ∷ [])) xs
+pub pushed_prices : (n : ℕ) (xs : List Priced) (row : Row) (v : List ℤ) → ArePricedInTurn xs → At n (λ s. NextPrice s.codes s.prices row v) xs → At n (λ s. ArePricesUpTo (length s.codes) (prices_at n xs ++ v ∷ [])) xs
 pushed_prices n [] row v d t = absurd t
 pushed_prices zero (s ∷ ss) row v d t = record { few = omega (arith, length_push s.prices v, t.few); prices = All-push IsPrice s.prices v d.0.prices t.price }
 pushed_prices (suc n) (s ∷ ss) row v d t = pushed_prices n ss row v d.2 t
 
 -- and their rows one more
-pub pushed_rows : (n : ℕ) (xs : List Priced) (row : Row) (v : List ℤ) → At n (λ s. TakesPrice s.codes s.prices row v) xs → At n (λ s. price_rows s.codes (prices_at n xs ++ v ∷ []) ≡ price_rows s.codes s.prices ++ row ∷ []) xs
+pub pushed_rows : (n : ℕ) (xs : List Priced) (row : Row) (v : List ℤ) → At n (λ s. NextPrice s.codes s.prices row v) xs → At n (λ s. price_rows s.codes (prices_at n xs ++ v ∷ []) ≡ price_rows s.codes s.prices ++ row ∷ []) xs
 pushed_rows n [] row v t = absurd t
 pushed_rows zero (s ∷ ss) row v t = price_push s.codes s.prices v t.few ∙ ap (λ (r : Row). price_rows s.codes s.prices ++ r ∷ []) (sym t.is)
 pushed_rows (suc n) (s ∷ ss) row v t = pushed_rows n ss row v t
@@ -201,7 +201,7 @@ next_price (c ∷ cs) (u ∷ us) (v ∷ vs) r more h e =
 
 -- the next row at position n is that of a price that may come
 pub takes_next : (n : ℕ) (us xs : List Priced) (r : Row) → SameCodes us xs → AreAllOrNone us → ArePricedInTurn xs → NextAt n (map price_section us) (map price_section xs) r
-    → (v : List ℤ) × IsTurn n xs × At n (λ s. TakesPrice s.codes s.prices r v) xs
+    → (v : List ℤ) × IsTurn n xs × At n (λ s. NextPrice s.codes s.prices r v) xs
 takes_next n [] xs r c w d h = absurd h
 takes_next n (u ∷ us) [] r c w d h = absurd h
 takes_next zero (u ∷ us) (x ∷ xs) r c w d h =
@@ -213,18 +213,18 @@ takes_next (suc n) (u ∷ us) (x ∷ xs) r c w d h =
     (t.0, (none_or_all u.codes x.codes u.prices x.prices c.0 w.0 d.0.few h.0, t.1), t.2)
 
 -- what was added at position n
-added_at : (n : ℕ) (xs : List Priced) (row : Row) (new : List (List ℤ)) → At n (λ s. AddsPrice s.codes s.prices row new true) xs → (v : List ℤ) × At n (λ s. TakesPrice s.codes s.prices row v) xs × (new ≡ prices_at n xs ++ v ∷ [])
+added_at : (n : ℕ) (xs : List Priced) (row : Row) (new : List (List ℤ)) → At n (λ s. AddsPrice s.codes s.prices row new true) xs → (v : List ℤ) × At n (λ s. NextPrice s.codes s.prices row v) xs × (new ≡ prices_at n xs ++ v ∷ [])
 added_at n [] row new a = absurd a
 added_at zero (s ∷ ss) row new a = a
 added_at (suc n) (s ∷ ss) row new a = added_at n ss row new a
 
 -- what may not come at position n does not
-refused_at : (n : ℕ) (xs : List Priced) (row : Row) (new : List (List ℤ)) (v : List ℤ) → At n (λ s. AddsPrice s.codes s.prices row new false) xs → At n (λ s. TakesPrice s.codes s.prices row v) xs → ⊥
+refused_at : (n : ℕ) (xs : List Priced) (row : Row) (new : List (List ℤ)) (v : List ℤ) → At n (λ s. AddsPrice s.codes s.prices row new false) xs → At n (λ s. NextPrice s.codes s.prices row v) xs → ⊥
 refused_at n [] row new v a t = absurd a
 refused_at zero (s ∷ ss) row new v a t = a v t
 refused_at (suc n) (s ∷ ss) row new v a t = refused_at n ss row new v a t
 
--- a price of the roll at position n was added, or none may come
-pub price_adds : (n : ℕ) (p : Parts) (row : Row) (new : List (List ℤ)) (b : Bool) → IsTurn n (priced p) → At n (λ s. AddsPrice s.codes s.prices row new b) (priced p) → AddsOne (TakesPriceAt n p row) (with_price n p) (with_prices n new p) b
-price_adds n p row new true turn a = (let t = added_at n (priced p) row new a in (t.0, record { turn = turn; price = t.1 }, ap (λ (vs : List (List ℤ)). with_prices n vs p) t.2))
-price_adds n p row new false turn a = λ v t. refused_at n (priced p) row new v a t.price
+-- the next price of the roll at position n was added, or the row is of none
+pub price_adds : (n : ℕ) (p : Parts) (row : Row) (new : List (List ℤ)) (b : Bool) → At n (λ s. AddsPrice s.codes s.prices row new b) (priced p) → AddsOne (NextPriceAt n p row) (with_price n p) (with_prices n new p) b
+price_adds n p row new true a = (let t = added_at n (priced p) row new a in (t.0, t.1, ap (λ (vs : List (List ℤ)). with_prices n vs p) t.2))
+price_adds n p row new false a = λ v t. refused_at n (priced p) row new v a t

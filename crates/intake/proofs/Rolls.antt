@@ -1,7 +1,6 @@
 -- Rolls of entries with codes, as the code keeps them and by codes.
 use Rattle.std.proofs.Common.{◌≡◌, ℕ, zero, suc, ◌+◌, ◌<◌, List, [], ◌∷◌, length, map, slice_get, Some, None, Vec, Global, Contains, refl, sym, ap, ◌∙◌, subst, inl, inr, arith, below_more}
 use Rattle.std.proofs.lemmas.Bool.{cases_lt}
-use Rattle.std.proofs.lemmas.List.{length-map}
 use Rattle.spa.specs.declared.code.Code.{Code}
 use Rattle.spa.specs.Instance.{supervisors_of, projects_of, students_of}
 use Rattle.spa.specs.Codes.{AreApart, Finds}
@@ -65,11 +64,3 @@ student_count (e ∷ es) = ap suc (student_count es)
 -- a sound list, said of the same codes
 pub sound_moved : (a b x y : List (List ℕ)) → a ≡ b → x ≡ y → IsSoundList a x → IsSoundList b y
 sound_moved a b x y e f sound = subst (λ (l : List (List ℕ)). IsSoundList l y) e (subst (λ (l : List (List ℕ)). IsSoundList a l) f sound)
-
--- so are their codes
-pub student_code_count : (es : List (List ℕ × Vec Code Global)) → length (map (λ e. e.code) (students_of (map (λ e. (e.0, e.1.items)) es))) ≡ length es
-student_code_count es = ap length (student_keys es) ∙ length-map es (λ e. e.0)
-
--- and those of projects
-pub project_code_count : (es : List (List ℕ × List ℕ × ℕ)) → length (map (λ e. e.code) (projects_of es)) ≡ length es
-project_code_count es = ap length (project_keys es) ∙ length-map es (λ e. e.0)

@@ -10,12 +10,12 @@ use Rattle.spa.specs.Instance.{Supervisor, Project, Student, supervisor_codes, p
 use Rattle.spa.specs.Made.{IsSoundList}
 use Rattle.intake.specs.declared.section.SectionName.{SectionName}
 use Rattle.intake.specs.declared.section.SectionName.TheVariants.{Supervisors, Projects, Students, Pairs, StudentPrices, ProjectPrices, SupervisorPrices}
-use Rattle.intake.specs.Parts.{Parts, IsRoll}
+use Rattle.intake.specs.Parts.{Parts, IsRoll, IsRoundInstance}
 use Rattle.intake.specs.Lines.{Row, choice_code, line, sections, priced, price_section, price_rows, round_lines, supervisor_row, project_row, student_row, pair_rows}
-use Rattle.intake.specs.Draft.{IsDraft, ArePricesUpTo, ArePlaces, EndsPlaced}
-use Rattle.intake.specs.Entries.{ComesNext, TakesSupervisor, TakesProject, TakesStudent, TakesPair, TakesPriceAt, IsTurn, At, Entry, Takes, with_entry, with_price, with_prices, prices_at, letter_of}
+use Rattle.intake.specs.Draft.{IsDraft, ArePricesUpTo, ArePlaces, EndsPlaced, HasNoPrices}
+use Rattle.intake.specs.Entries.{ComesNext, NextSupervisor, NextProject, NextStudent, NextPair, NextPriceAt, HasTurn, IsNext, IsTurn, At, Entry, with_entry, with_price, with_prices, prices_at, letter_of}
 use Rattle.intake.proofs.Prices.{unpriced_turn, unpriced_rows, changed_turn, changed_grows, pushed_prices, pushed_rows}
-use Rattle.intake.proofs.Sections.{letter_at, lines_grow}
+use Rattle.intake.proofs.Sections.{Grows, letter_at, lines_grow}
 
 -- a list of nothing known is not sound
 nothing_known : (list : List (List ℕ)) → IsSoundList [] list → ⊥
@@ -93,140 +93,91 @@ quotas_push quota es e h few = subst (λ (l : List ℕ). All (λ q. q ≤ MOST_P
 abbrev pub Step : (s : SectionName) → Parts → Row → Entry s → Type 0
 Step s p row e = IsDraft (with_entry s p e) × (round_lines (with_entry s p e) ≡ round_lines p ++ line (letter_of s) row ∷ [])
 
+-- so it is where no price was read and the section at position n grows by the row
+unpriced_step : (n : ℕ) (p q : Parts) (row : Row) → IsRoundInstance q.instance → ArePlaces q.instance.students q.places → EndsPlaced q.places → HasNoPrices q → Grows n (sections p) (sections q) (row ∷ [])
+    → IsDraft q × (round_lines q ≡ round_lines p ++ line (letter_at n (sections p)) row ∷ [])
+unpriced_step n p q row i places last prices grows = (record { instance = i; places = places; last_place = last; prices = unpriced_turn (priced q) prices }, lines_grow n (sections p) (sections q) (row ∷ []) grows)
+
 -- a supervisor more
-supervisor_step : (p : Parts) (row : Row) (e : Supervisor) → IsDraft p → TakesSupervisor p row e → Step Supervisors p row e
-supervisor_step p row e d t =
+supervisor_step : (p : Parts) (row : Row) (e : Supervisor) → IsDraft p → HasTurn Supervisors p → NextSupervisor p row e → Step Supervisors p row e
+supervisor_step p row e d t next =
     let i = d.instance in
     let q : Parts = with_entry Supervisors p e in
-    let students = no_students p d t.turn in
-    let none = unpriced_rows (priced p) t.prices in (
-      record {
-        instance = record {
-          within = record {
-            supervisors = omega (arith, length_push p.instance.supervisors e, t.code.few, length-map p.instance.supervisors (λ (e : Supervisor). e.code));
-            projects = i.within.projects;
-            students = i.within.students;
-            supervisor_quotas = quotas_push (λ (e : Supervisor). e.quota) p.instance.supervisors e i.within.supervisor_quotas t.quota;
-            project_quotas = i.within.project_quotas;
-          };
-          supervisors = subst IsRoll (sym (map_push (λ (e : Supervisor). e.code) p.instance.supervisors e)) (roll_push _ (supervisor_codes p.instance) e.code i.supervisors t.code);
-          projects = i.projects;
-          students = i.students;
-          offered = subst (λ (l : List Project). All (λ q. Contains (supervisor_codes (with_entry Supervisors p e).instance) q.supervisor) l) (sym t.turn) (All-nil (λ (q : Project). Contains (supervisor_codes (with_entry Supervisors p e).instance) q.supervisor));
-          listed = i.listed;
-        };
-        places = d.places;
-        last_place = d.last_place;
-        prices = unpriced_turn (priced q) t.prices;
-      },
-      lines_grow 0 (sections p) (sections q) (row ∷ []) (
-        refl,
-        rows_push supervisor_row p.instance.supervisors e row t.is,
-        (ap (map project_row) t.turn, (ap (map student_row) students, (pairs_none p.instance.students p.places (no_places p d students), none))),
-        (ap (map project_row) t.turn, (ap (map student_row) students, (pairs_none p.instance.students p.places (no_places p d students), unpriced_rows (priced q) t.prices))),
-      ),
-    )
+    let students = ap (map student_row) (no_students p d t.0) in
+    let pairs = pairs_none p.instance.students p.places (no_places p d (no_students p d t.0)) in
+    unpriced_step 0 p q row
+    (record {
+      within = record {
+        supervisors = omega (arith, length_push p.instance.supervisors e, next.code.few, length-map p.instance.supervisors (λ (e : Supervisor). e.code));
+        projects = i.within.projects;
+        students = i.within.students;
+        supervisor_quotas = quotas_push (λ (e : Supervisor). e.quota) p.instance.supervisors e i.within.supervisor_quotas next.quota;
+        project_quotas = i.within.project_quotas;
+      };
+      supervisors = subst IsRoll (sym (map_push (λ (e : Supervisor). e.code) p.instance.supervisors e)) (roll_push _ (supervisor_codes p.instance) e.code i.supervisors next.code);
+      projects = i.projects;
+      students = i.students;
+      offered = subst (λ (l : List Project). All (λ q. Contains (supervisor_codes (with_entry Supervisors p e).instance) q.supervisor) l) (sym t.0) (All-nil (λ (q : Project). Contains (supervisor_codes (with_entry Supervisors p e).instance) q.supervisor));
+      listed = i.listed;
+    })
+    d.places d.last_place t.1
+    (refl, rows_push supervisor_row p.instance.supervisors e row next.is, (ap (map project_row) t.0, (students, (pairs, unpriced_rows (priced p) t.1))), (ap (map project_row) t.0, (students, (pairs, unpriced_rows (priced q) t.1))))
 
 -- a project more
-project_step : (p : Parts) (row : Row) (e : Project) → IsDraft p → TakesProject p row e → Step Projects p row e
-project_step p row e d t =
+project_step : (p : Parts) (row : Row) (e : Project) → IsDraft p → HasTurn Projects p → NextProject p row e → Step Projects p row e
+project_step p row e d t next =
     let i = d.instance in
-    let q : Parts = with_entry Projects p e in (
-      record {
-        instance = record {
-          within = record {
-            supervisors = i.within.supervisors;
-            projects = omega (arith, length_push p.instance.projects e, t.code.few, length-map p.instance.projects (λ (e : Project). e.code));
-            students = i.within.students;
-            supervisor_quotas = i.within.supervisor_quotas;
-            project_quotas = quotas_push (λ (e : Project). e.quota) p.instance.projects e i.within.project_quotas t.quota;
-          };
-          supervisors = i.supervisors;
-          projects = subst IsRoll (sym (map_push (λ (e : Project). e.code) p.instance.projects e)) (roll_push _ (project_codes p.instance) e.code i.projects t.code);
-          students = i.students;
-          offered = All-push (λ (q : Project). Contains (supervisor_codes p.instance) q.supervisor) p.instance.projects e i.offered t.known;
-          listed = subst (λ (l : List Student). All (λ s. IsSoundList (project_codes (with_entry Projects p e).instance) s.list) l) (sym t.turn) (All-nil (λ (s : Student). IsSoundList (project_codes (with_entry Projects p e).instance) s.list));
-        };
-        places = d.places;
-        last_place = d.last_place;
-        prices = unpriced_turn (priced q) t.prices;
-      },
-      lines_grow 1 (sections p) (sections q) (row ∷ []) (
-        refl,
-        (
-          refl,
-          rows_push project_row p.instance.projects e row t.is,
-          (ap (map student_row) t.turn, (pairs_none p.instance.students p.places (no_places p d t.turn), unpriced_rows (priced p) t.prices)),
-          (ap (map student_row) t.turn, (pairs_none p.instance.students p.places (no_places p d t.turn), unpriced_rows (priced q) t.prices)),
-        ),
-      ),
-    )
+    let q : Parts = with_entry Projects p e in
+    let pairs = pairs_none p.instance.students p.places (no_places p d t.0) in
+    unpriced_step 1 p q row
+    (record {
+      within = record {
+        supervisors = i.within.supervisors;
+        projects = omega (arith, length_push p.instance.projects e, next.code.few, length-map p.instance.projects (λ (e : Project). e.code));
+        students = i.within.students;
+        supervisor_quotas = i.within.supervisor_quotas;
+        project_quotas = quotas_push (λ (e : Project). e.quota) p.instance.projects e i.within.project_quotas next.quota;
+      };
+      supervisors = i.supervisors;
+      projects = subst IsRoll (sym (map_push (λ (e : Project). e.code) p.instance.projects e)) (roll_push _ (project_codes p.instance) e.code i.projects next.code);
+      students = i.students;
+      offered = All-push (λ (q : Project). Contains (supervisor_codes p.instance) q.supervisor) p.instance.projects e i.offered next.known;
+      listed = subst (λ (l : List Student). All (λ s. IsSoundList (project_codes (with_entry Projects p e).instance) s.list) l) (sym t.0) (All-nil (λ (s : Student). IsSoundList (project_codes (with_entry Projects p e).instance) s.list));
+    })
+    d.places d.last_place t.1
+    (refl, (refl, rows_push project_row p.instance.projects e row next.is, (ap (map student_row) t.0, (pairs, unpriced_rows (priced p) t.1)), (ap (map student_row) t.0, (pairs, unpriced_rows (priced q) t.1))))
 
 -- a student more
-student_step : (p : Parts) (row : Row) (e : Student) → IsDraft p → TakesStudent p row e → Step Students p row e
-student_step p row e d t =
+student_step : (p : Parts) (row : Row) (e : Student) → IsDraft p → HasTurn Students p → NextStudent p row e → Step Students p row e
+student_step p row e d t next =
     let i = d.instance in
-    let q : Parts = with_entry Students p e in (
-      record {
-        instance = record {
-          within = record {
-            supervisors = i.within.supervisors;
-            projects = i.within.projects;
-            students = omega (arith, length_push p.instance.students e, t.code.few, length-map p.instance.students (λ (e : Student). e.code));
-            supervisor_quotas = i.within.supervisor_quotas;
-            project_quotas = i.within.project_quotas;
-          };
-          supervisors = i.supervisors;
-          projects = i.projects;
-          students = subst IsRoll (sym (map_push (λ (e : Student). e.code) p.instance.students e)) (roll_push _ (student_codes p.instance) e.code i.students t.code);
-          offered = i.offered;
-          listed = All-push (λ (s : Student). IsSoundList (project_codes p.instance) s.list) p.instance.students e i.listed t.list;
-        };
-        places = subst (λ (l : List (Option ℕ)). ArePlaces (p.instance.students ++ e ∷ []) l) (sym t.turn) tt;
-        last_place = d.last_place;
-        prices = unpriced_turn (priced q) t.prices;
-      },
-      lines_grow 2 (sections p) (sections q) (row ∷ []) (
-        refl,
-        (
-          refl,
-          (
-            refl,
-            rows_push student_row p.instance.students e row t.is,
-            (pairs_none p.instance.students p.places t.turn, unpriced_rows (priced p) t.prices),
-            (pairs_none q.instance.students p.places t.turn, unpriced_rows (priced q) t.prices),
-          ),
-        ),
-      ),
-    )
+    let q : Parts = with_entry Students p e in
+    unpriced_step 2 p q row
+    (record {
+      within = record {
+        supervisors = i.within.supervisors;
+        projects = i.within.projects;
+        students = omega (arith, length_push p.instance.students e, next.code.few, length-map p.instance.students (λ (e : Student). e.code));
+        supervisor_quotas = i.within.supervisor_quotas;
+        project_quotas = i.within.project_quotas;
+      };
+      supervisors = i.supervisors;
+      projects = i.projects;
+      students = subst IsRoll (sym (map_push (λ (e : Student). e.code) p.instance.students e)) (roll_push _ (student_codes p.instance) e.code i.students next.code);
+      offered = i.offered;
+      listed = All-push (λ (s : Student). IsSoundList (project_codes p.instance) s.list) p.instance.students e i.listed next.list;
+    })
+    (subst (λ (l : List (Option ℕ)). ArePlaces (p.instance.students ++ e ∷ []) l) (sym t.0) tt) d.last_place t.1
+    (refl, (refl, (refl, rows_push student_row p.instance.students e row next.is, (pairs_none p.instance.students p.places t.0, unpriced_rows (priced p) t.1), (pairs_none q.instance.students p.places t.0, unpriced_rows (priced q) t.1))))
 
 -- a pair more
-pair_step : (p : Parts) (row : Row) (e : ℕ × ℕ) → IsDraft p → TakesPair p row e.0 e.1 → Step Pairs p row e
-pair_step p row e d t =
+pair_step : (p : Parts) (row : Row) (e : ℕ × ℕ) → IsDraft p → HasTurn Pairs p → NextPair p row e.0 e.1 → Step Pairs p row e
+pair_step p row e d t next =
     let n : ℕ = e.0 - length p.places in
-    let at : slice_get p.instance.students (n + length p.places) ≡ Some t.student = (let same : e.0 ≡ n + length p.places = omega (arith, t.later) in subst (λ (k : ℕ). slice_get p.instance.students k ≡ Some t.student) same t.here) in (
-      record {
-        instance = d.instance;
-        places = places_push p.instance.students p.places n e.1 t.student at d.places t.place;
-        last_place = ends_push (p.places ++ replicate n None) e.1;
-        prices = d.prices;
-      },
-      lines_grow 3 (sections p) (sections (with_entry Pairs p e)) (row ∷ []) (
-        refl,
-        (
-          refl,
-          (
-            refl,
-            (
-              refl,
-              pair_rows_push p.instance.students p.places n e.1 t.student at ∙ ap (λ (r : Row). pair_rows p.instance.students p.places ++ r ∷ []) (sym t.is),
-              unpriced_rows (priced p) t.prices,
-              unpriced_rows (priced p) t.prices,
-            ),
-          ),
-        ),
-      ),
-    )
+    let at : slice_get p.instance.students (n + length p.places) ≡ Some next.student = (let same : e.0 ≡ n + length p.places = omega (arith, next.later) in subst (λ (k : ℕ). slice_get p.instance.students k ≡ Some next.student) same next.here) in
+    let rows = pair_rows_push p.instance.students p.places n e.1 next.student at ∙ ap (λ (r : Row). pair_rows p.instance.students p.places ++ r ∷ []) (sym next.is) in
+    unpriced_step 3 p (with_entry Pairs p e) row d.instance (places_push p.instance.students p.places n e.1 next.student at d.places next.place) (ends_push (p.places ++ replicate n None) e.1) t
+    (refl, (refl, (refl, (refl, rows, unpriced_rows (priced p) t, unpriced_rows (priced p) t))))
 
 -- a draft with other prices at position n, whose rows are more
 pub prices_step : (n : ℕ) (vs : List (List ℤ)) (p : Parts) (more : List Row) → IsDraft p → IsTurn n (priced p) → At n (λ s. ArePricesUpTo (length s.codes) vs) (priced p)
@@ -247,15 +198,15 @@ prices_step (suc (suc zero)) vs p more d t a g = (
 prices_step (suc (suc (suc n))) vs p more d t a g = absurd t.1.1.1
 
 -- a price more
-price_step : (n : ℕ) (p : Parts) (row : Row) (v : List ℤ) → IsDraft p → TakesPriceAt n p row v → IsDraft (with_price n p v) × (round_lines (with_price n p v) ≡ round_lines p ++ line (letter_at n (map price_section (priced p))) row ∷ [])
-price_step n p row v d t = prices_step n (prices_at n (priced p) ++ v ∷ []) p (row ∷ []) d t.turn (pushed_prices n (priced p) row v d.prices t.price) (pushed_rows n (priced p) row v t.price)
+price_step : (n : ℕ) (p : Parts) (row : Row) (v : List ℤ) → IsDraft p → IsTurn n (priced p) → NextPriceAt n p row v → IsDraft (with_price n p v) × (round_lines (with_price n p v) ≡ round_lines p ++ line (letter_at n (map price_section (priced p))) row ∷ [])
+price_step n p row v d t next = prices_step n (prices_at n (priced p) ++ v ∷ []) p (row ∷ []) d t (pushed_prices n (priced p) row v d.prices next) (pushed_rows n (priced p) row v next)
 
 -- an entry more of any section
-pub step : (s : SectionName) (p : Parts) (row : Row) (e : Entry s) → IsDraft p → Takes s p row e → Step s p row e
-step Supervisors p row e d t = supervisor_step p row e d t
-step Projects p row e d t = project_step p row e d t
-step Students p row e d t = student_step p row e d t
-step Pairs p row e d t = pair_step p row e d t
-step StudentPrices p row v d t = price_step 0 p row v d t
-step ProjectPrices p row v d t = price_step 1 p row v d t
-step SupervisorPrices p row v d t = price_step 2 p row v d t
+pub step : (s : SectionName) (p : Parts) (row : Row) (e : Entry s) → IsDraft p → HasTurn s p → IsNext s p row e → Step s p row e
+step Supervisors p row e d t next = supervisor_step p row e d t next
+step Projects p row e d t next = project_step p row e d t next
+step Students p row e d t next = student_step p row e d t next
+step Pairs p row e d t next = pair_step p row e d t next
+step StudentPrices p row v d t next = price_step 0 p row v d t next
+step ProjectPrices p row v d t next = price_step 1 p row v d t next
+step SupervisorPrices p row v d t next = price_step 2 p row v d t next

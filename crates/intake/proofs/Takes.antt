@@ -16,7 +16,7 @@ use Rattle.intake.specs.declared.section.SectionName.TheVariants.{Supervisors, P
 use Rattle.intake.specs.Parts.{Parts, Rise, IsPlace, IsRoll, IsRoundParts}
 use Rattle.intake.specs.Lines.{Row, choice_code, sections, priced, round_lines, supervisor_row, project_row, student_row, pair_rows}
 use Rattle.intake.specs.Draft.{IsDraft, IsWhole, ArePlaces, EndsPlaced}
-use Rattle.intake.specs.Entries.{ComesNext, TakesSupervisor, TakesProject, TakesStudent, TakesPair, TakesPriceAt, Entry, Takes, letter_of}
+use Rattle.intake.specs.Entries.{ComesNext, NextPriceAt, HasTurn, IsNext, IsTurn, Entry, letter_of}
 use Rattle.intake.proofs.Order.{cmp_apart, get_found}
 use Rattle.intake.proofs.Pairing.{all_found, get_mapped}
 use Rattle.intake.proofs.Prices.{SameCodes, rows_unpriced, parts_priced, takes_next, all_complete}
@@ -95,6 +95,12 @@ next_entry row key inj new old r most next roll few =
 quota_found : {X : Type 0} (quota : X → ℕ) (es : List X) (n : ℕ) (e : X) → All (λ q. q ≤ MOST_PLACES) (map quota es) → slice_get es n ≡ Some e → quota e ≤ MOST_PLACES
 quota_found quota es n e h here = all_found (λ q. q ≤ MOST_PLACES) (map quota es) n (quota e) h (get_mapped quota es n e here)
 
+-- the section has its turn, and the row is that of its next entry
+pub record Goes (s : SectionName) (old : Parts) (r : Row) : Type 0 where
+  pub turn : HasTurn s old
+  pub e : Entry s
+  pub next : IsNext s old r e
+
 -- the first field is the code
 supervisor_code : (x y : Supervisor) → supervisor_row x ≡ supervisor_row y → x.code ≡ y.code
 supervisor_code x y e = cc
@@ -108,40 +114,23 @@ student_code : (x y : Student) → student_row x ≡ student_row y → x.code �
 student_code x y e = cc
 
 -- a supervisor's line goes on only where the draft takes it
-supervisor_only : (old : Parts) (r : Row) → IsDraft old → GoesOn old (codes "S") r → (e : Supervisor) × TakesSupervisor old r e
+supervisor_only : (old : Parts) (r : Row) → IsDraft old → GoesOn old (codes "S") r → Goes Supervisors old r
 supervisor_only old r d g =
     let p : Parts = g.parts in
     let i = next_at (sections p) (sections old) (codes "S") r 0 refl g.next in
-    let f = next_entry supervisor_row (λ (e : Supervisor). e.code) supervisor_code p.instance.supervisors old.instance.supervisors r _ i.0 g.valid.instance.supervisors g.valid.instance.within.supervisors in (
-      f.e,
-      record {
-        turn = nothing_made project_row old.instance.projects i.1.0;
-        prices = rows_unpriced (priced old) d.prices i.1.1.1.1;
-        is = f.is;
-        code = f.code;
-        quota = quota_found (λ (e : Supervisor). e.quota) p.instance.supervisors (length old.instance.supervisors) f.e g.valid.instance.within.supervisor_quotas f.here;
-      },
-    )
+    let f = next_entry supervisor_row (λ (e : Supervisor). e.code) supervisor_code p.instance.supervisors old.instance.supervisors r _ i.0 g.valid.instance.supervisors g.valid.instance.within.supervisors in
+    record { turn = (nothing_made project_row old.instance.projects i.1.0, rows_unpriced (priced old) d.prices i.1.1.1.1); e = f.e; next = record { is = f.is; code = f.code; quota = quota_found (λ (e : Supervisor). e.quota) p.instance.supervisors (length old.instance.supervisors) f.e g.valid.instance.within.supervisor_quotas f.here } }
 
 -- a project's line goes on only where the draft takes it
-project_only : (old : Parts) (r : Row) → IsDraft old → GoesOn old (codes "P") r → (e : Project) × TakesProject old r e
+project_only : (old : Parts) (r : Row) → IsDraft old → GoesOn old (codes "P") r → Goes Projects old r
 project_only old r d g =
     let p : Parts = g.parts in
     let n : ℕ = length old.instance.projects in
     let at = next_at (sections p) (sections old) (codes "P") r 1 refl g.next in
     let i = at.1 in
     let f = next_entry project_row (λ (e : Project). e.code) project_code p.instance.projects old.instance.projects r _ i.0 g.valid.instance.projects g.valid.instance.within.projects in
-    let owner = all_found (λ (e : Project). Contains (supervisor_codes p.instance) e.supervisor) p.instance.projects n f.e g.valid.instance.offered f.here in (
-      f.e,
-      record {
-        turn = nothing_made student_row old.instance.students i.1.0;
-        prices = rows_unpriced (priced old) d.prices i.1.1.1;
-        is = f.is;
-        code = f.code;
-        quota = quota_found (λ (e : Project). e.quota) p.instance.projects n f.e g.valid.instance.within.project_quotas f.here;
-        known = subst (λ (l : List (List ℕ)). Contains l f.e.supervisor) (same_codes supervisor_row (λ (e : Supervisor). e.code) supervisor_code p.instance.supervisors old.instance.supervisors at.0) owner;
-      },
-    )
+    let owner = all_found (λ (e : Project). Contains (supervisor_codes p.instance) e.supervisor) p.instance.projects n f.e g.valid.instance.offered f.here in
+    record { turn = (nothing_made student_row old.instance.students i.1.0, rows_unpriced (priced old) d.prices i.1.1.1); e = f.e; next = record { is = f.is; code = f.code; known = subst (λ (l : List (List ℕ)). Contains l f.e.supervisor) (same_codes supervisor_row (λ (e : Supervisor). e.code) supervisor_code p.instance.supervisors old.instance.supervisors at.0) owner; quota = quota_found (λ (e : Project). e.quota) p.instance.projects n f.e g.valid.instance.within.project_quotas f.here } }
 
 -- there are no places without rows of pairs
 no_places : (es : List Student) (ks : List (Option ℕ)) → ArePlaces es ks → EndsPlaced ks → pair_rows es ks ≡ [] → ks ≡ []
@@ -152,22 +141,14 @@ no_places (x ∷ es) (None ∷ []) a e h = cc
 no_places (x ∷ es) (None ∷ k ∷ ks) a e h = (let none : k ∷ ks ≡ [] = no_places es (k ∷ ks) a.1 e h in cc)
 
 -- a student's line goes on only where the draft takes it
-student_only : (old : Parts) (r : Row) → IsDraft old → GoesOn old (codes "C") r → (e : Student) × TakesStudent old r e
+student_only : (old : Parts) (r : Row) → IsDraft old → GoesOn old (codes "C") r → Goes Students old r
 student_only old r d g =
     let p : Parts = g.parts in
     let at = next_at (sections p) (sections old) (codes "C") r 2 refl g.next in
     let i = at.1.1 in
     let f = next_entry student_row (λ (e : Student). e.code) student_code p.instance.students old.instance.students r _ i.0 g.valid.instance.students g.valid.instance.within.students in
-    let listed = all_found (λ (e : Student). IsSoundList (project_codes p.instance) e.list) p.instance.students (length old.instance.students) f.e g.valid.instance.listed f.here in (
-      f.e,
-      record {
-        turn = no_places old.instance.students old.places d.places d.last_place i.1.0;
-        prices = rows_unpriced (priced old) d.prices i.1.1;
-        is = f.is;
-        code = f.code;
-        list = subst (λ (l : List (List ℕ)). IsSoundList l f.e.list) (same_codes project_row (λ (e : Project). e.code) project_code p.instance.projects old.instance.projects at.1.0) listed;
-      },
-    )
+    let listed = all_found (λ (e : Student). IsSoundList (project_codes p.instance) e.list) p.instance.students (length old.instance.students) f.e g.valid.instance.listed f.here in
+    record { turn = (no_places old.instance.students old.places d.places d.last_place i.1.0, rows_unpriced (priced old) d.prices i.1.1); e = f.e; next = record { is = f.is; code = f.code; list = subst (λ (l : List (List ℕ)). IsSoundList l f.e.list) (same_codes project_row (λ (e : Project). e.code) project_code p.instance.projects old.instance.projects at.1.0) listed } }
 
 -- students with the same rows are the same
 pub same_students : (xs ys : List Student) → map student_row xs ≡ map student_row ys → xs ≡ ys
@@ -273,7 +254,7 @@ zip_place (x ∷ es) (Some j ∷ ks) zero k e z h i =
 zip_place (x ∷ es) (j ∷ ks) (suc s) k e z h i = zip_place es ks s k e z.1 h i
 
 -- a pair's line goes on only where the draft takes it
-pair_only : (old : Parts) (r : Row) → IsDraft old → GoesOn old (codes "M") r → (e : ℕ × ℕ) × TakesPair old r e.0 e.1
+pair_only : (old : Parts) (r : Row) → IsDraft old → GoesOn old (codes "M") r → Goes Pairs old r
 pair_only old r d g =
     let p : Parts = g.parts in
     let at = next_at (sections p) (sections old) (codes "M") r 3 refl g.next in
@@ -281,17 +262,9 @@ pair_only old r d g =
     let students : p.instance.students ≡ old.instance.students = same_students p.instance.students old.instance.students at.1.1.0 in
     let rows : pair_rows old.instance.students p.places ≡ pair_rows old.instance.students old.places ++ r ∷ i.0.0 = ap (λ (l : List Student). pair_rows l p.places) (sym students) ∙ i.0.1 in
     let a = next_pair old.instance.students p.places old.places r i.0.0 d.instance.students.rise d.places d.last_place rows in
-    let zipped : AllZip IsPlace old.instance.students p.places = subst (λ (l : List Student). AllZip IsPlace l p.places) students g.valid.places in (
-      (a.at, a.place),
-      record {
-        prices = rows_unpriced (priced old) d.prices i.1;
-        student = a.student;
-        here = a.here;
-        later = a.later;
-        place = zip_place old.instance.students p.places a.at a.place a.student zipped a.here a.placed;
-        is = a.is;
-      },
-    )
+    let zipped : AllZip IsPlace old.instance.students p.places = subst (λ (l : List Student). AllZip IsPlace l p.places) students g.valid.places in
+    let place = zip_place old.instance.students p.places a.at a.place a.student zipped a.here a.placed in
+    record { turn = rows_unpriced (priced old) d.prices i.1; e = (a.at, a.place); next = record { student = a.student; here = a.here; later = a.later; place = place; is = a.is } }
 
 -- parts with the same rows of entries have the same codes
 rolls_alike : (p q : Parts) → map supervisor_row p.instance.supervisors ≡ map supervisor_row q.instance.supervisors → map project_row p.instance.projects ≡ map project_row q.instance.projects → map student_row p.instance.students ≡ map student_row q.instance.students
@@ -302,20 +275,18 @@ rolls_alike p q e f g = (
 )
 
 -- the line of a price goes on only where the draft takes it
-price_only : (n : ℕ) (old : Parts) (r : Row) → IsDraft old → (p : Parts) → IsRoundParts p → NextAt (suc (suc (suc (suc n)))) (sections p) (sections old) r → (v : List ℤ) × TakesPriceAt n old r v
-price_only n old r d p v at =
-    let t = takes_next n (priced p) (priced old) r (rolls_alike p old at.0 at.1.0 at.1.1.0) (parts_priced p v) d.prices at.1.1.1.1 in
-    (t.0, record { turn = t.1; price = t.2 })
+price_only : (n : ℕ) (old : Parts) (r : Row) → IsDraft old → (p : Parts) → IsRoundParts p → NextAt (suc (suc (suc (suc n)))) (sections p) (sections old) r → (v : List ℤ) × IsTurn n (priced old) × NextPriceAt n old r v
+price_only n old r d p v at = takes_next n (priced p) (priced old) r (rolls_alike p old at.0 at.1.0 at.1.1.0) (parts_priced p v) d.prices at.1.1.1.1
 
 -- a line goes on only where the draft takes it
-pub only : (s : SectionName) (old : Parts) (r : Row) → IsDraft old → GoesOn old (letter_of s) r → (e : Entry s) × Takes s old r e
+pub only : (s : SectionName) (old : Parts) (r : Row) → IsDraft old → GoesOn old (letter_of s) r → Goes s old r
 only Supervisors old r d g = supervisor_only old r d g
 only Projects old r d g = project_only old r d g
 only Students old r d g = student_only old r d g
 only Pairs old r d g = pair_only old r d g
-only StudentPrices old r d g = price_only 0 old r d g.parts g.valid (next_at (sections g.parts) (sections old) (codes "U") r 4 refl g.next)
-only ProjectPrices old r d g = price_only 1 old r d g.parts g.valid (next_at (sections g.parts) (sections old) (codes "Y") r 5 refl g.next)
-only SupervisorPrices old r d g = price_only 2 old r d g.parts g.valid (next_at (sections g.parts) (sections old) (codes "Z") r 6 refl g.next)
+only StudentPrices old r d g = (let t = price_only 0 old r d g.parts g.valid (next_at (sections g.parts) (sections old) (codes "U") r 4 refl g.next) in record { turn = t.1; e = t.0; next = t.2 })
+only ProjectPrices old r d g = (let t = price_only 1 old r d g.parts g.valid (next_at (sections g.parts) (sections old) (codes "Y") r 5 refl g.next) in record { turn = t.1; e = t.0; next = t.2 })
+only SupervisorPrices old r d g = (let t = price_only 2 old r d g.parts g.valid (next_at (sections g.parts) (sections old) (codes "Z") r 6 refl g.next) in record { turn = t.1; e = t.0; next = t.2 })
 
 -- a line with another letter goes on nowhere
 pub other_only : (old : Parts) (l : List ℕ) (r : Row) → GoesOn old l r → ((s : SectionName) → l ≡ letter_of s → ⊥) → ⊥

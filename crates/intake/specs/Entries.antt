@@ -30,34 +30,27 @@ pub record ComesNext (most : ℕ) (roll : List (List ℕ)) (code : List ℕ) : T
   pub few : length roll < most
   pub next : Rise (roll ++ code ∷ [])
 
--- the row is that of the supervisor, who may come next
-pub record TakesSupervisor (p : Parts) (row : Row) (e : Supervisor) : Type 0 where
-  pub turn : p.instance.projects ≡ []
-  pub prices : HasNoPrices p
+-- the row is that of the supervisor, whose code comes next
+pub record NextSupervisor (p : Parts) (row : Row) (e : Supervisor) : Type 0 where
   pub is : row ≡ supervisor_row e
   pub code : ComesNext MOST_SUPERVISORS (supervisor_codes p.instance) e.code
   pub quota : e.quota ≤ MOST_PLACES
 
--- the row is that of the project, which may come next
-pub record TakesProject (p : Parts) (row : Row) (e : Project) : Type 0 where
-  pub turn : p.instance.students ≡ []
-  pub prices : HasNoPrices p
+-- the row is that of the project, whose code comes next
+pub record NextProject (p : Parts) (row : Row) (e : Project) : Type 0 where
   pub is : row ≡ project_row e
   pub code : ComesNext MOST_PROJECTS (project_codes p.instance) e.code
   pub known : Contains (supervisor_codes p.instance) e.supervisor
   pub quota : e.quota ≤ MOST_PLACES
 
--- the row is that of the student, who may come next
-pub record TakesStudent (p : Parts) (row : Row) (e : Student) : Type 0 where
-  pub turn : p.places ≡ []
-  pub prices : HasNoPrices p
+-- the row is that of the student, whose code comes next
+pub record NextStudent (p : Parts) (row : Row) (e : Student) : Type 0 where
   pub is : row ≡ student_row e
   pub code : ComesNext MOST_STUDENTS (student_codes p.instance) e.code
   pub list : IsSoundList (project_codes p.instance) e.list
 
 -- the row is that of the place k of the student at s, who is after those that had their turn
-pub record TakesPair (p : Parts) (row : Row) (s k : ℕ) : Type 0 where
-  pub prices : HasNoPrices p
+pub record NextPair (p : Parts) (row : Row) (s k : ℕ) : Type 0 where
   pub student : Student
   pub here : slice_get p.instance.students s ≡ Some student
   pub later : length p.places ≤ s
@@ -65,7 +58,7 @@ pub record TakesPair (p : Parts) (row : Row) (s k : ℕ) : Type 0 where
   pub is : row ≡ student.code ∷ choice_code student.list k ∷ []
 
 -- the row is that of the price of the next of the codes
-pub record TakesPrice (codes : List (List ℕ)) (prices : List (List ℤ)) (row : Row) (v : List ℤ) : Type 0 where
+pub record NextPrice (codes : List (List ℕ)) (prices : List (List ℤ)) (row : Row) (v : List ℤ) : Type 0 where
   pub few : length prices < length codes
   pub is : row ≡ code_at codes (length prices) ∷ map signed_decimal v
   pub price : IsPrice v
@@ -83,9 +76,8 @@ At zero P (s ∷ ss) = P s
 At (suc n) P (s ∷ ss) = At n P ss
 
 -- the row is that of the next price of the roll at position n
-pub record TakesPriceAt (n : ℕ) (p : Parts) (row : Row) (v : List ℤ) : Type 0 where
-  pub turn : IsTurn n (priced p)
-  pub price : At n (λ s. TakesPrice s.codes s.prices row v) (priced p)
+abbrev pub NextPriceAt : ℕ → Parts → Row → List ℤ → Type 0
+NextPriceAt n p row v = At n (λ s. NextPrice s.codes s.prices row v) (priced p)
 
 -- the parts with other prices of the roll at position n
 abbrev pub with_prices : ℕ → List (List ℤ) → Parts → Parts
@@ -109,15 +101,25 @@ Entry StudentPrices = List ℤ
 Entry ProjectPrices = List ℤ
 Entry SupervisorPrices = List ℤ
 
--- the row is that of the entry, which may come next
-abbrev pub Takes : (s : SectionName) → Parts → Row → Entry s → Type 0
-Takes Supervisors p row e = TakesSupervisor p row e
-Takes Projects p row e = TakesProject p row e
-Takes Students p row e = TakesStudent p row e
-Takes Pairs p row e = TakesPair p row e.0 e.1
-Takes StudentPrices p row v = TakesPriceAt 0 p row v
-Takes ProjectPrices p row v = TakesPriceAt 1 p row v
-Takes SupervisorPrices p row v = TakesPriceAt 2 p row v
+-- a line of the section may come: no later section has begun, and the prices of the rolls before are complete
+abbrev pub HasTurn : SectionName → Parts → Type 0
+HasTurn Supervisors p = (p.instance.projects ≡ []) × HasNoPrices p
+HasTurn Projects p = (p.instance.students ≡ []) × HasNoPrices p
+HasTurn Students p = (p.places ≡ []) × HasNoPrices p
+HasTurn Pairs p = HasNoPrices p
+HasTurn StudentPrices p = IsTurn 0 (priced p)
+HasTurn ProjectPrices p = IsTurn 1 (priced p)
+HasTurn SupervisorPrices p = IsTurn 2 (priced p)
+
+-- the row is that of the entry, which comes next in the section
+abbrev pub IsNext : (s : SectionName) → Parts → Row → Entry s → Type 0
+IsNext Supervisors p row e = NextSupervisor p row e
+IsNext Projects p row e = NextProject p row e
+IsNext Students p row e = NextStudent p row e
+IsNext Pairs p row e = NextPair p row e.0 e.1
+IsNext StudentPrices p row v = NextPriceAt 0 p row v
+IsNext ProjectPrices p row v = NextPriceAt 1 p row v
+IsNext SupervisorPrices p row v = NextPriceAt 2 p row v
 
 -- one price more of the roll at position n
 abbrev pub with_price : ℕ → Parts → List ℤ → Parts
@@ -138,13 +140,13 @@ abbrev pub AddsOne : {E A : Type 0} → (E → Type 0) → (E → A) → A → B
 AddsOne {E = E} May more new true = (e : E) × May e × (new ≡ more e)
 AddsOne {E = E} May more new false = (e : E) → ¬ May e
 
--- an entry of the section was added, or none may come
+-- the next entry of the section was added, or the row is of none
 abbrev pub Adds : SectionName → Parts → Row → Parts → Bool → Type 0
-Adds s old row new b = AddsOne (Takes s old row) (with_entry s old) new b
+Adds s old row new b = AddsOne (IsNext s old row) (with_entry s old) new b
 
 -- the same of the next price of the codes
 abbrev pub AddsPrice : List (List ℕ) → List (List ℤ) → Row → List (List ℤ) → Bool → Type 0
-AddsPrice codes old row new b = AddsOne (TakesPrice codes old row) (λ v. old ++ v ∷ []) new b
+AddsPrice codes old row new b = AddsOne (NextPrice codes old row) (λ v. old ++ v ∷ []) new b
 
 -- a line was added, or the lines with it begin no round text
 abbrev pub AddsLine : Parts → List ℕ → Parts → Bool → Type 0

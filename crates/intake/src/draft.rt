@@ -2,11 +2,12 @@
 #![tactic(auto)]
 
 ghost use Rattle.std.specs.Prelude.{◌≡◌, ◌-◌, ◌++◌, ◌↔◌, ◌≤◌, ℕ, ℤ, List, [], ◌∷◌, map, length, replicate, All, IfOk, OnOk, MatchOption, IsTrue, None};
+ghost use Rattle.spa.specs.Instance.{student_codes, project_codes};
 ghost use Rattle.spa.specs.Made.{IsSoundList};
 ghost use Rattle.intake.specs.Parts.{IsRoll, IsRoundParts};
-ghost use Rattle.intake.specs.declared.section.SectionName.TheVariants.{Supervisors, Projects, Students, Pairs, StudentPrices, ProjectPrices, SupervisorPrices};
+ghost use Rattle.intake.specs.declared.section.SectionName.TheVariants.{Supervisors, Projects, Students, Pairs};
 ghost use Rattle.intake.specs.Draft.{draft_of, IsDraft, HasNoPrices, NoneOrAll, IsField, nothing, IsWhole};
-ghost use Rattle.intake.specs.Entries.{Adds, AddsPrice, AddsLine, line_of};
+ghost use Rattle.intake.specs.Entries.{Adds, AddsPrice, AddsLine, HasTurn, line_of};
 ghost use Rattle.intake.specs.Lines.{round_lines};
 ghost use Rattle.intake.specs.View.{parts_of};
 
@@ -133,14 +134,46 @@ impl Draft {
             && self.prices.supervisors.is_empty()
     }
 
-    /// Adds a supervisor, if one may come here.
+    /// Whether the students have no price or one each.
+    fn has_students_priced(&self) -> bool
+        ensures { IsTrue result ↔ NoneOrAll (length (student_codes (draft_of self.now).instance)) (draft_of self.now).student_prices }
+    {
+        is_none_or_all(&self.prices.students, self.students.len())
+    }
+
+    /// Whether the projects have no price or one each.
+    fn has_projects_priced(&self) -> bool
+        ensures { IsTrue result ↔ NoneOrAll (length (project_codes (draft_of self.now).instance)) (draft_of self.now).project_prices }
+    {
+        is_none_or_all(&self.prices.projects, self.projects.len())
+    }
+
+    /// Whether a line of a section may come.
+    fn has_turn(&self, section: SectionName) -> bool
+        ensures { IsTrue result ↔ HasTurn section (draft_of self.now) }
+    {
+        match section {
+            SectionName::Supervisors => self.projects.is_empty() && self.has_no_prices(),
+            SectionName::Projects => self.students.is_empty() && self.has_no_prices(),
+            SectionName::Students => self.places.is_empty() && self.has_no_prices(),
+            SectionName::Pairs => self.has_no_prices(),
+            SectionName::StudentPrices => {
+                self.prices.projects.is_empty() && self.prices.supervisors.is_empty()
+            }
+            SectionName::ProjectPrices => {
+                self.has_students_priced() && self.prices.supervisors.is_empty()
+            }
+            SectionName::SupervisorPrices => {
+                self.has_students_priced() && self.has_projects_priced()
+            }
+        }
+    }
+
+    /// Adds a supervisor, if the fields are of the next.
     fn add_supervisor(&mut self, fields: &[&[u8]]) -> Result<bool, AllocError>
         requires { IsDraft (draft_of self.old) }
         ensures { IfOk result (λ b. Adds Supervisors (draft_of self.old) (map (λ f. f.now) fields.now) (draft_of self.new) b) }
     {
-        if !self.projects.is_empty() || !self.has_no_prices() {
-            return Ok(false);
-        }
         let [code, quota] = fields else {
             return Ok(false);
         };
@@ -156,14 +189,11 @@ impl Draft {
         Ok(true)
     }
 
-    /// Adds a project, if one may come here.
+    /// Adds a project, if the fields are of the next.
     fn add_project(&mut self, fields: &[&[u8]]) -> Result<bool, AllocError>
         requires { IsDraft (draft_of self.old) }
         ensures { IfOk result (λ b. Adds Projects (draft_of self.old) (map (λ f. f.now) fields.now) (draft_of self.new) b) }
     {
-        if !self.students.is_empty() || !self.has_no_prices() {
-            return Ok(false);
-        }
         let [code, supervisor, quota] = fields else {
             return Ok(false);
         };
@@ -184,14 +214,11 @@ impl Draft {
         Ok(true)
     }
 
-    /// Adds a student, if one may come here.
+    /// Adds a student, if the fields are of the next.
     fn add_student(&mut self, alloc: Global, fields: &[&[u8]]) -> Result<bool, AllocError>
         requires { IsDraft (draft_of self.old) }
         ensures { IfOk result (λ b. Adds Students (draft_of self.old) (map (λ f. f.now) fields.now) (draft_of self.new) b) }
     {
-        if !self.places.is_empty() || !self.has_no_prices() {
-            return Ok(false);
-        }
         let Some((code, list)) = fields.split_first() else {
             return Ok(false);
         };
@@ -205,14 +232,11 @@ impl Draft {
         Ok(true)
     }
 
-    /// Adds a pair, if one may come here.
+    /// Adds a pair, if the fields are of the next.
     fn add_pair(&mut self, fields: &[&[u8]]) -> Result<bool, AllocError>
         requires { IsDraft (draft_of self.old) }
         ensures { IfOk result (λ b. Adds Pairs (draft_of self.old) (map (λ f. f.now) fields.now) (draft_of self.new) b) }
     {
-        if !self.has_no_prices() {
-            return Ok(false);
-        }
         let [student, project] = fields else {
             return Ok(false);
         };
@@ -233,47 +257,7 @@ impl Draft {
         Ok(true)
     }
 
-    /// Adds a student's price, if one may come here.
-    fn add_student_price(&mut self, fields: &[&[u8]]) -> Result<bool, AllocError>
-        requires { IsDraft (draft_of self.old) }
-        ensures { IfOk result (λ b. Adds StudentPrices (draft_of self.old) (map (λ f. f.now) fields.now) (draft_of self.new) b) }
-    {
-        if !self.prices.projects.is_empty() || !self.prices.supervisors.is_empty() {
-            return Ok(false);
-        }
-        let added = add_price(&mut self.prices.students, &self.students, fields)?;
-        Ok(added)
-    }
-
-    /// Adds a project's price, if one may come here.
-    fn add_project_price(&mut self, fields: &[&[u8]]) -> Result<bool, AllocError>
-        requires { IsDraft (draft_of self.old) }
-        ensures { IfOk result (λ b. Adds ProjectPrices (draft_of self.old) (map (λ f. f.now) fields.now) (draft_of self.new) b) }
-    {
-        if !self.prices.supervisors.is_empty()
-            || !is_none_or_all(&self.prices.students, self.students.len())
-        {
-            return Ok(false);
-        }
-        let added = add_price(&mut self.prices.projects, &self.projects, fields)?;
-        Ok(added)
-    }
-
-    /// Adds a supervisor's price, if one may come here.
-    fn add_supervisor_price(&mut self, fields: &[&[u8]]) -> Result<bool, AllocError>
-        requires { IsDraft (draft_of self.old) }
-        ensures { IfOk result (λ b. Adds SupervisorPrices (draft_of self.old) (map (λ f. f.now) fields.now) (draft_of self.new) b) }
-    {
-        if !is_none_or_all(&self.prices.students, self.students.len())
-            || !is_none_or_all(&self.prices.projects, self.projects.len())
-        {
-            return Ok(false);
-        }
-        let added = add_price(&mut self.prices.supervisors, &self.supervisors, fields)?;
-        Ok(added)
-    }
-
-    /// Adds what a row of a section stands for, if it may come here.
+    /// Adds what a row of a section stands for, if it comes next there.
     fn add_to(
         &mut self,
         alloc: Global,
@@ -288,9 +272,18 @@ impl Draft {
             SectionName::Projects => self.add_project(row),
             SectionName::Students => self.add_student(alloc, row),
             SectionName::Pairs => self.add_pair(row),
-            SectionName::StudentPrices => self.add_student_price(row),
-            SectionName::ProjectPrices => self.add_project_price(row),
-            SectionName::SupervisorPrices => self.add_supervisor_price(row),
+            SectionName::StudentPrices => {
+                let added = add_price(&mut self.prices.students, &self.students, row)?;
+                Ok(added)
+            }
+            SectionName::ProjectPrices => {
+                let added = add_price(&mut self.prices.projects, &self.projects, row)?;
+                Ok(added)
+            }
+            SectionName::SupervisorPrices => {
+                let added = add_price(&mut self.prices.supervisors, &self.supervisors, row)?;
+                Ok(added)
+            }
         }
     }
 
@@ -306,6 +299,9 @@ impl Draft {
         let Some(section) = section_of(letter) else {
             return Ok(false);
         };
+        if !self.has_turn(section) {
+            return Ok(false);
+        }
         self.add_to(alloc, section, row)
     }
 
@@ -322,8 +318,8 @@ impl Draft {
     pub(crate) fn is_whole(&self) -> bool
         ensures { IsTrue result ↔ IsWhole (draft_of self.now) }
     {
-        is_none_or_all(&self.prices.students, self.students.len())
-            && is_none_or_all(&self.prices.projects, self.projects.len())
+        self.has_students_priced()
+            && self.has_projects_priced()
             && is_none_or_all(&self.prices.supervisors, self.supervisors.len())
     }
 

@@ -1,6 +1,6 @@
-use Rattle.std.proofs.Common.{◌≡◌, ℕ, List, [], ◌∷◌, length, map, get_or, slice_get, Some, decimal, sym, ap, subst, ◌∙◌, arith, rules}
-use Rattle.std.proofs.lemmas.List.{length-map, nil_from_length}
-use Rattle.spa.specs.Instance.{students_of, supervisors_of}
+use Rattle.std.proofs.Common.{◌≡◌, ℕ, List, [], ◌∷◌, length, map, get_or, slice_get, Some, decimal, sym, ap, subst, ◌∙◌, arith}
+use Rattle.std.proofs.lemmas.List.{length-map}
+use Rattle.spa.specs.Instance.{supervisors_of}
 use Rattle.intake.specs.Parts.{Rise, IsRoll}
 use Rattle.intake.proofs.Adding.{three_fields, project_added}
 use Rattle.intake.proofs.Lists.{blank, first_field}
@@ -14,8 +14,7 @@ next_code-requires c = subst Rise (project_keys c.args.self.now.projects.items �
 
 pub returns-in_default-next_code : goal.returns-in_default-next_code
 returns-in_default-next_code c = λ e t.
-    let keys = project_keys c.args.self.now.projects.items ∙ ap (map (λ e. e.0)) (sym c.deref.ensures.value) in
-    c.in_default-next_code.ensures (comes_moved _ _ _ _ _ keys (first_field _ _ _ _ (sym t.is ∙ three_fields c.args.fields.now c.in-len3.len_at_least c.in-len3.len_below)) t.code)
+    c.in_default-next_code.ensures (comes_moved _ _ _ _ _ (project_keys c.args.self.now.projects.items ∙ ap (map (λ e. e.0)) (sym c.deref.ensures.value)) (first_field _ _ _ _ (sym t.is ∙ three_fields c.args.fields.now c.in-len3.len_at_least c.in-len3.len_below)) t.code)
 
 pub position_at-requires : goal.position_at-requires
 position_at-requires c = subst IsRoll (supervisor_keys c.args.self.now.supervisors.items ∙ ap (map (λ e. e.0)) (sym c.deref-2.ensures.value)) c.requires.instance.supervisors
@@ -38,12 +37,9 @@ returns c =
     let supervisor : c.copy-supervisor.result ≡ (get_or c.args.fields.now 1 blank).now =
     c.copy-supervisor.ensures ∙ sym (key_at (λ e. e.0) c.args.self.now.supervisors.items owner c.index.result.now (omega (arith, c.in-Some-position_at.ensures.0, ap length c.deref-2.ensures.value)) c.index.ensures)
     ∙ get_found (map (λ e. e.0) c.args.self.now.supervisors.items) owner (get_or c.args.fields.now 1 blank).now [] (ap (λ (l : List (List ℕ)). slice_get l owner) (sym (supervisor_keys c.args.self.now.supervisors.items)) ∙ at) in
-    let none : length c.args.self.now.students.items ≡ 0 = search (rules) in
     let keys = ap (map (λ e. e.0)) c.deref.ensures.value ∙ sym (project_keys c.args.self.now.projects.items) in (
       record { code = c.in-Some.code; supervisor = c.copy-supervisor.result; quota = c.in-Some-read_quota.quota },
       record {
-        turn = ap (λ l. students_of (map (λ e. (e.0, e.1.items)) l)) (nil_from_length c.args.self.now.students.items none);
-        prices = c.has_no_prices.ensures.0 c.if-not-has_no_prices.false;
         is = three_fields c.args.fields.now c.in-len3.len_at_least c.in-len3.len_below
             ∙ ap (λ (x : List ℕ). x ∷ (get_or c.args.fields.now 1 blank).now ∷ (get_or c.args.fields.now 2 blank).now ∷ []) (sym read.0)
             ∙ ap (λ (x : List ℕ). c.in-Some.code ∷ x ∷ (get_or c.args.fields.now 2 blank).now ∷ []) (sym supervisor)

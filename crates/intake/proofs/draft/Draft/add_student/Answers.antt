@@ -1,6 +1,6 @@
-use Rattle.std.proofs.Common.{◌≡◌, ℕ, List, ◌∷◌, length, map, sym, ap, subst, ◌∙◌, rules}
+use Rattle.std.proofs.Common.{◌≡◌, ℕ, List, ◌∷◌, map, sym, ap, subst, ◌∙◌}
 use denote.Ref.{Bor}
-use Rattle.std.proofs.lemmas.List.{map_push, nil_from_length}
+use Rattle.std.proofs.lemmas.List.{map_push}
 use Rattle.intake.specs.Parts.{Rise, IsRoll}
 use Rattle.intake.proofs.Adding.{student_added}
 use Rattle.intake.proofs.Lists.{first_field, other_fields}
@@ -31,14 +31,11 @@ pub returns : goal.returns
 returns c =
     let next = rw c.in-Some-next_code.is at c.next_code.ensures in
     let fields = ap (map (λ (f : Bor (List ℕ)). f.now)) c.in-Some.ensures.cases.0 in
-    let none : length c.args.self.now.places.items ≡ 0 = search (rules) in
     let keys = ap (map (λ e. e.0)) c.deref.ensures.value ∙ sym (student_keys c.args.self.now.students.items) in
     let owners = ap (map (λ e. e.0)) c.deref-2.ensures.value ∙ sym (project_keys c.args.self.now.projects.items) in
     let read = rw c.in-Some-2.is at c.in_ok-list.ensures in (
       record { code = c.in-Some-next_code.code; list = c.in-Some-2.list.items },
       record {
-        turn = nil_from_length c.args.self.now.places.items none;
-        prices = c.has_no_prices.ensures.0 c.if-not-has_no_prices.false;
         is = fields ∙ ap (λ (x : List ℕ). x ∷ map (λ (f : Bor (List ℕ)). f.now) c.in-Some.list.now) (sym next.0) ∙ ap (λ (l : List (List ℕ)). c.in-Some-next_code.code ∷ l) (sym read.0);
         code = comes_moved _ _ _ _ _ keys (sym next.0) next.1;
         list = sound_moved _ _ _ _ owners (sym read.0) read.1;

@@ -1,6 +1,4 @@
-use Rattle.std.proofs.Common.{◌≡◌, ℕ, List, [], ◌∷◌, length, map, get_or, sym, ap, subst, ◌∙◌, rules}
-use Rattle.std.proofs.lemmas.List.{nil_from_length}
-use Rattle.spa.specs.Instance.{projects_of}
+use Rattle.std.proofs.Common.{ℕ, List, [], ◌∷◌, map, get_or, sym, ap, subst, ◌∙◌}
 use Rattle.intake.specs.Parts.{Rise}
 use Rattle.intake.proofs.Adding.{two_fields, supervisor_added}
 use Rattle.intake.proofs.Lists.{blank, first_field}
@@ -12,18 +10,14 @@ next_code-requires c = subst Rise (supervisor_keys c.args.self.now.supervisors.i
 
 pub returns-in_default-next_code : goal.returns-in_default-next_code
 returns-in_default-next_code c = λ e t.
-    let keys = supervisor_keys c.args.self.now.supervisors.items ∙ ap (map (λ e. e.0)) (sym c.deref.ensures.value) in
-    c.in_default-next_code.ensures (comes_moved _ _ _ _ _ keys (first_field _ _ _ _ (sym t.is ∙ two_fields c.args.fields.now c.in-len2.len_at_least c.in-len2.len_below)) t.code)
+    c.in_default-next_code.ensures (comes_moved _ _ _ _ _ (supervisor_keys c.args.self.now.supervisors.items ∙ ap (map (λ e. e.0)) (sym c.deref.ensures.value)) (first_field _ _ _ _ (sym t.is ∙ two_fields c.args.fields.now c.in-len2.len_at_least c.in-len2.len_below)) t.code)
 
 pub returns : goal.returns
 returns c =
     let read = rw c.in-Some.is at c.next_code.ensures in
-    let none : length c.args.self.now.projects.items ≡ 0 = search (rules) in
     let keys = ap (map (λ e. e.0)) c.deref.ensures.value ∙ sym (supervisor_keys c.args.self.now.supervisors.items) in (
       record { code = c.in-Some.code; quota = c.in-Some-read_quota.quota },
       record {
-        turn = ap projects_of (nil_from_length c.args.self.now.projects.items none);
-        prices = c.has_no_prices.ensures.0 c.if-not-has_no_prices.false;
         is = two_fields c.args.fields.now c.in-len2.len_at_least c.in-len2.len_below ∙ ap (λ (x : List ℕ). x ∷ (get_or c.args.fields.now 1 blank).now ∷ []) (sym read.0) ∙ ap (λ (x : List ℕ). c.in-Some.code ∷ x ∷ []) c.in-Some-read_quota.ensures.1;
         code = comes_moved _ _ _ _ _ keys (sym read.0) read.1;
         quota = c.in-Some-read_quota.ensures.0;
