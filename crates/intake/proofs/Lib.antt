@@ -1,6 +1,7 @@
 mod Adding
 mod Bad
 mod Ends
+mod Widths
 mod Found
 mod Added
 mod Goes

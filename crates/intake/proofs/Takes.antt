@@ -1,5 +1,5 @@
 -- The section that the next row is in says what the draft takes.
-use Rattle.std.proofs.Common.{◌≡◌, ℕ, zero, suc, ◌<◌, ◌≤◌, inl, inr, ℤ, Bool, false, ◌||◌, List, [], ◌∷◌, ◌++◌, length, map, get_or, slice_get, codes, Option, Some, None, All, Contains, refl, sym, ap, ◌∙◌, subst, arith}
+use Rattle.std.proofs.Common.{◌≡◌, ℕ, zero, suc, ◌<◌, ◌≤◌, inl, inr, ℤ, Bool, false, ◌||◌, List, [], ◌∷◌, ◌++◌, length, map, get_or, slice_get, codes, Option, Some, None, Contains, refl, sym, ap, ◌∙◌, subst, arith}
 use Rattle.std.specs.List.{AllZip}
 use Rattle.std.specs.Prelude.{IsTrue}
 use Rattle.std.specs.Str.{bytes_eq}
@@ -7,7 +7,6 @@ use Rattle.std.proofs.lemmas.Bool.{cases_Bool}
 use Rattle.std.proofs.lemmas.Slice.Eq.{bytes_eq-Decides}
 use Rattle.std.proofs.lemmas.List.{length-append, length-map, get_or_append_left}
 use Rattle.spa.specs.Shape.{IsPlaceOf}
-use Rattle.spa.specs.declared.TheConstants.{MOST_PLACES}
 use Rattle.spa.specs.Text.{is_code}
 use Rattle.spa.specs.Instance.{Supervisor, Project, Student, supervisor_codes, project_codes}
 use Rattle.spa.specs.Made.{IsSoundList}
@@ -22,6 +21,7 @@ use Rattle.intake.proofs.Pairing.{all_found, get_mapped}
 use Rattle.intake.proofs.Prices.{SameCodes, rows_unpriced, parts_priced, takes_next, all_complete}
 use Rattle.intake.proofs.Rolls.{within_get}
 use Rattle.intake.proofs.Sections.{NextAt, has_letter, next_letter, next_at}
+use Rattle.intake.proofs.Widths.{quota_found}
 use Rattle.intake.proofs.Goes.{GoesOn, rows_alike}
 
 -- nothing is made from something
@@ -46,6 +46,10 @@ pub record Front {X : Type 0} (row : X → Row) (code : X → List ℕ) (new old
   pub is : r ≡ row e
   pub codes_of : (rest : List (List ℕ)) × (map code new ≡ (map code old ++ code e ∷ []) ++ rest)
 
+-- the same behind one entry
+front_more : {X : Type 0} (row : X → Row) (code : X → List ℕ) (x y : X) (new old : List X) (r : Row) → code x ≡ code y → Front row code new old r → Front row code (x ∷ new) (y ∷ old) r
+front_more row code x y new old r same f = record { e = f.e; here = f.here; is = f.is; codes_of = (f.codes_of.0, ap (λ (c : List ℕ). c ∷ map code new) same ∙ ap (λ (cs : List (List ℕ)). code y ∷ cs) f.codes_of.1) }
+
 -- the next entry of a roll
 front : {X : Type 0} (row : X → Row) (code : X → List ℕ) → ((x y : X) → row x ≡ row y → code x ≡ code y) → (new old : List X) (r : Row) (more : List Row) → map row new ≡ map row old ++ r ∷ more → Front row code new old r
 front row code inj [] [] r more e = cc
@@ -54,8 +58,7 @@ front row code inj [] (y ∷ old) r more e = cc
 front row code inj (x ∷ new) (y ∷ old) r more e =
     let first : row x ≡ row y = cc in
     let rest : map row new ≡ map row old ++ r ∷ more = cc in
-    let f = front row code inj new old r more rest in
-    record { e = f.e; here = f.here; is = f.is; codes_of = (f.codes_of.0, ap (λ (c : List ℕ). c ∷ map code new) (inj x y first) ∙ ap (λ (cs : List (List ℕ)). code y ∷ cs) f.codes_of.1) }
+    front_more row code x y new old r (inj x y first) (front row code inj new old r more rest)
 
 -- the front of codes that rise rises
 rise_front : (xs ys : List (List ℕ)) → Rise (xs ++ ys) → Rise xs
@@ -90,10 +93,6 @@ next_entry row key inj new old r most next roll few =
         next = front_rises row key new old r f roll.rise;
       };
     }
-
--- its quota is one of all
-quota_found : {X : Type 0} (quota : X → ℕ) (es : List X) (n : ℕ) (e : X) → All (λ q. q ≤ MOST_PLACES) (map quota es) → slice_get es n ≡ Some e → quota e ≤ MOST_PLACES
-quota_found quota es n e h here = all_found (λ q. q ≤ MOST_PLACES) (map quota es) n (quota e) h (get_mapped quota es n e here)
 
 -- the section has its turn, and the row is that of its next entry
 pub record Goes (s : SectionName) (old : Parts) (r : Row) : Type 0 where
