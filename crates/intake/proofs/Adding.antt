@@ -1,10 +1,11 @@
 -- What a row adds to a draft.
-use Rattle.std.proofs.Common.{◌≡◌, ℕ, ◌<◌, ◌≤◌, ℤ, Bool, true, false, List, [], ◌∷◌, ◌++◌, length, map, get_or, Option, refl, ap, ◌∙◌, subst, arith}
+use Rattle.std.proofs.Common.{◌≡◌, ℕ, ◌<◌, ◌≤◌, ℤ, Bool, List, [], ◌∷◌, ◌++◌, length, map, get_or, Option, refl, ap, ◌∙◌, subst, arith}
 use denote.Ref.{Bor}
-use Rattle.std.proofs.lemmas.List.{map_push, nil_from_length}
-use Rattle.spa.specs.Instance.{Instance, Supervisor, Project, Student, given, supervisor_codes, project_codes, student_codes, supervisors_of, projects_of, students_of}
+use Rattle.std.proofs.lemmas.List.{map_push}
+use Rattle.spa.specs.Instance.{Instance, Supervisor, Project, Student, given, supervisors_of, projects_of, students_of}
 use Rattle.intake.specs.Parts.{Parts}
-use Rattle.intake.specs.Draft.{NoneOrAll, AddsPrice, AddsStudentPrice, AddsProjectPrice, AddsSupervisorPrice, with_supervisor, with_project, with_student}
+use Rattle.intake.specs.declared.section.SectionName.TheVariants.{Supervisors, Projects, Students}
+use Rattle.intake.specs.Entries.{AddsPrice, with_entry}
 use Rattle.intake.proofs.Lists.{blank}
 
 -- two fields
@@ -28,51 +29,25 @@ parts ss ps ts ks u y z = record { instance = given ss ps ts; places = ks; stude
 
 -- one supervisor more
 pub supervisor_added : (ss new : List (List ℕ × ℕ)) (ps : List (List ℕ × List ℕ × ℕ)) (ts : List (List ℕ × List (List ℕ))) (ks : List (Option ℕ)) (u y z : List (List ℤ)) (code : List ℕ) (quota : ℕ) → new ≡ ss ++ (code, quota) ∷ []
-    → parts new ps ts ks u y z ≡ with_supervisor (parts ss ps ts ks u y z) (record { code = code; quota = quota })
+    → parts new ps ts ks u y z ≡ with_entry Supervisors (parts ss ps ts ks u y z) (record { code = code; quota = quota })
 supervisor_added ss new ps ts ks u y z code quota e =
     let f = λ (l : List Supervisor). (let i : Instance = record { supervisors = l; projects = projects_of ps; students = students_of ts } in let p : Parts = record { instance = i; places = ks; student_prices = u; project_prices = y; supervisor_prices = z } in p) in
     ap (λ (l : List (List ℕ × ℕ)). parts l ps ts ks u y z) e ∙ ap f (map_push (λ (e : List ℕ × ℕ). let s : Supervisor = record { code = e.0; quota = e.1 } in s) ss (code, quota))
 
 -- one project more
 pub project_added : (ss : List (List ℕ × ℕ)) (ps new : List (List ℕ × List ℕ × ℕ)) (ts : List (List ℕ × List (List ℕ))) (ks : List (Option ℕ)) (u y z : List (List ℤ)) (code supervisor : List ℕ) (quota : ℕ) → new ≡ ps ++ (code, supervisor, quota) ∷ []
-    → parts ss new ts ks u y z ≡ with_project (parts ss ps ts ks u y z) (record { code = code; supervisor = supervisor; quota = quota })
+    → parts ss new ts ks u y z ≡ with_entry Projects (parts ss ps ts ks u y z) (record { code = code; supervisor = supervisor; quota = quota })
 project_added ss ps new ts ks u y z code supervisor quota e =
     let f = λ (l : List Project). (let i : Instance = record { supervisors = supervisors_of ss; projects = l; students = students_of ts } in let p : Parts = record { instance = i; places = ks; student_prices = u; project_prices = y; supervisor_prices = z } in p) in
     ap (λ (l : List (List ℕ × List ℕ × ℕ)). parts ss l ts ks u y z) e ∙ ap f (map_push (λ (e : List ℕ × List ℕ × ℕ). let s : Project = record { code = e.0; supervisor = e.1; quota = e.2 } in s) ps (code, supervisor, quota))
 
 -- one student more
 pub student_added : (ss : List (List ℕ × ℕ)) (ps : List (List ℕ × List ℕ × ℕ)) (ts new : List (List ℕ × List (List ℕ))) (ks : List (Option ℕ)) (u y z : List (List ℤ)) (code : List ℕ) (list : List (List ℕ)) → new ≡ ts ++ (code, list) ∷ []
-    → parts ss ps new ks u y z ≡ with_student (parts ss ps ts ks u y z) (record { code = code; list = list })
+    → parts ss ps new ks u y z ≡ with_entry Students (parts ss ps ts ks u y z) (record { code = code; list = list })
 student_added ss ps ts new ks u y z code list e =
     let f = λ (l : List Student). (let i : Instance = record { supervisors = supervisors_of ss; projects = projects_of ps; students = l } in let p : Parts = record { instance = i; places = ks; student_prices = u; project_prices = y; supervisor_prices = z } in p) in
     ap (λ (l : List (List ℕ × List (List ℕ))). parts ss ps l ks u y z) e ∙ ap f (map_push (λ (e : List ℕ × List (List ℕ)). let s : Student = record { code = e.0; list = e.1 } in s) ts (code, list))
 
--- a list without elements
-pub empty_is : {X : Type 0} (xs : List X) → length xs ≡ 0 → xs ≡ []
-empty_is xs h = nil_from_length xs h
-
 -- a price that was added, said of the same codes
 pub price_moved : (a b : List (List ℕ)) (old : List (List ℤ)) (row : List (List ℕ)) (new : List (List ℤ)) (r : Bool) → a ≡ b → AddsPrice a old row new r → AddsPrice b old row new r
 price_moved a b old row new r e h = subst (λ (l : List (List ℕ)). AddsPrice l old row new r) e h
-
--- a student's price was added
-pub student_price_adds : (p : Parts) (row : List (List ℕ)) (new : List (List ℤ)) (r : Bool) → p.project_prices ≡ [] → p.supervisor_prices ≡ [] → AddsPrice (student_codes p.instance) p.student_prices row new r
-    → AddsStudentPrice p row (record p { student_prices = new }) r
-student_price_adds p row new true e f h = (h.0, record { projects = e; supervisors = f; price = h.1 }, ap (λ (l : List (List ℤ)). record p { student_prices = l }) h.2)
-student_price_adds p row new false e f h = λ v t. h v t.price
-
--- a project's price was added
-pub project_price_adds : (p : Parts) (row : List (List ℕ)) (new : List (List ℤ)) (r : Bool) → p.supervisor_prices ≡ [] → NoneOrAll (length p.instance.students) p.student_prices → AddsPrice (project_codes p.instance) p.project_prices row new r
-    → AddsProjectPrice p row (record p { project_prices = new }) r
-project_price_adds p row new true e f h = (h.0, record { supervisors = e; students = f; price = h.1 }, ap (λ (l : List (List ℤ)). record p { project_prices = l }) h.2)
-project_price_adds p row new false e f h = λ v t. h v t.price
-
--- a supervisor's price was added
-pub supervisor_price_adds : (p : Parts) (row : List (List ℕ)) (new : List (List ℤ)) (r : Bool) → NoneOrAll (length p.instance.students) p.student_prices → NoneOrAll (length p.instance.projects) p.project_prices → AddsPrice (supervisor_codes p.instance) p.supervisor_prices row new r
-    → AddsSupervisorPrice p row (record p { supervisor_prices = new }) r
-supervisor_price_adds p row new true e f h = (h.0, record { students = e; projects = f; price = h.1 }, ap (λ (l : List (List ℤ)). record p { supervisor_prices = l }) h.2)
-supervisor_price_adds p row new false e f h = λ v t. h v t.price
-
--- none or all, said of the same prices and number
-pub none_or_all_moved : (m n : ℕ) (a b : List (List ℤ)) → m ≡ n → a ≡ b → NoneOrAll m a → NoneOrAll n b
-none_or_all_moved m n a b e f h = subst (λ (k : ℕ). NoneOrAll k b) e (subst (λ (l : List (List ℤ)). NoneOrAll m l) f h)

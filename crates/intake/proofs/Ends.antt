@@ -1,12 +1,8 @@
 -- A draft may be completed, and a complete one is the parts of its text.
-use Rattle.std.proofs.Common.{◌≡◌, ℕ, zero, suc, ◌+◌, ◌-◌, ◌<◌, ◌≤◌, inl, inr, ℤ, pos, List, [], ◌∷◌, ◌++◌, length, map, get_or, replicate, codes, Option, Some, None, All, Contains, slice_get, refl, sym, ap, ◌∙◌, arith, append_assoc, append-nil}
+use Rattle.std.proofs.Common.{◌≡◌, ℕ, zero, suc, ◌+◌, ◌-◌, ◌<◌, ◌≤◌, ℤ, List, [], ◌∷◌, ◌++◌, length, map, flat_map, get_or, replicate, codes, Option, Some, None, All, Contains, slice_get, refl, sym, ap, ◌∙◌, subst, arith}
 use Rattle.std.specs.List.{AllZip}
-use Rattle.std.specs.Fmt.{signed_decimal}
-use Rattle.std.proofs.lemmas.Int.{ints}
-use Rattle.spa.specs.declared.TheConstants.{PLACES}
-use Rattle.std.proofs.lemmas.Bool.{cases_lt}
-use Rattle.std.proofs.lemmas.List.{map-append, length-append, length-replicate, length-map, get_or-replicate, nil_from_length}
-use Rattle.std.proofs.lemmas.List.Elements.{All-append, All-replicate, All-map}
+use Rattle.std.proofs.lemmas.List.{length-map}
+use Rattle.std.proofs.lemmas.List.Elements.{All-map}
 use Rattle.spa.specs.Instance.{Instance, Supervisor, Project, Student, supervisor_codes, project_codes, student_codes}
 use Rattle.spa.specs.declared.fault.Roll.TheVariants.{Supervisors, Projects, Students}
 use Rattle.spa.specs.declared.fault.InstanceFault.{InstanceFault}
@@ -15,12 +11,15 @@ use Rattle.spa.specs.Codes.{IsFirstRepeated}
 use Rattle.spa.specs.Made.{IsSoundList, IsFirstUnknown, IsListFault, IsFirstListFault, IsFirstInstanceFault}
 use Rattle.intake.proofs.Found.{slice_get_at}
 use Rattle.intake.proofs.Pairing.{one_place, all_found}
+use Rattle.intake.proofs.Prices.{filled, filled_all, filled_prices, filled_rows, changed_complete, priced_changed, some_turn}
 use Rattle.intake.proofs.Rolls.{within_get}
-use Rattle.intake.specs.Parts.{Parts, Rise, IsPlace, IsPrice, ArePricesOrNone, IsRoundParts}
-use Rattle.intake.specs.Lines.{Row, choice_code, line, round_lines, pair_rows, price_rows}
+use Rattle.intake.proofs.Sections.{letter_at}
+use Rattle.intake.proofs.Steps.{prices_step}
+use Rattle.intake.specs.Parts.{Parts, Rise, IsPlace, ArePricesOrNone, IsRoundParts}
+use Rattle.intake.specs.Lines.{Row, choice_code, line, round_lines, section_lines, priced, price_section, pair_rows, supervisor_row, project_row, student_row}
 use Rattle.intake.specs.Reading.{Begins}
-use Rattle.intake.specs.Draft.{IsDraft, IsWhole, ArePlaces, ArePricesUpTo, NoneOrAll}
-use Rattle.intake.proofs.Steps.{seven, S, P, C, M, U, Y, Z, prices_none}
+use Rattle.intake.specs.Draft.{IsDraft, IsWhole, ArePlaces, ArePricesUpTo, NoneOrAll, AreComplete}
+use Rattle.intake.specs.Entries.{IsTurn, with_prices}
 
 -- nobody of the rest has a place
 pub no_more_pairs : (es : List Student) (ks : List (Option ℕ)) (n : ℕ) → pair_rows es (ks ++ replicate n None) ≡ pair_rows es ks
@@ -55,25 +54,20 @@ placed p = record p { places = p.places ++ replicate (length p.instance.students
 
 -- they have the same lines
 pub placed_lines : (p : Parts) → round_lines (placed p) ≡ round_lines p
-placed_lines p = ap (λ (l : List Row). seven (S p) (P p) (C p) (map (line (codes "M")) l) (U p) (Y p) (Z p)) (no_more_pairs p.instance.students p.places (length p.instance.students - length p.places))
+placed_lines p = ap (λ (l : List Row). map (line (codes "S")) (map supervisor_row p.instance.supervisors) ++ (map (line (codes "P")) (map project_row p.instance.projects) ++ (map (line (codes "C")) (map student_row p.instance.students) ++ (map (line (codes "M")) l ++ flat_map section_lines (map price_section (priced p)))))) (no_more_pairs p.instance.students p.places (length p.instance.students - length p.places))
 
--- prices up to all of them are all or none
-priced : (n : ℕ) (vs : List (List ℤ)) → ArePricesUpTo n vs → NoneOrAll n vs → ArePricesOrNone n vs
-priced n vs a w = record { none_or_all = w; prices = a.prices }
+-- prices of a roll by its entries
+by_entries : {X : Type 0} (key : X → List ℕ) (es : List X) (vs : List (List ℤ)) → ArePricesUpTo (length (map key es)) vs → NoneOrAll (length (map key es)) vs → ArePricesOrNone (length es) vs
+by_entries key es vs a w = subst (λ (n : ℕ). ArePricesOrNone n vs) (length-map es key) (record { none_or_all = w; prices = a.prices })
 
 -- a draft that may end is the parts of its text
 pub whole_parts : (p : Parts) → IsDraft p → IsWhole p → IsRoundParts (placed p)
 whole_parts p d w = record {
-  within = d.within;
-  supervisors = d.supervisors;
-  projects = d.projects;
-  students = d.students;
-  offered = d.offered;
-  listed = d.listed;
+  instance = d.instance;
   places = places_all p.instance.students p.places (length p.instance.students - length p.places) (omega (arith, places_few p.instance.students p.places d.places)) d.places;
-  student_prices = priced (length p.instance.students) p.student_prices d.student_prices w.students;
-  project_prices = priced (length p.instance.projects) p.project_prices d.project_prices w.projects;
-  supervisor_prices = priced (length p.instance.supervisors) p.supervisor_prices d.supervisor_prices w.supervisors;
+  student_prices = by_entries (λ (e : Student). e.code) p.instance.students p.student_prices d.prices.0 w.0;
+  project_prices = by_entries (λ (e : Project). e.code) p.instance.projects p.project_prices d.prices.2.0 w.1.0;
+  supervisor_prices = by_entries (λ (e : Supervisor). e.code) p.instance.supervisors p.supervisor_prices d.prices.2.2.0 w.1.1.0;
 }
 
 -- codes that rise are apart
@@ -95,7 +89,7 @@ not_unknown known names n all u = u.unknown (all_found (λ c. Contains known c) 
 -- the lists of a draft have no fault but want of memory
 list_fault : (p : Parts) (fault : InstanceFault) → IsDraft p → IsFirstListFault (project_codes p.instance) (map (λ e. e.list) p.instance.students) fault → fault ≡ Memory
 list_fault p fault d f =
-    let sound : IsSoundList (project_codes p.instance) f.list = all_found (IsSoundList (project_codes p.instance)) (map (λ e. e.list) p.instance.students) f.student f.list (All-map (IsSoundList (project_codes p.instance)) (λ e. e.list) p.instance.students d.listed) f.here in
+    let sound : IsSoundList (project_codes p.instance) f.list = all_found (IsSoundList (project_codes p.instance)) (map (λ e. e.list) p.instance.students) f.student f.list (All-map (IsSoundList (project_codes p.instance)) (λ e. e.list) p.instance.students d.instance.listed) f.here in
     go fault f.student f.list f.is_fault sound
   where
     go : (fault : InstanceFault) (s : ℕ) (list : List (List ℕ)) → IsListFault (project_codes p.instance) list s fault → IsSoundList (project_codes p.instance) list → fault ≡ Memory
@@ -112,11 +106,11 @@ list_fault p fault d f =
 -- the rolls of a draft have no fault but want of memory
 pub no_fault : (p : Parts) (fault : InstanceFault) → IsDraft p → IsFirstInstanceFault p.instance fault → fault ≡ Memory
 no_fault p Memory d h = refl
-no_fault p Limit d h = absurd (h d.within)
-no_fault p (RepeatedCode Supervisors n) d h = absurd (not_repeated (supervisor_codes p.instance) n d.supervisors.rise h.1)
-no_fault p (RepeatedCode Projects n) d h = absurd (not_repeated (project_codes p.instance) n d.projects.rise h.1.1)
-no_fault p (RepeatedCode Students n) d h = absurd (not_repeated (student_codes p.instance) n d.students.rise h.1.2)
-no_fault p (UnknownSupervisor n) d h = absurd (not_unknown (supervisor_codes p.instance) (map (λ e. e.supervisor) p.instance.projects) n (All-map (λ c. Contains (supervisor_codes p.instance) c) (λ e. e.supervisor) p.instance.projects d.offered) h.2)
+no_fault p Limit d h = absurd (h d.instance.within)
+no_fault p (RepeatedCode Supervisors n) d h = absurd (not_repeated (supervisor_codes p.instance) n d.instance.supervisors.rise h.1)
+no_fault p (RepeatedCode Projects n) d h = absurd (not_repeated (project_codes p.instance) n d.instance.projects.rise h.1.1)
+no_fault p (RepeatedCode Students n) d h = absurd (not_repeated (student_codes p.instance) n d.instance.students.rise h.1.2)
+no_fault p (UnknownSupervisor n) d h = absurd (not_unknown (supervisor_codes p.instance) (map (λ e. e.supervisor) p.instance.projects) n (All-map (λ c. Contains (supervisor_codes p.instance) c) (λ e. e.supervisor) p.instance.projects d.instance.offered) h.2)
 no_fault p (ListLength n) d h = list_fault p (ListLength n) d h.3
 no_fault p (UnknownProject n k) d h = list_fault p (UnknownProject n k) d h.3
 no_fault p (RepeatedProject n k) d h = list_fault p (RepeatedProject n k) d h.3
@@ -128,138 +122,17 @@ same_parts i j ks ls u y z e f =
     ap (λ (i : Instance). let p : Parts = record { instance = i; places = ks; student_prices = u; project_prices = y; supervisor_prices = z } in p) e
     ∙ ap (λ (ks : List (Option ℕ)). let p : Parts = record { instance = j; places = ks; student_prices = u; project_prices = y; supervisor_prices = z } in p) f
 
--- a price of nothing
-abbrev zeros : List ℤ
-zeros = replicate PLACES (pos 0)
-
--- it is one
-zeros_price : IsPrice zeros
-zeros_price = record { numbers = length-replicate PLACES (pos 0); range = λ t h. rw (get_or-replicate PLACES t (pos 0) (pos 0) h) (omega (arith, ints), omega (arith, ints)) }
-
--- prices, and nothing for each of the rest
-abbrev filled : ℕ → List (List ℤ) → List (List ℤ)
-filled n vs = vs ++ replicate (n - length vs) zeros
-
--- they are all
-filled_all : (n : ℕ) (vs : List (List ℤ)) → ArePricesUpTo n vs → length (filled n vs) ≡ n
-filled_all n vs a = omega (arith, length-append vs (replicate (n - length vs) zeros), length-replicate (n - length vs) zeros, a.few)
-
--- and prices
-filled_prices : (n : ℕ) (vs : List (List ℤ)) → ArePricesUpTo n vs → ArePricesUpTo n (filled n vs)
-filled_prices n vs a = record { few = omega (arith, filled_all n vs a); prices = All-append IsPrice vs (replicate (n - length vs) zeros) a.prices (All-replicate IsPrice (n - length vs) zeros zeros_price) }
-
--- their rows begin with those that were there
-price_more : (cs : List (List ℕ)) (vs ws : List (List ℤ)) → length vs ≤ length cs → (rest : List Row) × (price_rows cs (vs ++ ws) ≡ price_rows cs vs ++ rest)
-price_more cs [] ws h = (price_rows cs ws, ap (λ (l : List Row). l ++ price_rows cs ws) (sym (none cs)))
-  where
-    none : (cs : List (List ℕ)) → price_rows cs [] ≡ []
-    none [] = refl
-    none (c ∷ cs) = refl
-price_more [] (v ∷ vs) ws h = absurd (omega arith)
-price_more (c ∷ cs) (v ∷ vs) ws h = (let m = price_more cs vs ws (omega arith) in (m.0, ap (λ (l : List Row). (c ∷ map signed_decimal v) ∷ l) m.1))
-
--- more lines of the last section, and of one that nothing follows
-more7 : (a b c m u y z new xs : List (List ℕ)) → new ≡ z ++ xs → seven a b c m u y new ≡ seven a b c m u y z ++ xs
-more7 a b c m u y z new xs e = rw e (simp (append-nil, append_assoc))
-
-more6 : (a b c m u y new z xs : List (List ℕ)) → new ≡ y ++ xs → z ≡ [] → seven a b c m u new z ≡ seven a b c m u y z ++ xs
-more6 a b c m u y new z xs e ez = rw (e, ez) (simp (append-nil, append_assoc))
-
-more5 : (a b c m u new y z xs : List (List ℕ)) → new ≡ u ++ xs → y ≡ [] → z ≡ [] → seven a b c m new y z ≡ seven a b c m u y z ++ xs
-more5 a b c m u new y z xs e ey ez = rw (e, ey, ez) (simp (append-nil, append_assoc))
-
--- more rows are more lines
-lines_more : (l : List ℕ) (rows new more : List Row) → new ≡ rows ++ more → map (line l) new ≡ map (line l) rows ++ map (line l) more
-lines_more l rows new more e = ap (map (line l)) e ∙ map-append (line l) rows more
-
--- a draft whose completion has more lines begins a text
-begins_by : (p q : Parts) (rest : List (List ℕ)) → IsDraft q → IsWhole q → round_lines q ≡ round_lines p ++ rest → Begins (round_lines p)
-begins_by p q rest d w e = (placed q, rest, whole_parts q d w, placed_lines q ∙ e)
-
--- the supervisors' prices are completed
-begins_z : (p : Parts) → IsDraft p → 0 < length p.supervisor_prices → Begins (round_lines p)
-begins_z p d h =
-    let n : ℕ = length p.instance.supervisors in
-    let q : Parts = record p { supervisor_prices = filled n p.supervisor_prices } in
-    let more = price_more (supervisor_codes p.instance) p.supervisor_prices (replicate (n - length p.supervisor_prices) zeros) (omega (arith, d.supervisor_prices.few, length-map p.instance.supervisors (λ (e : Supervisor). e.code))) in
-    begins_by p q (map (line (codes "Z")) more.0)
-    (record {
-      within = d.within;
-      supervisors = d.supervisors;
-      projects = d.projects;
-      students = d.students;
-      offered = d.offered;
-      listed = d.listed;
-      places = d.places;
-      last_place = d.last_place;
-      student_prices = d.student_prices;
-      project_prices = d.project_prices;
-      supervisor_prices = filled_prices n p.supervisor_prices d.supervisor_prices;
-      students_priced = λ i. d.students_priced (inr h);
-      projects_priced = λ i. d.projects_priced h;
-    })
-    (record { students = d.students_priced (inr h); projects = d.projects_priced h; supervisors = inr (filled_all n p.supervisor_prices d.supervisor_prices) })
-    (more7 (S p) (P p) (C p) (M p) (U p) (Y p) (Z p) _ _ (lines_more (codes "Z") (price_rows (supervisor_codes p.instance) p.supervisor_prices) _ more.0 more.1))
-
--- the projects' prices are completed
-begins_y : (p : Parts) → IsDraft p → p.supervisor_prices ≡ [] → 0 < length p.project_prices → Begins (round_lines p)
-begins_y p d z h =
-    let n : ℕ = length p.instance.projects in
-    let q : Parts = record p { project_prices = filled n p.project_prices } in
-    let more = price_more (project_codes p.instance) p.project_prices (replicate (n - length p.project_prices) zeros) (omega (arith, d.project_prices.few, length-map p.instance.projects (λ (e : Project). e.code))) in
-    begins_by p q (map (line (codes "Y")) more.0)
-    (record {
-      within = d.within;
-      supervisors = d.supervisors;
-      projects = d.projects;
-      students = d.students;
-      offered = d.offered;
-      listed = d.listed;
-      places = d.places;
-      last_place = d.last_place;
-      student_prices = d.student_prices;
-      project_prices = filled_prices n p.project_prices d.project_prices;
-      supervisor_prices = d.supervisor_prices;
-      students_priced = λ i. d.students_priced (inl h);
-      projects_priced = λ i. inr (filled_all n p.project_prices d.project_prices);
-    })
-    (record { students = d.students_priced (inl h); projects = inr (filled_all n p.project_prices d.project_prices); supervisors = inl (ap length z) })
-    (more6 (S p) (P p) (C p) (M p) (U p) (Y p) _ (Z p) _ (lines_more (codes "Y") (price_rows (project_codes p.instance) p.project_prices) _ more.0 more.1) (prices_none (codes "Z") (supervisor_codes p.instance) p.supervisor_prices z))
-
--- the students' prices are completed
-begins_u : (p : Parts) → IsDraft p → p.supervisor_prices ≡ [] → p.project_prices ≡ [] → Begins (round_lines p)
-begins_u p d z y =
-    let n : ℕ = length p.instance.students in
-    let q : Parts = record p { student_prices = filled n p.student_prices } in
-    let more = price_more (student_codes p.instance) p.student_prices (replicate (n - length p.student_prices) zeros) (omega (arith, d.student_prices.few, length-map p.instance.students (λ (e : Student). e.code))) in
-    begins_by p q (map (line (codes "U")) more.0)
-    (record {
-      within = d.within;
-      supervisors = d.supervisors;
-      projects = d.projects;
-      students = d.students;
-      offered = d.offered;
-      listed = d.listed;
-      places = d.places;
-      last_place = d.last_place;
-      student_prices = filled_prices n p.student_prices d.student_prices;
-      project_prices = d.project_prices;
-      supervisor_prices = d.supervisor_prices;
-      students_priced = λ i. inr (filled_all n p.student_prices d.student_prices);
-      projects_priced = d.projects_priced;
-    })
-    (record { students = inr (filled_all n p.student_prices d.student_prices); projects = inl (ap length y); supervisors = inl (ap length z) })
-    (more5 (S p) (P p) (C p) (M p) (U p) _ (Y p) (Z p) _ (lines_more (codes "U") (price_rows (student_codes p.instance) p.student_prices) _ more.0 more.1) (prices_none (codes "Y") (project_codes p.instance) p.project_prices y) (prices_none (codes "Z") (supervisor_codes p.instance) p.supervisor_prices z))
+-- the prices that are read are completed
+begins_at : (n : ℕ) (p : Parts) → IsDraft p → IsTurn n (priced p) → Begins (round_lines p)
+begins_at n p d t =
+    let vs : List (List ℤ) = filled n (priced p) in
+    let more = filled_rows n (priced p) d.prices t in
+    let step = prices_step n vs p more.0 d t (filled_prices n (priced p) d.prices t) more.1 in
+    let whole : IsWhole (with_prices n vs p) = subst AreComplete (sym (priced_changed n vs p t)) (changed_complete n vs (priced p) t (filled_all n (priced p) d.prices t)) in
+    (placed (with_prices n vs p), map (line (letter_at n (map price_section (priced p)))) more.0, whole_parts (with_prices n vs p) step.0 whole, placed_lines (with_prices n vs p) ∙ step.1)
 
 -- the lines of a draft begin a text
 pub draft_begins : (p : Parts) → IsDraft p → Begins (round_lines p)
 draft_begins p d =
-    elim (cases_lt 0 (length p.supervisor_prices)) [
-      | inl h ↦ begins_z p d h
-      | inr none ↦
-          let z : p.supervisor_prices ≡ [] = nil_from_length p.supervisor_prices (omega arith) in
-          elim (cases_lt 0 (length p.project_prices)) [
-            | inl h ↦ begins_y p d z h
-            | inr none ↦ begins_u p d z (nil_from_length p.project_prices (omega arith))
-          ]
-    ]
+    let t = some_turn (record { letter = codes "U"; codes = student_codes p.instance; prices = p.student_prices }) (record { letter = codes "Y"; codes = project_codes p.instance; prices = p.project_prices } ∷ record { letter = codes "Z"; codes = supervisor_codes p.instance; prices = p.supervisor_prices } ∷ []) d.prices in
+    begins_at t.0 p d t.1

@@ -1,6 +1,7 @@
 mod Adding
 mod Bad
 mod Ends
+mod Widths
 mod Found
 mod Added
 mod Goes
@@ -9,6 +10,7 @@ mod Numbers
 mod Order
 mod Pairing
 mod Pieces
+mod Prices
 mod Rolls
 mod Sections
 mod Size

@@ -16,10 +16,10 @@ abbrev pub blank : Bor (List ℕ)
 blank = record { ref_ptr = (0, 0); now = [] }
 
 -- a field that is there
-pub field_at : (fs : List (Bor (List ℕ))) (k : ℕ) → k < length fs → slice_get (map (λ f. f.now) fs) k ≡ Some (get_or fs k blank).now
+pub field_at : (fs : List (Bor (List ℕ))) (k : ℕ) → k < length fs → (k < length (map (λ f. f.now) fs)) × (slice_get (map (λ f. f.now) fs) k ≡ Some (get_or fs k blank).now)
 field_at [] k h = absurd (omega arith)
-field_at (f ∷ fs) zero h = refl
-field_at (f ∷ fs) (suc k) h = field_at fs k (omega arith)
+field_at (f ∷ fs) zero h = (omega arith, refl)
+field_at (f ∷ fs) (suc k) h = (let at = field_at fs k (omega arith) in (omega (arith, at.0), at.1))
 
 -- a look-up that found nothing
 pub found_none : (r : Option ℕ) → is_some r ≡ false → r ≡ None

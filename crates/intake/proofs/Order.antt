@@ -98,11 +98,6 @@ last_key key es e r d = ap (λ n. get_or (map key es) (n - 1) d) (length-map es 
     found key (x ∷ es) zero e r d = cc
     found key (x ∷ es) (suc m) e r d = found key es m e r d
 
--- nothing stands before the first code
-pub rise_first : (keys : List (List ℕ)) (code : List ℕ) → length keys ≡ 0 → Rise (keys ++ code ∷ [])
-rise_first [] code h = λ i j d l k. absurd (omega arith)
-rise_first (x ∷ keys) code h = absurd (omega arith)
-
 -- a code after the last goes on
 pub rise_next : (keys : List (List ℕ)) (code : List ℕ) (d : List ℕ) → Rise keys → code_cmp (get_or keys (length keys - 1) d) code ≡ Less → Rise (keys ++ code ∷ [])
 rise_next keys code d rise e =

@@ -8,7 +8,8 @@ use Rattle.spa.specs.Instance.{Student, students_of, student_codes, project_code
 use Rattle.spa.specs.Made.{IsSoundList}
 use Rattle.intake.specs.Parts.{Parts, Rise}
 use Rattle.intake.specs.Lines.{choice_code}
-use Rattle.intake.specs.Draft.{IsDraft, TakesPair}
+use Rattle.intake.specs.Draft.{IsDraft}
+use Rattle.intake.specs.Entries.{NextPair}
 use Rattle.intake.proofs.Found.{slice_get_at}
 use Rattle.intake.proofs.Order.{get_found, cmp_apart}
 use Rattle.intake.proofs.Rolls.{within_get}
@@ -51,7 +52,7 @@ pub record Refers (p : Parts) (s k : ℕ) (a b : List ℕ) (e : Student) : Type 
   pub place : slice_get e.list (k - 1) ≡ Some b
 
 -- a pair that may be added refers to what is known
-pub refers : (p : Parts) (row : List (List ℕ)) (s k : ℕ) (a b : List ℕ) → IsDraft p → (t : TakesPair p row s k) → row ≡ a ∷ b ∷ [] → Refers p s k a b t.student
+pub refers : (p : Parts) (row : List (List ℕ)) (s k : ℕ) (a b : List ℕ) → IsDraft p → (t : NextPair p row s k) → row ≡ a ∷ b ∷ [] → Refers p s k a b t.student
 refers p row s k a b d t e =
     let rows : t.student.code ∷ choice_code t.student.list k ∷ [] ≡ a ∷ b ∷ [] = sym t.is ∙ e in
     let first : t.student.code ≡ a = cc in
@@ -79,9 +80,10 @@ listed_at es n m e st h r same found =
     ap (λ (s : Student). s.list) (sym s)
 
 -- a position in the list of a student is small
-pub small_place : (p : Parts) (s k : ℕ) (e : Student) → IsDraft p → slice_get p.instance.students s ≡ Some e → k < length e.list → k < 8
-small_place p s k e d here h =
-    let sound : IsSoundList (project_codes p.instance) e.list = all_found (λ (x : Student). IsSoundList (project_codes p.instance) x.list) p.instance.students s e d.listed here in
+pub small_place : {n m : ℕ} (p : Parts) (es : List (List ℕ × Vec Code Global)) (s k : ℕ) (e : List ℕ × Vec Code Global) → IsDraft p → p.instance.students ≡ students_of (map (λ e. (e.0, e.1.items)) es) → s < n → n ≡ length es → e ≡ get_or es s e → k < m → m ≡ length e.1.items → k < 8
+small_place p es s k e d students h many at l long =
+    let here : slice_get p.instance.students s ≡ Some (record { code = e.0; list = e.1.items }) = ap (λ (l : List Student). slice_get l s) students ∙ student_at es s e (omega arith) at in
+    let sound : IsSoundList (project_codes p.instance) e.1.items = all_found (λ (x : Student). IsSoundList (project_codes p.instance) x.list) p.instance.students s _ d.instance.listed here in
     omega (arith, sound.0.1)
 
 -- what is found at a position is one

@@ -1,11 +1,11 @@
 -- Rolls of entries with codes, as the code keeps them and by codes.
-use Rattle.std.proofs.Common.{◌≡◌, ℕ, zero, suc, ◌+◌, ◌<◌, List, [], ◌∷◌, ◌++◌, length, map, slice_get, Some, None, Vec, Global, Contains, refl, sym, ap, ◌∙◌, subst, inl, inr, arith, below_more}
+use Rattle.std.proofs.Common.{◌≡◌, ℕ, zero, suc, ◌+◌, ◌<◌, List, [], ◌∷◌, length, map, slice_get, Some, None, Vec, Global, Contains, refl, sym, ap, ◌∙◌, subst, inl, inr, arith, below_more}
 use Rattle.std.proofs.lemmas.Bool.{cases_lt}
 use Rattle.spa.specs.declared.code.Code.{Code}
 use Rattle.spa.specs.Instance.{supervisors_of, projects_of, students_of}
 use Rattle.spa.specs.Codes.{AreApart, Finds}
 use Rattle.spa.specs.Made.{AreKnown, IsSoundList}
-use Rattle.intake.specs.Parts.{Rise}
+use Rattle.intake.specs.Entries.{ComesNext}
 use Rattle.intake.proofs.Found.{slice_get_at}
 use Rattle.intake.proofs.Order.{get_found}
 
@@ -52,9 +52,9 @@ contained codes p code e = (p, within_get codes p code e, get_found codes p code
 pub standing : (codes : List (List ℕ)) (code : List ℕ) → Contains codes code → (p : ℕ) × (p < length codes) × (slice_get codes p ≡ Some code)
 standing codes code h = (h.0, h.1, slice_get_at codes h.0 code code h.1 h.2)
 
--- one code more that rises, said of the same codes
-pub rise_moved : (a b : List (List ℕ)) (x y : List ℕ) → a ≡ b → x ≡ y → Rise (a ++ x ∷ []) → Rise (b ++ y ∷ [])
-rise_moved a b x y e f rise = subst (λ (l : List (List ℕ)). Rise (l ++ y ∷ [])) e (subst (λ (z : List ℕ). Rise (a ++ z ∷ [])) f rise)
+-- a code that comes next, said of the same codes
+pub comes_moved : (most : ℕ) (a b : List (List ℕ)) (x y : List ℕ) → a ≡ b → x ≡ y → ComesNext most a x → ComesNext most b y
+comes_moved most a b x y e f next = subst (λ (l : List (List ℕ)). ComesNext most l y) e (subst (λ (z : List ℕ). ComesNext most a z) f next)
 
 -- students by codes are as many
 pub student_count : (es : List (List ℕ × Vec Code Global)) → length (students_of (map (λ e. (e.0, e.1.items)) es)) ≡ length es
@@ -64,8 +64,3 @@ student_count (e ∷ es) = ap suc (student_count es)
 -- a sound list, said of the same codes
 pub sound_moved : (a b x y : List (List ℕ)) → a ≡ b → x ≡ y → IsSoundList a x → IsSoundList b y
 sound_moved a b x y e f sound = subst (λ (l : List (List ℕ)). IsSoundList l y) e (subst (λ (l : List (List ℕ)). IsSoundList a l) f sound)
-
--- projects by codes are as many
-pub project_count : (es : List (List ℕ × List ℕ × ℕ)) → length (projects_of es) ≡ length es
-project_count [] = refl
-project_count (e ∷ es) = ap suc (project_count es)

@@ -1,5 +1,5 @@
 -- Rows in sections, and which section the next row belongs to.
-use Rattle.std.proofs.Common.{◌≡◌, ℕ, Bool, true, false, ◌||◌, ◌⊎◌, inl, inr, not, List, [], ◌∷◌, ◌++◌, zero, suc, map, flat_map, All, refl, sym, ap, ◌∙◌, append-nil}
+use Rattle.std.proofs.Common.{◌≡◌, ℕ, Bool, true, false, ◌||◌, ◌⊎◌, inl, inr, not, List, [], ◌∷◌, ◌++◌, zero, suc, map, flat_map, All, refl, sym, ap, ◌∙◌, append-nil, append_assoc}
 use Rattle.std.specs.Str.{bytes_eq}
 use Rattle.std.specs.List.{slice_split}
 use Rattle.std.specs.Prelude.{◌==◌, ◌&&◌, ⊤}
@@ -237,3 +237,33 @@ next_at (s ∷ ss) (d ∷ ds) l r zero o (inl i) = (i.1, i.2)
 next_at (s ∷ ss) (d ∷ ds) l r zero o (inr j) = (let yes = next_letter ss ds l r j.1 in let off = told (has_letter l ss) o in cc)
 next_at (s ∷ ss) (d ∷ ds) l r (suc n) o (inl i) = absurd (not_from_Decides (bytes_eq l s.letter) (bytes_eq-Decides l s.letter) (told (bytes_eq l s.letter) (both (not (bytes_eq l s.letter)) (only_at n l ss) o).0) (sym i.0))
 next_at (s ∷ ss) (d ∷ ds) l r (suc n) o (inr j) = (j.0, next_at ss ds l r n (both (not (bytes_eq l s.letter)) (only_at n l ss) o).1 j.1)
+
+-- the letter of the section at a place
+abbrev pub letter_at : ℕ → List Section → List ℕ
+letter_at n [] = []
+letter_at zero (s ∷ ss) = s.letter
+letter_at (suc n) (s ∷ ss) = letter_at n ss
+
+-- the section at a place has more rows: those before are the same, and those after have none
+abbrev pub Grows : ℕ → List Section → List Section → List Row → Type 0
+Grows n [] ds more = ⊥
+Grows n (s ∷ ss) [] more = ⊥
+Grows zero (s ∷ ss) (d ∷ ds) more = (d.letter ≡ s.letter) × (d.rows ≡ s.rows ++ more) × NoRows ss × NoRows ds
+Grows (suc n) (s ∷ ss) (d ∷ ds) more = (d ≡ s) × Grows n ss ds more
+
+-- sections without rows have no lines
+no_lines : (ss : List Section) → NoRows ss → flat_map section_lines ss ≡ []
+no_lines [] h = refl
+no_lines (s ∷ ss) h = ap (λ (rows : List Row). map (line s.letter) rows ++ flat_map section_lines ss) h.0 ∙ no_lines ss h.1
+
+-- the lines of more rows come after all others
+pub lines_grow : (n : ℕ) (ss ds : List Section) (more : List Row) → Grows n ss ds more → flat_map section_lines ds ≡ flat_map section_lines ss ++ map (line (letter_at n ss)) more
+lines_grow n [] ds more h = absurd h
+lines_grow n (s ∷ ss) [] more h = absurd h
+lines_grow zero (s ∷ ss) (d ∷ ds) more h =
+    let e : section_lines d ≡ section_lines s ++ map (line s.letter) more = ap (λ (l : List ℕ). map (line l) d.rows) h.0 ∙ ap (map (line s.letter)) h.1 ∙ map-append (line s.letter) s.rows more in
+    rw (e, no_lines ss h.2, no_lines ds h.3) (simp append-nil)
+lines_grow (suc n) (s ∷ ss) (d ∷ ds) more h =
+    ap (λ (x : Section). section_lines x ++ flat_map section_lines ds) h.0
+    ∙ ap (λ (l : List (List ℕ)). section_lines s ++ l) (lines_grow n ss ds more h.1)
+    ∙ sym (append_assoc (section_lines s) (flat_map section_lines ss) (map (line (letter_at n ss)) more))

@@ -1,78 +1,21 @@
--- A draft with one line more is a draft, and has that line after the others.
-use Rattle.std.proofs.Common.{◌≡◌, ℕ, zero, suc, ◌+◌, ◌-◌, ◌<◌, ◌≤◌, inl, inr, ℤ, List, [], ◌∷◌, ◌++◌, length, map, slice_get, replicate, codes, Option, Some, None, All, Contains, true, refl, sym, ap, ◌∙◌, subst, arith, append_assoc, append-nil}
-use Rattle.std.specs.Fmt.{signed_decimal}
+-- A draft with one entry more is a draft, and has that line after the others.
+use Rattle.std.proofs.Common.{◌≡◌, ℕ, zero, suc, ◌+◌, ◌-◌, ◌≤◌, ℤ, List, [], ◌∷◌, ◌++◌, length, map, slice_get, replicate, codes, Option, Some, None, All, Contains, refl, sym, ap, ◌∙◌, subst, arith}
 use Rattle.std.specs.Prelude.{IsTrue}
 use Rattle.std.proofs.lemmas.List.{map_push, length_push, length-map}
 use Rattle.std.proofs.lemmas.List.Elements.{All-push, All-nil}
 use Rattle.spa.specs.Shape.{IsPlaceOf}
 use Rattle.spa.specs.declared.TheConstants.{MOST_PLACES}
 use Rattle.spa.specs.Text.{is_code}
-use Rattle.spa.specs.Codes.{code_at}
 use Rattle.spa.specs.Instance.{Supervisor, Project, Student, supervisor_codes, project_codes, student_codes}
 use Rattle.spa.specs.Made.{IsSoundList}
-use Rattle.intake.specs.Parts.{Parts, Rise, IsPrice, IsRoll}
-use Rattle.intake.specs.Lines.{Row, choice_code, line, round_lines, supervisor_row, project_row, student_row, pair_rows, price_rows}
-use Rattle.intake.specs.Draft.{IsDraft, ArePricesUpTo, ArePlaces, EndsPlaced, TakesSupervisor, TakesProject, TakesStudent, TakesPair, TakesPrice, TakesStudentPrice, TakesProjectPrice, TakesSupervisorPrice, with_supervisor, with_project, with_student, with_pair}
-
--- the lines of seven sections
-abbrev pub seven : List (List ℕ) → List (List ℕ) → List (List ℕ) → List (List ℕ) → List (List ℕ) → List (List ℕ) → List (List ℕ) → List (List ℕ)
-seven a b c m u y z = a ++ (b ++ (c ++ (m ++ (u ++ (y ++ (z ++ []))))))
-
--- the lines of each section
-abbrev pub S : Parts → List (List ℕ)
-S p = map (line (codes "S")) (map supervisor_row p.instance.supervisors)
-
-abbrev pub P : Parts → List (List ℕ)
-P p = map (line (codes "P")) (map project_row p.instance.projects)
-
-abbrev pub C : Parts → List (List ℕ)
-C p = map (line (codes "C")) (map student_row p.instance.students)
-
-abbrev pub M : Parts → List (List ℕ)
-M p = map (line (codes "M")) (pair_rows p.instance.students p.places)
-
-abbrev pub U : Parts → List (List ℕ)
-U p = map (line (codes "U")) (price_rows (student_codes p.instance) p.student_prices)
-
-abbrev pub Y : Parts → List (List ℕ)
-Y p = map (line (codes "Y")) (price_rows (project_codes p.instance) p.project_prices)
-
-abbrev pub Z : Parts → List (List ℕ)
-Z p = map (line (codes "Z")) (price_rows (supervisor_codes p.instance) p.supervisor_prices)
-
--- one line more of the first section, and so on, where no later section has lines
-grow1 : (a new b c m u y z w : List (List ℕ)) (x : List ℕ) → new ≡ a ++ x ∷ [] → b ≡ [] → c ≡ [] → m ≡ [] → u ≡ [] → y ≡ [] → z ≡ [] → w ≡ [] → seven new b c m u y w ≡ seven a b c m u y z ++ x ∷ []
-grow1 a new b c m u y z w x e eb ec em eu ey ez ew = rw (e, eb, ec, em, eu, ey, ez, ew) (simp (append-nil, append_assoc))
-
-grow2 : (a b new c m u y v z : List (List ℕ)) (x : List ℕ) → new ≡ b ++ x ∷ [] → c ≡ [] → m ≡ [] → u ≡ [] → y ≡ [] → v ≡ [] → z ≡ [] → seven a new c m u v z ≡ seven a b c m u y z ++ x ∷ []
-grow2 a b new c m u y v z x e ec em eu ey ev ez = rw (e, ec, em, eu, ey, ev, ez) (simp (append-nil, append_assoc))
-
-grow3 : (a b c new m n u v y z : List (List ℕ)) (x : List ℕ) → new ≡ c ++ x ∷ [] → m ≡ [] → n ≡ [] → u ≡ [] → v ≡ [] → y ≡ [] → z ≡ [] → seven a b new n v y z ≡ seven a b c m u y z ++ x ∷ []
-grow3 a b c new m n u v y z x e em en eu ev ey ez = rw (e, em, en, eu, ev, ey, ez) (simp (append-nil, append_assoc))
-
-grow4 : (a b c m new u y z : List (List ℕ)) (x : List ℕ) → new ≡ m ++ x ∷ [] → u ≡ [] → y ≡ [] → z ≡ [] → seven a b c new u y z ≡ seven a b c m u y z ++ x ∷ []
-grow4 a b c m new u y z x e eu ey ez = rw (e, eu, ey, ez) (simp (append-nil, append_assoc))
-
-grow5 : (a b c m u new y z : List (List ℕ)) (x : List ℕ) → new ≡ u ++ x ∷ [] → y ≡ [] → z ≡ [] → seven a b c m new y z ≡ seven a b c m u y z ++ x ∷ []
-grow5 a b c m u new y z x e ey ez = rw (e, ey, ez) (simp (append-nil, append_assoc))
-
-grow6 : (a b c m u y new z : List (List ℕ)) (x : List ℕ) → new ≡ y ++ x ∷ [] → z ≡ [] → seven a b c m u new z ≡ seven a b c m u y z ++ x ∷ []
-grow6 a b c m u y new z x e ez = rw (e, ez) (simp (append-nil, append_assoc))
-
-grow7 : (a b c m u y z new : List (List ℕ)) (x : List ℕ) → new ≡ z ++ x ∷ [] → seven a b c m u y new ≡ seven a b c m u y z ++ x ∷ []
-grow7 a b c m u y z new x e = rw e (simp (append-nil, append_assoc))
-
--- the lines of one row more
-lines_push : (l : List ℕ) (rows new : List Row) (row : Row) → new ≡ rows ++ row ∷ [] → map (line l) new ≡ map (line l) rows ++ line l row ∷ []
-lines_push l rows new row e = ap (map (line l)) e ∙ map_push (line l) rows row
-
--- and of none
-lines_none : (l : List ℕ) (rows : List Row) → rows ≡ [] → map (line l) rows ≡ []
-lines_none l rows e = ap (map (line l)) e
-
--- rows that are made from nothing
-rows_none : {X : Type 0} (f : X → Row) (xs : List X) → xs ≡ [] → map f xs ≡ []
-rows_none f xs e = ap (map f) e
+use Rattle.intake.specs.declared.section.SectionName.{SectionName}
+use Rattle.intake.specs.declared.section.SectionName.TheVariants.{Supervisors, Projects, Students, Pairs, StudentPrices, ProjectPrices, SupervisorPrices}
+use Rattle.intake.specs.Parts.{Parts, IsRoll, IsRoundInstance}
+use Rattle.intake.specs.Lines.{Row, choice_code, line, sections, priced, price_section, price_rows, round_lines, supervisor_row, project_row, student_row, pair_rows}
+use Rattle.intake.specs.Draft.{IsDraft, ArePricesUpTo, ArePlaces, EndsPlaced, HasNoPrices}
+use Rattle.intake.specs.Entries.{ComesNext, NextSupervisor, NextProject, NextStudent, NextPair, NextPriceAt, HasTurn, IsNext, IsTurn, At, Entry, with_entry, with_price, with_prices, prices_at, letter_of}
+use Rattle.intake.proofs.Prices.{unpriced_turn, unpriced_rows, changed_turn, changed_grows, pushed_prices, pushed_rows}
+use Rattle.intake.proofs.Sections.{Grows, letter_at, lines_grow}
 
 -- a list of nothing known is not sound
 nothing_known : (list : List (List ℕ)) → IsSoundList [] list → ⊥
@@ -81,7 +24,7 @@ nothing_known (x ∷ list) s = absurd (omega (arith, (s.1.known 0 x (omega arith
 
 -- where there are no projects there are no students
 pub no_students : (p : Parts) → IsDraft p → p.instance.projects ≡ [] → p.instance.students ≡ []
-no_students p d e = go p.instance.students (subst (λ (l : List Project). All (λ (s : Student). IsSoundList (map (λ e. e.code) l) s.list) p.instance.students) e d.listed)
+no_students p d e = go p.instance.students (subst (λ (l : List Project). All (λ (s : Student). IsSoundList (map (λ e. e.code) l) s.list) p.instance.students) e d.instance.listed)
   where
     go : (es : List Student) → All (λ (s : Student). IsSoundList [] s.list) es → es ≡ []
     go [] h = refl
@@ -99,17 +42,6 @@ no_places p d e = go p.places (subst (λ (l : List Student). ArePlaces l p.place
 pub no_pair_rows : (es : List Student) → pair_rows es [] ≡ []
 no_pair_rows [] = refl
 no_pair_rows (e ∷ es) = refl
-
--- and no rows without prices
-pub no_price_rows : (cs : List (List ℕ)) → price_rows cs [] ≡ []
-no_price_rows [] = refl
-no_price_rows (c ∷ cs) = refl
-
--- one price more
-pub price_rows_push : (cs : List (List ℕ)) (vs : List (List ℤ)) (v : List ℤ) → length vs < length cs → price_rows cs (vs ++ v ∷ []) ≡ price_rows cs vs ++ (code_at cs (length vs) ∷ map signed_decimal v) ∷ []
-price_rows_push [] vs v h = absurd (omega arith)
-price_rows_push (c ∷ cs) [] v h = ap (λ (l : List Row). (c ∷ map signed_decimal v) ∷ l) (no_price_rows cs)
-price_rows_push (c ∷ cs) (w ∷ vs) v h = ap (λ (l : List Row). (c ∷ map signed_decimal w) ∷ l) (price_rows_push cs vs v (omega arith))
 
 -- a look-up one further
 less : {X : Type 0} (x : X) (xs : List X) (m n : ℕ) (y : X) → slice_get (x ∷ xs) (suc m + n) ≡ Some y → slice_get xs (m + n) ≡ Some y
@@ -142,237 +74,139 @@ ends_push (j ∷ []) k = refl
 ends_push (j ∷ i ∷ ks) k = ends_push (i ∷ ks) k
 
 -- a code more of a roll
-roll_push : (codes : List (List ℕ)) (code : List ℕ) → IsRoll codes → is_code code ≡ true → Rise (codes ++ code ∷ []) → IsRoll (codes ++ code ∷ [])
-roll_push codes code r form next = record { form = All-push (λ c. IsTrue (is_code c)) codes code r.form form; rise = next }
+roll_push : (most : ℕ) (codes : List (List ℕ)) (code : List ℕ) → IsRoll codes → ComesNext most codes code → IsRoll (codes ++ code ∷ [])
+roll_push most codes code r n = record { form = All-push (λ c. IsTrue (is_code c)) codes code r.form n.form; rise = n.next }
 
--- without prices all of them are none
-no_prices_yet : (n : ℕ) (vs : List (List ℤ)) → vs ≡ [] → ArePricesUpTo n vs
-no_prices_yet n vs e = record { few = omega (arith, ap length e); prices = subst (λ (l : List (List ℤ)). All IsPrice l) (sym e) (All-nil IsPrice) }
+-- rows of one entry more
+rows_push : {X : Type 0} (f : X → Row) (es : List X) (e : X) (row : Row) → row ≡ f e → map f (es ++ e ∷ []) ≡ map f es ++ row ∷ []
+rows_push f es e row h = map_push f es e ∙ ap (λ (r : Row). map f es ++ r ∷ []) (sym h)
 
--- a count is none
-count_none : {X : Type 0} (xs : List X) → xs ≡ [] → length xs ≡ 0
-count_none xs e = ap length e
+-- without students there are no rows of students, and without places none of pairs
+pairs_none : (es : List Student) (ks : List (Option ℕ)) → ks ≡ [] → pair_rows es ks ≡ []
+pairs_none es ks e = ap (pair_rows es) e ∙ no_pair_rows es
 
--- there are no rows of prices
-pub prices_none : (l : List ℕ) (cs : List (List ℕ)) (vs : List (List ℤ)) → vs ≡ [] → map (line l) (price_rows cs vs) ≡ []
-prices_none l cs vs e = lines_none l (price_rows cs vs) (ap (price_rows cs) e ∙ no_price_rows cs)
+-- quotas with one more
+quotas_push : {X : Type 0} (quota : X → ℕ) (es : List X) (e : X) → All (λ q. q ≤ MOST_PLACES) (map quota es) → quota e ≤ MOST_PLACES → All (λ q. q ≤ MOST_PLACES) (map quota (es ++ e ∷ []))
+quotas_push quota es e h few = subst (λ (l : List ℕ). All (λ q. q ≤ MOST_PLACES) l) (sym (map_push quota es e)) (All-push (λ q. q ≤ MOST_PLACES) (map quota es) (quota e) h few)
 
--- there are no rows of pairs
-pairs_none : (es : List Student) (ks : List (Option ℕ)) → ks ≡ [] → map (line (codes "M")) (pair_rows es ks) ≡ []
-pairs_none es ks e = lines_none (codes "M") (pair_rows es ks) (ap (pair_rows es) e ∙ no_pair_rows es)
+-- a draft with the entry is one, with the line of the row
+abbrev pub Step : (s : SectionName) → Parts → Row → Entry s → Type 0
+Step s p row e = IsDraft (with_entry s p e) × (round_lines (with_entry s p e) ≡ round_lines p ++ line (letter_of s) row ∷ [])
+
+-- so it is where no price was read and the section at position n grows by the row
+unpriced_step : (n : ℕ) (p q : Parts) (row : Row) → IsRoundInstance q.instance → ArePlaces q.instance.students q.places → EndsPlaced q.places → HasNoPrices q → Grows n (sections p) (sections q) (row ∷ [])
+    → IsDraft q × (round_lines q ≡ round_lines p ++ line (letter_at n (sections p)) row ∷ [])
+unpriced_step n p q row i places last prices grows = (record { instance = i; places = places; last_place = last; prices = unpriced_turn (priced q) prices }, lines_grow n (sections p) (sections q) (row ∷ []) grows)
 
 -- a supervisor more
-pub supervisor_step : (p : Parts) (row : Row) (e : Supervisor) → IsDraft p → TakesSupervisor p row e → IsDraft (with_supervisor p e) × (round_lines (with_supervisor p e) ≡ round_lines p ++ line (codes "S") row ∷ [])
-supervisor_step p row e d t =
-    let students = no_students p d t.turn in
-    let places = no_places p d students in
-    let codes_are : supervisor_codes (with_supervisor p e).instance ≡ supervisor_codes p.instance ++ e.code ∷ [] = map_push (λ (e : Supervisor). e.code) p.instance.supervisors e in (
-      record {
-        within = record {
-          supervisors = omega (arith, length_push p.instance.supervisors e, t.few);
-          projects = d.within.projects;
-          students = d.within.students;
-          supervisor_quotas = subst (λ (l : List ℕ). All (λ q. q ≤ MOST_PLACES) l) (sym (map_push (λ (e : Supervisor). e.quota) p.instance.supervisors e)) (All-push (λ q. q ≤ MOST_PLACES) (map (λ (e : Supervisor). e.quota) p.instance.supervisors) e.quota d.within.supervisor_quotas t.quota);
-          project_quotas = d.within.project_quotas;
-        };
-        supervisors = subst IsRoll (sym codes_are) (roll_push (supervisor_codes p.instance) e.code d.supervisors t.form t.next);
-        projects = d.projects;
-        students = d.students;
-        offered = subst (λ (l : List Project). All (λ q. Contains (supervisor_codes (with_supervisor p e).instance) q.supervisor) l) (sym t.turn) (All-nil (λ (q : Project). Contains (supervisor_codes (with_supervisor p e).instance) q.supervisor));
-        listed = d.listed;
-        places = d.places;
-        last_place = d.last_place;
-        student_prices = d.student_prices;
-        project_prices = d.project_prices;
-        supervisor_prices = no_prices_yet _ p.supervisor_prices t.prices.supervisors;
-        students_priced = d.students_priced;
-        projects_priced = d.projects_priced;
-      },
-      grow1 (map (line (codes "S")) (map supervisor_row p.instance.supervisors)) _ _ _ _ _ _ (map (line (codes "Z")) (price_rows (supervisor_codes p.instance) p.supervisor_prices)) _ (line (codes "S") row)
-          (lines_push (codes "S") (map supervisor_row p.instance.supervisors) _ row (map_push supervisor_row p.instance.supervisors e ∙ ap (λ (r : Row). map supervisor_row p.instance.supervisors ++ r ∷ []) (sym t.is)))
-          (lines_none (codes "P") _ (rows_none project_row p.instance.projects t.turn))
-          (lines_none (codes "C") _ (rows_none student_row p.instance.students students))
-          (pairs_none p.instance.students p.places places)
-          (prices_none (codes "U") (student_codes p.instance) p.student_prices t.prices.students)
-          (prices_none (codes "Y") (project_codes p.instance) p.project_prices t.prices.projects)
-          (prices_none (codes "Z") (supervisor_codes p.instance) p.supervisor_prices t.prices.supervisors)
-          (prices_none (codes "Z") (supervisor_codes (with_supervisor p e).instance) p.supervisor_prices t.prices.supervisors),
-    )
+supervisor_step : (p : Parts) (row : Row) (e : Supervisor) → IsDraft p → HasTurn Supervisors p → NextSupervisor p row e → Step Supervisors p row e
+supervisor_step p row e d t next =
+    let i = d.instance in
+    let q : Parts = with_entry Supervisors p e in
+    let students = ap (map student_row) (no_students p d t.0) in
+    let pairs = pairs_none p.instance.students p.places (no_places p d (no_students p d t.0)) in
+    unpriced_step 0 p q row
+    (record {
+      within = record {
+        supervisors = omega (arith, length_push p.instance.supervisors e, next.code.few, length-map p.instance.supervisors (λ (e : Supervisor). e.code));
+        projects = i.within.projects;
+        students = i.within.students;
+        supervisor_quotas = quotas_push (λ (e : Supervisor). e.quota) p.instance.supervisors e i.within.supervisor_quotas next.quota;
+        project_quotas = i.within.project_quotas;
+      };
+      supervisors = subst IsRoll (sym (map_push (λ (e : Supervisor). e.code) p.instance.supervisors e)) (roll_push _ (supervisor_codes p.instance) e.code i.supervisors next.code);
+      projects = i.projects;
+      students = i.students;
+      offered = subst (λ (l : List Project). All (λ q. Contains (supervisor_codes (with_entry Supervisors p e).instance) q.supervisor) l) (sym t.0) (All-nil (λ (q : Project). Contains (supervisor_codes (with_entry Supervisors p e).instance) q.supervisor));
+      listed = i.listed;
+    })
+    d.places d.last_place t.1
+    (refl, rows_push supervisor_row p.instance.supervisors e row next.is, (ap (map project_row) t.0, (students, (pairs, unpriced_rows (priced p) t.1))), (ap (map project_row) t.0, (students, (pairs, unpriced_rows (priced q) t.1))))
 
 -- a project more
-pub project_step : (p : Parts) (row : Row) (e : Project) → IsDraft p → TakesProject p row e → IsDraft (with_project p e) × (round_lines (with_project p e) ≡ round_lines p ++ line (codes "P") row ∷ [])
-project_step p row e d t =
-    let places = no_places p d t.turn in
-    let codes_are : project_codes (with_project p e).instance ≡ project_codes p.instance ++ e.code ∷ [] = map_push (λ (e : Project). e.code) p.instance.projects e in (
-      record {
-        within = record {
-          supervisors = d.within.supervisors;
-          projects = omega (arith, length_push p.instance.projects e, t.few);
-          students = d.within.students;
-          supervisor_quotas = d.within.supervisor_quotas;
-          project_quotas = subst (λ (l : List ℕ). All (λ q. q ≤ MOST_PLACES) l) (sym (map_push (λ (e : Project). e.quota) p.instance.projects e)) (All-push (λ q. q ≤ MOST_PLACES) (map (λ (e : Project). e.quota) p.instance.projects) e.quota d.within.project_quotas t.quota);
-        };
-        supervisors = d.supervisors;
-        projects = subst IsRoll (sym codes_are) (roll_push (project_codes p.instance) e.code d.projects t.form t.next);
-        students = d.students;
-        offered = All-push (λ (q : Project). Contains (supervisor_codes p.instance) q.supervisor) p.instance.projects e d.offered t.known;
-        listed = subst (λ (l : List Student). All (λ s. IsSoundList (project_codes (with_project p e).instance) s.list) l) (sym t.turn) (All-nil (λ (s : Student). IsSoundList (project_codes (with_project p e).instance) s.list));
-        places = d.places;
-        last_place = d.last_place;
-        student_prices = d.student_prices;
-        project_prices = no_prices_yet _ p.project_prices t.prices.projects;
-        supervisor_prices = d.supervisor_prices;
-        students_priced = d.students_priced;
-        projects_priced = λ h. inl (count_none p.project_prices t.prices.projects);
-      },
-      grow2 _ (map (line (codes "P")) (map project_row p.instance.projects)) _ _ _ _ (map (line (codes "Y")) (price_rows (project_codes p.instance) p.project_prices)) _ _ (line (codes "P") row)
-          (lines_push (codes "P") (map project_row p.instance.projects) _ row (map_push project_row p.instance.projects e ∙ ap (λ (r : Row). map project_row p.instance.projects ++ r ∷ []) (sym t.is)))
-          (lines_none (codes "C") _ (rows_none student_row p.instance.students t.turn))
-          (pairs_none p.instance.students p.places places)
-          (prices_none (codes "U") (student_codes p.instance) p.student_prices t.prices.students)
-          (prices_none (codes "Y") (project_codes p.instance) p.project_prices t.prices.projects)
-          (prices_none (codes "Y") (project_codes (with_project p e).instance) p.project_prices t.prices.projects)
-          (prices_none (codes "Z") (supervisor_codes p.instance) p.supervisor_prices t.prices.supervisors),
-    )
+project_step : (p : Parts) (row : Row) (e : Project) → IsDraft p → HasTurn Projects p → NextProject p row e → Step Projects p row e
+project_step p row e d t next =
+    let i = d.instance in
+    let q : Parts = with_entry Projects p e in
+    let pairs = pairs_none p.instance.students p.places (no_places p d t.0) in
+    unpriced_step 1 p q row
+    (record {
+      within = record {
+        supervisors = i.within.supervisors;
+        projects = omega (arith, length_push p.instance.projects e, next.code.few, length-map p.instance.projects (λ (e : Project). e.code));
+        students = i.within.students;
+        supervisor_quotas = i.within.supervisor_quotas;
+        project_quotas = quotas_push (λ (e : Project). e.quota) p.instance.projects e i.within.project_quotas next.quota;
+      };
+      supervisors = i.supervisors;
+      projects = subst IsRoll (sym (map_push (λ (e : Project). e.code) p.instance.projects e)) (roll_push _ (project_codes p.instance) e.code i.projects next.code);
+      students = i.students;
+      offered = All-push (λ (q : Project). Contains (supervisor_codes p.instance) q.supervisor) p.instance.projects e i.offered next.known;
+      listed = subst (λ (l : List Student). All (λ s. IsSoundList (project_codes (with_entry Projects p e).instance) s.list) l) (sym t.0) (All-nil (λ (s : Student). IsSoundList (project_codes (with_entry Projects p e).instance) s.list));
+    })
+    d.places d.last_place t.1
+    (refl, (refl, rows_push project_row p.instance.projects e row next.is, (ap (map student_row) t.0, (pairs, unpriced_rows (priced p) t.1)), (ap (map student_row) t.0, (pairs, unpriced_rows (priced q) t.1))))
 
 -- a student more
-pub student_step : (p : Parts) (row : Row) (e : Student) → IsDraft p → TakesStudent p row e → IsDraft (with_student p e) × (round_lines (with_student p e) ≡ round_lines p ++ line (codes "C") row ∷ [])
-student_step p row e d t =
-    let codes_are : student_codes (with_student p e).instance ≡ student_codes p.instance ++ e.code ∷ [] = map_push (λ (e : Student). e.code) p.instance.students e in (
-      record {
-        within = record {
-          supervisors = d.within.supervisors;
-          projects = d.within.projects;
-          students = omega (arith, length_push p.instance.students e, t.few);
-          supervisor_quotas = d.within.supervisor_quotas;
-          project_quotas = d.within.project_quotas;
-        };
-        supervisors = d.supervisors;
-        projects = d.projects;
-        students = subst IsRoll (sym codes_are) (roll_push (student_codes p.instance) e.code d.students t.form t.next);
-        offered = d.offered;
-        listed = All-push (λ (s : Student). IsSoundList (project_codes p.instance) s.list) p.instance.students e d.listed t.list;
-        places = subst (λ (l : List (Option ℕ)). ArePlaces (p.instance.students ++ e ∷ []) l) (sym t.turn) tt;
-        last_place = d.last_place;
-        student_prices = no_prices_yet _ p.student_prices t.prices.students;
-        project_prices = d.project_prices;
-        supervisor_prices = d.supervisor_prices;
-        students_priced = λ h. inl (count_none p.student_prices t.prices.students);
-        projects_priced = d.projects_priced;
-      },
-      grow3 _ _ (map (line (codes "C")) (map student_row p.instance.students)) _ (map (line (codes "M")) (pair_rows p.instance.students p.places)) _ (map (line (codes "U")) (price_rows (student_codes p.instance) p.student_prices)) _ _ _ (line (codes "C") row)
-          (lines_push (codes "C") (map student_row p.instance.students) _ row (map_push student_row p.instance.students e ∙ ap (λ (r : Row). map student_row p.instance.students ++ r ∷ []) (sym t.is)))
-          (pairs_none p.instance.students p.places t.turn)
-          (pairs_none (with_student p e).instance.students p.places t.turn)
-          (prices_none (codes "U") (student_codes p.instance) p.student_prices t.prices.students)
-          (prices_none (codes "U") (student_codes (with_student p e).instance) p.student_prices t.prices.students)
-          (prices_none (codes "Y") (project_codes p.instance) p.project_prices t.prices.projects)
-          (prices_none (codes "Z") (supervisor_codes p.instance) p.supervisor_prices t.prices.supervisors),
-    )
+student_step : (p : Parts) (row : Row) (e : Student) → IsDraft p → HasTurn Students p → NextStudent p row e → Step Students p row e
+student_step p row e d t next =
+    let i = d.instance in
+    let q : Parts = with_entry Students p e in
+    unpriced_step 2 p q row
+    (record {
+      within = record {
+        supervisors = i.within.supervisors;
+        projects = i.within.projects;
+        students = omega (arith, length_push p.instance.students e, next.code.few, length-map p.instance.students (λ (e : Student). e.code));
+        supervisor_quotas = i.within.supervisor_quotas;
+        project_quotas = i.within.project_quotas;
+      };
+      supervisors = i.supervisors;
+      projects = i.projects;
+      students = subst IsRoll (sym (map_push (λ (e : Student). e.code) p.instance.students e)) (roll_push _ (student_codes p.instance) e.code i.students next.code);
+      offered = i.offered;
+      listed = All-push (λ (s : Student). IsSoundList (project_codes p.instance) s.list) p.instance.students e i.listed next.list;
+    })
+    (subst (λ (l : List (Option ℕ)). ArePlaces (p.instance.students ++ e ∷ []) l) (sym t.0) tt) d.last_place t.1
+    (refl, (refl, (refl, rows_push student_row p.instance.students e row next.is, (pairs_none p.instance.students p.places t.0, unpriced_rows (priced p) t.1), (pairs_none q.instance.students p.places t.0, unpriced_rows (priced q) t.1))))
 
 -- a pair more
-pub pair_step : (p : Parts) (row : Row) (s k : ℕ) → IsDraft p → TakesPair p row s k → IsDraft (with_pair p s k) × (round_lines (with_pair p s k) ≡ round_lines p ++ line (codes "M") row ∷ [])
-pair_step p row s k d t =
-    let at : slice_get p.instance.students (s - length p.places + length p.places) ≡ Some t.student = (let e : s ≡ s - length p.places + length p.places = omega (arith, t.later) in subst (λ (n : ℕ). slice_get p.instance.students n ≡ Some t.student) e t.here) in (
-      record {
-        within = d.within;
-        supervisors = d.supervisors;
-        projects = d.projects;
-        students = d.students;
-        offered = d.offered;
-        listed = d.listed;
-        places = places_push p.instance.students p.places (s - length p.places) k t.student at d.places t.place;
-        last_place = ends_push (p.places ++ replicate (s - length p.places) None) k;
-        student_prices = d.student_prices;
-        project_prices = d.project_prices;
-        supervisor_prices = d.supervisor_prices;
-        students_priced = d.students_priced;
-        projects_priced = d.projects_priced;
-      },
-      grow4 (S p) (P p) (C p) (M p) (M (with_pair p s k)) (U p) (Y p) (Z p) (line (codes "M") row)
-          (lines_push (codes "M") (pair_rows p.instance.students p.places) _ row (pair_rows_push p.instance.students p.places (s - length p.places) k t.student at ∙ ap (λ (r : Row). pair_rows p.instance.students p.places ++ r ∷ []) (sym t.is)))
-          (prices_none (codes "U") (student_codes p.instance) p.student_prices t.prices.students)
-          (prices_none (codes "Y") (project_codes p.instance) p.project_prices t.prices.projects)
-          (prices_none (codes "Z") (supervisor_codes p.instance) p.supervisor_prices t.prices.supervisors),
-    )
+pair_step : (p : Parts) (row : Row) (e : ℕ × ℕ) → IsDraft p → HasTurn Pairs p → NextPair p row e.0 e.1 → Step Pairs p row e
+pair_step p row e d t next =
+    let n : ℕ = e.0 - length p.places in
+    let at : slice_get p.instance.students (n + length p.places) ≡ Some next.student = (let same : e.0 ≡ n + length p.places = omega (arith, next.later) in subst (λ (k : ℕ). slice_get p.instance.students k ≡ Some next.student) same next.here) in
+    let rows = pair_rows_push p.instance.students p.places n e.1 next.student at ∙ ap (λ (r : Row). pair_rows p.instance.students p.places ++ r ∷ []) (sym next.is) in
+    unpriced_step 3 p (with_entry Pairs p e) row d.instance (places_push p.instance.students p.places n e.1 next.student at d.places next.place) (ends_push (p.places ++ replicate n None) e.1) t
+    (refl, (refl, (refl, (refl, rows, unpriced_rows (priced p) t, unpriced_rows (priced p) t))))
 
--- one price more of the first of n entries
-prices_push : {X : Type 0} (f : X → List ℕ) (es : List X) (vs : List (List ℤ)) (row : Row) (v : List ℤ) → ArePricesUpTo (length es) vs → TakesPrice (map f es) vs row v → ArePricesUpTo (length es) (vs ++ v ∷ [])
-prices_push f es vs row v a t = record { few = omega (arith, length_push vs v, t.few, length-map es f); prices = All-push IsPrice vs v a.prices t.price }
-
--- and its row
-rows_push : (cs : List (List ℕ)) (vs : List (List ℤ)) (row : Row) (v : List ℤ) → TakesPrice cs vs row v → price_rows cs (vs ++ v ∷ []) ≡ price_rows cs vs ++ row ∷ []
-rows_push cs vs row v t = price_rows_push cs vs v t.few ∙ ap (λ (r : Row). price_rows cs vs ++ r ∷ []) (sym t.is)
-
--- nothing is more than none
-not_none : {X : Type 0} (xs : List X) → xs ≡ [] → 0 < length xs → ⊥
-not_none xs e h = omega (arith, ap length e)
-
--- a student's price more
-pub student_price_step : (p : Parts) (row : Row) (v : List ℤ) → IsDraft p → TakesStudentPrice p row v → (let q : Parts = record p { student_prices = p.student_prices ++ v ∷ [] } in IsDraft q × (round_lines q ≡ round_lines p ++ line (codes "U") row ∷ []))
-student_price_step p row v d t = (
-  record {
-    within = d.within;
-    supervisors = d.supervisors;
-    projects = d.projects;
-    students = d.students;
-    offered = d.offered;
-    listed = d.listed;
-    places = d.places;
-    last_place = d.last_place;
-    student_prices = prices_push (λ (e : Student). e.code) p.instance.students p.student_prices row v d.student_prices t.price;
-    project_prices = d.project_prices;
-    supervisor_prices = d.supervisor_prices;
-    students_priced = λ h. elim h [ inl i ↦ absurd (not_none p.project_prices t.projects i) | inr i ↦ absurd (not_none p.supervisor_prices t.supervisors i) ];
-    projects_priced = d.projects_priced;
-  },
-  grow5 (S p) (P p) (C p) (M p) (U p) _ (Y p) (Z p) (line (codes "U") row)
-      (lines_push (codes "U") (price_rows (student_codes p.instance) p.student_prices) _ row (rows_push (student_codes p.instance) p.student_prices row v t.price))
-      (prices_none (codes "Y") (project_codes p.instance) p.project_prices t.projects)
-      (prices_none (codes "Z") (supervisor_codes p.instance) p.supervisor_prices t.supervisors),
+-- a draft with other prices at position n, whose rows are more
+pub prices_step : (n : ℕ) (vs : List (List ℤ)) (p : Parts) (more : List Row) → IsDraft p → IsTurn n (priced p) → At n (λ s. ArePricesUpTo (length s.codes) vs) (priced p)
+    → At n (λ s. price_rows s.codes vs ≡ price_rows s.codes s.prices ++ more) (priced p)
+    → IsDraft (with_prices n vs p) × (round_lines (with_prices n vs p) ≡ round_lines p ++ map (line (letter_at n (map price_section (priced p)))) more)
+prices_step zero vs p more d t a g = (
+  record { instance = d.instance; places = d.places; last_place = d.last_place; prices = changed_turn 0 vs (priced p) d.prices t a },
+  lines_grow 4 (sections p) (sections (with_prices 0 vs p)) more (refl, (refl, (refl, (refl, changed_grows 0 vs (priced p) more t g)))),
 )
-
--- a project's price more
-pub project_price_step : (p : Parts) (row : Row) (v : List ℤ) → IsDraft p → TakesProjectPrice p row v → (let q : Parts = record p { project_prices = p.project_prices ++ v ∷ [] } in IsDraft q × (round_lines q ≡ round_lines p ++ line (codes "Y") row ∷ []))
-project_price_step p row v d t = (
-  record {
-    within = d.within;
-    supervisors = d.supervisors;
-    projects = d.projects;
-    students = d.students;
-    offered = d.offered;
-    listed = d.listed;
-    places = d.places;
-    last_place = d.last_place;
-    student_prices = d.student_prices;
-    project_prices = prices_push (λ (e : Project). e.code) p.instance.projects p.project_prices row v d.project_prices t.price;
-    supervisor_prices = d.supervisor_prices;
-    students_priced = λ h. t.students;
-    projects_priced = λ h. absurd (not_none p.supervisor_prices t.supervisors h);
-  },
-  grow6 (S p) (P p) (C p) (M p) (U p) (Y p) _ (Z p) (line (codes "Y") row)
-      (lines_push (codes "Y") (price_rows (project_codes p.instance) p.project_prices) _ row (rows_push (project_codes p.instance) p.project_prices row v t.price))
-      (prices_none (codes "Z") (supervisor_codes p.instance) p.supervisor_prices t.supervisors),
+prices_step (suc zero) vs p more d t a g = (
+  record { instance = d.instance; places = d.places; last_place = d.last_place; prices = changed_turn 1 vs (priced p) d.prices t a },
+  lines_grow 5 (sections p) (sections (with_prices 1 vs p)) more (refl, (refl, (refl, (refl, changed_grows 1 vs (priced p) more t g)))),
 )
-
--- a supervisor's price more
-pub supervisor_price_step : (p : Parts) (row : Row) (v : List ℤ) → IsDraft p → TakesSupervisorPrice p row v → (let q : Parts = record p { supervisor_prices = p.supervisor_prices ++ v ∷ [] } in IsDraft q × (round_lines q ≡ round_lines p ++ line (codes "Z") row ∷ []))
-supervisor_price_step p row v d t = (
-  record {
-    within = d.within;
-    supervisors = d.supervisors;
-    projects = d.projects;
-    students = d.students;
-    offered = d.offered;
-    listed = d.listed;
-    places = d.places;
-    last_place = d.last_place;
-    student_prices = d.student_prices;
-    project_prices = d.project_prices;
-    supervisor_prices = prices_push (λ (e : Supervisor). e.code) p.instance.supervisors p.supervisor_prices row v d.supervisor_prices t.price;
-    students_priced = λ h. t.students;
-    projects_priced = λ h. t.projects;
-  },
-  grow7 (S p) (P p) (C p) (M p) (U p) (Y p) (Z p) _ (line (codes "Z") row)
-      (lines_push (codes "Z") (price_rows (supervisor_codes p.instance) p.supervisor_prices) _ row (rows_push (supervisor_codes p.instance) p.supervisor_prices row v t.price)),
+prices_step (suc (suc zero)) vs p more d t a g = (
+  record { instance = d.instance; places = d.places; last_place = d.last_place; prices = changed_turn 2 vs (priced p) d.prices t a },
+  lines_grow 6 (sections p) (sections (with_prices 2 vs p)) more (refl, (refl, (refl, (refl, changed_grows 2 vs (priced p) more t g)))),
 )
+prices_step (suc (suc (suc n))) vs p more d t a g = absurd t.1.1.1
+
+-- a price more
+price_step : (n : ℕ) (p : Parts) (row : Row) (v : List ℤ) → IsDraft p → IsTurn n (priced p) → NextPriceAt n p row v → IsDraft (with_price n p v) × (round_lines (with_price n p v) ≡ round_lines p ++ line (letter_at n (map price_section (priced p))) row ∷ [])
+price_step n p row v d t next = prices_step n (prices_at n (priced p) ++ v ∷ []) p (row ∷ []) d t (pushed_prices n (priced p) row v d.prices next) (pushed_rows n (priced p) row v next)
+
+-- an entry more of any section
+pub step : (s : SectionName) (p : Parts) (row : Row) (e : Entry s) → IsDraft p → HasTurn s p → IsNext s p row e → Step s p row e
+step Supervisors p row e d t next = supervisor_step p row e d t next
+step Projects p row e d t next = project_step p row e d t next
+step Students p row e d t next = student_step p row e d t next
+step Pairs p row e d t next = pair_step p row e d t next
+step StudentPrices p row v d t next = price_step 0 p row v d t next
+step ProjectPrices p row v d t next = price_step 1 p row v d t next
+step SupervisorPrices p row v d t next = price_step 2 p row v d t next

@@ -17,7 +17,7 @@ use Rattle.intake.specs.declared.round.RoundFault.{RoundFault}
 use Rattle.intake.specs.declared.round.RoundFault.TheVariants.{Memory, TooLarge, Line}
 use Rattle.intake.specs.Parts.{Parts, Rise, IsPlace, IsPrice, ArePricesOrNone, IsRoundParts}
 use Rattle.intake.proofs.Size.{text_small}
-use Rattle.intake.specs.Lines.{choice_code, sections, round_lines, round_text, supervisor_row, project_row, pair_rows, price_rows}
+use Rattle.intake.specs.Lines.{Row, choice_code, sections, round_lines, round_text, supervisor_row, project_row, pair_rows, price_rows}
 use Rattle.intake.specs.Reading.{IsReading, IsReadBack}
 use Rattle.intake.specs.View.{parts_of}
 use Rattle.intake.proofs.Bad.{round_pieces}
@@ -31,35 +31,34 @@ use Rattle.intake.proofs.Takes.{same_students, rise_tail, before_others, first_p
 same_quota : (m n : ℕ) → m ≤ MOST_PLACES → n ≤ MOST_PLACES → decimal m ≡ decimal n → m ≡ n
 same_quota m n h i e = decimal_injective m n (omega arith) (omega arith) e
 
--- supervisors with the same rows are the same
-same_supervisors : (xs ys : List Supervisor) → All (λ q. q ≤ MOST_PLACES) (map (λ e. e.quota) xs) → All (λ q. q ≤ MOST_PLACES) (map (λ e. e.quota) ys) → map supervisor_row xs ≡ map supervisor_row ys → xs ≡ ys
-same_supervisors [] [] a b e = refl
-same_supervisors [] (y ∷ ys) a b e = cc
-same_supervisors (x ∷ xs) [] a b e = cc
-same_supervisors (x ∷ xs) (y ∷ ys) a b e =
+-- entries with the same rows are the same, where their quotas say so of each
+same_entries : {X : Type 0} (row : X → Row) (quota : X → ℕ) → ((x y : X) → quota x ≤ MOST_PLACES → quota y ≤ MOST_PLACES → row x ≡ row y → x ≡ y) → (xs ys : List X) → All (λ q. q ≤ MOST_PLACES) (map quota xs) → All (λ q. q ≤ MOST_PLACES) (map quota ys) → map row xs ≡ map row ys → xs ≡ ys
+same_entries row quota one [] [] a b e = refl
+same_entries row quota one [] (y ∷ ys) a b e = cc
+same_entries row quota one (x ∷ xs) [] a b e = cc
+same_entries {X = X} row quota one (x ∷ xs) (y ∷ ys) a b e =
+    let first : row x ≡ row y = cc in
+    let rest : map row xs ≡ map row ys = cc in
+    ap (λ (z : X). z ∷ xs) (one x y (All-head (λ q. q ≤ MOST_PLACES) (quota x) (map quota xs) a) (All-head (λ q. q ≤ MOST_PLACES) (quota y) (map quota ys) b) first)
+    ∙ ap (λ (l : List X). y ∷ l) (same_entries row quota one xs ys (All-tail (λ q. q ≤ MOST_PLACES) (quota x) (map quota xs) a) (All-tail (λ q. q ≤ MOST_PLACES) (quota y) (map quota ys) b) rest)
+
+-- so they do of a supervisor
+same_supervisor : (x y : Supervisor) → x.quota ≤ MOST_PLACES → y.quota ≤ MOST_PLACES → supervisor_row x ≡ supervisor_row y → x ≡ y
+same_supervisor x y h i e =
     let code : x.code ≡ y.code = cc in
     let number : decimal x.quota ≡ decimal y.quota = cc in
-    let rest : map supervisor_row xs ≡ map supervisor_row ys = cc in
-    let quota : x.quota ≡ y.quota = same_quota x.quota y.quota (All-head (λ q. q ≤ MOST_PLACES) x.quota (map (λ e. e.quota) xs) a) (All-head (λ q. q ≤ MOST_PLACES) y.quota (map (λ e. e.quota) ys) b) number in
-    ap (λ (c : List ℕ). (let s : Supervisor = record { code = c; quota = x.quota } in s) ∷ xs) code
-    ∙ ap (λ (q : ℕ). (let s : Supervisor = record { code = y.code; quota = q } in s) ∷ xs) quota
-    ∙ ap (λ (l : List Supervisor). y ∷ l) (same_supervisors xs ys (All-tail (λ q. q ≤ MOST_PLACES) x.quota (map (λ e. e.quota) xs) a) (All-tail (λ q. q ≤ MOST_PLACES) y.quota (map (λ e. e.quota) ys) b) rest)
+    ap (λ (c : List ℕ). let s : Supervisor = record { code = c; quota = x.quota } in s) code
+    ∙ ap (λ (q : ℕ). let s : Supervisor = record { code = y.code; quota = q } in s) (same_quota x.quota y.quota h i number)
 
--- projects with the same rows are the same
-same_projects : (xs ys : List Project) → All (λ q. q ≤ MOST_PLACES) (map (λ e. e.quota) xs) → All (λ q. q ≤ MOST_PLACES) (map (λ e. e.quota) ys) → map project_row xs ≡ map project_row ys → xs ≡ ys
-same_projects [] [] a b e = refl
-same_projects [] (y ∷ ys) a b e = cc
-same_projects (x ∷ xs) [] a b e = cc
-same_projects (x ∷ xs) (y ∷ ys) a b e =
+-- and of a project
+same_project : (x y : Project) → x.quota ≤ MOST_PLACES → y.quota ≤ MOST_PLACES → project_row x ≡ project_row y → x ≡ y
+same_project x y h i e =
+    let number : decimal x.quota ≡ decimal y.quota = cc in
     let code : x.code ≡ y.code = cc in
     let owner : x.supervisor ≡ y.supervisor = cc in
-    let number : decimal x.quota ≡ decimal y.quota = cc in
-    let rest : map project_row xs ≡ map project_row ys = cc in
-    let quota : x.quota ≡ y.quota = same_quota x.quota y.quota (All-head (λ q. q ≤ MOST_PLACES) x.quota (map (λ e. e.quota) xs) a) (All-head (λ q. q ≤ MOST_PLACES) y.quota (map (λ e. e.quota) ys) b) number in
-    ap (λ (c : List ℕ). (let s : Project = record { code = c; supervisor = x.supervisor; quota = x.quota } in s) ∷ xs) code
-    ∙ ap (λ (o : List ℕ). (let s : Project = record { code = y.code; supervisor = o; quota = x.quota } in s) ∷ xs) owner
-    ∙ ap (λ (q : ℕ). (let s : Project = record { code = y.code; supervisor = y.supervisor; quota = q } in s) ∷ xs) quota
-    ∙ ap (λ (l : List Project). y ∷ l) (same_projects xs ys (All-tail (λ q. q ≤ MOST_PLACES) x.quota (map (λ e. e.quota) xs) a) (All-tail (λ q. q ≤ MOST_PLACES) y.quota (map (λ e. e.quota) ys) b) rest)
+    ap (λ (q : ℕ). let s : Project = record { code = x.code; supervisor = x.supervisor; quota = q } in s) (same_quota x.quota y.quota h i number)
+    ∙ ap (λ (c : List ℕ). let s : Project = record { code = c; supervisor = x.supervisor; quota = y.quota } in s) code
+    ∙ ap (λ (o : List ℕ). let s : Project = record { code = y.code; supervisor = o; quota = y.quota } in s) owner
 
 -- a project stands at one position of a list
 pub one_listed : (list : List (List ℕ)) (k l : ℕ) → AreApart list (length list) → k < length list → l < length list → code_at list k ≡ code_at list l → k ≡ l
@@ -160,15 +159,15 @@ one_rows p q v w e =
 pub one_text : (p q : Parts) → IsRoundParts p → IsRoundParts q → round_text p ≡ round_text q → p ≡ q
 one_text p q v w e =
     let s = one_rows p q v w e in
-    let supervisors : p.instance.supervisors ≡ q.instance.supervisors = same_supervisors p.instance.supervisors q.instance.supervisors v.within.supervisor_quotas w.within.supervisor_quotas s.0 in
-    let projects : p.instance.projects ≡ q.instance.projects = same_projects p.instance.projects q.instance.projects v.within.project_quotas w.within.project_quotas s.1.0 in
+    let supervisors : p.instance.supervisors ≡ q.instance.supervisors = same_entries supervisor_row (λ (e : Supervisor). e.quota) same_supervisor p.instance.supervisors q.instance.supervisors v.instance.within.supervisor_quotas w.instance.within.supervisor_quotas s.0 in
+    let projects : p.instance.projects ≡ q.instance.projects = same_entries project_row (λ (e : Project). e.quota) same_project p.instance.projects q.instance.projects v.instance.within.project_quotas w.instance.within.project_quotas s.1.0 in
     let students : p.instance.students ≡ q.instance.students = same_students p.instance.students q.instance.students s.1.1.0 in
     let zipped : AllZip IsPlace q.instance.students p.places = subst (λ (l : List Student). AllZip IsPlace l p.places) students v.places in
     let pairs : pair_rows q.instance.students p.places ≡ pair_rows q.instance.students q.places = ap (λ (l : List Student). pair_rows l p.places) (sym students) ∙ s.1.1.1.0 in
     same_parts p.instance.supervisors q.instance.supervisors p.instance.projects q.instance.projects p.instance.students q.instance.students
     p.places q.places p.student_prices q.student_prices p.project_prices q.project_prices p.supervisor_prices q.supervisor_prices
     supervisors projects students
-    (same_places (project_codes q.instance) q.instance.students p.places q.places w.students.rise w.listed zipped w.places pairs)
+    (same_places (project_codes q.instance) q.instance.students p.places q.places w.instance.students.rise w.instance.listed zipped w.places pairs)
     (same_priced (λ (e : Student). e.code) p.instance.students q.instance.students p.student_prices q.student_prices students v.student_prices w.student_prices s.1.1.1.1.0)
     (same_priced (λ (e : Project). e.code) p.instance.projects q.instance.projects p.project_prices q.project_prices projects v.project_prices w.project_prices s.1.1.1.1.1.0)
     (same_priced (λ (e : Supervisor). e.code) p.instance.supervisors q.instance.supervisors p.supervisor_prices q.supervisor_prices supervisors v.supervisor_prices w.supervisor_prices s.1.1.1.1.1.1.0)

@@ -15,7 +15,7 @@ use Rattle.spa.specs.Matched.{HasPlaces}
 use Rattle.verdict.specs.Rows.{EachInRange, AllInRange}
 use Rattle.verdict.specs.Verdict.{HasShape}
 use Rattle.verdict.specs.declared.prices.Prices.{Prices}
-use Rattle.intake.specs.Parts.{Rise, IsRoll, IsPlace, ArePricesOrNone, IsRoundParts}
+use Rattle.intake.specs.Parts.{Rise, IsRoll, IsPlace, ArePricesOrNone, IsRoundInstance, IsRoundParts}
 use Rattle.intake.specs.View.{alone, proved}
 use Rattle.intake.proofs.Found.{slice_get_at}
 use Rattle.intake.proofs.Pairing.{get_mapped}
@@ -170,15 +170,21 @@ all_listed i fit =
     subst (λ (l : List (List ℕ)). All (λ (e : Student). IsSoundList l e.list) (instance_of i).students) (sym (named_projects i.supervisor_codes i.project_codes i.shape.projects fit.projects.one_each))
     (listed_named i.project_codes i.student_codes i.shape.students (subst (AreApart i.project_codes) (sym fit.projects.one_each) fit.projects.distinct) fit.sound.ranked fit.sound.within known fit.sound.distinct)
 
--- an instance alone is the parts of a round
-pub alone_whole : (i : Named) → IsFit i → HasForms i → HasRises i → IsRoundParts (alone i)
-alone_whole i fit form rise = record {
+-- a fit instance whose codes have the form and rise is one of a round
+round_instance : (i : Named) → IsFit i → HasForms i → HasRises i → IsRoundInstance (instance_of i)
+round_instance i fit form rise = record {
   within = within_limits i fit;
   supervisors = roll (supervisor_codes (instance_of i)) i.supervisor_codes (named_supervisors i.supervisor_codes i.shape.supervisors fit.supervisors.one_each) form.supervisors rise.supervisors;
   projects = roll (project_codes (instance_of i)) i.project_codes (named_projects i.supervisor_codes i.project_codes i.shape.projects fit.projects.one_each) form.projects rise.projects;
   students = roll (student_codes (instance_of i)) i.student_codes (named_students i.project_codes i.student_codes i.shape.students fit.students.one_each) form.students rise.students;
   offered = all_offered i fit;
   listed = all_listed i fit;
+}
+
+-- an instance alone is the parts of a round
+pub alone_whole : (i : Named) → IsFit i → HasForms i → HasRises i → IsRoundParts (alone i)
+alone_whole i fit form rise = record {
+  instance = round_instance i fit form rise;
   places = unplaced_named i.project_codes i.student_codes i.shape.students fit.students.one_each;
   student_prices = unpriced (length (instance_of i).students);
   project_prices = unpriced (length (instance_of i).projects);
@@ -187,17 +193,10 @@ alone_whole i fit form rise = record {
 
 -- and so it is with a matching and prices
 pub proved_whole : (i : Named) (ks : List (Option ℕ)) (p : Prices) → IsFit i → HasForms i → HasRises i → HasPlaces i.shape ks → HasShape i.shape p → HasNumbers p → IsRoundParts (proved i ks p)
-proved_whole i ks p fit form rise places shape numbers =
-    let a = alone_whole i fit form rise in
-    record {
-      within = a.within;
-      supervisors = a.supervisors;
-      projects = a.projects;
-      students = a.students;
-      offered = a.offered;
-      listed = a.listed;
-      places = placed_named i.project_codes i.student_codes i.shape.students ks fit.students.one_each places.one_each places.in_list;
-      student_prices = priced (length (instance_of i).students) (length i.shape.students) p.students.items (student_count i fit) shape.students numbers.students shape.students_range;
-      project_prices = priced (length (instance_of i).projects) (length i.shape.projects) p.projects.items (project_count i fit) shape.projects numbers.projects shape.projects_range;
-      supervisor_prices = priced (length (instance_of i).supervisors) (length i.shape.supervisors) p.supervisors.items (supervisor_count i fit) shape.supervisors numbers.supervisors shape.supervisors_range;
-    }
+proved_whole i ks p fit form rise places shape numbers = record {
+  instance = round_instance i fit form rise;
+  places = placed_named i.project_codes i.student_codes i.shape.students ks fit.students.one_each places.one_each places.in_list;
+  student_prices = priced (length (instance_of i).students) (length i.shape.students) p.students.items (student_count i fit) shape.students numbers.students shape.students_range;
+  project_prices = priced (length (instance_of i).projects) (length i.shape.projects) p.projects.items (project_count i fit) shape.projects numbers.projects shape.projects_range;
+  supervisor_prices = priced (length (instance_of i).supervisors) (length i.shape.supervisors) p.supervisors.items (supervisor_count i fit) shape.supervisors numbers.supervisors shape.supervisors_range;
+}

@@ -3,3 +3,4 @@ pub mod Lines
 pub mod Reading
 pub mod View
 pub mod Draft
+pub mod Entries

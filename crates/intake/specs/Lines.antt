@@ -43,6 +43,24 @@ price_rows [] prices = []
 price_rows (c ∷ cs) [] = []
 price_rows (c ∷ cs) (v ∷ vs) = (c ∷ map signed_decimal v) ∷ price_rows cs vs
 
+-- the prices of a roll: their letter, the codes of the roll, and the prices of the first of them
+pub record Priced : Type 0 where
+  pub letter : List ℕ
+  pub codes : List (List ℕ)
+  pub prices : List (List ℤ)
+
+-- the prices of the three rolls in their order
+abbrev pub priced : Parts → List Priced
+priced p =
+    record { letter = codes "U"; codes = student_codes p.instance; prices = p.student_prices }
+    ∷ record { letter = codes "Y"; codes = project_codes p.instance; prices = p.project_prices }
+    ∷ record { letter = codes "Z"; codes = supervisor_codes p.instance; prices = p.supervisor_prices }
+    ∷ []
+
+-- the section of the prices of a roll
+abbrev pub price_section : Priced → Section
+price_section s = record { letter = s.letter; rows = price_rows s.codes s.prices }
+
 -- the sections in their order
 abbrev pub sections : Parts → List Section
 sections p =
@@ -50,10 +68,7 @@ sections p =
     ∷ record { letter = codes "P"; rows = map project_row p.instance.projects }
     ∷ record { letter = codes "C"; rows = map student_row p.instance.students }
     ∷ record { letter = codes "M"; rows = pair_rows p.instance.students p.places }
-    ∷ record { letter = codes "U"; rows = price_rows (student_codes p.instance) p.student_prices }
-    ∷ record { letter = codes "Y"; rows = price_rows (project_codes p.instance) p.project_prices }
-    ∷ record { letter = codes "Z"; rows = price_rows (supervisor_codes p.instance) p.supervisor_prices }
-    ∷ []
+    ∷ map price_section (priced p)
 
 -- the letter, and each field after a comma
 abbrev pub line : List ℕ → Row → List ℕ

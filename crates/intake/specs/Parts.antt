@@ -47,14 +47,18 @@ pub record ArePricesOrNone (n : ℕ) (vs : List (List ℤ)) : Type 0 where
   pub none_or_all : (length vs ≡ 0) ⊎ (length vs ≡ n)
   pub prices : All IsPrice vs
 
--- the parts are within the limits, their codes rise, what they refer to is known, and each place is one of its list
+-- the instance is within the limits, its codes rise, and what it refers to is known
+pub record IsRoundInstance (i : Instance) : Type 0 where
+  pub within : IsWithin i
+  pub supervisors : IsRoll (supervisor_codes i)
+  pub projects : IsRoll (project_codes i)
+  pub students : IsRoll (student_codes i)
+  pub offered : All (λ e. Contains (supervisor_codes i) e.supervisor) i.projects
+  pub listed : All (λ e. IsSoundList (project_codes i) e.list) i.students
+
+-- the instance is one of a round, each place is one of its list, and of each roll there is no price or one for each entry
 pub record IsRoundParts (p : Parts) : Type 0 where
-  pub within : IsWithin p.instance
-  pub supervisors : IsRoll (supervisor_codes p.instance)
-  pub projects : IsRoll (project_codes p.instance)
-  pub students : IsRoll (student_codes p.instance)
-  pub offered : All (λ e. Contains (supervisor_codes p.instance) e.supervisor) p.instance.projects
-  pub listed : All (λ e. IsSoundList (project_codes p.instance) e.list) p.instance.students
+  pub instance : IsRoundInstance p.instance
   pub places : AllZip IsPlace p.instance.students p.places
   pub student_prices : ArePricesOrNone (length p.instance.students) p.student_prices
   pub project_prices : ArePricesOrNone (length p.instance.projects) p.project_prices

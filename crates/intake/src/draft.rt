@@ -2,16 +2,20 @@
 #![tactic(auto)]
 
 ghost use Rattle.std.specs.Prelude.{◌≡◌, ◌-◌, ◌++◌, ◌↔◌, ◌≤◌, ℕ, ℤ, List, [], ◌∷◌, map, length, replicate, All, IfOk, OnOk, MatchOption, IsTrue, None};
+ghost use Rattle.spa.specs.Instance.{student_codes, project_codes};
 ghost use Rattle.spa.specs.Made.{IsSoundList};
-ghost use Rattle.intake.specs.Parts.{Rise, IsRoll, IsRoundParts};
-ghost use Rattle.intake.specs.Draft.{draft_of, IsDraft, HasNoPrices, NoneOrAll, AddsSupervisor, AddsProject, AddsStudent, AddsPair, AddsPrice, AddsStudentPrice, AddsProjectPrice, AddsSupervisorPrice, AddsLine, line_of, IsField, nothing, IsWhole};
+ghost use Rattle.intake.specs.Parts.{IsRoll, IsRoundParts};
+ghost use Rattle.intake.specs.declared.section.SectionName.TheVariants.{Supervisors, Projects, Students, Pairs};
+ghost use Rattle.intake.specs.Draft.{draft_of, IsDraft, HasNoPrices, NoneOrAll, IsField, nothing, IsWhole};
+ghost use Rattle.intake.specs.Entries.{Adds, AddsPrice, AddsLine, HasTurn, line_of};
 ghost use Rattle.intake.specs.Lines.{round_lines};
 ghost use Rattle.intake.specs.View.{parts_of};
 
-use crate::fields::{pieces, read_code, read_price, read_quota};
+use crate::fields::{pieces, read_price, read_quota};
 use crate::guesses::Guesses;
-use crate::lookup::{Coded, is_next, position_at, position_in};
+use crate::lookup::{Coded, next_code, position_at, position_in};
 use crate::round::RoundParts;
+use crate::section::{SectionName, section_of};
 use spa::{
     Code, Instance, InstanceFault, MOST_PROJECTS, MOST_STUDENTS, MOST_SUPERVISORS, Matching,
     PLACES, RANKS,
@@ -101,16 +105,6 @@ fn is_none_or_all(prices: &[[i64; PLACES]], entries: usize) -> bool
     prices.is_empty() || prices.len() == entries
 }
 
-/// Whether a field is this letter alone.
-fn is_letter(field: &[u8], letter: u8) -> bool
-    ensures { IsTrue result ↔ (field.now ≡ letter ∷ []) }
-{
-    let [only] = field else {
-        return false;
-    };
-    *only == letter
-}
-
 impl Draft {
     /// No line was read.
     pub(crate) fn new(alloc: Global) -> Self
@@ -140,58 +134,75 @@ impl Draft {
             && self.prices.supervisors.is_empty()
     }
 
-    /// Adds a supervisor, if one may come here.
-    fn add_supervisor(&mut self, alloc: Global, fields: &[&[u8]]) -> Result<bool, AllocError>
-        requires { IsDraft (draft_of self.old) }
-        ensures { IfOk result (λ b. AddsSupervisor (draft_of self.old) (map (λ f. f.now) fields.now) (draft_of self.new) b) }
+    /// Whether the students have no price or one each.
+    fn has_students_priced(&self) -> bool
+        ensures { IsTrue result ↔ NoneOrAll (length (student_codes (draft_of self.now).instance)) (draft_of self.now).student_prices }
     {
-        if !self.projects.is_empty() || !self.has_no_prices() {
-            return Ok(false);
+        is_none_or_all(&self.prices.students, self.students.len())
+    }
+
+    /// Whether the projects have no price or one each.
+    fn has_projects_priced(&self) -> bool
+        ensures { IsTrue result ↔ NoneOrAll (length (project_codes (draft_of self.now).instance)) (draft_of self.now).project_prices }
+    {
+        is_none_or_all(&self.prices.projects, self.projects.len())
+    }
+
+    /// Whether a line of a section may come.
+    fn has_turn(&self, section: SectionName) -> bool
+        ensures { IsTrue result ↔ HasTurn section (draft_of self.now) }
+    {
+        match section {
+            SectionName::Supervisors => self.projects.is_empty() && self.has_no_prices(),
+            SectionName::Projects => self.students.is_empty() && self.has_no_prices(),
+            SectionName::Students => self.places.is_empty() && self.has_no_prices(),
+            SectionName::Pairs => self.has_no_prices(),
+            SectionName::StudentPrices => {
+                self.prices.projects.is_empty() && self.prices.supervisors.is_empty()
+            }
+            SectionName::ProjectPrices => {
+                self.has_students_priced() && self.prices.supervisors.is_empty()
+            }
+            SectionName::SupervisorPrices => {
+                self.has_students_priced() && self.has_projects_priced()
+            }
         }
+    }
+
+    /// Adds a supervisor, if the fields are of the next.
+    fn add_supervisor(&mut self, fields: &[&[u8]]) -> Result<bool, AllocError>
+        requires { IsDraft (draft_of self.old) }
+        ensures { IfOk result (λ b. Adds Supervisors (draft_of self.old) (map (λ f. f.now) fields.now) (draft_of self.new) b) }
+    {
         let [code, quota] = fields else {
             return Ok(false);
         };
-        let Some(code) = read_code(code) else {
+        let Some(code) = next_code(&self.supervisors, MOST_SUPERVISORS, code) else {
             return Ok(false);
         };
         let Some(quota) = read_quota(quota) else {
             return Ok(false);
         };
-        if self.supervisors.len() >= MOST_SUPERVISORS {
-            return Ok(false);
-        }
-        if !is_next(&self.supervisors, code.as_str()) {
-            return Ok(false);
-        }
         let next = self.supervisors.len();
         self.by_supervisor.note(code.as_str().as_bytes(), next);
         self.supervisors.push((code, quota))?;
         Ok(true)
     }
 
-    /// Adds a project, if one may come here.
-    fn add_project(&mut self, alloc: Global, fields: &[&[u8]]) -> Result<bool, AllocError>
+    /// Adds a project, if the fields are of the next.
+    fn add_project(&mut self, fields: &[&[u8]]) -> Result<bool, AllocError>
         requires { IsDraft (draft_of self.old) }
-        ensures { IfOk result (λ b. AddsProject (draft_of self.old) (map (λ f. f.now) fields.now) (draft_of self.new) b) }
+        ensures { IfOk result (λ b. Adds Projects (draft_of self.old) (map (λ f. f.now) fields.now) (draft_of self.new) b) }
     {
-        if !self.students.is_empty() || !self.has_no_prices() {
-            return Ok(false);
-        }
         let [code, supervisor, quota] = fields else {
             return Ok(false);
         };
-        let Some(code) = read_code(code) else {
+        let Some(code) = next_code(&self.projects, MOST_PROJECTS, code) else {
             return Ok(false);
         };
         let Some(quota) = read_quota(quota) else {
             return Ok(false);
         };
-        if self.projects.len() >= MOST_PROJECTS {
-            return Ok(false);
-        }
-        if !is_next(&self.projects, code.as_str()) {
-            return Ok(false);
-        }
         let guess = self.by_supervisor.guess(supervisor);
         let Some(owner) = position_at(&self.supervisors, supervisor, guess) else {
             return Ok(false);
@@ -203,26 +214,17 @@ impl Draft {
         Ok(true)
     }
 
-    /// Adds a student, if one may come here.
+    /// Adds a student, if the fields are of the next.
     fn add_student(&mut self, alloc: Global, fields: &[&[u8]]) -> Result<bool, AllocError>
         requires { IsDraft (draft_of self.old) }
-        ensures { IfOk result (λ b. AddsStudent (draft_of self.old) (map (λ f. f.now) fields.now) (draft_of self.new) b) }
+        ensures { IfOk result (λ b. Adds Students (draft_of self.old) (map (λ f. f.now) fields.now) (draft_of self.new) b) }
     {
-        if !self.places.is_empty() || !self.has_no_prices() {
-            return Ok(false);
-        }
         let Some((code, list)) = fields.split_first() else {
             return Ok(false);
         };
-        let Some(code) = read_code(code) else {
+        let Some(code) = next_code(&self.students, MOST_STUDENTS, code) else {
             return Ok(false);
         };
-        if self.students.len() >= MOST_STUDENTS {
-            return Ok(false);
-        }
-        if !is_next(&self.students, code.as_str()) {
-            return Ok(false);
-        }
         let Some(list) = read_list(alloc, &self.projects, &self.by_project, list)? else {
             return Ok(false);
         };
@@ -230,14 +232,11 @@ impl Draft {
         Ok(true)
     }
 
-    /// Adds a pair, if one may come here.
-    fn add_pair(&mut self, alloc: Global, fields: &[&[u8]]) -> Result<bool, AllocError>
+    /// Adds a pair, if the fields are of the next.
+    fn add_pair(&mut self, fields: &[&[u8]]) -> Result<bool, AllocError>
         requires { IsDraft (draft_of self.old) }
-        ensures { IfOk result (λ b. AddsPair (draft_of self.old) (map (λ f. f.now) fields.now) (draft_of self.new) b) }
+        ensures { IfOk result (λ b. Adds Pairs (draft_of self.old) (map (λ f. f.now) fields.now) (draft_of self.new) b) }
     {
-        if !self.has_no_prices() {
-            return Ok(false);
-        }
         let [student, project] = fields else {
             return Ok(false);
         };
@@ -258,44 +257,34 @@ impl Draft {
         Ok(true)
     }
 
-    /// Adds a student's price, if one may come here.
-    fn add_student_price(&mut self, fields: &[&[u8]]) -> Result<bool, AllocError>
+    /// Adds what a row of a section stands for, if it comes next there.
+    fn add_to(
+        &mut self,
+        alloc: Global,
+        section: SectionName,
+        row: &[&[u8]],
+    ) -> Result<bool, AllocError>
         requires { IsDraft (draft_of self.old) }
-        ensures { IfOk result (λ b. AddsStudentPrice (draft_of self.old) (map (λ f. f.now) fields.now) (draft_of self.new) b) }
+        ensures { IfOk result (λ b. Adds section (draft_of self.old) (map (λ f. f.now) row.now) (draft_of self.new) b) }
     {
-        if !self.prices.projects.is_empty() || !self.prices.supervisors.is_empty() {
-            return Ok(false);
+        match section {
+            SectionName::Supervisors => self.add_supervisor(row),
+            SectionName::Projects => self.add_project(row),
+            SectionName::Students => self.add_student(alloc, row),
+            SectionName::Pairs => self.add_pair(row),
+            SectionName::StudentPrices => {
+                let added = add_price(&mut self.prices.students, &self.students, row)?;
+                Ok(added)
+            }
+            SectionName::ProjectPrices => {
+                let added = add_price(&mut self.prices.projects, &self.projects, row)?;
+                Ok(added)
+            }
+            SectionName::SupervisorPrices => {
+                let added = add_price(&mut self.prices.supervisors, &self.supervisors, row)?;
+                Ok(added)
+            }
         }
-        let added = add_price(&mut self.prices.students, &self.students, fields)?;
-        Ok(added)
-    }
-
-    /// Adds a project's price, if one may come here.
-    fn add_project_price(&mut self, fields: &[&[u8]]) -> Result<bool, AllocError>
-        requires { IsDraft (draft_of self.old) }
-        ensures { IfOk result (λ b. AddsProjectPrice (draft_of self.old) (map (λ f. f.now) fields.now) (draft_of self.new) b) }
-    {
-        if !self.prices.supervisors.is_empty()
-            || !is_none_or_all(&self.prices.students, self.students.len())
-        {
-            return Ok(false);
-        }
-        let added = add_price(&mut self.prices.projects, &self.projects, fields)?;
-        Ok(added)
-    }
-
-    /// Adds a supervisor's price, if one may come here.
-    fn add_supervisor_price(&mut self, fields: &[&[u8]]) -> Result<bool, AllocError>
-        requires { IsDraft (draft_of self.old) }
-        ensures { IfOk result (λ b. AddsSupervisorPrice (draft_of self.old) (map (λ f. f.now) fields.now) (draft_of self.new) b) }
-    {
-        if !is_none_or_all(&self.prices.students, self.students.len())
-            || !is_none_or_all(&self.prices.projects, self.projects.len())
-        {
-            return Ok(false);
-        }
-        let added = add_price(&mut self.prices.supervisors, &self.supervisors, fields)?;
-        Ok(added)
     }
 
     /// Adds what a line's fields stand for, if they may come here.
@@ -307,28 +296,13 @@ impl Draft {
         let Some((letter, row)) = fields.split_first() else {
             return Ok(false);
         };
-        if is_letter(letter, b'S') {
-            return self.add_supervisor(alloc, row);
+        let Some(section) = section_of(letter) else {
+            return Ok(false);
+        };
+        if !self.has_turn(section) {
+            return Ok(false);
         }
-        if is_letter(letter, b'P') {
-            return self.add_project(alloc, row);
-        }
-        if is_letter(letter, b'C') {
-            return self.add_student(alloc, row);
-        }
-        if is_letter(letter, b'M') {
-            return self.add_pair(alloc, row);
-        }
-        if is_letter(letter, b'U') {
-            return self.add_student_price(row);
-        }
-        if is_letter(letter, b'Y') {
-            return self.add_project_price(row);
-        }
-        if is_letter(letter, b'Z') {
-            return self.add_supervisor_price(row);
-        }
-        Ok(false)
+        self.add_to(alloc, section, row)
     }
 
     /// Adds what a line stands for, if it may come here.
@@ -344,8 +318,8 @@ impl Draft {
     pub(crate) fn is_whole(&self) -> bool
         ensures { IsTrue result ↔ IsWhole (draft_of self.now) }
     {
-        is_none_or_all(&self.prices.students, self.students.len())
-            && is_none_or_all(&self.prices.projects, self.projects.len())
+        self.has_students_priced()
+            && self.has_projects_priced()
             && is_none_or_all(&self.prices.supervisors, self.supervisors.len())
     }
 

@@ -18,6 +18,7 @@ mod lines;
 mod lookup;
 mod read;
 mod round;
+mod section;
 mod write;
 
 pub use laws::round_law;

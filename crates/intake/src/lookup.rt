@@ -1,9 +1,10 @@
 //! Codes in rolls that rise, and in lists.
 #![tactic(auto)]
 
-ghost use Rattle.std.specs.Prelude.{◌≡◌, ◌↔◌, ℕ, List, [], ◌∷◌, ◌++◌, map, length, IsTrue};
+ghost use Rattle.std.specs.Prelude.{◌≡◌, ◌↔◌, ℕ, List, [], ◌∷◌, ◌++◌, map, length, IsTrue, MatchOption};
 ghost use Rattle.spa.specs.Codes.{Finds};
 ghost use Rattle.intake.specs.Parts.{Rise, IsRoll};
+ghost use Rattle.intake.specs.Entries.{ComesNext};
 
 use crate::fields::read_code;
 use spa::Code;
@@ -69,6 +70,20 @@ pub(crate) fn is_next<E: Coded>(roll: &[E], code: &str) -> bool
         return true;
     };
     last.code().cmp(code).is_lt()
+}
+
+/// The code that a field is, if it may come next on a roll of at most so many.
+pub(crate) fn next_code<E: Coded>(roll: &[E], most: usize, field: &[u8]) -> Option<Code>
+    requires { Rise (map E.key roll.now) }
+    ensures { MatchOption result (¬ ComesNext most (map E.key roll.now) field.now) (λ c. (c ≡ field.now) × ComesNext most (map E.key roll.now) field.now) }
+{
+    let Some(code) = read_code(field) else {
+        return None;
+    };
+    if roll.len() >= most || !is_next(roll, code.as_str()) {
+        return None;
+    }
+    Some(code)
 }
 
 /// Whether two texts are the same. Codes that differ mostly do at their ends.

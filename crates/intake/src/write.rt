@@ -55,9 +55,13 @@ fn write_students(out: &mut String, instance: &Instance) -> Result<(), AllocErro
     ensures form { OnOk result (All (λ c. IsTrue (is_code c)) instance.now.student_codes) }
 {
     let codes = instance.student_codes();
-    let projects = instance.project_codes();
     for s in 0..codes.len() {
-        push_student(out, codes[s].as_str(), projects, instance.list(s))?;
+        push_student(
+            out,
+            codes[s].as_str(),
+            instance.project_codes(),
+            instance.list(s),
+        )?;
     }
     Ok(())
 }

@@ -7,26 +7,23 @@ pub loop-low-preserved-in-Less : goal.loop-low-preserved-in-Less
 loop-low-preserved-in-Less g c =
     let key = g.E.Coded.key in
     let m : ℕ = c.loop-low.low + (c.loop-low.high - c.loop-low.low) / 2 in
-    let h : m < c.loop-low.high = omega (arith, c.loop-low-test.true) in
-    let l : m < length c.args.roll.now = omega (arith, c.loop-low.invariant.within, key_count key c.args.roll.now) in
-    searched_less (map key c.args.roll.now) c.args.code.now c.loop-low.low c.loop-low.high m c.args.code.now c.requires h c.loop-low.invariant
+    let l : m < length c.args.roll.now = omega (arith, c.loop-low-test.true, c.loop-low.invariant.within, key_count key c.args.roll.now) in
+    searched_less (map key c.args.roll.now) c.args.code.now c.loop-low.low c.loop-low.high m c.args.code.now c.requires (omega (arith, c.loop-low-test.true)) c.loop-low.invariant
     (key_compared key c.args.roll.now m c.index-roll-middle.result c.args.code.now c.code.result.now c.cmp.result Less l c.index-roll-middle.is c.code.ensures c.cmp.ensures c.in-Less.is)
 
 pub returns-in-Equal : goal.returns-in-Equal
 returns-in-Equal g c =
     let key = g.E.Coded.key in
     let m : ℕ = c.loop-low.low + (c.loop-low.high - c.loop-low.low) / 2 in
-    let h : m < c.loop-low.high = omega (arith, c.loop-low-test.true) in
-    let l : m < length c.args.roll.now = omega (arith, c.loop-low.invariant.within, key_count key c.args.roll.now) in
+    let l : m < length c.args.roll.now = omega (arith, c.loop-low-test.true, c.loop-low.invariant.within, key_count key c.args.roll.now) in
     (l, key_equal key c.args.roll.now m c.index-roll-middle.result c.args.code.now c.code.result.now c.cmp.result l c.index-roll-middle.is c.code.ensures c.cmp.ensures c.in-Equal.is)
 
 pub loop-low-preserved : goal.loop-low-preserved
 loop-low-preserved g c =
     let key = g.E.Coded.key in
     let m : ℕ = c.loop-low.low + (c.loop-low.high - c.loop-low.low) / 2 in
-    let h : m < c.loop-low.high = omega (arith, c.loop-low-test.true) in
-    let l : m < length c.args.roll.now = omega (arith, c.loop-low.invariant.within, key_count key c.args.roll.now) in
-    searched_greater (map key c.args.roll.now) c.args.code.now c.loop-low.low c.loop-low.high m c.args.code.now c.requires h c.loop-low.invariant
+    let l : m < length c.args.roll.now = omega (arith, c.loop-low-test.true, c.loop-low.invariant.within, key_count key c.args.roll.now) in
+    searched_greater (map key c.args.roll.now) c.args.code.now c.loop-low.low c.loop-low.high m c.args.code.now c.requires (omega (arith, c.loop-low-test.true)) c.loop-low.invariant
     (key_compared key c.args.roll.now m c.index-roll-middle.result c.args.code.now c.code.result.now c.cmp.result Greater l c.index-roll-middle.is c.code.ensures c.cmp.ensures c.in-Greater.is)
 
 pub returns : goal.returns

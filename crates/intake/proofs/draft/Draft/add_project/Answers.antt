@@ -1,30 +1,23 @@
-use Rattle.std.proofs.Common.{◌≡◌, ℕ, List, [], ◌∷◌, length, map, get_or, slice_get, Some, decimal, sym, ap, subst, ◌∙◌, arith, rules}
-use Rattle.std.proofs.lemmas.List.{length-map, nil_from_length}
-use Rattle.spa.specs.Instance.{Project, students_of, supervisors_of}
-use Rattle.std.specs.Prelude.{IsTrue}
-use Rattle.spa.specs.Text.{is_code}
+use Rattle.std.proofs.Common.{◌≡◌, ℕ, List, [], ◌∷◌, length, map, get_or, slice_get, Some, decimal, sym, ap, subst, ◌∙◌, arith}
+use Rattle.std.proofs.lemmas.List.{length-map}
+use Rattle.spa.specs.Instance.{supervisors_of}
 use Rattle.intake.specs.Parts.{Rise, IsRoll}
 use Rattle.intake.proofs.Adding.{three_fields, project_added}
 use Rattle.intake.proofs.Lists.{blank, first_field}
 use Rattle.intake.proofs.Order.{get_found, key_at}
 use Rattle.intake.proofs.Pairing.{nowhere}
-use Rattle.intake.proofs.Rolls.{project_keys, supervisor_keys, rise_moved, contained, standing}
+use Rattle.intake.proofs.Rolls.{project_keys, supervisor_keys, comes_moved, contained, standing}
 use Rattle.intake.proofs.draft.Draft.add_project.Goals as goal
 
-pub is_next-requires : goal.is_next-requires
-is_next-requires c = subst Rise (project_keys c.args.self.now.projects.items ∙ ap (map (λ e. e.0)) (sym c.deref.ensures.value)) c.requires.projects.rise
+pub next_code-requires : goal.next_code-requires
+next_code-requires c = subst Rise (project_keys c.args.self.now.projects.items ∙ ap (map (λ e. e.0)) (sym c.deref.ensures.value)) c.requires.instance.projects.rise
 
-pub returns-then-not-is_next : goal.returns-then-not-is_next
-returns-then-not-is_next c = λ e t.
-    let text = (rw c.in-Some.is at c.read_code.ensures).0 in
-    let code : c.as_str.result.now ≡ e.code = c.as_str.ensures.value ∙ text ∙ first_field _ _ _ _ (sym (three_fields c.args.fields.now c.in-len3.len_at_least c.in-len3.len_below) ∙ t.is) in
-    let keys = project_keys c.args.self.now.projects.items ∙ ap (map (λ e. e.0)) (sym c.deref.ensures.value) in
-    let yes = c.is_next.ensures.1 (rise_moved _ _ _ _ keys (sym code) t.next) in
-    let other = c.if-not-is_next.true in
-    cc
+pub returns-in_default-next_code : goal.returns-in_default-next_code
+returns-in_default-next_code c = λ e t.
+    c.in_default-next_code.ensures (comes_moved _ _ _ _ _ (project_keys c.args.self.now.projects.items ∙ ap (map (λ e. e.0)) (sym c.deref.ensures.value)) (first_field _ _ _ _ (sym t.is ∙ three_fields c.args.fields.now c.in-len3.len_at_least c.in-len3.len_below)) t.code)
 
 pub position_at-requires : goal.position_at-requires
-position_at-requires c = subst IsRoll (supervisor_keys c.args.self.now.supervisors.items ∙ ap (map (λ e. e.0)) (sym c.deref-2.ensures.value)) c.requires.supervisors
+position_at-requires c = subst IsRoll (supervisor_keys c.args.self.now.supervisors.items ∙ ap (map (λ e. e.0)) (sym c.deref-2.ensures.value)) c.requires.instance.supervisors
 
 pub returns-in_default-position_at : goal.returns-in_default-position_at
 returns-in_default-position_at c = λ e t.
@@ -37,30 +30,23 @@ returns-in_default-position_at c = λ e t.
 
 pub returns : goal.returns
 returns c =
-    let text = rw c.in-Some.is at c.read_code.ensures in
-    let code : c.in-Some.code ≡ (get_or c.args.fields.now 0 blank).now = text.0 in
+    let read = rw c.in-Some.is at c.next_code.ensures in
     let owner : ℕ = c.in-Some-position_at.owner in
     let owners = ap (map (λ e. e.0)) c.deref-2.ensures.value ∙ sym (supervisor_keys c.args.self.now.supervisors.items) in
     let at : slice_get (map (λ e. e.code) (supervisors_of c.args.self.now.supervisors.items)) owner ≡ Some (get_or c.args.fields.now 1 blank).now = ap (λ (l : List (List ℕ)). slice_get l owner) (sym owners) ∙ c.in-Some-position_at.ensures.1 in
     let supervisor : c.copy-supervisor.result ≡ (get_or c.args.fields.now 1 blank).now =
     c.copy-supervisor.ensures ∙ sym (key_at (λ e. e.0) c.args.self.now.supervisors.items owner c.index.result.now (omega (arith, c.in-Some-position_at.ensures.0, ap length c.deref-2.ensures.value)) c.index.ensures)
     ∙ get_found (map (λ e. e.0) c.args.self.now.supervisors.items) owner (get_or c.args.fields.now 1 blank).now [] (ap (λ (l : List (List ℕ)). slice_get l owner) (sym (supervisor_keys c.args.self.now.supervisors.items)) ∙ at) in
-    let none : length c.args.self.now.students.items ≡ 0 = search (rules) in
-    let many : c.len.result ≡ length c.args.self.now.projects.items = search (rules) in
     let keys = ap (map (λ e. e.0)) c.deref.ensures.value ∙ sym (project_keys c.args.self.now.projects.items) in (
       record { code = c.in-Some.code; supervisor = c.copy-supervisor.result; quota = c.in-Some-read_quota.quota },
       record {
-        turn = ap (λ l. students_of (map (λ e. (e.0, e.1.items)) l)) (nil_from_length c.args.self.now.students.items none);
-        prices = c.has_no_prices.ensures.0 c.if-not-has_no_prices.false;
         is = three_fields c.args.fields.now c.in-len3.len_at_least c.in-len3.len_below
-            ∙ ap (λ (x : List ℕ). x ∷ (get_or c.args.fields.now 1 blank).now ∷ (get_or c.args.fields.now 2 blank).now ∷ []) (sym code)
+            ∙ ap (λ (x : List ℕ). x ∷ (get_or c.args.fields.now 1 blank).now ∷ (get_or c.args.fields.now 2 blank).now ∷ []) (sym read.0)
             ∙ ap (λ (x : List ℕ). c.in-Some.code ∷ x ∷ (get_or c.args.fields.now 2 blank).now ∷ []) (sym supervisor)
             ∙ ap (λ (x : List ℕ). c.in-Some.code ∷ c.copy-supervisor.result ∷ x ∷ []) c.in-Some-read_quota.ensures.1;
-        form = subst (λ (x : List ℕ). IsTrue (is_code x)) (sym code) text.1;
+        code = comes_moved _ _ _ _ _ keys (sym read.0) read.1;
         quota = c.in-Some-read_quota.ensures.0;
         known = contained _ owner c.copy-supervisor.result (at ∙ ap Some (sym supervisor));
-        few = omega (arith, c.if-len-ge-MOST_PROJECTS.false, many, length-map c.args.self.now.projects.items (λ (e : List ℕ × List ℕ × ℕ). let s : Project = record { code = e.0; supervisor = e.1; quota = e.2 } in s));
-        next = rise_moved _ _ _ _ keys c.as_str.ensures.value (c.is_next.ensures.0 c.if-not-is_next.false);
       },
       project_added c.args.self.now.supervisors.items c.args.self.now.projects.items c.push.new.self.items (map (λ e. (e.0, e.1.items)) c.args.self.now.students.items) c.args.self.now.places.items _ _ _ c.in-Some.code c.copy-supervisor.result c.in-Some-read_quota.quota c.in_ok-push.ensures.items,
     )

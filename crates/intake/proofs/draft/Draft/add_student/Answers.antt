@@ -1,29 +1,23 @@
-use Rattle.std.proofs.Common.{◌≡◌, ℕ, List, ◌∷◌, length, map, sym, ap, subst, ◌∙◌, arith, rules}
+use Rattle.std.proofs.Common.{◌≡◌, ℕ, List, ◌∷◌, map, sym, ap, subst, ◌∙◌}
 use denote.Ref.{Bor}
-use Rattle.std.specs.Prelude.{IsTrue}
-use Rattle.std.proofs.lemmas.List.{map_push, nil_from_length}
-use Rattle.spa.specs.Text.{is_code}
+use Rattle.std.proofs.lemmas.List.{map_push}
 use Rattle.intake.specs.Parts.{Rise, IsRoll}
 use Rattle.intake.proofs.Adding.{student_added}
 use Rattle.intake.proofs.Lists.{first_field, other_fields}
-use Rattle.intake.proofs.Rolls.{student_keys, project_keys, rise_moved, sound_moved, student_count}
+use Rattle.intake.proofs.Rolls.{student_keys, project_keys, comes_moved, sound_moved}
 use Rattle.intake.proofs.draft.Draft.add_student.Goals as goal
 
-pub is_next-requires : goal.is_next-requires
-is_next-requires c = subst Rise (student_keys c.args.self.now.students.items ∙ ap (map (λ e. e.0)) (sym c.deref.ensures.value)) c.requires.students.rise
+pub next_code-requires : goal.next_code-requires
+next_code-requires c = subst Rise (student_keys c.args.self.now.students.items ∙ ap (map (λ e. e.0)) (sym c.deref.ensures.value)) c.requires.instance.students.rise
 
 pub read_list-requires : goal.read_list-requires
-read_list-requires c = subst IsRoll (project_keys c.args.self.now.projects.items ∙ ap (map (λ e. e.0)) (sym c.deref-2.ensures.value)) c.requires.projects
+read_list-requires c = subst IsRoll (project_keys c.args.self.now.projects.items ∙ ap (map (λ e. e.0)) (sym c.deref-2.ensures.value)) c.requires.instance.projects
 
-pub returns-then-not-is_next : goal.returns-then-not-is_next
-returns-then-not-is_next c = λ e t.
-    let text = (rw c.in-Some-read_code.is at c.read_code.ensures).0 in
+pub returns-in_default-next_code : goal.returns-in_default-next_code
+returns-in_default-next_code c = λ e t.
     let fields = ap (map (λ (f : Bor (List ℕ)). f.now)) c.in-Some.ensures.cases.0 in
-    let code : c.as_str.result.now ≡ e.code = c.as_str.ensures.value ∙ text ∙ first_field _ _ _ _ (sym fields ∙ t.is) in
     let keys = student_keys c.args.self.now.students.items ∙ ap (map (λ e. e.0)) (sym c.deref.ensures.value) in
-    let yes = c.is_next.ensures.1 (rise_moved _ _ _ _ keys (sym code) t.next) in
-    let other = c.if-not-is_next.true in
-    cc
+    c.in_default-next_code.ensures (comes_moved _ _ _ _ _ keys (first_field _ _ _ _ (sym t.is ∙ fields)) t.code)
 
 pub returns-in_default-2 : goal.returns-in_default-2
 returns-in_default-2 c = λ e t.
@@ -35,24 +29,17 @@ returns-in_default-2 c = λ e t.
 
 pub returns : goal.returns
 returns c =
-    let text = rw c.in-Some-read_code.is at c.read_code.ensures in
-    let code : c.in-Some-read_code.code ≡ c.in-Some.code.now.now = text.0 in
+    let next = rw c.in-Some-next_code.is at c.next_code.ensures in
     let fields = ap (map (λ (f : Bor (List ℕ)). f.now)) c.in-Some.ensures.cases.0 in
-    let none : length c.args.self.now.places.items ≡ 0 = search (rules) in
-    let many : c.len.result ≡ length c.args.self.now.students.items = search (rules) in
     let keys = ap (map (λ e. e.0)) c.deref.ensures.value ∙ sym (student_keys c.args.self.now.students.items) in
     let owners = ap (map (λ e. e.0)) c.deref-2.ensures.value ∙ sym (project_keys c.args.self.now.projects.items) in
     let read = rw c.in-Some-2.is at c.in_ok-list.ensures in (
-      record { code = c.in-Some-read_code.code; list = c.in-Some-2.list.items },
+      record { code = c.in-Some-next_code.code; list = c.in-Some-2.list.items },
       record {
-        turn = nil_from_length c.args.self.now.places.items none;
-        prices = c.has_no_prices.ensures.0 c.if-not-has_no_prices.false;
-        is = fields ∙ ap (λ (x : List ℕ). x ∷ map (λ (f : Bor (List ℕ)). f.now) c.in-Some.list.now) (sym code) ∙ ap (λ (l : List (List ℕ)). c.in-Some-read_code.code ∷ l) (sym read.0);
-        form = subst (λ (x : List ℕ). IsTrue (is_code x)) (sym code) text.1;
+        is = fields ∙ ap (λ (x : List ℕ). x ∷ map (λ (f : Bor (List ℕ)). f.now) c.in-Some.list.now) (sym next.0) ∙ ap (λ (l : List (List ℕ)). c.in-Some-next_code.code ∷ l) (sym read.0);
+        code = comes_moved _ _ _ _ _ keys (sym next.0) next.1;
         list = sound_moved _ _ _ _ owners (sym read.0) read.1;
-        few = omega (arith, c.if-len-ge-MOST_STUDENTS.false, many, student_count c.args.self.now.students.items);
-        next = rise_moved _ _ _ _ keys c.as_str.ensures.value (c.is_next.ensures.0 c.if-not-is_next.false);
       },
-      student_added c.args.self.now.supervisors.items c.args.self.now.projects.items (map (λ e. (e.0, e.1.items)) c.args.self.now.students.items) (map (λ e. (e.0, e.1.items)) c.push.new.self.items) c.args.self.now.places.items _ _ _ c.in-Some-read_code.code c.in-Some-2.list.items
-          (ap (map (λ e. (e.0, e.1.items))) c.in_ok-push.ensures.items ∙ map_push (λ e. (e.0, e.1.items)) c.args.self.now.students.items (c.in-Some-read_code.code, c.in-Some-2.list)),
+      student_added c.args.self.now.supervisors.items c.args.self.now.projects.items (map (λ e. (e.0, e.1.items)) c.args.self.now.students.items) (map (λ e. (e.0, e.1.items)) c.push.new.self.items) c.args.self.now.places.items _ _ _ c.in-Some-next_code.code c.in-Some-2.list.items
+          (ap (map (λ e. (e.0, e.1.items))) c.in_ok-push.ensures.items ∙ map_push (λ e. (e.0, e.1.items)) c.args.self.now.students.items (c.in-Some-next_code.code, c.in-Some-2.list)),
     )

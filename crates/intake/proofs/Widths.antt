@@ -1,0 +1,131 @@
+-- What is said of each field and row, said of the rows of all sections.
+use Rattle.std.proofs.Common.{◌≡◌, ℕ, zero, suc, ◌+◌, ◌-◌, ◌*◌, ◌<◌, ◌≤◌, ℤ, pos, true, List, [], ◌∷◌, length, map, get_or, slice_get, decimal, Option, Some, None, All, Contains, refl, arith}
+use Rattle.std.specs.Fmt.{signed_decimal}
+use Rattle.std.specs.Prelude.{IsTrue, ⊤}
+use Rattle.std.proofs.lemmas.List.Elements.{All-nil, All-cons, All-head, All-tail, All-map, All-contains}
+use Rattle.spa.specs.declared.TheConstants.{MOST_PLACES}
+use Rattle.spa.specs.Text.{is_code}
+use Rattle.spa.specs.Codes.{code_at}
+use Rattle.spa.specs.Instance.{Instance, Supervisor, Project, Student, supervisor_codes, project_codes, student_codes}
+use Rattle.spa.specs.Made.{IsSoundList}
+use Rattle.verdict.specs.Rows.{InRange}
+use Rattle.intake.specs.Parts.{Parts, IsRoll, IsPrice, IsRoundInstance}
+use Rattle.intake.specs.Lines.{Row, Section, choice_code, sections, supervisor_row, project_row, student_row, pair_rows, price_rows}
+use Rattle.intake.proofs.Found.{slice_get_at}
+use Rattle.intake.proofs.Pairing.{all_found, get_mapped}
+
+-- what is said of a field, and of a row of fields, by their widths
+pub record Said (F : ℕ → List ℕ → Type 0) (R : ℕ → Row → Type 0) : Type 0 where
+  pub code : (x : List ℕ) → is_code x ≡ true → F 16 x
+  pub blank : F 16 []
+  pub quota : (n : ℕ) → n ≤ MOST_PLACES → F 3 (decimal n)
+  pub number : (n : ℤ) → InRange n → F 8 (signed_decimal n)
+  pub none : R 0 []
+  pub more : (w k m : ℕ) (x : List ℕ) (r : Row) → F w x → R k r → suc (w + k) ≤ m → R m (x ∷ r)
+
+-- it is said of all rows of the sections, each of its width
+abbrev pub OfRows : (ℕ → Row → Type 0) → List ℕ → List Section → Type 0
+OfRows R [] [] = ⊤
+OfRows R [] (s ∷ ss) = ⊥
+OfRows R (w ∷ ws) [] = ⊥
+OfRows R (w ∷ ws) (s ∷ ss) = All (R w) s.rows × OfRows R ws ss
+
+-- it is said of all letters
+abbrev pub OfLetters : (List ℕ → Type 0) → List Section → Type 0
+OfLetters P [] = ⊤
+OfLetters P (s ∷ ss) = P s.letter × OfLetters P ss
+
+-- the widths of the rows of the seven sections
+abbrev pub widths : List ℕ
+widths = 21 ∷ 38 ∷ 153 ∷ 34 ∷ 98 ∷ 98 ∷ 98 ∷ []
+
+-- the code of an entry has the form
+code_found : {X : Type 0} (key : X → List ℕ) (es : List X) (n : ℕ) (e : X) → All (λ c. IsTrue (is_code c)) (map key es) → slice_get es n ≡ Some e → is_code (key e) ≡ true
+code_found key es n e h here = all_found (λ c. IsTrue (is_code c)) (map key es) n (key e) h (get_mapped key es n e here)
+
+-- its quota is one of all
+pub quota_found : {X : Type 0} (quota : X → ℕ) (es : List X) (n : ℕ) (e : X) → All (λ q. q ≤ MOST_PLACES) (map quota es) → slice_get es n ≡ Some e → quota e ≤ MOST_PLACES
+quota_found quota es n e h here = all_found (λ q. q ≤ MOST_PLACES) (map quota es) n (quota e) h (get_mapped quota es n e here)
+
+-- what is said of fields and rows is said of the sections
+module _ (F : ℕ → List ℕ → Type 0) (R : ℕ → Row → Type 0) (s : Said F R) where
+  -- the rows of a roll
+  entry_rows : {X : Type 0} (row : X → Row) (w : ℕ) (es : List X) → ((n : ℕ) (e : X) → slice_get es n ≡ Some e → R w (row e)) → All (R w) (map row es)
+  entry_rows row w es each = All-map (R w) row es (λ k d h. each k (get_or es k d) (slice_get_at es k d (get_or es k d) h refl))
+
+  -- a quota at the end of a row
+  last_quota : (n : ℕ) → n ≤ MOST_PLACES → R 4 (decimal n ∷ [])
+  last_quota n h = s.more 3 0 4 (decimal n) [] (s.quota n h) s.none (omega arith)
+
+  -- the rows of supervisors
+  supervisor_rows : (i : Instance) → IsRoundInstance i → All (R 21) (map supervisor_row i.supervisors)
+  supervisor_rows i v = entry_rows supervisor_row 21 i.supervisors (λ n e at.
+      s.more 16 4 21 e.code (decimal e.quota ∷ []) (s.code e.code (code_found (λ (e : Supervisor). e.code) i.supervisors n e v.supervisors.form at))
+      (last_quota e.quota (quota_found (λ (e : Supervisor). e.quota) i.supervisors n e v.within.supervisor_quotas at)) (omega arith))
+
+  -- the rows of projects
+  project_rows : (i : Instance) → IsRoundInstance i → All (R 38) (map project_row i.projects)
+  project_rows i v = entry_rows project_row 38 i.projects (λ n e at.
+      let owner = All-contains (λ x. IsTrue (is_code x)) (supervisor_codes i) e.supervisor v.supervisors.form (all_found (λ (e : Project). Contains (supervisor_codes i) e.supervisor) i.projects n e v.offered at) in
+      let quota = last_quota e.quota (quota_found (λ (e : Project). e.quota) i.projects n e v.within.project_quotas at) in
+      s.more 16 21 38 e.code (e.supervisor ∷ decimal e.quota ∷ []) (s.code e.code (code_found (λ (e : Project). e.code) i.projects n e v.projects.form at))
+      (s.more 16 4 21 e.supervisor (decimal e.quota ∷ []) (s.code e.supervisor owner) quota (omega arith)) (omega arith))
+
+  -- the codes of a sound list
+  list_said : (known list : List (List ℕ)) → IsRoll known → IsSoundList known list → All (F 16) list
+  list_said known list roll sound = λ k d h. s.code (get_or list k d) (All-contains (λ x. IsTrue (is_code x)) known (get_or list k d) roll.form (sound.1.known k (get_or list k d) h (slice_get_at list k d (get_or list k d) h refl)))
+
+  -- a row of codes
+  code_rows : (list : List (List ℕ)) → All (F 16) list → R (17 * length list) list
+  code_rows [] h = s.none
+  code_rows (x ∷ list) h = s.more 16 (17 * length list) (17 * length (x ∷ list)) x list (All-head (F 16) x list h) (code_rows list (All-tail (F 16) x list h)) (omega arith)
+
+  -- the lists of students
+  student_list : (i : Instance) (n : ℕ) (e : Student) → IsRoundInstance i → slice_get i.students n ≡ Some e → IsSoundList (project_codes i) e.list
+  student_list i n e v at = all_found (λ (e : Student). IsSoundList (project_codes i) e.list) i.students n e v.listed at
+
+  -- the rows of students
+  student_rows : (i : Instance) → IsRoundInstance i → All (R 153) (map student_row i.students)
+  student_rows i v = entry_rows student_row 153 i.students (λ n e at.
+      let sound = student_list i n e v at in
+      s.more 16 (17 * length e.list) 153 e.code e.list (s.code e.code (code_found (λ (e : Student). e.code) i.students n e v.students.form at)) (code_rows e.list (list_said (project_codes i) e.list v.projects sound)) (omega (arith, sound.0.1)))
+
+  -- a code of a list, or nothing past its end
+  at_said : (list : List (List ℕ)) (k : ℕ) → All (F 16) list → F 16 (code_at list k)
+  at_said [] k h = s.blank
+  at_said (x ∷ list) zero h = All-head (F 16) x list h
+  at_said (x ∷ list) (suc k) h = at_said list k (All-tail (F 16) x list h)
+
+  -- the rows of pairs
+  pairs_said : (es : List Student) (ks : List (Option ℕ)) → ((n : ℕ) (e : Student) → slice_get es n ≡ Some e → F 16 e.code × All (F 16) e.list) → All (R 34) (pair_rows es ks)
+  pairs_said [] ks each = All-nil (R 34)
+  pairs_said (e ∷ es) [] each = All-nil (R 34)
+  pairs_said (e ∷ es) (None ∷ ks) each = pairs_said es ks (λ n x at. each (suc n) x at)
+  pairs_said (e ∷ es) (Some k ∷ ks) each =
+      let here = each 0 e refl in
+      All-cons (R 34) (e.code ∷ choice_code e.list k ∷ []) (pair_rows es ks)
+      (s.more 16 17 34 e.code (choice_code e.list k ∷ []) here.0 (s.more 16 0 17 (choice_code e.list k) [] (at_said e.list (k - 1) here.1) s.none (omega arith)) (omega arith))
+      (pairs_said es ks (λ n x at. each (suc n) x at))
+
+  -- the numbers of a price
+  numbers_said : (v : List ℤ) → ((t : ℕ) → t < length v → InRange (get_or v t (pos 0))) → R (9 * length v) (map signed_decimal v)
+  numbers_said [] h = s.none
+  numbers_said (n ∷ v) h = s.more 8 (9 * length v) (9 * length (n ∷ v)) (signed_decimal n) (map signed_decimal v) (s.number n (h 0 (omega arith))) (numbers_said v (λ t l. h (suc t) (omega arith))) (omega arith)
+
+  -- the rows of prices
+  prices_said : (cs : List (List ℕ)) (vs : List (List ℤ)) → All (λ c. IsTrue (is_code c)) cs → All IsPrice vs → All (R 98) (price_rows cs vs)
+  prices_said [] vs f p = All-nil (R 98)
+  prices_said (c ∷ cs) [] f p = All-nil (R 98)
+  prices_said (c ∷ cs) (v ∷ vs) f p =
+      let price : IsPrice v = All-head IsPrice v vs p in
+      All-cons (R 98) (c ∷ map signed_decimal v) (price_rows cs vs)
+      (s.more 16 (9 * length v) 98 c (map signed_decimal v) (s.code c (All-head (λ c. IsTrue (is_code c)) c cs f)) (numbers_said v (λ t l. price.range t (omega (arith, price.numbers)))) (omega (arith, price.numbers)))
+      (prices_said cs vs (All-tail (λ c. IsTrue (is_code c)) c cs f) (All-tail IsPrice v vs p))
+
+  -- the rows of an instance, places and prices
+  pub rows_said : (p : Parts) → IsRoundInstance p.instance → All IsPrice p.student_prices → All IsPrice p.project_prices → All IsPrice p.supervisor_prices → OfRows R widths (sections p)
+  rows_said p i u y z =
+      let pairs = pairs_said p.instance.students p.places (λ n e at. (s.code e.code (code_found (λ (e : Student). e.code) p.instance.students n e i.students.form at), list_said (project_codes p.instance) e.list i.projects (student_list p.instance n e i at))) in (
+        supervisor_rows p.instance i,
+        (project_rows p.instance i, (student_rows p.instance i, (pairs, (prices_said (student_codes p.instance) p.student_prices i.students.form u, (prices_said (project_codes p.instance) p.project_prices i.projects.form y, (prices_said (supervisor_codes p.instance) p.supervisor_prices i.supervisors.form z, tt)))))),
+      )
