@@ -1,5 +1,6 @@
 //! Import texts: what each stands for, request by request, and why a text is none.
 
+use crate::judged::holds;
 use imports::{ImportFault, read_import};
 use rolls::{ImportKind, Plain};
 use std::alloc::{AllocError, Global};
@@ -108,7 +109,7 @@ fn read(
     kind: ImportKind,
     text: &[u8],
 ) -> Result<Vec<Plain>, ImportFault> {
-    assert!(rt; text.len() <= 65_536);
+    holds(rt, text.len() <= 65_536, "a text that may be an import");
     read_import(alloc, kind, text)
 }
 
@@ -117,7 +118,8 @@ fn texts_are_read_request_by_request(rt: HostRuntime) -> Result<(), Fail> {
     let alloc = rt.alloc();
     for (name, kind, text, want) in texts() {
         let requests = read(alloc, &rt, kind, text)?;
-        assert_eq!(rt; shown(alloc, &requests)?.as_str(), want, "{name}");
+        let shown = shown(alloc, &requests)?;
+        holds(&rt, shown.as_str() == want, name);
     }
     Ok(())
 }
@@ -125,10 +127,8 @@ fn texts_are_read_request_by_request(rt: HostRuntime) -> Result<(), Fail> {
 #[test]
 fn texts_that_are_none_have_their_fault(rt: HostRuntime) {
     for (name, kind, text, want) in faulty_texts() {
-        match read(rt.alloc(), &rt, kind, text) {
-            Ok(_requests) => assert!(rt; false, "{name} is read"),
-            Err(fault) => assert_eq!(rt; fault, want, "{name}"),
-        }
+        let fault = read(rt.alloc(), &rt, kind, text).err();
+        holds(&rt, fault == Some(want), name);
     }
 }
 
@@ -146,18 +146,16 @@ fn longest_text(alloc: Global) -> Result<Vec<u8>, Fail> {
 fn the_longest_text_is_read(rt: HostRuntime) -> Result<(), Fail> {
     let alloc = rt.alloc();
     let text = longest_text(alloc)?;
-    assert_eq!(rt; text.len(), 65_536);
+    holds(&rt, text.len() == 65_536, "as long as may be");
     let requests = read(alloc, &rt, ImportKind::Students, &text)?;
-    assert_eq!(rt; requests.len(), 21_842);
+    holds(&rt, requests.len() == 21_842, "the longest text");
     Ok(())
 }
 
 #[test]
 fn a_fault_is_printed(rt: HostRuntime) -> Result<(), Fail> {
     let text = ImportFault::Fields(3).to_string(rt.alloc())?;
-    assert_eq!(rt;
-        text.as_str(),
-        "record 3 has another number of fields than the header"
-    );
+    let want = "record 3 has another number of fields than the header";
+    holds(&rt, text.as_str() == want, want);
     Ok(())
 }

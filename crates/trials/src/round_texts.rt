@@ -1,6 +1,7 @@
 //! Round texts: a worked one, its faulty variants, and each call on its happy path.
 
-use intake::{RoundFault, read_round, write_round};
+use crate::judged::holds;
+use intake::{RoundFault, RoundParts, read_round, write_round};
 use std::alloc::Global;
 use std::process::Abort;
 use std::rt::HostRuntime;
@@ -72,62 +73,49 @@ fn faulty_texts() -> [(&'static str, &'static str, usize); 38] {
     ]
 }
 
-#[test]
-fn the_worked_text_is_read_and_written(rt: HostRuntime) -> Result<(), Fail> {
-    let alloc = rt.alloc();
-    let parts = read_round(alloc, WORKED.as_bytes())?;
-    let instance = &parts.instance;
-    assert_eq!(rt; instance.supervisor_count(), 1);
-    assert_eq!(rt; instance.project_count(), 3);
-    assert_eq!(rt; instance.student_count(), 2);
-    let alone = write_round(alloc, instance, None)?;
-    assert_eq!(rt;
-        alone.as_str(),
-        "S,L,5\nP,P,L,1\nP,Q,L,1\nP,Z,L,0\nC,A,P,Q\nC,C,Z,P\n"
-    );
-    match check(instance, &parts.matching, &parts.prices) {
-        Ok(()) => {
-            let text = write_round(alloc, instance, Some((&parts.matching, &parts.prices)))?;
-            assert_eq!(rt; text.as_str(), WORKED);
-        }
-        Err(fault) => assert!(rt; false, "{fault:?}"),
-    }
+/// The round without pairs and prices.
+const ALONE: &str = "S,L,5\nP,P,L,1\nP,Q,L,1\nP,Z,L,0\nC,A,P,Q\nC,C,Z,P\n";
+
+/// Compares what is written of the worked round.
+fn compare_written(alloc: Global, rt: &impl Abort, parts: &RoundParts) -> Result<(), Fail> {
+    let alone = write_round(alloc, &parts.instance, None)?;
+    holds(rt, alone.as_str() == ALONE, "the round alone");
+    let is_best = check(&parts.instance, &parts.matching, &parts.prices).is_ok();
+    holds(rt, is_best, "a best matching");
+    let pairs = Some((&parts.matching, &parts.prices));
+    let text = write_round(alloc, &parts.instance, pairs)?;
+    holds(rt, text.as_str() == WORKED, "the whole round");
     Ok(())
 }
 
-/// Reads each text.
-fn read_all(alloc: Global, rt: &impl Abort, rows: &[(&'static str, &'static str)]) {
-    for (name, text) in rows {
-        match read_round(alloc, text.as_bytes()) {
-            Ok(_parts) => {}
-            Err(fault) => assert!(rt; false, "{name}: {fault:?}"),
-        }
-    }
+#[test]
+fn the_worked_text_is_read_and_written(rt: HostRuntime) -> Result<(), Fail> {
+    let parts = read_round(rt.alloc(), WORKED.as_bytes())?;
+    holds(&rt, parts.instance.supervisor_count() == 1, "supervisors");
+    holds(&rt, parts.instance.project_count() == 3, "projects");
+    holds(&rt, parts.instance.student_count() == 2, "students");
+    compare_written(rt.alloc(), &rt, &parts)
+}
+
+/// The first fault of a text, if any.
+fn fault_of(alloc: Global, text: &[u8]) -> Option<RoundFault> {
+    read_round(alloc, text).err()
 }
 
 #[test]
 fn texts_with_the_form_are_read(rt: HostRuntime) {
-    read_all(rt.alloc(), &rt, fit_texts().as_slice());
-}
-
-/// Compares what a faulty text gets with the wanted fault.
-fn compare_fault(alloc: Global, rt: &impl Abort, name: &str, text: &[u8], want: RoundFault) {
-    match read_round(alloc, text) {
-        Ok(_parts) => assert!(rt; false, "{name} is read"),
-        Err(fault) => assert_eq!(rt; fault, want, "{name}"),
-    }
-}
-
-/// Compares the first bad line of each text.
-fn compare_lines(alloc: Global, rt: &impl Abort, rows: &[(&'static str, &'static str, usize)]) {
-    for (name, text, line) in rows {
-        compare_fault(alloc, rt, name, text.as_bytes(), RoundFault::Line(*line));
+    for (name, text) in fit_texts().as_slice() {
+        let fault = fault_of(rt.alloc(), text.as_bytes());
+        holds(&rt, fault.is_none(), name);
     }
 }
 
 #[test]
 fn the_first_bad_line_is_named(rt: HostRuntime) {
-    compare_lines(rt.alloc(), &rt, faulty_texts().as_slice());
+    for (name, text, line) in faulty_texts().as_slice() {
+        let fault = fault_of(rt.alloc(), text.as_bytes());
+        holds(&rt, fault == Some(RoundFault::Line(*line)), name);
+    }
 }
 
 /// A text of this many empty lines.
@@ -141,17 +129,20 @@ fn empty_lines(alloc: Global, lines: u32) -> Result<Vec<u8>, Fail> {
 
 #[test]
 fn the_size_is_judged_first(rt: HostRuntime) -> Result<(), Fail> {
-    let alloc = rt.alloc();
-    let text = empty_lines(alloc, 262_144)?;
-    compare_fault(alloc, &rt, "262,144 bytes", &text, RoundFault::Line(1));
-    let text = empty_lines(alloc, 262_145)?;
-    compare_fault(alloc, &rt, "262,145 bytes", &text, RoundFault::TooLarge);
+    let sizes = [
+        (262_144, RoundFault::Line(1)),
+        (262_145, RoundFault::TooLarge),
+    ];
+    for (lines, want) in sizes {
+        let fault = fault_of(rt.alloc(), &empty_lines(rt.alloc(), lines)?);
+        holds(&rt, fault == Some(want), "empty lines");
+    }
     Ok(())
 }
 
 #[test]
 fn a_bad_line_is_printed(rt: HostRuntime) -> Result<(), Fail> {
     let text = RoundFault::Line(3).to_string(rt.alloc())?;
-    assert_eq!(rt; text.as_str(), "bad line 3");
+    holds(&rt, text.as_str() == "bad line 3", "a bad line");
     Ok(())
 }
