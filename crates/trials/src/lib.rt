@@ -64,3 +64,5 @@ mod streams;
 mod terms;
 #[cfg(test)]
 mod texts;
+#[cfg(test)]
+mod walkthrough;
