@@ -240,18 +240,16 @@ type Pair = (u32, u32, u32, [usize; 2], [usize; 2], usize, usize);
 // The supervisor's quota, those of P and Q, and the lists of A and B; then by hand how many are placed, and the sum of
 // their ranks.
 #[rattlefmt::skip]
-fn pairs() -> [Pair; 8] {
-    [
-        (2, 1, 1, [0, 1], [1, 0], 2, 2),
-        (2, 1, 1, [0, 1], [0, 1], 2, 3),
-        (2, 2, 1, [0, 1], [0, 1], 2, 2),
-        (2, 1, 0, [0, 1], [0, 1], 1, 1),
-        (2, 0, 1, [0, 1], [0, 1], 1, 2),
-        (1, 1, 1, [0, 1], [1, 0], 1, 1),
-        (1, 2, 2, [1, 0], [1, 0], 1, 1),
-        (0, 1, 1, [0, 1], [1, 0], 0, 0),
-    ]
-}
+static PAIRS: [Pair; 8] = [
+    (2, 1, 1, [0, 1], [1, 0], 2, 2),
+    (2, 1, 1, [0, 1], [0, 1], 2, 3),
+    (2, 2, 1, [0, 1], [0, 1], 2, 2),
+    (2, 1, 0, [0, 1], [0, 1], 1, 1),
+    (2, 0, 1, [0, 1], [0, 1], 1, 2),
+    (1, 1, 1, [0, 1], [1, 0], 1, 1),
+    (1, 2, 2, [1, 0], [1, 0], 1, 1),
+    (0, 1, 1, [0, 1], [1, 0], 0, 0),
+];
 
 /// Whether so many of a row are placed, and at these ranks.
 fn is_pair(all: &[Shown], quota: u32, placed: usize, ranks: usize) -> bool {
@@ -280,7 +278,7 @@ fn compare_pairs(alloc: Global, rt: &impl Abort, rows: &[Pair]) -> Result<(), Fa
 
 #[test]
 fn quotas_are_kept(rt: HostRuntime) -> Result<(), Fail> {
-    compare_pairs(rt.alloc(), &rt, pairs().as_slice())
+    compare_pairs(rt.alloc(), &rt, PAIRS.as_slice())
 }
 
 /// Whether the first student made room for the second, and there was none for the third.

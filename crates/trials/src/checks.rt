@@ -46,19 +46,17 @@ type Check = (
 
 // The places of A and C in their lists, the prices of P, Z and L, and the answer. A at Q and C at P is greedy maximum.
 #[rattlefmt::skip]
-fn checks() -> [Check; 9] {
-    [
-        ("best",                    Some(2), Some(2), (0, 1, -1), (0, 2, -2),                  (0, 0, 0),         Ok(())),
-        ("two at one project",      Some(1), Some(2), (0, 1, -1), (0, 2, -2),                  (0, 0, 0),         Err(CheckFault::NotMatching)),
-        ("a place above the list",  Some(2), Some(3), (0, 1, -1), (0, 2, -2),                  (0, 0, 0),         Err(CheckFault::NotMatching)),
-        ("prices at their limit",   Some(2), Some(2), (0, 1, -1), (0, 1_000_000, -1_000_000),  (0, 0, 0),         Ok(())),
-        ("a price above the limit", Some(2), Some(2), (0, 1, -1), (0, 2, -2),                  (0, 1_000_001, 0), Err(CheckFault::Shape)),
-        ("a price below zero",      Some(2), Some(2), (0, 1, -1), (-1, 2, -2),                 (0, 0, 0),         Err(CheckFault::Below)),
-        ("A is not covered",        Some(2), Some(2), (0, 0, 0),  (0, 2, -2),                  (0, 0, 0),         Err(CheckFault::Uncovered(0, 1))),
-        ("C is not covered",        Some(2), Some(2), (0, 1, -1), (0, 0, 0),                   (0, 0, 0),         Err(CheckFault::Uncovered(1, 1))),
-        ("sums differ",             None,    Some(2), (0, 1, -1), (0, 2, -2),                  (0, 0, 0),         Err(CheckFault::Unequal)),
-    ]
-}
+static CHECKS: [Check; 9] = [
+    ("best",                    Some(2), Some(2), (0, 1, -1), (0, 2, -2),                  (0, 0, 0),         Ok(())),
+    ("two at one project",      Some(1), Some(2), (0, 1, -1), (0, 2, -2),                  (0, 0, 0),         Err(CheckFault::NotMatching)),
+    ("a place above the list",  Some(2), Some(3), (0, 1, -1), (0, 2, -2),                  (0, 0, 0),         Err(CheckFault::NotMatching)),
+    ("prices at their limit",   Some(2), Some(2), (0, 1, -1), (0, 1_000_000, -1_000_000),  (0, 0, 0),         Ok(())),
+    ("a price above the limit", Some(2), Some(2), (0, 1, -1), (0, 2, -2),                  (0, 1_000_001, 0), Err(CheckFault::Shape)),
+    ("a price below zero",      Some(2), Some(2), (0, 1, -1), (-1, 2, -2),                 (0, 0, 0),         Err(CheckFault::Below)),
+    ("A is not covered",        Some(2), Some(2), (0, 0, 0),  (0, 2, -2),                  (0, 0, 0),         Err(CheckFault::Uncovered(0, 1))),
+    ("C is not covered",        Some(2), Some(2), (0, 1, -1), (0, 0, 0),                   (0, 0, 0),         Err(CheckFault::Uncovered(1, 1))),
+    ("sums differ",             None,    Some(2), (0, 1, -1), (0, 2, -2),                  (0, 0, 0),         Err(CheckFault::Unequal)),
+];
 
 /// Compares the answer to each row.
 fn compare_checks(
@@ -81,7 +79,7 @@ fn compare_checks(
 #[test]
 fn the_first_condition_that_fails_is_named(rt: HostRuntime) -> Result<(), Fail> {
     let instance = worked(rt.alloc())?;
-    compare_checks(rt.alloc(), &rt, &instance, checks().as_slice())
+    compare_checks(rt.alloc(), &rt, &instance, CHECKS.as_slice())
 }
 
 #[test]

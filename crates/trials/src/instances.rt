@@ -10,24 +10,22 @@ use std::test::Fail;
 
 /// Rolls, and the first fault of them.
 #[rattlefmt::skip]
-fn faults() -> [(&'static str, &'static str, &'static str, InstanceFault); 14] {
-    [
-        ("L:501",     "",                  "",                      InstanceFault::Limit),
-        ("L:5 L:501", "P:N:1",             "A A",                   InstanceFault::Limit),
-        ("L:5",       "P:L:501",           "",                      InstanceFault::Limit),
-        ("L:5 K:1 L:1", "P:N:1",           "",                      InstanceFault::RepeatedCode(Roll::Supervisors, 2)),
-        ("L:5",       "P:L:1 P:N:1",       "A:P",                   InstanceFault::RepeatedCode(Roll::Projects, 1)),
-        ("L:5",       "P:N:1",             "A:P A:P",               InstanceFault::RepeatedCode(Roll::Students, 1)),
-        ("L:5",       "P:L:1 Q:N:1",       "A",                     InstanceFault::UnknownSupervisor(1)),
-        ("L:5",       "P:L:1",             "A:P B",                 InstanceFault::ListLength(1)),
-        ("L:5",       "P:L:1",             "A:P:P:P:P:P:P:P:P:P",   InstanceFault::ListLength(0)),
-        ("L:5",       "P:L:1",             "A:P:N",                 InstanceFault::UnknownProject(0, 2)),
-        ("L:5",       "P:L:1",             "A:P B:P:N:P",           InstanceFault::UnknownProject(1, 2)),
-        ("L:5",       "P:L:1",             "A:P:P",                 InstanceFault::RepeatedProject(0, 2)),
-        ("L:5",       "P:L:1 Q:L:1",       "A:P B:Q:P:Q C",         InstanceFault::RepeatedProject(1, 3)),
-        ("L:5",       "P:L:1",             "A:N B",                 InstanceFault::UnknownProject(0, 1)),
-    ]
-}
+static FAULTS: [(&str, &str, &str, InstanceFault); 14] = [
+    ("L:501",     "",                  "",                      InstanceFault::Limit),
+    ("L:5 L:501", "P:N:1",             "A A",                   InstanceFault::Limit),
+    ("L:5",       "P:L:501",           "",                      InstanceFault::Limit),
+    ("L:5 K:1 L:1", "P:N:1",           "",                      InstanceFault::RepeatedCode(Roll::Supervisors, 2)),
+    ("L:5",       "P:L:1 P:N:1",       "A:P",                   InstanceFault::RepeatedCode(Roll::Projects, 1)),
+    ("L:5",       "P:N:1",             "A:P A:P",               InstanceFault::RepeatedCode(Roll::Students, 1)),
+    ("L:5",       "P:L:1 Q:N:1",       "A",                     InstanceFault::UnknownSupervisor(1)),
+    ("L:5",       "P:L:1",             "A:P B",                 InstanceFault::ListLength(1)),
+    ("L:5",       "P:L:1",             "A:P:P:P:P:P:P:P:P:P",   InstanceFault::ListLength(0)),
+    ("L:5",       "P:L:1",             "A:P:N",                 InstanceFault::UnknownProject(0, 2)),
+    ("L:5",       "P:L:1",             "A:P B:P:N:P",           InstanceFault::UnknownProject(1, 2)),
+    ("L:5",       "P:L:1",             "A:P:P",                 InstanceFault::RepeatedProject(0, 2)),
+    ("L:5",       "P:L:1 Q:L:1",       "A:P B:Q:P:Q C",         InstanceFault::RepeatedProject(1, 3)),
+    ("L:5",       "P:L:1",             "A:N B",                 InstanceFault::UnknownProject(0, 1)),
+];
 
 /// The fault that these rolls have, if any.
 fn fault_of(
@@ -47,7 +45,7 @@ fn fault_of(
 
 #[test]
 fn the_first_fault_of_rolls_is_named(rt: HostRuntime) -> Result<(), Fail> {
-    for (supervisor_roll, project_roll, student_roll, want) in faults().as_slice() {
+    for (supervisor_roll, project_roll, student_roll, want) in FAULTS.as_slice() {
         let fault = fault_of(rt.alloc(), supervisor_roll, project_roll, student_roll)?;
         holds(&rt, fault == Some(*want), student_roll);
     }
@@ -100,23 +98,21 @@ fn an_instance_lends_its_rolls(rt: HostRuntime) -> Result<(), Fail> {
 // A lists P; B lists R, P; C lists Z, P, R; D lists R, Q, P. P has quota 2, Q and R have 1, Z has 0; L, who offers P, Q
 // and Z, has 2, and K, who offers R, has 1. Places, their first fault, and without one their size and profile.
 #[rattlefmt::skip]
-fn matchings() -> [(&'static str, Option<MatchFault>, usize, [u32; RANKS]); 13] {
-    [
-        ("----", None,                                0, [0, 0, 0, 0, 0, 0, 0, 0]),
-        ("1---", None,                                1, [1, 0, 0, 0, 0, 0, 0, 0]),
-        ("12--", None,                                2, [1, 1, 0, 0, 0, 0, 0, 0]),
-        ("--3-", None,                                1, [0, 0, 1, 0, 0, 0, 0, 0]),
-        ("11-2", None,                                3, [2, 1, 0, 0, 0, 0, 0, 0]),
-        ("---",  Some(MatchFault::Length),            0, [0, 0, 0, 0, 0, 0, 0, 0]),
-        ("-3-4", Some(MatchFault::Place(1)),          0, [0, 0, 0, 0, 0, 0, 0, 0]),
-        ("1--0", Some(MatchFault::Place(3)),          0, [0, 0, 0, 0, 0, 0, 0, 0]),
-        ("--1-", Some(MatchFault::ProjectOver(3)),    0, [0, 0, 0, 0, 0, 0, 0, 0]),
-        ("121-", Some(MatchFault::ProjectOver(3)),    0, [0, 0, 0, 0, 0, 0, 0, 0]),
-        ("12-3", Some(MatchFault::ProjectOver(0)),    0, [0, 0, 0, 0, 0, 0, 0, 0]),
-        ("-1-1", Some(MatchFault::ProjectOver(2)),    0, [0, 0, 0, 0, 0, 0, 0, 0]),
-        ("12-2", Some(MatchFault::SupervisorOver(0)), 0, [0, 0, 0, 0, 0, 0, 0, 0]),
-    ]
-}
+static MATCHINGS: [(&str, Option<MatchFault>, usize, [u32; RANKS]); 13] = [
+    ("----", None,                                0, [0, 0, 0, 0, 0, 0, 0, 0]),
+    ("1---", None,                                1, [1, 0, 0, 0, 0, 0, 0, 0]),
+    ("12--", None,                                2, [1, 1, 0, 0, 0, 0, 0, 0]),
+    ("--3-", None,                                1, [0, 0, 1, 0, 0, 0, 0, 0]),
+    ("11-2", None,                                3, [2, 1, 0, 0, 0, 0, 0, 0]),
+    ("---",  Some(MatchFault::Length),            0, [0, 0, 0, 0, 0, 0, 0, 0]),
+    ("-3-4", Some(MatchFault::Place(1)),          0, [0, 0, 0, 0, 0, 0, 0, 0]),
+    ("1--0", Some(MatchFault::Place(3)),          0, [0, 0, 0, 0, 0, 0, 0, 0]),
+    ("--1-", Some(MatchFault::ProjectOver(3)),    0, [0, 0, 0, 0, 0, 0, 0, 0]),
+    ("121-", Some(MatchFault::ProjectOver(3)),    0, [0, 0, 0, 0, 0, 0, 0, 0]),
+    ("12-3", Some(MatchFault::ProjectOver(0)),    0, [0, 0, 0, 0, 0, 0, 0, 0]),
+    ("-1-1", Some(MatchFault::ProjectOver(2)),    0, [0, 0, 0, 0, 0, 0, 0, 0]),
+    ("12-2", Some(MatchFault::SupervisorOver(0)), 0, [0, 0, 0, 0, 0, 0, 0, 0]),
+];
 
 /// Compares the fault of each row's places, and where they have none their size and profile.
 fn compare_matchings(
@@ -145,5 +141,5 @@ fn the_first_fault_of_a_matching_is_named(rt: HostRuntime) -> Result<(), Fail> {
         "P:L:2 Q:L:1 R:K:1 Z:L:0",
         "A:P B:R:P C:Z:P:R D:R:Q:P",
     )?;
-    compare_matchings(rt.alloc(), &rt, &instance, matchings().as_slice())
+    compare_matchings(rt.alloc(), &rt, &instance, MATCHINGS.as_slice())
 }

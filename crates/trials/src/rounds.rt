@@ -27,16 +27,14 @@ type Round = (
 
 // Supervisors, projects and students; then the places of the one best matching, and its profile, worked out by hand.
 #[rattlefmt::skip]
-fn rounds() -> [Round; 6] {
-    [
-        ("L:5",     "P:L:1 Q:L:1 Z:L:0",                 "A:P:Q C:Z:P",       "22", [0, 2, 0, 0, 0, 0, 0, 0]),
-        ("L:5",     "P:L:1 Q:L:1",                       "A:P:Q B:Q:P",       "11", [2, 0, 0, 0, 0, 0, 0, 0]),
-        ("L:5",     "U:L:1 V:L:1 X:L:1 Y:L:0 Z:L:0",     "A:X:V C:Z:X:Y:U",   "14", [1, 0, 0, 1, 0, 0, 0, 0]),
-        ("K:1 L:1", "P:L:1 Q:L:1 R:K:1",                 "A:P B:Q:R",         "12", [1, 1, 0, 0, 0, 0, 0, 0]),
-        ("L:5",     "P:L:1",                             "",                  "",   [0, 0, 0, 0, 0, 0, 0, 0]),
-        ("L:0",     "P:L:1",                             "A:P",               "-",  [0, 0, 0, 0, 0, 0, 0, 0]),
-    ]
-}
+static ROUNDS: [Round; 6] = [
+    ("L:5",     "P:L:1 Q:L:1 Z:L:0",                 "A:P:Q C:Z:P",       "22", [0, 2, 0, 0, 0, 0, 0, 0]),
+    ("L:5",     "P:L:1 Q:L:1",                       "A:P:Q B:Q:P",       "11", [2, 0, 0, 0, 0, 0, 0, 0]),
+    ("L:5",     "U:L:1 V:L:1 X:L:1 Y:L:0 Z:L:0",     "A:X:V C:Z:X:Y:U",   "14", [1, 0, 0, 1, 0, 0, 0, 0]),
+    ("K:1 L:1", "P:L:1 Q:L:1 R:K:1",                 "A:P B:Q:R",         "12", [1, 1, 0, 0, 0, 0, 0, 0]),
+    ("L:5",     "P:L:1",                             "",                  "",   [0, 0, 0, 0, 0, 0, 0, 0]),
+    ("L:0",     "P:L:1",                             "A:P",               "-",  [0, 0, 0, 0, 0, 0, 0, 0]),
+];
 
 /// Compares the profile of what is solved, and checks it.
 fn compare_solved(
@@ -66,7 +64,7 @@ fn compare_rounds(alloc: Global, rt: &impl Abort, rows: &[Round]) -> Result<(), 
 
 #[test]
 fn worked_rounds_are_solved(rt: HostRuntime) -> Result<(), Fail> {
-    compare_rounds(rt.alloc(), &rt, rounds().as_slice())
+    compare_rounds(rt.alloc(), &rt, ROUNDS.as_slice())
 }
 
 /// The places of a better matching, if an audit has one.

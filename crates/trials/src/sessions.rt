@@ -53,15 +53,13 @@ type Rolls = (&'static str, &'static str, &'static str);
 
 // Supervisors, projects and students.
 #[rattlefmt::skip]
-fn rolls() -> [Rolls; 5] {
-    [
-        ("L:5",     "P:L:1 Q:L:1",                       "A:P:Q B:Q:P"),
-        ("L:5",     "U:L:1 V:L:1 X:L:1 Y:L:0 Z:L:0",     "A:X:V C:Z:X:Y:U"),
-        ("K:1 L:1", "P:L:1 Q:L:1 R:K:1",                 "A:P B:Q:R C:P:Q:R"),
-        ("L:3",     "P:L:2 Q:L:2",                       "A:P B:P:Q C:P:Q D:Q:P E:Q"),
-        ("L:5",     "P:L:1",                             ""),
-    ]
-}
+static ROLLS: [Rolls; 5] = [
+    ("L:5",     "P:L:1 Q:L:1",                       "A:P:Q B:Q:P"),
+    ("L:5",     "U:L:1 V:L:1 X:L:1 Y:L:0 Z:L:0",     "A:X:V C:Z:X:Y:U"),
+    ("K:1 L:1", "P:L:1 Q:L:1 R:K:1",                 "A:P B:Q:R C:P:Q:R"),
+    ("L:3",     "P:L:2 Q:L:2",                       "A:P B:P:Q C:P:Q D:Q:P E:Q"),
+    ("L:5",     "P:L:1",                             ""),
+];
 
 /// Compares the size and the profile that a session of each row tells with those of the matching that is solved.
 fn compare_with_solved(alloc: Global, rt: &impl Abort, rows: &[Rolls]) -> Result<(), Fail> {
@@ -80,5 +78,5 @@ fn compare_with_solved(alloc: Global, rt: &impl Abort, rows: &[Rolls]) -> Result
 
 #[test]
 fn sessions_tell_what_is_solved(rt: HostRuntime) -> Result<(), Fail> {
-    compare_with_solved(rt.alloc(), &rt, rolls().as_slice())
+    compare_with_solved(rt.alloc(), &rt, ROLLS.as_slice())
 }
