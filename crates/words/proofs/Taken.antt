@@ -168,22 +168,18 @@ long_is : (c : List Rule) (again : Bool) (waiting : Waiting) (word : Text) (h : 
 long_is c again waiting word h each free None e = short_is c again waiting word h each free (short_of word) e
 long_is c again waiting word h each free (Some p) e = absurd (long_fails c again p.0 p.1 h each e)
 
+two_dashes : (s : Shape) (waiting : Waiting) (position : ℕ) (word : Text) (h : Held) → Each Plain s.rules → IsFree waiting
+    → (b : Bool) → cond b [] (flag_word_fault s.rules s.args_override_self (long_of word) word h) ≡ []
+    → IsPlainMet h (cond b (h, trailing position) (long_or_other s.rules waiting word (long_of word) h))
+two_dashes s waiting position word h each free true e = (record { rows = refl; pending = refl }, tt)
+two_dashes s waiting position word h each free false e = long_is s.rules s.args_override_self waiting word h each free (long_of word) e
+
 word_is : (s : Shape) (is_trailing : Bool) (waiting : Waiting) (position : ℕ) (word : Text) (h : Held) → Each Plain s.rules → IsFree waiting
     → word_fault s [] is_trailing waiting word h ≡ [] → IsPlainMet h (word_met s.rules [] is_trailing waiting position word h)
 word_is s true waiting position word h each free e = (record { rows = refl; pending = refl }, tt)
 word_is s false (option id) position word h each free e = absurd free
-word_is s false idle position word h each free e = go (bytes_eq word (45 ∷ 45 ∷ [])) e
-  where
-    go : (b : Bool) → cond b [] (flag_word_fault s.rules s.args_override_self (long_of word) word h) ≡ []
-        → IsPlainMet h (cond b (h, trailing position) (long_or_other s.rules idle word (long_of word) h))
-    go true e = (record { rows = refl; pending = refl }, tt)
-    go false e = long_is s.rules s.args_override_self idle word h each tt (long_of word) e
-word_is s false positional position word h each free e = go (bytes_eq word (45 ∷ 45 ∷ [])) e
-  where
-    go : (b : Bool) → cond b [] (flag_word_fault s.rules s.args_override_self (long_of word) word h) ≡ []
-        → IsPlainMet h (cond b (h, trailing position) (long_or_other s.rules positional word (long_of word) h))
-    go true e = (record { rows = refl; pending = refl }, tt)
-    go false e = long_is s.rules s.args_override_self positional word h each tt (long_of word) e
+word_is s false idle position word h each free e = two_dashes s idle position word h each tt (bytes_eq word (45 ∷ 45 ∷ [])) e
+word_is s false positional position word h each free e = two_dashes s positional position word h each tt (bytes_eq word (45 ∷ 45 ∷ [])) e
 
 -- ---- rows
 

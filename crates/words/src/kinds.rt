@@ -60,11 +60,7 @@ pub(crate) fn report_words() -> [&'static str; 4]
 pub(crate) fn import_kind(word: &str) -> Option<ImportKind>
     ensures { result ≡ find (λ k. bytes_eq (word_of k) word.now) import_kinds }
 {
-    IMPORT_KINDS
-        .as_slice()
-        .iter()
-        .copied()
-        .find(|kind| kind.word() == word)
+    IMPORT_KINDS.iter().copied().find(|k| k.word() == word)
 }
 
 /// The kind of reports that has this word.
@@ -72,8 +68,7 @@ pub(crate) fn report_kind(word: &str) -> Option<ReportKind>
     ensures { result ≡ find (λ k. bytes_eq (report_word k) word.now) report_kinds }
 {
     REPORT_KINDS
-        .as_slice()
         .iter()
         .copied()
-        .find(|kind| report_word(*kind) == word)
+        .find(|k| report_word(*k) == word)
 }
