@@ -69,28 +69,27 @@ static FAULTY_TEXTS: [(&str, &str, usize); 38] = [
     ("a byte that is no text",      "S,\u{ff},5\n", 1),
 ];
 
-/// The round without pairs and prices.
-const ALONE: &str = "S,L,5\nP,P,L,1\nP,Q,L,1\nP,Z,L,0\nC,A,P,Q\nC,C,Z,P\n";
-
-/// Compares what is written of the worked round.
-fn compare_written(alloc: Global, rt: &impl Abort, parts: &RoundParts) -> Result<(), Fail> {
-    let alone = write_round(alloc, &parts.instance, None)?;
-    holds(rt, alone.as_str() == ALONE, "the round alone");
-    let is_best = check(&parts.instance, &parts.matching, &parts.prices).is_ok();
-    holds(rt, is_best, "a best matching");
-    let pairs = Some((&parts.matching, &parts.prices));
-    let text = write_round(alloc, &parts.instance, pairs)?;
-    holds(rt, text.as_str() == WORKED, "the whole round");
-    Ok(())
-}
-
 #[test]
 fn the_worked_text_is_read_and_written(rt: HostRuntime) -> Result<(), Fail> {
-    let parts = read_round(rt.alloc(), WORKED.as_bytes())?;
-    holds(&rt, parts.instance.supervisor_count() == 1, "supervisors");
-    holds(&rt, parts.instance.project_count() == 3, "projects");
-    holds(&rt, parts.instance.student_count() == 2, "students");
-    compare_written(rt.alloc(), &rt, &parts)
+    let alloc = rt.alloc();
+    let parts = read_round(alloc, WORKED.as_bytes())?;
+    let instance = &parts.instance;
+    assert_eq!(rt; instance.supervisor_count(), 1);
+    assert_eq!(rt; instance.project_count(), 3);
+    assert_eq!(rt; instance.student_count(), 2);
+    let alone = write_round(alloc, instance, None)?;
+    assert_eq!(rt;
+        alone.as_str(),
+        "S,L,5\nP,P,L,1\nP,Q,L,1\nP,Z,L,0\nC,A,P,Q\nC,C,Z,P\n"
+    );
+    match check(instance, &parts.matching, &parts.prices) {
+        Ok(()) => {
+            let text = write_round(alloc, instance, Some((&parts.matching, &parts.prices)))?;
+            assert_eq!(rt; text.as_str(), WORKED);
+        }
+        Err(fault) => assert!(rt; false, "{fault:?}"),
+    }
+    Ok(())
 }
 
 /// The first fault of a text, if any.

@@ -93,8 +93,8 @@ fn the_first_place_counts_first(rt: HostRuntime) {
 fn sums_are_by_place(rt: HostRuntime) {
     let v = Lex(row(1, -7, 3));
     let w = Lex(row(1, 1, 1));
-    holds(&rt, v.span() == 7, "a span of 7");
-    holds(&rt, w.span() == 1, "a span of 1");
+    assert!(rt; v.span() == 7);
+    assert!(rt; w.span() == 1);
     holds(&rt, v.plus(w) == Lex(row(2, -6, 4)), "a sum");
     holds(&rt, v.minus(w) == Lex(row(0, -8, 2)), "a difference");
     holds(&rt, Lex::zero().span() == 0, "zero");
