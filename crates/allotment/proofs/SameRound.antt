@@ -60,13 +60,3 @@ greedy_same l m same M h =
       first = λ N n e before. h.first N (back N n) e
           (subst (λ (c : List ℕ → List (List ℕ)). Precedes RANKS (λ k. pos (profile_by c M k)) (λ k. pos (profile_by c N k))) (sym (choices_same l m same)) before);
     }
-
--- a list of what f gives at the numbers from k on
-pub counted_is : (n k : ℕ) (xs : List ℕ) (f : ℕ → ℕ) → length xs ≡ n → ((j : ℕ) → j < n → slice_index xs j ≡ f (k + j)) → xs ≡ counted k n f
-counted_is zero k [] f e h = refl
-counted_is zero k (x ∷ xs) f e h = absurd (omega (arith, e))
-counted_is (suc n) k [] f e h = absurd (omega (arith, e))
-counted_is (suc n) k (x ∷ xs) f e h =
-    let first : x ≡ f k = h 0 (omega arith) ∙ ap f (omega arith) in
-    let rest = counted_is n (suc k) xs f (omega (arith, e)) (λ j l. h (suc j) (omega (arith, l)) ∙ ap f (omega arith)) in
-    λ i. first i ∷ rest i

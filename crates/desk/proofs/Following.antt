@@ -63,32 +63,25 @@ meets o n (request.Import id kind bytes) reply kept fit allowed change made sits
 
 -- ---- what changes nothing
 
-read_stays : (o : State) (p : Plain) → is_read p ≡ true → plain_fate o p ≡ Stays
-read_stays o (PutSupervisor code label quota) read = cc
-read_stays o (PutProject code label supervisor quota) read = cc
-read_stays o (PutStudent code label) read = cc
-read_stays o OpenRound read = cc
-read_stays o (PutList student choices) read = cc
-read_stays o (DropList student) read = cc
-read_stays o ReopenRound read = cc
-read_stays o (GetSupervisor code) read = refl
-read_stays o (GetProject code) read = refl
-read_stays o (GetStudent code) read = refl
-read_stays o (GetRound round) read = refl
+-- a read leaves the session and the office
+read_leaves : (o : State) (p : Plain) → is_read p ≡ true → (plain_fate o p ≡ Stays) × (after_plain p o ≡ o)
+read_leaves o (PutSupervisor code label quota) read = cc
+read_leaves o (PutProject code label supervisor quota) read = cc
+read_leaves o (PutStudent code label) read = cc
+read_leaves o OpenRound read = cc
+read_leaves o (PutList student choices) read = cc
+read_leaves o (DropList student) read = cc
+read_leaves o ReopenRound read = cc
+read_leaves o (GetSupervisor code) read = (refl, refl)
+read_leaves o (GetProject code) read = (refl, refl)
+read_leaves o (GetStudent code) read = (refl, refl)
+read_leaves o (GetRound round) read = (refl, refl)
 
--- a read leaves the office
+read_stays : (o : State) (p : Plain) → is_read p ≡ true → plain_fate o p ≡ Stays
+read_stays o p read = (read_leaves o p read).0
+
 pub read_same : (o : State) (p : Plain) → is_read p ≡ true → after_plain p o ≡ o
-read_same o (PutSupervisor code label quota) read = cc
-read_same o (PutProject code label supervisor quota) read = cc
-read_same o (PutStudent code label) read = cc
-read_same o OpenRound read = cc
-read_same o (PutList student choices) read = cc
-read_same o (DropList student) read = cc
-read_same o ReopenRound read = cc
-read_same o (GetSupervisor code) read = refl
-read_same o (GetProject code) read = refl
-read_same o (GetStudent code) read = refl
-read_same o (GetRound round) read = refl
+read_same o p read = (read_leaves o p read).1
 
 -- where the fate is to stay, the session that stays has gone on
 pub goes_still : (o : State) (q : Request) (answer : Result Reply Refusal) (old new : Option Sitting) → fate_of o q ≡ Stays → new ≡ old → GoesOn o q answer old new

@@ -1,3 +1,4 @@
+pub mod Counted
 pub mod Made
 pub mod Listing
 pub mod Few

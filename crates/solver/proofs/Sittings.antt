@@ -1,7 +1,8 @@
 -- A session before its first student, and with one more: its network's new list is the student's with the weights, so the session has it too, and
 -- the instance stays sound.
-use Rattle.std.proofs.Common.{◌≡◌, ◌≢◌, ℕ, ◌+◌, ◌*◌, ◌<◌, ◌≤◌, List, [], ◌∷◌, ◌++◌, length, map, sum_by, All, AllPairs, Bool, refl, ap, sym, ◌∙◌, arith, subst}
+use Rattle.std.proofs.Common.{◌≡◌, ◌≢◌, ℕ, ◌+◌, ◌*◌, ◌<◌, ◌≤◌, List, [], ◌∷◌, ◌++◌, length, map, sum_by, All, AllPairs, Bool, Option, Some, None, get_or, slice_get, refl, ap, sym, ◌∙◌, arith, subst}
 use Rattle.std.proofs.lemmas.List.{length-map, length_push, map_push}
+use Rattle.std.proofs.lemmas.Option.{get_or_from_slice_get}
 use Rattle.std.proofs.lemmas.List.Elements.{All-push}
 use Rattle.std.proofs.lemmas.List.Sums.{sum_by-cons}
 use Rattle.spa.specs.declared.TheConstants.{PLACES, RANKS, MOST_STUDENTS}
@@ -31,6 +32,18 @@ student_known v students s kept h =
     let count = kept.count in
     let e = length-map v.lists (map (λ (e : ℕ × Places PLACES). e.0)) in
     omega (arith, h, count, e)
+
+-- a student and the place in the list, or none
+record IsHeld (v : Seen (Places PLACES)) (s : ℕ) (place : Option ℕ) : Type 0 where
+  known : s < length (shape_of v).students
+  held : s < length v.places
+  here : get_or v.places s None ≡ place
+
+-- the place that is told of a student who was admitted is held
+pub place_held : (v : Seen (Places PLACES)) (students s : ℕ) (place : Option ℕ) → IsKept v students → length v.places ≡ length (shape_of v).students → s < students → slice_get v.places s ≡ Some place → IsHeld v s place
+place_held v students s place kept each h told =
+    let known = student_known v students s kept h in
+    record { known = known; held = omega (arith, known, each); here = get_or_from_slice_get v.places s place None told }
 
 -- a list has as many entries without their worths
 entries_same : (ls : List (List (ℕ × Places PLACES))) → sum_by length (map (map (λ e. e.0)) ls) ≡ sum_by length ls

@@ -24,11 +24,11 @@ use Rattle.rolls.specs.declared.row.RowKey.{RowKey}
 use Rattle.rolls.specs.declared.row.RowKey.TheVariants as key
 use Rattle.rolls.specs.Rows.{key_of, same_row}
 use Rattle.tables.specs.declared.table.Table.{Table}
-use Rattle.tables.specs.declared.table.Table.TheVariants.{Edition, Supervisor, Project, Student, Round, Choice, Placement, Import}
+use Rattle.tables.specs.declared.table.Table.TheVariants.{Edition}
 use Rattle.tables.specs.Table.{same_table}
 use Rattle.tables.proofs.Runs.{same_table_is, same_table_self}
 use Rattle.tables.proofs.Testing.{equal_int}
-use Rattle.store.specs.Rows.{IsRoll, columns, is_in, columns_of, rolls, table_of}
+use Rattle.store.specs.Rows.{IsRoll, columns, is_in, columns_of, rolls, table_at_key, table_of}
 use Rattle.store.proofs.Keys.{dropped}
 
 natural : ℤ → ℕ
@@ -47,16 +47,6 @@ pub equal_text : (a b : List ℕ) → equal Binary (Text a) (Text b) ≡ bytes_e
 unfolding binary
 equal_text a b = truth_is _ ∙ text_order a b
 
--- the table of a key
-abbrev pub table_at_key : RowKey → Table
-table_at_key (key.Supervisor code) = Supervisor
-table_at_key (key.Project code) = Project
-table_at_key (key.Student code) = Student
-table_at_key (key.Round number) = Round
-table_at_key (key.Choice round student place) = Choice
-table_at_key (key.Placement student) = Placement
-table_at_key (key.Import id) = Import
-
 -- the columns of a key
 abbrev pub key_columns : RowKey → Cells
 key_columns (key.Supervisor code) = Text code ∷ []
@@ -66,16 +56,6 @@ key_columns (key.Round number) = Int (pos number) ∷ []
 key_columns (key.Choice round student place) = Int (pos round) ∷ Text student ∷ Int (pos place) ∷ []
 key_columns (key.Placement student) = Text student ∷ []
 key_columns (key.Import id) = Text id ∷ []
-
--- a row has the table of its key
-pub same_tables : (r : Row) → table_at_key (key_of r) ≡ table_of r
-same_tables (row.Supervisor c l n) = refl
-same_tables (row.Project c l s n) = refl
-same_tables (row.Student c l) = refl
-same_tables (row.Round n o) = refl
-same_tables (row.Choice n s k p) = refl
-same_tables (row.Placement s n p k) = refl
-same_tables (row.Import i w b n) = refl
 
 -- each key is of the table of a roll
 pub in_rolls : (k : RowKey) → IsRoll (table_at_key k)

@@ -13,12 +13,12 @@ use Rattle.tables.specs.Table.{table_at}
 use Rattle.tables.specs.Keyed.{Stands}
 use Rattle.tables.specs.Writes.{Puts, Removes, WritesOnly, with_row, without}
 use Rattle.tables.proofs.Runs.{stands_apart, decide_table}
-use Rattle.store.specs.Rows.{IsRoll, columns, columns_of, table_of}
+use Rattle.store.specs.Rows.{AreRowsAt, IsRoll, columns, columns_of, table_at_key, table_of}
 use Rattle.store.specs.Tables.{TablesHold, first_edition}
 use Rattle.sqlite_rules.proofs.ListLemmas.{all_has}
 use Rattle.store.specs.Saving.{AppliesOne, Spares}
 use Rattle.store.proofs.Keys.{dropped, rows_put, rows_taken}
-use Rattle.store.proofs.Columns.{table_at_key, key_columns, same_tables, in_rolls, is_of, columns_without, columns_beside, columns_more, columns_same}
+use Rattle.store.proofs.Columns.{key_columns, in_rolls, is_of, columns_without, columns_beside, columns_more, columns_same}
 
 module _ (old new : Database) (rows : RowKey → Option Row) (t : TablesHold old rows) (q : Table) (kept : IsRoll q) (only : WritesOnly (t.places q).tree old new) where
   edition_stays : Stands (table_at Edition) t.edition first_edition new
@@ -36,6 +36,20 @@ module _ (old new : Database) (rows : RowKey → Option Row) (t : TablesHold old
         subst (λ all. Stands (table_at table) (t.places table) all new) (sym (others table other)) there
   ]
 
+  -- so the tables hold these rows
+  held_by : (list : List Row) (written : List Cells) (others : RowKey → Option Row) → AreRowsAt list others → Stands (table_at q) (t.places q) written new → columns_of q list ≡ written
+      → ((table : Table) → table ≢ q → columns_of table list ≡ columns_of table t.list) → TablesHold new others
+  held_by list written rows' at stands own others = record {
+    edition = t.edition;
+    places = t.places;
+    edition_apart = t.edition_apart;
+    apart = t.apart;
+    list = list;
+    at = at;
+    editions = edition_stays;
+    rolls = rolls_are list written stands own others;
+  }
+
   -- what is written spares the other tables
   spared : Spares old new
   spared = record { schema = only.schema; others = λ any h apart. all_has _ old.schema.tables any only.others h (apart q kept (t.places q) (t.rolls q kept).listed) }
@@ -46,23 +60,14 @@ unfolding AppliesOne Puts
 hold_put r old new puts inert rows t =
     let q = table_of r in
     let k = key_of r in
-    let kept : IsRoll q = subst IsRoll (same_tables r) (in_rolls k) in
+    let kept : IsRoll q = in_rolls k in
     let done = puts (t.places q) (columns_of q t.list) (inert q kept (t.places q) (t.rolls q kept).listed) (t.rolls q kept) in
     let list : List Row = r ∷ dropped k t.list in
     let own : columns_of q list ≡ with_row (key_columns k) (columns r) (columns_of q t.list) =
-    columns_more r (dropped k t.list) ∙ ap (λ more. columns r ∷ more) (subst (λ x. columns_of x (dropped k t.list) ≡ without (key_columns k) (columns_of x t.list)) (same_tables r) (columns_without k t.list)) in
+    columns_more r (dropped k t.list) ∙ ap (λ more. columns r ∷ more) (columns_without k t.list) in
     let others : (table : Table) → table ≢ q → columns_of table list ≡ columns_of table t.list = λ table other.
-    columns_same table r (dropped k t.list) (false_from_ne_true _ (λ h. other (is_of table r h))) ∙ columns_beside table k t.list (λ e. other (e ∙ same_tables r)) in (
-      record {
-        edition = t.edition;
-        places = t.places;
-        edition_apart = t.edition_apart;
-        apart = t.apart;
-        list = list;
-        at = rows_put t.list rows r t.at;
-        editions = edition_stays old new rows t q kept done.1;
-        rolls = rolls_are old new rows t q kept done.1 list (with_row (key_columns k) (columns r) (columns_of q t.list)) done.0 own others;
-      },
+    columns_same table r (dropped k t.list) (false_from_ne_true _ (λ h. other (is_of table r h))) ∙ columns_beside table k t.list other in (
+      held_by old new rows t q kept done.1 list (with_row (key_columns k) (columns r) (columns_of q t.list)) _ (rows_put t.list rows r t.at) done.0 own others,
       spared old new rows t q kept done.1,
     )
 
@@ -74,15 +79,6 @@ hold_take k old new removes inert rows t =
     let kept = in_rolls k in
     let done = removes (t.places q) (columns_of q t.list) (inert q kept (t.places q) (t.rolls q kept).listed) (t.rolls q kept) in
     let list : List Row = dropped k t.list in (
-      record {
-        edition = t.edition;
-        places = t.places;
-        edition_apart = t.edition_apart;
-        apart = t.apart;
-        list = list;
-        at = rows_taken t.list rows k t.at;
-        editions = edition_stays old new rows t q kept done.1;
-        rolls = rolls_are old new rows t q kept done.1 list (without (key_columns k) (columns_of q t.list)) done.0 (columns_without k t.list) (λ table other. columns_beside table k t.list other);
-      },
+      held_by old new rows t q kept done.1 list (without (key_columns k) (columns_of q t.list)) _ (rows_taken t.list rows k t.at) done.0 (columns_without k t.list) (λ table other. columns_beside table k t.list other),
       spared old new rows t q kept done.1,
     )

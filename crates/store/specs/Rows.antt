@@ -9,6 +9,8 @@ use Rattle.tables.specs.Table.{same_table}
 use Rattle.rolls.specs.declared.row.Row.{Row}
 use Rattle.rolls.specs.declared.row.Row.TheVariants as row
 use Rattle.rolls.specs.declared.row.RowKey.{RowKey}
+use Rattle.rolls.specs.declared.row.RowKey.TheVariants as key
+use Rattle.rolls.specs.Rows.{key_of}
 use Rattle.rolls.specs.From.{are_apart, row_in}
 use Rattle.rolls.specs.Kinds.{word_of}
 
@@ -24,15 +26,19 @@ IsRoll table = Has rolls table
 abbrev pub kept : List Table
 kept = Edition ∷ rolls
 
+-- the table of a key
+abbrev pub table_at_key : RowKey → Table
+table_at_key (key.Supervisor code) = Supervisor
+table_at_key (key.Project code) = Project
+table_at_key (key.Student code) = Student
+table_at_key (key.Round number) = Round
+table_at_key (key.Choice round student place) = Choice
+table_at_key (key.Placement student) = Placement
+table_at_key (key.Import id) = Import
+
 -- the table of a row
 abbrev pub table_of : Row → Table
-table_of (row.Supervisor code label quota) = Supervisor
-table_of (row.Project code label supervisor quota) = Project
-table_of (row.Student code label) = Student
-table_of (row.Round number is_open) = Round
-table_of (row.Choice round student place project) = Choice
-table_of (row.Placement student round project rank) = Placement
-table_of (row.Import id kind bytes rows) = Import
+table_of r = table_at_key (key_of r)
 
 -- the columns of a row
 abbrev pub columns : Row → Cells

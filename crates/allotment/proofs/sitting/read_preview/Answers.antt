@@ -8,7 +8,8 @@ use Rattle.spa.specs.Coded.{CodePair, codes_of, profile_by_codes, IsGreedyMaximu
 use Rattle.rolls.specs.Instances.{round_instance}
 use Rattle.rolls.specs.Closing.{profile_of}
 use Rattle.rolls.specs.declared.request.Reply.TheVariants as reply
-use Rattle.allotment.proofs.SameRound.{choices_same, greedy_same, counted_is, profile_by}
+use Rattle.allotment.proofs.SameRound.{choices_same, greedy_same, profile_by}
+use Rattle.office.proofs.Counted.{counted_is}
 use Rattle.allotment.proofs.sitting.read_preview.Goals as goal
 
 pub returns : goal.returns

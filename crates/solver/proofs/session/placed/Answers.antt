@@ -3,7 +3,7 @@ use Rattle.std.proofs.lemmas.Option.{get_or_from_slice_get}
 use Rattle.spa.specs.Shape.{Shape}
 use Rattle.spa.proofs.Places.{left_none, left_some}
 use Rattle.network.specs.Seen.{shape_of}
-use Rattle.solver.proofs.Sittings.{student_known}
+use Rattle.solver.proofs.Sittings.{place_held}
 use Rattle.solver.proofs.session.placed.Goals as goal
 use Rattle.solver.proofs.session.placed.Goals.{in-Some, in_default}
 
@@ -12,13 +12,10 @@ loop-student-preserved c =
     let i : Shape = shape_of c.args.network.now in
     let ks : List (Option ℕ) = c.args.network.now.places in
     let s : ℕ = c.loop-student.student in
-    let each = c.requires.places.one_each in
-    let known : s < length i.students = student_known c.args.network.now c.args.students s c.requires.kept c.loop-student-test.true in
-    let held : s < length ks = omega (arith, known, each) in
-    let here : get_or ks s None ≡ c.place_of.result = get_or_from_slice_get ks s c.place_of.result None c.place_of.ensures in
+    let it = place_held c.args.network.now c.args.students s c.place_of.result c.requires.kept c.requires.places.one_each c.loop-student-test.true c.place_of.ensures in
     let so_far = c.loop-student.invariant.so_far in
     let small = c.loop-student.invariant.small in
     elim c.match-place_of.branch [
-      | in-Some w ↦ let r = left_some s _ i.students ks known held (here ∙ w.in-Some.is) in record { so_far = omega (arith, r, so_far, w.placed-is); small = omega (arith, small, w.placed-is) }
-      | in_default w ↦ let r = left_none s i.students ks known held (here ∙ w.in_default.is) in record { so_far = omega (arith, r, so_far, w.placed-is); small = omega (arith, small, w.placed-is) }
+      | in-Some w ↦ let r = left_some s _ i.students ks it.known it.held (it.here ∙ w.in-Some.is) in record { so_far = omega (arith, r, so_far, w.placed-is); small = omega (arith, small, w.placed-is) }
+      | in_default w ↦ let r = left_none s i.students ks it.known it.held (it.here ∙ w.in_default.is) in record { so_far = omega (arith, r, so_far, w.placed-is); small = omega (arith, small, w.placed-is) }
     ]
