@@ -25,6 +25,8 @@ use Rattle.words.specs.declared.line.Line.TheVariants as line
 use Rattle.words.specs.declared.line.LineFault.{LineFault}
 use Rattle.words.specs.declared.line.LineFault.TheVariants.{Memory, Help, Fault}
 use Rattle.words.specs.Reading.{IsAnswer}
+use Rattle.cli.specs.declared.unread.Unread.{Unread}
+use Rattle.cli.specs.declared.unread.Unread.TheVariants as unread
 use Rattle.wire.specs.declared.outcome.Served.{Served}
 use Rattle.wire.specs.declared.outcome.StreamFault.{StreamFault}
 
@@ -159,6 +161,11 @@ MayCome (line.CloseRound database) o = Asks request.Close o
 MayCome (line.Report database kind round) o = Asks (request.Report kind round) o
 MayCome (line.Solve file) o = OnFile IsSolved o
 MayCome (line.Check file) o = OnFile IsChecked o
+
+-- what is told where the arguments cannot be read
+abbrev pub of_unread : Unread → Outcome
+of_unread unread.Memory = refused no.Memory
+of_unread unread.NotUtf8 = tells 2 (codes "error: invalid UTF-8 was detected in one or more arguments\n\nUsage: spadesk <COMMAND>\n\nFor more information, try '--help'.\n")
 
 -- what words may come to: what their line does, or their fault
 abbrev pub MayComeOf : Result Line LineFault → Outcome → Type 0

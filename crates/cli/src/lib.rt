@@ -5,12 +5,14 @@
 //!
 //! Promised: what is printed, where and with which status is an outcome of the line that `clap` reads from the words: a
 //! round file's result, or the answer of one step of a fit office, or the lines of the connections served; where a
-//! writer fails the status is 1. Begin with `specs/Outcomes.antt`.
+//! writer fails the status is 1. Arguments that cannot be read are told too. Begin with `specs/Outcomes.antt`.
 #![tactic(auto)]
 
 mod files;
 mod opening;
 mod run;
 mod texts;
+mod unread;
 
-pub use run::{line, tell_line};
+pub use run::{line, tell_line, tell_unread};
+pub use unread::Unread;

@@ -2,11 +2,12 @@
 
 ghost use Rattle.std.specs.Prelude.{◌≡◌, ◌-◌, ◌^◌, ◌<◌, ◌+◌, ◌≤◌, map, string_bytes, IfOk};
 ghost use Rattle.lines.specs.Rounds.{IsSolved, IsChecked};
-ghost use Rattle.cli.specs.Outcomes.{Printed, Tells, Asks, Imports, ImportsFile, OnFile, Serves, ServesAt, MayCome, ComesTo, refusal_line, of_round, reply_text};
+ghost use Rattle.cli.specs.Outcomes.{Printed, Tells, Asks, Imports, ImportsFile, OnFile, Serves, ServesAt, MayCome, ComesTo, refusal_line, of_round, of_unread, reply_text};
 
 use crate::files::read_file;
 use crate::opening::open_desk;
-use crate::texts::{bad_line, closed_line, labelled, refusal_line};
+use crate::texts::{NOT_UTF8, bad_line, closed_line, labelled, refusal_line};
+use crate::unread::Unread;
 use desk::Desk;
 use intake::MOST_BYTES;
 use lines::{Trouble, checked, solved};
@@ -75,6 +76,24 @@ fn tell_round<O: Sink, E: Sink>(came: Result<String, Trouble>, out: &mut O, err:
     }
 }
 
+/// Asks a request at a desk, and tells what comes of it.
+fn ask_at<S: Alter, O: Sink, E: Sink>(
+    desk: &mut Desk<S>,
+    request: Request,
+    out: &mut O,
+    err: &mut E,
+) -> u8
+    requires out { O.failures out.old < 2 ^ 64 - 1 }
+    requires err { E.failures err.old < 2 ^ 64 - 1 }
+    ensures { Tells (Asks request) (O.written out.old) (O.written out.new) (E.written err.old) (E.written err.new) (O.failures out.old + E.failures err.old) (O.failures out.new + E.failures err.new) result }
+{
+    desk.keeps();
+    match desk.ask(request) {
+        Ok(reply) => print_reply(out, &reply),
+        Err(refusal) => refuse(err, refusal),
+    }
+}
+
 /// Asks a request of the office of a database, and tells what comes of it.
 fn ask<O: Sink, E: Sink>(
     rt: &HostRuntime,
@@ -87,13 +106,8 @@ fn ask<O: Sink, E: Sink>(
     requires err { E.failures err.old < 2 ^ 64 - 1 }
     ensures { Tells (Asks request) (O.written out.old) (O.written out.new) (E.written err.old) (E.written err.new) (O.failures out.old + E.failures err.old) (O.failures out.new + E.failures err.new) result }
 {
-    let mut desk = match open_desk(rt, database) {
-        Ok(desk) => desk,
-        Err(refusal) => return refuse(err, refusal),
-    };
-    desk.keeps();
-    match desk.ask(request) {
-        Ok(reply) => print_reply(out, &reply),
+    match open_desk(rt, database) {
+        Ok(mut desk) => ask_at(&mut desk, request, out, err),
         Err(refusal) => refuse(err, refusal),
     }
 }
@@ -202,6 +216,26 @@ fn serve_at<S: Alter, O: Sink>(
     }
 }
 
+/// Serves so many connections to a port of the loopback address at a desk.
+fn serve_from<S: Alter, O: Sink, E: Sink>(
+    rt: &HostRuntime,
+    desk: &mut Desk<S>,
+    port: u16,
+    count: u32,
+    out: &mut O,
+    err: &mut E,
+) -> u8
+    requires out { O.failures out.old < 2 ^ 64 - 1 }
+    requires err { E.failures err.old < 2 ^ 64 - 1 }
+    ensures { Tells (ServesAt port count) (O.written out.old) (O.written out.new) (E.written err.old) (E.written err.new) (O.failures out.old + E.failures err.old) (O.failures out.new + E.failures err.new) result }
+{
+    desk.keeps();
+    match TcpListener::bind(rt, (Ipv4Addr::LOCALHOST, port)) {
+        Ok(listener) => serve_at(rt.alloc(), desk, &listener, port, count, out),
+        Err(_) => print(err, labelled(b"no port ", u32::from(port)).as_slice(), 1),
+    }
+}
+
 /// Serves so many connections to a port of the loopback address at the office of a database.
 fn serve<O: Sink, E: Sink>(
     rt: &HostRuntime,
@@ -215,15 +249,10 @@ fn serve<O: Sink, E: Sink>(
     requires err { E.failures err.old < 2 ^ 64 - 1 }
     ensures { Tells (ServesAt port count) (O.written out.old) (O.written out.new) (E.written err.old) (E.written err.new) (O.failures out.old + E.failures err.old) (O.failures out.new + E.failures err.new) result }
 {
-    let mut desk = match open_desk(rt, database) {
-        Ok(desk) => desk,
-        Err(refusal) => return refuse(err, refusal),
-    };
-    desk.keeps();
-    let Ok(listener) = TcpListener::bind(rt, (Ipv4Addr::LOCALHOST, port)) else {
-        return print(err, labelled(b"no port ", u32::from(port)).as_slice(), 1);
-    };
-    serve_at(rt.alloc(), &mut desk, &listener, port, count, out)
+    match open_desk(rt, database) {
+        Ok(mut desk) => serve_from(rt, &mut desk, port, count, out, err),
+        Err(refusal) => refuse(err, refusal),
+    }
 }
 
 /// Does a line, and tells what comes of it. A file is read first, then a database is opened, then a port is bound, and then the
@@ -282,6 +311,18 @@ pub fn tell_line<O: Sink, E: Sink>(
         Err(LineFault::Memory) => refuse(err, Refusal::Memory),
         Err(LineFault::Help(text)) => print(out, text.as_bytes(), 0),
         Err(LineFault::Fault(text)) => print(err, text.as_bytes(), 2),
+    }
+}
+
+/// Tells on `err` why the arguments of the program cannot be read, and gives the status of the program: 1 where there was no
+/// memory for them, as a refusal, and 2 where one is not UTF-8, which is a fault of the line. Where the writer fails it is 1.
+pub fn tell_unread<E: Sink>(unread: Unread, err: &mut E) -> u8
+    requires { E.failures err.old < 2 ^ 64 - 1 }
+    ensures { let told = of_unread unread in Printed told.err told.status (E.written err.old) (E.written err.new) (E.failures err.old) (E.failures err.new) result }
+{
+    match unread {
+        Unread::Memory => refuse(err, Refusal::Memory),
+        Unread::NotUtf8 => print(err, NOT_UTF8.as_bytes(), 2),
     }
 }
 

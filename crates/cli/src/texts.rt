@@ -9,6 +9,10 @@ use arrayvec::ArrayVec;
 use rolls::Refusal;
 use web::{ShortText, push, push_labelled, push_number};
 
+/// What is told where an argument is not UTF-8, as `clap` words a fault of the line.
+pub(crate) static NOT_UTF8: &str =
+    "error: invalid UTF-8 was detected in one or more arguments\n\nUsage: spadesk <COMMAND>\n\nFor more information, try '--help'.\n";
+
 /// A line of a label and a number.
 pub(crate) fn labelled(label: &[u8], number: u32) -> ShortText
     requires { length label.now ≤ 100 }

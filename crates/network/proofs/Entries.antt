@@ -7,7 +7,7 @@ use Rattle.std.specs.declared.alloc.Global.{Global}
 use Rattle.spa.specs.Laws.{Ops, IsWorth}
 use Rattle.network.specs.Search.{Relaxes, OneOffer}
 use Rattle.network.specs.Arcs.{HasEntry, OfStudent, EntriesBelow, sink_of}
-use Rattle.network.proofs.Relax.{relaxes_none, relaxes_then, relaxes_as}
+use Rattle.network.proofs.Relax.{relaxes_then, relaxes_as}
 use Rattle.network.specs.declared.flow.Flow.{Flow}
 use Rattle.network.specs.declared.marks.Origin.{Origin}
 use Rattle.network.specs.declared.marks.Origin.TheVariants.{Unseen, Entry, Leave, Offer, Swap, Room}
@@ -23,17 +23,6 @@ module _ {G : Type 0} {o : Ops G} (laws : IsWorth o) (f : Flow G) (student : ℕ
   -- what the first entries offer
   abbrev pub Below : ℕ → Origin → G → ℕ → Type 0
   Below i w x b = EntriesBelow o f student label i w x b
-
-  -- no entry offers nothing
-  pub entries_none : (m : List (Mark G)) → Relaxes o f (Below 0) m m
-  entries_none m = relaxes_as laws f (λ w x b. ⊥) (Below 0) m m (λ w x b h. absurd h) back (relaxes_none laws f m) where
-    back : (w : Origin) (x : G) (b : ℕ) → Below 0 w x b → ⊥
-    back Unseen x b h = h
-    back (Entry s k) x b h = omega (arith, h.0)
-    back (Leave s) x b h = h
-    back (Offer p) x b h = h
-    back (Swap l) x b h = h
-    back (Room l) x b h = h
 
   -- one entry more
   pub entries_more : (l m n : List (Mark G)) (i p : ℕ) (worth : G) → Relaxes o f (Below i) l m → HasEntry f.lists.items student i p worth

@@ -1,5 +1,5 @@
 -- The end of a search goes on along its way.
-use Rattle.std.proofs.Common.{◌≡◌, ℕ, ◌+◌, ◌<◌, ◌≤◌, inl, inr, List, true, false, not, Some, None, refl, sym, ◌∙◌, ap, arith}
+use Rattle.std.proofs.Common.{◌≡◌, ℕ, ◌+◌, ◌<◌, inl, inr, List, true, false, not, Some, None, refl, sym, ◌∙◌, ap, arith}
 use Rattle.std.proofs.lemmas.Option.{slice_get_within}
 use Rattle.std.proofs.lemmas.Bool.{and_from}
 use Rattle.spa.specs.Laws.{Ops, IsWorth, AtMost}
@@ -14,12 +14,6 @@ use Rattle.network.specs.declared.flow.Flow.{Flow}
 use Rattle.network.specs.declared.marks.Origin.{Origin}
 use Rattle.network.specs.declared.marks.Origin.TheVariants.{Offer, Room}
 use Rattle.network.specs.declared.marks.Mark.{Mark}
-
--- a node with a way is one of the nodes
-pub way_within : {G : Type 0} {o : Ops G} (f : Flow G) → IsFormed o f → (v : ℕ) → HasWay f v → v ≤ sink_of f
-way_within f formed v (at_sink e) = omega (arith, e)
-way_within f formed v (by_supervisor l e room) = omega (arith, e, room.0)
-way_within f formed v (by_project l q at room above) = let lt = slice_get_within f.projects.items v _ at in omega (arith, lt)
 
 -- an offer that may not be spared reached its node
 surely : {G : Type 0} {o : Ops G} (f : Flow G) (marks : List (Mark G)) (w : Origin) (b : ℕ) (x : G) → is_spare w ≡ false → Meets o f marks w b x → Reaches o marks b x

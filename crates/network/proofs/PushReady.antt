@@ -1,18 +1,16 @@
 -- what a step of a push may rely on
 use Rattle.std.proofs.Common.{◌≡◌, ℕ, ◌<◌, ◌⊎◌, inl, inr, List, length, Some, slice_get, refl, arith, sym, ◌∙◌, ap, true, false}
-use Rattle.std.specs.Prelude.{slice_index, nat_eq}
+use Rattle.std.specs.Prelude.{nat_eq}
 use Rattle.std.proofs.lemmas.Bool.{eq-eqb}
-use Rattle.std.proofs.lemmas.Option.{slice_get_within}
-use Rattle.spa.specs.declared.TheConstants.{MOST_PLACES}
 use Rattle.spa.specs.Laws.{Ops, IsWorth}
 use Rattle.network.specs.Marks.{mark_at, is_seen}
-use Rattle.network.specs.Arcs.{HasEntry, EntryArc, LeaveArc, OfferArc, SwapArc, RoomArc, OfStudent}
+use Rattle.network.specs.Arcs.{HasEntry, EntryArc, OfStudent}
 use Rattle.network.specs.Push.{one_if, seats, IsStep, IsFirst, IsPushing}
 use Rattle.network.specs.Marks.{blank}
 use Rattle.std.proofs.lemmas.Bool.{cases_lt}
 use Rattle.std.proofs.lemmas.List.{get_or_past}
 use Rattle.network.specs.declared.flow.Flow.{Flow}
-use Rattle.network.specs.declared.marks.Origin.TheVariants.{Entry, Leave, Offer, Swap, Room}
+use Rattle.network.specs.declared.marks.Origin.TheVariants.{Entry}
 use Rattle.network.specs.declared.marks.Mark.{Mark}
 
 module _ {G : Type 0} {o : Ops G} (laws : IsWorth o) (f : Flow G) (marks : List (Mark G)) (fresh : ℕ) (top : G) (hole : ℕ) (pushing : IsPushing o f marks fresh top hole) where
@@ -31,14 +29,6 @@ module _ {G : Type 0} {o : Ops G} (laws : IsWorth o) (f : Flow G) (marks : List 
     | inr le ↦ absurd (let q : mark_at o marks hole ≡ blank o = get_or_past marks hole (blank o) le in let z = pushing.seen in let y : false ≡ true = sym (ap (λ (m : Mark G). is_seen m.origin) q) ∙ z in cc)
   ]
 
-  -- a student whose entry led there is known
-  pub entry_within : (s k : ℕ) → (mark_at o marks hole).origin ≡ Entry s k → s < length f.held.items
-  entry_within s k origin = go step_here where
-    go : IsFirst o f marks fresh top hole ⊎ IsStep o f marks (length marks) hole → s < length f.held.items
-    go (inl h) = let off : OfStudent o f fresh o.zero (Entry s k) (mark_at o marks hole).label hole = rw origin at h.offered in
-        let w = slice_get_within f.held.items fresh _ pushing.waiting in rw off.0 w
-    go (inr h) = let arc : EntryArc o f h.before s k h.worth hole = rw origin at h.along in slice_get_within f.held.items s _ arc.holds.placed
-
   -- and the entry names the hole
   pub entry_listed : (s k : ℕ) → (mark_at o marks hole).origin ≡ Entry s k → (w : G) × HasEntry f.lists.items s k hole w
   entry_listed s k origin = go step_here where
@@ -53,38 +43,3 @@ module _ {G : Type 0} {o : Ops G} (laws : IsWorth o) (f : Flow G) (marks : List 
       let lt = (pushing.formed.entries s k hole e.0 e.1).0 in
       let one : one_if (nat_eq hole hole) ≡ 1 = ap one_if (eq-eqb hole hole refl) in
       (lt, λ l q at. let within = pushing.counted.project_within hole l q at in omega (arith, within, one, pushing.counted.project hole lt))
-
-  -- and one who gives up a place
-  pub leave_within : (s : ℕ) → (mark_at o marks hole).origin ≡ Leave s → s < length f.held.items
-  leave_within s origin = go step_here where
-    go : IsFirst o f marks fresh top hole ⊎ IsStep o f marks (length marks) hole → s < length f.held.items
-    go (inl h) = let off : OfStudent o f fresh o.zero (Leave s) (mark_at o marks hole).label hole = rw origin at h.offered in
-        let w = slice_get_within f.held.items fresh _ pushing.waiting in rw off.0 w
-    go (inr h) = let arc : LeaveArc o f h.before s h.worth hole = rw origin at h.along in slice_get_within f.held.items s _ arc.holds.placed
-
-  -- a project that led there has room
-  pub offer_ready : (p : ℕ) → (mark_at o marks hole).origin ≡ Offer p → (p < length f.filled.items) × (slice_index f.filled.items p < MOST_PLACES)
-  offer_ready p origin = go step_here where
-    go : IsFirst o f marks fresh top hole ⊎ IsStep o f marks (length marks) hole → (p < length f.filled.items) × (slice_index f.filled.items p < MOST_PLACES)
-    go (inl h) = let off : OfStudent o f fresh o.zero (Offer p) (mark_at o marks hole).label hole = rw origin at h.offered in absurd off
-    go (inr h) = let arc : OfferArc o f h.before p h.worth hole = rw origin at h.along in
-        let lt = slice_get_within f.projects.items p _ arc.project in
-        (omega (arith, lt, pushing.formed.filled), omega (arith, arc.room, pushing.formed.quotas p arc.supervisor arc.quota arc.project))
-
-  -- a supervisor's project is filled
-  pub swap_ready : (l : ℕ) → (mark_at o marks hole).origin ≡ Swap l → (hole < length f.filled.items) × (0 < slice_index f.filled.items hole) × (l < length f.supervisors.items)
-  swap_ready l origin = go step_here where
-    go : IsFirst o f marks fresh top hole ⊎ IsStep o f marks (length marks) hole → (hole < length f.filled.items) × (0 < slice_index f.filled.items hole) × (l < length f.supervisors.items)
-    go (inl h) = let off : OfStudent o f fresh o.zero (Swap l) (mark_at o marks hole).label hole = rw origin at h.offered in absurd off
-    go (inr h) = let arc : SwapArc o f h.before l h.worth hole = rw origin at h.along in
-        let lt = slice_get_within f.projects.items hole _ arc.project in
-        let one : one_if (nat_eq hole hole) ≡ 1 = ap one_if (eq-eqb hole hole refl) in
-        (omega (arith, lt, pushing.formed.filled), (let c = pushing.counted.project hole lt in omega (arith, c, one)), pushing.formed.projects hole l arc.quota arc.project)
-
-  -- a supervisor that led there has room
-  pub room_ready : (l : ℕ) → (mark_at o marks hole).origin ≡ Room l → (l < length f.load.items) × (slice_index f.load.items l < MOST_PLACES) × (l < length f.supervisors.items)
-  room_ready l origin = go step_here where
-    go : IsFirst o f marks fresh top hole ⊎ IsStep o f marks (length marks) hole → (l < length f.load.items) × (slice_index f.load.items l < MOST_PLACES) × (l < length f.supervisors.items)
-    go (inl h) = let off : OfStudent o f fresh o.zero (Room l) (mark_at o marks hole).label hole = rw origin at h.offered in absurd off
-    go (inr h) = let arc : RoomArc o f h.before l h.worth hole = rw origin at h.along in
-        (omega (arith, arc.known, pushing.formed.load), omega (arith, arc.room, pushing.formed.loads l arc.known), arc.known)

@@ -12,10 +12,8 @@ use Rattle.spa.specs.Laws.{Ops, IsWorth, AtMost}
 use Rattle.network.proofs.Group.{at_most_refl, at_most_trans, at_most_rev, at_most_shift}
 use Rattle.network.specs.Marks.{is_seen, is_settled, is_open_mark, blank, mark_at, potential_at, key_at, improves, relaxed, settled_as}
 use Rattle.network.specs.Push.{one_if}
-use Rattle.network.specs.Labels.{count_of, AreLabels, AreBlank, AreKeyed, IsOrdered, IsQueue, IsQueueBut, IsTouched, IsWithout, IsOpenEnd, IsBest}
-use Rattle.network.specs.Ways.{IsBounded, HasWay, at_sink}
-use Rattle.network.specs.Arcs.{sink_of}
-use Rattle.network.specs.Fair.{IsLow}
+use Rattle.network.specs.Labels.{count_of, AreLabels, AreKeyed, IsOrdered, IsQueue, IsQueueBut, IsTouched, IsWithout, IsOpenEnd, IsBest}
+use Rattle.network.specs.Ways.{IsBounded, HasWay}
 use Rattle.network.proofs.Listed.{cond_one, found, stands, length_below}
 use Rattle.network.proofs.Labelled.{open_known, open_element, one_most, labels_set, labels_settled, labels_kept}
 use Rattle.network.proofs.Settle.{open_rank}
@@ -359,20 +357,6 @@ module _ {G : Type 0} {o : Ops G} (laws : IsWorth o) (f : Flow G) where
         reached = elim q.bounded.reached [ inl p ↦ inl p | inr p ↦ inr (rw (done_same l.end).1 p.0, rw (key_done l.end) p.1) ];
       });
     }
-
-  -- no node is open before the first offer
-  pub queue_first : (l n : Labels G) → AreBlank o l (length f.potentials.items) → IsLow o f
-      → n ≡ record l { bound = potential_at o f.potentials.items (sink_of f); end = sink_of f } → IsQueue o f n
-  queue_first l n blank_now low is =
-      let fresh = blank_now.blank in
-      let closed : (b : ℕ) → is_open_mark (mark_at o l.marks.items b) ≡ true → ⊥ = λ b e. (let c : is_open_mark (mark_at o l.marks.items b) ≡ false = ap is_open_mark (fresh b) in cc) in
-      subst (IsQueue o f) (sym is) (record {
-        labels = labels_kept l (potential_at o f.potentials.items (sink_of f)) (sink_of f) l.compared blank_now.labels;
-        keyed = record { long = blank_now.long; low = low; small = λ v. (let e : (mark_at o l.marks.items v).label ≡ o.zero = ap (λ (z : Mark G). z.label) (fresh v) in rw e (omega (arith, laws.span_zero))) };
-        ordered = λ i j d lt within. absurd (closed (get_or l.frontier.items j d) (open_element l blank_now.labels j (get_or l.frontier.items j d) (slice_get-get_or l.frontier.items j d within)));
-        left_out = λ b e. absurd (closed b e);
-        bounded = record { way = at_sink refl; reached = inl (refl, at_most_refl laws _) };
-      })
 
   -- the end moves on
   pub queue_onward : (l n : Labels G) → IsQueue o f l → n ≡ record l { end = n.end } → IsBounded o f n.marks.items n.bound n.end → IsQueue o f n

@@ -12,7 +12,7 @@ use Rattle.network.specs.Arcs.{HasEntry, Holds, OfStudent, StudentsAmong, EntryA
 use Rattle.network.specs.Among.{Among}
 use Rattle.network.specs.Push.{sum_to}
 use Rattle.network.proofs.Sums.{sum_to_front}
-use Rattle.network.proofs.Relax.{relaxes_none, relaxes_then, relaxes_as}
+use Rattle.network.proofs.Relax.{relaxes_then, relaxes_as}
 use Rattle.network.proofs.Entries.{entry_same}
 use Rattle.network.specs.declared.flow.Flow.{Flow}
 use Rattle.network.specs.declared.marks.Origin.{Origin}
@@ -48,17 +48,6 @@ module _ {G : Type 0} {o : Ops G} (laws : IsWorth o) (f : Flow G) (a : ℕ) (lab
   -- what a project offers to the first students of the list
   abbrev pub Students : ℕ → Origin → G → ℕ → Type 0
   Students i w x b = StudentsAmong o f a label xs i w x b
-
-  -- no student is offered nothing
-  pub students_none : (m : List (Mark G)) → Relaxes o f (Students 0) m m
-  students_none m = relaxes_as laws f (λ w x b. ⊥) (Students 0) m m (λ w x b h. absurd h) back (relaxes_none laws f m) where
-    back : (w : Origin) (x : G) (b : ℕ) → Students 0 w x b → ⊥
-    back Unseen x b h = h
-    back (Entry s k) x b h = omega (arith, h.0.1)
-    back (Leave s) x b h = omega (arith, h.0.1)
-    back (Offer p) x b h = h
-    back (Swap l) x b h = h
-    back (Room l) x b h = h
 
   module _ (i t : ℕ) (at : slice_get xs i ≡ Some t) where
     -- a student who is placed there offers what the label less the worth of the place makes of the list

@@ -34,10 +34,10 @@ student_known v students s kept h =
     omega (arith, h, count, e)
 
 -- a student and the place in the list, or none
-record IsHeld (v : Seen (Places PLACES)) (s : ℕ) (place : Option ℕ) : Type 0 where
-  known : s < length (shape_of v).students
-  held : s < length v.places
-  here : get_or v.places s None ≡ place
+pub record IsHeld (v : Seen (Places PLACES)) (s : ℕ) (place : Option ℕ) : Type 0 where
+  pub known : s < length (shape_of v).students
+  pub held : s < length v.places
+  pub here : get_or v.places s None ≡ place
 
 -- the place that is told of a student who was admitted is held
 pub place_held : (v : Seen (Places PLACES)) (students s : ℕ) (place : Option ℕ) → IsKept v students → length v.places ≡ length (shape_of v).students → s < students → slice_get v.places s ≡ Some place → IsHeld v s place

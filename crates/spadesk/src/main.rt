@@ -1,11 +1,11 @@
 //! The program: it serves standard input to standard output over a new database in memory, or does one line.
 //!
 //! Without arguments it prints nothing but the answers, and ends with status 0, or with 1 where the stream broke off. With
-//! arguments it does the line that they stand for. The work is done by the crates below: here standard input, standard
+//! arguments it does the line that they stand for, or tells why they cannot be read. The work is done by the crates below: here standard input, standard
 //! output and a database are handed to them.
 #![tactic(auto)]
 
-use cli::line;
+use cli::{Unread, line, tell_unread};
 use desk::Desk;
 use sqlite::Connection;
 use std::process::ExitCode;
@@ -36,6 +36,10 @@ fn main(rt: HostRuntime) -> ExitCode {
     match given(&rt) {
         Ok(words) if words.len() > 1 => ExitCode::from(line(&rt, words, rt.stdout(), rt.stderr())),
         Ok(_) if serve(&rt) => ExitCode::SUCCESS,
-        _ => ExitCode::FAILURE,
+        Ok(_) => ExitCode::FAILURE,
+        Err(error) => {
+            let mut err = Watched::new(rt.stderr());
+            ExitCode::from(tell_unread(Unread::of(&error), &mut err))
+        }
     }
 }

@@ -1,5 +1,4 @@
-use Rattle.std.proofs.Common.{ℕ, ◌≡◌, ◌<◌, ◌∙◌, arith, length, List, Option, None, get_or}
-use Rattle.std.proofs.lemmas.Option.{get_or_from_slice_get}
+use Rattle.std.proofs.Common.{ℕ, ◌∙◌, arith, List, Option}
 use Rattle.spa.specs.Shape.{Shape}
 use Rattle.spa.proofs.Places.{left_none, left_some}
 use Rattle.network.specs.Seen.{shape_of}

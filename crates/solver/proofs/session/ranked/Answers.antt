@@ -1,7 +1,4 @@
-use Rattle.std.proofs.Common.{ℕ, ◌≡◌, ◌+◌, ◌-◌, ◌<◌, ◌≤◌, ◌==◌, ◌∙◌, Bool, true, false, cond, eqb, arith, List, length, slice_index, Option, Some, None, get_or, eq-eqb, ne_eqb, ap, inl, inr, set, length-set}
-use Rattle.std.proofs.lemmas.Bool.{cases_eq}
-use Rattle.std.proofs.lemmas.List.{get_or-set_same, get_or-set_other}
-use Rattle.std.proofs.lemmas.Option.{get_or_from_slice_get}
+use Rattle.std.proofs.Common.{ℕ, ◌≡◌, ◌+◌, ◌≤◌, ◌==◌, ◌∙◌, cond, eqb, arith, List, length, Option, Some, ap, length-set}
 use Rattle.spa.specs.declared.TheConstants.{RANKS}
 use Rattle.spa.specs.Shape.{Shape, list_of, choice_at, IsPlaceOf}
 use Rattle.spa.specs.Matching.{Pair, rank, rank_in}
