@@ -8,7 +8,7 @@ returns-in-Ok g c =
     on_out (Asks c.args.request) (reply_text c.in-Ok.reply) 0 _ _ _ _ _ _ _
     (inr (record { office = c.args.desk.now.office; fit = c.keeps.ensures.fit; answer = Ok c.in-Ok.reply; next = c.ask.new.self.office; step = c.in-Ok.ensures.step; is = refl })) c.print_reply.ensures
 
-pub returns : goal.returns
-returns g c =
+pub returns-in-Err : goal.returns-in-Err
+returns-in-Err g c =
     on_err (Asks c.args.request) (refusal_line c.in-Err.refusal) 1 _ _ _ _ _ _ _
     (inr (record { office = c.args.desk.now.office; fit = c.keeps.ensures.fit; answer = Err c.in-Err.refusal; next = c.ask.new.self.office; step = c.in-Err.ensures.step; is = refl })) c.refuse.ensures

@@ -6,5 +6,5 @@ use Rattle.cli.proofs.run.serve_from.Goals as goal
 pub returns-in-Ok : goal.returns-in-Ok
 returns-in-Ok g c = served_told _ c.args.port c.args.count _ _ _ _ _ _ _ c.keeps.ensures.fit c.serve_at.ensures
 
-pub returns : goal.returns
-returns g c = on_err (ServesAt c.args.port c.args.count) _ 1 _ _ _ _ _ _ _ (inr (inl (ap (tells 1) (search rules)))) c.print.ensures
+pub returns-in-Err : goal.returns-in-Err
+returns-in-Err g c = on_err (ServesAt c.args.port c.args.count) _ 1 _ _ _ _ _ _ _ (inr (inl (ap (tells 1) (search rules)))) c.print.ensures
