@@ -26,12 +26,8 @@ module _ {G : Type 0} {o : Ops G} (laws : IsWorth o) where
 
   -- what the start offers is small
   pub start_small : (f : Flow G) → IsFormed o f → (student : ℕ) (w : Origin) (x : G) (b : ℕ) → OfStudent o f student o.zero w x b → o.span x ≤ 1
-  start_small f formed student Unseen x b d = absurd d
-  start_small f formed student (Entry s k) x b d = rw d.3 (omega (arith, laws.span_plus o.zero d.1, laws.span_zero, (formed.entries _ _ _ _ d.2).1))
-  start_small f formed student (Leave s) x b d = rw d.2 (omega (arith, laws.span_zero))
-  start_small f formed student (Offer p) x b d = absurd d
-  start_small f formed student (Swap p) x b d = absurd d
-  start_small f formed student (Room p) x b d = absurd d
+  start_small f formed student w x b (inl d) = rw d.4 (omega (arith, laws.span_plus o.zero d.2, laws.span_zero, (formed.entries _ _ _ _ d.3).1))
+  start_small f formed student w x b (inr d) = rw d.2 (omega (arith, laws.span_zero))
 
   module _ (F : Flow G) (first : Origin → G → ℕ → Type 0) (arc : ℕ → Origin → G → ℕ → Type 0) (potentials : List G) (sink : ℕ) (marks middle new : List (Mark G)) (rank node : ℕ)
       (running : IsRunning o F first arc potentials sink marks rank node) (middle_is : middle ≡ set marks node (settled_as (mark_at o marks node) rank))
@@ -111,7 +107,7 @@ pub ready_first : {G : Type 0} {o : Ops G} (laws : IsWorth o) (f : Flow G) → I
 ready_first {G} {o} laws f formed student marks new len fresh relaxed =
     let first = OfStudent o f student o.zero in
     let search : IsSearch o f first (SearchArc o f) f.potentials.items new 0 = begins laws f first (SearchArc o f) f.potentials.items marks new fresh (start_small laws f formed student) relaxed in
-    let sink : Reaches o new (sink_of f) o.zero = sink_met f student new (search.begun (Leave student) o.zero (sink_of f) (refl, refl, refl)) in
+    let sink : Reaches o new (sink_of f) o.zero = sink_met f student new (search.begun (Leave student) o.zero (sink_of f) (inr (refl, refl, refl))) in
     record {
       search = search;
       len = relaxed.len ∙ len;

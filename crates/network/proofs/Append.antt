@@ -1,9 +1,9 @@
 -- a student without a place is added to a pushed flow
-use Rattle.std.proofs.Common.{◌≡◌, ℕ, ◌+◌, ◌<◌, ◌≤◌, ◌⊎◌, inl, inr, zero, suc, List, [], ◌∷◌, ◌++◌, length, Option, Some, None, slice_get, refl, arith, sym, ◌∙◌, ap, subst}
+use Rattle.std.proofs.Common.{◌≡◌, ℕ, ◌+◌, ◌<◌, ◌≤◌, ◌⊎◌, inl, inr, suc, [], ◌∷◌, ◌++◌, length, Option, Some, None, slice_get, arith, sym, ◌∙◌, ap, subst}
 use Rattle.std.specs.declared.vec.Vec.{Vec}
 use Rattle.std.specs.declared.alloc.Global.{Global}
 use Rattle.std.proofs.lemmas.List.{length-append}
-use Rattle.std.proofs.lemmas.Option.{slice_get_within, same_Some}
+use Rattle.std.proofs.lemmas.Option.{slice_get_within}
 use Rattle.spa.specs.declared.TheConstants.{RANKS}
 use Rattle.spa.specs.Laws.{Ops}
 use Rattle.network.specs.Arcs.{HasEntry, Holds, sink_of, IsFormed}
@@ -12,28 +12,8 @@ use Rattle.network.specs.Push.{sum_to, place_at, seat, seats, IsCounted, IsPushe
 use Rattle.network.specs.Fair.{IsLow}
 use Rattle.network.specs.State.{MayEnter, IsAwaiting}
 use Rattle.network.proofs.Sums.{sum_to_same}
+use Rattle.network.proofs.Lists.{slice_get-last, slice_get-before, slice_get-either}
 use Rattle.network.specs.declared.flow.Flow.{Flow}
-
--- an element of a list with one more at its end
-pub slice_get-last : {X : Type 0} (xs : List X) (y : X) → slice_get (xs ++ y ∷ []) (length xs) ≡ Some y
-slice_get-last [] y = refl
-slice_get-last (x ∷ xs) y = slice_get-last xs y
-
--- an element before the end is the old one
-pub slice_get-before : {X : Type 0} (xs : List X) (y : X) (i : ℕ) → i < length xs → slice_get (xs ++ y ∷ []) i ≡ slice_get xs i
-slice_get-before [] y i lt = absurd (omega (arith, lt))
-slice_get-before (x ∷ xs) y zero lt = refl
-slice_get-before (x ∷ xs) y (suc i) lt = slice_get-before xs y i (omega (arith, lt))
-
--- an element is an old one, or the last
-pub slice_get-either : {X : Type 0} (xs : List X) (y z : X) (i : ℕ) → slice_get (xs ++ y ∷ []) i ≡ Some z → (slice_get xs i ≡ Some z) ⊎ ((i ≡ length xs) × (y ≡ z))
-slice_get-either [] y z zero e = inr (refl, same_Some _ _ e)
-slice_get-either [] y z (suc i) e = cc
-slice_get-either (x ∷ xs) y z zero e = inl e
-slice_get-either (x ∷ xs) y z (suc i) e = elim (slice_get-either xs y z i e) [
-  | inl h ↦ inl h
-  | inr h ↦ inr (ap suc h.0, h.1)
-]
 
 module _ {G : Type 0} {o : Ops G} (f : Flow G) (pushed : IsPushed o f)
     (L : Vec (Vec (ℕ × G) Global) Global) (P : Vec (Option ℕ) Global) (row : Vec (ℕ × G) Global)
@@ -93,7 +73,7 @@ module _ {G : Type 0} {o : Ops G} (f : Flow G) (pushed : IsPushed o f)
   not_last s k e q = let h = slice_get_within f.held.items s _ (place_old s k e) in omega (arith, h, q, pushed.formed.students)
 
   -- a place held is one held before
-  holds_old : (s a : ℕ) → Holds A s a → Holds f s a
+  abbrev holds_old : (s a : ℕ) → Holds A s a → Holds f s a
   holds_old s a h = record {
     place = h.place;
     worth = h.worth;
@@ -103,11 +83,12 @@ module _ {G : Type 0} {o : Ops G} (f : Flow G) (pushed : IsPushed o f)
 
   -- the potentials are fair to all but the new student
   appended_fair : IsFairBut o A last
-  unfolding holds_old
   appended_fair = record {
-    placed = λ s a k p w h e. pushed.fair.placed s a k p w (holds_old s a h) (entry_old s k p w (not_last s h.place h.placed) e);
-    placed_least = λ s a h. pushed.fair.placed_least s a (holds_old s a h);
-    unplaced = λ s k p w ne none e. pushed.fair.unplaced s k p w ne (none_old s ne none) (entry_old s k p w ne e);
+    students = record {
+      placed = λ s a k p w h e. pushed.fair.students.placed s a k p w (holds_old s a h) (entry_old s k p w (not_last s h.place h.placed) e);
+      placed_least = λ s a h. pushed.fair.students.placed_least s a (holds_old s a h);
+      unplaced = λ s k p w ne none e. pushed.fair.students.unplaced s k p w ne (none_old s ne none) (entry_old s k p w ne e);
+    };
     nodes = pushed.fair.nodes;
   }
 

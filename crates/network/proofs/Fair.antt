@@ -1,5 +1,5 @@
 -- fair potentials let no arc lead up, and a search keeps them fair
-use Rattle.std.proofs.Common.{◌≡◌, ℕ, ◌+◌, ◌<◌, length, Some, slice_get, refl, ◌∙◌, ap, subst}
+use Rattle.std.proofs.Common.{◌≡◌, ℕ, ◌+◌, ◌<◌, inl, inr, length, Some, slice_get, refl, ◌∙◌, ap, subst}
 use Rattle.std.specs.Prelude.{slice_index}
 use Rattle.spa.specs.Laws.{Ops, IsWorth, AtMost}
 use Rattle.network.proofs.Group.{moved_over, zero_left}
@@ -29,13 +29,13 @@ module _ {G : Type 0} {o : Ops G} (laws : IsWorth o) (f : Flow G) (fresh : ℕ) 
   -- the new student may have up to the walk's worth
   pub fair_waiting : (k p : ℕ) (w : G) → HasEntry f.lists.items fresh k p w → AtMost o (o.plus w (low p)) top
   fair_waiting k p w e =
-      let m = first (Entry fresh k) (o.plus o.zero w) p (refl, w, e, refl) in
+      let m = first (Entry fresh k) (o.plus o.zero w) p (inl (k, refl, w, e, refl)) in
       rw (zero_left laws) at m
 
   -- which is not below zero
   pub fair_waiting_least : AtMost o o.zero top
   fair_waiting_least =
-      let m = first (Leave fresh) o.zero (sink_of f) (refl, refl, refl) in
+      let m = first (Leave fresh) o.zero (sink_of f) (inr (refl, refl, refl)) in
       let e : o.plus o.zero (low (sink_of f)) ≡ o.zero = ap (o.plus o.zero) low_sink ∙ laws.unit o.zero in
       subst (λ z. AtMost o z top) e m
 

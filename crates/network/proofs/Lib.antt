@@ -22,9 +22,7 @@ pub mod Reseated
 pub mod Shift
 pub mod Ends
 pub mod Refused
-pub mod PushEntry
-pub mod PushOther
-pub mod PushReady
+pub mod Steps
 pub mod PushStart
 pub mod Searching
 pub mod Spans

@@ -1,10 +1,45 @@
--- Elements of lists, and of lists that a function was applied to.
-use Rattle.std.proofs.Common.{◌≡◌, ℕ, zero, suc, ◌<◌, ◌≤◌, List, [], ◌∷◌, map, All, Some, slice_get, refl, subst}
+-- Elements of lists that change, and of lists that a function was applied to.
+use Rattle.std.proofs.Common.{◌≡◌, ℕ, zero, suc, ◌<◌, ◌≤◌, ◌⊎◌, inl, inr, List, [], ◌∷◌, ◌++◌, length, set, map, All, Some, slice_get, refl, arith, ap, subst}
 use Rattle.std.proofs.lemmas.Option.{slice_get_within, get_or_from_slice_get, same_Some}
 use Rattle.std.specs.declared.vec.Vec.{Vec}
 use Rattle.std.specs.declared.alloc.Global.{Global}
 use Rattle.spa.specs.Laws.{Ops}
 use Rattle.network.specs.View.{row_of, IsKnownList}
+
+-- the element that was set
+pub slice_get-set_same : {X : Type 0} (xs : List X) (i : ℕ) (x : X) → i < length xs → slice_get (set xs i x) i ≡ Some x
+slice_get-set_same [] i x lt = absurd (omega (arith, lt))
+slice_get-set_same (y ∷ ys) zero x lt = refl
+slice_get-set_same (y ∷ ys) (suc i) x lt = slice_get-set_same ys i x (omega (arith, lt))
+
+-- and another
+pub slice_get-set_other : {X : Type 0} (xs : List X) (i j : ℕ) (x : X) → (j ≡ i → ⊥) → slice_get (set xs i x) j ≡ slice_get xs j
+slice_get-set_other [] i j x ne = refl
+slice_get-set_other (y ∷ ys) zero zero x ne = absurd (ne refl)
+slice_get-set_other (y ∷ ys) zero (suc j) x ne = refl
+slice_get-set_other (y ∷ ys) (suc i) zero x ne = refl
+slice_get-set_other (y ∷ ys) (suc i) (suc j) x ne = slice_get-set_other ys i j x (λ e. ne (ap suc e))
+
+-- an element of a list with one more at its end
+pub slice_get-last : {X : Type 0} (xs : List X) (y : X) → slice_get (xs ++ y ∷ []) (length xs) ≡ Some y
+slice_get-last [] y = refl
+slice_get-last (x ∷ xs) y = slice_get-last xs y
+
+-- an element before the end is the old one
+pub slice_get-before : {X : Type 0} (xs : List X) (y : X) (i : ℕ) → i < length xs → slice_get (xs ++ y ∷ []) i ≡ slice_get xs i
+slice_get-before [] y i lt = absurd (omega (arith, lt))
+slice_get-before (x ∷ xs) y zero lt = refl
+slice_get-before (x ∷ xs) y (suc i) lt = slice_get-before xs y i (omega (arith, lt))
+
+-- an element is an old one, or the last
+pub slice_get-either : {X : Type 0} (xs : List X) (y z : X) (i : ℕ) → slice_get (xs ++ y ∷ []) i ≡ Some z → (slice_get xs i ≡ Some z) ⊎ ((i ≡ length xs) × (y ≡ z))
+slice_get-either [] y z zero e = inr (refl, same_Some _ _ e)
+slice_get-either [] y z (suc i) e = cc
+slice_get-either (x ∷ xs) y z zero e = inl e
+slice_get-either (x ∷ xs) y z (suc i) e = elim (slice_get-either xs y z i e) [
+  | inl h ↦ inl h
+  | inr h ↦ inr (ap suc h.0, h.1)
+]
 
 -- what holds of all elements holds of the one at k
 pub all_at : {X : Type 0} (P : X → Type 0) (xs : List X) (k : ℕ) (x : X) → All P xs → slice_get xs k ≡ Some x → P x

@@ -6,7 +6,7 @@ use Rattle.spa.specs.Laws.{Ops, IsWorth, AtMost}
 use Rattle.network.proofs.Group.{at_most_trans, at_most_shift, moved_back, zero_left}
 use Rattle.network.specs.Marks.{mark_at, potential_at, key_at, is_settled}
 use Rattle.network.specs.Search.{rank_or, FromNode, IsFound, Feasible, lowered}
-use Rattle.network.specs.Arcs.{Holds, Arc, OfStudent, sink_of, project_count, IsFormed}
+use Rattle.network.specs.Arcs.{Arc, OfStudent, sink_of, project_count, IsFormed}
 use Rattle.network.specs.Fair.{potential, IsFair, IsFairBut}
 use Rattle.network.specs.Ways.{IsOutdone, HasRoom, HasWay, at_sink, by_supervisor, by_project, SearchArc}
 use Rattle.network.specs.Push.{IsCounted, IsStep, IsFirst, HasSteps, IsPushing}
@@ -26,9 +26,9 @@ module _ {G : Type 0} {o : Ops G} (laws : IsWorth o) (f : Flow G) (fresh : ℕ) 
   -- potentials that are fair to all but the new student allow no arc that improves
   pub but_feasible : Feasible o (Arc o f) f.potentials.items
   but_feasible a Unseen c b d = absurd d
-  but_feasible a (Entry s k) c b d = rw d.is (moved_back laws d.worth d.holds.worth _ _ (fair.placed s a k b d.worth d.holds d.entry))
+  but_feasible a (Entry s k) c b d = rw d.is (moved_back laws d.worth d.holds.worth _ _ (fair.students.placed s a k b d.worth d.holds d.entry))
   but_feasible a (Leave s) c b d =
-      rw (d.is, d.to_sink, fair.nodes.sink) (moved_back laws o.zero d.holds.worth o.zero _ (rw (laws.unit o.zero) (fair.placed_least s a d.holds)))
+      rw (d.is, d.to_sink, fair.nodes.sink) (moved_back laws o.zero d.holds.worth o.zero _ (rw (laws.unit o.zero) (fair.students.placed_least s a d.holds)))
   but_feasible a (Offer p) c b d =
       rw (d.is, zero_left laws, d.to_supervisor, d.from_project) (fair.nodes.project_room p d.supervisor d.quota d.project d.room)
   but_feasible a (Swap l) c b d =
@@ -88,7 +88,7 @@ module _ {G : Type 0} {o : Ops G} (laws : IsWorth o) (f : Flow G) (fresh : ℕ) 
     outdone : (x : G) → IsOutdone o f marks x → AtMost o x top
     outdone x h = elim h.1.reached [
       | inl p ↦
-          (let least : AtMost o o.zero top = (sink_met f fresh marks (found.search.begun (Leave fresh) o.zero (sink_of f) (refl, refl, refl))).enough in
+          (let least : AtMost o o.zero top = (sink_met f fresh marks (found.search.begun (Leave fresh) o.zero (sink_of f) (inr (refl, refl, refl)))).enough in
           let here : AtMost o x o.zero = rw (p.0, fair.nodes.sink) at p.1 in
           at_most_trans laws _ _ _ here least)
       | inr p ↦ at_most_trans laws _ _ _ p.1 (elim (cases_Bool (is_settled (mark_at o marks h.0).rank)) [
@@ -115,17 +115,14 @@ module _ {G : Type 0} {o : Ops G} (laws : IsWorth o) (f : Flow G) (fresh : ℕ) 
     begun : (w : Origin) (x : G) (b : ℕ) → OfStudent o f fresh o.zero w x b → AtMost o (o.plus x (low b)) top
     begun = first_covered laws f (OfStudent o f fresh o.zero) (SearchArc o f) marks (sink_of f) found.settled found.search found.opened found.best fair.nodes.sink outdone
 
-    -- an inequality of the lowered potentials, of the new flow's
-    holds_of : (s a : ℕ) → Holds N s a → Holds f s a
-    holds_of s a h = record { place = h.place; worth = h.worth; placed = h.placed; entry = h.entry }
-
     -- the new potentials are fair
     pub fair_now : IsFair o N fresh top
-    unfolding holds_of
     fair_now = record {
-      placed = λ s a k p w h e. rw (low_is p, low_is a) (fair_placed laws f fresh top low down arcs begun low_sink s a k p w (holds_of s a h) e);
-      placed_least = λ s a h. rw (low_is a) (fair_placed_least laws f fresh top low down arcs begun low_sink s a (holds_of s a h));
-      unplaced = λ s k p w ne no_place e. rw (low_is p, laws.comm w (low p)) (at_most_trans laws _ _ _ (at_most_shift laws (low p) (potential o f p) w (down p)) (rw (laws.comm (potential o f p) w) (fair.unplaced s k p w ne no_place e)));
+      students = record {
+        placed = λ s a k p w h e. rw (low_is p, low_is a) (fair_placed laws f fresh top low down arcs begun low_sink s a k p w h e);
+        placed_least = λ s a h. rw (low_is a) (fair_placed_least laws f fresh top low down arcs begun low_sink s a h);
+        unplaced = λ s k p w ne no_place e. rw (low_is p, laws.comm w (low p)) (at_most_trans laws _ _ _ (at_most_shift laws (low p) (potential o f p) w (down p)) (rw (laws.comm (potential o f p) w) (fair.students.unplaced s k p w ne no_place e)));
+      };
       waiting = λ k p w e. rw (low_is p) (fair_waiting laws f fresh top low down arcs begun low_sink k p w e);
       waiting_least = fair_waiting_least laws f fresh top low down arcs begun low_sink;
       nodes = record {
@@ -140,20 +137,7 @@ module _ {G : Type 0} {o : Ops G} (laws : IsWorth o) (f : Flow G) (fresh : ℕ) 
     -- the arcs are the same
     same_arc : (a : ℕ) (w : Origin) (c : G) (b : ℕ) → Arc o f a w c b → Arc o N a w c b
     same_arc a Unseen c b d = d
-    same_arc a (Entry s k) c b d = record { holds = record { place = d.holds.place; worth = d.holds.worth; placed = d.holds.placed; entry = d.holds.entry }; worth = d.worth; entry = d.entry; is = d.is }
-    same_arc a (Leave s) c b d = record { holds = record { place = d.holds.place; worth = d.holds.worth; placed = d.holds.placed; entry = d.holds.entry }; is = d.is; to_sink = d.to_sink }
-    same_arc a (Offer p) c b d = record { supervisor = d.supervisor; quota = d.quota; from_project = d.from_project; project = d.project; room = d.room; to_supervisor = d.to_supervisor; is = d.is }
-    same_arc a (Swap l) c b d = record { quota = d.quota; from_supervisor = d.from_supervisor; project = d.project; is = d.is }
-    same_arc a (Room l) c b d = record { from_supervisor = d.from_supervisor; known = d.known; room = d.room; to_sink = d.to_sink; is = d.is }
-
-    -- and the first offers
-    same_first : (w : Origin) (x : G) (b : ℕ) → OfStudent o f fresh o.zero w x b → OfStudent o N fresh o.zero w x b
-    same_first Unseen x b d = d
-    same_first (Entry s k) x b d = d
-    same_first (Leave s) x b d = d
-    same_first (Offer p) x b d = d
-    same_first (Swap l) x b d = d
-    same_first (Room l) x b d = d
+    same_arc a w c b d = d
 
     -- an earlier rank stays earlier
     rank_wider : (r : ℕ) (q : Option ℕ) → r < rank_or found.settled q → r < rank_or (length marks) q
@@ -177,7 +161,7 @@ module _ {G : Type 0} {o : Ops G} (laws : IsWorth o) (f : Flow G) (fresh : ℕ) 
 
       go : OfStudent o f fresh o.zero (mark_at o marks v).origin (mark_at o marks v).label v ⊎ FromNode o (SearchArc o f) marks found.settled v → IsFirst o N marks fresh top v ⊎ IsStep o N marks (length marks) v
       go (inl h) = inl (record {
-        offered = same_first _ _ v h;
+        offered = h;
         tight = rw (low_is v) (tight_first laws f (OfStudent o f fresh o.zero) (SearchArc o f) marks (sink_of f) found.settled found.search found.opened found.best fair.nodes.sink v here);
       })
       go (inr h) = inr (record {
@@ -195,7 +179,7 @@ module _ {G : Type 0} {o : Ops G} (laws : IsWorth o) (f : Flow G) (fresh : ℕ) 
     push_starts = record {
       formed = reformed f formed f.held f.filled f.load H refl refl refl long formed.placed;
       fair = fair_now;
-      counted = record { project = counted.project; project_within = counted.project_within; supervisor = counted.supervisor; supervisor_within = counted.supervisor_within };
+      counted = counted;
       steps = steps_now;
       waiting = none;
       seen = (open_rank (mark_at o marks (sink_of f)) found.opened).0;

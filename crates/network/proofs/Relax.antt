@@ -1,5 +1,5 @@
 -- relaxations one after another
-use Rattle.std.proofs.Common.{◌≡◌, ℕ, ◌<◌, ◌⊎◌, inl, inr, List, length, set, Bool, true, false, cond, Option, Some, None, refl, sym, ◌∙◌, ap, get_or-set_same, get_or-set_other, length-set}
+use Rattle.std.proofs.Common.{◌≡◌, ℕ, ◌<◌, arith, ◌⊎◌, inl, inr, List, length, set, Bool, true, false, cond, Option, Some, None, refl, sym, ◌∙◌, ap, get_or-set_same, get_or-set_other, length-set}
 use Rattle.std.proofs.lemmas.Bool.{cases_eq}
 use Rattle.std.specs.Ordering.{is_gt}
 use Rattle.spa.specs.Laws.{Ops, IsWorth, AtMost}
@@ -7,8 +7,10 @@ use Rattle.network.proofs.Group.{at_most_refl, at_most_trans, at_most_rev, at_mo
 use Rattle.network.specs.Marks.{is_seen, is_settled, blank, mark_at, potential_at, relaxed}
 use Rattle.network.specs.Search.{Replaced, Meets, Taken, Relaxes, OneOffer}
 use Rattle.network.specs.Ways.{is_spare, IsOutdone}
+use Rattle.network.specs.Labels.{IsQueue, HasCompared}
 use Rattle.network.specs.declared.flow.Flow.{Flow}
 use Rattle.network.specs.declared.marks.Origin.{Origin}
+use Rattle.network.specs.declared.marks.Labels.{Labels}
 use Rattle.network.specs.declared.marks.Mark.{Mark}
 
 -- no rank
@@ -120,10 +122,6 @@ module _ {G : Type 0} {o : Ops G} (laws : IsWorth o) (F : Flow G) where
     go (inr f) = absurd (let h = f.was_open in cc)
   taken_stays q old new w b x r (inr s) = inr (meets_stays old new (grown q old new r) w b x s)
 
-  -- no offer
-  pub relaxes_none : (marks : List (Mark G)) → Relaxes o F (λ w x b. ⊥) marks marks
-  relaxes_none marks = record { len = refl; moves = λ b. inl refl; taken = λ w x b h. absurd h }
-
   -- offers in turn
   pub relaxes_then : (p q : Origin → G → ℕ → Type 0) (l m n : List (Mark G)) → Relaxes o F p l m → Relaxes o F q m n → Relaxes o F (λ w x b. p w x b ⊎ q w x b) l n
   relaxes_then p q l m n e f = record {
@@ -140,3 +138,11 @@ module _ {G : Type 0} {o : Ops G} (laws : IsWorth o) (F : Flow G) where
     moves = λ b. elim (e.moves b) [ inl h ↦ inl h | inr h ↦ inr (record { was_open = h.was_open; is_open = h.is_open; seen = h.seen; offered = to _ _ b h.offered; grows = h.grows }) ];
     taken = λ w x b h. e.taken w x b (back w x b h);
   }
+
+  -- offers that are compared where a condition holds, and none where it does not
+  pub compared_where : (C : Type 0) (q : Origin → G → ℕ → Type 0) (old new : Labels G) (low high : ℕ) → IsQueue o F old → (C × HasCompared o F q old new low high) ⊎ ((C → ⊥) × (new ≡ old))
+      → HasCompared o F (λ w x b. C × q w x b) old new 0 high
+  compared_where C q old new low high queue (inl e) =
+      record { queue = e.1.queue; relaxes = relaxes_as q (λ w x b. C × q w x b) _ _ (λ w x b h. (e.0, h)) (λ w x b h. h.1) e.1.relaxes; least = omega (arith, e.1.least); most = e.1.most }
+  compared_where C q old new low high queue (inr e) =
+      rw e.1 (record { queue = queue; relaxes = record { len = refl; moves = λ b. inl refl; taken = λ w x b h. absurd (e.0 h.0) }; least = omega arith; most = omega arith })

@@ -7,14 +7,14 @@ use Rattle.std.proofs.lemmas.List.{length-append}
 use Rattle.std.proofs.lemmas.Option.{slice_get_past, slice_get_within, slice_get-get_or, same_Some}
 use Rattle.spa.specs.Laws.{Ops}
 use Rattle.network.specs.Arcs.{HasEntry, IsFormed}
-use Rattle.network.specs.Push.{one_if, entry_at, row_at, place_at, seats}
+use Rattle.network.specs.Push.{one_if, place_at, seats}
 use Rattle.network.specs.Labels.{count_of}
 use Rattle.network.specs.Kept.{numbers_at, room_at, HasSameRoom, AreSeated, AreOffered, IsKept}
-use Rattle.network.proofs.Transfer.{slice_get-set_same, slice_get-set_other}
+use Rattle.network.proofs.Transfer.{seat_is}
 use Rattle.network.proofs.Seated.{seated_long}
 use Rattle.network.specs.declared.flow.Flow.{Flow}
 use Rattle.network.specs.declared.kept.Kept.{Kept}
-use Rattle.network.proofs.Append.{slice_get-last, slice_get-before}
+use Rattle.network.proofs.Lists.{slice_get-set_same, slice_get-set_other, slice_get-last, slice_get-before}
 
 module _ {G : Type 0} (lists : List (Vec (ℕ × G) Global)) (held : List (Option ℕ)) (projects : List (ℕ × ℕ)) (seated now : List (Vec ℕ Global))
     (are : AreSeated lists held projects seated) where
@@ -71,11 +71,6 @@ appended_seated lists row held projects seated long are = record {
 -- the room stays over two changes
 pub room_along : {a b c : Kept} → HasSameRoom a b → HasSameRoom b c → HasSameRoom a c
 room_along x y = record { room = λ p. y.room p ∙ x.room p; len = y.len ∙ x.len; offered = y.offered ∙ x.offered }
-
--- a student with a place has one seat, at its project
-pub seat_is : {G : Type 0} (lists : List (Vec (ℕ × G) Global)) (s k p : ℕ) (w : G) (x : Option (Option ℕ)) → x ≡ Some (Some k) → HasEntry lists s k p w
-    → (q : ℕ) → place_at x (slice_get lists s) q ≡ one_if (eqb p q)
-seat_is lists s k p w x e h q = ap (λ z. place_at z (slice_get lists s) q) e ∙ ap (λ z. row_at z k q) h.student ∙ ap (λ z. entry_at z q) h.place
 
 module _ {G : Type 0} {o : Ops G} (f : Flow G) (formed : IsFormed o f) (k : Kept) (kept : IsKept f k) where
   -- the project of a student's place has a list

@@ -1,5 +1,5 @@
 -- a search for a student who awaits a place
-use Rattle.std.proofs.Common.{◌≡◌, ℕ, ◌+◌, ◌<◌, ◌≤◌, List, length, refl, arith, set}
+use Rattle.std.proofs.Common.{◌≡◌, ℕ, ◌+◌, ◌<◌, ◌≤◌, inr, List, length, refl, arith, set}
 use Rattle.std.proofs.lemmas.Option.{slice_get_within}
 use Rattle.spa.specs.Laws.{Ops, IsWorth}
 use Rattle.network.specs.Marks.{mark_at, settled_as}
@@ -44,7 +44,7 @@ module _ {G : Type 0} {o : Ops G} (laws : IsWorth o) (f : Flow G) (student : ℕ
     below = record { projects = awaiting.fair.nodes.project; supervisors = λ l lt. rw awaiting.fair.nodes.sink (awaiting.fair.nodes.supervisor l lt) };
     done = r.search.done;
     sink_open = r.sink_open;
-    sink_least = sink_met f student marks (r.search.begun (Leave student) o.zero (sink_of f) (refl, refl, refl));
+    sink_least = sink_met f student marks (r.search.begun (Leave student) o.zero (sink_of f) (inr (refl, refl, refl)));
   }
 
   -- the choice

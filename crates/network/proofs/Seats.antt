@@ -1,13 +1,12 @@
 -- Lists of numbers by position, when one of them changes or one more comes.
-use Rattle.std.proofs.Common.{◌≡◌, ℕ, zero, suc, ◌<◌, ◌≤◌, inl, inr, List, [], ◌∷◌, ◌++◌, length, set, Some, refl, ◌∙◌, ap, arith, slice_get}
+use Rattle.std.proofs.Common.{◌≡◌, ℕ, zero, suc, ◌≤◌, inl, inr, List, [], ◌∷◌, ◌++◌, length, set, Some, refl, ◌∙◌, ap, arith, slice_get}
 use Rattle.std.specs.declared.vec.Vec.{Vec}
 use Rattle.std.specs.declared.alloc.Global.{Global}
 use Rattle.std.proofs.lemmas.Bool.{cases_eq}
 use Rattle.std.proofs.lemmas.Option.{slice_get_within}
 use Rattle.network.specs.Labels.{count_of}
 use Rattle.network.specs.Kept.{numbers_of, numbers_at}
-use Rattle.network.proofs.Append.{slice_get-before}
-use Rattle.network.proofs.Transfer.{slice_get-set_same, slice_get-set_other}
+use Rattle.network.proofs.Lists.{slice_get-set_same, slice_get-set_other}
 
 module _ (L : List (Vec ℕ Global)) (p : ℕ) (v w : Vec ℕ Global) (was : slice_get L p ≡ Some w) where
   -- the list at p
@@ -34,7 +33,3 @@ none_more [] v e none zero s = ap (λ z. count_of z s) e
 none_more [] v e none (suc p) s = refl
 none_more (x ∷ L) v e none zero s = none 0 s
 none_more (x ∷ L) v e none (suc p) s = none_more L v e (λ q. none (suc q)) p s
-
--- the lists before stay
-pub before_same : (L : List (Vec ℕ Global)) (v : Vec ℕ Global) (p : ℕ) → p < length L → slice_get (L ++ v ∷ []) p ≡ slice_get L p
-before_same L v p lt = slice_get-before L v p lt

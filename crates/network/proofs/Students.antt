@@ -1,14 +1,13 @@
 -- the offers of a project to the students placed there, one student after another
-use Rattle.std.proofs.Common.{◌≡◌, ℕ, ◌+◌, ◌≤◌, ◌⊎◌, inl, inr, List, [], ◌∷◌, length, Some, slice_get, refl, arith, sym, ◌∙◌, ap, take, get_or, sum_by}
+use Rattle.std.proofs.Common.{◌≡◌, ℕ, ◌+◌, ◌≤◌, ◌⊎◌, inl, inr, List, [], ◌∷◌, length, Option, Some, slice_get, refl, arith, sym, ◌∙◌, ap, take, get_or, sum_by}
 use Rattle.std.proofs.lemmas.Bool.{cases_eq}
 use Rattle.std.proofs.lemmas.Option.{slice_get_within, get_or_from_slice_get, same_Some}
 use Rattle.std.proofs.lemmas.List.Sums.{sum_by_more, sum_by-cons}
 use Rattle.std.specs.declared.vec.Vec.{Vec}
 use Rattle.std.specs.declared.alloc.Global.{Global}
 use Rattle.spa.specs.Laws.{Ops, IsWorth}
-use Rattle.network.proofs.Group.{change_of, leave_of}
 use Rattle.network.specs.Search.{Relaxes}
-use Rattle.network.specs.Arcs.{HasEntry, Holds, OfStudent, StudentsAmong, EntryArc, LeaveArc, list_cost}
+use Rattle.network.specs.Arcs.{HasEntry, IsHeld, Holds, OfStudent, StudentsAmong, list_cost}
 use Rattle.network.specs.Among.{Among}
 use Rattle.network.specs.Push.{sum_to}
 use Rattle.network.proofs.Sums.{sum_to_front}
@@ -16,18 +15,17 @@ use Rattle.network.proofs.Relax.{relaxes_then, relaxes_as}
 use Rattle.network.proofs.Entries.{entry_same}
 use Rattle.network.specs.declared.flow.Flow.{Flow}
 use Rattle.network.specs.declared.marks.Origin.{Origin}
-use Rattle.network.specs.declared.marks.Origin.TheVariants.{Unseen, Entry, Leave, Offer, Swap, Room}
 use Rattle.network.specs.declared.marks.Mark.{Mark}
 
 -- a student's place is one
-pub holds_same : {G : Type 0} {f : Flow G} {s k p q : ℕ} {w : G} → slice_get f.held.items s ≡ Some (Some k) → HasEntry f.lists.items s k p w → (h : Holds f s q) → (p ≡ q) × (w ≡ h.worth)
-holds_same {G} {f} {s} {k} {p} {q} {w} e g h =
+pub holds_same : {G : Type 0} {lists : List (Vec (ℕ × G) Global)} {held : List (Option ℕ)} {s k p q : ℕ} {w : G} → slice_get held s ≡ Some (Some k) → HasEntry lists s k p w → (h : IsHeld lists held s q) → (p ≡ q) × (w ≡ h.worth)
+holds_same {G} {lists} {held} {s} {k} {p} {q} {w} e g h =
     let same : k ≡ h.place = same_Some _ _ (same_Some _ _ (sym e ∙ h.placed)) in
     entry_same (rw same at g) h.entry
 
 -- two places of one student are the same
-pub holds_along : {G : Type 0} {f : Flow G} {s t k p q : ℕ} {w : G} → s ≡ t → slice_get f.held.items s ≡ Some (Some k) → HasEntry f.lists.items s k p w → (h : Holds f t q) → (p ≡ q) × (w ≡ h.worth)
-holds_along {G} {f} {s} {t} {k} {p} {q} {w} e g n h = holds_same (rw e at g) (rw e at n) h
+pub holds_along : {G : Type 0} {lists : List (Vec (ℕ × G) Global)} {held : List (Option ℕ)} {s t k p q : ℕ} {w : G} → s ≡ t → slice_get held s ≡ Some (Some k) → HasEntry lists s k p w → (h : IsHeld lists held t q) → (p ≡ q) × (w ≡ h.worth)
+holds_along {G} {lists} {held} {s} {t} {k} {p} {q} {w} e g n h = holds_same (rw e at g) (rw e at n) h
 
 -- who is among the first is among one more
 pub among_more : (xs : List ℕ) (i s : ℕ) → Among xs i s → Among xs (i + 1) s
@@ -49,51 +47,19 @@ module _ {G : Type 0} {o : Ops G} (laws : IsWorth o) (f : Flow G) (a : ℕ) (lab
   abbrev pub Students : ℕ → Origin → G → ℕ → Type 0
   Students i w x b = StudentsAmong o f a label xs i w x b
 
-  module _ (i t : ℕ) (at : slice_get xs i ≡ Some t) where
-    -- a student who is placed there offers what the label less the worth of the place makes of the list
-    pub students_more : (l m n : List (Mark G)) (h : Holds f t a) → Relaxes o f (Students i) l m → Relaxes o f (OfStudent o f t (o.minus label h.worth)) m n → Relaxes o f (Students (i + 1)) l n
-    students_more l m n h e r =
-        relaxes_as laws f (λ w x b. Students i w x b ⊎ OfStudent o f t (o.minus label h.worth) w x b) (Students (i + 1)) l n to back (relaxes_then laws f _ _ l m n e r) where
-          to : (w : Origin) (x : G) (b : ℕ) → Students i w x b ⊎ OfStudent o f t (o.minus label h.worth) w x b → Students (i + 1) w x b
-          to Unseen x b = elim [ inl g ↦ g | inr g ↦ g ]
-          to (Entry s k) x b = elim [
-            | inl g ↦ (among_more xs i s g.0, g.1)
-            | inr g ↦ (
-              rw g.0 (among_last xs i t at),
-              (let q : (c : G) × EntryArc o f a s k c b × (x ≡ o.plus label c) =
-                  let en : HasEntry f.lists.items t k b g.1 = rw g.0 at g.2 in
-                  rw g.0 (o.minus g.1 h.worth, record { holds = h; worth = g.1; entry = en; is = refl }, g.3 ∙ change_of laws label h.worth g.1) in q),
-            )
-          ]
-          to (Leave s) x b = elim [
-            | inl g ↦ (among_more xs i s g.0, g.1)
-            | inr g ↦ (
-              rw g.0 (among_last xs i t at),
-              (let q : (c : G) × LeaveArc o f a s c b × (x ≡ o.plus label c) =
-                  rw g.0 (o.minus o.zero h.worth, record { holds = h; is = refl; to_sink = g.1 }, g.2 ∙ leave_of laws label h.worth) in q),
-            )
-          ]
-          to (Offer q) x b = elim [ inl g ↦ g | inr g ↦ g ]
-          to (Swap q) x b = elim [ inl g ↦ g | inr g ↦ g ]
-          to (Room q) x b = elim [ inl g ↦ g | inr g ↦ g ]
+  -- a student who is placed there offers what the label less the worth of the place makes of the list
+  pub students_more : (i t : ℕ) → slice_get xs i ≡ Some t → (l m n : List (Mark G)) (h : Holds f t a) → Relaxes o f (Students i) l m → Relaxes o f (OfStudent o f t (o.minus label h.worth)) m n → Relaxes o f (Students (i + 1)) l n
+  students_more i t at l m n h e r =
+      relaxes_as laws f (λ w x b. Students i w x b ⊎ OfStudent o f t (o.minus label h.worth) w x b) (Students (i + 1)) l n to back (relaxes_then laws f _ _ l m n e r) where
+        to : (w : Origin) (x : G) (b : ℕ) → Students i w x b ⊎ OfStudent o f t (o.minus label h.worth) w x b → Students (i + 1) w x b
+        to w x b (inl g) = (g.0, among_more xs i g.0 g.1, g.2, g.3)
+        to w x b (inr g) = (t, among_last xs i t at, h, g)
 
-          back : (w : Origin) (x : G) (b : ℕ) → Students (i + 1) w x b → Students i w x b ⊎ OfStudent o f t (o.minus label h.worth) w x b
-          back Unseen x b g = inl g
-          back (Entry s k) x b g = elim (among_either xs i t s at g.0) [
-            | inl m ↦ inl (m, g.1)
-            | inr e ↦ (let d = g.1.1 in
-                let same : d.holds.worth ≡ h.worth = sym (holds_along (sym e) h.placed h.entry d.holds).1 in
-                inr (e, d.worth, d.entry, g.1.2 ∙ ap (o.plus label) (d.is ∙ ap (o.minus d.worth) same) ∙ sym (change_of laws label h.worth d.worth)))
-          ]
-          back (Leave s) x b g = elim (among_either xs i t s at g.0) [
-            | inl m ↦ inl (m, g.1)
-            | inr e ↦ (let d = g.1.1 in
-                let same : d.holds.worth ≡ h.worth = sym (holds_along (sym e) h.placed h.entry d.holds).1 in
-                inr (e, d.to_sink, g.1.2 ∙ ap (o.plus label) (d.is ∙ ap (o.minus o.zero) same) ∙ sym (leave_of laws label h.worth)))
-          ]
-          back (Offer q) x b g = inl g
-          back (Swap q) x b g = inl g
-          back (Room q) x b g = inl g
+        again : (s : ℕ) (g : Holds f s a) (w : Origin) (x : G) (b : ℕ) → s ≡ t → OfStudent o f s (o.minus label g.worth) w x b → OfStudent o f t (o.minus label h.worth) w x b
+        again s g w x b e = let same = (holds_along e g.placed g.entry h).1 in rw (← e, same) (λ d. d)
+
+        back : (w : Origin) (x : G) (b : ℕ) → Students (i + 1) w x b → Students i w x b ⊎ OfStudent o f t (o.minus label h.worth) w x b
+        back w x b g = elim (among_either xs i t g.0 at g.1) [ inl m ↦ inl (g.0, m, g.2, g.3) | inr e ↦ inr (again g.0 g.2 w x b e g.3) ]
 
 -- one more student's list in the cost
 pub cost_more : {G : Type 0} (lists : List (Vec (ℕ × G) Global)) (xs : List ℕ) (i t start count new : ℕ) → slice_get xs i ≡ Some t

@@ -4,8 +4,8 @@ use Rattle.std.proofs.lemmas.List.{length-append}
 use Rattle.std.proofs.lemmas.Option.{slice_get-get_or, slice_get_within, some_pair_parts}
 use Rattle.std.specs.Vec.{vec_capacity}
 use Rattle.network.specs.Kept.{room_of, room_at}
-use Rattle.network.proofs.Append.{slice_get-last}
-use Rattle.network.proofs.Seats.{none_more, before_same}
+use Rattle.network.proofs.Lists.{slice_get-last, slice_get-before}
+use Rattle.network.proofs.Seats.{none_more}
 use Rattle.network.proofs.kept.empty_seats.Goals as goal
 
 pub loop-i-preserved : goal.loop-i-preserved
@@ -25,7 +25,7 @@ loop-i-preserved c =
             omega (arith, here, quota, c.in_ok-with_capacity.ensures.capacity))
         | inr ne ↦
             (let less : p < length L = omega (arith, lt, ne, c.loop-i.invariant.len) in
-            let there : room_at c.push.new.self.items p ≡ room_at L p = ap (λ z. room_at z p) now ∙ ap room_of (before_same L v p less) in
+            let there : room_at c.push.new.self.items p ≡ room_at L p = ap (λ z. room_at z p) now ∙ ap room_of (slice_get-before L v p less) in
             let r = c.loop-i.invariant.room p m q (omega (arith, lt, ne)) e in
             omega (arith, there, r))
       ];
