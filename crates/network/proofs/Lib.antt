@@ -6,8 +6,6 @@ pub mod Entries
 pub mod Students
 pub mod Projects
 pub mod Begin
-pub mod Advance
-pub mod Fair
 pub mod Sums
 pub mod Costs
 pub mod Listed
@@ -21,11 +19,9 @@ pub mod Seats
 pub mod Reseated
 pub mod Shift
 pub mod Ends
-pub mod Refused
 pub mod Steps
 pub mod PushStart
 pub mod Searching
-pub mod Spans
 pub mod Spared
 pub mod Append
 pub mod Regrow

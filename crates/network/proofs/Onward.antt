@@ -9,16 +9,12 @@ use Rattle.network.specs.Arcs.{IsFormed, project_count, sink_of}
 use Rattle.network.specs.Labels.{IsUnderway}
 use Rattle.network.specs.Ways.{is_spare, HasWay, at_sink, by_supervisor, by_project, IsNextOnWay, IsBounded}
 use Rattle.network.proofs.Group.{at_most_trans, at_most_shift, zero_left}
+use Rattle.network.proofs.Relax.{surely}
 use Rattle.network.proofs.Settle.{open_rank, settled_rank}
 use Rattle.network.specs.declared.flow.Flow.{Flow}
 use Rattle.network.specs.declared.marks.Origin.{Origin}
 use Rattle.network.specs.declared.marks.Origin.TheVariants.{Offer, Room}
 use Rattle.network.specs.declared.marks.Mark.{Mark}
-
--- an offer that may not be spared reached its node
-surely : {G : Type 0} {o : Ops G} (f : Flow G) (marks : List (Mark G)) (w : Origin) (b : ℕ) (x : G) → is_spare w ≡ false → Meets o f marks w b x → Reaches o marks b x
-surely f marks w b x sure (inl r) = r
-surely f marks w b x sure (inr s) = absurd (let h = s.0 in cc)
 
 module _ {G : Type 0} {o : Ops G} (laws : IsWorth o) where
   -- along an arc of no worth to a potential as high

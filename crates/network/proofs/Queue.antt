@@ -1,5 +1,5 @@
 -- The open nodes keep their order.
-use Rattle.std.proofs.Common.{◌≡◌, ℕ, ◌+◌, ◌-◌, ◌<◌, ◌≤◌, ◌==◌, ◌⊎◌, inl, inr, List, length, set, get_or, Bool, true, false, cond, not, ◌&&◌, ◌||◌, Some, None, refl, sym, ◌∙◌, ap, subst, arith, slice_get, eqb, eq-eqb, ne_eqb, get_or-set_same, get_or-set_other, length-set}
+use Rattle.std.proofs.Common.{◌≡◌, ℕ, ◌+◌, ◌-◌, ◌<◌, ◌≤◌, ◌==◌, ◌⊎◌, inl, inr, List, length, set, get_or, Bool, true, false, cond, not, ◌&&◌, Some, None, refl, sym, ◌∙◌, ap, subst, arith, slice_get, eqb, eq-eqb, ne_eqb, get_or-set_same, get_or-set_other, length-set}
 use Rattle.std.specs.List.{insert, remove, AllPairs}
 use Rattle.std.specs.Ordering.{is_gt}
 use Rattle.std.proofs.lemmas.Bool.{cases_eq, cases_lt, and_parts}
@@ -10,12 +10,13 @@ use Rattle.std.proofs.lemmas.List.Sums.{sum_by-insert, sum_by-remove}
 use Rattle.network.specs.declared.TheConstants.{LARGEST_OFFER}
 use Rattle.spa.specs.Laws.{Ops, IsWorth, AtMost}
 use Rattle.network.proofs.Group.{at_most_refl, at_most_trans, at_most_rev, at_most_shift}
-use Rattle.network.specs.Marks.{is_seen, is_settled, is_open_mark, blank, mark_at, potential_at, key_at, improves, relaxed, settled_as}
+use Rattle.network.specs.Marks.{is_seen, is_settled, is_open_mark, blank, mark_at, potential_at, key_at, improves, settled_as}
 use Rattle.network.specs.Push.{one_if}
 use Rattle.network.specs.Labels.{count_of, AreLabels, AreKeyed, IsOrdered, IsQueue, IsQueueBut, IsTouched, IsWithout, IsOpenEnd, IsBest}
 use Rattle.network.specs.Ways.{IsBounded, HasWay}
 use Rattle.network.proofs.Listed.{cond_one, found, stands, length_below}
 use Rattle.network.proofs.Labelled.{open_known, open_element, one_most, labels_set, labels_settled, labels_kept}
+use Rattle.network.proofs.Relax.{improves_open}
 use Rattle.network.proofs.Settle.{open_rank}
 use Rattle.std.specs.Vec.{vec_capacity}
 use Rattle.std.specs.declared.vec.Vec.{Vec}
@@ -25,62 +26,33 @@ use Rattle.network.specs.declared.marks.Labels.{Labels}
 use Rattle.network.specs.declared.marks.Origin.{Origin}
 use Rattle.network.specs.declared.marks.Mark.{Mark}
 
--- with one more at a position
-pub count_in : (xs : List ℕ) (i x n : ℕ) → count_of (insert xs i x) n ≡ count_of xs n + one_if (eqb x n)
-count_in xs i x n = let s = sum_by-insert (λ y. cond (y == n) 1 0) xs i x in omega (arith, s, cond_one (eqb x n))
-
 -- with the one at a position taken out
 pub count_out : (xs : List ℕ) (i d n : ℕ) → i < length xs → count_of (remove xs i) n + one_if (eqb (get_or xs i d) n) ≡ count_of xs n
 count_out xs i d n lt = let s = sum_by-remove (λ y. cond (y == n) 1 0) xs i d lt in omega (arith, s, cond_one (eqb (get_or xs i d) n))
 
-module _ {X : Type 0} (R : X → X → Type 0) (xs : List X) (i : ℕ) (y d : X) (le : i ≤ length xs) where
-  -- what stands at a position after one came in
-  came_in : (k : ℕ) → ((k < i) × (get_or (insert xs i y) k d ≡ get_or xs k d)) ⊎ (((k ≡ i) × (get_or (insert xs i y) k d ≡ y)) ⊎ ((c : ℕ) × (k ≡ c + 1) × (i ≤ c) × (get_or (insert xs i y) k d ≡ get_or xs c d)))
-  came_in k = elim (cases_lt k i) [
-    | inl lt ↦ inl (lt, get_or-insert_below xs i y d k lt le)
-    | inr ge ↦ elim (cases_eq k i) [
-      | inl e ↦ inr (inl (e, ap (λ z. get_or (insert xs i y) z d) e ∙ get_or-insert_at xs i y d le))
-      | inr ne ↦
-          (let above : i ≤ k - 1 = omega (arith, ge, ne) in
-          let up : k ≡ k - 1 + 1 = omega (arith, ge, ne) in
-          inr (inr (k - 1, up, above, ap (λ z. get_or (insert xs i y) z d) up ∙ get_or-insert_above xs i y d (k - 1) above le)))
-    ]
+-- a pair of elements after one came in between those below it and those above
+pub ordered_in : {X : Type 0} (R : X → X → Type 0) (xs : List X) (i : ℕ) (y d : X) → i ≤ length xs → AllPairs R xs → ((k : ℕ) → k < i → R (get_or xs k d) y) → ((k : ℕ) → i ≤ k → k < length xs → R y (get_or xs k d))
+    → (a b : ℕ) → a < b → b < length (insert xs i y) → R (get_or (insert xs i y) a d) (get_or (insert xs i y) b d)
+ordered_in R xs i y d le pairs before after a b lt within = elim (cases_lt b i) [
+  | inl bi ↦ (let ai : a < i = omega (arith, lt, bi) in rw (get_or-insert_below xs i y d a ai le, get_or-insert_below xs i y d b bi le) (pairs a b d lt (omega (arith, bi, le))))
+  | inr ib ↦ elim (cases_eq b i) [
+    | inl e ↦ (let ai : a < i = omega (arith, lt, e) in rw (e, get_or-insert_at xs i y d le, get_or-insert_below xs i y d a ai le) (before a ai))
+    | inr ne ↦
+        (let up : b ≡ b - 1 + 1 = omega (arith, ib, ne) in let above : i ≤ b - 1 = omega (arith, ib, ne) in
+        let here : get_or (insert xs i y) b d ≡ get_or xs (b - 1) d = ap (λ z. get_or (insert xs i y) z d) up ∙ get_or-insert_above xs i y d (b - 1) above le in
+        let known : b - 1 < length xs = (let long = length-insert xs i y le in omega (arith, within, long, up)) in
+        elim (cases_lt a i) [
+          | inl ai ↦ rw (here, get_or-insert_below xs i y d a ai le) (pairs a (b - 1) d (omega (arith, ai, above)) known)
+          | inr ia ↦ elim (cases_eq a i) [
+            | inl q ↦ rw (here, q, get_or-insert_at xs i y d le) (after (b - 1) above known)
+            | inr far ↦
+                (let over : a ≡ a - 1 + 1 = omega (arith, ia, far) in let ia' : i ≤ a - 1 = omega (arith, ia, far) in
+                let there : get_or (insert xs i y) a d ≡ get_or xs (a - 1) d = ap (λ z. get_or (insert xs i y) z d) over ∙ get_or-insert_above xs i y d (a - 1) ia' le in
+                rw (here, there) (pairs (a - 1) (b - 1) d (omega (arith, lt, up, over)) known))
+          ]
+        ])
   ]
-
-  -- a pair of elements after one came in between those below it and those above
-  pub ordered_in : AllPairs R xs → ((k : ℕ) → k < i → R (get_or xs k d) y) → ((k : ℕ) → i ≤ k → k < length xs → R y (get_or xs k d))
-      → (a b : ℕ) → a < b → b < length (insert xs i y) → R (get_or (insert xs i y) a d) (get_or (insert xs i y) b d)
-  ordered_in pairs before after a b lt within =
-      let long = length-insert xs i y le in
-      elim (came_in a) [
-        | inl p ↦ elim (came_in b) [
-          | inl q ↦ rw (p.1, q.1) (pairs a b d lt (omega (arith, q.0, le)))
-          | inr (inl q) ↦ rw (p.1, q.1) (before a p.0)
-          | inr (inr q) ↦ rw (p.1, q.3) (pairs a q.0 d (omega (arith, p.0, q.2)) (omega (arith, q.1, within, long)))
-        ]
-        | inr (inl p) ↦ elim (came_in b) [
-          | inl q ↦ absurd (omega (arith, p.0, q.0, lt))
-          | inr (inl q) ↦ absurd (omega (arith, p.0, q.0, lt))
-          | inr (inr q) ↦ rw (p.1, q.3) (after q.0 q.2 (omega (arith, q.1, within, long)))
-        ]
-        | inr (inr p) ↦ elim (came_in b) [
-          | inl q ↦ absurd (omega (arith, p.1, p.2, q.0, lt))
-          | inr (inl q) ↦ absurd (omega (arith, p.1, p.2, q.0, lt))
-          | inr (inr q) ↦ rw (p.3, q.3) (pairs p.0 q.0 d (omega (arith, p.1, q.1, lt)) (omega (arith, q.1, within, long)))
-        ]
-      ]
-
--- what an offer makes of a mark, by one test
-relaxed_if : {G : Type 0} (m n : Mark G) (s t u : Bool) → cond s m (cond t (cond u n m) n) ≡ cond (not s && (not t || u)) n m
-relaxed_if m n true t u = refl
-relaxed_if m n false false u = refl
-relaxed_if m n false true false = refl
-relaxed_if m n false true true = refl
-
--- a label that improves a mark finds it not settled
-not_yet : (s t : Bool) → (not s && t) ≡ true → s ≡ false
-not_yet true t e = cc
-not_yet false t e = refl
+]
 
 -- an element of an ordered list comes to no more than a later one
 pub ordered_upto : {G : Type 0} {o : Ops G} → IsWorth o → (f : Flow G) (m : List (Mark G)) (xs : List ℕ) → IsOrdered o f m xs → (i k a b : ℕ) → slice_get xs i ≡ Some a → slice_get xs k ≡ Some b → k ≤ i
@@ -99,20 +71,6 @@ last_highest laws f m xs pairs top w at there =
     ordered_upto laws f m xs pairs (length xs - 1) k.0 top w at k.1 (omega (arith, lt))
 
 module _ {G : Type 0} (o : Ops G) where
-  -- a better label is taken
-  pub relaxed_better : (m : Mark G) (label : G) (origin : Origin) → improves o m label ≡ true → relaxed o m label origin ≡ record { label = label; origin = origin; rank = None }
-  relaxed_better m label origin e =
-      relaxed_if m (record { label = label; origin = origin; rank = None }) (is_settled m.rank) (is_seen m.origin) (is_gt (o.cmp label m.label)) ∙ ap (λ z. cond z (record { label = label; origin = origin; rank = None }) m) e
-
-  -- another is not
-  pub relaxed_worse : (m : Mark G) (label : G) (origin : Origin) → improves o m label ≡ false → relaxed o m label origin ≡ m
-  relaxed_worse m label origin e =
-      relaxed_if m (record { label = label; origin = origin; rank = None }) (is_settled m.rank) (is_seen m.origin) (is_gt (o.cmp label m.label)) ∙ ap (λ z. cond z (record { label = label; origin = origin; rank = None }) m) e
-
-  -- and a settled node takes none
-  pub better_open : (m : Mark G) (label : G) → improves o m label ≡ true → is_settled m.rank ≡ false
-  better_open m label e = not_yet (is_settled m.rank) (not (is_seen m.origin) || is_gt (o.cmp label m.label)) e
-
   -- the order stays where the keys stay
   pub ordered_same : (f : Flow G) (m n : List (Mark G)) (xs : List ℕ) → ((k b : ℕ) → slice_get xs k ≡ Some b → key_at o n f.potentials.items b ≡ key_at o m f.potentials.items b)
       → IsOrdered o f m xs → IsOrdered o f n xs
@@ -144,14 +102,6 @@ module _ {G : Type 0} (o : Ops G) where
   ordered_out f marks xs ys (inl e) pairs = rw e pairs
   ordered_out f marks xs ys (inr r) pairs = rw r.2 (all_pairs_remove (λ a b. AtMost o (key_at o marks f.potentials.items a) (key_at o marks f.potentials.items b)) xs r.0 r.1 pairs)
 
-  -- a better label is no lower
-  pub better_grows : (m : Mark G) (label : G) → improves o m label ≡ true → is_seen m.origin ≡ true → is_gt (o.cmp label m.label) ≡ true
-  better_grows m label e seen = go (is_settled m.rank) (is_seen m.origin) (is_gt (o.cmp label m.label)) e seen where
-    go : (s t u : Bool) → (not s && (not t || u)) ≡ true → t ≡ true → u ≡ true
-    go true t u e f = cc
-    go false true u e f = e
-    go false false u e f = cc
-
 module _ {G : Type 0} {o : Ops G} (laws : IsWorth o) (f : Flow G) where
   -- a node takes a better label
   module _ (l : Labels G) (q : IsQueue o f l) (node : ℕ) (lt : node < length l.marks.items) (label : G) (small : o.span label ≤ LARGEST_OFFER) (origin : Origin)
@@ -178,7 +128,7 @@ module _ {G : Type 0} {o : Ops G} (laws : IsWorth o) (f : Flow G) where
         | inr p ↦ inr (elim (cases_eq l.end node) [
           | inl e ↦
               (let was : is_seen (mark_at o l.marks.items node).origin ≡ true = ap (λ z. is_seen (mark_at o l.marks.items z).origin) (sym e) ∙ p.0 in
-              let up : AtMost o (mark_at o l.marks.items node).label label = at_most_rev laws _ _ (better_grows o (mark_at o l.marks.items node) label better was) in
+              let up : AtMost o (mark_at o l.marks.items node).label label = (improves_open laws f (mark_at o l.marks.items node) label better).1 was in
               let h : G = potential_at o f.potentials.items l.end in
               let at : mark_at o marks_now l.end ≡ taken = ap (mark_at o marks_now) e ∙ here in
               let key_was : key_at o l.marks.items f.potentials.items l.end ≡ o.plus (mark_at o l.marks.items node).label h = ap (λ z. o.plus (mark_at o l.marks.items z).label h) e in
@@ -193,7 +143,7 @@ module _ {G : Type 0} {o : Ops G} (laws : IsWorth o) (f : Flow G) where
     pub queue_but : (t n : Labels G) → IsTouched l t node → t ≡ record l { frontier = t.frontier; touched = t.touched } → n ≡ record t { marks = n.marks } → n.marks.items ≡ set t.marks.items node taken → IsQueueBut o f n node
     queue_but t n now t_rest n_rest n_set = record {
       labels =
-          (let undone : one_if (is_settled (mark_at o l.marks.items node).rank) ≡ 0 = ap one_if (better_open o (mark_at o l.marks.items node) label better) in
+          (let undone : one_if (is_settled (mark_at o l.marks.items node).rank) ≡ 0 = ap (λ z. one_if (is_settled z)) (improves_open laws f (mark_at o l.marks.items node) label better).0 in
           labels_set l q.labels n node taken lt set_is seen
           (λ b ne. rw frontier (now.others b (λ e. ne (sym e)))) (rw frontier (omega (arith, now.gone)))
           (λ b ne. rw touched (now.touched_others b (λ e. ne (sym e)))) (rw touched now.touched)
