@@ -15,7 +15,6 @@ pub mod Onward
 pub mod Changed
 pub mod Transfer
 pub mod Seated
-pub mod Seats
 pub mod Reseated
 pub mod Shift
 pub mod Ends

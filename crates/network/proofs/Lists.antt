@@ -1,9 +1,12 @@
 -- Elements of lists that change, and of lists that a function was applied to.
-use Rattle.std.proofs.Common.{◌≡◌, ℕ, zero, suc, ◌<◌, ◌≤◌, ◌⊎◌, inl, inr, List, [], ◌∷◌, ◌++◌, length, set, map, All, Some, slice_get, refl, arith, ap, subst}
+use Rattle.std.proofs.Common.{◌≡◌, ℕ, zero, suc, ◌<◌, ◌≤◌, ◌⊎◌, inl, inr, List, [], ◌∷◌, ◌++◌, length, set, map, All, Some, slice_get, refl, arith, ◌∙◌, ap, subst}
 use Rattle.std.proofs.lemmas.Option.{slice_get_within, get_or_from_slice_get, same_Some}
 use Rattle.std.specs.declared.vec.Vec.{Vec}
 use Rattle.std.specs.declared.alloc.Global.{Global}
 use Rattle.spa.specs.Laws.{Ops}
+use Rattle.std.proofs.lemmas.Bool.{cases_eq}
+use Rattle.network.specs.Labels.{count_of}
+use Rattle.network.specs.Kept.{numbers_of, numbers_at}
 use Rattle.network.specs.View.{row_of, IsKnownList}
 
 -- the element that was set
@@ -55,3 +58,20 @@ row_behind (r ∷ rows) (suc s) list e = row_behind rows s list e
 -- a list whose entries are known and small
 pub known_list : {G : Type 0} (o : Ops G) (projects : ℕ) (list : List (ℕ × G)) → All (λ e. e.0 < projects) list → All (λ e. o.span e.1 ≤ 1) list → IsKnownList o projects list
 known_list {G} o projects list known small k p w e = (all_at (λ x. x.0 < projects) list k (p, w) known e, all_at (λ x. o.span x.1 ≤ 1) list k (p, w) small e)
+
+-- where one list of several gets no longer, none does
+pub all_shorter : (L : List (Vec ℕ Global)) (p : ℕ) (v w : Vec ℕ Global) → slice_get L p ≡ Some w → length v.items ≤ length w.items → (q : ℕ) → length (numbers_at (set L p v) q) ≤ length (numbers_at L q)
+all_shorter L p v w was less q = elim (cases_eq q p) [
+  | inl e ↦
+      (let a : length (numbers_at (set L p v) q) ≡ length v.items = ap (λ x. length (numbers_at (set L p v) x)) e ∙ ap (λ x. length (numbers_of x)) (slice_get-set_same L p v (slice_get_within L p w was)) in
+      let b : length (numbers_at L q) ≡ length w.items = ap (λ x. length (numbers_at L x)) e ∙ ap (λ x. length (numbers_of x)) was in
+      omega (arith, a, b, less))
+  | inr ne ↦ (let a : length (numbers_at (set L p v) q) ≡ length (numbers_at L q) = ap (λ x. length (numbers_of x)) (slice_get-set_other L p q v ne) in omega (arith, a))
+]
+
+-- one more empty list
+pub none_more : (L : List (Vec ℕ Global)) (v : Vec ℕ Global) → v.items ≡ [] → ((p s : ℕ) → count_of (numbers_at L p) s ≡ 0) → (p s : ℕ) → count_of (numbers_at (L ++ v ∷ []) p) s ≡ 0
+none_more [] v e none zero s = ap (λ z. count_of z s) e
+none_more [] v e none (suc p) s = refl
+none_more (x ∷ L) v e none zero s = none 0 s
+none_more (x ∷ L) v e none (suc p) s = none_more L v e (λ q. none (suc q)) p s

@@ -1,12 +1,12 @@
 -- The open nodes keep their order.
-use Rattle.std.proofs.Common.{◌≡◌, ℕ, ◌+◌, ◌-◌, ◌<◌, ◌≤◌, ◌==◌, ◌⊎◌, inl, inr, List, length, set, get_or, Bool, true, false, cond, not, ◌&&◌, Some, None, refl, sym, ◌∙◌, ap, subst, arith, slice_get, eqb, eq-eqb, ne_eqb, get_or-set_same, get_or-set_other, length-set}
+use Rattle.std.proofs.Common.{◌≡◌, ℕ, ◌+◌, ◌-◌, ◌<◌, ◌≤◌, ◌==◌, inl, inr, List, length, set, get_or, true, cond, not, ◌&&◌, Some, None, refl, sym, ◌∙◌, ap, subst, arith, slice_get, eqb, eq-eqb, ne_eqb, get_or-set_same, get_or-set_other, length-set}
 use Rattle.std.specs.List.{insert, remove, AllPairs}
 use Rattle.std.specs.Ordering.{is_gt}
 use Rattle.std.proofs.lemmas.Bool.{cases_eq, cases_lt, and_parts}
 use Rattle.std.proofs.lemmas.Option.{slice_get-get_or, slice_get_within, get_or_from_slice_get, same_Some}
 use Rattle.std.proofs.lemmas.List.Edits.{length-insert, get_or-insert_below, get_or-insert_at, get_or-insert_above}
 use Rattle.std.proofs.lemmas.List.Quantifiers.{all_pairs_remove}
-use Rattle.std.proofs.lemmas.List.Sums.{sum_by-insert, sum_by-remove}
+use Rattle.std.proofs.lemmas.List.Sums.{sum_by-remove}
 use Rattle.network.specs.declared.TheConstants.{LARGEST_OFFER}
 use Rattle.spa.specs.Laws.{Ops, IsWorth, AtMost}
 use Rattle.network.proofs.Group.{at_most_refl, at_most_trans, at_most_rev, at_most_shift}
@@ -14,8 +14,8 @@ use Rattle.network.specs.Marks.{is_seen, is_settled, is_open_mark, blank, mark_a
 use Rattle.network.specs.Push.{one_if}
 use Rattle.network.specs.Labels.{count_of, AreLabels, AreKeyed, IsOrdered, IsQueue, IsQueueBut, IsTouched, IsWithout, IsOpenEnd, IsBest}
 use Rattle.network.specs.Ways.{IsBounded, HasWay}
-use Rattle.network.proofs.Listed.{cond_one, found, stands, length_below}
-use Rattle.network.proofs.Labelled.{open_known, open_element, one_most, labels_set, labels_settled, labels_kept}
+use Rattle.network.proofs.Listed.{cond_one, found, stands}
+use Rattle.network.proofs.Labelled.{element, fits, labels_set, labels_settled, labels_kept}
 use Rattle.network.proofs.Relax.{improves_open}
 use Rattle.network.proofs.Settle.{open_rank}
 use Rattle.std.specs.Vec.{vec_capacity}
@@ -193,9 +193,7 @@ module _ {G : Type 0} {o : Ops G} (laws : IsWorth o) (f : Flow G) where
   module _ (l : Labels G) (node : ℕ) (q : IsQueueBut o f l node) (lt : node < length l.marks.items) where
     -- has room among those that may be chosen
     pub but_fits : length l.frontier.items < vec_capacity l.frontier
-    but_fits =
-        let s = length_below (length l.marks.items) node l.frontier.items (open_known l q.labels) (λ n. omega (arith, q.labels.frontier n, one_most (is_open_mark (mark_at o l.marks.items n)))) lt q.gone in
-        omega (arith, s, q.labels.frontier_room)
+    but_fits = let s = fits o l.marks.items l.frontier.items is_open_mark q.labels.frontier refl node lt q.gone in omega (arith, s, q.labels.frontier_room)
 
     -- is left out where it comes to no more than the bound
     pub queue_left : AtMost o (key_at o l.marks.items f.potentials.items node) l.bound → IsQueue o f l
@@ -250,7 +248,7 @@ module _ {G : Type 0} {o : Ops G} (laws : IsWorth o) (f : Flow G) where
   module _ (l : Labels G) (q : IsQueue o f l) (top : ℕ) (at : slice_get l.frontier.items (length l.frontier.items - 1) ≡ Some top) where
     pub last_best : AtMost o l.bound (key_at o l.marks.items f.potentials.items top) → IsBest o f l.marks.items top
     last_best above = record {
-      opened = open_element l q.labels (length l.frontier.items - 1) top at;
+      opened = element o l.marks.items l.frontier.items is_open_mark q.labels.frontier (length l.frontier.items - 1) top at;
       best = λ w e. elim (q.left_out w e) [
         | inl there ↦ last_highest laws f l.marks.items l.frontier.items q.ordered top w at there
         | inr below ↦ at_most_trans laws _ l.bound _ below above

@@ -17,7 +17,7 @@ use Rattle.network.proofs.PushStart.{but_feasible}
 use Rattle.network.specs.declared.flow.Flow.{Flow}
 use Rattle.network.specs.declared.marks.Labels.{Labels}
 use Rattle.network.specs.declared.marks.Origin.{Origin}
-use Rattle.network.specs.declared.marks.Origin.TheVariants.{Unseen, Entry, Leave, Offer, Swap, Room}
+use Rattle.network.specs.declared.marks.Origin.TheVariants.{Unseen, Entry, Leave}
 use Rattle.network.specs.declared.marks.Mark.{Mark}
 
 -- a search before its next choice

@@ -1,6 +1,6 @@
 use Rattle.std.proofs.Common.{◌≡◌, length, Some, slice_get, refl}
 use Rattle.std.proofs.lemmas.Option.{slice_get_read}
-use Rattle.network.proofs.Seats.{all_shorter}
+use Rattle.network.proofs.Lists.{all_shorter}
 use Rattle.network.proofs.kept.unseat.Goals as goal
 
 pub returns-clause-shorter : goal.returns-clause-shorter
