@@ -104,7 +104,7 @@ module _ {G : Type 0} {o : Ops G} (laws : IsWorth o) (f : Flow G) (marks : List 
     abbrev pub Placed : Flow G
     Placed = record f { held = P }
 
-    -- a student takes another place, or none, that is worth as much as the old one: the hole moves to the old one's project
+    -- a student takes another place, or none, that comes to as much as the old one: the hole moves to the old one's project
     moved_next : (h : IsStep o f marks (length marks) hole) (was : Holds f s h.before) → ((k : ℕ) → x ≡ Some k → (p : ℕ) × (w : G) × HasEntry f.lists.items s k p w)
         → (x ≡ None → o.plus was.worth (potential o f h.before) ≡ o.zero) → ((k p : ℕ) (w : G) → x ≡ Some k → HasEntry f.lists.items s k p w → o.plus w (potential o f p) ≡ o.plus was.worth (potential o f h.before))
         → (hole < project_count f) ⊎ (hole ≡ sink_of f) → ((p : ℕ) → p < project_count f → place_at (Some x) (slice_get f.lists.items s) p ≡ one_if (nat_eq hole p)) → IsNext o Placed marks fresh top hole h.before
