@@ -3,11 +3,18 @@ use Rattle.std.proofs.Common.{◌≡◌, arith, ℕ, List, [], ◌∷◌, ◌++�
 use Rattle.sqlite.specs.Order.{Row}
 use Rattle.sqlite.specs.Table.{Table}
 use Rattle.sqlite.specs.State.{State}
+use Rattle.sqlite.specs.Effect.{Database}
 use Rattle.tables.specs.Table.{Place}
 use Rattle.tables.specs.Keyed.{Stands}
-use Rattle.tables.specs.Writes.{Adds, Replaces, Puts, begins_with, without}
+use Rattle.tables.specs.Writes.{WritesOnly, IsInert, Adds, Puts, begins_with, without}
 use Rattle.tables.specs.Steps.{HasStepped}
 use Rattle.tables.proofs.Runs.{writes_then}
+
+-- each row with this key is replaced by the given one, and nothing else changes; so many there were
+abbrev pub Replaces : (Place → Table) → Row → Row → ℕ → Database → Database → Type 0
+Replaces table key given count old new =
+    (place : Place) (rows : List Row) → IsInert old.schema place.tree → Stands table place rows old
+    → Stands table place (map (λ (_ : Row). given) (filter (begins_with key) rows) ++ without key rows) new × WritesOnly place.tree old new × (count ≡ length (filter (begins_with key) rows))
 
 none : {X : Type 0} (xs : List X) → 0 ≡ length xs → xs ≡ []
 none [] h = refl

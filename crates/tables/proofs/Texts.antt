@@ -37,7 +37,7 @@ use Rattle.sqlite_resolve.specs.declared.scope.Output.{Output}
 use Rattle.sqlite_resolve.specs.declared.error.CompileError.TheVariants.{NoSuchTable}
 use Rattle.sqlite_tied.specs.Compute.{everything}
 use Rattle.tables.specs.declared.table.Table.{Table}
-use Rattle.tables.specs.Table.{Shape, Place, Lists, checks_of, shape_of, table_at, kinds_of, are_of, cells}
+use Rattle.tables.specs.Table.{Shape, Sql, Place, Lists, checks_of, shape_of, sql_of, table_at, kinds_of, are_of, cells}
 use Rattle.tables.specs.Writes.{begins_with}
 use Rattle.tables.proofs.Places.{nowhere}
 use Rattle.tables.proofs.Creating.{IsCreate, made_command}
@@ -72,6 +72,9 @@ module _ (table : Table) where
   abbrev shape : Shape
   shape = shape_of table
 
+  abbrev said : Sql
+  said = sql_of table
+
   abbrev plain : AnyTable
   plain = table_at table nowhere
 
@@ -86,11 +89,11 @@ module _ (table : Table) where
   -- the texts are read as the forms of the shape: CREATE makes the table, INSERT lays a row out, and SELECT shows it
   pub record AreRead : Type 0 where
     pub body : TableBody
-    pub create : first shape.create ≡ Ok (read_as shape.create (written.CreateTable (create_of shape body)) 0)
-    pub insert : first shape.insert ≡ Ok (read_as shape.insert (insert_of shape) (width shape))
-    pub update : first shape.update ≡ Ok (read_as shape.update (update_of shape) (width shape))
-    pub delete : first shape.delete ≡ Ok (read_as shape.delete (delete_of shape) shape.named)
-    pub select : first shape.select ≡ Ok (read_as shape.select (written.Select (select_of shape)) 0)
+    pub create : first said.create ≡ Ok (read_as said.create (written.CreateTable (create_of shape body)) 0)
+    pub insert : first said.insert ≡ Ok (read_as said.insert (insert_of shape) (width shape))
+    pub update : first said.update ≡ Ok (read_as said.update (update_of shape) (width shape))
+    pub delete : first said.delete ≡ Ok (read_as said.delete (delete_of shape) shape.named)
+    pub select : first said.select ≡ Ok (read_as said.select (written.Select (select_of shape)) 0)
     pub defined : define.table [] (create_of shape body) ≡ Ok (table_at table (record { tree = 0; checks = checks_of table }))
     pub unlisted : table_named listing_schema shape.name ≡ None
     pub laid : (schema : Schema) (place : Place) (base : ℕ) → new_rows schema (table_at table place) base (names_of shape) (given_rows shape) ≡ Ok (Values (terms_of shape) (suc (width shape)))
@@ -130,29 +133,29 @@ module _ (table : Table) (it : Texts table) where
   unfolding command create_table
   creates_only schema base k h = made_command schema told.name k (rw it.read.defined at h)
 
-  create_unlisted : if_select (compiled listing_schema told.create) ≡ Err NoSuchTable
+  create_unlisted : if_select (compiled listing_schema (said table).create) ≡ Err NoSuchTable
   unfolding compiled planned meaning timed returning
-  create_unlisted = rw it.read.create (not_select (read_as told.create (written.CreateTable (create_of told it.read.body)) 0) _ (λ k h. ap is_select (creates_only listing_schema _ k h)))
+  create_unlisted = rw it.read.create (not_select (read_as (said table).create (written.CreateTable (create_of told it.read.body)) 0) _ (λ k h. ap is_select (creates_only listing_schema _ k h)))
 
   -- the text that makes the table
-  pub create_is : IsCreate told.create made_plain (checks_of table)
+  pub create_is : IsCreate (said table).create made_plain (checks_of table)
   unfolding timed returning table_defined_by table_in
   create_is = record {
-    p = read_as told.create (written.CreateTable (create_of told it.read.body)) 0;
+    p = read_as (said table).create (written.CreateTable (create_of told it.read.body)) 0;
     parsed = it.read.create;
     unlisted = create_unlisted;
     untimed = λ schema. refl;
     shows = λ schema. refl;
     commands = λ schema. creates_only schema _;
-    whole = read_whole told.create;
+    whole = read_whole (said table).create;
     defined = rw it.read.create it.read.defined;
     named = same_itself told.name;
   }
 
   -- the text that adds a row
-  pub insert_is : IsInsert told.insert made_plain (kinds_of table)
+  pub insert_is : IsInsert (said table).insert made_plain (kinds_of table)
   insert_is = record {
-    p = read_as told.insert (insert_of told) (width told);
+    p = read_as (said table).insert (insert_of told) (width told);
     columns = names_of told;
     values = given_rows told;
     terms = terms_of told;
@@ -161,33 +164,33 @@ module _ (table : Table) (it : Texts table) where
     statement = refl;
     plain = refl;
     laid = λ schema place. it.read.laid schema place _;
-    whole = read_whole told.insert;
+    whole = read_whole (said table).insert;
     given = λ row is.
         let gives = by_kinds (kinds_of table) (Gives table) it.rows row is in
         record { source = laid_out Null told.key row; one = gives.one; shown = gives.added };
   }
 
   -- the text that takes rows away
-  pub delete_is : IsDelete told.delete made_plain (take told.named (kinds_of table))
+  pub delete_is : IsDelete (said table).delete made_plain (take told.named (kinds_of table))
   unfolding compiled planned meaning timed returning shows command delete
   delete_is = record {
-    p = read_as told.delete (delete_of told) told.named;
+    p = read_as (said table).delete (delete_of told) told.named;
     test = test_of told told.named;
     tests = finds_of told told.named;
     parsed = it.read.delete;
     statement = refl;
     plain = refl;
-    whole = read_whole told.delete;
+    whole = read_whole (said table).delete;
     unlisted = rw (it.read.delete, it.read.unlisted) refl;
     draft = λ schema at place has. (it.resolved schema at place has.there).removal;
     hits = by_kinds (take told.named (kinds_of table)) _ it.keys;
   }
 
   -- the text that sets a row by its key
-  pub update_is : IsUpdate told.update made_plain (kinds_of table) (length told.primary)
+  pub update_is : IsUpdate (said table).update made_plain (kinds_of table) (length told.primary)
   unfolding compiled planned meaning timed returning shows command update
   update_is = record {
-    p = read_as told.update (update_of told) (width told);
+    p = read_as (said table).update (update_of told) (width told);
     sets = sets_of told;
     test = test_of told (length told.primary);
     tests = finds_of told (length told.primary);
@@ -195,17 +198,17 @@ module _ (table : Table) (it : Texts table) where
     parsed = it.read.update;
     statement = refl;
     plain = refl;
-    whole = read_whole told.update;
+    whole = read_whole (said table).update;
     unlisted = rw (it.read.update, it.read.unlisted) refl;
     draft = λ schema at place has. (it.resolved schema at place has.there).change;
     hits = λ row is. (by_kinds (kinds_of table) (Gives table) it.rows row is).finds;
     set = λ row is. (by_kinds (kinds_of table) (Gives table) it.rows row is).set;
   }
 
-  select_plain : IsPlainSelect told.select
+  select_plain : IsPlainSelect (said table).select
   unfolding everything
   select_plain = record {
-    p = read_as told.select (written.Select (select_of told)) 0;
+    p = read_as (said table).select (written.Select (select_of told)) 0;
     s = select_of told;
     parsed = it.read.select;
     statement = refl;
@@ -219,11 +222,11 @@ module _ (table : Table) (it : Texts table) where
     no_group = refl;
     no_having = refl;
     no_distinct = refl;
-    whole = read_whole told.select;
+    whole = read_whole (said table).select;
     from = λ q schema lets. refl;
   }
 
-  select_unlisted : if_select (compiled listing_schema told.select) ≡ Err NoSuchTable
+  select_unlisted : if_select (compiled listing_schema (said table).select) ≡ Err NoSuchTable
   unfolding everything listing_schema
   select_unlisted = rw (it.read.select, it.read.unlisted) refl
 
@@ -237,7 +240,7 @@ module _ (table : Table) (it : Texts table) where
   }
 
   -- the text that reads the table
-  pub select_is : IsSelect told.select made_plain
+  pub select_is : IsSelect (said table).select made_plain
   unfolding select_plain
   select_is = record {
     plain = select_plain;

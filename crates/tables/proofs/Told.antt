@@ -7,9 +7,10 @@ use Rattle.sqlite.specs.Tree.{Trees}
 use Rattle.tables.specs.declared.fault.TableFault.{TableFault}
 use Rattle.tables.specs.Keyed.{IsKeyed}
 use Rattle.tables.specs.declared.table.Table.{Table}
-use Rattle.tables.specs.Table.{Shape, checks_of, shape_of, table_at, kinds_of, key_in, IsRowOf, IsKeyOf}
-use Rattle.tables.specs.Writes.{Makes, Adds, Replaces, Removes}
+use Rattle.tables.specs.Table.{Sql, checks_of, shape_of, sql_of, table_at, kinds_of, key_in, IsRowOf, IsKeyOf}
+use Rattle.tables.specs.Writes.{Makes, Adds, Removes}
 use Rattle.tables.specs.Steps.{HasRun, HasStepped, Shows, RanQuery, Rests}
+use Rattle.tables.proofs.Putting.{Replaces}
 use Rattle.tables.proofs.Places.{nowhere}
 use Rattle.tables.proofs.Creating.{create_makes, create_writes}
 use Rattle.tables.proofs.Adding.{inserts, insert_writes}
@@ -20,38 +21,38 @@ use Rattle.tables.proofs.Runs.{stepped_by}
 use Rattle.tables.proofs.Texts.{create_is, insert_is, update_is, delete_is, select_is}
 use Rattle.tables.proofs.Tables.{texts}
 
-module _ (table : Table) (told : Shape) (is : told ≡ shape_of table) (old new : State) (count : ℕ) where
+module _ (table : Table) (told : Sql) (is : told ≡ sql_of table) (old new : State) (count : ℕ) where
   -- the table was made
   pub created : HasRun told.create [] count old new → HasStepped (Makes (table_at table) (checks_of table) []) old new
-  created run = stepped_by _ _ _ _ _ _ (create_writes (shape_of table).create (table_at table nowhere) (checks_of table) (create_is table (texts table))) (create_makes (shape_of table).create (table_at table nowhere) (checks_of table) (create_is table (texts table)) old new count) (subst (λ (shape : Shape). HasRun shape.create [] count old new) is run)
+  created run = stepped_by _ _ _ _ _ _ (create_writes (sql_of table).create (table_at table nowhere) (checks_of table) (create_is table (texts table))) (create_makes (sql_of table).create (table_at table nowhere) (checks_of table) (create_is table (texts table)) old new count) (subst (λ (sql : Sql). HasRun sql.create [] count old new) is run)
 
   -- a row was added
   pub inserted : (row : Row) → IsRowOf table row → HasRun told.insert row count old new → HasStepped (Adds (table_at table) row) old new
-  inserted row fits run = stepped_by _ _ _ _ _ _ (insert_writes (shape_of table).insert (table_at table nowhere) (kinds_of table) (insert_is table (texts table))) (inserts (shape_of table).insert (table_at table nowhere) (kinds_of table) (insert_is table (texts table)) old new row count fits) (subst (λ (shape : Shape). HasRun shape.insert row count old new) is run)
+  inserted row fits run = stepped_by _ _ _ _ _ _ (insert_writes (sql_of table).insert (table_at table nowhere) (kinds_of table) (insert_is table (texts table))) (inserts (sql_of table).insert (table_at table nowhere) (kinds_of table) (insert_is table (texts table)) old new row count fits) (subst (λ (sql : Sql). HasRun sql.insert row count old new) is run)
 
   -- rows were replaced
   pub replaced : (row : Row) → IsRowOf table row → HasRun told.update row count old new → HasStepped (Replaces (table_at table) (key_in table row) row count) old new
   replaced row fits run =
-      stepped_by _ _ _ _ _ _ (update_writes (shape_of table).update (table_at table nowhere) (kinds_of table) (length (shape_of table).primary) (update_is table (texts table))) (update_replaces (shape_of table).update (table_at table nowhere) (kinds_of table) (length (shape_of table).primary) (update_is table (texts table)) old new row fits count)
-      (subst (λ (shape : Shape). HasRun shape.update row count old new) is run)
+      stepped_by _ _ _ _ _ _ (update_writes (sql_of table).update (table_at table nowhere) (kinds_of table) (length (shape_of table).primary) (update_is table (texts table))) (update_replaces (sql_of table).update (table_at table nowhere) (kinds_of table) (length (shape_of table).primary) (update_is table (texts table)) old new row fits count)
+      (subst (λ (sql : Sql). HasRun sql.update row count old new) is run)
 
   -- rows were taken away
   pub removed : (key : Row) → IsKeyOf table key → HasRun told.delete key count old new → HasStepped (Removes (table_at table) key) old new
   removed key fits run =
-      stepped_by _ _ _ _ _ _ (delete_writes (shape_of table).delete (table_at table nowhere) (take (shape_of table).named (kinds_of table)) (delete_is table (texts table))) (delete_removes (shape_of table).delete (table_at table nowhere) (take (shape_of table).named (kinds_of table)) (delete_is table (texts table)) old new key count fits)
-      (subst (λ (shape : Shape). HasRun shape.delete key count old new) is run)
+      stepped_by _ _ _ _ _ _ (delete_writes (sql_of table).delete (table_at table nowhere) (take (shape_of table).named (kinds_of table)) (delete_is table (texts table))) (delete_removes (sql_of table).delete (table_at table nowhere) (take (shape_of table).named (kinds_of table)) (delete_is table (texts table)) old new key count fits)
+      (subst (λ (sql : Sql). HasRun sql.delete key count old new) is run)
 
-module _ (table : Table) (told : Shape) (is : told ≡ shape_of table) (old new : State) where
+module _ (table : Table) (told : Sql) (is : told ≡ sql_of table) (old new : State) where
   -- what a reading shows of the table
   pub rows_are : (result : Result (Vec Row Global) TableFault) → IfOk result (λ rows. IsKeyed rows.items) → IfOk result (λ rows. Shown told.select [] old new rows.items)
       → IfOk result (λ rows. Shows (table_at table) rows.items old new)
   rows_are result keyed seen =
-      read_shows (shape_of table).select (table_at table nowhere) (select_is table (texts table)) old new result keyed (subst (λ (shape : Shape). IfOk result (λ rows. Shown shape.select [] old new rows.items)) is seen)
+      read_shows (sql_of table).select (table_at table nowhere) (select_is table (texts table)) old new result keyed (subst (λ (sql : Sql). IfOk result (λ rows. Shown sql.select [] old new rows.items)) is seen)
 
   -- it commits nothing
   pub commits_none : (params : Row) (db : Trees) → CommitsShowing told.select params old db → ⊥
-  commits_none params db h = select_commits (shape_of table).select (table_at table nowhere) (select_is table (texts table)) old params db (subst (λ (shape : Shape). CommitsShowing shape.select params old db) is h)
+  commits_none params db h = select_commits (sql_of table).select (table_at table nowhere) (select_is table (texts table)) old params db (subst (λ (sql : Sql). CommitsShowing sql.select params old db) is h)
 
   -- and changes nothing
   pub rests : RanQuery told.select old new → Rests old new
-  rests ran = select_rests (shape_of table).select (table_at table nowhere) (select_is table (texts table)) old new (subst (λ (shape : Shape). RanQuery shape.select old new) is ran)
+  rests ran = select_rests (sql_of table).select (table_at table nowhere) (select_is table (texts table)) old new (subst (λ (sql : Sql). RanQuery sql.select old new) is ran)

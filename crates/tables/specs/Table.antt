@@ -26,12 +26,13 @@ use Rattle.sqlite_value.specs.declared.keys.Order.{Order}
 use Rattle.tables.specs.declared.table.Table.{Table}
 use Rattle.tables.specs.declared.table.Table.TheVariants.{Edition, Supervisor, Project, Student, Round, Choice, Placement, Import}
 use Rattle.tables.specs.declared.table.Shape.{Shape as Given}
+use Rattle.tables.specs.declared.table.Sql.{Sql as Said}
 use Rattle.tables.specs.declared.table.Told.{Told}
 use Rattle.tables.specs.declared.table.Link.{Link}
 
 -- A table as it is told: its name and its columns; the position of the column that is the rowid, if one is; its key,
--- columns that no two rows share, and references, all by columns counted from 1, with 0 for the rowid; how many of the
--- first columns a removal names; and the texts of its statements.
+-- columns that no two rows share, and references, all by columns counted from 1, with 0 for the rowid; and how many of
+-- the first columns a removal names.
 pub record Shape : Type 0 where
   pub name : List ℕ
   pub columns : List (List ℕ × Kind)
@@ -40,6 +41,9 @@ pub record Shape : Type 0 where
   pub uniques : List (List ℕ)
   pub links : List (ℕ × List ℕ × List ℕ)
   pub named : ℕ
+
+-- the texts of its statements
+pub record Sql : Type 0 where
   pub create : List ℕ
   pub insert : List ℕ
   pub update : List ℕ
@@ -48,105 +52,47 @@ pub record Shape : Type 0 where
 
 -- what the program tells of a column
 abbrev pub column_by : Told → List ℕ × Kind
-column_by told = (told.name.now, told.kind)
+column_by told = (told.0.now, told.1)
 
 -- of a reference
 abbrev pub link_by : Link → ℕ × List ℕ × List ℕ
-link_by link = (link.column, link.parent.now, link.parent_column.now)
+link_by link = (link.0, link.1.table.now, link.1.column.now)
 
 -- of columns that no two rows share
 abbrev pub places_by : Bor (List ℕ) → List ℕ
 places_by places = places.now
 
--- and of a table
+-- of a table
 abbrev pub told_by : Given → Shape
 told_by given = record {
   name = given.name.now;
   columns = map column_by given.columns.now;
-  key = given.key;
-  primary = given.primary.now;
-  uniques = map places_by given.uniques.now;
+  key = given.keys.rowid;
+  primary = given.keys.primary.now;
+  uniques = map places_by given.keys.uniques.now;
   links = map link_by given.links.now;
-  named = given.named;
-  create = given.create.now;
-  insert = given.insert.now;
-  update = given.update.now;
-  delete = given.delete.now;
-  select = given.select.now;
+  named = given.keys.named;
 }
+
+-- and of its statements
+abbrev pub texts_by : Said → Sql
+texts_by said = record { create = said.create.now; insert = said.insert.now; update = said.update.now; delete = said.delete.now; select = said.select.now }
+
+-- a table whose key is its first column, a text
+abbrev pub by_text : List ℕ → List (List ℕ × Kind) → List (ℕ × List ℕ × List ℕ) → Shape
+by_text name columns links = record { name = name; columns = columns; key = None; primary = 1 ∷ []; uniques = (1 ∷ []) ∷ []; links = links; named = 1 }
+
+-- one whose key is its first column, a number: the rowid
+abbrev pub by_rowid : List ℕ → List (List ℕ × Kind) → List (ℕ × List ℕ × List ℕ) → Shape
+by_rowid name columns links = record { name = name; columns = columns; key = Some 0; primary = 0 ∷ []; uniques = []; links = links; named = 1 }
 
 -- the tables, row by row
 abbrev pub shape_of : Table → Shape
-shape_of Edition = record {
-  name = codes "edition";
-  columns = (codes "id", Integer) ∷ (codes "number", Integer) ∷ [];
-  key = Some 0;
-  primary = 0 ∷ [];
-  uniques = [];
-  links = [];
-  named = 1;
-  create = codes "CREATE TABLE edition (id INTEGER NOT NULL PRIMARY KEY CHECK (id = 1), number INTEGER NOT NULL) STRICT";
-  insert = codes "INSERT INTO edition (id, number) VALUES (?1, ?2)";
-  update = codes "UPDATE edition SET number = ?2 WHERE id = ?1";
-  delete = codes "DELETE FROM edition WHERE id = ?1";
-  select = codes "SELECT rowid, * FROM edition";
-}
-shape_of Supervisor = record {
-  name = codes "supervisor";
-  columns = (codes "code", Text) ∷ (codes "label", Text) ∷ (codes "quota", Integer) ∷ [];
-  key = None;
-  primary = 1 ∷ [];
-  uniques = (1 ∷ []) ∷ [];
-  links = [];
-  named = 1;
-  create = codes "CREATE TABLE supervisor (code TEXT NOT NULL PRIMARY KEY, label TEXT NOT NULL, quota INTEGER NOT NULL CHECK (quota BETWEEN 0 AND 500)) STRICT";
-  insert = codes "INSERT INTO supervisor (code, label, quota) VALUES (?1, ?2, ?3)";
-  update = codes "UPDATE supervisor SET code = ?1, label = ?2, quota = ?3 WHERE code = ?1";
-  delete = codes "DELETE FROM supervisor WHERE code = ?1";
-  select = codes "SELECT rowid, * FROM supervisor";
-}
-shape_of Project = record {
-  name = codes "project";
-  columns = (codes "code", Text) ∷ (codes "label", Text) ∷ (codes "supervisor", Text) ∷ (codes "quota", Integer) ∷ [];
-  key = None;
-  primary = 1 ∷ [];
-  uniques = (1 ∷ []) ∷ [];
-  links = (3, codes "supervisor", codes "code") ∷ [];
-  named = 1;
-  create = codes "CREATE TABLE project (code TEXT NOT NULL PRIMARY KEY, label TEXT NOT NULL, supervisor TEXT NOT NULL REFERENCES supervisor (code), quota INTEGER NOT NULL CHECK (quota BETWEEN 0 AND 500)) STRICT";
-  insert = codes "INSERT INTO project (code, label, supervisor, quota) VALUES (?1, ?2, ?3, ?4)";
-  update = codes "UPDATE project SET code = ?1, label = ?2, supervisor = ?3, quota = ?4 WHERE code = ?1";
-  delete = codes "DELETE FROM project WHERE code = ?1";
-  select = codes "SELECT rowid, * FROM project";
-}
-shape_of Student = record {
-  name = codes "student";
-  columns = (codes "code", Text) ∷ (codes "label", Text) ∷ [];
-  key = None;
-  primary = 1 ∷ [];
-  uniques = (1 ∷ []) ∷ [];
-  links = [];
-  named = 1;
-  create = codes "CREATE TABLE student (code TEXT NOT NULL PRIMARY KEY, label TEXT NOT NULL) STRICT";
-  insert = codes "INSERT INTO student (code, label) VALUES (?1, ?2)";
-  update = codes "UPDATE student SET code = ?1, label = ?2 WHERE code = ?1";
-  delete = codes "DELETE FROM student WHERE code = ?1";
-  select = codes "SELECT rowid, * FROM student";
-}
-shape_of Round = record {
-  name = codes "round";
-  columns = (codes "number", Integer) ∷ (codes "open", Integer) ∷ [];
-  key = Some 0;
-  primary = 0 ∷ [];
-  uniques = [];
-  links = [];
-  named = 1;
-  create = codes "CREATE TABLE round (number INTEGER NOT NULL PRIMARY KEY, open INTEGER NOT NULL CHECK (open IN (0, 1))) STRICT";
-  insert = codes "INSERT INTO round (number, open) VALUES (?1, ?2)";
-  update = codes "UPDATE round SET open = ?2 WHERE number = ?1";
-  delete = codes "DELETE FROM round WHERE number = ?1";
-  select = codes "SELECT rowid, * FROM round";
-}
+shape_of Edition = by_rowid (codes "edition") ((codes "id", Integer) ∷ (codes "number", Integer) ∷ []) []
+shape_of Supervisor = by_text (codes "supervisor") ((codes "code", Text) ∷ (codes "label", Text) ∷ (codes "quota", Integer) ∷ []) []
+shape_of Project = by_text (codes "project") ((codes "code", Text) ∷ (codes "label", Text) ∷ (codes "supervisor", Text) ∷ (codes "quota", Integer) ∷ []) ((3, codes "supervisor", codes "code") ∷ [])
+shape_of Student = by_text (codes "student") ((codes "code", Text) ∷ (codes "label", Text) ∷ []) []
+shape_of Round = by_rowid (codes "round") ((codes "number", Integer) ∷ (codes "open", Integer) ∷ []) []
 shape_of Choice = record {
   name = codes "choice";
   columns = (codes "round", Integer) ∷ (codes "student", Text) ∷ (codes "place", Integer) ∷ (codes "project", Text) ∷ [];
@@ -155,34 +101,62 @@ shape_of Choice = record {
   uniques = (1 ∷ 2 ∷ 3 ∷ []) ∷ (1 ∷ 2 ∷ 4 ∷ []) ∷ [];
   links = (1, codes "round", codes "number") ∷ (2, codes "student", codes "code") ∷ (4, codes "project", codes "code") ∷ [];
   named = 3;
+}
+shape_of Placement = by_text (codes "placement") ((codes "student", Text) ∷ (codes "round", Integer) ∷ (codes "project", Text) ∷ (codes "rank", Integer) ∷ []) ((1, codes "student", codes "code") ∷ (2, codes "round", codes "number") ∷ (3, codes "project", codes "code") ∷ [])
+shape_of Import = by_text (codes "import") ((codes "id", Text) ∷ (codes "kind", Text) ∷ (codes "bytes", Blob) ∷ (codes "rows", Integer) ∷ []) []
+
+-- what is said of each
+abbrev pub sql_of : Table → Sql
+sql_of Edition = record {
+  create = codes "CREATE TABLE edition (id INTEGER NOT NULL PRIMARY KEY CHECK (id = 1), number INTEGER NOT NULL) STRICT";
+  insert = codes "INSERT INTO edition (id, number) VALUES (?1, ?2)";
+  update = codes "UPDATE edition SET number = ?2 WHERE id = ?1";
+  delete = codes "DELETE FROM edition WHERE id = ?1";
+  select = codes "SELECT rowid, * FROM edition";
+}
+sql_of Supervisor = record {
+  create = codes "CREATE TABLE supervisor (code TEXT NOT NULL PRIMARY KEY, label TEXT NOT NULL, quota INTEGER NOT NULL CHECK (quota BETWEEN 0 AND 500)) STRICT";
+  insert = codes "INSERT INTO supervisor (code, label, quota) VALUES (?1, ?2, ?3)";
+  update = codes "UPDATE supervisor SET code = ?1, label = ?2, quota = ?3 WHERE code = ?1";
+  delete = codes "DELETE FROM supervisor WHERE code = ?1";
+  select = codes "SELECT rowid, * FROM supervisor";
+}
+sql_of Project = record {
+  create = codes "CREATE TABLE project (code TEXT NOT NULL PRIMARY KEY, label TEXT NOT NULL, supervisor TEXT NOT NULL REFERENCES supervisor (code), quota INTEGER NOT NULL CHECK (quota BETWEEN 0 AND 500)) STRICT";
+  insert = codes "INSERT INTO project (code, label, supervisor, quota) VALUES (?1, ?2, ?3, ?4)";
+  update = codes "UPDATE project SET code = ?1, label = ?2, supervisor = ?3, quota = ?4 WHERE code = ?1";
+  delete = codes "DELETE FROM project WHERE code = ?1";
+  select = codes "SELECT rowid, * FROM project";
+}
+sql_of Student = record {
+  create = codes "CREATE TABLE student (code TEXT NOT NULL PRIMARY KEY, label TEXT NOT NULL) STRICT";
+  insert = codes "INSERT INTO student (code, label) VALUES (?1, ?2)";
+  update = codes "UPDATE student SET code = ?1, label = ?2 WHERE code = ?1";
+  delete = codes "DELETE FROM student WHERE code = ?1";
+  select = codes "SELECT rowid, * FROM student";
+}
+sql_of Round = record {
+  create = codes "CREATE TABLE round (number INTEGER NOT NULL PRIMARY KEY, open INTEGER NOT NULL CHECK (open IN (0, 1))) STRICT";
+  insert = codes "INSERT INTO round (number, open) VALUES (?1, ?2)";
+  update = codes "UPDATE round SET open = ?2 WHERE number = ?1";
+  delete = codes "DELETE FROM round WHERE number = ?1";
+  select = codes "SELECT rowid, * FROM round";
+}
+sql_of Choice = record {
   create = codes "CREATE TABLE choice (round INTEGER NOT NULL REFERENCES round (number), student TEXT NOT NULL REFERENCES student (code), place INTEGER NOT NULL CHECK (place BETWEEN 1 AND 8), project TEXT NOT NULL REFERENCES project (code), PRIMARY KEY (round, student, place), UNIQUE (round, student, project)) STRICT";
   insert = codes "INSERT INTO choice (round, student, place, project) VALUES (?1, ?2, ?3, ?4)";
   update = codes "UPDATE choice SET round = ?1, student = ?2, place = ?3, project = ?4 WHERE round = ?1 AND student = ?2 AND place = ?3";
   delete = codes "DELETE FROM choice WHERE round = ?1 AND student = ?2 AND place = ?3";
   select = codes "SELECT rowid, * FROM choice";
 }
-shape_of Placement = record {
-  name = codes "placement";
-  columns = (codes "student", Text) ∷ (codes "round", Integer) ∷ (codes "project", Text) ∷ (codes "rank", Integer) ∷ [];
-  key = None;
-  primary = 1 ∷ [];
-  uniques = (1 ∷ []) ∷ [];
-  links = (1, codes "student", codes "code") ∷ (2, codes "round", codes "number") ∷ (3, codes "project", codes "code") ∷ [];
-  named = 1;
+sql_of Placement = record {
   create = codes "CREATE TABLE placement (student TEXT NOT NULL PRIMARY KEY REFERENCES student (code), round INTEGER NOT NULL REFERENCES round (number), project TEXT NOT NULL REFERENCES project (code), rank INTEGER NOT NULL CHECK (rank BETWEEN 1 AND 8)) STRICT";
   insert = codes "INSERT INTO placement (student, round, project, rank) VALUES (?1, ?2, ?3, ?4)";
   update = codes "UPDATE placement SET student = ?1, round = ?2, project = ?3, rank = ?4 WHERE student = ?1";
   delete = codes "DELETE FROM placement WHERE student = ?1";
   select = codes "SELECT rowid, * FROM placement";
 }
-shape_of Import = record {
-  name = codes "import";
-  columns = (codes "id", Text) ∷ (codes "kind", Text) ∷ (codes "bytes", Blob) ∷ (codes "rows", Integer) ∷ [];
-  key = None;
-  primary = 1 ∷ [];
-  uniques = (1 ∷ []) ∷ [];
-  links = [];
-  named = 1;
+sql_of Import = record {
   create = codes "CREATE TABLE import (id TEXT NOT NULL PRIMARY KEY, kind TEXT NOT NULL CHECK (kind IN ('supervisors', 'projects', 'students', 'lists')), bytes BLOB NOT NULL, rows INTEGER NOT NULL) STRICT";
   insert = codes "INSERT INTO import (id, kind, bytes, rows) VALUES (?1, ?2, ?3, ?4)";
   update = codes "UPDATE import SET id = ?1, kind = ?2, bytes = ?3, rows = ?4 WHERE id = ?1";

@@ -1,5 +1,5 @@
 -- What a statement does to the rows of its table, and that it does nothing else.
-use Rattle.std.specs.Prelude.{◌≡◌, ◌≢◌, [], ◌∷◌, ◌++◌, ◌&&◌, List, Bool, true, ℕ, map, filter, drop, not, length}
+use Rattle.std.specs.Prelude.{◌≡◌, ◌≢◌, [], ◌∷◌, ◌&&◌, List, Bool, true, ℕ, filter, drop, not}
 use Rattle.std.specs.List.{AllByRecursion}
 use Rattle.sqlite.specs.Order.{Row, column}
 use Rattle.sqlite.specs.Term.{Term}
@@ -49,12 +49,6 @@ without key = filter (λ row. not (begins_with key row))
 -- the rows with this one in place of those that have its key
 abbrev pub with_row : Row → Row → List Row → List Row
 with_row key given rows = given ∷ without key rows
-
--- each row with this key is replaced by the given one, and nothing else changes; so many there were
-abbrev pub Replaces : (Place → AnyTable) → Row → Row → ℕ → Database → Database → Type 0
-Replaces table key given count old new =
-    (place : Place) (rows : List Row) → IsInert old.schema place.tree → Stands table place rows old
-    → Stands table place (map (λ (_ : Row). given) (filter (begins_with key) rows) ++ without key rows) new × WritesOnly place.tree old new × (count ≡ length (filter (begins_with key) rows))
 
 -- the rows that begin with the key are gone
 unfoldable pub Removes : (Place → AnyTable) → Row → Database → Database → Type 0

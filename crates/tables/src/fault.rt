@@ -14,6 +14,9 @@ pub enum TableFault {
     Storage,
 }
 
+/// That a statement was carried out, or why it was not.
+pub type Done = Result<(), TableFault>;
+
 impl From<Error> for TableFault {
     ghost from_gives = { λ e fault. fault ≡ fault_of e };
 

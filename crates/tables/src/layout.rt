@@ -20,8 +20,8 @@ use sqlite_value::value::{Bytes, Value};
 fn is_required(column: &Column, told: &Told) -> bool
     ensures { result ≡ is_required (column_by told.now) column.now }
 {
-    column.name.as_slice() == told.name.as_bytes()
-        && column.kind == told.kind
+    column.name.as_slice() == told.0.as_bytes()
+        && column.kind == told.1
         && column.is_strict
         && column.not_null
         && matches!(column.default, Value::Null)
@@ -51,9 +51,9 @@ fn is_alone(names: &Items<Bytes>, name: &str) -> bool
 fn is_referring(reference: &Reference, link: &Link) -> bool
     ensures { result ≡ is_referring (link_by link.now) reference.now }
 {
-    reference.columns.as_slice() == [link.column].as_slice()
-        && reference.parent.as_slice() == link.parent.as_bytes()
-        && is_alone(&reference.parent_columns, link.parent_column)
+    reference.columns.as_slice() == [link.0].as_slice()
+        && reference.parent.as_slice() == link.1.table.as_bytes()
+        && is_alone(&reference.parent_columns, link.1.column)
         && is_passive(reference.on_delete)
         && is_passive(reference.on_update)
         && !reference.is_deferred
@@ -104,10 +104,10 @@ fn is_untimed(table: &Listed) -> bool
 fn has_keys(table: &Listed, shape: &Shape) -> bool
     ensures { result ≡ has_keys (told_by shape.now) table.now }
 {
-    table.key == shape.key
-        && table.primary.as_slice() == shape.primary
-        && are_same(table.uniques.as_slice(), shape.uniques)
-        && are_plain(table.orders.as_slice(), shape.uniques.len())
+    table.key == shape.keys.rowid
+        && table.primary.as_slice() == shape.keys.primary
+        && are_same(table.uniques.as_slice(), shape.keys.uniques)
+        && are_plain(table.orders.as_slice(), shape.keys.uniques.len())
 }
 
 /// Whether a table is as one of this shape is made.

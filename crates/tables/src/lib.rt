@@ -10,8 +10,8 @@
 //! a schema lists them), `specs/Writes.antt` and `specs/Steps.antt`; begin there.
 //!
 //! A table that is made has the CHECK rules that are told; one that is found keeps those that it has. A
-//! further table is a variant of `Table`, its row in `table.rt` and in `specs/Table.antt`, and the reading of
-//! its five texts, as `proofs/StudentTexts.antt` has it: what statements do is proved for all.
+//! further table is a variant of `Table`, its shape and its texts in `table.rt` and in `specs/Table.antt`, and the reading of
+//! its five texts in `proofs/Tables.antt`: what statements do is proved for all.
 #![tactic(auto)]
 
 pub mod fault;

@@ -5,10 +5,10 @@ ghost use Rattle.sqlite.specs.State.{HasCleanDisk, Survives};
 ghost use Rattle.sqlite.specs.Values.{bound};
 ghost use Rattle.sqlite.specs.Held.{state};
 ghost use Rattle.tables.specs.Table.{IsRowOf, IsKeyOf, checks_of, key_in, table_at};
-ghost use Rattle.tables.specs.Writes.{Adds, Makes, Puts, Removes, Replaces};
-ghost use Rattle.tables.specs.Steps.{Does, HasStepped, IsPart, Rests, Shows};
+ghost use Rattle.tables.specs.Writes.{Adds, Makes, Puts, Removes};
+ghost use Rattle.tables.specs.Steps.{Does, HasStepped, Rests, Shows};
 
-use crate::fault::TableFault;
+use crate::fault::{Done, TableFault};
 use crate::read::read_text;
 use crate::table::Table;
 use crate::write::write;
@@ -16,55 +16,33 @@ use sqlite::{Alter, Connection, Row, Transaction};
 use sqlite_value::value::ValueRef;
 
 /// Makes the table.
-pub fn make<S: Alter>(tx: &mut Transaction<'_, S>, table: Table) -> Result<(), TableFault>
+pub fn make<S: Alter>(tx: &mut Transaction<'_, S>, table: Table) -> Done
     ensures same_reference { tx.new.conn.ghost_name ≡ tx.old.conn.ghost_name }
     ensures step { Does (HasStepped (Makes (table_at table) (checks_of table) [])) result (state S.Store tx.old.conn.now) (state S.Store tx.new.conn.now) }
 {
-    write(tx, table.shape().create, &[])?;
+    write(tx, table.sql().create, &[])?;
     Ok(())
 }
 
 /// Adds a row.
-pub fn insert<S: Alter>(
-    tx: &mut Transaction<'_, S>,
-    table: Table,
-    row: &[ValueRef<'_>],
-) -> Result<(), TableFault>
+pub fn insert<S: Alter>(tx: &mut Transaction<'_, S>, table: Table, row: &[ValueRef<'_>]) -> Done
     requires { IsRowOf table (bound row.now) }
 
     ensures same_reference { tx.new.conn.ghost_name ≡ tx.old.conn.ghost_name }
     ensures step { Does (HasStepped (Adds (table_at table) (bound row.now))) result (state S.Store tx.old.conn.now) (state S.Store tx.new.conn.now) }
 {
-    write(tx, table.shape().insert, row)?;
+    write(tx, table.sql().insert, row)?;
     Ok(())
 }
 
-/// Puts this row in the place of each with its key, and tells how many there were.
-fn update<S: Alter>(
-    tx: &mut Transaction<'_, S>,
-    table: Table,
-    row: &[ValueRef<'_>],
-) -> Result<usize, TableFault>
-    requires { IsRowOf table (bound row.now) }
-
-    ensures same_reference { tx.new.conn.ghost_name ≡ tx.old.conn.ghost_name }
-    ensures step { IsPart (λ count. HasStepped (Replaces (table_at table) (key_in table (bound row.now)) (bound row.now) count)) result (state S.Store tx.old.conn.now) (state S.Store tx.new.conn.now) }
-{
-    write(tx, table.shape().update, row)
-}
-
 /// Puts the row in: in the place of the one with its key, or a row more.
-pub fn put<S: Alter>(
-    tx: &mut Transaction<'_, S>,
-    table: Table,
-    row: &[ValueRef<'_>],
-) -> Result<(), TableFault>
+pub fn put<S: Alter>(tx: &mut Transaction<'_, S>, table: Table, row: &[ValueRef<'_>]) -> Done
     requires { IsRowOf table (bound row.now) }
 
     ensures same_reference { tx.new.conn.ghost_name ≡ tx.old.conn.ghost_name }
     ensures step { Does (HasStepped (Puts (table_at table) (key_in table (bound row.now)) (bound row.now))) result (state S.Store tx.old.conn.now) (state S.Store tx.new.conn.now) }
 {
-    match update(tx, table, row)? {
+    match write(tx, table.sql().update, row)? {
         0 => insert(tx, table, row),
         1 => Ok(()),
         _ => Err(TableFault::Storage),
@@ -72,17 +50,13 @@ pub fn put<S: Alter>(
 }
 
 /// Takes the rows away that begin with these values.
-pub fn delete<S: Alter>(
-    tx: &mut Transaction<'_, S>,
-    table: Table,
-    key: &[ValueRef<'_>],
-) -> Result<(), TableFault>
+pub fn delete<S: Alter>(tx: &mut Transaction<'_, S>, table: Table, key: &[ValueRef<'_>]) -> Done
     requires { IsKeyOf table (bound key.now) }
 
     ensures same_reference { tx.new.conn.ghost_name ≡ tx.old.conn.ghost_name }
     ensures step { Does (HasStepped (Removes (table_at table) (bound key.now))) result (state S.Store tx.old.conn.now) (state S.Store tx.new.conn.now) }
 {
-    write(tx, table.shape().delete, key)?;
+    write(tx, table.sql().delete, key)?;
     Ok(())
 }
 
@@ -93,5 +67,5 @@ pub fn read<S: Alter>(conn: &mut Connection<S>, table: Table) -> Result<Vec<Row>
     ensures mode { conn.old.in_transaction ≡ false → conn.new.in_transaction ≡ false }
     ensures survives { Survives (state S.Store conn.old) (state S.Store conn.new) (λ _. ⊥) }
 {
-    read_text(conn, table.shape().select)
+    read_text(conn, table.sql().select)
 }

@@ -1,7 +1,7 @@
 //! The tables, each told once.
 
 ghost use Rattle.std.specs.Prelude.{◌≡◌, length};
-ghost use Rattle.tables.specs.Table.{kinds_of, shape_of, told_by};
+ghost use Rattle.tables.specs.Table.{kinds_of, shape_of, sql_of, texts_by, told_by};
 
 use sqlite_schema::schema::Kind;
 
@@ -18,32 +18,169 @@ pub enum Table {
     Import,
 }
 
-/// A column of a table: NOT NULL, with no default.
-pub(crate) struct Told {
-    pub name: &'static str,
-    pub kind: Kind,
+/// A column of a table, by its name and its kind: NOT NULL, with no default.
+pub(crate) struct Told(pub &'static str, pub Kind);
+
+const BYTES: Told = Told("bytes", Kind::Blob);
+
+const CODE: Told = Told("code", Kind::Text);
+
+const ID: Told = Told("id", Kind::Integer);
+
+const IMPORT: Told = Told("id", Kind::Text);
+
+const KIND: Told = Told("kind", Kind::Text);
+
+const LABEL: Told = Told("label", Kind::Text);
+
+const NUMBER: Told = Told("number", Kind::Integer);
+
+const OPEN: Told = Told("open", Kind::Integer);
+
+const PLACE: Told = Told("place", Kind::Integer);
+
+const PROJECT: Told = Told("project", Kind::Text);
+
+const QUOTA: Told = Told("quota", Kind::Integer);
+
+const RANK: Told = Told("rank", Kind::Integer);
+
+const ROUND: Told = Told("round", Kind::Integer);
+
+const ROWS: Told = Told("rows", Kind::Integer);
+
+const STUDENT: Told = Told("student", Kind::Text);
+
+const SUPERVISOR: Told = Told("supervisor", Kind::Text);
+
+/// The column of another table by which its rows are named.
+pub(crate) struct Parent {
+    pub table: &'static str,
+    pub column: &'static str,
 }
 
-/// A reference from a column, which is counted from 1, to a column of another table, with NO ACTION.
-pub(crate) struct Link {
-    pub column: usize,
-    pub parent: &'static str,
-    pub parent_column: &'static str,
+const SUPERVISORS: Parent = Parent {
+    table: "supervisor",
+    column: "code",
+};
+
+const PROJECTS: Parent = Parent {
+    table: "project",
+    column: "code",
+};
+
+const STUDENTS: Parent = Parent {
+    table: "student",
+    column: "code",
+};
+
+const ROUNDS: Parent = Parent {
+    table: "round",
+    column: "number",
+};
+
+/// A reference from a column, which is counted from 1, to another table, with NO ACTION.
+pub(crate) struct Link(pub usize, pub Parent);
+
+/// The keys of a table. Columns are counted from 1, and 0 stands for the rowid.
+pub(crate) struct Keys {
+    /// The position of the column that is the rowid, if one is.
+    pub rowid: Option<usize>,
+    /// The key, which is the first columns or the rowid.
+    pub primary: &'static [usize],
+    /// Columns that no two rows share, the key among them unless it is the rowid.
+    pub uniques: &'static [&'static [usize]],
+    /// How many of the first columns a removal names.
+    pub named: usize,
 }
+
+/// The first column is the key, a text.
+const BY_TEXT: Keys = Keys {
+    rowid: None,
+    primary: &[1],
+    uniques: &[&[1]],
+    named: 1,
+};
+
+/// The first column is the key, a number: the rowid.
+const BY_ROWID: Keys = Keys {
+    rowid: Some(0),
+    primary: &[0],
+    uniques: &[],
+    named: 1,
+};
 
 /// How a table is told.
 pub(crate) struct Shape {
     pub name: &'static str,
     pub columns: &'static [Told],
-    /// The position of the column that is the rowid, if one is.
-    pub key: Option<usize>,
-    /// The key, which is the first columns, counted from 1, or 0 for the rowid.
-    pub primary: &'static [usize],
-    /// Columns that no two rows share, the key among them unless it is the rowid.
-    pub uniques: &'static [&'static [usize]],
+    pub keys: Keys,
     pub links: &'static [Link],
-    /// How many of the first columns a removal names.
-    pub named: usize,
+}
+
+static EDITION_SHAPE: Shape = Shape {
+    name: "edition",
+    columns: &[ID, NUMBER],
+    keys: BY_ROWID,
+    links: &[],
+};
+
+static SUPERVISOR_SHAPE: Shape = Shape {
+    name: "supervisor",
+    columns: &[CODE, LABEL, QUOTA],
+    keys: BY_TEXT,
+    links: &[],
+};
+
+static PROJECT_SHAPE: Shape = Shape {
+    name: "project",
+    columns: &[CODE, LABEL, SUPERVISOR, QUOTA],
+    keys: BY_TEXT,
+    links: &[Link(3, SUPERVISORS)],
+};
+
+static STUDENT_SHAPE: Shape = Shape {
+    name: "student",
+    columns: &[CODE, LABEL],
+    keys: BY_TEXT,
+    links: &[],
+};
+
+static ROUND_SHAPE: Shape = Shape {
+    name: "round",
+    columns: &[NUMBER, OPEN],
+    keys: BY_ROWID,
+    links: &[],
+};
+
+static CHOICE_SHAPE: Shape = Shape {
+    name: "choice",
+    columns: &[ROUND, STUDENT, PLACE, PROJECT],
+    keys: Keys {
+        rowid: None,
+        primary: &[1, 2, 3],
+        uniques: &[&[1, 2, 3], &[1, 2, 4]],
+        named: 3,
+    },
+    links: &[Link(1, ROUNDS), Link(2, STUDENTS), Link(4, PROJECTS)],
+};
+
+static PLACEMENT_SHAPE: Shape = Shape {
+    name: "placement",
+    columns: &[STUDENT, ROUND, PROJECT, RANK],
+    keys: BY_TEXT,
+    links: &[Link(1, STUDENTS), Link(2, ROUNDS), Link(3, PROJECTS)],
+};
+
+static IMPORT_SHAPE: Shape = Shape {
+    name: "import",
+    columns: &[IMPORT, KIND, BYTES, ROWS],
+    keys: BY_TEXT,
+    links: &[],
+};
+
+/// The texts of a table's statements.
+pub(crate) struct Sql {
     pub create: &'static str,
     pub insert: &'static str,
     pub update: &'static str,
@@ -64,256 +201,72 @@ impl Table {
         ensures { told_by result.now ≡ shape_of self }
     {
         match self {
-            Table::Edition => &Shape {
-                name: "edition",
-                columns: &[
-                    Told {
-                        name: "id",
-                        kind: Kind::Integer,
-                    },
-                    Told {
-                        name: "number",
-                        kind: Kind::Integer,
-                    },
-                ],
-                key: Some(0),
-                primary: &[0],
-                uniques: &[],
-                links: &[],
-                named: 1,
+            Table::Edition => &EDITION_SHAPE,
+            Table::Supervisor => &SUPERVISOR_SHAPE,
+            Table::Project => &PROJECT_SHAPE,
+            Table::Student => &STUDENT_SHAPE,
+            Table::Round => &ROUND_SHAPE,
+            Table::Choice => &CHOICE_SHAPE,
+            Table::Placement => &PLACEMENT_SHAPE,
+            Table::Import => &IMPORT_SHAPE,
+        }
+    }
+
+    /// What its statements say.
+    pub(crate) fn sql(self) -> &'static Sql
+        ensures { texts_by result.now ≡ sql_of self }
+    {
+        match self {
+            Table::Edition => &Sql {
                 create: "CREATE TABLE edition (id INTEGER NOT NULL PRIMARY KEY CHECK (id = 1), number INTEGER NOT NULL) STRICT",
                 insert: "INSERT INTO edition (id, number) VALUES (?1, ?2)",
                 update: "UPDATE edition SET number = ?2 WHERE id = ?1",
                 delete: "DELETE FROM edition WHERE id = ?1",
                 select: "SELECT rowid, * FROM edition",
             },
-            Table::Supervisor => &Shape {
-                name: "supervisor",
-                columns: &[
-                    Told {
-                        name: "code",
-                        kind: Kind::Text,
-                    },
-                    Told {
-                        name: "label",
-                        kind: Kind::Text,
-                    },
-                    Told {
-                        name: "quota",
-                        kind: Kind::Integer,
-                    },
-                ],
-                key: None,
-                primary: &[1],
-                uniques: &[&[1]],
-                links: &[],
-                named: 1,
+            Table::Supervisor => &Sql {
                 create: "CREATE TABLE supervisor (code TEXT NOT NULL PRIMARY KEY, label TEXT NOT NULL, quota INTEGER NOT NULL CHECK (quota BETWEEN 0 AND 500)) STRICT",
                 insert: "INSERT INTO supervisor (code, label, quota) VALUES (?1, ?2, ?3)",
                 update: "UPDATE supervisor SET code = ?1, label = ?2, quota = ?3 WHERE code = ?1",
                 delete: "DELETE FROM supervisor WHERE code = ?1",
                 select: "SELECT rowid, * FROM supervisor",
             },
-            Table::Project => &Shape {
-                name: "project",
-                columns: &[
-                    Told {
-                        name: "code",
-                        kind: Kind::Text,
-                    },
-                    Told {
-                        name: "label",
-                        kind: Kind::Text,
-                    },
-                    Told {
-                        name: "supervisor",
-                        kind: Kind::Text,
-                    },
-                    Told {
-                        name: "quota",
-                        kind: Kind::Integer,
-                    },
-                ],
-                key: None,
-                primary: &[1],
-                uniques: &[&[1]],
-                links: &[Link {
-                    column: 3,
-                    parent: "supervisor",
-                    parent_column: "code",
-                }],
-                named: 1,
+            Table::Project => &Sql {
                 create: "CREATE TABLE project (code TEXT NOT NULL PRIMARY KEY, label TEXT NOT NULL, supervisor TEXT NOT NULL REFERENCES supervisor (code), quota INTEGER NOT NULL CHECK (quota BETWEEN 0 AND 500)) STRICT",
                 insert: "INSERT INTO project (code, label, supervisor, quota) VALUES (?1, ?2, ?3, ?4)",
                 update: "UPDATE project SET code = ?1, label = ?2, supervisor = ?3, quota = ?4 WHERE code = ?1",
                 delete: "DELETE FROM project WHERE code = ?1",
                 select: "SELECT rowid, * FROM project",
             },
-            Table::Student => &Shape {
-                name: "student",
-                columns: &[
-                    Told {
-                        name: "code",
-                        kind: Kind::Text,
-                    },
-                    Told {
-                        name: "label",
-                        kind: Kind::Text,
-                    },
-                ],
-                key: None,
-                primary: &[1],
-                uniques: &[&[1]],
-                links: &[],
-                named: 1,
+            Table::Student => &Sql {
                 create: "CREATE TABLE student (code TEXT NOT NULL PRIMARY KEY, label TEXT NOT NULL) STRICT",
                 insert: "INSERT INTO student (code, label) VALUES (?1, ?2)",
                 update: "UPDATE student SET code = ?1, label = ?2 WHERE code = ?1",
                 delete: "DELETE FROM student WHERE code = ?1",
                 select: "SELECT rowid, * FROM student",
             },
-            Table::Round => &Shape {
-                name: "round",
-                columns: &[
-                    Told {
-                        name: "number",
-                        kind: Kind::Integer,
-                    },
-                    Told {
-                        name: "open",
-                        kind: Kind::Integer,
-                    },
-                ],
-                key: Some(0),
-                primary: &[0],
-                uniques: &[],
-                links: &[],
-                named: 1,
+            Table::Round => &Sql {
                 create: "CREATE TABLE round (number INTEGER NOT NULL PRIMARY KEY, open INTEGER NOT NULL CHECK (open IN (0, 1))) STRICT",
                 insert: "INSERT INTO round (number, open) VALUES (?1, ?2)",
                 update: "UPDATE round SET open = ?2 WHERE number = ?1",
                 delete: "DELETE FROM round WHERE number = ?1",
                 select: "SELECT rowid, * FROM round",
             },
-            Table::Choice => &Shape {
-                name: "choice",
-                columns: &[
-                    Told {
-                        name: "round",
-                        kind: Kind::Integer,
-                    },
-                    Told {
-                        name: "student",
-                        kind: Kind::Text,
-                    },
-                    Told {
-                        name: "place",
-                        kind: Kind::Integer,
-                    },
-                    Told {
-                        name: "project",
-                        kind: Kind::Text,
-                    },
-                ],
-                key: None,
-                primary: &[1, 2, 3],
-                uniques: &[&[1, 2, 3], &[1, 2, 4]],
-                links: &[
-                    Link {
-                        column: 1,
-                        parent: "round",
-                        parent_column: "number",
-                    },
-                    Link {
-                        column: 2,
-                        parent: "student",
-                        parent_column: "code",
-                    },
-                    Link {
-                        column: 4,
-                        parent: "project",
-                        parent_column: "code",
-                    },
-                ],
-                named: 3,
+            Table::Choice => &Sql {
                 create: "CREATE TABLE choice (round INTEGER NOT NULL REFERENCES round (number), student TEXT NOT NULL REFERENCES student (code), place INTEGER NOT NULL CHECK (place BETWEEN 1 AND 8), project TEXT NOT NULL REFERENCES project (code), PRIMARY KEY (round, student, place), UNIQUE (round, student, project)) STRICT",
                 insert: "INSERT INTO choice (round, student, place, project) VALUES (?1, ?2, ?3, ?4)",
                 update: "UPDATE choice SET round = ?1, student = ?2, place = ?3, project = ?4 WHERE round = ?1 AND student = ?2 AND place = ?3",
                 delete: "DELETE FROM choice WHERE round = ?1 AND student = ?2 AND place = ?3",
                 select: "SELECT rowid, * FROM choice",
             },
-            Table::Placement => &Shape {
-                name: "placement",
-                columns: &[
-                    Told {
-                        name: "student",
-                        kind: Kind::Text,
-                    },
-                    Told {
-                        name: "round",
-                        kind: Kind::Integer,
-                    },
-                    Told {
-                        name: "project",
-                        kind: Kind::Text,
-                    },
-                    Told {
-                        name: "rank",
-                        kind: Kind::Integer,
-                    },
-                ],
-                key: None,
-                primary: &[1],
-                uniques: &[&[1]],
-                links: &[
-                    Link {
-                        column: 1,
-                        parent: "student",
-                        parent_column: "code",
-                    },
-                    Link {
-                        column: 2,
-                        parent: "round",
-                        parent_column: "number",
-                    },
-                    Link {
-                        column: 3,
-                        parent: "project",
-                        parent_column: "code",
-                    },
-                ],
-                named: 1,
+            Table::Placement => &Sql {
                 create: "CREATE TABLE placement (student TEXT NOT NULL PRIMARY KEY REFERENCES student (code), round INTEGER NOT NULL REFERENCES round (number), project TEXT NOT NULL REFERENCES project (code), rank INTEGER NOT NULL CHECK (rank BETWEEN 1 AND 8)) STRICT",
                 insert: "INSERT INTO placement (student, round, project, rank) VALUES (?1, ?2, ?3, ?4)",
                 update: "UPDATE placement SET student = ?1, round = ?2, project = ?3, rank = ?4 WHERE student = ?1",
                 delete: "DELETE FROM placement WHERE student = ?1",
                 select: "SELECT rowid, * FROM placement",
             },
-            Table::Import => &Shape {
-                name: "import",
-                columns: &[
-                    Told {
-                        name: "id",
-                        kind: Kind::Text,
-                    },
-                    Told {
-                        name: "kind",
-                        kind: Kind::Text,
-                    },
-                    Told {
-                        name: "bytes",
-                        kind: Kind::Blob,
-                    },
-                    Told {
-                        name: "rows",
-                        kind: Kind::Integer,
-                    },
-                ],
-                key: None,
-                primary: &[1],
-                uniques: &[&[1]],
-                links: &[],
-                named: 1,
+            Table::Import => &Sql {
                 create: "CREATE TABLE import (id TEXT NOT NULL PRIMARY KEY, kind TEXT NOT NULL CHECK (kind IN ('supervisors', 'projects', 'students', 'lists')), bytes BLOB NOT NULL, rows INTEGER NOT NULL) STRICT",
                 insert: "INSERT INTO import (id, kind, bytes, rows) VALUES (?1, ?2, ?3, ?4)",
                 update: "UPDATE import SET id = ?1, kind = ?2, bytes = ?3, rows = ?4 WHERE id = ?1",
