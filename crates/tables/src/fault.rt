@@ -15,7 +15,7 @@ pub enum TableFault {
 }
 
 /// That a statement was carried out, or why it was not.
-pub type Done = Result<(), TableFault>;
+pub type Wrote = Result<(), TableFault>;
 
 impl From<Error> for TableFault {
     ghost from_gives = { λ e fault. fault ≡ fault_of e };

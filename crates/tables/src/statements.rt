@@ -8,7 +8,7 @@ ghost use Rattle.tables.specs.Table.{IsRowOf, IsKeyOf, checks_of, key_in, table_
 ghost use Rattle.tables.specs.Writes.{Adds, Makes, Puts, Removes};
 ghost use Rattle.tables.specs.Steps.{Does, HasStepped, Rests, Shows};
 
-use crate::fault::{Done, TableFault};
+use crate::fault::{TableFault, Wrote};
 use crate::read::read_text;
 use crate::table::Table;
 use crate::write::write;
@@ -16,7 +16,7 @@ use sqlite::{Alter, Connection, Row, Transaction};
 use sqlite_value::value::ValueRef;
 
 /// Makes the table.
-pub fn make<S: Alter>(tx: &mut Transaction<'_, S>, table: Table) -> Done
+pub fn make<S: Alter>(tx: &mut Transaction<'_, S>, table: Table) -> Wrote
     ensures same_reference { tx.new.conn.ghost_name ≡ tx.old.conn.ghost_name }
     ensures step { Does (HasStepped (Makes (table_at table) (checks_of table) [])) result (state S.Store tx.old.conn.now) (state S.Store tx.new.conn.now) }
 {
@@ -25,7 +25,7 @@ pub fn make<S: Alter>(tx: &mut Transaction<'_, S>, table: Table) -> Done
 }
 
 /// Adds a row.
-pub fn insert<S: Alter>(tx: &mut Transaction<'_, S>, table: Table, row: &[ValueRef<'_>]) -> Done
+pub fn insert<S: Alter>(tx: &mut Transaction<'_, S>, table: Table, row: &[ValueRef<'_>]) -> Wrote
     requires { IsRowOf table (bound row.now) }
 
     ensures same_reference { tx.new.conn.ghost_name ≡ tx.old.conn.ghost_name }
@@ -36,7 +36,7 @@ pub fn insert<S: Alter>(tx: &mut Transaction<'_, S>, table: Table, row: &[ValueR
 }
 
 /// Puts the row in: in the place of the one with its key, or a row more.
-pub fn put<S: Alter>(tx: &mut Transaction<'_, S>, table: Table, row: &[ValueRef<'_>]) -> Done
+pub fn put<S: Alter>(tx: &mut Transaction<'_, S>, table: Table, row: &[ValueRef<'_>]) -> Wrote
     requires { IsRowOf table (bound row.now) }
 
     ensures same_reference { tx.new.conn.ghost_name ≡ tx.old.conn.ghost_name }
@@ -50,7 +50,7 @@ pub fn put<S: Alter>(tx: &mut Transaction<'_, S>, table: Table, row: &[ValueRef<
 }
 
 /// Takes the rows away that begin with these values.
-pub fn delete<S: Alter>(tx: &mut Transaction<'_, S>, table: Table, key: &[ValueRef<'_>]) -> Done
+pub fn delete<S: Alter>(tx: &mut Transaction<'_, S>, table: Table, key: &[ValueRef<'_>]) -> Wrote
     requires { IsKeyOf table (bound key.now) }
 
     ensures same_reference { tx.new.conn.ghost_name ≡ tx.old.conn.ghost_name }
