@@ -3,7 +3,7 @@ ghost use Rattle.std.specs.Prelude.{◌≡◌, ◌+◌, ◌≤◌, ◌++◌, len
 ghost use Rattle.arrayvec.specs.ArrayVec.{array_vec_len};
 ghost use Rattle.std.specs.Prelude.{◌*◌};
 ghost use Rattle.api.specs.Texts.{numbers_text};
-ghost use Rattle.api.specs.Text.{reason_of, status_line, fields, answer_head, json_answer, fault_body, fault_answer};
+ghost use Rattle.api.specs.Text.{reason_of, answer_head, json_answer, fault_body, fault_answer};
 
 use arrayvec::ArrayVec;
 use http::StatusCode;
@@ -85,32 +85,6 @@ fn reason(status: StatusCode) -> &'static str
     }
 }
 
-/// Appends the first line.
-fn push_status_line(out: &mut ShortText, status: StatusCode)
-    requires { array_vec_len out.old + (length (reason_of status) + 32) ≤ 320 }
-    ensures items { out.new.items ≡ out.old.items ++ status_line status }
-    ensures len { array_vec_len out.new ≤ array_vec_len out.old + (length (reason_of status) + 32) }
-{
-    push(out, b"HTTP/1.1 ");
-    push_number(out, u64::from(status.as_u16()));
-    push(out, b" ");
-    push(out, reason(status).as_bytes());
-    push(out, b"\r\n");
-}
-
-/// Appends the fields, and the empty line.
-fn push_fields(out: &mut ShortText, kind: &str, len: u64)
-    requires { array_vec_len out.old + (length kind.now + 56) ≤ 320 }
-    ensures items { out.new.items ≡ out.old.items ++ fields kind.now len }
-    ensures len { array_vec_len out.new ≤ array_vec_len out.old + (length kind.now + 56) }
-{
-    push(out, b"Content-Type: ");
-    push(out, kind.as_bytes());
-    push(out, b"\r\nContent-Length: ");
-    push_number(out, len);
-    push(out, b"\r\n\r\n");
-}
-
 /// What comes before the body of an answer of a type.
 pub fn answer_head(status: StatusCode, kind: &str, len: usize) -> ShortText
     requires reason { length (reason_of status) ≤ 32 }
@@ -119,8 +93,16 @@ pub fn answer_head(status: StatusCode, kind: &str, len: usize) -> ShortText
     ensures len { array_vec_len result ≤ length kind.now + 120 }
 {
     let mut out = ArrayVec::new();
-    push_status_line(&mut out, status);
-    push_fields(&mut out, kind, len as u64);
+    push(&mut out, b"HTTP/1.1 ");
+    push_number(&mut out, u64::from(status.as_u16()));
+    push(&mut out, b" ");
+    push(&mut out, reason(status).as_bytes());
+    push(&mut out, b"\r\n");
+    push(&mut out, b"Content-Type: ");
+    push(&mut out, kind.as_bytes());
+    push(&mut out, b"\r\nContent-Length: ");
+    push_number(&mut out, len as u64);
+    push(&mut out, b"\r\n\r\n");
     out
 }
 

@@ -14,80 +14,42 @@ use serde_json::Value;
 use std::alloc::{AllocError, Global};
 use std::str;
 
-/// The put of a supervisor.
-fn put_supervisor(alloc: Global, code: &str, value: &Value) -> Result<Plain, Refusal>
-    ensures ok { IfOk result (λ plain. put_by Put.Supervisor code.now (view value.now) ≡ Some plain) }
-    ensures err { IfErr result (λ refusal. (refusal ≡ Refusal.Memory)
-        ⊎ ((refusal ≡ Refusal.Members) × (put_by Put.Supervisor code.now (view value.now) ≡ None))) }
-{
-    match supervisor_members(value) {
-        None => Err(Refusal::Members),
-        Some(members) => Ok(Plain::PutSupervisor {
-            code: Text::of(alloc, code)?,
-            label: Text::of(alloc, members.name)?,
-            quota: members.quota,
-        }),
-    }
-}
-
-/// The put of a project.
-fn put_project(alloc: Global, code: &str, value: &Value) -> Result<Plain, Refusal>
-    ensures ok { IfOk result (λ plain. put_by Put.Project code.now (view value.now) ≡ Some plain) }
-    ensures err { IfErr result (λ refusal. (refusal ≡ Refusal.Memory)
-        ⊎ ((refusal ≡ Refusal.Members) × (put_by Put.Project code.now (view value.now) ≡ None))) }
-{
-    match project_members(value) {
-        None => Err(Refusal::Members),
-        Some(members) => Ok(Plain::PutProject {
-            code: Text::of(alloc, code)?,
-            label: Text::of(alloc, members.name)?,
-            supervisor: Text::of(alloc, members.supervisor)?,
-            quota: members.quota,
-        }),
-    }
-}
-
-/// The put of a student.
-fn put_student(alloc: Global, code: &str, value: &Value) -> Result<Plain, Refusal>
-    ensures ok { IfOk result (λ plain. put_by Put.Student code.now (view value.now) ≡ Some plain) }
-    ensures err { IfErr result (λ refusal. (refusal ≡ Refusal.Memory)
-        ⊎ ((refusal ≡ Refusal.Members) × (put_by Put.Student code.now (view value.now) ≡ None))) }
-{
-    match name_of(value) {
-        None => Err(Refusal::Members),
-        Some(name) => Ok(Plain::PutStudent {
-            code: Text::of(alloc, code)?,
-            label: Text::of(alloc, name)?,
-        }),
-    }
-}
-
-/// The put of a list.
-fn put_list(alloc: Global, code: &str, value: &Value) -> Result<Plain, Refusal>
-    ensures ok { IfOk result (λ plain. put_by Put.List code.now (view value.now) ≡ Some plain) }
-    ensures err { IfErr result (λ refusal. (refusal ≡ Refusal.Memory)
-        ⊎ ((refusal ≡ Refusal.Members) × (put_by Put.List code.now (view value.now) ≡ None))) }
-{
-    match choices_of(alloc, value)? {
-        None => Err(Refusal::Members),
-        Some(choices) => {
-            let student = Text::of(alloc, code)?;
-            Ok(Plain::PutList { student, choices })
-        }
-    }
-}
-
 /// What is put, by the members of a body.
-fn put_by(alloc: Global, what: Put, code: &str, value: &Value) -> Result<Plain, Refusal>
-    ensures ok { IfOk result (λ plain. put_by what code.now (view value.now) ≡ Some plain) }
-    ensures err { IfErr result (λ refusal. (refusal ≡ Refusal.Memory)
-        ⊎ ((refusal ≡ Refusal.Members) × (put_by what code.now (view value.now) ≡ None))) }
+fn put_by(alloc: Global, what: Put, code: &str, value: &Value) -> Result<Option<Plain>, AllocError>
+    ensures { IfOk result (λ plain. plain ≡ put_by what code.now (view value.now)) }
 {
     match what {
-        Put::Supervisor => put_supervisor(alloc, code, value),
-        Put::Project => put_project(alloc, code, value),
-        Put::Student => put_student(alloc, code, value),
-        Put::List => put_list(alloc, code, value),
+        Put::Supervisor => match supervisor_members(value) {
+            None => Ok(None),
+            Some(members) => Ok(Some(Plain::PutSupervisor {
+                code: Text::of(alloc, code)?,
+                label: Text::of(alloc, members.name)?,
+                quota: members.quota,
+            })),
+        },
+        Put::Project => match project_members(value) {
+            None => Ok(None),
+            Some(members) => Ok(Some(Plain::PutProject {
+                code: Text::of(alloc, code)?,
+                label: Text::of(alloc, members.name)?,
+                supervisor: Text::of(alloc, members.supervisor)?,
+                quota: members.quota,
+            })),
+        },
+        Put::Student => match name_of(value) {
+            None => Ok(None),
+            Some(name) => Ok(Some(Plain::PutStudent {
+                code: Text::of(alloc, code)?,
+                label: Text::of(alloc, name)?,
+            })),
+        },
+        Put::List => match choices_of(alloc, value)? {
+            None => Ok(None),
+            Some(choices) => {
+                let student = Text::of(alloc, code)?;
+                Ok(Some(Plain::PutList { student, choices }))
+            }
+        },
     }
 }
 
@@ -98,9 +60,10 @@ fn object_asks(alloc: Global, what: Put, code: &str, body: &[u8]) -> Result<Plai
     ensures err { IfErr result (λ refusal. (refusal ≡ Refusal.Memory)
         ⊎ (by_body (Form.Members what) code.now body.now ≡ Err refusal)) }
 {
-    match read_json(alloc, body) {
-        Err(refusal) => Err(refusal),
-        Ok(value) => put_by(alloc, what, code, &value),
+    let value = read_json(alloc, body)?;
+    match put_by(alloc, what, code, &value)? {
+        None => Err(Refusal::Members),
+        Some(plain) => Ok(plain),
     }
 }
 

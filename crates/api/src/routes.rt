@@ -102,16 +102,22 @@ fn fits(segments: Segments, text: &str) -> bool
     }
 }
 
+/// Nothing is asked, of any segment.
+const NOTHING: Methods = Methods {
+    segments: Segments::Any,
+    get: None,
+    put: None,
+    post: None,
+    delete: None,
+};
+
 /// What is read alone.
 fn read(call: Call) -> Methods
     ensures { result ≡ read call }
 {
     Methods {
-        segments: Segments::Any,
         get: Some(Form::Empty(call)),
-        put: None,
-        post: None,
-        delete: None,
+        ..NOTHING
     }
 }
 
@@ -120,11 +126,8 @@ fn asked(call: Call) -> Methods
     ensures { result ≡ asked call }
 {
     Methods {
-        segments: Segments::Any,
-        get: None,
-        put: None,
         post: Some(Form::Empty(call)),
-        delete: None,
+        ..NOTHING
     }
 }
 
@@ -133,11 +136,8 @@ fn entry(put: Put, call: Call) -> Methods
     ensures { result ≡ entry put call }
 {
     Methods {
-        segments: Segments::Any,
-        get: Some(Form::Empty(call)),
         put: Some(Form::Members(put)),
-        post: None,
-        delete: None,
+        ..read(call)
     }
 }
 
@@ -146,11 +146,9 @@ fn list() -> Methods
     ensures { result ≡ list }
 {
     Methods {
-        segments: Segments::Any,
-        get: None,
         put: Some(Form::Members(Put::List)),
-        post: None,
         delete: Some(Form::Empty(Call::DropList)),
+        ..NOTHING
     }
 }
 
@@ -160,10 +158,7 @@ fn numbered(call: Call) -> Methods
 {
     Methods {
         segments: Segments::Numbers,
-        get: Some(Form::Empty(call)),
-        put: None,
-        post: None,
-        delete: None,
+        ..read(call)
     }
 }
 
@@ -172,11 +167,8 @@ fn import(kind: ImportKind) -> Methods
     ensures { result ≡ import kind }
 {
     Methods {
-        segments: Segments::Any,
-        get: None,
-        put: None,
         post: Some(Form::Raw(kind)),
-        delete: None,
+        ..NOTHING
     }
 }
 

@@ -1,9 +1,9 @@
 -- A route that is new is put in, and want of memory alone hinders it.
-use Rattle.std.proofs.Common.{◌≡◌, List, length, refl, sym, ap, ◌∙◌, arith}
+use Rattle.std.proofs.Common.{◌≡◌, length, refl, sym, ap, ◌∙◌, arith}
 use Rattle.std.proofs.lemmas.Result.{err_from_is_err_and}
 use Rattle.std.proofs.lemmas.List.{length-map}
 use Rattle.matchit.proofs.OnLiterals.{matchit_on_literals}
-use Rattle.api.specs.Routes.{all_routes, written}
+use Rattle.api.specs.Routes.{all_routes}
 use Rattle.api.proofs.Routing.{told, goes_on, first_new, is_memory, all_made}
 use Rattle.api.proofs.routes.router.Goals as goal
 
