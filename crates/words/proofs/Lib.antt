@@ -1,6 +1,7 @@
 pub mod Faults
 pub mod Found
 pub mod Loops
+pub mod Numbers
 pub mod Simple
 pub mod Subcommands
 pub mod Taken

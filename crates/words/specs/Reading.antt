@@ -1,5 +1,5 @@
 -- The line that words stand for, and the faults of words that are none.
-use Rattle.std.specs.Prelude.{◌≡◌, ◌≢◌, ℕ, Bool, List, [], ◌∷◌, Option, Some, Result, IfErr, IfOk, IsSomeAnd, codes, find, option_map, string_bytes, true}
+use Rattle.std.specs.Prelude.{◌≡◌, ◌≢◌, ◌<◌, ℕ, Bool, List, [], ◌∷◌, Option, Some, Result, IfErr, IfOk, IsSomeAnd, codes, find, option_map, string_bytes, true}
 use Rattle.std.specs.List.{list_any}
 use Rattle.std.specs.Str.{bytes_eq}
 use Rattle.std.specs.Str.Parse.{digits_value, without_leading_plus}
@@ -35,6 +35,11 @@ fits Word word = true
 fits (Number least most) word = is_unsigned_in least most word
 fits ImportKind word = list_any (λ kind. bytes_eq (word_of kind) word) import_kinds
 fits ReportKind word = list_any (λ kind. bytes_eq (report_word kind) word) report_kinds
+
+-- each number that may stand for an argument is below the bound
+abbrev pub IsNumberBelow : ℕ → Takes → Type 0
+IsNumberBelow bound (Number least most) = most < bound
+IsNumberBelow bound _ = ⊥
 
 -- a word was read for the argument, and may stand for it
 abbrev pub IsGiven : List Row → Argument → Type 0

@@ -1,7 +1,7 @@
-use Rattle.std.proofs.Common.{◌∙◌, ap, Some}
+use Rattle.std.proofs.Common.{◌∙◌, ap, sym, Some}
 use Rattle.words.specs.Kinds.{report_kinds, report_word}
 use Rattle.words.proofs.Found.{found_word}
 use Rattle.words.proofs.reading.report.Goals as goal
 
-pub returns-in-Some : goal.returns-in-Some
-returns-in-Some c = c.in_ok-word.ensures ∙ ap Some (found_word report_word report_kinds c.in-Some.kind c.in_ok-word.field-0.now c.in-Some.ensures)
+pub returns : goal.returns
+returns c = c.word.ensures.word ∙ ap Some (found_word report_word report_kinds c.unwrap.result c.word.result.now (sym c.unwrap.ensures ∙ c.report_kind.ensures))

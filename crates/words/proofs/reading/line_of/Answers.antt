@@ -1,0 +1,23 @@
+use Rattle.std.proofs.Common.{◌≡◌, ◌≢◌, Bool, List, [], ◌∷◌, Some, cond, false, find, refl, sym, true}
+use Rattle.std.specs.Prelude.{IsSomeAnd}
+use Rattle.std.specs.Str.{bytes_eq}
+use Rattle.std.proofs.lemmas.Slice.Eq.{bytes_eq-Decides}
+use Rattle.clap.specs.Words.{Text}
+use Rattle.words.specs.Reading.{Each}
+use Rattle.words.specs.Table.{Told, lines}
+use Rattle.words.proofs.reading.line_of.Goals as goal
+
+-- no line is found by a name that none has
+none_named : (P : Told → Type 0) (name : Text) (told : List Told) → Each (λ line. name ≢ line.name) told → IsSomeAnd (find (λ line. bytes_eq line.name name) told) P → ⊥
+none_named P name [] others h = h
+none_named P name (line ∷ told) others h = go (bytes_eq line.name name) refl (none_named P name told others.1) h
+  where
+    go : (b : Bool) → bytes_eq line.name name ≡ b → (IsSomeAnd (find (λ line. bytes_eq line.name name) told) P → ⊥)
+        → IsSomeAnd (cond b (Some line) (find (λ line. bytes_eq line.name name) told)) P → ⊥
+    go true is none h = others.0 (sym ((bytes_eq-Decides line.name name).0 is))
+    go false is none h = none h
+
+pub unreachable-requires : goal.unreachable-requires
+unreachable-requires c =
+    let d = c.in_default in
+    none_named _ c.args.name.now lines (d.not-serve, (d.not-import, (d.not-text, (d.not-text-2, (d.not-text-3, (d.not-report, (d.not-solve, (d.not-check, tt)))))))) c.requires
