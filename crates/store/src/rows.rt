@@ -1,10 +1,9 @@
 //! Rows as they are read.
 
-ghost use Rattle.std.specs.Prelude.{◌≡◌, ◌≢◌, ◌<◌, ◌^◌, ℕ, pos, Bool, IsTrue, false, cond, List, IsUtf8, IfOk, drop, length};
+ghost use Rattle.std.specs.Prelude.{◌≡◌, ◌≢◌, ◌<◌, ◌^◌, ℕ, pos, Bool, IsTrue, false, cond, List, IsUtf8, IfOk, drop};
 ghost use Rattle.sqlite.specs.declared.types.Value.TheVariants.{Int, Blob, Text as Words};
 ghost use Rattle.sqlite.specs.Order.{Row as AnyCells, column};
 ghost use Rattle.sqlite_rules.specs.Lists.{Has};
-ghost use Rattle.tables.specs.declared.table.Table.TheVariants.{Supervisor, Project, Student, Round, Choice, Placement, Import};
 ghost use Rattle.rolls.specs.Kinds.{word_of};
 ghost use Rattle.store.specs.Reading.{IsNoRow, IsRowWith, AreRowsOf};
 
@@ -110,99 +109,6 @@ fn kind_at(cells: &Cells, at: usize) -> Result<ImportKind, StoreFault>
     Err(StoreFault::Damaged)
 }
 
-/// A row of `supervisor`.
-fn supervisor_with(alloc: Global, cells: &Cells) -> Result<Row, StoreFault>
-    requires width { length cells.now ≡ 4 }
-    ensures row { IfOk result (IsRowWith Supervisor cells.now) }
-    ensures damaged { result ≡ Err StoreFault.Damaged → IsNoRow Supervisor (drop 1 cells.now) }
-{
-    Ok(Row::Supervisor {
-        code: text_at(alloc, cells, 1)?,
-        label: text_at(alloc, cells, 2)?,
-        quota: number_at(cells, 3)?,
-    })
-}
-
-/// A row of `project`.
-fn project_with(alloc: Global, cells: &Cells) -> Result<Row, StoreFault>
-    requires width { length cells.now ≡ 5 }
-    ensures row { IfOk result (IsRowWith Project cells.now) }
-    ensures damaged { result ≡ Err StoreFault.Damaged → IsNoRow Project (drop 1 cells.now) }
-{
-    Ok(Row::Project {
-        code: text_at(alloc, cells, 1)?,
-        label: text_at(alloc, cells, 2)?,
-        supervisor: text_at(alloc, cells, 3)?,
-        quota: number_at(cells, 4)?,
-    })
-}
-
-/// A row of `student`.
-fn student_with(alloc: Global, cells: &Cells) -> Result<Row, StoreFault>
-    requires width { length cells.now ≡ 3 }
-    ensures row { IfOk result (IsRowWith Student cells.now) }
-    ensures damaged { result ≡ Err StoreFault.Damaged → IsNoRow Student (drop 1 cells.now) }
-{
-    Ok(Row::Student {
-        code: text_at(alloc, cells, 1)?,
-        label: text_at(alloc, cells, 2)?,
-    })
-}
-
-/// A row of `round`.
-fn round_with(cells: &Cells) -> Result<Row, StoreFault>
-    requires width { length cells.now ≡ 3 }
-    ensures row { IfOk result (IsRowWith Round cells.now) }
-    ensures damaged { result ≡ Err StoreFault.Damaged → IsNoRow Round (drop 1 cells.now) }
-{
-    Ok(Row::Round {
-        number: number_at(cells, 1)?,
-        is_open: flag_at(cells, 2)?,
-    })
-}
-
-/// A row of `choice`.
-fn choice_with(alloc: Global, cells: &Cells) -> Result<Row, StoreFault>
-    requires width { length cells.now ≡ 5 }
-    ensures row { IfOk result (IsRowWith Choice cells.now) }
-    ensures damaged { result ≡ Err StoreFault.Damaged → IsNoRow Choice (drop 1 cells.now) }
-{
-    Ok(Row::Choice {
-        round: number_at(cells, 1)?,
-        student: text_at(alloc, cells, 2)?,
-        place: number_at(cells, 3)?,
-        project: text_at(alloc, cells, 4)?,
-    })
-}
-
-/// A row of `placement`.
-fn placement_with(alloc: Global, cells: &Cells) -> Result<Row, StoreFault>
-    requires width { length cells.now ≡ 5 }
-    ensures row { IfOk result (IsRowWith Placement cells.now) }
-    ensures damaged { result ≡ Err StoreFault.Damaged → IsNoRow Placement (drop 1 cells.now) }
-{
-    Ok(Row::Placement {
-        student: text_at(alloc, cells, 1)?,
-        round: number_at(cells, 2)?,
-        project: text_at(alloc, cells, 3)?,
-        rank: number_at(cells, 4)?,
-    })
-}
-
-/// A row of `import`.
-fn import_with(alloc: Global, cells: &Cells) -> Result<Row, StoreFault>
-    requires width { length cells.now ≡ 5 }
-    ensures row { IfOk result (IsRowWith Import cells.now) }
-    ensures damaged { result ≡ Err StoreFault.Damaged → IsNoRow Import (drop 1 cells.now) }
-{
-    Ok(Row::Import {
-        id: text_at(alloc, cells, 1)?,
-        kind: kind_at(cells, 2)?,
-        bytes: blob_at(alloc, cells, 3)?,
-        rows: number_at(cells, 4)?,
-    })
-}
-
 /// The row with these columns, which come after its rowid.
 fn row_with(alloc: Global, table: Table, cells: &Cells) -> Result<Row, StoreFault>
     ensures row { IfOk result (IsRowWith table cells.now) }
@@ -212,13 +118,43 @@ fn row_with(alloc: Global, table: Table, cells: &Cells) -> Result<Row, StoreFaul
         return Err(StoreFault::Storage);
     }
     match table {
-        Table::Supervisor => supervisor_with(alloc, cells),
-        Table::Project => project_with(alloc, cells),
-        Table::Student => student_with(alloc, cells),
-        Table::Round => round_with(cells),
-        Table::Choice => choice_with(alloc, cells),
-        Table::Placement => placement_with(alloc, cells),
-        Table::Import => import_with(alloc, cells),
+        Table::Supervisor => Ok(Row::Supervisor {
+            code: text_at(alloc, cells, 1)?,
+            label: text_at(alloc, cells, 2)?,
+            quota: number_at(cells, 3)?,
+        }),
+        Table::Project => Ok(Row::Project {
+            code: text_at(alloc, cells, 1)?,
+            label: text_at(alloc, cells, 2)?,
+            supervisor: text_at(alloc, cells, 3)?,
+            quota: number_at(cells, 4)?,
+        }),
+        Table::Student => Ok(Row::Student {
+            code: text_at(alloc, cells, 1)?,
+            label: text_at(alloc, cells, 2)?,
+        }),
+        Table::Round => Ok(Row::Round {
+            number: number_at(cells, 1)?,
+            is_open: flag_at(cells, 2)?,
+        }),
+        Table::Choice => Ok(Row::Choice {
+            round: number_at(cells, 1)?,
+            student: text_at(alloc, cells, 2)?,
+            place: number_at(cells, 3)?,
+            project: text_at(alloc, cells, 4)?,
+        }),
+        Table::Placement => Ok(Row::Placement {
+            student: text_at(alloc, cells, 1)?,
+            round: number_at(cells, 2)?,
+            project: text_at(alloc, cells, 3)?,
+            rank: number_at(cells, 4)?,
+        }),
+        Table::Import => Ok(Row::Import {
+            id: text_at(alloc, cells, 1)?,
+            kind: kind_at(cells, 2)?,
+            bytes: blob_at(alloc, cells, 3)?,
+            rows: number_at(cells, 4)?,
+        }),
         Table::Edition => Err(StoreFault::Storage),
     }
 }

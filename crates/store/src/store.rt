@@ -65,22 +65,6 @@ fn open_tables<S: Alter>(alloc: Global, conn: &mut Connection<S>) -> Result<Offi
     office_of(alloc, conn)
 }
 
-/// The office of the tables, where no transaction is open.
-fn load_tables<S: Alter>(alloc: Global, conn: &mut Connection<S>) -> Result<Office, StoreFault>
-    ensures ok { HasCleanDisk (state S.Store conn.new) → IfOk result (StandsFor (state S.Store conn.old).now) }
-    ensures unlisted { conn.old.in_transaction ≡ false → (AreListed (state S.Store conn.old).now.schema → ⊥) → result ≡ Err StoreFault.Damaged }
-    ensures damaged { HasCleanDisk (state S.Store conn.new) → result ≡ Err StoreFault.Damaged → IsDamaged (state S.Store conn.old).now }
-    ensures kept { HasCleanDisk (state S.Store conn.new) → IsKept (state S.Store conn.old) (state S.Store conn.new) }
-    ensures crash { Survives (state S.Store conn.old) (state S.Store conn.new) (λ _. ⊥) }
-    ensures ended { conn.old.in_transaction ≡ false → conn.new.in_transaction ≡ false }
-    ensures begun { IsTrue conn.old.in_transaction → result ≡ Err StoreFault.Storage }
-{
-    if !conn.is_autocommit() {
-        return Err(StoreFault::Storage);
-    }
-    office_of(alloc, conn)
-}
-
 impl<S: Alter> Store<S> {
     /// Opens the tables: the office that they stand for, or the empty one of a database that has none of
     /// them, where they are made in one transaction. Other tables are left alone. With a fault the
@@ -128,7 +112,10 @@ impl<S: Alter> Store<S> {
         // Where a transaction is open already.
         ensures begun { IsTrue self.old.in_transaction → result ≡ Err StoreFault.Storage }
     {
-        load_tables(self.alloc, &mut self.conn)
+        if !self.conn.is_autocommit() {
+            return Err(StoreFault::Storage);
+        }
+        office_of(self.alloc, &mut self.conn)
     }
 
     /// Makes the changes in one transaction, which touches only the rows that they name.
