@@ -14,7 +14,7 @@ use std::collections::{BinaryHeap, HashMap};
 use std::ffi::{CStr, CString, c_char, c_int, c_void};
 use std::io::{Read, Write};
 use std::net::{TcpListener, TcpStream};
-use std::time::Instant;
+use std::time::{Instant, UNIX_EPOCH};
 
 // ---- SQLite ----
 
@@ -129,7 +129,7 @@ impl Students {
     fn of(db: &Database) -> Students {
         Students {
             label: db.prepare("SELECT label FROM student WHERE code = ?1"),
-            list: db.prepare("SELECT project FROM choice JOIN round ON round = number WHERE open = 1 AND student = ?1 ORDER BY place"),
+            list: db.prepare("SELECT project FROM round CROSS JOIN choice ON round = number WHERE open = 1 AND student = ?1 ORDER BY place"),
             placed: db.prepare("SELECT project, rank, round FROM placement WHERE student = ?1"),
             put: db.prepare("INSERT INTO student VALUES (?1, ?2) ON CONFLICT (code) DO UPDATE SET label = ?2"),
         }
@@ -201,6 +201,8 @@ fn serve(db: &Database, port: u16, count: usize) {
 /// The client. Each connection takes a hundred messages.
 fn ask(port: u16, times: usize, at_once: usize, method: &str) {
     let mut answers = vec![0; 65_536];
+    // No put may name the student as a put before it did: SQLite writes nothing where nothing changes.
+    let run = UNIX_EPOCH.elapsed().unwrap().as_micros();
     let start = Instant::now();
     for connection in 0..times.div_ceil(100) {
         let mut stream = TcpStream::connect(("127.0.0.1", port)).unwrap();
@@ -208,7 +210,7 @@ fn ask(port: u16, times: usize, at_once: usize, method: &str) {
         for first in (0..asked).step_by(at_once) {
             let numbers = first..(first + at_once).min(asked);
             let want = numbers.len();
-            let messages: String = numbers.map(|n| message(method, connection * 100 + n)).collect();
+            let messages: String = numbers.map(|n| message(method, connection * 100 + n, run)).collect();
             stream.write_all(messages.as_bytes()).unwrap();
             let mut have = 0;
             let mut seen = Vec::new();
@@ -227,10 +229,10 @@ fn ask(port: u16, times: usize, at_once: usize, method: &str) {
     println!("{}", start.elapsed().as_micros());
 }
 
-fn message(method: &str, n: usize) -> String {
+fn message(method: &str, n: usize, run: u128) -> String {
     let code = n % 500;
     if method == "PUT" {
-        let body = format!("{{\"name\":\"Student {n}\"}}");
+        let body = format!("{{\"name\":\"Student {n} {run}\"}}");
         format!("PUT /students/S{code} HTTP/1.1\r\nContent-Length: {}\r\n\r\n{body}", body.len())
     } else {
         format!("GET /students/S{code} HTTP/1.1\r\n\r\n")
