@@ -2,9 +2,13 @@
 """Runs every command of a walkthrough, and compares what it prints with what the walkthrough shows.
 
 tools/walkthrough.py SPADESK [--write]     needs curl, jq and sqlite3
+tools/walkthrough.py                       only compares the texts of the test with those of the example
 
 The commands are the lines after a `$` in the blocks of examples/first-round/README.md; they run in a folder of their own, beside
 the files of the example. With --write the walkthrough shows what was printed.
+
+The lines of the program, and what is served, are also a test of the gate, crates/trials/src/walkthrough.rt, which has the texts of the
+example for its own. Here each of them is compared with the example, file by file, line by line and request by request.
 """
 import os
 import re
@@ -14,7 +18,42 @@ import sys
 import tempfile
 import time
 
-EXAMPLE = os.path.join(os.path.dirname(os.path.dirname(os.path.abspath(__file__))), "examples", "first-round")
+TOP = os.path.dirname(os.path.dirname(os.path.abspath(__file__)))
+EXAMPLE = os.path.join(TOP, "examples", "first-round")
+TEST = os.path.join(TOP, "crates", "trials", "src", "walkthrough.rt")
+
+
+def read(path):
+    with open(path, encoding="utf-8") as file:
+        return file.read()
+
+
+def shown_commands(text):
+    """Each command of the walkthrough, with what it prints."""
+    blocks = re.findall(r"```console\n(.*?)```", text, flags=re.S)
+    return [pair for block in blocks for pair in re.findall(r"^\$ (.*)\n((?:(?!\$ ).*\n)*)", block, re.M)]
+
+
+def compare_test():
+    """Ends where the test does not have the files, the lines and the requests of the example."""
+    test = read(TEST)
+    commands = shown_commands(read(os.path.join(EXAMPLE, "README.md")))
+    wanted = [f'r#"{read(os.path.join(EXAMPLE, name))}"#' for name in os.listdir(EXAMPLE) if name.endswith(".csv")]
+    missing = [text for text in wanted if text not in test]
+    rows = re.findall(r"^ *(?:r#\")?(spadesk .*?) +\| 0 \| ?(.*?)(?:\"#;)?$", test, re.M)
+    lines = [(command, told) for command, told in commands if command.startswith("spadesk ") and "&" not in command]
+    if lines != [(words, out.replace("^n", "\n")) for words, out in rows]:
+        missing.append("the lines of the program as they are shown")
+    requests = re.findall(r"(GET|POST) (\S+) +\| (\{.*\})", test)
+    for command, told in commands:
+        asked = re.search(r"curl -s (-X POST )?http://[^/]+(/\S+)( \| jq )?", command)
+        if asked:
+            method = "POST" if asked[1] else "GET"
+            answers = [body for verb, path, body in requests if (verb, path) == (method, asked[2])]
+            if not any(told.strip() in body if asked[3] else told.strip() == body for body in answers):
+                missing.append(command)
+    if missing:
+        sys.exit("the test does not have:\n" + "\n".join(missing))
 
 
 def run(command, folder, env):
@@ -28,10 +67,13 @@ def run(command, folder, env):
     return text if text.endswith("\n") or not text else text + "\n"
 
 
-def main(program, *flags):
+def main(program=None, *flags):
+    if program is None or "--write" not in flags:
+        compare_test()
+    if program is None:
+        return
     path = os.path.join(EXAMPLE, "README.md")
-    with open(path, encoding="utf-8") as file:
-        shown = file.read()
+    shown = read(path)
     with tempfile.TemporaryDirectory() as folder:
         for name in os.listdir(EXAMPLE):
             shutil.copy(os.path.join(EXAMPLE, name), folder)

@@ -1,9 +1,10 @@
-//! Worked admissions to a network, and that each comparison is counted.
+//! Worked admissions to a network; the last two tests count what this search compares.
 
 ghost use Rattle.std.specs.Prelude.{◌≡◌, ◌+◌, ◌<◌, ◌≤◌, length, IsTrue, All};
 ghost use Rattle.spa.specs.Places.{lex_ops};
 ghost use Rattle.spa.specs.declared.TheConstants.{MOST_SUPERVISORS, MOST_PROJECTS, MOST_PLACES, PLACES};
 
+use crate::judged::holds;
 use network::{Admitted, Network};
 use spa::{Lex, MOST_PLACES, MOST_PROJECTS, MOST_STUDENTS, MOST_SUPERVISORS, PLACES, RANKS, Worth};
 use std::alloc::Global;
@@ -104,7 +105,7 @@ impl Trial {
         supervisors: &[u32],
         projects: &[(usize, u32)],
     ) -> Result<Trial, Fail> {
-        assert!(rt; are_rolls(supervisors, projects));
+        holds(rt, are_rolls(supervisors, projects), "rolls");
         let network = Network::start(alloc, supervisors, projects)?;
         Ok(Trial {
             network,
@@ -121,9 +122,8 @@ impl Trial {
         projects: &[usize],
     ) -> Result<Admitted, Fail> {
         let list = ranked(alloc, projects)?;
-        assert!(rt;
-            self.students < MOST_STUDENTS && list.len() <= RANKS && is_list(&list, self.projects)
-        );
+        let is_next = self.students < MOST_STUDENTS && list.len() <= RANKS;
+        holds(rt, is_next && is_list(&list, self.projects), "a list");
         let admitted = self.network.admit(&list)?;
         self.students += 1;
         Ok(admitted)
@@ -131,7 +131,7 @@ impl Trial {
 
     /// The rank of the student's project, which is its place, or 0.
     fn rank_of(&self, rt: &impl Abort, student: usize) -> usize {
-        assert!(rt; student < self.students);
+        holds(rt, student < self.students, "a student");
         match self.network.place_of(student) {
             Some(place) => place,
             None => 0,
@@ -191,28 +191,18 @@ fn show_all(
     Ok(all)
 }
 
-/// Asserts that each admission took these relaxations, and that the steps add them up.
-fn are_counted(rt: &impl Abort, all: &[Shown], relaxations: &[u64]) {
-    assert_eq!(rt; all.len(), relaxations.len());
-    let mut steps: u64 = 0;
-    for (shown, count) in all.iter().zip(relaxations.iter()) {
-        assert_eq!(rt; shown.relaxations, *count);
-        steps = steps.wrapping_add(*count);
-        assert_eq!(rt; shown.steps, steps);
-    }
-}
-
-/// Asserts where both students of the worked example are placed after each admission, within 7 times 11 and then 8 times
-/// 14 relaxations.
-fn are_placed(rt: &impl Abort, all: &[Shown]) {
+/// Whether both students of the worked example are placed so after each admission, within 7 times 11 and then 8 times 14
+/// relaxations.
+fn are_placed(all: &[Shown]) -> bool {
     match all {
         [first, second] => {
-            assert!(rt; first.placed && first.relaxations <= 77);
-            assert!(rt; first.ranks.as_slice() == [1].as_slice());
-            assert!(rt; second.placed && second.relaxations <= 112);
-            assert!(rt; second.ranks.as_slice() == [2, 2].as_slice());
+            let is_first = first.placed && first.relaxations <= 77;
+            let is_second = second.placed && second.relaxations <= 112;
+            let are_ranks = first.ranks.as_slice() == [1].as_slice()
+                && second.ranks.as_slice() == [2, 2].as_slice();
+            is_first && is_second && are_ranks
         }
-        _ => assert!(rt; false, "{} admissions", all.len()),
+        _ => false,
     }
 }
 
@@ -221,17 +211,9 @@ fn worked(alloc: Global, rt: &impl Abort) -> Result<Trial, Fail> {
     Trial::start(rt, alloc, &[5], &[(0, 1), (0, 1), (0, 0)])
 }
 
-// A lists P, Q, and then C lists Z, P. What this search compares, counted by hand (another search may compare less):
-// of A that P is worth its cost, then P, Q and the sink, the supervisor from P, and the sink from there;
-// of C that Z is worth its cost, then Z, P and the sink, from P what A could have instead (P, Q and the sink), the
-// supervisor from Q, and the sink from there.
-#[test]
-fn admissions_are_counted(rt: HostRuntime) -> Result<(), Fail> {
-    let mut trial = worked(rt.alloc(), &rt)?;
-    assert_eq!(rt; trial.network.steps(), 0);
-    let all = show_all(rt.alloc(), &rt, &mut trial, &[&[0, 1], &[2, 0]])?;
-    are_counted(&rt, &all, &[6, 9]);
-    Ok(())
+/// L and M have quota 1; L offers P and Q with quota 1, and M offers R.
+fn tight(alloc: Global, rt: &impl Abort) -> Result<Trial, Fail> {
+    Trial::start(rt, alloc, &[1, 1], &[(0, 1), (0, 1), (1, 1)])
 }
 
 type Pair = (u32, u32, u32, [usize; 2], [usize; 2], usize, usize);
@@ -239,32 +221,29 @@ type Pair = (u32, u32, u32, [usize; 2], [usize; 2], usize, usize);
 // The supervisor's quota, those of P and Q, and the lists of A and B; then by hand how many are placed, and the sum of
 // their ranks.
 #[rattlefmt::skip]
-fn pairs() -> [Pair; 8] {
-    [
-        (2, 1, 1, [0, 1], [1, 0], 2, 2),
-        (2, 1, 1, [0, 1], [0, 1], 2, 3),
-        (2, 2, 1, [0, 1], [0, 1], 2, 2),
-        (2, 1, 0, [0, 1], [0, 1], 1, 1),
-        (2, 0, 1, [0, 1], [0, 1], 1, 2),
-        (1, 1, 1, [0, 1], [1, 0], 1, 1),
-        (1, 2, 2, [1, 0], [1, 0], 1, 1),
-        (0, 1, 1, [0, 1], [1, 0], 0, 0),
-    ]
-}
+static PAIRS: [Pair; 8] = [
+    (2, 1, 1, [0, 1], [1, 0], 2, 2),
+    (2, 1, 1, [0, 1], [0, 1], 2, 3),
+    (2, 2, 1, [0, 1], [0, 1], 2, 2),
+    (2, 1, 0, [0, 1], [0, 1], 1, 1),
+    (2, 0, 1, [0, 1], [0, 1], 1, 2),
+    (1, 1, 1, [0, 1], [1, 0], 1, 1),
+    (1, 2, 2, [1, 0], [1, 0], 1, 1),
+    (0, 1, 1, [0, 1], [1, 0], 0, 0),
+];
 
-/// Compares how many of a row are placed, and at which ranks.
-fn compare_pair(rt: &impl Abort, all: &[Shown], quota: u32, placed: usize, ranks: usize) {
-    match all {
-        [first, second] => match second.ranks.as_slice() {
-            [a, b] => {
-                assert_eq!(rt; first.placed, quota > 0);
-                assert_eq!(rt; second.placed, *b > 0);
-                assert_eq!(rt; (*a).min(1).saturating_add((*b).min(1)), placed);
-                assert_eq!(rt; (*a).saturating_add(*b), ranks);
-            }
-            _ => assert!(rt; false, "two ranks"),
-        },
-        _ => assert!(rt; false, "two admissions"),
+/// Whether so many of a row are placed, and at these ranks.
+fn is_pair(all: &[Shown], quota: u32, placed: usize, ranks: usize) -> bool {
+    let [first, second] = all else {
+        return false;
+    };
+    match second.ranks.as_slice() {
+        [a, b] => {
+            let count = (*a).min(1).saturating_add((*b).min(1));
+            let is_told = first.placed == (quota > 0) && second.placed == (*b > 0);
+            is_told && count == placed && (*a).saturating_add(*b) == ranks
+        }
+        _ => false,
     }
 }
 
@@ -273,40 +252,34 @@ fn compare_pairs(alloc: Global, rt: &impl Abort, rows: &[Pair]) -> Result<(), Fa
     for (quota, p, q, a, b, placed, ranks) in rows {
         let mut trial = Trial::start(rt, alloc, &[*quota], &[(0, *p), (0, *q)])?;
         let all = show_all(alloc, rt, &mut trial, &[a.as_slice(), b.as_slice()])?;
-        compare_pair(rt, &all, *quota, *placed, *ranks);
+        holds(rt, is_pair(&all, *quota, *placed, *ranks), "a pair");
     }
     Ok(())
 }
 
 #[test]
 fn quotas_are_kept(rt: HostRuntime) -> Result<(), Fail> {
-    compare_pairs(rt.alloc(), &rt, pairs().as_slice())
+    compare_pairs(rt.alloc(), &rt, PAIRS.as_slice())
 }
 
-/// Asserts that the first student made room for the second, and that there was none for the third.
-fn made_room(rt: &impl Abort, all: &[Shown]) {
+/// Whether the first student made room for the second, and there was none for the third.
+fn made_room(all: &[Shown]) -> bool {
     match all {
         [first, second, third] => {
-            assert!(rt; first.ranks.as_slice() == [1].as_slice());
-            assert!(rt; second.placed && second.ranks.as_slice() == [2, 1].as_slice());
-            assert!(rt; !third.placed);
-            assert!(rt; third.ranks.last() == Some(&0));
+            let is_first = first.ranks.as_slice() == [1].as_slice();
+            let is_second = second.placed && second.ranks.as_slice() == [2, 1].as_slice();
+            is_first && is_second && !third.placed && third.ranks.last() == Some(&0)
         }
-        _ => assert!(rt; false, "three admissions"),
+        _ => false,
     }
 }
 
-// L and M have quota 1; L offers P and Q, M offers R. A lists P, R; B lists Q alone, so A makes room at R; the third lists
-// P, Q, R in vain. What this search compares, counted by hand: each time a gain by one comparison; then A with P, R, the
-// sink, L, and from L with the sink; B with Q, the sink, L, from L with P and Q, from P with P, R and the sink, with M
-// and the sink; the third with P, Q, R, the sink, L, P and Q, with Q and the sink for B, and with P, R and the sink for A.
+// A lists P, R; B lists Q alone, so A makes room at R; the third lists P, Q, R in vain.
 #[test]
 fn a_student_makes_room_with_the_supervisor(rt: HostRuntime) -> Result<(), Fail> {
-    let alloc = rt.alloc();
-    let mut trial = Trial::start(&rt, alloc, &[1, 1], &[(0, 1), (0, 1), (1, 1)])?;
-    let all = show_all(alloc, &rt, &mut trial, &[&[0, 2], &[1], &[0, 1, 2]])?;
-    made_room(&rt, &all);
-    are_counted(&rt, &all, &[6, 11, 13]);
+    let mut trial = tight(rt.alloc(), &rt)?;
+    let all = show_all(rt.alloc(), &rt, &mut trial, &[&[0, 2], &[1], &[0, 1, 2]])?;
+    holds(&rt, made_room(&all), "A makes room");
     Ok(())
 }
 
@@ -322,14 +295,12 @@ fn paid(prices: &[Lex], quotas: &[i64]) -> i64 {
 /// Asserts that the prices pay for two places in all.
 fn pay_for_two(rt: &impl Abort, trial: &Trial) -> Result<(), Fail> {
     let (students, projects, supervisors) = trial.network.prices()?;
-    assert_eq!(rt;
-        (students.len(), projects.len(), supervisors.len()),
-        (2, 3, 1)
-    );
+    let lengths = (students.len(), projects.len(), supervisors.len());
+    holds(rt, lengths == (2, 3, 1), "a price each");
     let sum = paid(&students, &[1, 1])
         .wrapping_add(paid(&projects, &[1, 1, 0]))
         .wrapping_add(paid(&supervisors, &[5]));
-    assert_eq!(rt; sum, 2);
+    holds(rt, sum == 2, "two places");
     Ok(())
 }
 
@@ -337,6 +308,43 @@ fn pay_for_two(rt: &impl Abort, trial: &Trial) -> Result<(), Fail> {
 fn both_are_placed_and_the_prices_pay(rt: HostRuntime) -> Result<(), Fail> {
     let mut trial = worked(rt.alloc(), &rt)?;
     let all = show_all(rt.alloc(), &rt, &mut trial, &[&[0, 1], &[2, 0]])?;
-    are_placed(&rt, &all);
+    holds(&rt, are_placed(&all), "both are placed");
     pay_for_two(&rt, &trial)
+}
+
+// From here on: how much this search compares, counted by hand. Another search that is right may compare less or more, and
+// then these two tests change; all others have to pass with any search.
+
+/// Whether each admission took these relaxations, and the steps add them up.
+fn are_counted(all: &[Shown], relaxations: &[u64]) -> bool {
+    let mut is_well = all.len() == relaxations.len();
+    let mut steps: u64 = 0;
+    for (shown, count) in all.iter().zip(relaxations.iter()) {
+        steps = steps.wrapping_add(*count);
+        is_well = is_well && shown.relaxations == *count && shown.steps == steps;
+    }
+    is_well
+}
+
+// A lists P, Q, and then C lists Z, P. The search compares, of A, that P is worth its cost, then P, Q and the sink, the
+// supervisor from P, and the sink from there; of C that Z is worth its cost, then Z, P and the sink, from P what A could
+// have instead (P, Q and the sink), the supervisor from Q, and the sink from there.
+#[test]
+fn this_search_counts_two_admissions(rt: HostRuntime) -> Result<(), Fail> {
+    let mut trial = worked(rt.alloc(), &rt)?;
+    holds(&rt, trial.network.steps() == 0, "no steps");
+    let all = show_all(rt.alloc(), &rt, &mut trial, &[&[0, 1], &[2, 0]])?;
+    holds(&rt, are_counted(&all, &[6, 9]), "6 and 9");
+    Ok(())
+}
+
+// Each time a gain by one comparison; then A with P, R, the sink, L, and from L with the sink; B with Q, the sink, L, from L
+// with P and Q, from P with P, R and the sink, with M and the sink; the third with P, Q, R, the sink, L, P and Q, with Q and
+// the sink for B, and with P, R and the sink for A.
+#[test]
+fn this_search_counts_a_student_who_makes_room(rt: HostRuntime) -> Result<(), Fail> {
+    let mut trial = tight(rt.alloc(), &rt)?;
+    let all = show_all(rt.alloc(), &rt, &mut trial, &[&[0, 2], &[1], &[0, 1, 2]])?;
+    holds(&rt, are_counted(&all, &[6, 11, 13]), "6, 11 and 13");
+    Ok(())
 }

@@ -1,5 +1,6 @@
 //! The checker over a worked example and its faulty variants.
 
+use crate::judged::holds;
 use crate::rolls_of::instance;
 use spa::{Instance, Matching, PLACES};
 use std::alloc::Global;
@@ -34,6 +35,7 @@ fn prices(alloc: Global, p: Three, z: Three, l: Three) -> Result<Prices, Fail> {
 type Three = (i64, i64, i64);
 
 type Check = (
+    &'static str,
     Option<u8>,
     Option<u8>,
     Three,
@@ -44,19 +46,17 @@ type Check = (
 
 // The places of A and C in their lists, the prices of P, Z and L, and the answer. A at Q and C at P is greedy maximum.
 #[rattlefmt::skip]
-fn checks() -> [Check; 9] {
-    [
-        (Some(2), Some(2), (0, 1, -1), (0, 2, -2),                  (0, 0, 0),         Ok(())),
-        (Some(1), Some(2), (0, 1, -1), (0, 2, -2),                  (0, 0, 0),         Err(CheckFault::NotMatching)),
-        (Some(2), Some(3), (0, 1, -1), (0, 2, -2),                  (0, 0, 0),         Err(CheckFault::NotMatching)),
-        (Some(2), Some(2), (0, 1, -1), (0, 1_000_000, -1_000_000),  (0, 0, 0),         Ok(())),
-        (Some(2), Some(2), (0, 1, -1), (0, 2, -2),                  (0, 1_000_001, 0), Err(CheckFault::Shape)),
-        (Some(2), Some(2), (0, 1, -1), (-1, 2, -2),                 (0, 0, 0),         Err(CheckFault::Below)),
-        (Some(2), Some(2), (0, 0, 0),  (0, 2, -2),                  (0, 0, 0),         Err(CheckFault::Uncovered(0, 1))),
-        (Some(2), Some(2), (0, 1, -1), (0, 0, 0),                   (0, 0, 0),         Err(CheckFault::Uncovered(1, 1))),
-        (None,    Some(2), (0, 1, -1), (0, 2, -2),                  (0, 0, 0),         Err(CheckFault::Unequal)),
-    ]
-}
+static CHECKS: [Check; 9] = [
+    ("best",                    Some(2), Some(2), (0, 1, -1), (0, 2, -2),                  (0, 0, 0),         Ok(())),
+    ("two at one project",      Some(1), Some(2), (0, 1, -1), (0, 2, -2),                  (0, 0, 0),         Err(CheckFault::NotMatching)),
+    ("a place above the list",  Some(2), Some(3), (0, 1, -1), (0, 2, -2),                  (0, 0, 0),         Err(CheckFault::NotMatching)),
+    ("prices at their limit",   Some(2), Some(2), (0, 1, -1), (0, 1_000_000, -1_000_000),  (0, 0, 0),         Ok(())),
+    ("a price above the limit", Some(2), Some(2), (0, 1, -1), (0, 2, -2),                  (0, 1_000_001, 0), Err(CheckFault::Shape)),
+    ("a price below zero",      Some(2), Some(2), (0, 1, -1), (-1, 2, -2),                 (0, 0, 0),         Err(CheckFault::Below)),
+    ("A is not covered",        Some(2), Some(2), (0, 0, 0),  (0, 2, -2),                  (0, 0, 0),         Err(CheckFault::Uncovered(0, 1))),
+    ("C is not covered",        Some(2), Some(2), (0, 1, -1), (0, 0, 0),                   (0, 0, 0),         Err(CheckFault::Uncovered(1, 1))),
+    ("sums differ",             None,    Some(2), (0, 1, -1), (0, 2, -2),                  (0, 0, 0),         Err(CheckFault::Unequal)),
+];
 
 /// Compares the answer to each row.
 fn compare_checks(
@@ -65,12 +65,13 @@ fn compare_checks(
     instance: &Instance,
     rows: &[Check],
 ) -> Result<(), Fail> {
-    for (a, c, p, z, l, want) in rows {
+    for (name, a, c, p, z, l, want) in rows {
         let matching = Matching {
             places: Vec::from_array(alloc, [*a, *c])?,
         };
         let prices = prices(alloc, *p, *z, *l)?;
-        assert_eq!(rt; check(instance, &matching, &prices), *want, "{want:?}");
+        let checked = check(instance, &matching, &prices);
+        holds(rt, checked == *want, name);
     }
     Ok(())
 }
@@ -78,7 +79,7 @@ fn compare_checks(
 #[test]
 fn the_first_condition_that_fails_is_named(rt: HostRuntime) -> Result<(), Fail> {
     let instance = worked(rt.alloc())?;
-    compare_checks(rt.alloc(), &rt, &instance, checks().as_slice())
+    compare_checks(rt.alloc(), &rt, &instance, CHECKS.as_slice())
 }
 
 #[test]
@@ -90,7 +91,11 @@ fn a_roll_without_prices_is_a_wrong_shape(rt: HostRuntime) -> Result<(), Fail> {
     };
     let mut short = prices(alloc, (0, 1, -1), (0, 2, -2), (0, 0, 0))?;
     short.supervisors.clear();
-    let want = Err(CheckFault::Shape);
-    assert_eq!(rt; check(&instance, &matching, &short), want);
+    let checked = check(&instance, &matching, &short);
+    holds(
+        &rt,
+        checked == Err(CheckFault::Shape),
+        "a roll without prices",
+    );
     Ok(())
 }

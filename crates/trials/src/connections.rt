@@ -1,7 +1,10 @@
 //! Connections on loopback, served one after another.
 
-use crate::command_lines::{do_words, prints};
 use crate::desks::new_desk;
+use crate::judged::holds;
+use crate::printed::prints;
+use desk::Desk;
+use sqlite::Alter;
 use std::io::{Read, Write};
 use std::net::{Ipv4Addr, Shutdown, TcpListener, TcpStream};
 use std::rt::HostRuntime;
@@ -20,22 +23,59 @@ fn client(rt: &HostRuntime, port: u16, bytes: &str) -> Result<TcpStream, Fail> {
     Ok(stream)
 }
 
-// Both clients wait in the listener's queue until they are served.
+/// The clients that send these texts, each of which waits in the listener's queue until it is served.
+fn clients(rt: &HostRuntime, port: u16, texts: &[String]) -> Result<Vec<TcpStream>, Fail> {
+    let mut clients = Vec::new(rt.alloc());
+    for text in texts {
+        clients.push(client(rt, port, text)?)?;
+    }
+    Ok(clients)
+}
+
+/// What each client was answered.
+fn answers(rt: &HostRuntime, clients: &mut [TcpStream]) -> Result<Vec<Vec<u8>>, Fail> {
+    let mut all = Vec::new(rt.alloc());
+    for client in clients {
+        let mut answer = Vec::new(rt.alloc());
+        client.read_to_end(&mut answer)?;
+        all.push(answer)?;
+    }
+    Ok(all)
+}
+
+/// Serves one connection for each of these texts, one after another. The lines that are told, and what each was answered.
+pub(crate) fn answered<S: Alter>(
+    rt: &HostRuntime,
+    desk: &mut Desk<S>,
+    texts: &[String],
+    count: u32,
+) -> Result<(Vec<u8>, Vec<Vec<u8>>), Fail> {
+    let listener = TcpListener::bind(rt, (Ipv4Addr::LOCALHOST, 0))?;
+    let port = listener.local_addr()?.port();
+    let mut clients = clients(rt, port, texts)?;
+    let mut out = Watched::new(Vec::new(rt.alloc()));
+    if serve_on(rt.alloc(), desk, &listener, count, &mut out).is_err() {
+        return Err(Fail::new("the lines are not told"));
+    }
+    let answers = answers(rt, &mut clients)?;
+    Ok((out.into_inner(), answers))
+}
+
+/// Two connections, of which the first sends two puts.
+const TWO: &[u8] = b"connection 1: 2 answers, closed\nconnection 2: 0 answers, closed\n";
+
 #[test]
 fn two_connections_are_served_in_turn(rt: HostRuntime) -> Result<(), Fail> {
-    let alloc = rt.alloc();
-    let mut desk = new_desk(alloc, &rt)?;
-    let listener = TcpListener::bind(&rt, (Ipv4Addr::LOCALHOST, 0))?;
-    let port = listener.local_addr()?.port();
-    let mut first = client(&rt, port, PUTS)?;
-    let _second = client(&rt, port, "")?;
-    let mut out = Watched::new(Vec::new(alloc));
-    assert!(rt; serve_on(alloc, &mut desk, &listener, 2, &mut out).is_ok());
-    let told: &[u8] = b"connection 1: 2 answers, closed\nconnection 2: 0 answers, closed\n";
-    assert_eq!(rt; out.into_inner().as_slice(), told);
-    let mut answers = Vec::new(alloc);
-    first.read_to_end(&mut answers)?;
-    assert_eq!(rt; answers.len(), 164);
+    let mut desk = new_desk(rt.alloc(), &rt)?;
+    let puts = String::from_str(rt.alloc(), PUTS)?;
+    let texts = [puts, String::new(rt.alloc())];
+    let (told, answers) = answered(&rt, &mut desk, &texts, 2)?;
+    holds(&rt, told.as_slice() == TWO, "two connections");
+    let are_answers = match answers.as_slice() {
+        [first, second] => first.len() == 164 && second.is_empty(),
+        _ => false,
+    };
+    holds(&rt, are_answers, "two answers");
     Ok(())
 }
 
@@ -46,6 +86,5 @@ fn a_port_that_is_taken_is_told(rt: HostRuntime) -> Result<(), Fail> {
     let port = listener.local_addr()?.port();
     let words = format!(in rt.alloc(); "spadesk serve taken.db {port} 1")?;
     let message = format!(in rt.alloc(); "no port {port}\n")?;
-    prints(&rt, &do_words(&rt, &words)?, "", &message, 1);
-    Ok(())
+    prints(&rt, &rt, &words, (b"", message.as_bytes()), 1)
 }

@@ -1,7 +1,7 @@
 //! A desk over a database: what is put is read back, also by another desk.
 
+use crate::judged::holds;
 use crate::offices::{Put, plain};
-use crate::texts::same_text;
 use desk::Desk;
 use rolls::{Plain, Refusal, Reply, Request, Text};
 use sqlite::{Connection, MemStore};
@@ -33,10 +33,11 @@ pub(crate) fn get_student(alloc: Global, code: &str) -> Result<Request, Fail> {
     Ok(Request::Plain(Plain::GetStudent { code }))
 }
 
-pub(crate) fn is_named(rt: &impl Abort, answer: &Result<Reply, Refusal>, name: &str) {
+/// Whether a student of this name is answered.
+pub(crate) fn is_named(answer: &Result<Reply, Refusal>, name: &str) -> bool {
     match answer {
-        Ok(Reply::Student { name: found, .. }) => same_text(rt, found.as_str(), name),
-        _ => assert!(rt; false, "{name} is on the roll"),
+        Ok(Reply::Student { name: found, .. }) => found.as_str() == name,
+        _ => false,
     }
 }
 
@@ -49,16 +50,19 @@ fn requests(alloc: Global) -> Result<Vec<Request>, Fail> {
     Ok(requests)
 }
 
-/// Compares the answers to these requests.
-fn are_answers(rt: &impl Abort, answers: &[Result<Reply, Refusal>]) {
+/// Whether these are the answers to those requests.
+fn are_answers(answers: &[Result<Reply, Refusal>]) -> bool {
     match answers {
-        [put, known, unknown] => {
-            assert!(rt; matches!(put, Ok(Reply::Done)));
-            is_named(rt, known, "Ann");
-            assert!(rt; matches!(unknown, Err(Refusal::UnknownStudent)));
-        }
-        _ => assert!(rt; false, "{} answers", answers.len()),
+        [Ok(Reply::Done), known, Err(Refusal::UnknownStudent)] => is_named(known, "Ann"),
+        _ => false,
     }
+}
+
+/// Asks those requests as one list.
+fn run(alloc: Global, rt: &impl Abort, desk: &mut Desk<MemStore>) -> Result<(), Fail> {
+    let answers = desk.run(requests(alloc)?)?;
+    holds(rt, are_answers(&answers), "a put and two reads");
+    Ok(())
 }
 
 // The student is put, read, and read again by another desk over the same database.
@@ -66,9 +70,9 @@ fn are_answers(rt: &impl Abort, answers: &[Result<Reply, Refusal>]) {
 fn a_student_put_is_read_back(rt: HostRuntime) -> Result<(), Fail> {
     let alloc = rt.alloc();
     let mut desk = new_desk(alloc, &rt)?;
-    let answers = desk.run(requests(alloc)?)?;
-    are_answers(&rt, &answers);
+    run(alloc, &rt, &mut desk)?;
     let mut again = desk_over(alloc, &rt, desk.into_connection());
-    is_named(&rt, &again.ask(get_student(alloc, "S1")?), "Ann");
+    let answer = again.ask(get_student(alloc, "S1")?);
+    holds(&rt, is_named(&answer, "Ann"), "another desk");
     Ok(())
 }

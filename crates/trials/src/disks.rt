@@ -1,6 +1,7 @@
 //! A desk over disks in memory, of which one fails from some call on.
 
 use crate::desks::{get_student, is_named};
+use crate::judged::holds;
 use crate::offices::{Put, plain};
 use desk::Desk;
 use rolls::{Refusal, Reply, Request};
@@ -43,26 +44,46 @@ fn answers_without_tables(
     rt: &impl Abort,
     desk: &mut FailingDesk,
 ) -> Result<(), Fail> {
-    is_named(rt, &desk.ask(get_student(alloc, "S1")?), "Ann");
+    let read = desk.ask(get_student(alloc, "S1")?);
+    holds(rt, is_named(&read, "Ann"), "a read");
     let refused = put(alloc, desk, "S2", "Bob")?;
-    assert!(rt; matches!(refused, Err(Refusal::Storage)));
+    holds(rt, matches!(refused, Err(Refusal::Storage)), "a put");
     let unknown = desk.ask(get_student(alloc, "S2")?);
-    assert!(rt; matches!(unknown, Err(Refusal::UnknownStudent)));
+    let is_unknown = matches!(unknown, Err(Refusal::UnknownStudent));
+    holds(rt, is_unknown, "an unknown student");
     Ok(())
+}
+
+/// Puts Ann, which is a storage error where the calls are too few. Whether she was put, and what came after was answered.
+fn is_put(alloc: Global, rt: &impl Abort, desk: &mut FailingDesk) -> Result<bool, Fail> {
+    match put(alloc, desk, "S1", "Ann")? {
+        Ok(_done) => {
+            answers_without_tables(alloc, rt, desk)?;
+            Ok(true)
+        }
+        Err(refusal) => {
+            holds(rt, refusal == Refusal::Storage, "too few calls");
+            Ok(false)
+        }
+    }
+}
+
+/// The same at a desk whose log passes so many calls.
+fn is_put_with(alloc: Global, rt: &impl Abort, calls: u64) -> Result<bool, Fail> {
+    match desk_with(alloc, calls) {
+        Some(mut desk) => is_put(alloc, rt, &mut desk),
+        None => Ok(false),
+    }
 }
 
 // The fewest calls with which the put of Ann is made leave none for what comes after. With fewer it is a storage error.
 #[test]
 fn a_database_that_fails_after_a_put_still_answers(rt: HostRuntime) -> Result<(), Fail> {
-    let alloc = rt.alloc();
     for calls in 0..1_000 {
-        if let Some(mut desk) = desk_with(alloc, calls) {
-            match put(alloc, &mut desk, "S1", "Ann")? {
-                Ok(_) => return answers_without_tables(alloc, &rt, &mut desk),
-                Err(refusal) => assert_eq!(rt; refusal, Refusal::Storage),
-            }
+        if is_put_with(rt.alloc(), &rt, calls)? {
+            return Ok(());
         }
     }
-    assert!(rt; false, "the put is made with enough calls");
+    holds(&rt, false, "the put is made with enough calls");
     Ok(())
 }

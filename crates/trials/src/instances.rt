@@ -1,5 +1,6 @@
 //! Instances, matchings and profiles, worked out by hand.
 
+use crate::judged::holds;
 use crate::rolls_of::{instance, places, projects, students, supervisors};
 use spa::{Code, Instance, InstanceFault, MatchFault, RANKS, Roll, profile};
 use std::alloc::Global;
@@ -9,135 +10,109 @@ use std::test::Fail;
 
 /// Rolls, and the first fault of them.
 #[rattlefmt::skip]
-fn faults() -> [(&'static str, &'static str, &'static str, InstanceFault); 14] {
-    [
-        ("L:501",     "",                  "",                      InstanceFault::Limit),
-        ("L:5 L:501", "P:N:1",             "A A",                   InstanceFault::Limit),
-        ("L:5",       "P:L:501",           "",                      InstanceFault::Limit),
-        ("L:5 K:1 L:1", "P:N:1",           "",                      InstanceFault::RepeatedCode(Roll::Supervisors, 2)),
-        ("L:5",       "P:L:1 P:N:1",       "A:P",                   InstanceFault::RepeatedCode(Roll::Projects, 1)),
-        ("L:5",       "P:N:1",             "A:P A:P",               InstanceFault::RepeatedCode(Roll::Students, 1)),
-        ("L:5",       "P:L:1 Q:N:1",       "A",                     InstanceFault::UnknownSupervisor(1)),
-        ("L:5",       "P:L:1",             "A:P B",                 InstanceFault::ListLength(1)),
-        ("L:5",       "P:L:1",             "A:P:P:P:P:P:P:P:P:P",   InstanceFault::ListLength(0)),
-        ("L:5",       "P:L:1",             "A:P:N",                 InstanceFault::UnknownProject(0, 2)),
-        ("L:5",       "P:L:1",             "A:P B:P:N:P",           InstanceFault::UnknownProject(1, 2)),
-        ("L:5",       "P:L:1",             "A:P:P",                 InstanceFault::RepeatedProject(0, 2)),
-        ("L:5",       "P:L:1 Q:L:1",       "A:P B:Q:P:Q C",         InstanceFault::RepeatedProject(1, 3)),
-        ("L:5",       "P:L:1",             "A:N B",                 InstanceFault::UnknownProject(0, 1)),
-    ]
-}
+static FAULTS: [(&str, &str, &str, InstanceFault); 14] = [
+    ("L:501",     "",                  "",                      InstanceFault::Limit),
+    ("L:5 L:501", "P:N:1",             "A A",                   InstanceFault::Limit),
+    ("L:5",       "P:L:501",           "",                      InstanceFault::Limit),
+    ("L:5 K:1 L:1", "P:N:1",           "",                      InstanceFault::RepeatedCode(Roll::Supervisors, 2)),
+    ("L:5",       "P:L:1 P:N:1",       "A:P",                   InstanceFault::RepeatedCode(Roll::Projects, 1)),
+    ("L:5",       "P:N:1",             "A:P A:P",               InstanceFault::RepeatedCode(Roll::Students, 1)),
+    ("L:5",       "P:L:1 Q:N:1",       "A",                     InstanceFault::UnknownSupervisor(1)),
+    ("L:5",       "P:L:1",             "A:P B",                 InstanceFault::ListLength(1)),
+    ("L:5",       "P:L:1",             "A:P:P:P:P:P:P:P:P:P",   InstanceFault::ListLength(0)),
+    ("L:5",       "P:L:1",             "A:P:N",                 InstanceFault::UnknownProject(0, 2)),
+    ("L:5",       "P:L:1",             "A:P B:P:N:P",           InstanceFault::UnknownProject(1, 2)),
+    ("L:5",       "P:L:1",             "A:P:P",                 InstanceFault::RepeatedProject(0, 2)),
+    ("L:5",       "P:L:1 Q:L:1",       "A:P B:Q:P:Q C",         InstanceFault::RepeatedProject(1, 3)),
+    ("L:5",       "P:L:1",             "A:N B",                 InstanceFault::UnknownProject(0, 1)),
+];
 
-/// Compares the fault that these rolls have with the wanted one.
-fn compare_fault(
+/// The fault that these rolls have, if any.
+fn fault_of(
     alloc: Global,
-    rt: &impl Abort,
     supervisor_roll: &str,
     project_roll: &str,
     student_roll: &str,
-    want: InstanceFault,
-) -> Result<(), Fail> {
+) -> Result<Option<InstanceFault>, Fail> {
     let made = Instance::new(
         alloc,
         supervisors(alloc, supervisor_roll)?,
         projects(alloc, project_roll)?,
         students(alloc, student_roll)?,
     );
-    match made {
-        Ok(_made) => assert!(rt;
-            false,
-            "{supervisor_roll} / {project_roll} / {student_roll}"
-        ),
-        Err(fault) => assert_eq!(rt;
-            fault,
-            want,
-            "{supervisor_roll} / {project_roll} / {student_roll}"
-        ),
-    }
-    Ok(())
-}
-
-/// The same of each row.
-fn compare_faults(
-    alloc: Global,
-    rt: &impl Abort,
-    rows: &[(&'static str, &'static str, &'static str, InstanceFault)],
-) -> Result<(), Fail> {
-    for (supervisor_roll, project_roll, student_roll, want) in rows {
-        compare_fault(
-            alloc,
-            rt,
-            supervisor_roll,
-            project_roll,
-            student_roll,
-            *want,
-        )?;
-    }
-    Ok(())
+    Ok(made.err())
 }
 
 #[test]
 fn the_first_fault_of_rolls_is_named(rt: HostRuntime) -> Result<(), Fail> {
-    compare_faults(rt.alloc(), &rt, faults().as_slice())
-}
-
-/// Compares how many codes there are, and each of them.
-fn compare_codes(rt: &impl Abort, codes: &[Code], want: &[&str]) {
-    assert_eq!(rt; codes.len(), want.len());
-    for (code, want) in codes.iter().zip(want.iter()) {
-        assert_eq!(rt; code.as_str(), *want);
+    for (supervisor_roll, project_roll, student_roll, want) in FAULTS.as_slice() {
+        let fault = fault_of(rt.alloc(), supervisor_roll, project_roll, student_roll)?;
+        holds(&rt, fault == Some(*want), student_roll);
     }
-}
-
-#[test]
-fn an_instance_lends_its_codes(rt: HostRuntime) -> Result<(), Fail> {
-    let instance = instance(rt.alloc(), "L:5 K:1", "P:L:1 Q:K:2 Z:L:0", "A:P:Q C:Z:P")?;
-    compare_codes(&rt, instance.supervisor_codes(), &["L", "K"]);
-    compare_codes(&rt, instance.project_codes(), &["P", "Q", "Z"]);
-    compare_codes(&rt, instance.student_codes(), &["A", "C"]);
     Ok(())
 }
 
-/// Compares each list with the wanted one.
-fn compare_lists(rt: &impl Abort, lists: &[Vec<usize>], want: &[[usize; 2]]) {
-    assert_eq!(rt; lists.len(), want.len());
-    for (list, want) in lists.iter().zip(want.iter()) {
-        assert!(rt; list.as_slice() == want.as_slice());
+/// Whether these are the codes.
+fn are_codes(codes: &[Code], want: &[&str]) -> bool {
+    let mut all = codes.len() == want.len();
+    for (code, want) in codes.iter().zip(want.iter()) {
+        all = all && code.as_str() == *want;
     }
+    all
+}
+
+/// Whether these are the lists.
+fn are_lists(lists: &[Vec<usize>], want: &[[usize; 2]]) -> bool {
+    let mut all = lists.len() == want.len();
+    for (list, want) in lists.iter().zip(want.iter()) {
+        all = all && list.as_slice() == want.as_slice();
+    }
+    all
+}
+
+/// Compares what an instance lends.
+fn compare_lent(rt: &impl Abort, lent: &Instance) {
+    holds(rt, are_codes(lent.supervisor_codes(), &["L", "K"]), "L K");
+    holds(
+        rt,
+        are_codes(lent.project_codes(), &["P", "Q", "Z"]),
+        "P Q Z",
+    );
+    holds(rt, are_codes(lent.student_codes(), &["A", "C"]), "A C");
+    holds(rt, lent.supervisor_count() == 2, "two supervisors");
+    holds(rt, lent.project_count() == 3, "three projects");
+    holds(rt, lent.student_count() == 2, "two students");
+    holds(rt, lent.supervisors() == [5, 1].as_slice(), "supervisors");
+    let projects = [(0, 1), (1, 2), (0, 0)];
+    holds(rt, lent.projects() == projects.as_slice(), "projects");
+    holds(rt, are_lists(lent.students(), &[[0, 1], [2, 0]]), "lists");
 }
 
 #[test]
 fn an_instance_lends_its_rolls(rt: HostRuntime) -> Result<(), Fail> {
-    let instance = instance(rt.alloc(), "L:5 K:1", "P:L:1 Q:K:2 Z:L:0", "A:P:Q C:Z:P")?;
-    assert_eq!(rt; instance.supervisor_count(), 2);
-    assert_eq!(rt; instance.project_count(), 3);
-    assert_eq!(rt; instance.student_count(), 2);
-    assert!(rt; instance.supervisors() == [5, 1].as_slice());
-    assert!(rt; instance.projects() == [(0, 1), (1, 2), (0, 0)].as_slice());
-    compare_lists(&rt, instance.students(), &[[0, 1], [2, 0]]);
+    let lent = instance(rt.alloc(), "L:5 K:1", "P:L:1 Q:K:2 Z:L:0", "A:P:Q C:Z:P")?;
+    compare_lent(&rt, &lent);
     Ok(())
 }
 
 // A lists P; B lists R, P; C lists Z, P, R; D lists R, Q, P. P has quota 2, Q and R have 1, Z has 0; L, who offers P, Q
 // and Z, has 2, and K, who offers R, has 1. Places, their first fault, and without one their size and profile.
 #[rattlefmt::skip]
-fn matchings() -> [(&'static str, Option<MatchFault>, usize, [u32; RANKS]); 13] {
-    [
-        ("----", None,                                0, [0, 0, 0, 0, 0, 0, 0, 0]),
-        ("1---", None,                                1, [1, 0, 0, 0, 0, 0, 0, 0]),
-        ("12--", None,                                2, [1, 1, 0, 0, 0, 0, 0, 0]),
-        ("--3-", None,                                1, [0, 0, 1, 0, 0, 0, 0, 0]),
-        ("11-2", None,                                3, [2, 1, 0, 0, 0, 0, 0, 0]),
-        ("---",  Some(MatchFault::Length),            0, [0, 0, 0, 0, 0, 0, 0, 0]),
-        ("-3-4", Some(MatchFault::Place(1)),          0, [0, 0, 0, 0, 0, 0, 0, 0]),
-        ("1--0", Some(MatchFault::Place(3)),          0, [0, 0, 0, 0, 0, 0, 0, 0]),
-        ("--1-", Some(MatchFault::ProjectOver(3)),    0, [0, 0, 0, 0, 0, 0, 0, 0]),
-        ("121-", Some(MatchFault::ProjectOver(3)),    0, [0, 0, 0, 0, 0, 0, 0, 0]),
-        ("12-3", Some(MatchFault::ProjectOver(0)),    0, [0, 0, 0, 0, 0, 0, 0, 0]),
-        ("-1-1", Some(MatchFault::ProjectOver(2)),    0, [0, 0, 0, 0, 0, 0, 0, 0]),
-        ("12-2", Some(MatchFault::SupervisorOver(0)), 0, [0, 0, 0, 0, 0, 0, 0, 0]),
-    ]
-}
+static MATCHINGS: [(&str, Option<MatchFault>, usize, [u32; RANKS]); 13] = [
+    ("----", None,                                0, [0, 0, 0, 0, 0, 0, 0, 0]),
+    ("1---", None,                                1, [1, 0, 0, 0, 0, 0, 0, 0]),
+    ("12--", None,                                2, [1, 1, 0, 0, 0, 0, 0, 0]),
+    ("--3-", None,                                1, [0, 0, 1, 0, 0, 0, 0, 0]),
+    ("11-2", None,                                3, [2, 1, 0, 0, 0, 0, 0, 0]),
+    ("---",  Some(MatchFault::Length),            0, [0, 0, 0, 0, 0, 0, 0, 0]),
+    ("-3-4", Some(MatchFault::Place(1)),          0, [0, 0, 0, 0, 0, 0, 0, 0]),
+    ("1--0", Some(MatchFault::Place(3)),          0, [0, 0, 0, 0, 0, 0, 0, 0]),
+    ("--1-", Some(MatchFault::ProjectOver(3)),    0, [0, 0, 0, 0, 0, 0, 0, 0]),
+    ("121-", Some(MatchFault::ProjectOver(3)),    0, [0, 0, 0, 0, 0, 0, 0, 0]),
+    ("12-3", Some(MatchFault::ProjectOver(0)),    0, [0, 0, 0, 0, 0, 0, 0, 0]),
+    ("-1-1", Some(MatchFault::ProjectOver(2)),    0, [0, 0, 0, 0, 0, 0, 0, 0]),
+    ("12-2", Some(MatchFault::SupervisorOver(0)), 0, [0, 0, 0, 0, 0, 0, 0, 0]),
+];
 
 /// Compares the fault of each row's places, and where they have none their size and profile.
 fn compare_matchings(
@@ -149,10 +124,10 @@ fn compare_matchings(
     for (text, want, size, ranks) in rows {
         let matching = places(alloc, text)?;
         let fault = matching.fault(instance);
-        assert_eq!(rt; fault, *want, "{text}");
+        holds(rt, fault == *want, text);
         if fault.is_none() {
-            assert_eq!(rt; matching.size(instance), *size, "{text}");
-            assert_eq!(rt; profile(instance, &matching), *ranks, "{text}");
+            holds(rt, matching.size(instance) == *size, text);
+            holds(rt, profile(instance, &matching) == *ranks, text);
         }
     }
     Ok(())
@@ -166,5 +141,5 @@ fn the_first_fault_of_a_matching_is_named(rt: HostRuntime) -> Result<(), Fail> {
         "P:L:2 Q:L:1 R:K:1 Z:L:0",
         "A:P B:R:P C:Z:P:R D:R:Q:P",
     )?;
-    compare_matchings(rt.alloc(), &rt, &instance, matchings().as_slice())
+    compare_matchings(rt.alloc(), &rt, &instance, MATCHINGS.as_slice())
 }

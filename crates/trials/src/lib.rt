@@ -7,6 +7,8 @@
 #[cfg(test)]
 mod admissions;
 #[cfg(test)]
+mod cells;
+#[cfg(test)]
 mod checks;
 #[cfg(test)]
 mod closings;
@@ -25,15 +27,25 @@ mod import_texts;
 #[cfg(test)]
 mod instances;
 #[cfg(test)]
+mod judged;
+#[cfg(test)]
 mod line_words;
 #[cfg(test)]
 mod offices;
+#[cfg(test)]
+mod pieces;
+#[cfg(test)]
+mod played;
+#[cfg(test)]
+mod printed;
 #[cfg(test)]
 mod rolls_of;
 #[cfg(test)]
 mod round_texts;
 #[cfg(test)]
 mod rounds;
+#[cfg(test)]
+mod school;
 #[cfg(test)]
 mod school_lines;
 #[cfg(test)]
@@ -52,3 +64,5 @@ mod streams;
 mod terms;
 #[cfg(test)]
 mod texts;
+#[cfg(test)]
+mod walkthrough;

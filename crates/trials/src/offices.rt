@@ -1,6 +1,6 @@
 //! Puts, reads and rows at an office, worked out by hand.
 
-use crate::texts::same_text;
+use crate::judged::holds;
 use office::{Office, RowsFault};
 use rolls::{Done, Plain, Refusal, Reply, Request, Row, Text};
 use std::alloc::{AllocError, Global};
@@ -16,24 +16,24 @@ pub(crate) enum Put {
     Student(&'static str, &'static str),
 }
 
-/// The request that puts a supervisor.
-fn put_supervisor(alloc: Global, code: &str, label: &str, quota: u32) -> Result<Plain, AllocError> {
-    Ok(Plain::PutSupervisor {
+/// The row of a supervisor.
+fn supervisor_row(alloc: Global, code: &str, label: &str, quota: u32) -> Result<Row, AllocError> {
+    Ok(Row::Supervisor {
         code: Text::of(alloc, code)?,
         label: Text::of(alloc, label)?,
         quota,
     })
 }
 
-/// The request that puts a project.
-fn put_project(
+/// The row of a project.
+fn project_row(
     alloc: Global,
     code: &str,
     label: &str,
     quota: u32,
     supervisor: &str,
-) -> Result<Plain, AllocError> {
-    Ok(Plain::PutProject {
+) -> Result<Row, AllocError> {
+    Ok(Row::Project {
         code: Text::of(alloc, code)?,
         label: Text::of(alloc, label)?,
         supervisor: Text::of(alloc, supervisor)?,
@@ -41,23 +41,48 @@ fn put_project(
     })
 }
 
-/// The request that puts a student.
-fn put_student(alloc: Global, code: &str, label: &str) -> Result<Plain, AllocError> {
-    Ok(Plain::PutStudent {
+/// The row of a student.
+fn student_row(alloc: Global, code: &str, label: &str) -> Result<Row, AllocError> {
+    Ok(Row::Student {
         code: Text::of(alloc, code)?,
         label: Text::of(alloc, label)?,
     })
 }
 
+/// The row of what is put.
+pub(crate) fn row(alloc: Global, put: Put) -> Result<Row, AllocError> {
+    match put {
+        Put::Supervisor(code, label, quota) => supervisor_row(alloc, code, label, quota),
+        Put::Project(code, label, quota, supervisor) => {
+            project_row(alloc, code, label, quota, supervisor)
+        }
+        Put::Student(code, label) => student_row(alloc, code, label),
+    }
+}
+
+/// The request that puts what a row has; of an entry that is no put here, the one that opens a round.
+fn put_of(row: Row) -> Plain {
+    match row {
+        Row::Supervisor { code, label, quota } => Plain::PutSupervisor { code, label, quota },
+        Row::Project {
+            code,
+            label,
+            supervisor,
+            quota,
+        } => Plain::PutProject {
+            code,
+            label,
+            supervisor,
+            quota,
+        },
+        Row::Student { code, label } => Plain::PutStudent { code, label },
+        _ => Plain::OpenRound,
+    }
+}
+
 /// The request of what is put.
 pub(crate) fn plain(alloc: Global, put: Put) -> Result<Plain, AllocError> {
-    match put {
-        Put::Supervisor(code, label, quota) => put_supervisor(alloc, code, label, quota),
-        Put::Project(code, label, quota, supervisor) => {
-            put_project(alloc, code, label, quota, supervisor)
-        }
-        Put::Student(code, label) => put_student(alloc, code, label),
-    }
+    Ok(put_of(row(alloc, put)?))
 }
 
 /// The number of the refusal that the put gets, 0 for none.
@@ -108,128 +133,66 @@ fn ask_all(
 ) -> Result<(), Fail> {
     for (name, put, number) in puts {
         let before = named(alloc, office, *put)?;
-        assert_eq!(rt; before, *number, "{name}");
         let answered = put_in(alloc, office, *put)?;
-        assert_eq!(rt; answered, *number, "{name}");
+        holds(rt, before == *number && answered == *number, name);
     }
     Ok(())
 }
 
-/// Asks each of the puts, and compares what they leave.
-fn ask_puts(alloc: Global, rt: &impl Abort, office: &mut Office) -> Result<(), Fail> {
-    ask_all(alloc, rt, office, PUTS.as_slice())?;
-    assert_eq!(rt; office.supervisors().len(), 2);
-    assert_eq!(rt; office.students().len(), 1);
-    assert_eq!(rt; office.projects().len(), 1);
-    same_text(rt, office.projects()[0].label.as_str(), "Pipes");
-    Ok(())
-}
-
-#[test]
-fn puts_are_refused_in_their_order(rt: HostRuntime) -> Result<(), Fail> {
-    let mut office = Office::new(rt.alloc());
-    ask_puts(rt.alloc(), &rt, &mut office)
-}
-
-/// The answer to reading P is the project as it was put last, and changes nothing.
-fn are_pipes(rt: &impl Abort, done: &Done) {
-    assert!(rt; done.changes.is_empty());
-    match &done.reply {
-        Reply::Project {
-            name,
-            placed,
-            quota,
-            supervisor,
-        } => {
-            same_text(rt, name.as_str(), "Pipes");
-            same_text(rt, supervisor.as_str(), "L");
-            assert!(rt; *placed == 0 && *quota == 0);
+/// Whether there are two supervisors, a student, and a project of this name.
+fn has_pipes(office: &Office) -> bool {
+    match office.projects() {
+        [project] => {
+            project.label.as_str() == "Pipes"
+                && office.supervisors().len() == 2
+                && office.students().len() == 1
         }
-        _ => assert!(rt; false, "a project was asked for"),
+        _ => false,
     }
 }
 
-/// Reads P, which is as it was put last.
-fn reads_pipes(alloc: Global, rt: &impl Abort, office: &mut Office) -> Result<(), Fail> {
-    let code = Text::of(alloc, "P")?;
-    match office.apply(Plain::GetProject { code }) {
-        Ok(done) => are_pipes(rt, &done),
-        Err(refusal) => assert!(rt; false, "refused {}", refusal.number()),
-    }
-    Ok(())
+/// Whether a read answers the project as it was put last, and changes nothing.
+fn are_pipes(read: &Result<Done, Refusal>) -> bool {
+    let Ok(done) = read else {
+        return false;
+    };
+    let Reply::Project {
+        name,
+        placed,
+        quota,
+        supervisor,
+    } = &done.reply
+    else {
+        return false;
+    };
+    let is_free = *placed == 0 && *quota == 0;
+    done.changes.is_empty() && is_free && name.as_str() == "Pipes" && supervisor.as_str() == "L"
 }
 
-/// Reads S9, who is not on the roll.
-fn reads_nobody(alloc: Global, rt: &impl Abort, office: &mut Office) -> Result<(), Fail> {
-    let code = Text::of(alloc, "S9")?;
-    match office.apply(Plain::GetStudent { code }) {
-        Ok(_done) => assert!(rt; false, "S9 is not on the roll"),
-        Err(refusal) => assert!(rt; refusal == Refusal::UnknownStudent),
-    }
-    Ok(())
-}
-
-/// Reads P, which is there, and S9, who is not.
+/// Reads P, which is as it was put last, and S9, who is not on the roll.
 fn reads_both(alloc: Global, rt: &impl Abort, office: &mut Office) -> Result<(), Fail> {
-    reads_pipes(alloc, rt, office)?;
-    reads_nobody(alloc, rt, office)
+    let code = Text::of(alloc, "P")?;
+    let read = office.apply(Plain::GetProject { code });
+    holds(rt, are_pipes(&read), "P is read");
+    let code = Text::of(alloc, "S9")?;
+    let nobody = office.apply(Plain::GetStudent { code });
+    let is_unknown = matches!(nobody, Err(Refusal::UnknownStudent));
+    holds(rt, is_unknown, "S9 is not on the roll");
+    Ok(())
 }
 
-/// Asks each of the puts, and reads P and S9 in a copy.
+/// Asks each of the puts, compares what they leave, and reads P and S9 in a copy.
 fn ask_and_read(alloc: Global, rt: &impl Abort, office: &mut Office) -> Result<(), Fail> {
     ask_all(alloc, rt, office, PUTS.as_slice())?;
+    holds(rt, has_pipes(office), "what the puts leave");
     let mut copy = office.copy()?;
     reads_both(alloc, rt, &mut copy)
 }
 
 #[test]
-fn entries_are_read_as_they_were_put(rt: HostRuntime) -> Result<(), Fail> {
+fn puts_are_refused_in_their_order(rt: HostRuntime) -> Result<(), Fail> {
     let mut office = Office::new(rt.alloc());
     ask_and_read(rt.alloc(), &rt, &mut office)
-}
-
-/// The row of a supervisor.
-fn supervisor_row(alloc: Global, code: &str, label: &str, quota: u32) -> Result<Row, AllocError> {
-    Ok(Row::Supervisor {
-        code: Text::of(alloc, code)?,
-        label: Text::of(alloc, label)?,
-        quota,
-    })
-}
-
-/// The row of a project.
-fn project_row(
-    alloc: Global,
-    code: &str,
-    label: &str,
-    quota: u32,
-    supervisor: &str,
-) -> Result<Row, AllocError> {
-    Ok(Row::Project {
-        code: Text::of(alloc, code)?,
-        label: Text::of(alloc, label)?,
-        supervisor: Text::of(alloc, supervisor)?,
-        quota,
-    })
-}
-
-/// The row of a student.
-fn student_row(alloc: Global, code: &str, label: &str) -> Result<Row, AllocError> {
-    Ok(Row::Student {
-        code: Text::of(alloc, code)?,
-        label: Text::of(alloc, label)?,
-    })
-}
-
-/// The row of what is put.
-pub(crate) fn row(alloc: Global, put: Put) -> Result<Row, AllocError> {
-    match put {
-        Put::Supervisor(code, label, quota) => supervisor_row(alloc, code, label, quota),
-        Put::Project(code, label, quota, supervisor) => {
-            project_row(alloc, code, label, quota, supervisor)
-        }
-        Put::Student(code, label) => student_row(alloc, code, label),
-    }
 }
 
 // Three rows each, and whether some office has them.
@@ -252,38 +215,19 @@ fn rows_of(alloc: Global, puts: &[Put]) -> Result<Vec<Row>, Fail> {
     Ok(rows)
 }
 
-/// Whether the rows make an office, as they should or should not.
-fn compare_office(
-    alloc: Global,
-    rt: &impl Abort,
-    name: &str,
-    puts: &[Put],
-    want: bool,
-) -> Result<(), Fail> {
+/// Whether the rows make an office of one project and one student, or none.
+fn makes_office(alloc: Global, puts: &[Put], want: bool) -> Result<bool, Fail> {
     match Office::from_rows(alloc, rows_of(alloc, puts)?) {
-        Ok(office) => {
-            assert!(rt; want, "{name}");
-            assert_eq!(rt; office.projects().len(), 1, "{name}");
-            assert_eq!(rt; office.students().len(), 1, "{name}");
-        }
-        Err(fault) => assert!(rt; !want && fault == RowsFault::Unfit, "{name}"),
+        Ok(office) => Ok(want && office.projects().len() == 1 && office.students().len() == 1),
+        Err(fault) => Ok(!want && fault == RowsFault::Unfit),
     }
-    Ok(())
-}
-
-/// The same of each case.
-fn compare_all(
-    alloc: Global,
-    rt: &impl Abort,
-    rows: &[(&'static str, &'static [Put], bool)],
-) -> Result<(), Fail> {
-    for (name, puts, want) in rows {
-        compare_office(alloc, rt, name, puts, *want)?;
-    }
-    Ok(())
 }
 
 #[test]
 fn rows_make_an_office_where_one_has_them(rt: HostRuntime) -> Result<(), Fail> {
-    compare_all(rt.alloc(), &rt, ROWS.as_slice())
+    for (name, puts, want) in ROWS.as_slice() {
+        let is_well = makes_office(rt.alloc(), puts, *want)?;
+        holds(&rt, is_well, name);
+    }
+    Ok(())
 }

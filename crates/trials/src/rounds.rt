@@ -1,5 +1,6 @@
 //! Worked rounds, audits, and a search through all matchings of small instances.
 
+use crate::judged::holds;
 use crate::rolls_of::{instance, places};
 use solver::{Audit, audit, solve};
 use spa::{Instance, Matching, RANKS, profile};
@@ -12,7 +13,7 @@ use verdict::check;
 
 /// The profile of a matching, which is one of the instance.
 fn profile_of(rt: &impl Abort, instance: &Instance, matching: &Matching) -> [u32; RANKS] {
-    assert!(rt; matching.fault(instance).is_none());
+    holds(rt, matching.fault(instance).is_none(), "a matching");
     profile(instance, matching)
 }
 
@@ -26,109 +27,99 @@ type Round = (
 
 // Supervisors, projects and students; then the places of the one best matching, and its profile, worked out by hand.
 #[rattlefmt::skip]
-fn rounds() -> [Round; 6] {
-    [
-        ("L:5",     "P:L:1 Q:L:1 Z:L:0",                 "A:P:Q C:Z:P",       "22", [0, 2, 0, 0, 0, 0, 0, 0]),
-        ("L:5",     "P:L:1 Q:L:1",                       "A:P:Q B:Q:P",       "11", [2, 0, 0, 0, 0, 0, 0, 0]),
-        ("L:5",     "U:L:1 V:L:1 X:L:1 Y:L:0 Z:L:0",     "A:X:V C:Z:X:Y:U",   "14", [1, 0, 0, 1, 0, 0, 0, 0]),
-        ("K:1 L:1", "P:L:1 Q:L:1 R:K:1",                 "A:P B:Q:R",         "12", [1, 1, 0, 0, 0, 0, 0, 0]),
-        ("L:5",     "P:L:1",                             "",                  "",   [0, 0, 0, 0, 0, 0, 0, 0]),
-        ("L:0",     "P:L:1",                             "A:P",               "-",  [0, 0, 0, 0, 0, 0, 0, 0]),
-    ]
+static ROUNDS: [Round; 6] = [
+    ("L:5",     "P:L:1 Q:L:1 Z:L:0",                 "A:P:Q C:Z:P",       "22", [0, 2, 0, 0, 0, 0, 0, 0]),
+    ("L:5",     "P:L:1 Q:L:1",                       "A:P:Q B:Q:P",       "11", [2, 0, 0, 0, 0, 0, 0, 0]),
+    ("L:5",     "U:L:1 V:L:1 X:L:1 Y:L:0 Z:L:0",     "A:X:V C:Z:X:Y:U",   "14", [1, 0, 0, 1, 0, 0, 0, 0]),
+    ("K:1 L:1", "P:L:1 Q:L:1 R:K:1",                 "A:P B:Q:R",         "12", [1, 1, 0, 0, 0, 0, 0, 0]),
+    ("L:5",     "P:L:1",                             "",                  "",   [0, 0, 0, 0, 0, 0, 0, 0]),
+    ("L:0",     "P:L:1",                             "A:P",               "-",  [0, 0, 0, 0, 0, 0, 0, 0]),
+];
+
+/// Compares the profile of what is solved, and checks it.
+fn compare_solved(
+    alloc: Global,
+    rt: &impl Abort,
+    rolls: (&str, &str, &str),
+    want: [u32; RANKS],
+) -> Result<Matching, Fail> {
+    let instance = instance(alloc, rolls.0, rolls.1, rolls.2)?;
+    let solved = solve(alloc, &instance)?;
+    let counts = profile_of(rt, &instance, &solved.matching);
+    holds(rt, counts == want, rolls.2);
+    let is_best = check(&instance, &solved.matching, &solved.prices).is_ok();
+    holds(rt, is_best, rolls.2);
+    Ok(solved.matching)
 }
 
-/// Compares what is solved with each row, and checks it.
+/// Compares what is solved with each row.
 fn compare_rounds(alloc: Global, rt: &impl Abort, rows: &[Round]) -> Result<(), Fail> {
     for (supervisors, projects, students, want, counts) in rows {
-        let instance = instance(alloc, supervisors, projects, students)?;
-        let solved = solve(alloc, &instance)?;
+        let found = compare_solved(alloc, rt, (supervisors, projects, students), *counts)?;
         let want = places(alloc, want)?;
-        assert_eq!(rt; solved.matching.places, want.places, "{students}");
-        assert_eq!(rt;
-            profile_of(rt, &instance, &solved.matching),
-            *counts,
-            "{students}"
-        );
-        assert_eq!(rt;
-            check(&instance, &solved.matching, &solved.prices),
-            Ok(()),
-            "{students}"
-        );
+        holds(rt, found.places == want.places, students);
     }
     Ok(())
 }
 
 #[test]
 fn worked_rounds_are_solved(rt: HostRuntime) -> Result<(), Fail> {
-    compare_rounds(rt.alloc(), &rt, rounds().as_slice())
+    compare_rounds(rt.alloc(), &rt, ROUNDS.as_slice())
 }
 
-/// What an audit says of a matching of the instance.
-fn audited(
+/// The places of a better matching, if an audit has one.
+fn better(
     rt: &impl Abort,
     alloc: Global,
     instance: &Instance,
-    matching: &Matching,
-) -> Result<Audit, Fail> {
-    assert!(rt; matching.fault(instance).is_none());
-    Ok(audit(alloc, instance, matching)?)
+    text: &str,
+) -> Result<Option<Vec<Option<u8>>>, Fail> {
+    let matching = places(alloc, text)?;
+    holds(rt, matching.fault(instance).is_none(), text);
+    match audit(alloc, instance, &matching)? {
+        Audit::Better(better) => Ok(Some(better.places)),
+        Audit::Best => Ok(None),
+    }
 }
 
 #[test]
 fn an_audit_shows_a_better_matching(rt: HostRuntime) -> Result<(), Fail> {
-    let alloc = rt.alloc();
-    let instance = instance(alloc, "L:5", "P:L:1 Q:L:1", "A:P:Q B:Q:P")?;
-    let worse = places(alloc, "22")?;
-    let best = places(alloc, "11")?;
-    match audited(&rt, alloc, &instance, &worse)? {
-        Audit::Better(better) => assert_eq!(rt; better.places, best.places),
-        Audit::Best => assert!(rt; false, "a worse matching is no best one"),
-    }
-    match audited(&rt, alloc, &instance, &best)? {
-        Audit::Better(_better) => assert!(rt; false, "nothing is better"),
-        Audit::Best => {}
-    }
+    let instance = instance(rt.alloc(), "L:5", "P:L:1 Q:L:1", "A:P:Q B:Q:P")?;
+    let best = places(rt.alloc(), "11")?;
+    let shown = better(&rt, rt.alloc(), &instance, "22")?;
+    holds(&rt, shown == Some(best.places), "a worse matching");
+    let none = better(&rt, rt.alloc(), &instance, "11")?;
+    holds(&rt, none.is_none(), "nothing is better");
     Ok(())
 }
 
 // A chain in which each admission moves all students before it: the i-th lists the next project, then the own one.
 #[test]
 fn a_chain_of_sixty_is_solved(rt: HostRuntime) -> Result<(), Fail> {
-    let alloc = rt.alloc();
-    let mut projects = String::new(alloc);
-    let mut students = String::new(alloc);
+    let mut projects = String::new(rt.alloc());
+    let mut students = String::new(rt.alloc());
     for i in 1..60u32 {
         write!(projects, "P{i}:L:1 ")?;
         write!(students, "S{i}:P{}:P{i} ", i.wrapping_add(1))?;
     }
-    write!(projects, "P60:L:1")?;
-    write!(students, "S60:P60")?;
-    let instance = instance(alloc, "L:60", &projects, &students)?;
-    let solved = solve(alloc, &instance)?;
-    assert_eq!(rt;
-        profile_of(&rt, &instance, &solved.matching),
-        [1, 59, 0, 0, 0, 0, 0, 0]
-    );
+    projects.push_str("P60:L:1")?;
+    students.push_str("S60:P60")?;
+    let rolls = ("L:60", projects.as_str(), students.as_str());
+    compare_solved(rt.alloc(), &rt, rolls, [1, 59, 0, 0, 0, 0, 0, 0])?;
     Ok(())
 }
 
 // Twenty copies of a pair of students of whom one takes the fourth choice.
 #[test]
 fn twenty_copies_are_solved(rt: HostRuntime) -> Result<(), Fail> {
-    let alloc = rt.alloc();
-    let mut projects = String::new(alloc);
-    let mut students = String::new(alloc);
-    write!(projects, "Y:L:0 Z:L:0")?;
+    let mut projects = String::from_str(rt.alloc(), "Y:L:0 Z:L:0")?;
+    let mut students = String::new(rt.alloc());
     for k in 1..21u32 {
         write!(projects, " X{k}:L:1 V{k}:L:1 U{k}:L:1")?;
         write!(students, "A{k}:X{k}:V{k} C{k}:Z:X{k}:Y:U{k} ")?;
     }
-    let instance = instance(alloc, "L:500", &projects, &students)?;
-    let solved = solve(alloc, &instance)?;
-    assert_eq!(rt;
-        profile_of(&rt, &instance, &solved.matching),
-        [20, 0, 0, 20, 0, 0, 0, 0]
-    );
+    let rolls = ("L:500", projects.as_str(), students.as_str());
+    compare_solved(rt.alloc(), &rt, rolls, [20, 0, 0, 20, 0, 0, 0, 0])?;
     Ok(())
 }
 
@@ -208,11 +199,8 @@ fn a_search_through_all_matchings_finds_none_better(rt: HostRuntime) -> Result<(
         let instance = instance(alloc, &supervisors, &projects, &students)?;
         let solved = solve(alloc, &instance)?;
         let counts = profile_of(&rt, &instance, &solved.matching);
-        assert_eq!(rt;
-            (sum(&counts), counts),
-            searched(alloc, &instance)?,
-            "{students}"
-        );
+        let found = searched(alloc, &instance)?;
+        holds(&rt, (sum(&counts), counts) == found, &students);
     }
     Ok(())
 }

@@ -1,83 +1,76 @@
 //! The lines over a database file.
 
-use crate::command_lines::{do_words, prints};
+use crate::printed::{print_rows, prints, write_files};
 use std::fs;
+use std::process::Abort;
 use std::rt::HostRuntime;
 use std::test::Fail;
 
-/// A line, what it prints on standard output and on standard error, and its status.
-type Told = (&'static str, &'static str, &'static str, u8);
+/// The files of these lines: two imports of students, a small school, and a text that is no database.
+#[rattlefmt::skip]
+static FILES: [(&str, &str); 7] = [
+    ("first.csv",        "code,name\nS1,Ann\nS2,Bob\n"),
+    ("second.csv",       "code,name\nS3,Cy\nS4\n"),
+    ("supervisors.csv",  "code,name,quota\nL,Lee,5\n"),
+    ("projects.csv",     "code,name,supervisor,quota\nP,Pumps,L,1\nQ,Quays,L,1\nZ,Zinc,L,0\n"),
+    ("students.csv",     "code,name\nA,Ann\nB,Bob\nC,Cy\n"),
+    ("lists.csv",        "student,choices\nA,P Q\nB,Z\nC,Z P\n"),
+    ("text.db",          "This is a text, and no database at all.\n"),
+];
 
 /// Lines on a file that is not there at first.
 #[rattlefmt::skip]
-static FIRST: [Told; 10] = [
-    ("spadesk import first.db students I1 first.csv",     "rows 2\n",                                     "",                              0),
-    ("spadesk import first.db students I1 first.csv",     "rows 2\n",                                     "",                              0),
-    ("spadesk import first.db supervisors I1 first.csv",  "",                                             "refused 27: ImportIdUsed\n",    1),
-    ("spadesk import first.db students I2 second.csv",    "",                                             "refused 29: Row 2 8\n",         1),
-    ("spadesk import first.db students a!b no-such.csv",   "",                                             "refused 2: Storage\n",          1),
-    ("spadesk open-round first.db",                       "round 1\n",                                    "",                              0),
-    ("spadesk open-round first.db",                       "",                                             "refused 18: RoundIsOpen\n",     1),
-    ("spadesk close-round first.db",                      "round 1 size 0 profile 0 0 0 0 0 0 0 0\n",     "",                              0),
-    ("spadesk report first.db profile 9",                 "",                                             "refused 26: UnknownRound\n",    1),
-    ("spadesk reopen-round first.db",                     "round 1\n",                                    "",                              0),
-];
-
-#[test]
-fn a_new_file_keeps_an_office(rt: HostRuntime) -> Result<(), Fail> {
-    fs::write(&rt, "first.csv", "code,name\nS1,Ann\nS2,Bob\n")?;
-    fs::write(&rt, "second.csv", "code,name\nS3,Cy\nS4\n")?;
-    for (words, out, err, status) in FIRST.as_slice() {
-        prints(&rt, &do_words(&rt, words)?, out, err, *status);
-    }
-    Ok(())
-}
+static FIRST: &str =
+    r#"spadesk import first.db students I1 first.csv    | 0 | rows 2^n                                 |
+       spadesk import first.db students I1 first.csv    | 0 | rows 2^n                                 |
+       spadesk import first.db supervisors I1 first.csv | 1 |                                          | refused 27: ImportIdUsed^n
+       spadesk import first.db students I2 second.csv   | 1 |                                          | refused 29: Row 2 8^n
+       spadesk import first.db students a!b no-such.csv | 1 |                                          | refused 2: Storage^n
+       spadesk open-round first.db                      | 0 | round 1^n                                |
+       spadesk open-round first.db                      | 1 |                                          | refused 18: RoundIsOpen^n
+       spadesk close-round first.db                     | 0 | round 1 size 0 profile 0 0 0 0 0 0 0 0^n |
+       spadesk report first.db profile 9                | 1 |                                          | refused 26: UnknownRound^n
+       spadesk reopen-round first.db                    | 0 | round 1^n                                |"#;
 
 /// A round from imports to reports.
 #[rattlefmt::skip]
-static ROUND: [Told; 10] = [
-    ("spadesk import round.db supervisors I1 supervisors.csv",  "rows 1\n",                                  "",  0),
-    ("spadesk import round.db projects I2 projects.csv",        "rows 3\n",                                  "",  0),
-    ("spadesk import round.db students I3 students.csv",        "rows 3\n",                                  "",  0),
-    ("spadesk open-round round.db",                             "round 1\n",                                 "",  0),
-    ("spadesk import round.db lists I4 lists.csv",              "rows 3\n",                                  "",  0),
-    ("spadesk close-round round.db",                            "round 1 size 2 profile 0 2 0 0 0 0 0 0\n",  "",  0),
-    ("spadesk report round.db placements 1",                    "A                Q                 2\nC                P                 2\n",  "",  0),
-    ("spadesk report round.db unplaced 1",                      "B                Bob\n",                    "",  0),
-    ("spadesk report round.db loads 1",                         "L                     2    5\n  P                   1    1\n  Q                   1    1\n  Z                   0    0\n",  "",  0),
-    ("spadesk report round.db profile 1",                       "ROUND       1 closed\nSTUDENTS    3\nPLACED      2\nRANK 1      0\nRANK 2      2\nRANK 3      0\nRANK 4      0\nRANK 5      0\nRANK 6      0\nRANK 7      0\nRANK 8      0\n",  "",  0),
-];
-
-#[test]
-fn a_round_goes_from_imports_to_reports(rt: HostRuntime) -> Result<(), Fail> {
-    fs::write(&rt, "supervisors.csv", "code,name,quota\nL,Lee,5\n")?;
-    fs::write(
-        &rt,
-        "projects.csv",
-        "code,name,supervisor,quota\nP,Pumps,L,1\nQ,Quays,L,1\nZ,Zinc,L,0\n",
-    )?;
-    fs::write(&rt, "students.csv", "code,name\nA,Ann\nB,Bob\nC,Cy\n")?;
-    fs::write(&rt, "lists.csv", "student,choices\nA,P Q\nB,Z\nC,Z P\n")?;
-    for (words, out, err, status) in ROUND.as_slice() {
-        prints(&rt, &do_words(&rt, words)?, out, err, *status);
-    }
-    Ok(())
-}
+static ROUND: &str =
+    r#"spadesk import round.db supervisors I1 supervisors.csv | 0 | rows 1^n                                                                                                                                                                     |
+       spadesk import round.db projects I2 projects.csv       | 0 | rows 3^n                                                                                                                                                                     |
+       spadesk import round.db students I3 students.csv       | 0 | rows 3^n                                                                                                                                                                     |
+       spadesk open-round round.db                            | 0 | round 1^n                                                                                                                                                                    |
+       spadesk import round.db lists I4 lists.csv             | 0 | rows 3^n                                                                                                                                                                     |
+       spadesk close-round round.db                           | 0 | round 1 size 2 profile 0 2 0 0 0 0 0 0^n                                                                                                                                     |
+       spadesk report round.db placements 1                   | 0 | A                Q                 2^nC                P                 2^n                                                                                                 |
+       spadesk report round.db unplaced 1                     | 0 | B                Bob^n                                                                                                                                                       |
+       spadesk report round.db loads 1                        | 0 | L                     2    5^n  P                   1    1^n  Q                   1    1^n  Z                   0    0^n                                                     |
+       spadesk report round.db profile 1                      | 0 | ROUND       1 closed^nSTUDENTS    3^nPLACED      2^nRANK 1      0^nRANK 2      2^nRANK 3      0^nRANK 4      0^nRANK 5      0^nRANK 6      0^nRANK 7      0^nRANK 8      0^n |"#;
 
 /// Files that are no database: a folder that is not there, and a text.
 #[rattlefmt::skip]
-static NO_DATABASE: [Told; 2] = [
-    ("spadesk open-round no-such-folder/school.db",  "",  "refused 2: Storage\n",  1),
-    ("spadesk open-round text.db",                   "",  "refused 2: Storage\n",  1),
-];
+static NO_DATABASE: &str =
+    r#"spadesk open-round no-such-folder/school.db | 1 |  | refused 2: Storage^n
+       spadesk open-round text.db                  | 1 |  | refused 2: Storage^n"#;
+
+/// Writes the files, and does each line.
+fn print_over_files(rt: &HostRuntime, abort: &impl Abort, rows: &str) -> Result<(), Fail> {
+    write_files(rt, FILES.as_slice())?;
+    print_rows(rt, abort, rows)
+}
+
+#[test]
+fn a_new_file_keeps_an_office(rt: HostRuntime) -> Result<(), Fail> {
+    print_over_files(&rt, &rt, FIRST)
+}
+
+#[test]
+fn a_round_goes_from_imports_to_reports(rt: HostRuntime) -> Result<(), Fail> {
+    print_over_files(&rt, &rt, ROUND)
+}
 
 #[test]
 fn a_file_that_is_no_database_is_refused(rt: HostRuntime) -> Result<(), Fail> {
-    fs::write(&rt, "text.db", "This is a text, and no database at all.\n")?;
-    for (words, out, err, status) in NO_DATABASE.as_slice() {
-        prints(&rt, &do_words(&rt, words)?, out, err, *status);
-    }
-    Ok(())
+    print_over_files(&rt, &rt, NO_DATABASE)
 }
 
 // An import file of 65,537 bytes.
@@ -88,7 +81,6 @@ fn an_import_file_above_the_limit_is_refused(rt: HostRuntime) -> Result<(), Fail
         text.push_str("x")?;
     }
     fs::write(&rt, "large.csv", &text)?;
-    let printed = do_words(&rt, "spadesk import large.db students I1 large.csv")?;
-    prints(&rt, &printed, "", "refused 4: TooLarge\n", 1);
-    Ok(())
+    let words = "spadesk import large.db students I1 large.csv";
+    prints(&rt, &rt, words, (b"", b"refused 4: TooLarge\n"), 1)
 }

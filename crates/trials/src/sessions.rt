@@ -2,6 +2,7 @@
 
 ghost use Rattle.std.specs.Prelude.{◌≡◌, IfOk};
 
+use crate::judged::holds;
 use crate::rolls_of::instance;
 use solver::{Session, solve};
 use spa::{Instance, profile};
@@ -24,6 +25,16 @@ fn session_of(alloc: Global, instance: &Instance) -> Result<(Session, Vec<(u64, 
     Ok((session, admissions))
 }
 
+/// Whether two admissions took at most 77 and 112 relaxations, and the counts since the start add them up.
+fn are_counted(admissions: &[(u64, u64)]) -> bool {
+    match admissions {
+        [(first, after_first), (second, after_second)] => {
+            *first <= 77 && *second <= 112 && after_first == first && after_second > after_first
+        }
+        _ => false,
+    }
+}
+
 // L has quota 5 and offers P and Q with quota 1 and Z with quota 0. A lists P, Q, and then C lists Z, P: after A there are 6
 // nodes and 11 arcs, after C 7 nodes and 14 arcs, and each is the second choice that is left to the two.
 #[test]
@@ -31,16 +42,10 @@ fn a_session_admits_two_students(rt: HostRuntime) -> Result<(), Fail> {
     let alloc = rt.alloc();
     let instance = instance(alloc, "L:5", "P:L:1 Q:L:1 Z:L:0", "A:P:Q C:Z:P")?;
     let (session, admissions) = session_of(alloc, &instance)?;
-    match admissions.as_slice() {
-        [(first, after_first), (second, after_second)] => {
-            assert!(rt; *first <= 77 && *second <= 112);
-            assert!(rt; *after_first == *first && *after_second > *after_first);
-        }
-        _ => assert!(rt; false, "{} admissions", admissions.len()),
-    }
+    holds(&rt, are_counted(&admissions), "admissions are counted");
     session.matched();
-    assert_eq!(rt; session.size(), 2);
-    assert_eq!(rt; session.profile(), [0, 2, 0, 0, 0, 0, 0, 0]);
+    let is_matched = session.size() == 2 && session.profile() == [0, 2, 0, 0, 0, 0, 0, 0];
+    holds(&rt, is_matched, "both have their second choice");
     Ok(())
 }
 
@@ -48,15 +53,13 @@ type Rolls = (&'static str, &'static str, &'static str);
 
 // Supervisors, projects and students.
 #[rattlefmt::skip]
-fn rolls() -> [Rolls; 5] {
-    [
-        ("L:5",     "P:L:1 Q:L:1",                       "A:P:Q B:Q:P"),
-        ("L:5",     "U:L:1 V:L:1 X:L:1 Y:L:0 Z:L:0",     "A:X:V C:Z:X:Y:U"),
-        ("K:1 L:1", "P:L:1 Q:L:1 R:K:1",                 "A:P B:Q:R C:P:Q:R"),
-        ("L:3",     "P:L:2 Q:L:2",                       "A:P B:P:Q C:P:Q D:Q:P E:Q"),
-        ("L:5",     "P:L:1",                             ""),
-    ]
-}
+static ROLLS: [Rolls; 5] = [
+    ("L:5",     "P:L:1 Q:L:1",                       "A:P:Q B:Q:P"),
+    ("L:5",     "U:L:1 V:L:1 X:L:1 Y:L:0 Z:L:0",     "A:X:V C:Z:X:Y:U"),
+    ("K:1 L:1", "P:L:1 Q:L:1 R:K:1",                 "A:P B:Q:R C:P:Q:R"),
+    ("L:3",     "P:L:2 Q:L:2",                       "A:P B:P:Q C:P:Q D:Q:P E:Q"),
+    ("L:5",     "P:L:1",                             ""),
+];
 
 /// Compares the size and the profile that a session of each row tells with those of the matching that is solved.
 fn compare_with_solved(alloc: Global, rt: &impl Abort, rows: &[Rolls]) -> Result<(), Fail> {
@@ -64,22 +67,16 @@ fn compare_with_solved(alloc: Global, rt: &impl Abort, rows: &[Rolls]) -> Result
         let instance = instance(alloc, supervisors, projects, students)?;
         let (session, _admissions) = session_of(alloc, &instance)?;
         let matching = solve(alloc, &instance)?.matching;
-        assert!(rt; matching.fault(&instance).is_none());
-        assert_eq!(rt;
-            session.size() as usize,
-            matching.size(&instance),
-            "{students}"
-        );
-        assert_eq!(rt;
-            session.profile(),
-            profile(&instance, &matching),
-            "{students}"
-        );
+        holds(rt, matching.fault(&instance).is_none(), students);
+        let size = matching.size(&instance);
+        holds(rt, session.size() as usize == size, students);
+        let profile = profile(&instance, &matching);
+        holds(rt, session.profile() == profile, students);
     }
     Ok(())
 }
 
 #[test]
 fn sessions_tell_what_is_solved(rt: HostRuntime) -> Result<(), Fail> {
-    compare_with_solved(rt.alloc(), &rt, rolls().as_slice())
+    compare_with_solved(rt.alloc(), &rt, ROLLS.as_slice())
 }

@@ -1,57 +1,61 @@
 //! The session that a desk keeps: where there is one, and that it tells what a new one would.
 
+use crate::cells::first_cell;
 use crate::desks::{desk_over, new_desk};
-use crate::exchanges::{compare_exchanges, first_cell};
+use crate::judged::holds;
+use crate::played::{Part, play_at, play_lines};
+use crate::school::SCHOOL;
 use desk::Desk;
 use rolls::{Reply, Request};
-use sqlite::MemStore;
+use sqlite::{Connection, MemStore};
+use std::alloc::Global;
 use std::process::Abort;
 use std::rt::HostRuntime;
 use std::test::Fail;
 
 /// A round is open, and nobody has a list.
 #[rattlefmt::skip]
-static OPEN: &str =
-    r#"PUT /supervisors/L | {"name":"Lee","quota":5}                    | 200 OK | {"ok":true}
-       PUT /projects/P    | {"name":"Pumps","quota":1,"supervisor":"L"} | 200 OK | {"ok":true}
-       PUT /projects/Q    | {"name":"Quays","quota":1,"supervisor":"L"} | 200 OK | {"ok":true}
-       PUT /projects/Z    | {"name":"Zinc","quota":0,"supervisor":"L"}  | 200 OK | {"ok":true}
-       PUT /students/A    | {"name":"Ann"}                              | 200 OK | {"ok":true}
-       PUT /students/C    | {"name":"Cy"}                               | 200 OK | {"ok":true}
-       POST /rounds       |                                             | 200 OK | {"round":1}
-       GET /preview       | | 200 OK | {"profile":[0,0,0,0,0,0,0,0],"size":0}"#;
+const OPEN: &str =
+    r#"POST /rounds | | 200 OK | {"round":1}
+       GET /preview | | 200 OK | {"profile":[0,0,0,0,0,0,0,0],"size":0}"#;
 
 /// The two students list.
-static FIRST: &str = r#"PUT /lists/A | {"choices":["P","Q"]} | 200 OK | {"ok":true}"#;
+const FIRST: &str = r#"PUT /lists/A | {"choices":["P","Q"]} | 200 OK | {"ok":true}"#;
 
-static SECOND: &str = r#"PUT /lists/C | {"choices":["Z","P"]} | 200 OK | {"ok":true}"#;
+const SECOND: &str = r#"PUT /lists/C | {"choices":["Z","P"]} | 200 OK | {"ok":true}"#;
 
-static PREVIEW: &str = r#"GET /preview || 200 OK | {"profile":[0,2,0,0,0,0,0,0],"size":2}"#;
+const PREVIEW: &str = r#"GET /preview || 200 OK | {"profile":[0,2,0,0,0,0,0,0],"size":2}"#;
 
-/// The relaxations of the session, which is there.
-fn steps(rt: &impl Abort, desk: &Desk<MemStore>) -> u64 {
-    match desk.session_steps() {
-        Some(steps) => steps,
-        None => panic!(rt; "no session is kept"),
-    }
+/// The relaxations of the session that is kept after these lines.
+fn steps_after(
+    alloc: Global,
+    rt: &impl Abort,
+    desk: &mut Desk<MemStore>,
+    lines: &str,
+) -> Result<u64, Fail> {
+    play_lines(alloc, rt, desk, lines)?;
+    let steps = desk.session_steps();
+    holds(rt, steps.is_some(), "a session is kept");
+    Ok(steps.unwrap_or(0))
 }
 
 // After A there are 6 nodes and 11 arcs, after C 7 nodes and 14 arcs.
+fn compare_steps(alloc: Global, rt: &impl Abort, desk: &mut Desk<MemStore>) -> Result<(), Fail> {
+    play_lines(alloc, rt, desk, SCHOOL)?;
+    let start = steps_after(alloc, rt, desk, OPEN)?;
+    let first = steps_after(alloc, rt, desk, FIRST)?;
+    let second = steps_after(alloc, rt, desk, SECOND)?;
+    let last = steps_after(alloc, rt, desk, PREVIEW)?;
+    holds(rt, start == 0 && first <= 77, FIRST);
+    holds(rt, second > first && second <= 189, SECOND);
+    holds(rt, last == second, PREVIEW);
+    Ok(())
+}
+
 #[test]
 fn first_lists_join_the_session(rt: HostRuntime) -> Result<(), Fail> {
-    let alloc = rt.alloc();
-    let mut desk = new_desk(alloc, &rt)?;
-    compare_exchanges(alloc, &rt, &mut desk, OPEN)?;
-    assert_eq!(rt; steps(&rt, &desk), 0);
-    compare_exchanges(alloc, &rt, &mut desk, FIRST)?;
-    let first = steps(&rt, &desk);
-    assert!(rt; first <= 77);
-    compare_exchanges(alloc, &rt, &mut desk, SECOND)?;
-    let second = steps(&rt, &desk);
-    assert!(rt; second > first && second <= 189);
-    compare_exchanges(alloc, &rt, &mut desk, PREVIEW)?;
-    assert_eq!(rt; steps(&rt, &desk), second);
-    Ok(())
+    let mut desk = new_desk(rt.alloc(), &rt)?;
+    compare_steps(rt.alloc(), &rt, &mut desk)
 }
 
 /// Fifty requests, before each of which stands whether a session is kept after it.
@@ -109,33 +113,62 @@ static MIXED: &str =
        none | POST /rounds/close         |                                             | 200 OK           | {"profile":[3,0,0,0,0,0,0,0],"round":1,"size":3}"#;
 
 /// Size and profile of a preview.
-fn preview(rt: &impl Abort, desk: &mut Desk<MemStore>) -> (u32, [u32; 8]) {
+fn preview(desk: &mut Desk<MemStore>) -> Option<(u32, [u32; 8])> {
     match desk.ask(Request::Preview) {
-        Ok(Reply::Preview { size, profile }) => (size, profile),
-        _ => panic!(rt; "a preview is refused"),
+        Ok(Reply::Preview { size, profile }) => Some((size, profile)),
+        _ => None,
     }
 }
 
-// The other desk is opened anew after each request, so that its previews start a session of their own.
-#[test]
-fn a_session_is_kept_just_where_it_may_be(rt: HostRuntime) -> Result<(), Fail> {
-    let alloc = rt.alloc();
-    let mut desk = new_desk(alloc, &rt)?;
-    let mut other = new_desk(alloc, &rt)?;
-    for line in MIXED.lines() {
-        let (mark, exchange) = first_cell(line);
-        compare_exchanges(alloc, &rt, &mut desk, exchange)?;
-        compare_exchanges(alloc, &rt, &mut other, exchange)?;
-        other = desk_over(alloc, &rt, other.into_connection());
-        let is_kept = desk.session_steps().is_some();
-        assert_eq!(rt; is_kept, mark == "kept", "{exchange}");
-        if is_kept {
-            assert_eq!(rt;
-                preview(&rt, &mut desk),
-                preview(&rt, &mut other),
-                "{exchange}"
-            );
-        }
+/// Compares the preview of a desk with that of one which is opened over these tables, whose session is its own.
+fn compare_previews(
+    alloc: Global,
+    rt: &impl Abort,
+    desk: &mut Desk<MemStore>,
+    connection: Connection<MemStore>,
+    exchange: &str,
+) -> Connection<MemStore> {
+    let mut other = desk_over(alloc, rt, connection);
+    let told = preview(&mut other);
+    holds(rt, told.is_some() && preview(desk) == told, exchange);
+    other.into_connection()
+}
+
+/// Plays a line at a desk, and at one that is opened for it over tables of its own, and compares whether a session is kept.
+fn compare_session(
+    alloc: Global,
+    rt: &impl Abort,
+    desk: &mut Desk<MemStore>,
+    connection: Connection<MemStore>,
+    line: &'static str,
+) -> Result<Connection<MemStore>, Fail> {
+    let (mark, exchange) = first_cell(line);
+    play_lines(alloc, rt, desk, exchange)?;
+    let is_kept = desk.session_steps().is_some();
+    holds(rt, is_kept == (mark == "kept"), exchange);
+    let connection = play_at(alloc, rt, connection, &[Part::Lines(exchange)])?;
+    if is_kept {
+        return Ok(compare_previews(alloc, rt, desk, connection, exchange));
+    }
+    Ok(connection)
+}
+
+/// Plays all lines.
+fn compare_sessions(
+    alloc: Global,
+    rt: &impl Abort,
+    desk: &mut Desk<MemStore>,
+    lines: &'static str,
+) -> Result<(), Fail> {
+    let mut connection = Connection::open_in_memory(alloc)?;
+    for line in lines.lines() {
+        connection = compare_session(alloc, rt, desk, connection, line)?;
     }
     Ok(())
+}
+
+#[test]
+fn a_session_is_kept_just_where_it_may_be(rt: HostRuntime) -> Result<(), Fail> {
+    let mut desk = new_desk(rt.alloc(), &rt)?;
+    compare_sessions(rt.alloc(), &rt, &mut desk, MIXED)
 }

@@ -1,7 +1,9 @@
 //! The tables of a store: what is saved is read back, and hand-made tables are judged.
 
+use crate::cells::first_cell;
+use crate::judged::holds;
 use crate::offices::{Put, row};
-use crate::texts::same_text;
+use crate::played::count;
 use desk::Desk;
 use office::Office;
 use rolls::{Change, Refusal, RowKey, Text};
@@ -48,16 +50,11 @@ fn open(
 ) -> Result<Store<MemStore>, StoreFault> {
     match Store::open(alloc, conn) {
         Ok((store, office)) => {
-            assert_eq!(rt; sizes(&office), want);
+            holds(rt, sizes(&office) == want, "the sizes of the rolls");
             Ok(store)
         }
         Err((fault, _conn)) => Err(fault),
     }
-}
-
-/// The number that a query answers.
-pub(crate) fn count(conn: &mut Connection<MemStore>, sql: &str) -> Result<i64, Fail> {
-    Ok(conn.query_row(sql, &[])?.get(0)?)
 }
 
 /// Six changes: Ann is renamed, and Bob is taken away again.
@@ -72,11 +69,11 @@ fn changes(alloc: Global) -> Result<Vec<Change>, Fail> {
     Ok(changes)
 }
 
-/// The office has one entry in each roll and Anne as its student.
-fn has_anne(rt: &impl Abort, office: &Office) {
-    assert_eq!(rt; sizes(office), (1, 1, 1));
-    for student in office.students() {
-        same_text(rt, student.label.as_str(), "Anne");
+/// Whether the office has one entry in each roll, and Anne as its student.
+fn has_anne(office: &Office) -> bool {
+    match office.students() {
+        [student] => sizes(office) == (1, 1, 1) && student.label.as_str() == "Anne",
+        _ => false,
     }
 }
 
@@ -95,24 +92,46 @@ fn compare_save(
     changes: &[Change],
     want: Result<(), StoreFault>,
 ) {
-    assert_eq!(rt; store.save(changes), want);
+    holds(rt, store.save(changes) == want, "what a save answers");
 }
 
 /// The changes are saved and loaded. The project is refused by its table, and the change before it is undone.
 fn save_and_load(alloc: Global, rt: &impl Abort, store: &mut Store<MemStore>) -> Result<(), Fail> {
     compare_save(rt, store, &changes(alloc)?, Ok(()));
-    has_anne(rt, &store.load()?);
+    let office = store.load()?;
+    holds(rt, has_anne(&office), "Anne");
     compare_save(rt, store, &refused(alloc)?, Err(StoreFault::Storage));
     Ok(())
 }
 
-/// The tables have one student, and the quota of the project.
-fn are_saved(rt: &impl Abort, conn: &mut Connection<MemStore>) -> Result<(), Fail> {
-    assert_eq!(rt; count(conn, "SELECT count(*) FROM student")?, 1);
-    let quota = count(conn, "SELECT quota FROM project WHERE code = 'P'")?;
-    assert_eq!(rt; quota, 1);
+/// Compares the number that each query answers.
+fn compare_counts(
+    rt: &impl Abort,
+    conn: &mut Connection<MemStore>,
+    rows: &[(&'static str, i64)],
+) -> Result<(), Fail> {
+    for (sql, want) in rows {
+        let found = count(conn, sql)?;
+        holds(rt, found == *want, sql);
+    }
     Ok(())
 }
+
+/// Opens the tables of a database, and compares what is answered.
+fn reopen(
+    alloc: Global,
+    rt: &impl Abort,
+    conn: Connection<MemStore>,
+    want: &Result<Sizes, StoreFault>,
+    name: &str,
+) -> Connection<MemStore> {
+    let (answer, conn) = opened(alloc, conn);
+    holds(rt, answer == *want, name);
+    conn
+}
+
+/// The number of students.
+const STUDENTS: &str = "SELECT count(*) FROM student";
 
 #[test]
 fn saved_changes_are_read_back(rt: HostRuntime) -> Result<(), Fail> {
@@ -121,83 +140,102 @@ fn saved_changes_are_read_back(rt: HostRuntime) -> Result<(), Fail> {
     let mut store = open(alloc, &rt, conn, (0, 0, 0))?;
     save_and_load(alloc, &rt, &mut store)?;
     let mut conn = store.into_connection();
-    are_saved(&rt, &mut conn)?;
-    let (answer, _conn) = opened(alloc, conn);
-    assert_eq!(rt; answer, Ok((1, 1, 1)));
+    let quota = "SELECT quota FROM project WHERE code = 'P'";
+    compare_counts(&rt, &mut conn, &[(STUDENTS, 1), (quota, 1)])?;
+    reopen(alloc, &rt, conn, &Ok((1, 1, 1)), "saved tables");
     Ok(())
 }
 
 /// Another table and those of an office, with nobody on its rolls.
 #[rattlefmt::skip]
-static TABLES: [&str; 10] = [
-    "CREATE TABLE other (a INTEGER);",
-    "CREATE TABLE edition (id INTEGER NOT NULL PRIMARY KEY CHECK (id = 1), number INTEGER NOT NULL) STRICT;",
-    "CREATE TABLE supervisor (code TEXT NOT NULL PRIMARY KEY, label TEXT NOT NULL, quota INTEGER NOT NULL) STRICT;",
-    "CREATE TABLE project (code TEXT NOT NULL PRIMARY KEY, label TEXT NOT NULL, supervisor TEXT NOT NULL REFERENCES supervisor (code), quota INTEGER NOT NULL) STRICT;",
-    "create table student (code text primary key not null, label text not null) strict;",
-    "CREATE TABLE round (number INTEGER NOT NULL PRIMARY KEY, open INTEGER NOT NULL) STRICT;",
-    "CREATE TABLE choice (round INTEGER NOT NULL REFERENCES round (number), student TEXT NOT NULL REFERENCES student (code), place INTEGER NOT NULL, project TEXT NOT NULL REFERENCES project (code), PRIMARY KEY (round, student, place), UNIQUE (round, student, project)) STRICT;",
-    "CREATE TABLE placement (student TEXT NOT NULL PRIMARY KEY REFERENCES student (code), round INTEGER NOT NULL REFERENCES round (number), project TEXT NOT NULL REFERENCES project (code), rank INTEGER NOT NULL) STRICT;",
-    "CREATE TABLE import (id TEXT NOT NULL PRIMARY KEY, kind TEXT NOT NULL, bytes BLOB NOT NULL, rows INTEGER NOT NULL) STRICT;",
-    "INSERT INTO edition VALUES (1, 1);",
-];
+static TABLES: &str =
+    "CREATE TABLE other (a INTEGER);
+     CREATE TABLE edition (id INTEGER NOT NULL PRIMARY KEY CHECK (id = 1), number INTEGER NOT NULL) STRICT;
+     CREATE TABLE supervisor (code TEXT NOT NULL PRIMARY KEY, label TEXT NOT NULL, quota INTEGER NOT NULL) STRICT;
+     CREATE TABLE project (code TEXT NOT NULL PRIMARY KEY, label TEXT NOT NULL, supervisor TEXT NOT NULL REFERENCES supervisor (code), quota INTEGER NOT NULL) STRICT;
+     create table student (code text primary key not null, label text not null) strict;
+     CREATE TABLE round (number INTEGER NOT NULL PRIMARY KEY, open INTEGER NOT NULL) STRICT;
+     CREATE TABLE choice (round INTEGER NOT NULL REFERENCES round (number), student TEXT NOT NULL REFERENCES student (code), place INTEGER NOT NULL, project TEXT NOT NULL REFERENCES project (code), PRIMARY KEY (round, student, place), UNIQUE (round, student, project)) STRICT;
+     CREATE TABLE placement (student TEXT NOT NULL PRIMARY KEY REFERENCES student (code), round INTEGER NOT NULL REFERENCES round (number), project TEXT NOT NULL REFERENCES project (code), rank INTEGER NOT NULL) STRICT;
+     CREATE TABLE import (id TEXT NOT NULL PRIMARY KEY, kind TEXT NOT NULL, bytes BLOB NOT NULL, rows INTEGER NOT NULL) STRICT;
+     INSERT INTO edition VALUES (1, 1);";
 
-type HandMade = (&'static str, &'static str, Result<Sizes, StoreFault>);
-
-/// What is added to these tables, and what opening answers.
+/// Rolls and the edition: a name, the sizes of the rolls with which the tables are opened, or that they are damaged, and what is
+/// added to the tables.
 #[rattlefmt::skip]
-static HAND_MADE: [HandMade; 9] = [
-    ("fit",              "INSERT INTO supervisor VALUES ('L', 'Lee', 500); INSERT INTO project VALUES ('P', 'Pumps', 'L', 0); INSERT INTO student VALUES ('S1', 'Ann')", Ok((1, 1, 1))),
-    ("empty label",      "INSERT INTO student VALUES ('S1', '')", Err(StoreFault::Damaged)),
-    ("label not UTF-8",  "INSERT INTO student VALUES ('S1', CAST(x'41FF' AS TEXT))", Err(StoreFault::Damaged)),
-    ("code not UTF-8",   "INSERT INTO student VALUES (CAST(x'53C3' AS TEXT), 'Ann')", Err(StoreFault::Damaged)),
-    ("no code",          "INSERT INTO student VALUES ('-A', 'Ann')", Err(StoreFault::Damaged)),
-    ("quota of 501",     "INSERT INTO supervisor VALUES ('L', 'Lee', 501)", Err(StoreFault::Damaged)),
-    ("quota below 0",    "INSERT INTO supervisor VALUES ('L', 'Lee', -1)", Err(StoreFault::Damaged)),
-    ("another edition",  "UPDATE edition SET number = 9", Err(StoreFault::Damaged)),
-    ("a table missing",  "DROP TABLE student", Err(StoreFault::Damaged)),
-];
+static OF_ROLLS: &str =
+    r#"fit             | 1 1 1   | INSERT INTO supervisor VALUES ('L', 'Lee', 500); INSERT INTO project VALUES ('P', 'Pumps', 'L', 0); INSERT INTO student VALUES ('S1', 'Ann')
+       empty label     | damaged | INSERT INTO student VALUES ('S1', '')
+       label not UTF-8 | damaged | INSERT INTO student VALUES ('S1', CAST(x'41FF' AS TEXT))
+       code not UTF-8  | damaged | INSERT INTO student VALUES (CAST(x'53C3' AS TEXT), 'Ann')
+       no code         | damaged | INSERT INTO student VALUES ('-A', 'Ann')
+       quota of 501    | damaged | INSERT INTO supervisor VALUES ('L', 'Lee', 501)
+       quota below 0   | damaged | INSERT INTO supervisor VALUES ('L', 'Lee', -1)
+       another edition | damaged | UPDATE edition SET number = 9
+       a table missing | damaged | DROP TABLE student"#;
 
 /// Rolls of one supervisor, two projects and two students, for the tables of rounds.
 static ROLLS: &str =
     "INSERT INTO supervisor VALUES ('L', 'Lee', 2); INSERT INTO project VALUES ('P', 'Pumps', 'L', 1); INSERT INTO project VALUES ('Q', 'Quays', 'L', 2); INSERT INTO student VALUES ('A', 'Ann'); INSERT INTO student VALUES ('B', 'Bob');";
 
-/// What is added to those, and what opening answers.
+/// Rounds over those rolls.
 #[rattlefmt::skip]
-static OF_ROUNDS: [HandMade; 13] = [
-    ("three rounds",         "INSERT INTO round VALUES (1, 0), (2, 0), (3, 1); INSERT INTO choice VALUES (1, 'A', 1, 'P'), (1, 'A', 2, 'Q'), (2, 'B', 1, 'Q'), (3, 'B', 1, 'P'); INSERT INTO placement VALUES ('A', 1, 'Q', 2)", Ok((1, 2, 2))),
-    ("a round is missing",   "INSERT INTO round VALUES (1, 0), (3, 0)", Err(StoreFault::Damaged)),
-    ("an earlier one open",  "INSERT INTO round VALUES (1, 1), (2, 0)", Err(StoreFault::Damaged)),
-    ("neither open nor not", "INSERT INTO round VALUES (1, 2)", Err(StoreFault::Damaged)),
-    ("thirteen rounds",      "INSERT INTO round VALUES (1, 0), (2, 0), (3, 0), (4, 0), (5, 0), (6, 0), (7, 0), (8, 0), (9, 0), (10, 0), (11, 0), (12, 0), (13, 0)", Err(StoreFault::Damaged)),
-    ("placed while open",    "INSERT INTO round VALUES (1, 1); INSERT INTO choice VALUES (1, 'A', 1, 'P'); INSERT INTO placement VALUES ('A', 1, 'P', 1)", Err(StoreFault::Damaged)),
-    ("a place is missing",   "INSERT INTO round VALUES (1, 1); INSERT INTO choice VALUES (1, 'A', 1, 'P'), (1, 'A', 3, 'Q')", Err(StoreFault::Damaged)),
-    ("a place of nine",      "INSERT INTO round VALUES (1, 1); INSERT INTO choice VALUES (1, 'A', 9, 'P')", Err(StoreFault::Damaged)),
-    ("at another rank",      "INSERT INTO round VALUES (1, 0); INSERT INTO choice VALUES (1, 'A', 1, 'P'), (1, 'A', 2, 'Q'); INSERT INTO placement VALUES ('A', 1, 'Q', 1)", Err(StoreFault::Damaged)),
-    ("not in the list",      "INSERT INTO round VALUES (1, 0); INSERT INTO choice VALUES (1, 'A', 1, 'P'); INSERT INTO placement VALUES ('A', 1, 'Q', 2)", Err(StoreFault::Damaged)),
-    ("listed once placed",   "INSERT INTO round VALUES (1, 0), (2, 1); INSERT INTO choice VALUES (1, 'A', 1, 'P'), (2, 'A', 1, 'Q'); INSERT INTO placement VALUES ('A', 1, 'P', 1)", Err(StoreFault::Damaged)),
-    ("a project is over",    "INSERT INTO round VALUES (1, 0); INSERT INTO choice VALUES (1, 'A', 1, 'P'), (1, 'B', 1, 'P'); INSERT INTO placement VALUES ('A', 1, 'P', 1), ('B', 1, 'P', 1)", Err(StoreFault::Damaged)),
-    ("a supervisor is over", "UPDATE supervisor SET quota = 1; INSERT INTO round VALUES (1, 0); INSERT INTO choice VALUES (1, 'A', 1, 'Q'), (1, 'B', 1, 'Q'); INSERT INTO placement VALUES ('A', 1, 'Q', 1), ('B', 1, 'Q', 1)", Err(StoreFault::Damaged)),
-];
+static OF_ROUNDS: &str =
+    r#"three rounds         | 1 2 2   | INSERT INTO round VALUES (1, 0), (2, 0), (3, 1); INSERT INTO choice VALUES (1, 'A', 1, 'P'), (1, 'A', 2, 'Q'), (2, 'B', 1, 'Q'), (3, 'B', 1, 'P'); INSERT INTO placement VALUES ('A', 1, 'Q', 2)
+       a round is missing   | damaged | INSERT INTO round VALUES (1, 0), (3, 0)
+       an earlier one open  | damaged | INSERT INTO round VALUES (1, 1), (2, 0)
+       neither open nor not | damaged | INSERT INTO round VALUES (1, 2)
+       thirteen rounds      | damaged | INSERT INTO round VALUES (1, 0), (2, 0), (3, 0), (4, 0), (5, 0), (6, 0), (7, 0), (8, 0), (9, 0), (10, 0), (11, 0), (12, 0), (13, 0)
+       placed while open    | damaged | INSERT INTO round VALUES (1, 1); INSERT INTO choice VALUES (1, 'A', 1, 'P'); INSERT INTO placement VALUES ('A', 1, 'P', 1)
+       a place is missing   | damaged | INSERT INTO round VALUES (1, 1); INSERT INTO choice VALUES (1, 'A', 1, 'P'), (1, 'A', 3, 'Q')
+       a place of nine      | damaged | INSERT INTO round VALUES (1, 1); INSERT INTO choice VALUES (1, 'A', 9, 'P')
+       at another rank      | damaged | INSERT INTO round VALUES (1, 0); INSERT INTO choice VALUES (1, 'A', 1, 'P'), (1, 'A', 2, 'Q'); INSERT INTO placement VALUES ('A', 1, 'Q', 1)
+       not in the list      | damaged | INSERT INTO round VALUES (1, 0); INSERT INTO choice VALUES (1, 'A', 1, 'P'); INSERT INTO placement VALUES ('A', 1, 'Q', 2)
+       listed once placed   | damaged | INSERT INTO round VALUES (1, 0), (2, 1); INSERT INTO choice VALUES (1, 'A', 1, 'P'), (2, 'A', 1, 'Q'); INSERT INTO placement VALUES ('A', 1, 'P', 1)
+       a project is over    | damaged | INSERT INTO round VALUES (1, 0); INSERT INTO choice VALUES (1, 'A', 1, 'P'), (1, 'B', 1, 'P'); INSERT INTO placement VALUES ('A', 1, 'P', 1), ('B', 1, 'P', 1)
+       a supervisor is over | damaged | UPDATE supervisor SET quota = 1; INSERT INTO round VALUES (1, 0); INSERT INTO choice VALUES (1, 'A', 1, 'Q'), (1, 'B', 1, 'Q'); INSERT INTO placement VALUES ('A', 1, 'Q', 1), ('B', 1, 'Q', 1)"#;
 
-/// The same of imports.
+/// Imports.
 #[rattlefmt::skip]
-static OF_IMPORTS: [HandMade; 6] = [
-    ("two imports",      "INSERT INTO import VALUES ('I1', 'students', x'410A', 65536), ('I2', 'lists', x'', 0)", Ok((0, 0, 0))),
-    ("an unknown kind",  "INSERT INTO import VALUES ('I1', 'rooms', x'', 0)", Err(StoreFault::Damaged)),
-    ("no code as id",    "INSERT INTO import VALUES ('-A', 'students', x'', 0)", Err(StoreFault::Damaged)),
-    ("too many rows",    "INSERT INTO import VALUES ('I1', 'students', x'', 65537)", Err(StoreFault::Damaged)),
-    ("rows below 0",     "INSERT INTO import VALUES ('I1', 'students', x'', -1)", Err(StoreFault::Damaged)),
-    ("imports missing",  "DROP TABLE import", Err(StoreFault::Damaged)),
-];
+static OF_IMPORTS: &str =
+    r#"two imports     | 0 0 0   | INSERT INTO import VALUES ('I1', 'students', x'410A', 65536), ('I2', 'lists', x'', 0)
+       an unknown kind | damaged | INSERT INTO import VALUES ('I1', 'rooms', x'', 0)
+       no code as id   | damaged | INSERT INTO import VALUES ('-A', 'students', x'', 0)
+       too many rows   | damaged | INSERT INTO import VALUES ('I1', 'students', x'', 65537)
+       rows below 0    | damaged | INSERT INTO import VALUES ('I1', 'students', x'', -1)
+       imports missing | damaged | DROP TABLE import"#;
 
-/// Executes each statement.
-fn execute_all(conn: &mut Connection<MemStore>, statements: &[&'static str]) -> Result<(), Fail> {
-    for statement in statements {
-        conn.execute_batch(statement)?;
+/// How tables that stand for no office are told.
+const DAMAGED: &str = "damaged";
+
+/// The sizes of the rolls, or why there are none.
+fn told(alloc: Global, answer: Result<Sizes, StoreFault>) -> Result<String, AllocError> {
+    match answer {
+        Ok((supervisors, projects, students)) => {
+            format!(in alloc; "{supervisors} {projects} {students}")
+        }
+        Err(StoreFault::Damaged) => String::from_str(alloc, DAMAGED),
+        Err(_) => String::from_str(alloc, "another fault"),
+    }
+}
+
+/// The tables with what is added to them.
+fn made(alloc: Global, before: &str, added: &str) -> Result<Connection<MemStore>, Fail> {
+    let mut conn = Connection::open_in_memory(alloc)?;
+    execute_all(&mut conn, &[TABLES, before, added])?;
+    Ok(conn)
+}
+
+/// Executes the statements of each text.
+fn execute_all(conn: &mut Connection<MemStore>, texts: &[&str]) -> Result<(), Fail> {
+    for text in texts {
+        conn.execute_batch(text)?;
     }
     Ok(())
 }
+
+/// The number of tables and indices.
+const SCHEMA: &str = "SELECT count(*) FROM sqlite_schema";
 
 /// A desk opens over tables exactly where the store did, and else they are damaged.
 fn open_as_desk(
@@ -209,75 +247,61 @@ fn open_as_desk(
 ) -> Connection<MemStore> {
     match Desk::open(alloc, conn) {
         Ok(desk) => {
-            assert!(rt; is_fit, "{name}");
+            holds(rt, is_fit, name);
             desk.into_connection()
         }
         Err((refusal, conn)) => {
-            assert!(rt; !is_fit && matches!(refusal, Refusal::Damaged), "{name}");
+            holds(rt, !is_fit && refusal == Refusal::Damaged, name);
             conn
         }
     }
 }
 
-/// Compares what the tables with this addition are opened as, and that no table was added or taken away.
+/// Compares what tables are opened as, and that no table was added or taken away.
 fn compare_opened(
     alloc: Global,
     rt: &impl Abort,
     name: &str,
-    before: &str,
-    added: &str,
-    want: &Result<Sizes, StoreFault>,
+    mut conn: Connection<MemStore>,
+    want: &str,
 ) -> Result<(), Fail> {
-    let mut conn = Connection::open_in_memory(alloc)?;
-    execute_all(&mut conn, TABLES.as_slice())?;
-    conn.execute_batch(before)?;
-    conn.execute_batch(added)?;
-    let tables = count(&mut conn, "SELECT count(*) FROM sqlite_schema")?;
+    let tables = count(&mut conn, SCHEMA)?;
     let (answer, conn) = opened(alloc, conn);
-    assert_eq!(rt; answer, *want, "{name}");
-    let mut conn = open_as_desk(alloc, rt, name, conn, want.is_ok());
-    let after = count(&mut conn, "SELECT count(*) FROM sqlite_schema")?;
-    assert_eq!(rt; after, tables, "{name}");
-    Ok(())
+    let told = told(alloc, answer)?;
+    holds(rt, told.as_str() == want, name);
+    let mut conn = open_as_desk(alloc, rt, name, conn, want != DAMAGED);
+    compare_counts(rt, &mut conn, &[(SCHEMA, tables)])
 }
 
-/// The same of each case.
-fn compare_hand_made(
-    alloc: Global,
-    rt: &impl Abort,
-    before: &str,
-    rows: &[HandMade],
-) -> Result<(), Fail> {
-    for (name, added, want) in rows {
-        compare_opened(alloc, rt, name, before, added, want)?;
+/// The same of each row, over tables to which this was added before.
+fn compare_hand_made(alloc: Global, rt: &impl Abort, before: &str, rows: &str) -> Result<(), Fail> {
+    for row in rows.lines() {
+        let (name, rest) = first_cell(row);
+        let (want, added) = first_cell(rest);
+        compare_opened(alloc, rt, name, made(alloc, before, added)?, want)?;
     }
     Ok(())
 }
 
 #[test]
 fn hand_made_tables_are_judged(rt: HostRuntime) -> Result<(), Fail> {
-    compare_hand_made(rt.alloc(), &rt, "", HAND_MADE.as_slice())?;
-    compare_hand_made(rt.alloc(), &rt, ROLLS, OF_ROUNDS.as_slice())?;
-    compare_hand_made(rt.alloc(), &rt, "", OF_IMPORTS.as_slice())
+    compare_hand_made(rt.alloc(), &rt, "", OF_ROLLS)?;
+    compare_hand_made(rt.alloc(), &rt, ROLLS, OF_ROUNDS)?;
+    compare_hand_made(rt.alloc(), &rt, "", OF_IMPORTS)
 }
 
 /// The empty office's tables beside another table, which is as it was.
 fn beside_another(alloc: Global, rt: &impl Abort) -> Result<Connection<MemStore>, Fail> {
     let mut conn = Connection::open_in_memory(alloc)?;
     conn.execute_batch("CREATE TABLE other (a INTEGER); INSERT INTO other VALUES (7);")?;
-    let (answer, mut conn) = opened(alloc, conn);
-    assert_eq!(rt; answer, Ok((0, 0, 0)));
-    assert_eq!(rt; count(&mut conn, "SELECT a FROM other")?, 7);
+    let mut conn = reopen(alloc, rt, conn, &Ok((0, 0, 0)), "beside another table");
+    compare_counts(rt, &mut conn, &[("SELECT a FROM other", 7)])?;
     Ok(conn)
 }
 
 /// Ann, and a table whose rows go with a student's.
-fn add_pets(conn: &mut Connection<MemStore>) -> Result<(), Fail> {
-    conn.execute_batch(
-        "CREATE TABLE pet (of TEXT REFERENCES student (code) ON DELETE CASCADE); INSERT INTO student VALUES ('S1', 'Ann');",
-    )?;
-    Ok(())
-}
+const PETS: &str =
+    "CREATE TABLE pet (of TEXT REFERENCES student (code) ON DELETE CASCADE); INSERT INTO student VALUES ('S1', 'Ann');";
 
 /// Over that table nothing is saved: a second student is refused.
 fn refuses_bob(alloc: Global, rt: &impl Abort, store: &mut Store<MemStore>) -> Result<(), Fail> {
@@ -287,23 +311,17 @@ fn refuses_bob(alloc: Global, rt: &impl Abort, store: &mut Store<MemStore>) -> R
     Ok(())
 }
 
-/// The tables still have one student. A transaction is begun.
-fn begin_with_one(rt: &impl Abort, conn: &mut Connection<MemStore>) -> Result<(), Fail> {
-    assert_eq!(rt; count(conn, "SELECT count(*) FROM student")?, 1);
-    conn.execute_batch("BEGIN")?;
-    Ok(())
-}
-
+// At the end a transaction is begun, over which no store is opened.
 #[test]
 fn other_tables_are_left_alone(rt: HostRuntime) -> Result<(), Fail> {
     let alloc = rt.alloc();
     let mut conn = beside_another(alloc, &rt)?;
-    add_pets(&mut conn)?;
+    execute_all(&mut conn, &[PETS])?;
     let mut store = open(alloc, &rt, conn, (0, 0, 1))?;
     refuses_bob(alloc, &rt, &mut store)?;
     let mut conn = store.into_connection();
-    begin_with_one(&rt, &mut conn)?;
-    let (answer, _conn) = opened(alloc, conn);
-    assert_eq!(rt; answer, Err(StoreFault::Storage));
+    compare_counts(&rt, &mut conn, &[(STUDENTS, 1)])?;
+    execute_all(&mut conn, &["BEGIN"])?;
+    reopen(alloc, &rt, conn, &Err(StoreFault::Storage), "a transaction");
     Ok(())
 }

@@ -1,75 +1,61 @@
 //! Rounds at a desk, byte for byte: lists, closings, placements and reopenings, through streams and after the desk is opened
 //! anew.
 
-use crate::desks::{desk_over, new_desk};
-use crate::exchanges::{compare_exchanges, compare_text};
-use desk::Desk;
-use sqlite::MemStore;
-use std::alloc::Global;
-use std::process::Abort;
+use crate::played::{Part, Sitting, play};
+use crate::school::SCHOOL;
 use std::rt::HostRuntime;
 use std::test::Fail;
 
-/// A supervisor of quota 5 with projects P and Q of quota 1 and Z of quota 0, and students A, B and C.
-#[rattlefmt::skip]
-static ROLLS: &str =
-    r#"PUT /supervisors/L | {"name":"Lee","quota":5}                    | 200 OK | {"ok":true}
-       PUT /projects/P    | {"name":"Pumps","quota":1,"supervisor":"L"} | 200 OK | {"ok":true}
-       PUT /projects/Q    | {"name":"Quays","quota":1,"supervisor":"L"} | 200 OK | {"ok":true}
-       PUT /projects/Z    | {"name":"Zinc","quota":0,"supervisor":"L"}  | 200 OK | {"ok":true}
-       PUT /students/A    | {"name":"Ann"}                              | 200 OK | {"ok":true}
-       PUT /students/B    | {"name":"Bob"}                              | 200 OK | {"ok":true}
-       PUT /students/C    | {"name":"Cy"}                               | 200 OK | {"ok":true}"#;
-
 /// No round is open.
 #[rattlefmt::skip]
-static SHUT: &str =
-    r#"POST /rounds/reopen |                                                         | 409 Conflict  | {"fault":"NoRoundClosed","number":20}
-       POST /rounds/close  |                                                         | 409 Conflict  | {"fault":"NoRoundOpen","number":19}
-       GET /preview        |                                                         | 409 Conflict  | {"fault":"NoRoundOpen","number":19}
-       GET /roundtext      |                                                         | 409 Conflict  | {"fault":"NoRoundOpen","number":19}
-       DELETE /lists/A     |                                                         | 409 Conflict  | {"fault":"NoRoundOpen","number":19}
-       PUT /lists/A        | {"choices":["P","Q","Y","Z","P","Q","Y","Z","P"]}       | 409 Conflict  | {"fault":"NoRoundOpen","number":19}
-       PUT /lists/A        | {"choices":["P","Q"]}                                   | 409 Conflict  | {"fault":"NoRoundOpen","number":19}
-       PUT /lists/A        | {"choices":[]}                                          | 409 Conflict  | {"fault":"NoRoundOpen","number":19}
-       PUT /lists/A        | {"choices":["P","P"]}                                   | 409 Conflict  | {"fault":"NoRoundOpen","number":19}
-       PUT /lists/A        | {"choices":["P","N","P"]}                               | 409 Conflict  | {"fault":"NoRoundOpen","number":19}
-       GET /rounds/1       |                                                         | 404 Not Found | {"fault":"UnknownRound","number":26}
-       GET /rounds/9999    |                                                         | 404 Not Found | {"fault":"UnknownRound","number":26}
-       GET /rounds/12345   |                                                         | 404 Not Found | {"fault":"NoRoute","number":5}
-       GET /rounds/x       |                                                         | 404 Not Found | {"fault":"NoRoute","number":5}
-       GET /rounds/close   |                                                         | 405 Method Not Allowed | {"fault":"WrongMethod","number":6}
-       POST /rounds        | {}                                                      | 400 Bad Request | {"fault":"Members","number":8}"#;
+const SHUT: &str =
+    r#"POST /rounds/reopen |                                                   | 409 Conflict           | {"fault":"NoRoundClosed","number":20}
+       POST /rounds/close  |                                                   | 409 Conflict           | {"fault":"NoRoundOpen","number":19}
+       GET /preview        |                                                   | 409 Conflict           | {"fault":"NoRoundOpen","number":19}
+       GET /roundtext      |                                                   | 409 Conflict           | {"fault":"NoRoundOpen","number":19}
+       DELETE /lists/A     |                                                   | 409 Conflict           | {"fault":"NoRoundOpen","number":19}
+       PUT /lists/A        | {"choices":["P","Q","Y","Z","P","Q","Y","Z","P"]} | 409 Conflict           | {"fault":"NoRoundOpen","number":19}
+       PUT /lists/A        | {"choices":["P","Q"]}                             | 409 Conflict           | {"fault":"NoRoundOpen","number":19}
+       PUT /lists/A        | {"choices":[]}                                    | 409 Conflict           | {"fault":"NoRoundOpen","number":19}
+       PUT /lists/A        | {"choices":["P","P"]}                             | 409 Conflict           | {"fault":"NoRoundOpen","number":19}
+       PUT /lists/A        | {"choices":["P","N","P"]}                         | 409 Conflict           | {"fault":"NoRoundOpen","number":19}
+       GET /rounds/1       |                                                   | 404 Not Found          | {"fault":"UnknownRound","number":26}
+       GET /rounds/9999    |                                                   | 404 Not Found          | {"fault":"UnknownRound","number":26}
+       GET /rounds/12345   |                                                   | 404 Not Found          | {"fault":"NoRoute","number":5}
+       GET /rounds/x       |                                                   | 404 Not Found          | {"fault":"NoRoute","number":5}
+       GET /rounds/close   |                                                   | 405 Method Not Allowed | {"fault":"WrongMethod","number":6}
+       POST /rounds        | {}                                                | 400 Bad Request        | {"fault":"Members","number":8}"#;
 
-/// The first round is opened, and lists are put.
+/// The first round is opened, and lists are put; then its text is read.
 #[rattlefmt::skip]
-static LISTS: &str =
-    r#"POST /rounds     |                                                   | 200 OK          | {"round":1}
-       POST /rounds     |                                                   | 409 Conflict    | {"fault":"RoundIsOpen","number":18}
-       PUT /lists/S9    | {"choices":[]}                                    | 404 Not Found   | {"fault":"UnknownStudent","number":15}
-       PUT /lists/A     | {"choices":[]}                                    | 400 Bad Request | {"fault":"ListLength","number":23}
-       PUT /lists/A     | {"choices":["P","Q","Y","Z","P","Q","Y","Z","P"]} | 400 Bad Request | {"fault":"ListLength","number":23}
-       PUT /lists/A     | {"choices":["P","P"]}                             | 400 Bad Request | {"fault":"RepeatedProject","number":24}
-       PUT /lists/A     | {"choices":["P","N"]}                             | 404 Not Found   | {"fault":"UnknownProject","number":14}
-       PUT /lists/A     | {"choices":["P","N","P"]}                         | 404 Not Found   | {"fault":"UnknownProject","number":14}
-       PUT /lists/A     | {"choices":"P"}                                   | 400 Bad Request | {"fault":"Members","number":8}
-       GET /students/A  |                                                   | 200 OK          | {"list":null,"name":"Ann","placed":null}
-       PUT /lists/A     | {"choices":["P","Q"]}                             | 200 OK          | {"ok":true}
-       PUT /lists/A     | {"choices":["Q","P"]}                             | 200 OK          | {"ok":true}
-       PUT /lists/A     | {"choices":["Q"]}                                 | 200 OK          | {"ok":true}
-       DELETE /lists/A  |                                                   | 200 OK          | {"ok":true}
-       DELETE /lists/A  |                                                   | 404 Not Found   | {"fault":"NoList","number":25}
-       GET /preview     |                                                   | 200 OK          | {"profile":[0,0,0,0,0,0,0,0],"size":0}
-       PUT /lists/A     | {"choices":["P","Q"]}                             | 200 OK          | {"ok":true}
-       GET /preview     |                                                   | 200 OK          | {"profile":[1,0,0,0,0,0,0,0],"size":1}
-       PUT /lists/C     | {"choices":["Z","P"]}                             | 200 OK          | {"ok":true}
-       GET /students/A  |                                                   | 200 OK          | {"list":["P","Q"],"name":"Ann","placed":null}
-       GET /rounds/1    |                                                   | 200 OK          | {"open":true,"placed":0,"profile":[0,0,0,0,0,0,0,0],"round":1,"students":2}
-       GET /preview     |                                                   | 200 OK          | {"profile":[0,2,0,0,0,0,0,0],"size":2}"#;
+const LISTS: &str =
+    r#"POST /rounds    |                                                   | 200 OK          | {"round":1}
+       POST /rounds    |                                                   | 409 Conflict    | {"fault":"RoundIsOpen","number":18}
+       PUT /lists/S9   | {"choices":[]}                                    | 404 Not Found   | {"fault":"UnknownStudent","number":15}
+       PUT /lists/A    | {"choices":[]}                                    | 400 Bad Request | {"fault":"ListLength","number":23}
+       PUT /lists/A    | {"choices":["P","Q","Y","Z","P","Q","Y","Z","P"]} | 400 Bad Request | {"fault":"ListLength","number":23}
+       PUT /lists/A    | {"choices":["P","P"]}                             | 400 Bad Request | {"fault":"RepeatedProject","number":24}
+       PUT /lists/A    | {"choices":["P","N"]}                             | 404 Not Found   | {"fault":"UnknownProject","number":14}
+       PUT /lists/A    | {"choices":["P","N","P"]}                         | 404 Not Found   | {"fault":"UnknownProject","number":14}
+       PUT /lists/A    | {"choices":"P"}                                   | 400 Bad Request | {"fault":"Members","number":8}
+       GET /students/A |                                                   | 200 OK          | {"list":null,"name":"Ann","placed":null}
+       PUT /lists/A    | {"choices":["P","Q"]}                             | 200 OK          | {"ok":true}
+       PUT /lists/A    | {"choices":["Q","P"]}                             | 200 OK          | {"ok":true}
+       PUT /lists/A    | {"choices":["Q"]}                                 | 200 OK          | {"ok":true}
+       DELETE /lists/A |                                                   | 200 OK          | {"ok":true}
+       DELETE /lists/A |                                                   | 404 Not Found   | {"fault":"NoList","number":25}
+       GET /preview    |                                                   | 200 OK          | {"profile":[0,0,0,0,0,0,0,0],"size":0}
+       PUT /lists/A    | {"choices":["P","Q"]}                             | 200 OK          | {"ok":true}
+       GET /preview    |                                                   | 200 OK          | {"profile":[1,0,0,0,0,0,0,0],"size":1}
+       PUT /lists/C    | {"choices":["Z","P"]}                             | 200 OK          | {"ok":true}
+       GET /students/A |                                                   | 200 OK          | {"list":["P","Q"],"name":"Ann","placed":null}
+       GET /rounds/1   |                                                   | 200 OK          | {"open":true,"placed":0,"profile":[0,0,0,0,0,0,0,0],"round":1,"students":2}
+       GET /preview    |                                                   | 200 OK          | {"profile":[0,2,0,0,0,0,0,0],"size":2}
+       GET /roundtext  |                                                   | 200 OK          | S,L,5^nP,P,L,1^nP,Q,L,1^nP,Z,L,0^nC,A,P,Q^nC,C,Z,P^n"#;
 
 /// The round closes, opens again and closes again.
 #[rattlefmt::skip]
-static CLOSED: &str =
+const CLOSED: &str =
     r#"POST /rounds/close  |                                             | 200 OK       | {"profile":[0,2,0,0,0,0,0,0],"round":1,"size":2}
        POST /rounds/close  |                                             | 409 Conflict | {"fault":"NoRoundOpen","number":19}
        GET /students/A     |                                             | 200 OK       | {"list":null,"name":"Ann","placed":{"project":"Q","rank":2,"round":1}}
@@ -94,33 +80,16 @@ static CLOSED: &str =
 
 /// What is read after all that, and once more after the desk is opened anew.
 #[rattlefmt::skip]
-static AFTER: &str =
-    r#"GET /rounds/1      | | 200 OK | {"open":false,"placed":1,"profile":[0,1,0,0,0,0,0,0],"round":1,"students":1}
-       GET /rounds/2      | | 200 OK | {"open":false,"placed":1,"profile":[1,0,0,0,0,0,0,0],"round":2,"students":2}
-       GET /projects/P    | | 200 OK | {"name":"Pumps","placed":2,"quota":2,"supervisor":"L"}
-       GET /supervisors/L | | 200 OK | {"name":"Lee","placed":2,"quota":5}
-       GET /students/C    | | 200 OK | {"list":null,"name":"Cy","placed":{"project":"P","rank":2,"round":1}}"#;
-
-/// The text of the first round before it closes.
-static TEXT: &str = "S,L,5\nP,P,L,1\nP,Q,L,1\nP,Z,L,0\nC,A,P,Q\nC,C,Z,P\n";
-
-#[test]
-fn rounds_open_close_and_open_again(rt: HostRuntime) -> Result<(), Fail> {
-    let alloc = rt.alloc();
-    let mut desk = new_desk(alloc, &rt)?;
-    compare_exchanges(alloc, &rt, &mut desk, ROLLS)?;
-    compare_exchanges(alloc, &rt, &mut desk, SHUT)?;
-    compare_exchanges(alloc, &rt, &mut desk, LISTS)?;
-    compare_text(alloc, &rt, &mut desk, "GET /roundtext", TEXT)?;
-    compare_exchanges(alloc, &rt, &mut desk, CLOSED)?;
-    compare_exchanges(alloc, &rt, &mut desk, AFTER)?;
-    let mut again = desk_over(alloc, &rt, desk.into_connection());
-    compare_exchanges(alloc, &rt, &mut again, AFTER)
-}
+const AFTER: &str =
+    r#"GET /rounds/1      |  | 200 OK | {"open":false,"placed":1,"profile":[0,1,0,0,0,0,0,0],"round":1,"students":1}
+       GET /rounds/2      |  | 200 OK | {"open":false,"placed":1,"profile":[1,0,0,0,0,0,0,0],"round":2,"students":2}
+       GET /projects/P    |  | 200 OK | {"name":"Pumps","placed":2,"quota":2,"supervisor":"L"}
+       GET /supervisors/L |  | 200 OK | {"name":"Lee","placed":2,"quota":5}
+       GET /students/C    |  | 200 OK | {"list":null,"name":"Cy","placed":{"project":"P","rank":2,"round":1}}"#;
 
 /// A supervisor of quota 1 with P and Q, one of quota 1 with R, and lists P and Q R; then a round in which nobody has a list.
 #[rattlefmt::skip]
-static QUOTAS: &str =
+const QUOTAS: &str =
     r#"PUT /supervisors/L | {"name":"Lee","quota":1}                    | 200 OK | {"ok":true}
        PUT /supervisors/K | {"name":"Kim","quota":1}                    | 200 OK | {"ok":true}
        PUT /projects/P    | {"name":"Pumps","quota":1,"supervisor":"L"} | 200 OK | {"ok":true}
@@ -136,33 +105,34 @@ static QUOTAS: &str =
        POST /rounds       |                                             | 200 OK | {"round":2}
        POST /rounds/close |                                             | 200 OK | {"profile":[0,0,0,0,0,0,0,0],"round":2,"size":0}"#;
 
-#[test]
-fn a_supervisors_quota_counts(rt: HostRuntime) -> Result<(), Fail> {
-    let mut desk = new_desk(rt.alloc(), &rt)?;
-    compare_exchanges(rt.alloc(), &rt, &mut desk, QUOTAS)
-}
-
-/// After the twelfth round.
+/// Twelve rounds.
 #[rattlefmt::skip]
-static TWELVE: &str =
-    r#"POST /rounds        | | 409 Conflict | {"fault":"RoundsFull","number":21}
-       POST /rounds/reopen | | 200 OK       | {"round":12}
-       POST /rounds/reopen | | 409 Conflict | {"fault":"RoundIsOpen","number":18}"#;
+const EACH_ROUND: &str =
+    r#"POST /rounds       |  | 200 OK | {"round":$}
+       POST /rounds/close |  | 200 OK | {"profile":[0,0,0,0,0,0,0,0],"round":$,"size":0}"#;
 
-/// Opens and closes twelve rounds.
-fn open_and_close(alloc: Global, rt: &impl Abort, desk: &mut Desk<MemStore>) -> Result<(), Fail> {
-    for n in 1..13 {
-        let lines = format!(in alloc;
-            "POST /rounds||200 OK|{{\"round\":{n}}}\nPOST /rounds/close||200 OK|{{\"profile\":[0,0,0,0,0,0,0,0],\"round\":{n},\"size\":0}}"
-        )?;
-        compare_exchanges(alloc, rt, desk, lines.as_str())?;
+/// After the twelfth.
+#[rattlefmt::skip]
+const TWELVE: &str =
+    r#"POST /rounds        |  | 409 Conflict | {"fault":"RoundsFull","number":21}
+       POST /rounds/reopen |  | 200 OK       | {"round":12}
+       POST /rounds/reopen |  | 409 Conflict | {"fault":"RoundIsOpen","number":18}"#;
+
+/// Each play at tables of its own.
+#[rattlefmt::skip]
+static PLAYS: [&[Sitting]; 3] = [
+    &[
+        (&[Part::Lines(SCHOOL), Part::Lines(SHUT), Part::Lines(LISTS), Part::Lines(CLOSED), Part::Lines(AFTER)], 3),
+        (&[Part::Lines(AFTER)], 3),
+    ],
+    &[(&[Part::Lines(QUOTAS)], 2)],
+    &[(&[Part::Counted(1, 13, EACH_ROUND), Part::Lines(TWELVE)], 0)],
+];
+
+#[test]
+fn rounds_open_close_and_open_again(rt: HostRuntime) -> Result<(), Fail> {
+    for sittings in PLAYS.as_slice() {
+        play(rt.alloc(), &rt, sittings)?;
     }
     Ok(())
-}
-
-#[test]
-fn there_are_twelve_rounds(rt: HostRuntime) -> Result<(), Fail> {
-    let mut desk = new_desk(rt.alloc(), &rt)?;
-    open_and_close(rt.alloc(), &rt, &mut desk)?;
-    compare_exchanges(rt.alloc(), &rt, &mut desk, TWELVE)
 }

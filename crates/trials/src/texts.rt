@@ -1,9 +1,9 @@
 //! The forms of codes and labels, and the order and sums of worths.
 
+use crate::judged::holds;
 use spa::{Code, Label, Lex, PLACES, TextFault, Worth, is_code_text, is_label_text};
 use std::alloc::Global;
 use std::cmp::Ordering;
-use std::process::Abort;
 use std::rt::HostRuntime;
 use std::test::Fail;
 
@@ -32,65 +32,40 @@ static LABELS: [(&str, bool); 6] = [
     ("a\u{7f}",   false),
 ];
 
-/// The text is the wanted one. It stands by itself since each comparison of texts takes long to prove.
-pub(crate) fn same_text(rt: &impl Abort, found: &str, want: &str) {
-    assert_eq!(rt; found, want);
-}
-
-/// The code and its copy have this text.
-fn is_code(rt: &impl Abort, code: &Code, text: &str) {
-    same_text(rt, code.as_str(), text);
-    same_text(rt, code.copy().as_str(), text);
-}
-
-/// Whether each text is read as a code, as it should or should not.
-fn compare_codes(rt: &impl Abort, rows: &[(&'static str, bool)]) {
-    for (text, want) in rows {
-        assert_eq!(rt; is_code_text(text), *want, "{text}");
-        match Code::read(text) {
-            Ok(code) => {
-                assert!(rt; *want, "{text}");
-                is_code(rt, &code, text);
-            }
-            Err(fault) => assert!(rt; !*want && fault == TextFault::Form, "{text}"),
-        }
+/// Whether the text is read as a code with this text and a copy of it, as it should, or is none.
+fn is_code(text: &str, want: bool) -> bool {
+    match Code::read(text) {
+        Ok(code) => want && code.as_str() == text && code.copy().as_str() == text,
+        Err(fault) => !want && fault == TextFault::Form,
     }
 }
 
 #[test]
 fn codes_are_told_by_their_form(rt: HostRuntime) {
-    compare_codes(&rt, CODES.as_slice());
-}
-
-/// The label and its copy have this text.
-fn is_label(rt: &impl Abort, label: &Label, text: &str) -> Result<(), Fail> {
-    same_text(rt, label.as_str(), text);
-    same_text(rt, label.copy()?.as_str(), text);
-    Ok(())
-}
-
-/// Whether each text is read as a label, as it should or should not.
-fn compare_labels(
-    alloc: Global,
-    rt: &impl Abort,
-    rows: &[(&'static str, bool)],
-) -> Result<(), Fail> {
-    for (text, want) in rows {
-        assert_eq!(rt; is_label_text(text), *want, "{text}");
-        match Label::read(alloc, text) {
-            Ok(label) => {
-                assert!(rt; *want, "{text}");
-                is_label(rt, &label, text)?;
-            }
-            Err(fault) => assert!(rt; !*want && fault == TextFault::Form, "{text}"),
-        }
+    for (text, want) in CODES.as_slice() {
+        let is_told = is_code_text(text) == *want && is_code(text, *want);
+        holds(&rt, is_told, text);
     }
-    Ok(())
+}
+
+/// The same of a label.
+fn is_label(alloc: Global, text: &str, want: bool) -> Result<bool, Fail> {
+    match Label::read(alloc, text) {
+        Ok(label) => {
+            let copy = label.copy()?;
+            Ok(want && label.as_str() == text && copy.as_str() == text)
+        }
+        Err(fault) => Ok(!want && fault == TextFault::Form),
+    }
 }
 
 #[test]
 fn labels_are_told_by_their_form(rt: HostRuntime) -> Result<(), Fail> {
-    compare_labels(rt.alloc(), &rt, LABELS.as_slice())
+    for (text, want) in LABELS.as_slice() {
+        let is_read = is_label(rt.alloc(), text, *want)?;
+        holds(&rt, is_read && is_label_text(text) == *want, text);
+    }
+    Ok(())
 }
 
 fn row(size: i64, first: i64, last: i64) -> [i64; PLACES] {
@@ -107,10 +82,11 @@ fn is_less<G: Worth>(a: G, b: G) -> bool {
 
 #[test]
 fn the_first_place_counts_first(rt: HostRuntime) {
-    assert!(rt; is_less(Lex(row(1, 0, 9)), Lex(row(1, 1, 0))));
-    assert!(rt; is_less(Lex(row(1, 5, 5)), Lex(row(2, 0, 0))));
-    assert!(rt; !is_less(Lex(row(2, 1, 0)), Lex(row(2, 1, 0))));
-    assert_eq!(rt; Lex(row(2, 0, 0)).cmp(Lex(row(1, 5, 5))), Ordering::Greater);
+    holds(&rt, is_less(Lex(row(1, 0, 9)), Lex(row(1, 1, 0))), "1 0 9");
+    holds(&rt, is_less(Lex(row(1, 5, 5)), Lex(row(2, 0, 0))), "1 5 5");
+    holds(&rt, !is_less(Lex(row(2, 1, 0)), Lex(row(2, 1, 0))), "2 1 0");
+    let order = Lex(row(2, 0, 0)).cmp(Lex(row(1, 5, 5)));
+    holds(&rt, order == Ordering::Greater, "2 0 0");
 }
 
 #[test]
@@ -119,7 +95,7 @@ fn sums_are_by_place(rt: HostRuntime) {
     let w = Lex(row(1, 1, 1));
     assert!(rt; v.span() == 7);
     assert!(rt; w.span() == 1);
-    assert_eq!(rt; v.plus(w), Lex(row(2, -6, 4)));
-    assert_eq!(rt; v.minus(w), Lex(row(0, -8, 2)));
-    assert_eq!(rt; Lex::zero().span(), 0);
+    holds(&rt, v.plus(w) == Lex(row(2, -6, 4)), "a sum");
+    holds(&rt, v.minus(w) == Lex(row(0, -8, 2)), "a difference");
+    holds(&rt, Lex::zero().span() == 0, "zero");
 }

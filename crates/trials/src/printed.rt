@@ -1,0 +1,90 @@
+//! Lines of the program that are done in turn, and what each prints.
+
+use crate::cells::{body_of, first_cell};
+use crate::judged::holds;
+use cli::line;
+use std::fs;
+use std::process::Abort;
+use std::rt::HostRuntime;
+use std::test::Fail;
+
+/// What a line printed on standard output and on standard error, and its status.
+#[derive(Drop)]
+pub(crate) struct Printed {
+    pub out: Vec<u8>,
+    pub err: Vec<u8>,
+    pub status: u8,
+}
+
+/// These words, parted by spaces.
+pub(crate) fn parted(rt: &HostRuntime, words: &str) -> Result<Vec<String>, Fail> {
+    let mut list = Vec::new(rt.alloc());
+    for word in words.split(' ') {
+        list.push(String::from_str(rt.alloc(), word)?)?;
+    }
+    Ok(list)
+}
+
+/// Does the line of these words.
+pub(crate) fn run_line(rt: &HostRuntime, words: &str) -> Result<Printed, Fail> {
+    let alloc = rt.alloc();
+    let list = parted(rt, words)?;
+    let mut out = Vec::new(alloc);
+    let mut err = Vec::new(alloc);
+    let status = line(rt, list, &mut out, &mut err);
+    Ok(Printed { out, err, status })
+}
+
+/// Does the line of these words, and compares what it prints.
+pub(crate) fn prints(
+    rt: &HostRuntime,
+    abort: &impl Abort,
+    words: &str,
+    (out, err): (&[u8], &[u8]),
+    status: u8,
+) -> Result<(), Fail> {
+    let printed = run_line(rt, words)?;
+    let is_told = printed.out.as_slice() == out && printed.err.as_slice() == err;
+    holds(abort, is_told && printed.status == status, words);
+    Ok(())
+}
+
+/// Does the line of a row, and compares what it prints: its words, its status, and what is printed on standard output and on
+/// standard error.
+fn print_row(rt: &HostRuntime, abort: &impl Abort, row: &str) -> Result<(), Fail> {
+    let (words, rest) = first_cell(row);
+    let (status, rest) = first_cell(rest);
+    let (out, err) = first_cell(rest);
+    let out = body_of(rt.alloc(), out)?;
+    let err = body_of(rt.alloc(), err.trim())?;
+    prints(rt, abort, words, (&out, &err), status.parse()?)
+}
+
+/// The same of each row in turn.
+pub(crate) fn print_rows(rt: &HostRuntime, abort: &impl Abort, rows: &str) -> Result<(), Fail> {
+    for row in rows.lines() {
+        print_row(rt, abort, row)?;
+    }
+    Ok(())
+}
+
+/// The same of rows before which stands the text of the file `round.txt`.
+pub(crate) fn print_rounds(rt: &HostRuntime, abort: &impl Abort, rows: &str) -> Result<(), Fail> {
+    for row in rows.lines() {
+        let (text, rest) = first_cell(row);
+        fs::write(rt, "round.txt", &body_of(rt.alloc(), text)?)?;
+        print_row(rt, abort, rest)?;
+    }
+    Ok(())
+}
+
+/// Writes each file.
+pub(crate) fn write_files(
+    rt: &HostRuntime,
+    files: &[(&'static str, &'static str)],
+) -> Result<(), Fail> {
+    for (name, text) in files {
+        fs::write(rt, name, *text)?;
+    }
+    Ok(())
+}
