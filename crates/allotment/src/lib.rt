@@ -79,7 +79,7 @@ fn refused_as(fault: ImportFault) -> Refusal
     match fault {
         ImportFault::Memory => Refusal::Memory,
         ImportFault::Header => Refusal::Header,
-        ImportFault::Fields(record) => Refusal::Row {
+        ImportFault::Fields { record } => Refusal::Row {
             record,
             inner: WRONG_FIELDS,
         },

@@ -1,5 +1,9 @@
 //! Why rows are not those of an office.
 
+ghost use Rattle.std.specs.Prelude.{◌≡◌};
+ghost use Rattle.drafts.specs.declared.fault.RowsFault.TheVariants.{Memory};
+ghost use Rattle.drafts.specs.Gathering.{fault_of_text};
+
 use spa::TextFault;
 use std::alloc::AllocError;
 
@@ -13,9 +17,6 @@ pub enum RowsFault {
 }
 
 impl From<AllocError> for RowsFault {
-    ghost use Rattle.std.specs.Prelude.{◌≡◌};
-    ghost use Rattle.drafts.specs.declared.fault.RowsFault.TheVariants.{Memory};
-
     ghost from_gives = { λ _ e. e ≡ Memory };
 
     fn from(_error: AllocError) -> Self {
@@ -24,9 +25,6 @@ impl From<AllocError> for RowsFault {
 }
 
 impl From<TextFault> for RowsFault {
-    ghost use Rattle.std.specs.Prelude.{◌≡◌};
-    ghost use Rattle.drafts.specs.Gathering.{fault_of_text};
-
     ghost from_gives = { λ fault e. e ≡ fault_of_text fault };
 
     fn from(fault: TextFault) -> Self {

@@ -1,6 +1,9 @@
 //! Why a text is no import.
 #![tactic(auto)]
 
+ghost use Rattle.std.specs.Prelude.{◌≡◌};
+ghost use Rattle.imports.specs.declared.fault.ImportFault.TheVariants.{Memory};
+
 use std::alloc::AllocError;
 use thiserror::Error;
 
@@ -16,14 +19,11 @@ pub enum ImportFault {
     Header,
     /// The first record, counted from 1 after the header, that has another number of fields than the header. This is
     /// judged before any field.
-    #[error("record {0} has another number of fields than the header")]
-    Fields(u32),
+    #[error("record {record} has another number of fields than the header")]
+    Fields { record: u32 },
 }
 
 impl From<AllocError> for ImportFault {
-    ghost use Rattle.std.specs.Prelude.{◌≡◌};
-    ghost use Rattle.imports.specs.declared.fault.ImportFault.TheVariants.{Memory};
-
     ghost from_gives = { λ _ e. e ≡ Memory };
 
     fn from(_: AllocError) -> ImportFault {

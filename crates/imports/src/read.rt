@@ -98,7 +98,9 @@ fn requests_after(
     ensures fault { IfErr result (λ fault. (fault ≡ Memory) ⊎ (requests_after kind (map fields_of rest.now) ≡ Err fault)) }
 {
     match first_other(kind, rest) {
-        Some(before) => Err(ImportFault::Fields(before as u32 + 1)),
+        Some(before) => Err(ImportFault::Fields {
+            record: before as u32 + 1,
+        }),
         None => Ok(requests_of(alloc, kind, rest)?),
     }
 }

@@ -10,7 +10,7 @@ mod reads;
 mod rounds;
 
 ghost use Rattle.std.specs.Prelude.{◌≡◌, ◌∷◌, not, IfOk, OnErr, Err, None, []};
-ghost use Rattle.rolls.specs.State.{State, empty, lists_of};
+ghost use Rattle.rolls.specs.State.{State, empty};
 ghost use Rattle.rolls.specs.Fit.{IsFit};
 ghost use Rattle.rolls.specs.Refusing.{first, plain_refusal, refusal_of, round_tests};
 ghost use Rattle.rolls.specs.Answers.{Answers, IsDone};
@@ -18,7 +18,7 @@ ghost use Rattle.rolls.specs.From.{AreRowsOf};
 
 use drafts::{RowsFault, gather};
 use rolls::{
-    Done, Import, Listed, Placement, Plain, Project, Refusal, Reply, Request, Round, Row, Student,
+    Done, Import, Placement, Plain, Project, Refusal, Reply, Request, Round, Row, Student,
     Supervisor, Table,
 };
 use std::alloc::{AllocError, Global};
@@ -118,37 +118,6 @@ impl Office {
         ensures all { let o = self.now in result.now ≡ o.students }
     {
         self.students.entries()
-    }
-
-    /// The rounds, by number.
-    pub fn rounds(&self) -> &[Round]
-        ensures all { let o = self.now in result.now ≡ o.rounds }
-    {
-        self.rounds.entries()
-    }
-
-    /// The lists of a round, by the students' codes; none where there is no such round.
-    pub fn lists(&self, round: u32) -> &[Listed]
-        ensures all { result.now ≡ lists_of self.now round }
-    {
-        match self.rounds.by_number(round) {
-            Some(round) => round.lists.entries(),
-            None => &[],
-        }
-    }
-
-    /// The placements of all rounds, by the students' codes.
-    pub fn placements(&self) -> &[Placement]
-        ensures all { let o = self.now in result.now ≡ o.placements }
-    {
-        self.placements.entries()
-    }
-
-    /// The imports that were made, by id.
-    pub fn imports(&self) -> &[Import]
-        ensures all { let o = self.now in result.now ≡ o.imports }
-    {
-        self.imports.entries()
     }
 
     /// Every office is fit.

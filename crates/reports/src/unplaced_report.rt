@@ -27,6 +27,17 @@ fn is_unplaced(office: &Office, round: u32, student: &Student) -> bool
     office.list_of(round, code).is_some() && !is_placed_by(office, round, code)
 }
 
+/// The students with lists in a round whom it did not place.
+pub fn unplaced(alloc: Global, office: &Office, round: u32) -> Result<String, AllocError>
+    ensures { IfOk result (λ text. string_bytes text ≡ unplaced_text office.now round) }
+{
+    let mut out = String::new(alloc);
+    for student in office.students() {
+        push_student(&mut out, office, round, student)?;
+    }
+    Ok(out)
+}
+
 /// Appends the line of a student who is unplaced.
 fn push_student(
     out: &mut String,
@@ -42,15 +53,4 @@ fn push_student(
         writeln!(out, "{code:<16} {label}")?;
     }
     Ok(())
-}
-
-/// The students with lists in a round whom it did not place.
-pub fn unplaced(alloc: Global, office: &Office, round: u32) -> Result<String, AllocError>
-    ensures { IfOk result (λ text. string_bytes text ≡ unplaced_text office.now round) }
-{
-    let mut out = String::new(alloc);
-    for student in office.students() {
-        push_student(&mut out, office, round, student)?;
-    }
-    Ok(out)
 }

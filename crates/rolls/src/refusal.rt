@@ -2,6 +2,7 @@
 
 ghost use Rattle.std.specs.Prelude.{◌≡◌, ◌==◌, true};
 ghost use Rattle.std.specs.List.{list_any};
+ghost use Rattle.rolls.specs.declared.refusal.Refusal.TheVariants.{Memory};
 ghost use Rattle.rolls.specs.Told.{told, statuses, number_of, status_of, name_of};
 
 use std::alloc::{AllocError, AllocFailed};
@@ -148,8 +149,6 @@ impl Refusal {
 }
 
 impl From<AllocError> for Refusal {
-    ghost use Rattle.rolls.specs.declared.refusal.Refusal.TheVariants.{Memory};
-
     ghost from_gives = { λ _ r. r ≡ Memory };
 
     fn from(_error: AllocError) -> Self {
@@ -158,8 +157,6 @@ impl From<AllocError> for Refusal {
 }
 
 impl<T: Drop> From<AllocFailed<T>> for Refusal {
-    ghost use Rattle.rolls.specs.declared.refusal.Refusal.TheVariants.{Memory};
-
     ghost from_gives = { λ _ r. r ≡ Memory };
 
     fn from(_error: AllocFailed<T>) -> Self {

@@ -32,12 +32,9 @@ impl Code {
         ensures form { IsOk result ↔ IsTrue (is_code text.now) }
         ensures fault { IfErr result (λ fault. fault ≡ TextFault.Form) }
     {
-        if !is_code_text(text) {
-            return Err(TextFault::Form);
-        }
         match ArrayString::from(text) {
-            Ok(text) => Ok(Code { text }),
-            Err(_) => Err(TextFault::Form),
+            Ok(bytes) if is_code_text(text) => Ok(Code { text: bytes }),
+            _ => Err(TextFault::Form),
         }
     }
 

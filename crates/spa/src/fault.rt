@@ -1,7 +1,7 @@
 //! What can be wrong with the rolls of an instance.
 #![tactic(auto)]
 
-use std::alloc::{AllocError, AllocFailed};
+use std::alloc::AllocError;
 use thiserror::Error;
 
 /// The three rolls of an instance.

@@ -19,11 +19,6 @@ use Rattle.rolls.specs.From as from
 use Rattle.tables.specs.declared.table.Table.{Table}
 use Rattle.tables.specs.declared.table.Table.TheVariants.{Edition}
 use Rattle.store.specs.Rows.{IsRoll, columns_of}
-use Rattle.drafts.specs.declared.fault.RowsFault.{RowsFault}
-use Rattle.drafts.specs.declared.fault.RowsFault.TheVariants.{Unfit}
-use Rattle.drafts.specs.declared.fault.RowsFault.TheVariants as why
-use Rattle.store.specs.Faults.{of_rows}
-use Rattle.store.specs.declared.fault.StoreFault.TheVariants.{Damaged}
 use Rattle.store.specs.Tables.{StandsFor, first_edition}
 use Rattle.store.specs.Reading.{AreListed, HoldsCells, HoldsNoRow, IsDamaged}
 use Rattle.store.proofs.Cells.{two_after}
@@ -101,8 +96,3 @@ module _ (s : Seen) (live : IsLive s) (open_ : IsTrue s.is_open) where
     editions = subst (λ all. Stands (table_at Edition) l.edition all s.now) is (shows.stands l.edition l.edition_listed (low_edition l.edition l.edition_listed));
     rolls = λ table among. holds table among (l.places table) (l.rolls_listed table among) (low_at table (l.places table) (l.rolls_listed table among));
   }
-
--- rows that are refused are those of no office
-pub refused : (e : RowsFault) → of_rows e ≡ Damaged → e ≡ Unfit
-refused why.Memory h = absurd (cc)
-refused Unfit h = refl

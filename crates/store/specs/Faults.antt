@@ -1,8 +1,6 @@
 -- Why a call of the store fails, by why a call below it does.
 use Rattle.tables.specs.declared.fault.TableFault.{TableFault}
 use Rattle.tables.specs.declared.fault.TableFault.TheVariants as table
-use Rattle.drafts.specs.declared.fault.RowsFault.{RowsFault}
-use Rattle.drafts.specs.declared.fault.RowsFault.TheVariants as rows
 use Rattle.store.specs.declared.fault.StoreFault.{StoreFault}
 use Rattle.store.specs.declared.fault.StoreFault.TheVariants.{Memory, Storage, Damaged}
 
@@ -10,8 +8,3 @@ use Rattle.store.specs.declared.fault.StoreFault.TheVariants.{Memory, Storage, D
 abbrev pub of_table : TableFault → StoreFault
 of_table table.Memory = Memory
 of_table table.Storage = Storage
-
--- rows that are not those of an office
-abbrev pub of_rows : RowsFault → StoreFault
-of_rows rows.Memory = Memory
-of_rows rows.Unfit = Damaged

@@ -1,6 +1,9 @@
 //! Why a call of the store fails.
 
-use drafts::RowsFault;
+ghost use Rattle.std.specs.Prelude.{◌≡◌};
+ghost use Rattle.store.specs.declared.fault.StoreFault.TheVariants.{Memory};
+ghost use Rattle.store.specs.Faults.{of_table};
+
 use std::alloc::{AllocError, AllocFailed};
 use tables::fault::TableFault;
 
@@ -19,9 +22,6 @@ pub enum StoreFault {
 }
 
 impl From<TableFault> for StoreFault {
-    ghost use Rattle.std.specs.Prelude.{◌≡◌};
-    ghost use Rattle.store.specs.Faults.{of_table};
-
     ghost from_gives = { λ e fault. fault ≡ of_table e };
 
     fn from(fault: TableFault) -> StoreFault {
@@ -32,38 +32,18 @@ impl From<TableFault> for StoreFault {
     }
 }
 
-impl From<RowsFault> for StoreFault {
-    ghost use Rattle.std.specs.Prelude.{◌≡◌};
-    ghost use Rattle.store.specs.Faults.{of_rows};
-
-    ghost from_gives = { λ e fault. fault ≡ of_rows e };
-
-    fn from(fault: RowsFault) -> StoreFault {
-        match fault {
-            RowsFault::Memory => StoreFault::Memory,
-            RowsFault::Unfit => StoreFault::Damaged,
-        }
-    }
-}
-
-impl From<AllocError> for StoreFault {
-    ghost use Rattle.std.specs.Prelude.{◌≡◌};
-    ghost use Rattle.store.specs.declared.fault.StoreFault.TheVariants.{Memory};
-
+impl<T: Drop> From<AllocFailed<T>> for StoreFault {
     ghost from_gives = { λ _ fault. fault ≡ Memory };
 
-    fn from(_error: AllocError) -> StoreFault {
+    fn from(_error: AllocFailed<T>) -> StoreFault {
         StoreFault::Memory
     }
 }
 
-impl<T: Drop> From<AllocFailed<T>> for StoreFault {
-    ghost use Rattle.std.specs.Prelude.{◌≡◌};
-    ghost use Rattle.store.specs.declared.fault.StoreFault.TheVariants.{Memory};
-
+impl From<AllocError> for StoreFault {
     ghost from_gives = { λ _ fault. fault ≡ Memory };
 
-    fn from(_error: AllocFailed<T>) -> StoreFault {
+    fn from(_error: AllocError) -> StoreFault {
         StoreFault::Memory
     }
 }

@@ -7,6 +7,9 @@ ghost use Rattle.sqlite.specs.State.{HasCleanDisk, IsUnchanged, Survives};
 ghost use Rattle.sqlite.specs.Held.{state};
 ghost use Rattle.tables.specs.Table.{table_at};
 ghost use Rattle.tables.specs.Steps.{Rests};
+ghost use Rattle.rolls.specs.State.{State};
+ghost use Rattle.rolls.specs.Fit.{IsFit};
+ghost use Rattle.rolls.specs.From.{AreRowsOf};
 ghost use Rattle.store.specs.Tables.{StandsFor, first_edition};
 ghost use Rattle.tables.specs.Layout.{IsListed};
 ghost use Rattle.store.specs.Reading.{AreListed, IsAlone, IsElsewhere, IsListedAlone, ReadsTable, HoldsNoRow, ReadsAll, HoldsUnread, IsDamaged};
@@ -14,6 +17,7 @@ ghost use Rattle.store.specs.Reading.{AreListed, IsAlone, IsElsewhere, IsListedA
 use crate::fault::StoreFault;
 use crate::kept::ROLLS;
 use crate::rows::rows_with;
+use drafts::RowsFault;
 use office::Office;
 use rolls::Row;
 use sqlite::{Alter, Connection, Row as Cells};
@@ -128,6 +132,18 @@ fn read_rows<S: Alter>(alloc: Global, conn: &mut Connection<S>) -> Result<Vec<Ro
     Ok(rows)
 }
 
+/// The office of rows that were read.
+fn office_from(alloc: Global, rows: Vec<Row>) -> Result<Office, StoreFault>
+    ensures rows { IfOk result (λ office. AreRowsOf rows.items office) }
+    ensures unfit { result ≡ Err StoreFault.Damaged → (o : State) → IsFit o → AreRowsOf rows.items o → ⊥ }
+{
+    match Office::from_rows(alloc, rows) {
+        Ok(office) => Ok(office),
+        Err(RowsFault::Memory) => Err(StoreFault::Memory),
+        Err(RowsFault::Unfit) => Err(StoreFault::Damaged),
+    }
+}
+
 /// The office of the tables, where none is being written.
 pub fn office_of<S: Alter>(alloc: Global, conn: &mut Connection<S>) -> Result<Office, StoreFault>
     ensures ok { HasCleanDisk (state S.Store conn.new) → IfOk result (λ office. IsUnchanged (state S.Store conn.old) (state S.Store conn.new) × StandsFor (state S.Store conn.old).now office) }
@@ -145,5 +161,6 @@ pub fn office_of<S: Alter>(alloc: Global, conn: &mut Connection<S>) -> Result<Of
         return Err(StoreFault::Damaged);
     }
     let rows = read_rows(alloc, conn)?;
-    Ok(Office::from_rows(alloc, rows)?)
+    let office = office_from(alloc, rows)?;
+    Ok(office)
 }

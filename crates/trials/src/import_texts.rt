@@ -51,10 +51,10 @@ static FAULTY_TEXTS: [(&str, ImportKind, &[u8], ImportFault); 15] = [
     ("a header with a field more",  ImportKind::Students,    b"code,name,\nS1,Ann\n",                    ImportFault::Header),
     ("an odd number of quotes",     ImportKind::Students,    b"code,name\nS1,\"Ann\n",                   ImportFault::Header),
     ("a quote inside a field",      ImportKind::Students,    b"code,name\nS1,An\"n\n",                   ImportFault::Header),
-    ("a field too few",             ImportKind::Students,    b"code,name\n-A,Ann\nS2\n",                 ImportFault::Fields(2)),
-    ("a field too many",            ImportKind::Students,    b"code,name\nS1,Ann,\nS2\n",                ImportFault::Fields(1)),
-    ("fields come before quotas",   ImportKind::Supervisors, b"code,name,quota\nL,Lee,x\nM,May\n",       ImportFault::Fields(2)),
-    ("a list with commas",          ImportKind::Lists,       b"student,choices\nS1,P\nS2,P\nS3,P,Q\n",   ImportFault::Fields(3)),
+    ("a field too few",             ImportKind::Students,    b"code,name\n-A,Ann\nS2\n",                 ImportFault::Fields { record: 2 }),
+    ("a field too many",            ImportKind::Students,    b"code,name\nS1,Ann,\nS2\n",                ImportFault::Fields { record: 1 }),
+    ("fields come before quotas",   ImportKind::Supervisors, b"code,name,quota\nL,Lee,x\nM,May\n",       ImportFault::Fields { record: 2 }),
+    ("a list with commas",          ImportKind::Lists,       b"student,choices\nS1,P\nS2,P\nS3,P,Q\n",   ImportFault::Fields { record: 3 }),
 ];
 
 /// Appends what a request asks.
@@ -150,7 +150,7 @@ fn the_longest_text_is_read(rt: HostRuntime) -> Result<(), Fail> {
 
 #[test]
 fn a_fault_is_printed(rt: HostRuntime) -> Result<(), Fail> {
-    let text = ImportFault::Fields(3).to_string(rt.alloc())?;
+    let text = ImportFault::Fields { record: 3 }.to_string(rt.alloc())?;
     let want = "record 3 has another number of fields than the header";
     holds(&rt, text.as_str() == want, want);
     Ok(())

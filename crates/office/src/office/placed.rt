@@ -1,4 +1,4 @@
-//! What is counted of rounds, lists and placements.
+//! Placements, and what is counted of them, of rounds and of lists.
 
 ghost use Rattle.std.specs.Prelude.{◌≡◌, ℕ, ◌+◌, ◌<◌, ◌==◌, ◌&&◌, ◌≤◌, IsTrue, count_by, length, option_copied};
 ghost use Rattle.rolls.specs.State.{last_round, round_is_open, list_of, placed_in_project, placed_with_supervisor};
@@ -9,6 +9,13 @@ use rolls::{Listed, Placement};
 use spa::RANKS;
 
 impl Office {
+    /// The placements of all rounds, by the students' codes.
+    pub fn placements(&self) -> &[Placement]
+        ensures all { let o = self.now in result.now ≡ o.placements }
+    {
+        self.placements.entries()
+    }
+
     /// The number of the last round, 0 where there is none.
     pub fn last_round(&self) -> u32
         ensures { result ≡ last_round self.now }

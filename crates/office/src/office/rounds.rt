@@ -1,17 +1,34 @@
-//! Requests that open a round.
+//! Rounds, with their lists, and requests that open one.
 
 ghost use Rattle.std.specs.Prelude.{◌≡◌, true, is_some, Some, None, IfOk, OnErr};
-ghost use Rattle.rolls.specs.State.{last_round, round_of};
+ghost use Rattle.rolls.specs.State.{last_round, lists_of, round_of};
 ghost use Rattle.rolls.specs.declared.request.Plain.TheVariants as ask;
 ghost use Rattle.rolls.specs.Refusing.{plain_refusal};
 ghost use Rattle.rolls.specs.Answers.{IsDone};
 
 use super::Office;
-use rolls::{Change, Done, Duplicate, Reply, Round, Row, Table};
+use rolls::{Change, Done, Duplicate, Listed, Reply, Round, Row, Table};
 use std::alloc::AllocError;
 use steps::{kept_placements, reopening_changes};
 
 impl Office {
+    /// The rounds, by number.
+    pub fn rounds(&self) -> &[Round]
+        ensures all { let o = self.now in result.now ≡ o.rounds }
+    {
+        self.rounds.entries()
+    }
+
+    /// The lists of a round, by the students' codes; none where there is no such round.
+    pub fn lists(&self, round: u32) -> &[Listed]
+        ensures all { result.now ≡ lists_of self.now round }
+    {
+        match self.rounds.by_number(round) {
+            Some(round) => round.lists.entries(),
+            None => &[],
+        }
+    }
+
     /// The last round. Its lists are shared.
     pub fn last(&self) -> Result<Round, AllocError>
         requires found { is_some (round_of self.now (last_round self.now)) ≡ true }

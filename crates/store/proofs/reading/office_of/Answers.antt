@@ -1,16 +1,14 @@
-use Rattle.std.proofs.Common.{◌≡◌, ◌≢◌, Err, List, map, drop, ap, subst, ◌∙◌, arith, rules}
+use Rattle.std.proofs.Common.{◌≡◌, ◌≢◌, Err, List, map, drop, subst, arith, rules}
 use Rattle.sqlite.specs.Order.{Row as Cells}
 use Rattle.sqlite.specs.State.{HasCleanDisk}
 use Rattle.sqlite.specs.Held.{state}
-use Rattle.drafts.specs.declared.fault.RowsFault.TheVariants.{Unfit}
 use Rattle.store.specs.declared.fault.StoreFault.TheVariants.{Damaged}
-use Rattle.store.specs.Faults.{of_rows}
 use Rattle.store.specs.Tables.{first_edition}
 use Rattle.store.specs.Reading.{AreListed}
 use Rattle.tables.proofs.Runs.{rests_then}
 use Rattle.tables.proofs.Runs.{survives_both}
 use Rattle.store.proofs.Gathering.{none_back, holds_back, unchanged_then}
-use Rattle.store.proofs.Judged.{other_edition, unread, unfit, stood, refused}
+use Rattle.store.proofs.Judged.{other_edition, unread, unfit, stood}
 use Rattle.store.proofs.reading.office_of.Goals as goal
 
 pub returns-then-not-are_first-clause-damaged : goal.returns-then-not-are_first-clause-damaged
@@ -27,14 +25,13 @@ returns-in_err-rows-clause-damaged g c clean h =
     let shows = c.in_ok-edition.ensures.rows early in
     unread (state g.S.Store c.args.conn.now) c.schema.ensures.live shows.same.0.was_open found.1 found.2 (none_back found.1 _ _ shows.same.0.now_is found.3)
 
-pub returns-in_err-from_rows-clause-damaged : goal.returns-in_err-from_rows-clause-damaged
-returns-in_err-from_rows-clause-damaged g c clean h =
-    let gave : of_rows c.in_err-from_rows.field-0.0 ≡ Damaged = search rules in
-    let was : c.from_rows.result ≡ Err Unfit = c.in_err-from_rows.was {u = tt} ∙ ap Err (refused _ gave) in
+pub returns-in_err-office-clause-damaged : goal.returns-in_err-office-clause-damaged
+returns-in_err-office-clause-damaged g c clean h =
+    let was : c.office_from.result ≡ Err Damaged = search rules in
     let early : HasCleanDisk (state g.S.Store c.read.new.conn) = omega (arith, c.read_rows.ensures.survives.clean) in
     let shows = c.in_ok-edition.ensures.rows early in
     let all = c.in_ok-rows.ensures.rows clean in
-    unfit (state g.S.Store c.args.conn.now) c.schema.ensures.live shows.same.0.was_open c.in_ok-rows.rows.items (λ table among. holds_back table _ _ _ shows.same.0.now_is (all.holds table among)) (c.from_rows.ensures.unfit was)
+    unfit (state g.S.Store c.args.conn.now) c.schema.ensures.live shows.same.0.was_open c.in_ok-rows.rows.items (λ table among. holds_back table _ _ _ shows.same.0.now_is (all.holds table among)) (c.office_from.ensures.unfit was)
 
 pub returns-clause-ok : goal.returns-clause-ok
 returns-clause-ok g c clean =
@@ -44,7 +41,7 @@ returns-clause-ok g c clean =
     let listed = subst AreListed c.schema.ensures.value (c.are_listed.ensures.right c.if-not-are_listed.false) in
     let first = subst (λ (rows : List Cells). map (drop 1) rows ≡ first_edition) c.as_slice.ensures.value (c.are_first.ensures.right c.if-not-are_first.false) in (
       unchanged_then _ _ _ shows.same all.same,
-      stood (state g.S.Store c.args.conn.now) c.schema.ensures.live shows.same.0.was_open listed _ _ c.in_ok-rows.rows.items _ shows first (λ table among. holds_back table _ _ _ shows.same.0.now_is (all.holds table among)) c.in_ok-from_rows.ensures.rows,
+      stood (state g.S.Store c.args.conn.now) c.schema.ensures.live shows.same.0.was_open listed _ _ c.in_ok-rows.rows.items _ shows first (λ table among. holds_back table _ _ _ shows.same.0.now_is (all.holds table among)) c.in_ok-office.ensures.rows,
     )
 
 pub returns-in_err-rows-clause-rests : goal.returns-in_err-rows-clause-rests
@@ -56,14 +53,14 @@ returns-in_err-rows-clause-rests g c clean =
 pub returns-in_err-rows-clause-survives : goal.returns-in_err-rows-clause-survives
 returns-in_err-rows-clause-survives g c = survives_both _ _ _ c.in_ok-edition.ensures.survives c.read_rows.ensures.survives
 
-pub returns-in_err-from_rows-clause-rests : goal.returns-in_err-from_rows-clause-rests
-returns-in_err-from_rows-clause-rests g c clean =
+pub returns-in_err-office-clause-rests : goal.returns-in_err-office-clause-rests
+returns-in_err-office-clause-rests g c clean =
     let mid = state g.S.Store c.read.new.conn in
     let early : HasCleanDisk mid = omega (arith, c.read_rows.ensures.survives.clean) in
     rests_then (state g.S.Store c.args.conn.now) mid (state g.S.Store c.read_rows.new.conn) (c.in_ok-edition.ensures.rests early) (c.in_ok-rows.ensures.rests clean)
 
-pub returns-in_err-from_rows-clause-survives : goal.returns-in_err-from_rows-clause-survives
-returns-in_err-from_rows-clause-survives g c = survives_both _ _ _ c.in_ok-edition.ensures.survives c.in_ok-rows.ensures.survives
+pub returns-in_err-office-clause-survives : goal.returns-in_err-office-clause-survives
+returns-in_err-office-clause-survives g c = survives_both _ _ _ c.in_ok-edition.ensures.survives c.in_ok-rows.ensures.survives
 
 pub returns-clause-rests : goal.returns-clause-rests
 returns-clause-rests g c clean =
