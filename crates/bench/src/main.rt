@@ -24,12 +24,21 @@ use std::process::ExitCode;
 use std::rt::HostRuntime;
 use std::{env, io};
 
-/// Asks for a change, and tells whether it was made.
-fn is_made<S: Alter>(desk: &mut Desk<S>, plain: Result<Plain, AllocError>) -> bool {
-    match plain {
-        Ok(plain) => desk.ask(Request::Plain(plain)).is_ok(),
-        Err(_) => false,
-    }
+/// A request of a benchmark. Supervisors, projects and students are told by their numbers, from 0.
+#[derive(Clone, Copy)]
+enum Step {
+    Supervisor(usize),
+    Project(usize, u32),
+    Student(usize),
+    OpenRound,
+    /// The list of a student, with the choices of this or another student.
+    List { student: usize, chosen_by: usize },
+    Close,
+    Reopen,
+    /// An import of so many students.
+    Import(usize),
+    /// An import of the greatest length without a record, with an id of this number.
+    Keep(usize),
 }
 
 fn supervisor(alloc: Global, n: usize) -> Result<Plain, AllocError> {
@@ -69,78 +78,11 @@ fn choices(alloc: Global, n: usize) -> Result<Texts, AllocError> {
     Ok(Texts::of(choices))
 }
 
-/// A student's list, with the choices of this or another student.
 fn list(alloc: Global, student: usize, chosen_by: usize) -> Result<Plain, AllocError> {
     Ok(Plain::PutList {
         student: Text::of(alloc, &format!(in alloc; "S{student}")?)?,
         choices: choices(alloc, chosen_by)?,
     })
-}
-
-/// Fills the rolls to their limits, with projects of this quota.
-fn is_filled<S: Alter>(alloc: Global, desk: &mut Desk<S>, quota: u32) -> bool {
-    (0..MOST_SUPERVISORS).all(|n| is_made(desk, supervisor(alloc, n)))
-        && (0..MOST_PROJECTS).all(|n| is_made(desk, project(alloc, n, quota)))
-        && (0..MOST_STUDENTS).all(|n| is_made(desk, student(alloc, n)))
-}
-
-/// Opens the next round, in which so many students put a list.
-fn is_listed<S: Alter>(alloc: Global, desk: &mut Desk<S>, students: usize) -> bool {
-    is_made(desk, Ok(Plain::OpenRound)) && (0..students).all(|n| is_made(desk, list(alloc, n, n)))
-}
-
-/// Closes the open round.
-fn is_closed<S: Alter>(desk: &mut Desk<S>) -> bool {
-    desk.ask(Request::Close).is_ok()
-}
-
-/// Puts a known student so many times.
-fn are_put<S: Alter>(alloc: Global, desk: &mut Desk<S>, times: usize) -> bool {
-    is_filled(alloc, desk, 2) && (0..times).all(|_| is_made(desk, student(alloc, 0)))
-}
-
-/// So many students put a list in this round; in the rounds before all have, and nobody was placed.
-fn are_listed<S: Alter>(alloc: Global, desk: &mut Desk<S>, students: usize, round: usize) -> bool {
-    is_filled(alloc, desk, 0)
-        && (1..round).all(|_| is_listed(alloc, desk, MOST_STUDENTS) && is_closed(desk))
-        && is_listed(alloc, desk, students)
-}
-
-/// Puts a student's list again so many times in this round.
-fn are_listed_again<S: Alter>(
-    alloc: Global,
-    desk: &mut Desk<S>,
-    times: usize,
-    round: usize,
-) -> bool {
-    are_listed(alloc, desk, MOST_STUDENTS, round)
-        && (0..times).all(|_| is_made(desk, list(alloc, 0, 0)))
-}
-
-/// Replaces a student's list so many times in this round, by the choices of the next student and by the first ones in turn.
-fn are_replaced<S: Alter>(alloc: Global, desk: &mut Desk<S>, times: usize, round: usize) -> bool {
-    are_listed(alloc, desk, MOST_STUDENTS, round)
-        && (0..times).all(|n| is_made(desk, list(alloc, 0, 1 - n % 2)))
-}
-
-/// Closes a round so many times, and opens it again each time.
-fn are_closed<S: Alter>(alloc: Global, desk: &mut Desk<S>, times: usize) -> bool {
-    is_filled(alloc, desk, 1)
-        && is_listed(alloc, desk, MOST_STUDENTS)
-        && (0..times).all(|_| is_closed(desk) && is_made(desk, Ok(Plain::ReopenRound)))
-}
-
-/// Makes an import of students, and tells whether it was made.
-fn is_imported<S: Alter>(
-    alloc: Global,
-    desk: &mut Desk<S>,
-    n: usize,
-    text: Vec<u8>,
-) -> Result<bool, AllocError> {
-    let id = Text::of(alloc, &format!(in alloc; "I{n}")?)?;
-    let bytes = Bytes::new(alloc, text)?;
-    let kind = ImportKind::Students;
-    Ok(desk.ask(Request::Import { id, kind, bytes }).is_ok())
 }
 
 /// An import text of so many students.
@@ -161,62 +103,167 @@ fn longest_text(alloc: Global) -> Result<Vec<u8>, AllocError> {
     Ok(text)
 }
 
-/// Imports so many students.
-fn are_imported<S: Alter>(alloc: Global, desk: &mut Desk<S>, count: usize) -> bool {
-    match students_text(alloc, count) {
-        Ok(text) => is_imported(alloc, desk, 0, text).unwrap_or(false),
-        Err(_) => false,
+/// An import of students.
+fn import(alloc: Global, n: usize, text: Vec<u8>) -> Result<Request, AllocError> {
+    Ok(Request::Import {
+        id: Text::of(alloc, &format!(in alloc; "I{n}")?)?,
+        kind: ImportKind::Students,
+        bytes: Bytes::new(alloc, text)?,
+    })
+}
+
+/// The request that a step stands for.
+fn request(alloc: Global, step: Step) -> Result<Request, AllocError> {
+    match step {
+        Step::Supervisor(n) => Ok(Request::Plain(supervisor(alloc, n)?)),
+        Step::Project(n, quota) => Ok(Request::Plain(project(alloc, n, quota)?)),
+        Step::Student(n) => Ok(Request::Plain(student(alloc, n)?)),
+        Step::OpenRound => Ok(Request::Plain(Plain::OpenRound)),
+        Step::List { student, chosen_by } => Ok(Request::Plain(list(alloc, student, chosen_by)?)),
+        Step::Close => Ok(Request::Close),
+        Step::Reopen => Ok(Request::Plain(Plain::ReopenRound)),
+        Step::Import(count) => import(alloc, 0, students_text(alloc, count)?),
+        Step::Keep(n) => import(alloc, n, longest_text(alloc)?),
     }
 }
 
-/// Keeps an import of the greatest length.
-fn is_kept<S: Alter>(alloc: Global, desk: &mut Desk<S>, n: usize) -> bool {
-    match longest_text(alloc) {
-        Ok(text) => is_imported(alloc, desk, n, text).unwrap_or(false),
-        Err(_) => false,
+/// The rolls are filled to their limits, with projects of this quota.
+fn fill(steps: &mut Vec<Step>, quota: u32) -> Result<(), AllocError> {
+    for n in 0..MOST_SUPERVISORS {
+        steps.push(Step::Supervisor(n))?;
     }
+    for n in 0..MOST_PROJECTS {
+        steps.push(Step::Project(n, quota))?;
+    }
+    for n in 0..MOST_STUDENTS {
+        steps.push(Step::Student(n))?;
+    }
+    Ok(())
 }
 
-/// Puts a known student so many times beside kept imports.
-fn are_put_beside<S: Alter>(alloc: Global, desk: &mut Desk<S>, times: usize) -> bool {
-    (0..MOST_IMPORTS).all(|n| is_kept(alloc, desk, n)) && are_put(alloc, desk, times)
+/// The next round is opened, and so many students put a list in it.
+fn fill_round(steps: &mut Vec<Step>, students: usize) -> Result<(), AllocError> {
+    steps.push(Step::OpenRound)?;
+    for student in 0..students {
+        steps.push(Step::List {
+            student,
+            chosen_by: student,
+        })?;
+    }
+    Ok(())
 }
 
-/// Does what the words ask for at a new desk over this database, and tells whether all of it was done.
-fn is_done<S: Alter + Drop>(
+/// So many students put a list in this round; in the rounds before all have, and nobody was placed.
+fn fill_rounds(steps: &mut Vec<Step>, students: usize, round: usize) -> Result<(), AllocError> {
+    fill(steps, 0)?;
+    for _ in 1..round {
+        fill_round(steps, MOST_STUDENTS)?;
+        steps.push(Step::Close)?;
+    }
+    fill_round(steps, students)
+}
+
+/// A known student is put so many times, at full rolls.
+fn put(steps: &mut Vec<Step>, times: usize) -> Result<(), AllocError> {
+    fill(steps, 2)?;
+    for _ in 0..times {
+        steps.push(Step::Student(0))?;
+    }
+    Ok(())
+}
+
+/// A student's list is put again so many times in this round.
+fn relist(steps: &mut Vec<Step>, times: usize, round: usize) -> Result<(), AllocError> {
+    fill_rounds(steps, MOST_STUDENTS, round)?;
+    for _ in 0..times {
+        steps.push(Step::List {
+            student: 0,
+            chosen_by: 0,
+        })?;
+    }
+    Ok(())
+}
+
+/// A student's list is replaced so many times in this round, by the choices of the next student and by the first ones in turn.
+fn replace(steps: &mut Vec<Step>, times: usize, round: usize) -> Result<(), AllocError> {
+    fill_rounds(steps, MOST_STUDENTS, round)?;
+    for n in 0..times {
+        steps.push(Step::List {
+            student: 0,
+            chosen_by: 1 - n % 2,
+        })?;
+    }
+    Ok(())
+}
+
+/// A round is closed so many times, and opened again each time.
+fn close(steps: &mut Vec<Step>, times: usize) -> Result<(), AllocError> {
+    fill(steps, 1)?;
+    fill_round(steps, MOST_STUDENTS)?;
+    for _ in 0..times {
+        steps.push(Step::Close)?;
+        steps.push(Step::Reopen)?;
+    }
+    Ok(())
+}
+
+/// A known student is put so many times, at full rolls beside as many imports as may be.
+fn kept(steps: &mut Vec<Step>, times: usize) -> Result<(), AllocError> {
+    for n in 0..MOST_IMPORTS {
+        steps.push(Step::Keep(n))?;
+    }
+    put(steps, times)
+}
+
+/// The requests of a benchmark, where the words name one.
+fn steps(
     alloc: Global,
-    connection: Connection<S>,
     what: &str,
     times: usize,
     round: usize,
-) -> bool {
-    let Ok(mut desk) = Desk::open(alloc, connection) else {
-        return false;
-    };
+) -> Result<Option<Vec<Step>>, AllocError> {
+    let mut steps = Vec::new(alloc);
     match what {
-        "put" => are_put(alloc, &mut desk, times),
-        "list" => are_listed(alloc, &mut desk, times, round),
-        "relist" => are_listed_again(alloc, &mut desk, times, round),
-        "replace" => are_replaced(alloc, &mut desk, times, round),
-        "close" => are_closed(alloc, &mut desk, times),
-        "import" => are_imported(alloc, &mut desk, times),
-        "kept" => are_put_beside(alloc, &mut desk, times),
-        _ => false,
+        "put" => put(&mut steps, times)?,
+        "list" => fill_rounds(&mut steps, times, round)?,
+        "relist" => relist(&mut steps, times, round)?,
+        "replace" => replace(&mut steps, times, round)?,
+        "close" => close(&mut steps, times)?,
+        "import" => steps.push(Step::Import(times))?,
+        "kept" => kept(&mut steps, times)?,
+        _ => return Ok(None),
     }
+    Ok(Some(steps))
 }
 
-/// Does it over a new database in memory.
-fn is_done_in_memory(alloc: Global, what: &str, times: usize, round: usize) -> bool {
-    match Connection::open_in_memory(alloc) {
-        Ok(connection) => is_done(alloc, connection, what, times, round),
+/// Asks for a change, and tells whether it was made.
+fn is_made<S: Alter>(alloc: Global, desk: &mut Desk<S>, step: Step) -> bool {
+    match request(alloc, step) {
+        Ok(request) => desk.ask(request).is_ok(),
         Err(_) => false,
     }
 }
 
-/// Does it over the database of this file.
-fn is_done_over_file(rt: &HostRuntime, path: &str, what: &str, times: usize, round: usize) -> bool {
+/// Asks for all of it at a new desk over this database, and tells whether all was done.
+fn are_made<S: Alter + Drop>(alloc: Global, connection: Connection<S>, steps: &[Step]) -> bool {
+    match Desk::open(alloc, connection) {
+        Ok(mut desk) => steps.iter().all(|step| is_made(alloc, &mut desk, *step)),
+        Err(_) => false,
+    }
+}
+
+/// Asks for all of it over a new database in memory.
+fn are_made_in_memory(alloc: Global, steps: &[Step]) -> bool {
+    match Connection::open_in_memory(alloc) {
+        Ok(connection) => are_made(alloc, connection, steps),
+        Err(_) => false,
+    }
+}
+
+/// Asks for all of it over the database of this file.
+fn are_made_over_file(rt: &HostRuntime, path: &str, steps: &[Step]) -> bool {
     match Connection::open(rt, path) {
-        Ok(connection) => is_done(rt.alloc(), connection, what, times, round),
+        Ok(connection) => are_made(rt.alloc(), connection, steps),
         Err(_) => false,
     }
 }
@@ -233,9 +280,12 @@ fn run(rt: &HostRuntime) -> io::Result<bool> {
         return Ok(false);
     };
     let round = number(words.get(3)).unwrap_or(1);
+    let Some(steps) = steps(rt.alloc(), what, times, round)? else {
+        return Ok(false);
+    };
     match words.get(4) {
-        Some(path) => Ok(is_done_over_file(rt, path, what, times, round)),
-        None => Ok(is_done_in_memory(rt.alloc(), what, times, round)),
+        Some(path) => Ok(are_made_over_file(rt, path, &steps)),
+        None => Ok(are_made_in_memory(rt.alloc(), &steps)),
     }
 }
 
