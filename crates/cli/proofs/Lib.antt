@@ -1,2 +1,3 @@
+mod Anew
 mod Limited
 mod Telling

@@ -5,14 +5,17 @@
 //!
 //! Promised: what is printed, where and with which status is an outcome of the line that `clap` reads from the words: a
 //! round file's result, or the answer of one step of a fit office, or the lines of the connections served; where a
-//! writer fails the status is 1. Arguments that cannot be read are told too. Begin with `specs/Outcomes.antt`.
+//! writer fails the status is 1. Arguments that cannot be read are told too. Without arguments a stream is served over a
+//! new database, from the empty office on. Begin with `specs/Outcomes.antt` and `specs/Anew.antt`.
 #![tactic(auto)]
 
 mod files;
 mod opening;
+mod program;
 mod run;
 mod texts;
 mod unread;
 
+pub use program::{serve_anew, start};
 pub use run::{line, tell_line, tell_unread};
 pub use unread::Unread;

@@ -1,0 +1,19 @@
+-- A stream that is served over a new database.
+use Rattle.std.specs.Prelude.{◌≡◌, ◌⊎◌, ℕ, List, Option}
+use Rattle.rolls.specs.State.{State, empty}
+use Rattle.wire.specs.declared.outcome.Served.{Served}
+use Rattle.wire.specs.declared.outcome.StreamFault.{StreamFault}
+use Rattle.wire.specs.Served.{ServedTo, BrokeOff}
+use Rattle.web.specs.Serving.{AnswersMessage, end_text}
+
+-- The stream was served to its end: what was written is the answers of a run of the office from the empty one over its messages, and then the refusal of
+-- its end.
+abbrev pub ServedAnew : Option (List ℕ) → Option (List ℕ) → Option (List ℕ) → Option (List ℕ) → Type 0
+ServedAnew left0 w0 left w =
+    (served : Served) × (after : State) × ServedTo AnswersMessage end_text empty left0 w0 left w served after
+
+-- The stream broke off: a beginning of that was written, or there was no office, and nothing was read or written.
+abbrev pub BrokenAnew : Option (List ℕ) → Option (List ℕ) → Option (List ℕ) → Option (List ℕ) → Type 0
+BrokenAnew left0 w0 left w =
+    ((fault : StreamFault) × (after : State) × BrokeOff AnswersMessage end_text empty left0 w0 left w after fault)
+    ⊎ ((left ≡ left0) × (w ≡ w0))
