@@ -1,110 +1,20 @@
-//! The keys of the entries of each table, and their copies.
+//! The key and the copy of each kind of entry.
+
+ghost use Rattle.rolls.specs.State.{supervisor_key, project_key, student_key, round_key, list_key, placement_key, import_key};
 
 use crate::entries::{Project, Student, Supervisor};
 use crate::import::Import;
 use crate::rounds::{Listed, Placement, Round};
-use crate::table::{Duplicate, Keyed};
+use crate::table::Entry;
 use std::alloc::{AllocError, Global};
 
-impl Keyed for Supervisor {
-    ghost use Rattle.rolls.specs.State.{supervisor_key};
-
+impl Entry for Supervisor {
     ghost key = { supervisor_key };
 
-    fn round(&self) -> u32 {
-        0
+    fn key(&self) -> (u32, &str) {
+        (0, self.code.as_str())
     }
 
-    fn code(&self) -> &str {
-        self.code.as_str()
-    }
-}
-
-impl Keyed for Project {
-    ghost use Rattle.rolls.specs.State.{project_key};
-
-    ghost key = { project_key };
-
-    fn round(&self) -> u32 {
-        0
-    }
-
-    fn code(&self) -> &str {
-        self.code.as_str()
-    }
-}
-
-impl Keyed for Student {
-    ghost use Rattle.rolls.specs.State.{student_key};
-
-    ghost key = { student_key };
-
-    fn round(&self) -> u32 {
-        0
-    }
-
-    fn code(&self) -> &str {
-        self.code.as_str()
-    }
-}
-
-impl Keyed for Round {
-    ghost use Rattle.rolls.specs.State.{round_key};
-
-    ghost key = { round_key };
-
-    fn round(&self) -> u32 {
-        self.number
-    }
-
-    fn code(&self) -> &str {
-        ""
-    }
-}
-
-impl Keyed for Listed {
-    ghost use Rattle.rolls.specs.State.{list_key};
-
-    ghost key = { list_key };
-
-    fn round(&self) -> u32 {
-        0
-    }
-
-    fn code(&self) -> &str {
-        self.student.as_str()
-    }
-}
-
-impl Keyed for Placement {
-    ghost use Rattle.rolls.specs.State.{placement_key};
-
-    ghost key = { placement_key };
-
-    fn round(&self) -> u32 {
-        0
-    }
-
-    fn code(&self) -> &str {
-        self.student.as_str()
-    }
-}
-
-impl Keyed for Import {
-    ghost use Rattle.rolls.specs.State.{import_key};
-
-    ghost key = { import_key };
-
-    fn round(&self) -> u32 {
-        0
-    }
-
-    fn code(&self) -> &str {
-        self.id.as_str()
-    }
-}
-
-impl Duplicate for Supervisor {
     fn duplicate(&self, _alloc: Global) -> Result<Self, AllocError> {
         Ok(Supervisor {
             code: self.code.copy(),
@@ -114,7 +24,13 @@ impl Duplicate for Supervisor {
     }
 }
 
-impl Duplicate for Project {
+impl Entry for Project {
+    ghost key = { project_key };
+
+    fn key(&self) -> (u32, &str) {
+        (0, self.code.as_str())
+    }
+
     fn duplicate(&self, _alloc: Global) -> Result<Self, AllocError> {
         Ok(Project {
             code: self.code.copy(),
@@ -125,7 +41,13 @@ impl Duplicate for Project {
     }
 }
 
-impl Duplicate for Student {
+impl Entry for Student {
+    ghost key = { student_key };
+
+    fn key(&self) -> (u32, &str) {
+        (0, self.code.as_str())
+    }
+
     fn duplicate(&self, _alloc: Global) -> Result<Self, AllocError> {
         Ok(Student {
             code: self.code.copy(),
@@ -134,7 +56,28 @@ impl Duplicate for Student {
     }
 }
 
-impl Duplicate for Round {
+impl Entry for Listed {
+    ghost key = { list_key };
+
+    fn key(&self) -> (u32, &str) {
+        (0, self.student.as_str())
+    }
+
+    fn duplicate(&self, _alloc: Global) -> Result<Self, AllocError> {
+        Ok(Listed {
+            student: self.student.copy(),
+            choices: self.choices.copy()?,
+        })
+    }
+}
+
+impl Entry for Round {
+    ghost key = { round_key };
+
+    fn key(&self) -> (u32, &str) {
+        (self.number, "")
+    }
+
     fn duplicate(&self, alloc: Global) -> Result<Self, AllocError> {
         Ok(Round {
             number: self.number,
@@ -144,22 +87,25 @@ impl Duplicate for Round {
     }
 }
 
-impl Duplicate for Listed {
-    fn duplicate(&self, _alloc: Global) -> Result<Self, AllocError> {
-        Ok(Listed {
-            student: self.student.copy(),
-            choices: self.choices.copy()?,
-        })
-    }
-}
+impl Entry for Placement {
+    ghost key = { placement_key };
 
-impl Duplicate for Placement {
+    fn key(&self) -> (u32, &str) {
+        (0, self.student.as_str())
+    }
+
     fn duplicate(&self, _alloc: Global) -> Result<Self, AllocError> {
         Ok(self.copy())
     }
 }
 
-impl Duplicate for Import {
+impl Entry for Import {
+    ghost key = { import_key };
+
+    fn key(&self) -> (u32, &str) {
+        (0, self.id.as_str())
+    }
+
     fn duplicate(&self, _alloc: Global) -> Result<Self, AllocError> {
         Ok(Import {
             id: self.id.copy(),

@@ -3,7 +3,7 @@
 ghost use Rattle.std.specs.Prelude.{◌≡◌, ◌≤◌, IfOk, length};
 ghost use Rattle.steps.specs.Changes as says;
 
-use rolls::{Change, Duplicate, Placement, Row, RowKey, Text};
+use rolls::{Change, Placement, Row, RowKey, Text};
 use spa::Code;
 use std::alloc::{AllocError, Global};
 
@@ -69,7 +69,7 @@ pub fn kept_placements(
     let mut kept = Vec::new(alloc);
     for placement in placements {
         if placement.round != round {
-            kept.push(placement.duplicate(alloc)?)?;
+            kept.push(placement.copy())?;
         }
     }
     Ok(kept)

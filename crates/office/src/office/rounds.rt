@@ -7,7 +7,7 @@ ghost use Rattle.rolls.specs.Refusing.{plain_refusal};
 ghost use Rattle.rolls.specs.Answers.{IsDone};
 
 use super::Office;
-use rolls::{Change, Done, Duplicate, Listed, Reply, Round, Row, Table};
+use rolls::{Change, Done, Entry, Listed, Reply, Round, Row, Table};
 use std::alloc::AllocError;
 use steps::{kept_placements, reopening_changes};
 
