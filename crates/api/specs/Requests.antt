@@ -1,5 +1,5 @@
 -- The request of a message.
-use Rattle.std.specs.Prelude.{◌≡◌, ◌⊎◌, List, [], ◌∷◌, ℕ, Option, Some, None, option_map, unwrap_or, Result, Ok, Err, codes, if◌then◌else◌}
+use Rattle.std.specs.Prelude.{◌≡◌, ◌⊎◌, List, [], ◌∷◌, ℕ, Option, Some, None, option_map, Result, Ok, Err, codes, if◌then◌else◌}
 use Rattle.std.specs.Str.{bytes_eq}
 use Rattle.serde_json.specs.Data.{Data}
 use Rattle.rolls.specs.declared.refusal.Refusal.{Refusal}
@@ -12,11 +12,9 @@ use Rattle.wire.specs.Run.{Said}
 use Rattle.api.specs.declared.routes.Methods.{Methods}
 use Rattle.api.specs.declared.routes.Form.{Form}
 use Rattle.api.specs.declared.routes.Form.TheVariants.{Empty, Members, Raw}
-use Rattle.api.specs.declared.routes.Call.{Call}
-use Rattle.api.specs.declared.routes.Call.TheVariants as call
 use Rattle.api.specs.declared.routes.Put.{Put}
 use Rattle.api.specs.declared.routes.Put.TheVariants as put
-use Rattle.api.specs.Routes.{number_of, first_of, Names, IsNowhere}
+use Rattle.api.specs.Routes.{called, first_of, Names, IsNowhere}
 use Rattle.api.specs.Members.{json_of, name_of, supervisor_members, project_members, choices_of}
 
 -- what the members of a body ask to be put under a code
@@ -25,20 +23,6 @@ put_by put.Supervisor code d = option_map (λ m. plain.PutSupervisor code m.0 m.
 put_by put.Project code d = option_map (λ m. plain.PutProject code m.0.0 m.1 m.0.1) (project_members d)
 put_by put.Student code d = option_map (λ name. plain.PutStudent code name) (name_of d)
 put_by put.List code d = option_map (λ choices. plain.PutList code choices) (choices_of d)
-
--- the request of an empty body
-abbrev pub called : Call → List ℕ → Request
-called call.GetSupervisor code = request.Plain (plain.GetSupervisor code)
-called call.GetProject code = request.Plain (plain.GetProject code)
-called call.GetStudent code = request.Plain (plain.GetStudent code)
-called call.DropList code = request.Plain (plain.DropList code)
-called call.OpenRound code = request.Plain plain.OpenRound
-called call.Close code = request.Close
-called call.ReopenRound code = request.Plain plain.ReopenRound
-called call.GetRound code = request.Plain (plain.GetRound (unwrap_or (number_of code) 0))
-called call.Preview code = request.Preview
-called call.RoundText code = request.RoundText
-called (call.Report kind) code = request.Report kind (unwrap_or (number_of code) 0)
 
 -- a request, or the refusal of other members
 abbrev pub asked_or : Option Plain → Result Request Refusal

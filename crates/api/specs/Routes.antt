@@ -1,5 +1,5 @@
 -- The routes, and what a path names.
-use Rattle.std.specs.Prelude.{◌≡◌, ◌⊎◌, ℕ, ◌+◌, ◌==◌, nat_lt, Bool, true, false, not, ◌&&◌, List, [], ◌∷◌, ◌++◌, length, Option, Some, None, is_some, option_map, codes, if◌then◌else◌}
+use Rattle.std.specs.Prelude.{◌≡◌, ◌⊎◌, ℕ, ◌+◌, ◌==◌, nat_lt, Bool, true, false, not, ◌&&◌, List, [], ◌∷◌, ◌++◌, length, Option, Some, None, is_some, option_map, unwrap_or, codes, if◌then◌else◌}
 use Rattle.std.specs.Str.{IsUtf8, all_ascii_digits}
 use Rattle.std.specs.Str.Parse.{digits_value}
 use Rattle.matchit.specs.Seek.{has_slash}
@@ -9,6 +9,9 @@ use Rattle.api.specs.declared.routes.Methods.{Methods}
 use Rattle.rolls.specs.declared.import.ImportKind.{ImportKind}
 use Rattle.rolls.specs.declared.import.ImportKind.TheVariants as kind
 use Rattle.rolls.specs.declared.report.ReportKind.TheVariants as of
+use Rattle.rolls.specs.declared.request.Plain.TheVariants as plain
+use Rattle.rolls.specs.declared.request.Request.{Request}
+use Rattle.rolls.specs.declared.request.Request.TheVariants as request
 use Rattle.api.specs.declared.routes.Form.TheVariants.{Empty, Members, Raw}
 use Rattle.api.specs.declared.routes.Segments.{Segments}
 use Rattle.api.specs.declared.routes.Segments.TheVariants.{Any, Numbers}
@@ -20,6 +23,20 @@ use Rattle.api.specs.declared.routes.Put.TheVariants as put
 -- the number that 1 to 4 digits write
 abbrev pub number_of : List ℕ → Option ℕ
 number_of text = if nat_lt 0 (length text) && nat_lt (length text) 5 && all_ascii_digits text then Some (digits_value 10 text) else None
+
+-- the request of an empty body
+abbrev pub called : Call → List ℕ → Request
+called call.GetSupervisor code = request.Plain (plain.GetSupervisor code)
+called call.GetProject code = request.Plain (plain.GetProject code)
+called call.GetStudent code = request.Plain (plain.GetStudent code)
+called call.DropList code = request.Plain (plain.DropList code)
+called call.OpenRound code = request.Plain plain.OpenRound
+called call.Close code = request.Close
+called call.ReopenRound code = request.Plain plain.ReopenRound
+called call.GetRound code = request.Plain (plain.GetRound (unwrap_or (number_of code) 0))
+called call.Preview code = request.Preview
+called call.RoundText code = request.RoundText
+called (call.Report kind) code = request.Report kind (unwrap_or (number_of code) 0)
 
 -- whether a segment may stand for a parameter
 abbrev pub fits : Segments → List ℕ → Bool

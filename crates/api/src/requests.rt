@@ -3,10 +3,10 @@ ghost use Rattle.std.specs.Prelude.{◌≡◌, ◌⊎◌, [], ◌∷◌, IfOk, I
 ghost use Rattle.std.specs.Str.{bytes_eq};
 ghost use Rattle.serde_json.specs.View.{view};
 ghost use Rattle.api.specs.Routes.{all_routes, NamesBy, IsNowhere};
-ghost use Rattle.api.specs.Requests.{put_by, called, by_body, by_method, asked_by, Asks};
+ghost use Rattle.api.specs.Requests.{put_by, by_body, by_method, asked_by, Asks};
 
 use crate::members::{choices_of, name_of, project_members, read_json, supervisor_members};
-use crate::routes::{Call, Form, Methods, Place, Put, number_of, place_of, router};
+use crate::routes::{Call, Form, Methods, Place, Put, called, place_of, router};
 use http::Method;
 use matchit::Router;
 use rolls::{Bytes, ImportKind, Plain, Refusal, Request, Text};
@@ -65,38 +65,6 @@ fn object_asks(alloc: Global, what: Put, code: &str, body: &[u8]) -> Result<Plai
         None => Err(Refusal::Members),
         Some(plain) => Ok(plain),
     }
-}
-
-/// The request of an empty body.
-fn called(alloc: Global, call: Call, code: &str) -> Result<Request, AllocError>
-    ensures { IfOk result (λ request. request ≡ called call code.now) }
-{
-    Ok(match call {
-        Call::GetSupervisor => Request::Plain(Plain::GetSupervisor {
-            code: Text::of(alloc, code)?,
-        }),
-        Call::GetProject => Request::Plain(Plain::GetProject {
-            code: Text::of(alloc, code)?,
-        }),
-        Call::GetStudent => Request::Plain(Plain::GetStudent {
-            code: Text::of(alloc, code)?,
-        }),
-        Call::DropList => Request::Plain(Plain::DropList {
-            student: Text::of(alloc, code)?,
-        }),
-        Call::OpenRound => Request::Plain(Plain::OpenRound),
-        Call::Close => Request::Close,
-        Call::ReopenRound => Request::Plain(Plain::ReopenRound),
-        Call::GetRound => Request::Plain(Plain::GetRound {
-            round: number_of(code).unwrap_or(0),
-        }),
-        Call::Preview => Request::Preview,
-        Call::RoundText => Request::RoundText,
-        Call::Report(kind) => Request::Report {
-            kind,
-            round: number_of(code).unwrap_or(0),
-        },
-    })
 }
 
 /// What an empty body asks.

@@ -1,11 +1,11 @@
 //! What the paths of messages name.
 ghost use Rattle.std.specs.Prelude.{◌≡◌, ℕ, List, [], ◌∷◌, MatchOption, IfOk, IfErr, map, codes};
 ghost use Rattle.std.specs.Str.{all_ascii_digits};
-ghost use Rattle.api.specs.Routes.{number_of, fits, read, asked, entry, list, numbered, import, written, all_routes, NamesBy, IsNowhere};
+ghost use Rattle.api.specs.Routes.{called, number_of, fits, read, asked, entry, list, numbered, import, written, all_routes, NamesBy, IsNowhere};
 
 use matchit::{InsertError, Router};
-use rolls::{ImportKind, ReportKind};
-use std::alloc::Global;
+use rolls::{ImportKind, Plain, ReportKind, Request, Text};
+use std::alloc::{AllocError, Global};
 
 /// What an empty body asks.
 #[derive(Clone, Copy)]
@@ -90,6 +90,38 @@ pub fn number_of(text: &str) -> Option<u32>
         return None;
     }
     text.parse::<u32>().ok()
+}
+
+/// The request of an empty body.
+pub fn called(alloc: Global, call: Call, code: &str) -> Result<Request, AllocError>
+    ensures { IfOk result (λ request. request ≡ called call code.now) }
+{
+    Ok(match call {
+        Call::GetSupervisor => Request::Plain(Plain::GetSupervisor {
+            code: Text::of(alloc, code)?,
+        }),
+        Call::GetProject => Request::Plain(Plain::GetProject {
+            code: Text::of(alloc, code)?,
+        }),
+        Call::GetStudent => Request::Plain(Plain::GetStudent {
+            code: Text::of(alloc, code)?,
+        }),
+        Call::DropList => Request::Plain(Plain::DropList {
+            student: Text::of(alloc, code)?,
+        }),
+        Call::OpenRound => Request::Plain(Plain::OpenRound),
+        Call::Close => Request::Close,
+        Call::ReopenRound => Request::Plain(Plain::ReopenRound),
+        Call::GetRound => Request::Plain(Plain::GetRound {
+            round: number_of(code).unwrap_or(0),
+        }),
+        Call::Preview => Request::Preview,
+        Call::RoundText => Request::RoundText,
+        Call::Report(kind) => Request::Report {
+            kind,
+            round: number_of(code).unwrap_or(0),
+        },
+    })
 }
 
 /// Whether a segment may stand for a parameter.

@@ -1,7 +1,7 @@
 -- The columns of the rows of one table, once a row is put or taken away.
 use Rattle.std.proofs.Common.{◌≡◌, ◌≢◌, inl, inr, ℕ, zero, suc, ◌<◌, List, [], ◌∷◌, length, get_or, take, Bool, true, false, not, ◌&&◌, cond, Some, is_eq, filter, map, ℤ, pos, negsuc, refl, sym, ap, subst, ◌∙◌, arith, true≢false}
 use Rattle.std.specs.List.{list_any}
-use Rattle.std.proofs.lemmas.Bool.{and_parts, or_parts, not-true}
+use Rattle.std.proofs.lemmas.Bool.{and_parts, or_parts, not-true, false_from_ne_true}
 use Rattle.std.proofs.lemmas.Slice.Eq.{bytes_eq-Decides}
 use Rattle.std.proofs.lemmas.List.{get_or_default}
 use Rattle.sqlite_rules.specs.Lists.{Has}
@@ -28,7 +28,8 @@ use Rattle.tables.specs.declared.table.Table.TheVariants.{Edition}
 use Rattle.tables.specs.Table.{same_table}
 use Rattle.tables.proofs.Runs.{same_table_is, same_table_self}
 use Rattle.tables.proofs.Testing.{equal_int}
-use Rattle.store.specs.Rows.{IsRoll, columns, is_in, columns_of, rolls, table_at_key, table_of}
+use Rattle.rolls.proofs.RowKeys.{same_row_is}
+use Rattle.store.specs.Rows.{IsRoll, columns, is_in, columns_of, key_columns, rolls, table_at_key, table_of}
 use Rattle.store.proofs.Keys.{dropped}
 
 natural : ℤ → ℕ
@@ -47,16 +48,6 @@ pub equal_text : (a b : List ℕ) → equal Binary (Text a) (Text b) ≡ bytes_e
 unfolding binary
 equal_text a b = truth_is _ ∙ text_order a b
 
--- the columns of a key
-abbrev pub key_columns : RowKey → Cells
-key_columns (key.Supervisor code) = Text code ∷ []
-key_columns (key.Project code) = Text code ∷ []
-key_columns (key.Student code) = Text code ∷ []
-key_columns (key.Round number) = Int (pos number) ∷ []
-key_columns (key.Choice round student place) = Int (pos round) ∷ Text student ∷ Int (pos place) ∷ []
-key_columns (key.Placement student) = Text student ∷ []
-key_columns (key.Import id) = Text id ∷ []
-
 -- each key is of the table of a roll
 pub in_rolls : (k : RowKey) → IsRoll (table_at_key k)
 unfolding IsRoll
@@ -68,7 +59,7 @@ in_rolls (key.Choice round student place) = inr (inr (inr (inr (inl refl))))
 in_rolls (key.Placement student) = inr (inr (inr (inr (inr (inl refl)))))
 in_rolls (key.Import id) = inr (inr (inr (inr (inr (inr (inl refl))))))
 
-are_once : List Table → Bool
+unfoldable pub are_once : List Table → Bool
 are_once [] = true
 are_once (r ∷ rs) = not (list_any (same_table r) rs) && are_once rs
 
@@ -81,10 +72,13 @@ once_in (r ∷ rs) d once (suc i) low (inl same) =
     true≢false (sym (some_from (same_table r) rs (get_or rs i d) there (ap (same_table r) same ∙ same_table_self r)) ∙ not-true _ (and_parts _ _ once).0)
 once_in (r ∷ rs) d once (suc i) low (inr h) = once_in rs d (and_parts _ _ once).1 i (omega (arith, low)) h
 
+pub once : are_once rolls ≡ true
+unfolding are_once
+once = refl
+
 -- no table comes twice
 pub not_before : (d : Table) (i : ℕ) → i < length rolls → Has (take i rolls) (get_or rolls i d) → ⊥
-unfolding are_once
-not_before d i low h = once_in rolls d refl i low h
+not_before d i low h = once_in rolls d once i low h
 
 -- a row in a table is of it
 pub is_of : (table : Table) (r : Row) → is_in table r ≡ true → table ≡ table_of r
@@ -123,14 +117,7 @@ drops_own _ _ h = absurd (cc)
 
 -- a row of another table has another key
 other_key : (k : RowKey) (s : Row) → table_of s ≢ table_at_key k → same_row (key_of s) k ≡ false
-other_key (key.Supervisor code) (row.Supervisor c l n) apart = absurd (apart refl)
-other_key (key.Project code) (row.Project c l s n) apart = absurd (apart refl)
-other_key (key.Student code) (row.Student c l) apart = absurd (apart refl)
-other_key (key.Round number) (row.Round n o) apart = absurd (apart refl)
-other_key (key.Choice round student place) (row.Choice n s k p) apart = absurd (apart refl)
-other_key (key.Placement student) (row.Placement s n p k) apart = absurd (apart refl)
-other_key (key.Import id) (row.Import i w b n) apart = absurd (apart refl)
-other_key _ _ apart = refl
+other_key k s apart = false_from_ne_true _ (λ h. apart (ap table_at_key (same_row_is (key_of s) k h)))
 
 -- the key of one table is that of no row of another
 keeps_other : (table : Table) (k : RowKey) (s : Row) → table ≢ table_at_key k → is_in table s ≡ true → not (same_row (key_of s) k) ≡ true

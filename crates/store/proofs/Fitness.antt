@@ -111,12 +111,8 @@ module _ (o : State) (fit : IsFit o) where
         project = project_is_code project (all_at (λ p. IsTrue (has_project o p)) l.choices i project fits.projects there.2);
       }
 
-project_in : Row → List ℕ
-project_in (row.Choice round student place project) = project
-project_in _ = []
-
 typed_at : (o : State) → IsFit o → (r : Row) → row_of o (key_of r) ≡ Some r → IsTyped r
-unfolding mapped project_in
+unfolding mapped
 typed_at o fit (row.Supervisor code label quota) h =
     let it = mapped supervisor_row (supervisor_of o code) (row.Supervisor code label quota) h in
     let s = it.0 in
@@ -139,7 +135,7 @@ typed_at o fit (row.Round number is_open) h =
 typed_at o fit (row.Choice round student zero project) h = absurd (cc)
 typed_at o fit (row.Choice round student (suc i) project) h =
     let it = mapped (row.Choice round student (suc i)) (choice_in (choices_in o round student) (suc i)) (row.Choice round student (suc i) project) h in
-    let same : it.0 ≡ project = ap project_in it.2 in
+    let same : it.0 ≡ project = let chosen = it.2 in cc in
     let stands = choice_stands o fit round student i project (sym (choice_at (choices_in o round student) i) ∙ it.1 ∙ ap Some same) in
     (omega (arith, stands.round), code_utf8 student stands.student, omega (arith, stands.place), code_utf8 project stands.project)
 typed_at o fit (row.Placement student round project rank) h =

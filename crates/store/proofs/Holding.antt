@@ -13,12 +13,12 @@ use Rattle.tables.specs.Table.{table_at}
 use Rattle.tables.specs.Keyed.{Stands}
 use Rattle.tables.specs.Writes.{Puts, Removes, WritesOnly, with_row, without}
 use Rattle.tables.proofs.Runs.{stands_apart, decide_table}
-use Rattle.store.specs.Rows.{AreRowsAt, IsRoll, columns, columns_of, table_at_key, table_of}
+use Rattle.store.specs.Rows.{AreRowsAt, IsRoll, columns, columns_of, key_columns, table_at_key, table_of}
 use Rattle.store.specs.Tables.{TablesHold, first_edition}
 use Rattle.sqlite_rules.proofs.ListLemmas.{all_has}
 use Rattle.store.specs.Saving.{AppliesOne, Spares}
 use Rattle.store.proofs.Keys.{dropped, rows_put, rows_taken}
-use Rattle.store.proofs.Columns.{key_columns, in_rolls, is_of, columns_without, columns_beside, columns_more, columns_same}
+use Rattle.store.proofs.Columns.{in_rolls, is_of, columns_without, columns_beside, columns_more, columns_same}
 
 module _ (old new : Database) (rows : RowKey → Option Row) (t : TablesHold old rows) (q : Table) (kept : IsRoll q) (only : WritesOnly (t.places q).tree old new) where
   edition_stays : Stands (table_at Edition) t.edition first_edition new

@@ -32,13 +32,8 @@ nothing_at : (place : ℕ) → ◌≡◌ {A = Option (List ℕ)} None (choice_in
 nothing_at place = elim (nat_le 1 place) as (λ t. ◌≡◌ {A = Option (List ℕ)} None (cond t (slice_get [] (place - 1)) None)) [ true ↦ refl | false ↦ refl ]
 
 no_row : (k : RowKey) → row_in [] k ≡ row_of empty k
-no_row (key.Supervisor code) = refl
-no_row (key.Project code) = refl
-no_row (key.Student code) = refl
-no_row (key.Round number) = refl
 no_row (key.Choice round student place) = ap (option_map (row.Choice round student place)) (nothing_at place)
-no_row (key.Placement student) = refl
-no_row (key.Import id) = refl
+no_row _ = refl
 
 no_rows : AreRowsAt [] (row_of empty)
 no_rows = record { apart = refl; each = no_row }

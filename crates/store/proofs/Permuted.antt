@@ -2,7 +2,7 @@
 use Rattle.std.proofs.Common.{◌≡◌, inl, inr, List, [], ◌∷◌, ◌++◌, Bool, true, false, not, ◌||◌, cond, filter, map, Option, Some, refl, sym, ap, subst, subst₂, ◌∙◌, true≢false, ℕ, ℤ, pos, negsuc, ◌==◌}
 use Rattle.std.specs.List.{list_any}
 use Rattle.std.specs.List.Sorted.{IsPermutation}
-use Rattle.std.proofs.lemmas.Bool.{and_parts, and_from, or_parts, not-true}
+use Rattle.std.proofs.lemmas.Bool.{and_parts, and_from, or_parts, not-true, false_from_ne_true}
 use Rattle.std.proofs.lemmas.List.Sorted.{IsPermutation-refl, IsPermutation-trans, IsPermutation-sym, IsPermutation-cons, IsPermutation-middle, IsPermutation-map, IsPermutation-append_left, IsPermutation-append_right}
 use Rattle.sqlite_keyed.proofs.ListLemmas.{along_permutation}
 use Rattle.sqlite.specs.declared.types.Value.{Value}
@@ -21,8 +21,9 @@ use Rattle.rolls.specs.declared.import.ImportKind.TheVariants as kind
 use Rattle.tables.specs.declared.table.Table.{Table}
 use Rattle.tables.specs.declared.table.Table.TheVariants.{Supervisor, Project, Student, Round, Choice, Placement}
 use Rattle.store.specs.Rows.{IsRoll, columns, is_in, columns_of, rolls, table_of, AreRowsAt}
-use Rattle.tables.proofs.Runs.{same_table_is}
-use Rattle.store.proofs.Columns.{is_roll}
+use Rattle.tables.specs.Table.{same_table}
+use Rattle.tables.proofs.Runs.{same_table_is, same_table_self}
+use Rattle.store.proofs.Columns.{is_roll, are_once, once, in_rolls, among_rolls}
 use Rattle.rolls.proofs.RowKeys.{same_row_is, apart_back}
 use Rattle.store.proofs.Keys.{same_row_by}
 
@@ -202,15 +203,28 @@ unfolding gathered is_of_one
 gathered_more [] r rest one = absurd (cc)
 gathered_more (q ∷ qs) r rest one = more_go q qs r rest (is_in q r) one (gathered_more qs r rest)
 
-of_one : (r : Row) → is_of_one rolls r ≡ true
+none_more : (qs : List Table) (q : Table) (r : Row) → q ≡ table_of r → list_any (same_table q) qs ≡ false → list_any (λ p. is_in p r) qs ≡ false
+none_more [] q r own none = refl
+none_more (p ∷ ps) q r own none =
+    let parts = or_parts _ _ none in
+    let apart = false_from_ne_true (is_in p r) (λ h. true≢false (sym (ap (same_table q) (same_table_is p (table_of r) h ∙ sym own) ∙ same_table_self q) ∙ parts.0)) in
+    λ i. apart i || none_more ps q r own parts.1 i
+
+one_go : (q : Table) (qs : List Table) (r : Row) (b : Bool) → is_in q r ≡ b → are_once (q ∷ qs) ≡ true → Has (q ∷ qs) (table_of r) → (are_once qs ≡ true → Has qs (table_of r) → is_of_one qs r ≡ true)
+    → cond b (not (list_any (λ p. is_in p r) qs)) (is_of_one qs r) ≡ true
+unfolding are_once
+one_go q qs r true is apart has later = ap not (none_more qs q r (same_table_is q (table_of r) is) (not-true _ (and_parts _ _ apart).0))
+one_go q qs r false is apart (inl same) later = absurd (true≢false (sym (same_table_self q) ∙ ap (same_table q) (sym same) ∙ is))
+one_go q qs r false is apart (inr h) later = later (and_parts _ _ apart).1 h
+
+-- where no table comes twice, a row is of one alone
+one_of : (qs : List Table) (r : Row) → are_once qs ≡ true → Has qs (table_of r) → is_of_one qs r ≡ true
 unfolding is_of_one
-of_one (row.Supervisor c l n) = refl
-of_one (row.Project c l s n) = refl
-of_one (row.Student c l) = refl
-of_one (row.Round n o) = refl
-of_one (row.Choice n s k p) = refl
-of_one (row.Placement s n p k) = refl
-of_one (row.Import i w b n) = refl
+one_of [] r apart has = absurd has
+one_of (q ∷ qs) r apart has = one_go q qs r (is_in q r) refl apart has (one_of qs r)
+
+of_one : (r : Row) → is_of_one rolls r ≡ true
+of_one r = one_of rolls r once (among_rolls (table_of r) (in_rolls (key_of r)))
 
 sorted : (rows : List Row) → IsPermutation rows (gathered rolls rows)
 unfolding gathered

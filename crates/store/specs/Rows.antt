@@ -1,11 +1,11 @@
 -- The rows of the tables as SQL has them.
-use Rattle.std.specs.Prelude.{◌≡◌, pos, cond, Bool, IsTrue, List, [], ◌∷◌, map, filter, Option}
+use Rattle.std.specs.Prelude.{◌≡◌, pos, cond, Bool, IsTrue, List, [], ◌∷◌, drop, map, filter, Option}
 use Rattle.sqlite.specs.declared.types.Value.TheVariants.{Int, Text, Blob}
 use Rattle.sqlite.specs.Order.{Row as Cells}
 use Rattle.sqlite_rules.specs.Lists.{Has}
 use Rattle.tables.specs.declared.table.Table.{Table}
-use Rattle.tables.specs.declared.table.Table.TheVariants.{Edition, Supervisor, Project, Student, Round, Choice, Placement, Import}
-use Rattle.tables.specs.Table.{same_table}
+use Rattle.tables.specs.declared.table.Table.TheVariants.{Supervisor, Project, Student, Round, Choice, Placement, Import}
+use Rattle.tables.specs.Table.{all_tables, same_table}
 use Rattle.rolls.specs.declared.row.Row.{Row}
 use Rattle.rolls.specs.declared.row.Row.TheVariants as row
 use Rattle.rolls.specs.declared.row.RowKey.{RowKey}
@@ -14,27 +14,33 @@ use Rattle.rolls.specs.Rows.{key_of}
 use Rattle.rolls.specs.From.{are_apart, row_in}
 use Rattle.rolls.specs.Kinds.{word_of}
 
--- the tables that hold rows of an office; each comes after those that it refers to
+-- the tables of the store
+abbrev pub kept : List Table
+kept = all_tables
+
+-- those that hold rows of an office, all but the edition; each comes after those that it refers to
 abbrev pub rolls : List Table
-rolls = Supervisor ∷ Project ∷ Student ∷ Round ∷ Choice ∷ Placement ∷ Import ∷ []
+rolls = drop 1 kept
 
 -- the table is one of those
 unfoldable pub IsRoll : Table → Type 0
 IsRoll table = Has rolls table
 
--- the tables of the store
-abbrev pub kept : List Table
-kept = Edition ∷ rolls
+-- the table of a key, and the columns that it gives
+abbrev pub at_key : RowKey → Table × Cells
+at_key (key.Supervisor code) = (Supervisor, Text code ∷ [])
+at_key (key.Project code) = (Project, Text code ∷ [])
+at_key (key.Student code) = (Student, Text code ∷ [])
+at_key (key.Round number) = (Round, Int (pos number) ∷ [])
+at_key (key.Choice round student place) = (Choice, Int (pos round) ∷ Text student ∷ Int (pos place) ∷ [])
+at_key (key.Placement student) = (Placement, Text student ∷ [])
+at_key (key.Import id) = (Import, Text id ∷ [])
 
--- the table of a key
 abbrev pub table_at_key : RowKey → Table
-table_at_key (key.Supervisor code) = Supervisor
-table_at_key (key.Project code) = Project
-table_at_key (key.Student code) = Student
-table_at_key (key.Round number) = Round
-table_at_key (key.Choice round student place) = Choice
-table_at_key (key.Placement student) = Placement
-table_at_key (key.Import id) = Import
+table_at_key k = (at_key k).0
+
+abbrev pub key_columns : RowKey → Cells
+key_columns k = (at_key k).1
 
 -- the table of a row
 abbrev pub table_of : Row → Table

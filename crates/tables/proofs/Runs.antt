@@ -17,7 +17,7 @@ use Rattle.sqlite.specs.Tree.{Trees}
 use Rattle.sqlite_rules.proofs.ListLemmas.{all_has, all_from, has_got}
 use Rattle.tables.specs.declared.table.Table.{Table as Ours}
 use Rattle.tables.specs.declared.table.Table.TheVariants.{Edition, Supervisor, Project, Student, Round, Choice, Placement, Import}
-use Rattle.tables.specs.Table.{Place, Lists, cells, table_at, number_of, same_table}
+use Rattle.tables.specs.Table.{Place, Lists, all_tables, cells, table_at, number_of, same_table}
 use Rattle.std.proofs.lemmas.Bool.{cases_Bool}
 use Rattle.std.proofs.lemmas.Bool.Decides.{Decides-eqb}
 use Rattle.tables.specs.Keyed.{IsKeyed, Stands}
@@ -125,7 +125,7 @@ pub listed_at_one : (table : Ours) (schema : Schema) (p q : Place) → Lists sch
 listed_at_one table schema p q l m = ap (λ (t : Table). t.tree) (listed_once schema (table_at table) p q refl l m)
 
 abbrev table_numbered : ℕ → Ours
-table_numbered n = get_or (Edition ∷ Supervisor ∷ Project ∷ Student ∷ Round ∷ Choice ∷ Placement ∷ Import ∷ []) n Edition
+table_numbered n = get_or all_tables n Edition
 
 numbered_back : (table : Ours) → table_numbered (number_of table) ≡ table
 numbered_back Edition = refl

@@ -86,99 +86,149 @@ by_text name columns links = record { name = name; columns = columns; key = None
 abbrev pub by_rowid : List ℕ → List (List ℕ × Kind) → List (ℕ × List ℕ × List ℕ) → Shape
 by_rowid name columns links = record { name = name; columns = columns; key = Some 0; primary = 0 ∷ []; uniques = []; links = links; named = 1 }
 
--- the tables, row by row
-abbrev pub shape_of : Table → Shape
-shape_of Edition = by_rowid (codes "edition") ((codes "id", Integer) ∷ (codes "number", Integer) ∷ []) []
-shape_of Supervisor = by_text (codes "supervisor") ((codes "code", Text) ∷ (codes "label", Text) ∷ (codes "quota", Integer) ∷ []) []
-shape_of Project = by_text (codes "project") ((codes "code", Text) ∷ (codes "label", Text) ∷ (codes "supervisor", Text) ∷ (codes "quota", Integer) ∷ []) ((3, codes "supervisor", codes "code") ∷ [])
-shape_of Student = by_text (codes "student") ((codes "code", Text) ∷ (codes "label", Text) ∷ []) []
-shape_of Round = by_rowid (codes "round") ((codes "number", Integer) ∷ (codes "open", Integer) ∷ []) []
-shape_of Choice = record {
-  name = codes "choice";
-  columns = (codes "round", Integer) ∷ (codes "student", Text) ∷ (codes "place", Integer) ∷ (codes "project", Text) ∷ [];
-  key = None;
-  primary = 1 ∷ 2 ∷ 3 ∷ [];
-  uniques = (1 ∷ 2 ∷ 3 ∷ []) ∷ (1 ∷ 2 ∷ 4 ∷ []) ∷ [];
-  links = (1, codes "round", codes "number") ∷ (2, codes "student", codes "code") ∷ (4, codes "project", codes "code") ∷ [];
-  named = 3;
-}
-shape_of Placement = by_text (codes "placement") ((codes "student", Text) ∷ (codes "round", Integer) ∷ (codes "project", Text) ∷ (codes "rank", Integer) ∷ []) ((1, codes "student", codes "code") ∷ (2, codes "round", codes "number") ∷ (3, codes "project", codes "code") ∷ [])
-shape_of Import = by_text (codes "import") ((codes "id", Text) ∷ (codes "kind", Text) ∷ (codes "bytes", Blob) ∷ (codes "rows", Integer) ∷ []) []
+-- the column at a place is compared with this value
+abbrev pub against : CompareOp → ℕ → Value → Term
+against op place value = op2 (Compare op Binary) (col 1 place) (lit value)
 
--- what is said of each
+-- it lies between two numbers
+abbrev pub between : ℕ → ℕ → ℕ → Term
+between place low high = op2 And (against Ge place (Int (pos low))) (against Le place (Int (pos high)))
+
+-- All that is told of a table: a number of its own, its shape, the texts of its statements, and the CHECK rules that it is made with.
+pub record Telling : Type 0 where
+  pub number : ℕ
+  pub shape : Shape
+  pub sql : Sql
+  pub checks : List Term
+
+-- the tables, each told once
+abbrev pub telling : Table → Telling
+telling Edition = record {
+  number = 0;
+  shape = by_rowid (codes "edition") ((codes "id", Integer) ∷ (codes "number", Integer) ∷ []) [];
+  sql = record {
+    create = codes "CREATE TABLE edition (id INTEGER NOT NULL PRIMARY KEY CHECK (id = 1), number INTEGER NOT NULL) STRICT";
+    insert = codes "INSERT INTO edition (id, number) VALUES (?1, ?2)";
+    update = codes "UPDATE edition SET number = ?2 WHERE id = ?1";
+    delete = codes "DELETE FROM edition WHERE id = ?1";
+    select = codes "SELECT rowid, * FROM edition";
+  };
+  checks = against Eq 0 (Int (pos 1)) ∷ [];
+}
+telling Supervisor = record {
+  number = 1;
+  shape = by_text (codes "supervisor") ((codes "code", Text) ∷ (codes "label", Text) ∷ (codes "quota", Integer) ∷ []) [];
+  sql = record {
+    create = codes "CREATE TABLE supervisor (code TEXT NOT NULL PRIMARY KEY, label TEXT NOT NULL, quota INTEGER NOT NULL CHECK (quota BETWEEN 0 AND 500)) STRICT";
+    insert = codes "INSERT INTO supervisor (code, label, quota) VALUES (?1, ?2, ?3)";
+    update = codes "UPDATE supervisor SET code = ?1, label = ?2, quota = ?3 WHERE code = ?1";
+    delete = codes "DELETE FROM supervisor WHERE code = ?1";
+    select = codes "SELECT rowid, * FROM supervisor";
+  };
+  checks = between 3 0 500 ∷ [];
+}
+telling Project = record {
+  number = 2;
+  shape = by_text (codes "project") ((codes "code", Text) ∷ (codes "label", Text) ∷ (codes "supervisor", Text) ∷ (codes "quota", Integer) ∷ []) ((3, codes "supervisor", codes "code") ∷ []);
+  sql = record {
+    create = codes "CREATE TABLE project (code TEXT NOT NULL PRIMARY KEY, label TEXT NOT NULL, supervisor TEXT NOT NULL REFERENCES supervisor (code), quota INTEGER NOT NULL CHECK (quota BETWEEN 0 AND 500)) STRICT";
+    insert = codes "INSERT INTO project (code, label, supervisor, quota) VALUES (?1, ?2, ?3, ?4)";
+    update = codes "UPDATE project SET code = ?1, label = ?2, supervisor = ?3, quota = ?4 WHERE code = ?1";
+    delete = codes "DELETE FROM project WHERE code = ?1";
+    select = codes "SELECT rowid, * FROM project";
+  };
+  checks = between 4 0 500 ∷ [];
+}
+telling Student = record {
+  number = 3;
+  shape = by_text (codes "student") ((codes "code", Text) ∷ (codes "label", Text) ∷ []) [];
+  sql = record {
+    create = codes "CREATE TABLE student (code TEXT NOT NULL PRIMARY KEY, label TEXT NOT NULL) STRICT";
+    insert = codes "INSERT INTO student (code, label) VALUES (?1, ?2)";
+    update = codes "UPDATE student SET code = ?1, label = ?2 WHERE code = ?1";
+    delete = codes "DELETE FROM student WHERE code = ?1";
+    select = codes "SELECT rowid, * FROM student";
+  };
+  checks = [];
+}
+telling Round = record {
+  number = 4;
+  shape = by_rowid (codes "round") ((codes "number", Integer) ∷ (codes "open", Integer) ∷ []) [];
+  sql = record {
+    create = codes "CREATE TABLE round (number INTEGER NOT NULL PRIMARY KEY, open INTEGER NOT NULL CHECK (open IN (0, 1))) STRICT";
+    insert = codes "INSERT INTO round (number, open) VALUES (?1, ?2)";
+    update = codes "UPDATE round SET open = ?2 WHERE number = ?1";
+    delete = codes "DELETE FROM round WHERE number = ?1";
+    select = codes "SELECT rowid, * FROM round";
+  };
+  checks = op2 Or (against Eq 2 (Int (pos 0))) (against Eq 2 (Int (pos 1))) ∷ [];
+}
+telling Choice = record {
+  number = 5;
+  shape = record {
+    name = codes "choice";
+    columns = (codes "round", Integer) ∷ (codes "student", Text) ∷ (codes "place", Integer) ∷ (codes "project", Text) ∷ [];
+    key = None;
+    primary = 1 ∷ 2 ∷ 3 ∷ [];
+    uniques = (1 ∷ 2 ∷ 3 ∷ []) ∷ (1 ∷ 2 ∷ 4 ∷ []) ∷ [];
+    links = (1, codes "round", codes "number") ∷ (2, codes "student", codes "code") ∷ (4, codes "project", codes "code") ∷ [];
+    named = 3;
+  };
+  sql = record {
+    create = codes "CREATE TABLE choice (round INTEGER NOT NULL REFERENCES round (number), student TEXT NOT NULL REFERENCES student (code), place INTEGER NOT NULL CHECK (place BETWEEN 1 AND 8), project TEXT NOT NULL REFERENCES project (code), PRIMARY KEY (round, student, place), UNIQUE (round, student, project)) STRICT";
+    insert = codes "INSERT INTO choice (round, student, place, project) VALUES (?1, ?2, ?3, ?4)";
+    update = codes "UPDATE choice SET round = ?1, student = ?2, place = ?3, project = ?4 WHERE round = ?1 AND student = ?2 AND place = ?3";
+    delete = codes "DELETE FROM choice WHERE round = ?1 AND student = ?2 AND place = ?3";
+    select = codes "SELECT rowid, * FROM choice";
+  };
+  checks = between 3 1 8 ∷ [];
+}
+telling Placement = record {
+  number = 6;
+  shape = by_text (codes "placement") ((codes "student", Text) ∷ (codes "round", Integer) ∷ (codes "project", Text) ∷ (codes "rank", Integer) ∷ []) ((1, codes "student", codes "code") ∷ (2, codes "round", codes "number") ∷ (3, codes "project", codes "code") ∷ []);
+  sql = record {
+    create = codes "CREATE TABLE placement (student TEXT NOT NULL PRIMARY KEY REFERENCES student (code), round INTEGER NOT NULL REFERENCES round (number), project TEXT NOT NULL REFERENCES project (code), rank INTEGER NOT NULL CHECK (rank BETWEEN 1 AND 8)) STRICT";
+    insert = codes "INSERT INTO placement (student, round, project, rank) VALUES (?1, ?2, ?3, ?4)";
+    update = codes "UPDATE placement SET student = ?1, round = ?2, project = ?3, rank = ?4 WHERE student = ?1";
+    delete = codes "DELETE FROM placement WHERE student = ?1";
+    select = codes "SELECT rowid, * FROM placement";
+  };
+  checks = between 4 1 8 ∷ [];
+}
+telling Import = record {
+  number = 7;
+  shape = by_text (codes "import") ((codes "id", Text) ∷ (codes "kind", Text) ∷ (codes "bytes", Blob) ∷ (codes "rows", Integer) ∷ []) [];
+  sql = record {
+    create = codes "CREATE TABLE import (id TEXT NOT NULL PRIMARY KEY, kind TEXT NOT NULL CHECK (kind IN ('supervisors', 'projects', 'students', 'lists')), bytes BLOB NOT NULL, rows INTEGER NOT NULL) STRICT";
+    insert = codes "INSERT INTO import (id, kind, bytes, rows) VALUES (?1, ?2, ?3, ?4)";
+    update = codes "UPDATE import SET id = ?1, kind = ?2, bytes = ?3, rows = ?4 WHERE id = ?1";
+    delete = codes "DELETE FROM import WHERE id = ?1";
+    select = codes "SELECT rowid, * FROM import";
+  };
+  checks = op2 Or (op2 Or (against Eq 2 (Words (codes "supervisors"))) (against Eq 2 (Words (codes "projects")))) (op2 Or (against Eq 2 (Words (codes "students"))) (against Eq 2 (Words (codes "lists")))) ∷ [];
+}
+
+-- all of them, by their numbers
+abbrev pub all_tables : List Table
+all_tables = Edition ∷ Supervisor ∷ Project ∷ Student ∷ Round ∷ Choice ∷ Placement ∷ Import ∷ []
+
+abbrev pub number_of : Table → ℕ
+number_of table = (telling table).number
+
+abbrev pub shape_of : Table → Shape
+shape_of table = (telling table).shape
+
 abbrev pub sql_of : Table → Sql
-sql_of Edition = record {
-  create = codes "CREATE TABLE edition (id INTEGER NOT NULL PRIMARY KEY CHECK (id = 1), number INTEGER NOT NULL) STRICT";
-  insert = codes "INSERT INTO edition (id, number) VALUES (?1, ?2)";
-  update = codes "UPDATE edition SET number = ?2 WHERE id = ?1";
-  delete = codes "DELETE FROM edition WHERE id = ?1";
-  select = codes "SELECT rowid, * FROM edition";
-}
-sql_of Supervisor = record {
-  create = codes "CREATE TABLE supervisor (code TEXT NOT NULL PRIMARY KEY, label TEXT NOT NULL, quota INTEGER NOT NULL CHECK (quota BETWEEN 0 AND 500)) STRICT";
-  insert = codes "INSERT INTO supervisor (code, label, quota) VALUES (?1, ?2, ?3)";
-  update = codes "UPDATE supervisor SET code = ?1, label = ?2, quota = ?3 WHERE code = ?1";
-  delete = codes "DELETE FROM supervisor WHERE code = ?1";
-  select = codes "SELECT rowid, * FROM supervisor";
-}
-sql_of Project = record {
-  create = codes "CREATE TABLE project (code TEXT NOT NULL PRIMARY KEY, label TEXT NOT NULL, supervisor TEXT NOT NULL REFERENCES supervisor (code), quota INTEGER NOT NULL CHECK (quota BETWEEN 0 AND 500)) STRICT";
-  insert = codes "INSERT INTO project (code, label, supervisor, quota) VALUES (?1, ?2, ?3, ?4)";
-  update = codes "UPDATE project SET code = ?1, label = ?2, supervisor = ?3, quota = ?4 WHERE code = ?1";
-  delete = codes "DELETE FROM project WHERE code = ?1";
-  select = codes "SELECT rowid, * FROM project";
-}
-sql_of Student = record {
-  create = codes "CREATE TABLE student (code TEXT NOT NULL PRIMARY KEY, label TEXT NOT NULL) STRICT";
-  insert = codes "INSERT INTO student (code, label) VALUES (?1, ?2)";
-  update = codes "UPDATE student SET code = ?1, label = ?2 WHERE code = ?1";
-  delete = codes "DELETE FROM student WHERE code = ?1";
-  select = codes "SELECT rowid, * FROM student";
-}
-sql_of Round = record {
-  create = codes "CREATE TABLE round (number INTEGER NOT NULL PRIMARY KEY, open INTEGER NOT NULL CHECK (open IN (0, 1))) STRICT";
-  insert = codes "INSERT INTO round (number, open) VALUES (?1, ?2)";
-  update = codes "UPDATE round SET open = ?2 WHERE number = ?1";
-  delete = codes "DELETE FROM round WHERE number = ?1";
-  select = codes "SELECT rowid, * FROM round";
-}
-sql_of Choice = record {
-  create = codes "CREATE TABLE choice (round INTEGER NOT NULL REFERENCES round (number), student TEXT NOT NULL REFERENCES student (code), place INTEGER NOT NULL CHECK (place BETWEEN 1 AND 8), project TEXT NOT NULL REFERENCES project (code), PRIMARY KEY (round, student, place), UNIQUE (round, student, project)) STRICT";
-  insert = codes "INSERT INTO choice (round, student, place, project) VALUES (?1, ?2, ?3, ?4)";
-  update = codes "UPDATE choice SET round = ?1, student = ?2, place = ?3, project = ?4 WHERE round = ?1 AND student = ?2 AND place = ?3";
-  delete = codes "DELETE FROM choice WHERE round = ?1 AND student = ?2 AND place = ?3";
-  select = codes "SELECT rowid, * FROM choice";
-}
-sql_of Placement = record {
-  create = codes "CREATE TABLE placement (student TEXT NOT NULL PRIMARY KEY REFERENCES student (code), round INTEGER NOT NULL REFERENCES round (number), project TEXT NOT NULL REFERENCES project (code), rank INTEGER NOT NULL CHECK (rank BETWEEN 1 AND 8)) STRICT";
-  insert = codes "INSERT INTO placement (student, round, project, rank) VALUES (?1, ?2, ?3, ?4)";
-  update = codes "UPDATE placement SET student = ?1, round = ?2, project = ?3, rank = ?4 WHERE student = ?1";
-  delete = codes "DELETE FROM placement WHERE student = ?1";
-  select = codes "SELECT rowid, * FROM placement";
-}
-sql_of Import = record {
-  create = codes "CREATE TABLE import (id TEXT NOT NULL PRIMARY KEY, kind TEXT NOT NULL CHECK (kind IN ('supervisors', 'projects', 'students', 'lists')), bytes BLOB NOT NULL, rows INTEGER NOT NULL) STRICT";
-  insert = codes "INSERT INTO import (id, kind, bytes, rows) VALUES (?1, ?2, ?3, ?4)";
-  update = codes "UPDATE import SET id = ?1, kind = ?2, bytes = ?3, rows = ?4 WHERE id = ?1";
-  delete = codes "DELETE FROM import WHERE id = ?1";
-  select = codes "SELECT rowid, * FROM import";
-}
+sql_of table = (telling table).sql
+
+-- the CHECK rules of a table, as it is made here
+abbrev pub checks_of : Table → List Term
+checks_of table = (telling table).checks
 
 -- what may differ from one database to another: the table's tree, and its CHECK rules, which are taken as they were made
 pub record Place : Type 0 where
   pub tree : ℕ
   pub checks : List Term
-
--- each table has a number of its own
-abbrev pub number_of : Table → ℕ
-number_of Edition = 0
-number_of Supervisor = 1
-number_of Project = 2
-number_of Student = 3
-number_of Round = 4
-number_of Choice = 5
-number_of Placement = 6
-number_of Import = 7
 
 -- whether two tables are one
 abbrev pub same_table : Table → Table → Bool
@@ -217,26 +267,6 @@ made_at shape place = record {
 -- a table of the product, as a schema lists it
 abbrev pub table_at : Table → Place → AnyTable
 table_at table = made_at (shape_of table)
-
--- the column at a place is compared with this value
-abbrev pub against : CompareOp → ℕ → Value → Term
-against op place value = op2 (Compare op Binary) (col 1 place) (lit value)
-
--- it lies between two numbers
-abbrev pub between : ℕ → ℕ → ℕ → Term
-between place low high = op2 And (against Ge place (Int (pos low))) (against Le place (Int (pos high)))
-
--- the CHECK rules of a table, as it is made here
-abbrev pub checks_of : Table → List Term
-checks_of Edition = against Eq 0 (Int (pos 1)) ∷ []
-checks_of Supervisor = between 3 0 500 ∷ []
-checks_of Project = between 4 0 500 ∷ []
-checks_of Student = []
-checks_of Round = op2 Or (against Eq 2 (Int (pos 0))) (against Eq 2 (Int (pos 1))) ∷ []
-checks_of Choice = between 3 1 8 ∷ []
-checks_of Placement = between 4 1 8 ∷ []
-checks_of Import =
-    op2 Or (op2 Or (against Eq 2 (Words (codes "supervisors"))) (against Eq 2 (Words (codes "projects")))) (op2 Or (against Eq 2 (Words (codes "students"))) (against Eq 2 (Words (codes "lists")))) ∷ []
 
 -- the schema's first table of this name is this one
 pub record Lists (schema : Schema) (table : AnyTable) : Type 0 where

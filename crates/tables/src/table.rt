@@ -110,12 +110,22 @@ const BY_ROWID: Keys = Keys {
     named: 1,
 };
 
-/// How a table is told.
+/// The texts of a table's statements.
+pub(crate) struct Sql {
+    pub create: &'static str,
+    pub insert: &'static str,
+    pub update: &'static str,
+    pub delete: &'static str,
+    pub select: &'static str,
+}
+
+/// How a table is told: what it is, and what its statements say.
 pub(crate) struct Shape {
     pub name: &'static str,
     pub columns: &'static [Told],
     pub keys: Keys,
     pub links: &'static [Link],
+    pub sql: Sql,
 }
 
 static EDITION_SHAPE: Shape = Shape {
@@ -123,6 +133,13 @@ static EDITION_SHAPE: Shape = Shape {
     columns: &[ID, NUMBER],
     keys: BY_ROWID,
     links: &[],
+    sql: Sql {
+        create: "CREATE TABLE edition (id INTEGER NOT NULL PRIMARY KEY CHECK (id = 1), number INTEGER NOT NULL) STRICT",
+        insert: "INSERT INTO edition (id, number) VALUES (?1, ?2)",
+        update: "UPDATE edition SET number = ?2 WHERE id = ?1",
+        delete: "DELETE FROM edition WHERE id = ?1",
+        select: "SELECT rowid, * FROM edition",
+    },
 };
 
 static SUPERVISOR_SHAPE: Shape = Shape {
@@ -130,6 +147,13 @@ static SUPERVISOR_SHAPE: Shape = Shape {
     columns: &[CODE, LABEL, QUOTA],
     keys: BY_TEXT,
     links: &[],
+    sql: Sql {
+        create: "CREATE TABLE supervisor (code TEXT NOT NULL PRIMARY KEY, label TEXT NOT NULL, quota INTEGER NOT NULL CHECK (quota BETWEEN 0 AND 500)) STRICT",
+        insert: "INSERT INTO supervisor (code, label, quota) VALUES (?1, ?2, ?3)",
+        update: "UPDATE supervisor SET code = ?1, label = ?2, quota = ?3 WHERE code = ?1",
+        delete: "DELETE FROM supervisor WHERE code = ?1",
+        select: "SELECT rowid, * FROM supervisor",
+    },
 };
 
 static PROJECT_SHAPE: Shape = Shape {
@@ -137,6 +161,13 @@ static PROJECT_SHAPE: Shape = Shape {
     columns: &[CODE, LABEL, SUPERVISOR, QUOTA],
     keys: BY_TEXT,
     links: &[Link(3, SUPERVISORS)],
+    sql: Sql {
+        create: "CREATE TABLE project (code TEXT NOT NULL PRIMARY KEY, label TEXT NOT NULL, supervisor TEXT NOT NULL REFERENCES supervisor (code), quota INTEGER NOT NULL CHECK (quota BETWEEN 0 AND 500)) STRICT",
+        insert: "INSERT INTO project (code, label, supervisor, quota) VALUES (?1, ?2, ?3, ?4)",
+        update: "UPDATE project SET code = ?1, label = ?2, supervisor = ?3, quota = ?4 WHERE code = ?1",
+        delete: "DELETE FROM project WHERE code = ?1",
+        select: "SELECT rowid, * FROM project",
+    },
 };
 
 static STUDENT_SHAPE: Shape = Shape {
@@ -144,6 +175,13 @@ static STUDENT_SHAPE: Shape = Shape {
     columns: &[CODE, LABEL],
     keys: BY_TEXT,
     links: &[],
+    sql: Sql {
+        create: "CREATE TABLE student (code TEXT NOT NULL PRIMARY KEY, label TEXT NOT NULL) STRICT",
+        insert: "INSERT INTO student (code, label) VALUES (?1, ?2)",
+        update: "UPDATE student SET code = ?1, label = ?2 WHERE code = ?1",
+        delete: "DELETE FROM student WHERE code = ?1",
+        select: "SELECT rowid, * FROM student",
+    },
 };
 
 static ROUND_SHAPE: Shape = Shape {
@@ -151,6 +189,13 @@ static ROUND_SHAPE: Shape = Shape {
     columns: &[NUMBER, OPEN],
     keys: BY_ROWID,
     links: &[],
+    sql: Sql {
+        create: "CREATE TABLE round (number INTEGER NOT NULL PRIMARY KEY, open INTEGER NOT NULL CHECK (open IN (0, 1))) STRICT",
+        insert: "INSERT INTO round (number, open) VALUES (?1, ?2)",
+        update: "UPDATE round SET open = ?2 WHERE number = ?1",
+        delete: "DELETE FROM round WHERE number = ?1",
+        select: "SELECT rowid, * FROM round",
+    },
 };
 
 static CHOICE_SHAPE: Shape = Shape {
@@ -163,6 +208,13 @@ static CHOICE_SHAPE: Shape = Shape {
         named: 3,
     },
     links: &[Link(1, ROUNDS), Link(2, STUDENTS), Link(4, PROJECTS)],
+    sql: Sql {
+        create: "CREATE TABLE choice (round INTEGER NOT NULL REFERENCES round (number), student TEXT NOT NULL REFERENCES student (code), place INTEGER NOT NULL CHECK (place BETWEEN 1 AND 8), project TEXT NOT NULL REFERENCES project (code), PRIMARY KEY (round, student, place), UNIQUE (round, student, project)) STRICT",
+        insert: "INSERT INTO choice (round, student, place, project) VALUES (?1, ?2, ?3, ?4)",
+        update: "UPDATE choice SET round = ?1, student = ?2, place = ?3, project = ?4 WHERE round = ?1 AND student = ?2 AND place = ?3",
+        delete: "DELETE FROM choice WHERE round = ?1 AND student = ?2 AND place = ?3",
+        select: "SELECT rowid, * FROM choice",
+    },
 };
 
 static PLACEMENT_SHAPE: Shape = Shape {
@@ -170,6 +222,13 @@ static PLACEMENT_SHAPE: Shape = Shape {
     columns: &[STUDENT, ROUND, PROJECT, RANK],
     keys: BY_TEXT,
     links: &[Link(1, STUDENTS), Link(2, ROUNDS), Link(3, PROJECTS)],
+    sql: Sql {
+        create: "CREATE TABLE placement (student TEXT NOT NULL PRIMARY KEY REFERENCES student (code), round INTEGER NOT NULL REFERENCES round (number), project TEXT NOT NULL REFERENCES project (code), rank INTEGER NOT NULL CHECK (rank BETWEEN 1 AND 8)) STRICT",
+        insert: "INSERT INTO placement (student, round, project, rank) VALUES (?1, ?2, ?3, ?4)",
+        update: "UPDATE placement SET student = ?1, round = ?2, project = ?3, rank = ?4 WHERE student = ?1",
+        delete: "DELETE FROM placement WHERE student = ?1",
+        select: "SELECT rowid, * FROM placement",
+    },
 };
 
 static IMPORT_SHAPE: Shape = Shape {
@@ -177,16 +236,14 @@ static IMPORT_SHAPE: Shape = Shape {
     columns: &[IMPORT, KIND, BYTES, ROWS],
     keys: BY_TEXT,
     links: &[],
+    sql: Sql {
+        create: "CREATE TABLE import (id TEXT NOT NULL PRIMARY KEY, kind TEXT NOT NULL CHECK (kind IN ('supervisors', 'projects', 'students', 'lists')), bytes BLOB NOT NULL, rows INTEGER NOT NULL) STRICT",
+        insert: "INSERT INTO import (id, kind, bytes, rows) VALUES (?1, ?2, ?3, ?4)",
+        update: "UPDATE import SET id = ?1, kind = ?2, bytes = ?3, rows = ?4 WHERE id = ?1",
+        delete: "DELETE FROM import WHERE id = ?1",
+        select: "SELECT rowid, * FROM import",
+    },
 };
-
-/// The texts of a table's statements.
-pub(crate) struct Sql {
-    pub create: &'static str,
-    pub insert: &'static str,
-    pub update: &'static str,
-    pub delete: &'static str,
-    pub select: &'static str,
-}
 
 impl Table {
     /// How many columns the table has.
@@ -198,7 +255,8 @@ impl Table {
 
     /// What the table is.
     pub(crate) fn shape(self) -> &'static Shape
-        ensures { told_by result.now ≡ shape_of self }
+        ensures shape { told_by result.now ≡ shape_of self }
+        ensures texts { texts_by result.now.sql ≡ sql_of self }
     {
         match self {
             Table::Edition => &EDITION_SHAPE,
@@ -216,63 +274,6 @@ impl Table {
     pub(crate) fn sql(self) -> &'static Sql
         ensures { texts_by result.now ≡ sql_of self }
     {
-        match self {
-            Table::Edition => &Sql {
-                create: "CREATE TABLE edition (id INTEGER NOT NULL PRIMARY KEY CHECK (id = 1), number INTEGER NOT NULL) STRICT",
-                insert: "INSERT INTO edition (id, number) VALUES (?1, ?2)",
-                update: "UPDATE edition SET number = ?2 WHERE id = ?1",
-                delete: "DELETE FROM edition WHERE id = ?1",
-                select: "SELECT rowid, * FROM edition",
-            },
-            Table::Supervisor => &Sql {
-                create: "CREATE TABLE supervisor (code TEXT NOT NULL PRIMARY KEY, label TEXT NOT NULL, quota INTEGER NOT NULL CHECK (quota BETWEEN 0 AND 500)) STRICT",
-                insert: "INSERT INTO supervisor (code, label, quota) VALUES (?1, ?2, ?3)",
-                update: "UPDATE supervisor SET code = ?1, label = ?2, quota = ?3 WHERE code = ?1",
-                delete: "DELETE FROM supervisor WHERE code = ?1",
-                select: "SELECT rowid, * FROM supervisor",
-            },
-            Table::Project => &Sql {
-                create: "CREATE TABLE project (code TEXT NOT NULL PRIMARY KEY, label TEXT NOT NULL, supervisor TEXT NOT NULL REFERENCES supervisor (code), quota INTEGER NOT NULL CHECK (quota BETWEEN 0 AND 500)) STRICT",
-                insert: "INSERT INTO project (code, label, supervisor, quota) VALUES (?1, ?2, ?3, ?4)",
-                update: "UPDATE project SET code = ?1, label = ?2, supervisor = ?3, quota = ?4 WHERE code = ?1",
-                delete: "DELETE FROM project WHERE code = ?1",
-                select: "SELECT rowid, * FROM project",
-            },
-            Table::Student => &Sql {
-                create: "CREATE TABLE student (code TEXT NOT NULL PRIMARY KEY, label TEXT NOT NULL) STRICT",
-                insert: "INSERT INTO student (code, label) VALUES (?1, ?2)",
-                update: "UPDATE student SET code = ?1, label = ?2 WHERE code = ?1",
-                delete: "DELETE FROM student WHERE code = ?1",
-                select: "SELECT rowid, * FROM student",
-            },
-            Table::Round => &Sql {
-                create: "CREATE TABLE round (number INTEGER NOT NULL PRIMARY KEY, open INTEGER NOT NULL CHECK (open IN (0, 1))) STRICT",
-                insert: "INSERT INTO round (number, open) VALUES (?1, ?2)",
-                update: "UPDATE round SET open = ?2 WHERE number = ?1",
-                delete: "DELETE FROM round WHERE number = ?1",
-                select: "SELECT rowid, * FROM round",
-            },
-            Table::Choice => &Sql {
-                create: "CREATE TABLE choice (round INTEGER NOT NULL REFERENCES round (number), student TEXT NOT NULL REFERENCES student (code), place INTEGER NOT NULL CHECK (place BETWEEN 1 AND 8), project TEXT NOT NULL REFERENCES project (code), PRIMARY KEY (round, student, place), UNIQUE (round, student, project)) STRICT",
-                insert: "INSERT INTO choice (round, student, place, project) VALUES (?1, ?2, ?3, ?4)",
-                update: "UPDATE choice SET round = ?1, student = ?2, place = ?3, project = ?4 WHERE round = ?1 AND student = ?2 AND place = ?3",
-                delete: "DELETE FROM choice WHERE round = ?1 AND student = ?2 AND place = ?3",
-                select: "SELECT rowid, * FROM choice",
-            },
-            Table::Placement => &Sql {
-                create: "CREATE TABLE placement (student TEXT NOT NULL PRIMARY KEY REFERENCES student (code), round INTEGER NOT NULL REFERENCES round (number), project TEXT NOT NULL REFERENCES project (code), rank INTEGER NOT NULL CHECK (rank BETWEEN 1 AND 8)) STRICT",
-                insert: "INSERT INTO placement (student, round, project, rank) VALUES (?1, ?2, ?3, ?4)",
-                update: "UPDATE placement SET student = ?1, round = ?2, project = ?3, rank = ?4 WHERE student = ?1",
-                delete: "DELETE FROM placement WHERE student = ?1",
-                select: "SELECT rowid, * FROM placement",
-            },
-            Table::Import => &Sql {
-                create: "CREATE TABLE import (id TEXT NOT NULL PRIMARY KEY, kind TEXT NOT NULL CHECK (kind IN ('supervisors', 'projects', 'students', 'lists')), bytes BLOB NOT NULL, rows INTEGER NOT NULL) STRICT",
-                insert: "INSERT INTO import (id, kind, bytes, rows) VALUES (?1, ?2, ?3, ?4)",
-                update: "UPDATE import SET id = ?1, kind = ?2, bytes = ?3, rows = ?4 WHERE id = ?1",
-                delete: "DELETE FROM import WHERE id = ?1",
-                select: "SELECT rowid, * FROM import",
-            },
-        }
+        &self.shape().sql
     }
 }
