@@ -26,7 +26,6 @@ use Rattle.sqlite_value.specs.declared.keys.Order.{Order}
 use Rattle.tables.specs.declared.table.Table.{Table}
 use Rattle.tables.specs.declared.table.Table.TheVariants.{Edition, Supervisor, Project, Student, Round, Choice, Placement, Import}
 use Rattle.tables.specs.declared.table.Shape.{Shape as Given}
-use Rattle.tables.specs.declared.table.Sql.{Sql as Said}
 use Rattle.tables.specs.declared.table.Told.{Told}
 use Rattle.tables.specs.declared.table.Link.{Link}
 
@@ -75,8 +74,8 @@ told_by given = record {
 }
 
 -- and of its statements
-abbrev pub texts_by : Said → Sql
-texts_by said = record { create = said.create.now; insert = said.insert.now; update = said.update.now; delete = said.delete.now; select = said.select.now }
+abbrev pub texts_by : Given → Sql
+texts_by given = record { create = given.create.now; insert = given.insert.now; update = given.update.now; delete = given.delete.now; select = given.select.now }
 
 -- a table whose key is its first column, a text
 abbrev pub by_text : List ℕ → List (List ℕ × Kind) → List (ℕ × List ℕ × List ℕ) → Shape

@@ -20,7 +20,7 @@ pub fn make<S: Alter>(tx: &mut Transaction<'_, S>, table: Table) -> Wrote
     ensures same_reference { tx.new.conn.ghost_name ≡ tx.old.conn.ghost_name }
     ensures step { Does (HasStepped (Makes (table_at table) (checks_of table) [])) result (state S.Store tx.old.conn.now) (state S.Store tx.new.conn.now) }
 {
-    write(tx, table.sql().create, &[])?;
+    write(tx, table.shape().create, &[])?;
     Ok(())
 }
 
@@ -31,7 +31,7 @@ pub fn insert<S: Alter>(tx: &mut Transaction<'_, S>, table: Table, row: &[ValueR
     ensures same_reference { tx.new.conn.ghost_name ≡ tx.old.conn.ghost_name }
     ensures step { Does (HasStepped (Adds (table_at table) (bound row.now))) result (state S.Store tx.old.conn.now) (state S.Store tx.new.conn.now) }
 {
-    write(tx, table.sql().insert, row)?;
+    write(tx, table.shape().insert, row)?;
     Ok(())
 }
 
@@ -42,7 +42,7 @@ pub fn put<S: Alter>(tx: &mut Transaction<'_, S>, table: Table, row: &[ValueRef<
     ensures same_reference { tx.new.conn.ghost_name ≡ tx.old.conn.ghost_name }
     ensures step { Does (HasStepped (Puts (table_at table) (key_in table (bound row.now)) (bound row.now))) result (state S.Store tx.old.conn.now) (state S.Store tx.new.conn.now) }
 {
-    match write(tx, table.sql().update, row)? {
+    match write(tx, table.shape().update, row)? {
         0 => insert(tx, table, row),
         1 => Ok(()),
         _ => Err(TableFault::Storage),
@@ -56,7 +56,7 @@ pub fn delete<S: Alter>(tx: &mut Transaction<'_, S>, table: Table, key: &[ValueR
     ensures same_reference { tx.new.conn.ghost_name ≡ tx.old.conn.ghost_name }
     ensures step { Does (HasStepped (Removes (table_at table) (bound key.now))) result (state S.Store tx.old.conn.now) (state S.Store tx.new.conn.now) }
 {
-    write(tx, table.sql().delete, key)?;
+    write(tx, table.shape().delete, key)?;
     Ok(())
 }
 
@@ -67,5 +67,5 @@ pub fn read<S: Alter>(conn: &mut Connection<S>, table: Table) -> Result<Vec<Row>
     ensures mode { conn.old.in_transaction ≡ false → conn.new.in_transaction ≡ false }
     ensures survives { Survives (state S.Store conn.old) (state S.Store conn.new) (λ _. ⊥) }
 {
-    read_text(conn, table.sql().select)
+    read_text(conn, table.shape().select)
 }

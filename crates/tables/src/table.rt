@@ -110,8 +110,12 @@ const BY_ROWID: Keys = Keys {
     named: 1,
 };
 
-/// The texts of a table's statements.
-pub(crate) struct Sql {
+/// How a table is told: what it is, and what its statements say.
+pub(crate) struct Shape {
+    pub name: &'static str,
+    pub columns: &'static [Told],
+    pub keys: Keys,
+    pub links: &'static [Link],
     pub create: &'static str,
     pub insert: &'static str,
     pub update: &'static str,
@@ -119,131 +123,51 @@ pub(crate) struct Sql {
     pub select: &'static str,
 }
 
-/// How a table is told: what it is, and what its statements say.
-pub(crate) struct Shape {
-    pub name: &'static str,
-    pub columns: &'static [Told],
-    pub keys: Keys,
-    pub links: &'static [Link],
-    pub sql: Sql,
-}
+/// The tables.
+#[rattlefmt::skip]
+mod rows {
+    use super::{BYTES, BY_ROWID, BY_TEXT, CODE, ID, IMPORT, KIND, LABEL, NUMBER, OPEN, PLACE, PROJECT, PROJECTS, QUOTA, RANK, ROUND, ROUNDS, ROWS, STUDENT, STUDENTS, SUPERVISOR, SUPERVISORS, Keys, Link, Shape};
 
-static EDITION_SHAPE: Shape = Shape {
-    name: "edition",
-    columns: &[ID, NUMBER],
-    keys: BY_ROWID,
-    links: &[],
-    sql: Sql {
+    pub(crate) static EDITION_SHAPE: Shape = Shape { name: "edition", columns: &[ID, NUMBER], keys: BY_ROWID, links: &[],
         create: "CREATE TABLE edition (id INTEGER NOT NULL PRIMARY KEY CHECK (id = 1), number INTEGER NOT NULL) STRICT",
-        insert: "INSERT INTO edition (id, number) VALUES (?1, ?2)",
-        update: "UPDATE edition SET number = ?2 WHERE id = ?1",
-        delete: "DELETE FROM edition WHERE id = ?1",
-        select: "SELECT rowid, * FROM edition",
-    },
-};
+        insert: "INSERT INTO edition (id, number) VALUES (?1, ?2)", update: "UPDATE edition SET number = ?2 WHERE id = ?1",
+        delete: "DELETE FROM edition WHERE id = ?1", select: "SELECT rowid, * FROM edition" };
 
-static SUPERVISOR_SHAPE: Shape = Shape {
-    name: "supervisor",
-    columns: &[CODE, LABEL, QUOTA],
-    keys: BY_TEXT,
-    links: &[],
-    sql: Sql {
+    pub(crate) static SUPERVISOR_SHAPE: Shape = Shape { name: "supervisor", columns: &[CODE, LABEL, QUOTA], keys: BY_TEXT, links: &[],
         create: "CREATE TABLE supervisor (code TEXT NOT NULL PRIMARY KEY, label TEXT NOT NULL, quota INTEGER NOT NULL CHECK (quota BETWEEN 0 AND 500)) STRICT",
-        insert: "INSERT INTO supervisor (code, label, quota) VALUES (?1, ?2, ?3)",
-        update: "UPDATE supervisor SET code = ?1, label = ?2, quota = ?3 WHERE code = ?1",
-        delete: "DELETE FROM supervisor WHERE code = ?1",
-        select: "SELECT rowid, * FROM supervisor",
-    },
-};
+        insert: "INSERT INTO supervisor (code, label, quota) VALUES (?1, ?2, ?3)", update: "UPDATE supervisor SET code = ?1, label = ?2, quota = ?3 WHERE code = ?1",
+        delete: "DELETE FROM supervisor WHERE code = ?1", select: "SELECT rowid, * FROM supervisor" };
 
-static PROJECT_SHAPE: Shape = Shape {
-    name: "project",
-    columns: &[CODE, LABEL, SUPERVISOR, QUOTA],
-    keys: BY_TEXT,
-    links: &[Link(3, SUPERVISORS)],
-    sql: Sql {
+    pub(crate) static PROJECT_SHAPE: Shape = Shape { name: "project", columns: &[CODE, LABEL, SUPERVISOR, QUOTA], keys: BY_TEXT, links: &[Link(3, SUPERVISORS)],
         create: "CREATE TABLE project (code TEXT NOT NULL PRIMARY KEY, label TEXT NOT NULL, supervisor TEXT NOT NULL REFERENCES supervisor (code), quota INTEGER NOT NULL CHECK (quota BETWEEN 0 AND 500)) STRICT",
-        insert: "INSERT INTO project (code, label, supervisor, quota) VALUES (?1, ?2, ?3, ?4)",
-        update: "UPDATE project SET code = ?1, label = ?2, supervisor = ?3, quota = ?4 WHERE code = ?1",
-        delete: "DELETE FROM project WHERE code = ?1",
-        select: "SELECT rowid, * FROM project",
-    },
-};
+        insert: "INSERT INTO project (code, label, supervisor, quota) VALUES (?1, ?2, ?3, ?4)", update: "UPDATE project SET code = ?1, label = ?2, supervisor = ?3, quota = ?4 WHERE code = ?1",
+        delete: "DELETE FROM project WHERE code = ?1", select: "SELECT rowid, * FROM project" };
 
-static STUDENT_SHAPE: Shape = Shape {
-    name: "student",
-    columns: &[CODE, LABEL],
-    keys: BY_TEXT,
-    links: &[],
-    sql: Sql {
+    pub(crate) static STUDENT_SHAPE: Shape = Shape { name: "student", columns: &[CODE, LABEL], keys: BY_TEXT, links: &[],
         create: "CREATE TABLE student (code TEXT NOT NULL PRIMARY KEY, label TEXT NOT NULL) STRICT",
-        insert: "INSERT INTO student (code, label) VALUES (?1, ?2)",
-        update: "UPDATE student SET code = ?1, label = ?2 WHERE code = ?1",
-        delete: "DELETE FROM student WHERE code = ?1",
-        select: "SELECT rowid, * FROM student",
-    },
-};
+        insert: "INSERT INTO student (code, label) VALUES (?1, ?2)", update: "UPDATE student SET code = ?1, label = ?2 WHERE code = ?1",
+        delete: "DELETE FROM student WHERE code = ?1", select: "SELECT rowid, * FROM student" };
 
-static ROUND_SHAPE: Shape = Shape {
-    name: "round",
-    columns: &[NUMBER, OPEN],
-    keys: BY_ROWID,
-    links: &[],
-    sql: Sql {
+    pub(crate) static ROUND_SHAPE: Shape = Shape { name: "round", columns: &[NUMBER, OPEN], keys: BY_ROWID, links: &[],
         create: "CREATE TABLE round (number INTEGER NOT NULL PRIMARY KEY, open INTEGER NOT NULL CHECK (open IN (0, 1))) STRICT",
-        insert: "INSERT INTO round (number, open) VALUES (?1, ?2)",
-        update: "UPDATE round SET open = ?2 WHERE number = ?1",
-        delete: "DELETE FROM round WHERE number = ?1",
-        select: "SELECT rowid, * FROM round",
-    },
-};
+        insert: "INSERT INTO round (number, open) VALUES (?1, ?2)", update: "UPDATE round SET open = ?2 WHERE number = ?1",
+        delete: "DELETE FROM round WHERE number = ?1", select: "SELECT rowid, * FROM round" };
 
-static CHOICE_SHAPE: Shape = Shape {
-    name: "choice",
-    columns: &[ROUND, STUDENT, PLACE, PROJECT],
-    keys: Keys {
-        rowid: None,
-        primary: &[1, 2, 3],
-        uniques: &[&[1, 2, 3], &[1, 2, 4]],
-        named: 3,
-    },
-    links: &[Link(1, ROUNDS), Link(2, STUDENTS), Link(4, PROJECTS)],
-    sql: Sql {
+    pub(crate) static CHOICE_SHAPE: Shape = Shape { name: "choice", columns: &[ROUND, STUDENT, PLACE, PROJECT], keys: Keys { rowid: None, primary: &[1, 2, 3], uniques: &[&[1, 2, 3], &[1, 2, 4]], named: 3 }, links: &[Link(1, ROUNDS), Link(2, STUDENTS), Link(4, PROJECTS)],
         create: "CREATE TABLE choice (round INTEGER NOT NULL REFERENCES round (number), student TEXT NOT NULL REFERENCES student (code), place INTEGER NOT NULL CHECK (place BETWEEN 1 AND 8), project TEXT NOT NULL REFERENCES project (code), PRIMARY KEY (round, student, place), UNIQUE (round, student, project)) STRICT",
-        insert: "INSERT INTO choice (round, student, place, project) VALUES (?1, ?2, ?3, ?4)",
-        update: "UPDATE choice SET round = ?1, student = ?2, place = ?3, project = ?4 WHERE round = ?1 AND student = ?2 AND place = ?3",
-        delete: "DELETE FROM choice WHERE round = ?1 AND student = ?2 AND place = ?3",
-        select: "SELECT rowid, * FROM choice",
-    },
-};
+        insert: "INSERT INTO choice (round, student, place, project) VALUES (?1, ?2, ?3, ?4)", update: "UPDATE choice SET round = ?1, student = ?2, place = ?3, project = ?4 WHERE round = ?1 AND student = ?2 AND place = ?3",
+        delete: "DELETE FROM choice WHERE round = ?1 AND student = ?2 AND place = ?3", select: "SELECT rowid, * FROM choice" };
 
-static PLACEMENT_SHAPE: Shape = Shape {
-    name: "placement",
-    columns: &[STUDENT, ROUND, PROJECT, RANK],
-    keys: BY_TEXT,
-    links: &[Link(1, STUDENTS), Link(2, ROUNDS), Link(3, PROJECTS)],
-    sql: Sql {
+    pub(crate) static PLACEMENT_SHAPE: Shape = Shape { name: "placement", columns: &[STUDENT, ROUND, PROJECT, RANK], keys: BY_TEXT, links: &[Link(1, STUDENTS), Link(2, ROUNDS), Link(3, PROJECTS)],
         create: "CREATE TABLE placement (student TEXT NOT NULL PRIMARY KEY REFERENCES student (code), round INTEGER NOT NULL REFERENCES round (number), project TEXT NOT NULL REFERENCES project (code), rank INTEGER NOT NULL CHECK (rank BETWEEN 1 AND 8)) STRICT",
-        insert: "INSERT INTO placement (student, round, project, rank) VALUES (?1, ?2, ?3, ?4)",
-        update: "UPDATE placement SET student = ?1, round = ?2, project = ?3, rank = ?4 WHERE student = ?1",
-        delete: "DELETE FROM placement WHERE student = ?1",
-        select: "SELECT rowid, * FROM placement",
-    },
-};
+        insert: "INSERT INTO placement (student, round, project, rank) VALUES (?1, ?2, ?3, ?4)", update: "UPDATE placement SET student = ?1, round = ?2, project = ?3, rank = ?4 WHERE student = ?1",
+        delete: "DELETE FROM placement WHERE student = ?1", select: "SELECT rowid, * FROM placement" };
 
-static IMPORT_SHAPE: Shape = Shape {
-    name: "import",
-    columns: &[IMPORT, KIND, BYTES, ROWS],
-    keys: BY_TEXT,
-    links: &[],
-    sql: Sql {
+    pub(crate) static IMPORT_SHAPE: Shape = Shape { name: "import", columns: &[IMPORT, KIND, BYTES, ROWS], keys: BY_TEXT, links: &[],
         create: "CREATE TABLE import (id TEXT NOT NULL PRIMARY KEY, kind TEXT NOT NULL CHECK (kind IN ('supervisors', 'projects', 'students', 'lists')), bytes BLOB NOT NULL, rows INTEGER NOT NULL) STRICT",
-        insert: "INSERT INTO import (id, kind, bytes, rows) VALUES (?1, ?2, ?3, ?4)",
-        update: "UPDATE import SET id = ?1, kind = ?2, bytes = ?3, rows = ?4 WHERE id = ?1",
-        delete: "DELETE FROM import WHERE id = ?1",
-        select: "SELECT rowid, * FROM import",
-    },
-};
+        insert: "INSERT INTO import (id, kind, bytes, rows) VALUES (?1, ?2, ?3, ?4)", update: "UPDATE import SET id = ?1, kind = ?2, bytes = ?3, rows = ?4 WHERE id = ?1",
+        delete: "DELETE FROM import WHERE id = ?1", select: "SELECT rowid, * FROM import" };
+}
 
 impl Table {
     /// How many columns the table has.
@@ -253,27 +177,20 @@ impl Table {
         self.shape().columns.len()
     }
 
-    /// What the table is.
+    /// What the table is, and what its statements say.
     pub(crate) fn shape(self) -> &'static Shape
         ensures shape { told_by result.now ≡ shape_of self }
-        ensures texts { texts_by result.now.sql ≡ sql_of self }
+        ensures texts { texts_by result.now ≡ sql_of self }
     {
         match self {
-            Table::Edition => &EDITION_SHAPE,
-            Table::Supervisor => &SUPERVISOR_SHAPE,
-            Table::Project => &PROJECT_SHAPE,
-            Table::Student => &STUDENT_SHAPE,
-            Table::Round => &ROUND_SHAPE,
-            Table::Choice => &CHOICE_SHAPE,
-            Table::Placement => &PLACEMENT_SHAPE,
-            Table::Import => &IMPORT_SHAPE,
+            Table::Edition => &rows::EDITION_SHAPE,
+            Table::Supervisor => &rows::SUPERVISOR_SHAPE,
+            Table::Project => &rows::PROJECT_SHAPE,
+            Table::Student => &rows::STUDENT_SHAPE,
+            Table::Round => &rows::ROUND_SHAPE,
+            Table::Choice => &rows::CHOICE_SHAPE,
+            Table::Placement => &rows::PLACEMENT_SHAPE,
+            Table::Import => &rows::IMPORT_SHAPE,
         }
-    }
-
-    /// What its statements say.
-    pub(crate) fn sql(self) -> &'static Sql
-        ensures { texts_by result.now ≡ sql_of self }
-    {
-        &self.shape().sql
     }
 }
