@@ -51,7 +51,7 @@ pub enum Line {
 }
 
 /// Why words are no line.
-#[derive(Debug, Drop)]
+#[derive(Drop)]
 pub enum LineFault {
     /// Memory was refused.
     Memory,

@@ -1,6 +1,6 @@
 //! The line that words stand for.
 
-ghost use Rattle.std.specs.Prelude.{◌≡◌, ◌^◌, IfOk, IsSomeAnd, Some, map, string_bytes, true};
+ghost use Rattle.std.specs.Prelude.{◌≡◌, ◌^◌, IfOk, IsSomeAnd, Some, codes, map, string_bytes, true};
 ghost use Rattle.rolls.specs.Kinds.{word_of};
 ghost use Rattle.clap.specs.Words.{found_of, kind_of, rows_of, subcommand_rows_of};
 ghost use Rattle.words.specs.Kinds.{report_word};
@@ -69,31 +69,55 @@ fn report(given: &ArgMatches<'_>) -> ReportKind
     report_kind(word(given, &REPORT_KIND)).unwrap()
 }
 
+/// The line `serve`.
+fn serve_line(alloc: Global, given: &ArgMatches<'_>) -> Result<Line, AllocError>
+    requires { AreGiven (codes "serve") (rows_of (found_of given.now)) }
+    ensures { IfOk result (IsLineOf (codes "serve") (rows_of (found_of given.now))) }
+{
+    Ok(Line::Serve {
+        database: text(alloc, given, &DATABASE)?,
+        port: port(given),
+        count: number(given, &COUNT),
+    })
+}
+
+/// The line `import`.
+fn import_line(alloc: Global, given: &ArgMatches<'_>) -> Result<Line, AllocError>
+    requires { AreGiven (codes "import") (rows_of (found_of given.now)) }
+    ensures { IfOk result (IsLineOf (codes "import") (rows_of (found_of given.now))) }
+{
+    Ok(Line::Import {
+        database: text(alloc, given, &DATABASE)?,
+        kind: import(given),
+        id: text(alloc, given, &ID)?,
+        file: text(alloc, given, &FILE)?,
+    })
+}
+
+/// The line `report`.
+fn report_line(alloc: Global, given: &ArgMatches<'_>) -> Result<Line, AllocError>
+    requires { AreGiven (codes "report") (rows_of (found_of given.now)) }
+    ensures { IfOk result (IsLineOf (codes "report") (rows_of (found_of given.now))) }
+{
+    Ok(Line::Report {
+        database: text(alloc, given, &DATABASE)?,
+        kind: report(given),
+        round: number(given, &ROUND),
+    })
+}
+
 /// The line of the subcommand that was used.
 fn line_of(alloc: Global, name: &str, given: &ArgMatches<'_>) -> Result<Line, AllocError>
     requires { AreGiven name.now (rows_of (found_of given.now)) }
     ensures { IfOk result (IsLineOf name.now (rows_of (found_of given.now))) }
 {
     match name {
-        "serve" => Ok(Line::Serve {
-            database: text(alloc, given, &DATABASE)?,
-            port: port(given),
-            count: number(given, &COUNT),
-        }),
-        "import" => Ok(Line::Import {
-            database: text(alloc, given, &DATABASE)?,
-            kind: import(given),
-            id: text(alloc, given, &ID)?,
-            file: text(alloc, given, &FILE)?,
-        }),
+        "serve" => serve_line(alloc, given),
+        "import" => import_line(alloc, given),
         "open-round" => Ok(Line::OpenRound(text(alloc, given, &DATABASE)?)),
         "reopen-round" => Ok(Line::ReopenRound(text(alloc, given, &DATABASE)?)),
         "close-round" => Ok(Line::CloseRound(text(alloc, given, &DATABASE)?)),
-        "report" => Ok(Line::Report {
-            database: text(alloc, given, &DATABASE)?,
-            kind: report(given),
-            round: number(given, &ROUND),
-        }),
+        "report" => report_line(alloc, given),
         "solve" => Ok(Line::Solve(text(alloc, given, &FILE)?)),
         "check" => Ok(Line::Check(text(alloc, given, &FILE)?)),
         _ => unreachable!(),

@@ -23,12 +23,6 @@ unreachable-requires c =
     none_named _ c.args.name.now lines (d.not-serve, (d.not-import, (d.not-text, (d.not-text-2, (d.not-text-3, (d.not-report, (d.not-solve, (d.not-check, tt)))))))) c.requires
 
 -- These are searched for slowly where they do not hold, so they are told.
-pub returns-in_ok-text-in-serve : goal.returns-in_ok-text-in-serve
-returns-in_ok-text-in-serve c = (c.in-serve.is, c.in_ok-text-in-serve.ensures, c.port.ensures, c.number.ensures)
-
-pub returns-in_ok-text-in-import-3 : goal.returns-in_ok-text-in-import-3
-returns-in_ok-text-in-import-3 c = (c.in-import.is, c.in_ok-text-in-import.ensures, c.import.ensures, c.in_ok-text-in-import-2.ensures, c.in_ok-text-in-import-3.ensures)
-
 pub returns-in_ok-text-in-text-2 : goal.returns-in_ok-text-in-text-2
 returns-in_ok-text-in-text-2 c = (c.in-text-2.is, c.in_ok-text-in-text-2.ensures)
 
