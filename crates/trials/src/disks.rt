@@ -5,32 +5,26 @@ use crate::judged::holds;
 use crate::offices::{Put, plain};
 use desk::Desk;
 use rolls::{Refusal, Reply, Request};
-use sqlite::{Connection, FileStore, Files, Options};
+use sqlite::{Alter, Connection, FileStore, Files, Options};
 use sqlite_disk::{Fuse, Memory};
 use std::alloc::Global;
 use std::process::Abort;
 use std::rt::HostRuntime;
 use std::test::Fail;
 
-/// A desk over files that fail.
-type FailingDesk = Desk<FileStore<Fuse<Memory>>>;
-
-/// A desk whose log passes so many calls and then fails each. There is none where the calls are too few to open it.
-fn desk_with(alloc: Global, calls: u64) -> Option<FailingDesk> {
+/// A database whose log passes so many calls and then fails each.
+fn database_with(alloc: Global, calls: u64) -> Option<Connection<FileStore<Fuse<Memory>>>> {
     let files = Files {
         log: Fuse::new(Memory::new(alloc), calls),
         db: Fuse::new(Memory::new(alloc), u64::MAX),
     };
-    let Ok(connection) = Connection::open_files(alloc, files, Options::new(1)) else {
-        return None;
-    };
-    Desk::open(alloc, connection).ok()
+    Connection::open_files(alloc, files, Options::new(1)).ok()
 }
 
 /// What a put of a student is answered.
-fn put(
+fn put<S: Alter>(
     alloc: Global,
-    desk: &mut FailingDesk,
+    desk: &mut Desk<S>,
     code: &'static str,
     label: &'static str,
 ) -> Result<Result<Reply, Refusal>, Fail> {
@@ -39,10 +33,10 @@ fn put(
 }
 
 /// Ann is read from the office, Bob is refused by the tables, and nobody hears of him.
-fn answers_without_tables(
+fn answers_without_tables<S: Alter>(
     alloc: Global,
     rt: &impl Abort,
-    desk: &mut FailingDesk,
+    desk: &mut Desk<S>,
 ) -> Result<(), Fail> {
     let read = desk.ask(get_student(alloc, "S1")?);
     holds(rt, is_named(&read, "Ann"), "a read");
@@ -55,7 +49,7 @@ fn answers_without_tables(
 }
 
 /// Puts Ann, which is a storage error where the calls are too few. Whether she was put, and what came after was answered.
-fn is_put(alloc: Global, rt: &impl Abort, desk: &mut FailingDesk) -> Result<bool, Fail> {
+fn is_put<S: Alter>(alloc: Global, rt: &impl Abort, desk: &mut Desk<S>) -> Result<bool, Fail> {
     match put(alloc, desk, "S1", "Ann")? {
         Ok(_done) => {
             answers_without_tables(alloc, rt, desk)?;
@@ -68,10 +62,22 @@ fn is_put(alloc: Global, rt: &impl Abort, desk: &mut FailingDesk) -> Result<bool
     }
 }
 
+/// The same at a desk over this database. There is no desk where the calls are too few to open it.
+fn is_put_over<S: Alter>(
+    alloc: Global,
+    rt: &impl Abort,
+    connection: Connection<S>,
+) -> Result<bool, Fail> {
+    match Desk::open(alloc, connection) {
+        Ok(mut desk) => is_put(alloc, rt, &mut desk),
+        Err(_) => Ok(false),
+    }
+}
+
 /// The same at a desk whose log passes so many calls.
 fn is_put_with(alloc: Global, rt: &impl Abort, calls: u64) -> Result<bool, Fail> {
-    match desk_with(alloc, calls) {
-        Some(mut desk) => is_put(alloc, rt, &mut desk),
+    match database_with(alloc, calls) {
+        Some(connection) => is_put_over(alloc, rt, connection),
         None => Ok(false),
     }
 }
