@@ -13,8 +13,12 @@
 //! which must not be there before, and the log beside it. Else it is in memory.
 //!
 //! What one of them costs is the difference between two runs by the difference of their N.
+//!
+//! Arguments that name no benchmark are a line of the program, and are done as the program does them. The gate runs each
+//! program once: `spadesk` on a stream, and this one as `bench check round.txt`.
 #![tactic(auto)]
 
+use cli::start;
 use desk::Desk;
 use rolls::{Bytes, ImportKind, MOST_IMPORT_BYTES, MOST_IMPORTS, Plain, Request, Text, Texts};
 use spa::{MOST_PLACES, MOST_PROJECTS, MOST_STUDENTS, MOST_SUPERVISORS, RANKS};
@@ -273,25 +277,26 @@ fn number(word: Option<&String>) -> Option<usize> {
     word?.parse().ok()
 }
 
-/// Whether the words name a benchmark, and it was done.
-fn run(rt: &HostRuntime) -> io::Result<bool> {
+/// Does the benchmark that the arguments name, and tells whether it was done; `None` where they name none.
+fn run(rt: &HostRuntime) -> io::Result<Option<bool>> {
     let words: Vec<String> = env::args(rt)?.collect(rt.alloc())?;
     let (Some(what), Some(times)) = (words.get(1), number(words.get(2))) else {
-        return Ok(false);
+        return Ok(None);
     };
     let round = number(words.get(3)).unwrap_or(1);
     let Some(steps) = steps(rt.alloc(), what, times, round)? else {
-        return Ok(false);
+        return Ok(None);
     };
-    match words.get(4) {
-        Some(path) => Ok(are_made_over_file(rt, path, &steps)),
-        None => Ok(are_made_in_memory(rt.alloc(), &steps)),
-    }
+    Ok(Some(match words.get(4) {
+        Some(path) => are_made_over_file(rt, path, &steps),
+        None => are_made_in_memory(rt.alloc(), &steps),
+    }))
 }
 
 fn main(rt: HostRuntime) -> ExitCode {
     match run(&rt) {
-        Ok(true) => ExitCode::SUCCESS,
+        Ok(Some(true)) => ExitCode::SUCCESS,
+        Ok(None) => ExitCode::from(start(&rt)),
         _ => ExitCode::FAILURE,
     }
 }
