@@ -3,7 +3,7 @@
 use std::io;
 
 /// Why the arguments of the program cannot be read.
-#[derive(Clone, Copy, Debug, PartialEq, Eq, Drop)]
+#[derive(Clone, Copy, Drop)]
 pub enum Unread {
     /// There was no memory for them.
     Memory,

@@ -8,7 +8,7 @@ use spa::TextFault;
 use std::alloc::AllocError;
 
 /// Why rows are not those of an office.
-#[derive(Debug, Drop, Clone, Copy, PartialEq, Eq)]
+#[derive(Drop, Clone, Copy, PartialEq, Eq)]
 pub enum RowsFault {
     /// A growth of memory was refused.
     Memory,

@@ -3,7 +3,6 @@
 
 use spa::{Instance, Matching};
 use std::alloc::AllocError;
-use thiserror::Error;
 use verdict::Prices;
 
 /// The parts of a round text. A text without prices gives empty ones, and a student without a pair has no place.
@@ -18,17 +17,14 @@ pub struct RoundParts {
 }
 
 /// Why a text was not read as a round text.
-#[derive(Clone, Copy, Debug, PartialEq, Eq, Drop, Error)]
+#[derive(Clone, Copy, PartialEq, Eq, Drop)]
 pub enum RoundFault {
     /// A growth of memory was refused.
-    #[error("no memory for the round text")]
     Memory,
     /// The text has more than 262,144 bytes. This is judged before any line.
-    #[error("the round text is too large")]
     TooLarge,
     /// The first line, from 1, up to which the lines begin no round text; one more than the number of lines where the text
     /// ends too early.
-    #[error("bad line {0}")]
     Line(usize),
 }
 

@@ -16,7 +16,7 @@ use std::io;
 use verdict::{CheckFault, check};
 
 /// Why a line prints no result.
-#[derive(Debug, Drop)]
+#[derive(Drop)]
 pub enum Trouble {
     /// It is refused.
     Refused(Refusal),

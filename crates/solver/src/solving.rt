@@ -15,7 +15,7 @@ use std::alloc::{AllocError, Global};
 use verdict::{Prices, verdict_law};
 
 /// A matching, and prices that prove it best.
-#[derive(Debug, Drop)]
+#[derive(Drop)]
 pub struct Solved {
     pub matching: Matching,
     pub prices: Prices,

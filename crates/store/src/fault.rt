@@ -8,16 +8,13 @@ use std::alloc::{AllocError, AllocFailed};
 use tables::fault::TableFault;
 
 /// Why a call of the store was not carried out.
-#[derive(Clone, Copy, Debug, Drop, PartialEq, Eq, thiserror::Error)]
+#[derive(Clone, Copy, Drop, PartialEq, Eq)]
 pub enum StoreFault {
     /// A growth was refused.
-    #[error("out of memory")]
     Memory,
     /// The database refused it, or its disk failed.
-    #[error("the database failed")]
     Storage,
     /// The tables stand for no office of this edition.
-    #[error("the tables stand for no office of this edition")]
     Damaged,
 }
 

@@ -6,7 +6,7 @@ ghost use Rattle.tables.specs.Faults.{fault_of};
 use sqlite::{Error, ErrorCode};
 
 /// Why a statement was not carried out.
-#[derive(Clone, Copy, Debug, PartialEq, Eq, Drop)]
+#[derive(Clone, Copy, Drop)]
 pub enum TableFault {
     /// A growth was refused.
     Memory,

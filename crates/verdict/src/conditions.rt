@@ -12,20 +12,19 @@ use crate::cover::first_uncovered;
 use crate::prices::{Prices, has_shape, is_not_below_zero};
 use crate::totals::is_equal;
 use spa::{Instance, Matching, greedy_law, list_law, price_law};
-use thiserror::Error;
 
 /// The first condition that fails.
-#[derive(Clone, Copy, Debug, PartialEq, Eq, Drop, Error)]
+#[derive(Clone, Copy, PartialEq, Eq, Drop)]
 pub enum CheckFault {
-    #[error("the matching is none of the instance")]
+    /// The matching is none of the instance.
     NotMatching,
-    #[error("there is not one price within the limits for each entry of each roll")]
+    /// There is not one price within the limits for each entry of each roll.
     Shape,
-    #[error("a price is below zero")]
+    /// A price is below zero.
     Below,
-    #[error("student {0} and the project at place {1} of the list pay less than the pair weighs")]
+    /// This student and the project at this place of the list pay less than the pair weighs.
     Uncovered(usize, usize),
-    #[error("the prices do not add up to the matching's total weight")]
+    /// The prices do not add up to the total weight of the matching.
     Unequal,
 }
 

@@ -13,7 +13,7 @@ use spa::{Instance, PLACES, precedes};
 pub const LIMIT: i64 = 1_000_000;
 
 /// Prices of the students, projects and supervisors of an instance, in its order.
-#[derive(Debug, Drop)]
+#[derive(Drop)]
 pub struct Prices {
     pub students: Vec<[i64; PLACES]>,
     pub projects: Vec<[i64; PLACES]>,

@@ -14,7 +14,7 @@ use std::net::TcpListener;
 use wire::{End, Served, ShortText, Sink, StreamFault, Watched, write_all};
 
 /// The writer that lines go to failed: its count of failures grew by one.
-#[derive(Debug, Clone, Copy, PartialEq, Eq, Drop)]
+#[derive(Clone, Copy, Drop)]
 pub struct OutFault;
 
 /// The word for the end of a stream.

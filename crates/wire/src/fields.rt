@@ -12,7 +12,7 @@ use httparse::spans::HeaderSpan;
 const GREATEST_BODY: u64 = 65536;
 
 /// What a head says of its body: the length, that it says something wrong, or that there is too much.
-#[derive(Clone, Copy, Debug, PartialEq, Eq)]
+#[derive(Clone, Copy)]
 pub enum Framing {
     Length(usize),
     Wrong,

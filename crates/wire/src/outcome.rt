@@ -1,7 +1,7 @@
 //! How the service of a stream ends.
 
 /// Why a stream's messages end.
-#[derive(Clone, Copy, Debug, PartialEq, Eq)]
+#[derive(Clone, Copy, PartialEq, Eq)]
 pub enum End {
     /// Nothing came after the last message.
     Closed,
@@ -16,7 +16,7 @@ pub enum End {
 }
 
 /// What stopped the service of a stream before its end.
-#[derive(Clone, Copy, Debug, PartialEq, Eq)]
+#[derive(Clone, Copy, PartialEq, Eq)]
 pub enum StreamFault {
     /// No memory for a buffer of the stream.
     Memory,
@@ -27,7 +27,7 @@ pub enum StreamFault {
 }
 
 /// How many answers were written, and why the stream ended.
-#[derive(Clone, Copy, Debug, PartialEq, Eq)]
+#[derive(Clone, Copy, PartialEq, Eq)]
 pub struct Served {
     pub answered: u32,
     pub end: End,
