@@ -63,7 +63,7 @@ fn is_put<S: Alter>(alloc: Global, rt: &impl Abort, desk: &mut Desk<S>) -> Resul
 }
 
 /// The same at a desk over this database. There is no desk where the calls are too few to open it.
-fn is_put_over<S: Alter>(
+fn is_put_over<S: Alter + Drop>(
     alloc: Global,
     rt: &impl Abort,
     connection: Connection<S>,

@@ -1,6 +1,6 @@
 //! Import texts: what each stands for, request by request, and why a text is none.
 
-use crate::judged::holds;
+use crate::judged::{holds, well};
 use imports::{ImportFault, read_import};
 use rolls::{ImportKind, Plain};
 use std::alloc::{AllocError, Global};
@@ -113,7 +113,7 @@ fn read(
 fn texts_are_read_request_by_request(rt: HostRuntime) -> Result<(), Fail> {
     let alloc = rt.alloc();
     for (name, kind, text, want) in TEXTS.as_slice() {
-        let requests = read(alloc, &rt, *kind, text)?;
+        let requests = well(read(alloc, &rt, *kind, text), *name)?;
         let shown = shown(alloc, &requests)?;
         holds(&rt, shown.as_str() == *want, name);
     }
@@ -143,15 +143,7 @@ fn the_longest_text_is_read(rt: HostRuntime) -> Result<(), Fail> {
     let alloc = rt.alloc();
     let text = longest_text(alloc)?;
     holds(&rt, text.len() == 65_536, "as long as may be");
-    let requests = read(alloc, &rt, ImportKind::Students, &text)?;
+    let requests = well(read(alloc, &rt, ImportKind::Students, &text), "the longest text")?;
     holds(&rt, requests.len() == 21_842, "the longest text");
-    Ok(())
-}
-
-#[test]
-fn a_fault_is_printed(rt: HostRuntime) -> Result<(), Fail> {
-    let text = ImportFault::Fields { record: 3 }.to_string(rt.alloc())?;
-    let want = "record 3 has another number of fields than the header";
-    holds(&rt, text.as_str() == want, want);
     Ok(())
 }

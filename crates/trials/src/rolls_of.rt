@@ -1,5 +1,6 @@
 //! Instances and matchings from short texts, for the tests that work out examples.
 
+use crate::judged::well;
 use spa::{Code, Instance, Matching};
 use std::alloc::Global;
 use std::test::Fail;
@@ -9,7 +10,7 @@ pub(crate) fn supervisors(alloc: Global, text: &str) -> Result<Vec<(Code, u32)>,
     let mut roll = Vec::new(alloc);
     for entry in text.split_whitespace() {
         let mut fields = entry.split(':');
-        let code = Code::read(fields.next().unwrap_or(""))?;
+        let code = well(Code::read(fields.next().unwrap_or("")), "a code")?;
         let quota = fields.next().unwrap_or("").parse()?;
         roll.push((code, quota))?;
     }
@@ -21,8 +22,8 @@ pub(crate) fn projects(alloc: Global, text: &str) -> Result<Vec<(Code, Code, u32
     let mut roll = Vec::new(alloc);
     for entry in text.split_whitespace() {
         let mut fields = entry.split(':');
-        let code = Code::read(fields.next().unwrap_or(""))?;
-        let supervisor = Code::read(fields.next().unwrap_or(""))?;
+        let code = well(Code::read(fields.next().unwrap_or("")), "a code")?;
+        let supervisor = well(Code::read(fields.next().unwrap_or("")), "a code")?;
         let quota = fields.next().unwrap_or("").parse()?;
         roll.push((code, supervisor, quota))?;
     }
@@ -34,10 +35,10 @@ pub(crate) fn students(alloc: Global, text: &str) -> Result<Vec<(Code, Vec<Code>
     let mut roll = Vec::new(alloc);
     for entry in text.split_whitespace() {
         let mut fields = entry.split(':');
-        let code = Code::read(fields.next().unwrap_or(""))?;
+        let code = well(Code::read(fields.next().unwrap_or("")), "a code")?;
         let mut list = Vec::new(alloc);
         for field in fields {
-            list.push(Code::read(field)?)?;
+            list.push(well(Code::read(field), "a code")?)?;
         }
         roll.push((code, list))?;
     }
@@ -51,12 +52,10 @@ pub(crate) fn instance(
     project_roll: &str,
     student_roll: &str,
 ) -> Result<Instance, Fail> {
-    Ok(Instance::new(
-        alloc,
-        supervisors(alloc, supervisor_roll)?,
-        projects(alloc, project_roll)?,
-        students(alloc, student_roll)?,
-    )?)
+    let supervisors = supervisors(alloc, supervisor_roll)?;
+    let projects = projects(alloc, project_roll)?;
+    let students = students(alloc, student_roll)?;
+    well(Instance::new(alloc, supervisors, projects, students), "an instance")
 }
 
 /// The places of `1-2`, where `-` is none.

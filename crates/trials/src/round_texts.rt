@@ -1,6 +1,6 @@
 //! Round texts: a worked one, its faulty variants, and each call on its happy path.
 
-use crate::judged::holds;
+use crate::judged::{holds, well};
 use intake::{RoundFault, RoundParts, read_round, write_round};
 use std::alloc::Global;
 use std::process::Abort;
@@ -72,7 +72,7 @@ static FAULTY_TEXTS: [(&str, &str, usize); 38] = [
 #[test]
 fn the_worked_text_is_read_and_written(rt: HostRuntime) -> Result<(), Fail> {
     let alloc = rt.alloc();
-    let parts = read_round(alloc, WORKED.as_bytes())?;
+    let parts = well(read_round(alloc, WORKED.as_bytes()), "the worked text")?;
     let instance = &parts.instance;
     assert_eq!(rt; instance.supervisor_count(), 1);
     assert_eq!(rt; instance.project_count(), 3);
@@ -132,12 +132,5 @@ fn the_size_is_judged_first(rt: HostRuntime) -> Result<(), Fail> {
         let fault = fault_of(rt.alloc(), &empty_lines(rt.alloc(), lines)?);
         holds(&rt, fault == Some(want), "empty lines");
     }
-    Ok(())
-}
-
-#[test]
-fn a_bad_line_is_printed(rt: HostRuntime) -> Result<(), Fail> {
-    let text = RoundFault::Line(3).to_string(rt.alloc())?;
-    holds(&rt, text.as_str() == "bad line 3", "a bad line");
     Ok(())
 }

@@ -1,7 +1,7 @@
 //! The tables of a store: what is saved is read back, and hand-made tables are judged.
 
 use crate::cells::first_cell;
-use crate::judged::holds;
+use crate::judged::{holds, well};
 use crate::offices::{Put, row};
 use crate::played::count;
 use desk::Desk;
@@ -98,7 +98,7 @@ fn compare_save(
 /// The changes are saved and loaded. The project is refused by its table, and the change before it is undone.
 fn save_and_load(alloc: Global, rt: &impl Abort, store: &mut Store<MemStore>) -> Result<(), Fail> {
     compare_save(rt, store, &changes(alloc)?, Ok(()));
-    let office = store.load()?;
+    let office = well(store.load(), "the office is read")?;
     holds(rt, has_anne(&office), "Anne");
     compare_save(rt, store, &refused(alloc)?, Err(StoreFault::Storage));
     Ok(())
@@ -137,7 +137,7 @@ const STUDENTS: &str = "SELECT count(*) FROM student";
 fn saved_changes_are_read_back(rt: HostRuntime) -> Result<(), Fail> {
     let alloc = rt.alloc();
     let conn = Connection::open_in_memory(alloc)?;
-    let mut store = open(alloc, &rt, conn, (0, 0, 0))?;
+    let mut store = well(open(alloc, &rt, conn, (0, 0, 0)), "the store is opened")?;
     save_and_load(alloc, &rt, &mut store)?;
     let mut conn = store.into_connection();
     let quota = "SELECT quota FROM project WHERE code = 'P'";
@@ -317,7 +317,7 @@ fn other_tables_are_left_alone(rt: HostRuntime) -> Result<(), Fail> {
     let alloc = rt.alloc();
     let mut conn = beside_another(alloc, &rt)?;
     execute_all(&mut conn, &[PETS])?;
-    let mut store = open(alloc, &rt, conn, (0, 0, 1))?;
+    let mut store = well(open(alloc, &rt, conn, (0, 0, 1)), "the store is opened")?;
     refuses_bob(alloc, &rt, &mut store)?;
     let mut conn = store.into_connection();
     compare_counts(&rt, &mut conn, &[(STUDENTS, 1)])?;
