@@ -143,7 +143,10 @@ fn the_longest_text_is_read(rt: HostRuntime) -> Result<(), Fail> {
     let alloc = rt.alloc();
     let text = longest_text(alloc)?;
     holds(&rt, text.len() == 65_536, "as long as may be");
-    let requests = well(read(alloc, &rt, ImportKind::Students, &text), "the longest text")?;
+    let requests = well(
+        read(alloc, &rt, ImportKind::Students, &text),
+        "the longest text",
+    )?;
     holds(&rt, requests.len() == 21_842, "the longest text");
     Ok(())
 }

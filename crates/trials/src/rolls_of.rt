@@ -55,7 +55,10 @@ pub(crate) fn instance(
     let supervisors = supervisors(alloc, supervisor_roll)?;
     let projects = projects(alloc, project_roll)?;
     let students = students(alloc, student_roll)?;
-    well(Instance::new(alloc, supervisors, projects, students), "an instance")
+    well(
+        Instance::new(alloc, supervisors, projects, students),
+        "an instance",
+    )
 }
 
 /// The places of `1-2`, where `-` is none.
