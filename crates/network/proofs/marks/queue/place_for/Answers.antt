@@ -41,4 +41,3 @@ loop-low-preserved g c =
       before = λ k b l e. at_most_trans laws _ (key c.index.result.now) _ (ordered_upto laws c.args.flow.now marks xs c.requires.line.ordered middle k c.index.result.now b at e (omega (arith, l))) low;
       after = c.loop-low.invariant.after;
     }
-
