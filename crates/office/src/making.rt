@@ -8,7 +8,7 @@ use spa::{Code, Label};
 use std::alloc::{AllocError, Global};
 
 /// A code of a text that was judged to be one.
-pub fn code_of(text: &str) -> Code
+pub(crate) fn code_of(text: &str) -> Code
     requires { IsTrue (is_code text.now) }
     ensures { result ≡ text.now }
 {
@@ -36,7 +36,7 @@ fn put_of_row(alloc: Global, row: Row) -> Result<Vec<Change>, AllocError>
 }
 
 /// A supervisor, and the change that puts the row.
-pub fn new_supervisor(
+pub(crate) fn new_supervisor(
     alloc: Global,
     code: Text,
     label: Text,
@@ -57,7 +57,7 @@ pub fn new_supervisor(
 }
 
 /// A project, and the change that puts the row.
-pub fn new_project(
+pub(crate) fn new_project(
     alloc: Global,
     code: Text,
     label: Text,
@@ -87,7 +87,7 @@ pub fn new_project(
 }
 
 /// A student, and the change that puts the row.
-pub fn new_student(
+pub(crate) fn new_student(
     alloc: Global,
     code: Text,
     label: Text,

@@ -19,13 +19,6 @@ use std::alloc::AllocError;
 use std::mem;
 
 impl Office {
-    /// The imports that were made, by id.
-    pub fn imports(&self) -> &[Import]
-        ensures all { let o = self.now in result.now ≡ o.imports }
-    {
-        self.imports.entries()
-    }
-
     /// How many rows the import of an id has, if there is one. Takes no memory.
     pub fn kept_rows(&self, id: &str) -> Option<u32>
         ensures { result ≡ kept_rows self.now id.now }

@@ -14,7 +14,7 @@ use spa::{
 
 impl Office {
     /// Why a supervisor can't be put.
-    pub fn supervisor_refusal(&self, code: &str, label: &str, quota: u32) -> Option<Refusal>
+    pub(crate) fn supervisor_refusal(&self, code: &str, label: &str, quota: u32) -> Option<Refusal>
         ensures { result ≡ plain_refusal self.now (ask.PutSupervisor code.now label.now quota) }
     {
         if !is_code_text(code) {
@@ -38,7 +38,7 @@ impl Office {
     }
 
     /// Why a project can't be put.
-    pub fn project_refusal(
+    pub(crate) fn project_refusal(
         &self,
         code: &str,
         label: &str,
@@ -75,7 +75,7 @@ impl Office {
     }
 
     /// Why a student can't be put.
-    pub fn student_refusal(&self, code: &str, label: &str) -> Option<Refusal>
+    pub(crate) fn student_refusal(&self, code: &str, label: &str) -> Option<Refusal>
         ensures { result ≡ plain_refusal self.now (ask.PutStudent code.now label.now) }
     {
         if !is_code_text(code) {
@@ -101,7 +101,7 @@ impl Office {
     }
 
     /// Why a round can't be opened.
-    pub fn opening_refusal(&self) -> Option<Refusal>
+    pub(crate) fn opening_refusal(&self) -> Option<Refusal>
         ensures { result ≡ plain_refusal self.now ask.OpenRound }
     {
         if self.round_is_open() {
@@ -114,7 +114,7 @@ impl Office {
     }
 
     /// Why the last round can't be reopened.
-    pub fn reopening_refusal(&self) -> Option<Refusal>
+    pub(crate) fn reopening_refusal(&self) -> Option<Refusal>
         ensures { result ≡ plain_refusal self.now ask.ReopenRound }
     {
         if self.round_is_open() {
@@ -127,7 +127,7 @@ impl Office {
     }
 
     /// Why nothing can be asked of the open round.
-    pub fn open_refusal(&self) -> Option<Refusal>
+    pub(crate) fn open_refusal(&self) -> Option<Refusal>
         ensures { result ≡ first (open_tests self.now) }
     {
         if !self.round_is_open() {
@@ -137,7 +137,7 @@ impl Office {
     }
 
     /// Why a list can't be put.
-    pub fn list_refusal(&self, student: &str, choices: &[Text]) -> Option<Refusal>
+    pub(crate) fn list_refusal(&self, student: &str, choices: &[Text]) -> Option<Refusal>
         ensures { result ≡ plain_refusal self.now (ask.PutList student.now choices.now) }
     {
         if !self.round_is_open() {
@@ -172,7 +172,7 @@ impl Office {
     }
 
     /// Why a list can't be dropped.
-    pub fn drop_refusal(&self, student: &str) -> Option<Refusal>
+    pub(crate) fn drop_refusal(&self, student: &str) -> Option<Refusal>
         ensures { result ≡ plain_refusal self.now (ask.DropList student.now) }
     {
         if !self.round_is_open() {

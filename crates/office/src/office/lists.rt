@@ -38,7 +38,7 @@ impl Office {
     }
 
     /// Makes a student's list in the open round this one.
-    pub fn put_list(&mut self, student: Text, choices: Texts) -> Result<Done, AllocError>
+    pub(crate) fn put_list(&mut self, student: Text, choices: Texts) -> Result<Done, AllocError>
         requires allowed { plain_refusal self.old (ask.PutList student choices) ≡ None }
         ensures ok { IfOk result (IsDone (ask.PutList student choices) self.old self.new) }
         ensures err { OnErr result (self.new ≡ self.old) }
@@ -61,7 +61,7 @@ impl Office {
     }
 
     /// Takes a student's list out of the open round.
-    pub fn drop_list(&mut self, student: Text) -> Result<Done, AllocError>
+    pub(crate) fn drop_list(&mut self, student: Text) -> Result<Done, AllocError>
         requires allowed { plain_refusal self.old (ask.DropList student) ≡ None }
         ensures ok { IfOk result (IsDone (ask.DropList student) self.old self.new) }
         ensures err { OnErr result (self.new ≡ self.old) }

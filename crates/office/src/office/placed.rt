@@ -24,7 +24,7 @@ impl Office {
     }
 
     /// Whether a round is open.
-    pub fn round_is_open(&self) -> bool
+    pub(crate) fn round_is_open(&self) -> bool
         ensures { result ≡ round_is_open self.now }
     {
         match self.rounds.by_number(self.last_round()) {
@@ -44,14 +44,14 @@ impl Office {
     }
 
     /// How many students all rounds placed with a supervisor: at most 500.
-    pub fn placed_with_supervisor(&self, code: &str) -> u32
+    pub(crate) fn placed_with_supervisor(&self, code: &str) -> u32
         ensures { result ≡ placed_with_supervisor self.now code.now }
     {
         closing::placed_with_supervisor(&self.projects, self.placements.entries(), code) as u32
     }
 
     /// How many students all rounds placed in a project: at most 500.
-    pub fn placed_in_project(&self, code: &str) -> u32
+    pub(crate) fn placed_in_project(&self, code: &str) -> u32
         ensures { result ≡ placed_in_project self.now code.now }
     {
         closing::placed_in_project(self.placements.entries(), code) as u32
@@ -59,7 +59,7 @@ impl Office {
 }
 
 /// How many of the placements a round made.
-pub fn placed_by(placements: &[Placement], round: u32) -> usize
+pub(crate) fn placed_by(placements: &[Placement], round: u32) -> usize
     ensures { result ≡ count_by (λ p. p.round == round) placements.now }
 {
     placements
@@ -79,7 +79,7 @@ fn placed_at(placements: &[Placement], round: u32, rank: u32) -> usize
 }
 
 /// How many of them have rank 1 and so on.
-pub fn ranked(placements: &[Placement], round: u32) -> [u32; RANKS]
+pub(crate) fn ranked(placements: &[Placement], round: u32) -> [u32; RANKS]
     requires few { length placements.now ≤ 500 }
     ensures { result ≡ by_rank (λ k. count_by (λ p. (p.round == round) && (p.rank == k + 1)) placements.now) }
 {

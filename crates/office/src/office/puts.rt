@@ -12,7 +12,7 @@ use std::alloc::AllocError;
 
 impl Office {
     /// Puts a supervisor on the roll.
-    pub fn put_supervisor(
+    pub(crate) fn put_supervisor(
         &mut self,
         code: Text,
         label: Text,
@@ -31,7 +31,7 @@ impl Office {
     }
 
     /// Puts a project on the roll.
-    pub fn put_project(
+    pub(crate) fn put_project(
         &mut self,
         code: Text,
         label: Text,
@@ -51,7 +51,7 @@ impl Office {
     }
 
     /// Puts a student on the roll.
-    pub fn put_student(&mut self, code: Text, label: Text) -> Result<Done, AllocError>
+    pub(crate) fn put_student(&mut self, code: Text, label: Text) -> Result<Done, AllocError>
         requires allowed { plain_refusal self.old (ask.PutStudent code label) ≡ None }
         ensures ok { IfOk result (IsDone (ask.PutStudent code label) self.old self.new) }
         ensures err { OnErr result (self.new ≡ self.old) }

@@ -13,7 +13,7 @@ use std::alloc::AllocError;
 
 impl Office {
     /// A supervisor, as answered.
-    pub fn get_supervisor(&self, code: &str) -> Result<Reply, AllocError>
+    pub(crate) fn get_supervisor(&self, code: &str) -> Result<Reply, AllocError>
         requires allowed { plain_refusal self.now (ask.GetSupervisor code.now) ≡ None }
         ensures reply { IfOk result (λ reply. reply ≡ plain_reply (ask.GetSupervisor code.now) self.now) }
     {
@@ -26,7 +26,7 @@ impl Office {
     }
 
     /// A project, as answered.
-    pub fn get_project(&self, code: &str) -> Result<Reply, AllocError>
+    pub(crate) fn get_project(&self, code: &str) -> Result<Reply, AllocError>
         requires allowed { plain_refusal self.now (ask.GetProject code.now) ≡ None }
         ensures reply { IfOk result (λ reply. reply ≡ plain_reply (ask.GetProject code.now) self.now) }
     {
@@ -63,7 +63,7 @@ impl Office {
     }
 
     /// A student, as answered.
-    pub fn get_student(&self, code: &str) -> Result<Reply, AllocError>
+    pub(crate) fn get_student(&self, code: &str) -> Result<Reply, AllocError>
         requires allowed { plain_refusal self.now (ask.GetStudent code.now) ≡ None }
         ensures reply { IfOk result (λ reply. reply ≡ plain_reply (ask.GetStudent code.now) self.now) }
     {
@@ -76,7 +76,7 @@ impl Office {
     }
 
     /// A round, as answered.
-    pub fn get_round(&self, round: u32) -> Reply
+    pub(crate) fn get_round(&self, round: u32) -> Reply
         requires allowed { plain_refusal self.now (ask.GetRound round) ≡ None }
         ensures reply { result ≡ plain_reply (ask.GetRound round) self.now }
     {

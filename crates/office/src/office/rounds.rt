@@ -30,7 +30,7 @@ impl Office {
     }
 
     /// The last round. Its lists are shared.
-    pub fn last(&self) -> Result<Round, AllocError>
+    pub(crate) fn last(&self) -> Result<Round, AllocError>
         requires found { is_some (round_of self.now (last_round self.now)) ≡ true }
         ensures last { IfOk result (λ last. round_of self.now (last_round self.now) ≡ Some last) }
     {
@@ -41,7 +41,7 @@ impl Office {
     }
 
     /// Opens the next round.
-    pub fn open_round(&mut self) -> Result<Done, AllocError>
+    pub(crate) fn open_round(&mut self) -> Result<Done, AllocError>
         requires allowed { plain_refusal self.old ask.OpenRound ≡ None }
         ensures ok { IfOk result (IsDone ask.OpenRound self.old self.new) }
         ensures err { OnErr result (self.new ≡ self.old) }
@@ -64,7 +64,7 @@ impl Office {
     }
 
     /// Opens the last round again.
-    pub fn reopen_round(&mut self) -> Result<Done, AllocError>
+    pub(crate) fn reopen_round(&mut self) -> Result<Done, AllocError>
         requires allowed { plain_refusal self.old ask.ReopenRound ≡ None }
         ensures ok { IfOk result (IsDone ask.ReopenRound self.old self.new) }
         ensures err { OnErr result (self.new ≡ self.old) }
