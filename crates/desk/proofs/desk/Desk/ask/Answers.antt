@@ -8,7 +8,7 @@ use Rattle.rolls.specs.declared.refusal.Refusal.{Refusal}
 use Rattle.rolls.specs.declared.request.Request.{Request}
 use Rattle.rolls.specs.declared.request.Request.TheVariants as request
 use Rattle.rolls.specs.State.{State}
-use Rattle.rolls.specs.Run.{Makes, refusal}
+use Rattle.rolls.specs.Run.{Makes, Step, refusal}
 use Rattle.allotment.specs.Layers.{layers}
 use Rattle.rolls.specs.Refusing.{refusal_of}
 use Rattle.desk.proofs.Following.{read_goes}
@@ -46,3 +46,7 @@ pub returns-in-Close-clause-crash : goal.returns-in-Close-clause-crash
 returns-in-Close-clause-crash g c =
     subst (λ (q : Request). Survives (state g.S.Store c.args.self.now.store) (state g.S.Store c.change-in-Close.new.self.store) (IsLeft (λ _. StandsForOne (CarriesOut c.args.self.now.office q)) (state g.S.Store c.args.self.now.store))) (sym c.in-Close.is)
     c.change-in-Close.ensures.crash
+
+pub returns-in-Preview-clause-step : goal.returns-in-Preview-clause-step
+returns-in-Preview-clause-step g c =
+    subst (λ (q : Request). Step layers c.args.self.now.office q c.preview.result c.preview.new.self.office) (sym c.in-Preview.is) c.preview.ensures.step

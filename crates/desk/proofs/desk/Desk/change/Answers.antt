@@ -53,3 +53,7 @@ pub returns-in-Ok-clause-crash : goal.returns-in-Ok-clause-crash
 returns-in-Ok-clause-crash g c =
     left_so c.args.request c.self.inside.office c.args.self.now.office (state g.S.Store c.self.inside.store) (state g.S.Store c.args.self.now.store) (state g.S.Store c.save.new.self.store) (state g.S.Store c.keep_session.new.self.store)
     (ap (λ k. k.office) c.self.view_is) (ap (λ k. state g.S.Store k.store) c.self.view_is) (sym (ap (λ k. state g.S.Store k.store) c.keep_session.ensures.kept)) c.save.ensures.crash
+
+pub returns-in-Err-clause-session : goal.returns-in-Err-clause-session
+returns-in-Err-clause-session g c =
+    ap (λ k. k.session) c.keep_session-in-Err.ensures.kept ∙ c.take-kept.ensures.value ∙ ap (λ k. k.session) c.self.view_is

@@ -1,11 +1,16 @@
-use Rattle.std.proofs.Common.{◌≡◌, List, Option, refl, sym, ap, subst, ◌∙◌}
+use Rattle.std.proofs.Common.{◌≡◌, List, Option, Err, Result, refl, sym, ap, subst, ◌∙◌}
 use Rattle.sqlite.specs.State.{State as Seen, Survives}
 use Rattle.sqlite.specs.Held.{state}
 use Rattle.tables.specs.Steps.{IsLeft}
 use Rattle.rolls.specs.declared.row.Change.{Change}
 use Rattle.rolls.specs.State.{State}
 use Rattle.rolls.specs.Rows.{Turns}
-use Rattle.store.specs.Saving.{Saves}
+use Rattle.rolls.specs.declared.refusal.Refusal.{Refusal}
+use Rattle.rolls.specs.declared.refusal.Refusal.TheVariants.{Storage as TheStorage}
+use Rattle.rolls.specs.declared.request.Reply.{Reply}
+use Rattle.store.specs.declared.fault.StoreFault.{StoreFault}
+use Rattle.store.specs.declared.fault.StoreFault.TheVariants.{Storage}
+use Rattle.store.specs.Saving.{AreActedOn, Saves}
 use Rattle.solver.specs.Sitting.{Sitting}
 use Rattle.desk.specs.Sessions.{SitsAt}
 use Rattle.desk.proofs.Settling.{saved_keeps, kept_keeps}
@@ -55,3 +60,14 @@ returns-in-Err-clause-tables g c =
 
 pub returns-in-Ok-clause-alone : goal.returns-in-Ok-clause-alone
 returns-in-Ok-clause-alone g c = c.in-Ok.ensures.alone
+
+-- where a foreign key would write other rows too, what is told is a storage error
+acted_so : (before seen : Seen) (fault : StoreFault) (refusal : Refusal) → before ≡ seen
+    → (AreActedOn before.now.schema → ◌≡◌ {A = Result (Unit {0}) StoreFault} (Err fault) (Err Storage)) → (fault ≡ Storage → refusal ≡ TheStorage)
+    → AreActedOn seen.now.schema → ◌≡◌ {A = Result Reply Refusal} (Err refusal) (Err TheStorage)
+acted_so before seen fault refusal e failed told acted = let is = failed (subst (λ (z : Seen). AreActedOn z.now.schema) (sym e) acted) in ap Err (told cc)
+
+pub returns-in-Err-clause-acted_on : goal.returns-in-Err-clause-acted_on
+returns-in-Err-clause-acted_on g c =
+    acted_so (state g.S.Store c.self.inside.store) (state g.S.Store c.args.self.now.store) c.in-Err.fault c.refusal_of_fault.result
+    (ap (λ k. state g.S.Store k.store) c.self.view_is) c.in-Err.ensures.acted_on c.refusal_of_fault.ensures.storage
