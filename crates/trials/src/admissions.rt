@@ -1,4 +1,4 @@
-//! Worked admissions to a network; the last two tests count what this search compares.
+//! Worked admissions to a network; the last test counts what this search compares.
 
 ghost use Rattle.std.specs.Prelude.{◌≡◌, ◌+◌, ◌<◌, ◌≤◌, length, IsTrue, All};
 ghost use Rattle.spa.specs.Places.{lex_ops};
@@ -137,6 +137,18 @@ impl Trial {
             None => 0,
         }
     }
+
+    /// How many students have a place, and the sum of their ranks.
+    fn totals(&self, rt: &impl Abort) -> (usize, usize) {
+        let mut placed: usize = 0;
+        let mut ranks: usize = 0;
+        for student in 0..self.students {
+            let rank = self.rank_of(rt, student);
+            placed = placed.wrapping_add(rank.min(1));
+            ranks = ranks.wrapping_add(rank);
+        }
+        (placed, ranks)
+    }
 }
 
 /// A list with the worth of each rank.
@@ -148,203 +160,109 @@ fn ranked(alloc: Global, projects: &[usize]) -> Result<Vec<(usize, Lex)>, Fail> 
     Ok(list)
 }
 
-/// What an admission answered, the relaxations since the start, and the rank of each student after it, from 1, or 0.
-#[derive(Drop)]
-struct Shown {
-    placed: bool,
-    relaxations: u64,
-    steps: u64,
-    ranks: Vec<usize>,
+/// The sizes of all prices added up, each as often as its quota says, and a student's once.
+fn paid(trial: &Trial, quotas: &[u32], offers: &[(usize, u32)]) -> Result<i64, Fail> {
+    let (students, projects, supervisors) = trial.network.prices()?;
+    let mut sum: i64 = 0;
+    for price in &students {
+        sum = sum.wrapping_add(price.0[0]);
+    }
+    for (price, (_supervisor, quota)) in projects.iter().zip(offers.iter()) {
+        sum = sum.wrapping_add(price.0[0].wrapping_mul(i64::from(*quota)));
+    }
+    for (price, quota) in supervisors.iter().zip(quotas.iter()) {
+        sum = sum.wrapping_add(price.0[0].wrapping_mul(i64::from(*quota)));
+    }
+    Ok(sum)
 }
 
-/// Admits a student, and shows what came of it.
-fn show(
+/// A student's list; how many have a place once it is admitted, and the sum of their ranks; and the least and the most
+/// relaxations that its admission may make.
+type Admission = (&'static [usize], usize, usize, (u64, u64));
+
+/// As many relaxations as may be, and at least one.
+const SOME: (u64, u64) = (1, u64::MAX);
+
+/// The quotas of supervisors; the supervisor and the quota of each project; and students in turn.
+type Case = (
+    &'static [u32],
+    &'static [(usize, u32)],
+    &'static [Admission],
+);
+
+/// Makes an admission, and compares what comes of it.
+fn compare_admission(
     alloc: Global,
     rt: &impl Abort,
     trial: &mut Trial,
-    projects: &[usize],
-) -> Result<Shown, Fail> {
-    let admitted = trial.admit(rt, alloc, projects)?;
-    let mut ranks = Vec::new(alloc);
-    for student in 0..trial.students {
-        ranks.push(trial.rank_of(rt, student))?;
-    }
-    Ok(Shown {
-        placed: admitted.placed,
-        relaxations: admitted.relaxations,
-        steps: trial.network.steps(),
-        ranks,
-    })
+    (list, placed, ranks, (least, most)): Admission,
+) -> Result<(), Fail> {
+    let student = trial.students;
+    let before = trial.network.steps();
+    let admitted = trial.admit(rt, alloc, list)?;
+    holds(rt, trial.totals(rt) == (placed, ranks), "the places");
+    let has_place = trial.rank_of(rt, student) > 0;
+    holds(rt, admitted.placed == has_place, "the new student's place");
+    let count = admitted.relaxations;
+    let steps = before.wrapping_add(count);
+    let is_counted = least <= count && count <= most;
+    holds(
+        rt,
+        is_counted && trial.network.steps() == steps,
+        "the count",
+    );
+    Ok(())
 }
 
-/// Admits a student with each list in turn, and shows what came of each.
-fn show_all(
-    alloc: Global,
-    rt: &impl Abort,
-    trial: &mut Trial,
-    lists: &[&[usize]],
-) -> Result<Vec<Shown>, Fail> {
-    let mut all = Vec::new(alloc);
-    for list in lists {
-        all.push(show(alloc, rt, trial, list)?)?;
-    }
-    Ok(all)
-}
-
-/// Whether both students of the worked example are placed so after each admission, within 7 times 11 and then 8 times 14
-/// relaxations.
-fn are_placed(all: &[Shown]) -> bool {
-    match all {
-        [first, second] => {
-            let is_first = first.placed && first.relaxations <= 77;
-            let is_second = second.placed && second.relaxations <= 112;
-            let are_ranks = first.ranks.as_slice() == [1].as_slice()
-                && second.ranks.as_slice() == [2, 2].as_slice();
-            is_first && is_second && are_ranks
+/// Makes the admissions of each case, and compares what comes of them, and that the prices pay for the places after each.
+fn compare_cases(alloc: Global, rt: &impl Abort, cases: &[Case]) -> Result<(), Fail> {
+    for (quotas, offers, admissions) in cases {
+        let mut trial = Trial::start(rt, alloc, quotas, offers)?;
+        holds(rt, trial.network.steps() == 0, "no steps");
+        for admission in *admissions {
+            compare_admission(alloc, rt, &mut trial, *admission)?;
+            let paid = paid(&trial, quotas, offers)?;
+            holds(rt, paid == admission.1 as i64, "what is paid");
         }
-        _ => false,
     }
+    Ok(())
 }
 
-/// One supervisor with quota 5 offers P and Q with quota 1 and Z with quota 0.
-fn worked(alloc: Global, rt: &impl Abort) -> Result<Trial, Fail> {
-    Trial::start(rt, alloc, &[5], &[(0, 1), (0, 1), (0, 0)])
-}
-
-/// L and M have quota 1; L offers P and Q with quota 1, and M offers R.
-fn tight(alloc: Global, rt: &impl Abort) -> Result<Trial, Fail> {
-    Trial::start(rt, alloc, &[1, 1], &[(0, 1), (0, 1), (1, 1)])
-}
-
-type Pair = (u32, u32, u32, [usize; 2], [usize; 2], usize, usize);
-
-// The supervisor's quota, those of P and Q, and the lists of A and B; then by hand how many are placed, and the sum of
-// their ranks.
+// The worked example: with A there are 6 nodes and 11 arcs, with C 7 and 14. One in which a student makes room at the only place of a
+// supervisor, and the last gets none. Then each quota of one supervisor and two projects in turn.
 #[rattlefmt::skip]
-static PAIRS: [Pair; 8] = [
-    (2, 1, 1, [0, 1], [1, 0], 2, 2),
-    (2, 1, 1, [0, 1], [0, 1], 2, 3),
-    (2, 2, 1, [0, 1], [0, 1], 2, 2),
-    (2, 1, 0, [0, 1], [0, 1], 1, 1),
-    (2, 0, 1, [0, 1], [0, 1], 1, 2),
-    (1, 1, 1, [0, 1], [1, 0], 1, 1),
-    (1, 2, 2, [1, 0], [1, 0], 1, 1),
-    (0, 1, 1, [0, 1], [1, 0], 0, 0),
+static CASES: [Case; 10] = [
+    (&[5],    &[(0, 1), (0, 1), (0, 0)], &[(&[0, 1], 1, 1, (1, 77)), (&[2, 0], 2, 4, (1, 112))]),
+    (&[1, 1], &[(0, 1), (0, 1), (1, 1)], &[(&[0, 2], 1, 1, SOME), (&[1], 2, 3, SOME), (&[0, 1, 2], 2, 3, SOME)]),
+    (&[2],    &[(0, 1), (0, 1)],         &[(&[0, 1], 1, 1, SOME), (&[1, 0], 2, 2, SOME)]),
+    (&[2],    &[(0, 1), (0, 1)],         &[(&[0, 1], 1, 1, SOME), (&[0, 1], 2, 3, SOME)]),
+    (&[2],    &[(0, 2), (0, 1)],         &[(&[0, 1], 1, 1, SOME), (&[0, 1], 2, 2, SOME)]),
+    (&[2],    &[(0, 1), (0, 0)],         &[(&[0, 1], 1, 1, SOME), (&[0, 1], 1, 1, SOME)]),
+    (&[2],    &[(0, 0), (0, 1)],         &[(&[0, 1], 1, 2, SOME), (&[0, 1], 1, 2, SOME)]),
+    (&[1],    &[(0, 1), (0, 1)],         &[(&[0, 1], 1, 1, SOME), (&[1, 0], 1, 1, SOME)]),
+    (&[1],    &[(0, 2), (0, 2)],         &[(&[1, 0], 1, 1, SOME), (&[1, 0], 1, 1, SOME)]),
+    (&[0],    &[(0, 1), (0, 1)],         &[(&[0, 1], 0, 0, SOME), (&[1, 0], 0, 0, SOME)]),
 ];
 
-/// Whether so many of a row are placed, and at these ranks.
-fn is_pair(all: &[Shown], quota: u32, placed: usize, ranks: usize) -> bool {
-    let [first, second] = all else {
-        return false;
-    };
-    match second.ranks.as_slice() {
-        [a, b] => {
-            let count = (*a).min(1).saturating_add((*b).min(1));
-            let is_told = first.placed == (quota > 0) && second.placed == (*b > 0);
-            is_told && count == placed && (*a).saturating_add(*b) == ranks
-        }
-        _ => false,
-    }
+#[test]
+fn admissions_place_as_many_as_can_be(rt: HostRuntime) -> Result<(), Fail> {
+    compare_cases(rt.alloc(), &rt, CASES.as_slice())
 }
 
-/// The same of each row.
-fn compare_pairs(alloc: Global, rt: &impl Abort, rows: &[Pair]) -> Result<(), Fail> {
-    for (quota, p, q, a, b, placed, ranks) in rows {
-        let mut trial = Trial::start(rt, alloc, &[*quota], &[(0, *p), (0, *q)])?;
-        let all = show_all(alloc, rt, &mut trial, &[a.as_slice(), b.as_slice()])?;
-        holds(rt, is_pair(&all, *quota, *placed, *ranks), "a pair");
-    }
-    Ok(())
-}
+// How much this search compares, counted by hand. Another search that is right may compare less or more, and then these numbers
+// change. In the first, A lists P, Q, and then C lists Z, P. The search compares, of A, that P is worth its cost, then P, Q and the
+// sink, the supervisor from P, and the sink from there; of C that Z is worth its cost, then Z, P and the sink, from P what A could
+// have instead (P, Q and the sink), the supervisor from Q, and the sink from there. In the second, each time a gain by one
+// comparison; then A with P, R, the sink, L, and from L with the sink; B with Q, the sink, L, from L with P and Q, from P with P, R
+// and the sink, with M and the sink; the third with P, Q, R, the sink, L, P and Q, with Q and the sink for B, and with P, R and the
+// sink for A.
+#[rattlefmt::skip]
+static COUNTED: [Case; 2] = [
+    (&[5],    &[(0, 1), (0, 1), (0, 0)], &[(&[0, 1], 1, 1, (6, 6)), (&[2, 0], 2, 4, (9, 9))]),
+    (&[1, 1], &[(0, 1), (0, 1), (1, 1)], &[(&[0, 2], 1, 1, (6, 6)), (&[1], 2, 3, (11, 11)), (&[0, 1, 2], 2, 3, (13, 13))]),
+];
 
 #[test]
-fn quotas_are_kept(rt: HostRuntime) -> Result<(), Fail> {
-    compare_pairs(rt.alloc(), &rt, PAIRS.as_slice())
-}
-
-/// Whether the first student made room for the second, and there was none for the third.
-fn made_room(all: &[Shown]) -> bool {
-    match all {
-        [first, second, third] => {
-            let is_first = first.ranks.as_slice() == [1].as_slice();
-            let is_second = second.placed && second.ranks.as_slice() == [2, 1].as_slice();
-            is_first && is_second && !third.placed && third.ranks.last() == Some(&0)
-        }
-        _ => false,
-    }
-}
-
-// A lists P, R; B lists Q alone, so A makes room at R; the third lists P, Q, R in vain.
-#[test]
-fn a_student_makes_room_with_the_supervisor(rt: HostRuntime) -> Result<(), Fail> {
-    let mut trial = tight(rt.alloc(), &rt)?;
-    let all = show_all(rt.alloc(), &rt, &mut trial, &[&[0, 2], &[1], &[0, 1, 2]])?;
-    holds(&rt, made_room(&all), "A makes room");
-    Ok(())
-}
-
-/// The sizes of prices added up, each as often as the quota.
-fn paid(prices: &[Lex], quotas: &[i64]) -> i64 {
-    let mut sum: i64 = 0;
-    for (price, quota) in prices.iter().zip(quotas.iter()) {
-        sum = sum.wrapping_add(price.0[0].wrapping_mul(*quota));
-    }
-    sum
-}
-
-/// Asserts that the prices pay for two places in all.
-fn pay_for_two(rt: &impl Abort, trial: &Trial) -> Result<(), Fail> {
-    let (students, projects, supervisors) = trial.network.prices()?;
-    let lengths = (students.len(), projects.len(), supervisors.len());
-    holds(rt, lengths == (2, 3, 1), "a price each");
-    let sum = paid(&students, &[1, 1])
-        .wrapping_add(paid(&projects, &[1, 1, 0]))
-        .wrapping_add(paid(&supervisors, &[5]));
-    holds(rt, sum == 2, "two places");
-    Ok(())
-}
-
-#[test]
-fn both_are_placed_and_the_prices_pay(rt: HostRuntime) -> Result<(), Fail> {
-    let mut trial = worked(rt.alloc(), &rt)?;
-    let all = show_all(rt.alloc(), &rt, &mut trial, &[&[0, 1], &[2, 0]])?;
-    holds(&rt, are_placed(&all), "both are placed");
-    pay_for_two(&rt, &trial)
-}
-
-// From here on: how much this search compares, counted by hand. Another search that is right may compare less or more, and
-// then these two tests change; all others have to pass with any search.
-
-/// Whether each admission took these relaxations, and the steps add them up.
-fn are_counted(all: &[Shown], relaxations: &[u64]) -> bool {
-    let mut is_well = all.len() == relaxations.len();
-    let mut steps: u64 = 0;
-    for (shown, count) in all.iter().zip(relaxations.iter()) {
-        steps = steps.wrapping_add(*count);
-        is_well = is_well && shown.relaxations == *count && shown.steps == steps;
-    }
-    is_well
-}
-
-// A lists P, Q, and then C lists Z, P. The search compares, of A, that P is worth its cost, then P, Q and the sink, the
-// supervisor from P, and the sink from there; of C that Z is worth its cost, then Z, P and the sink, from P what A could
-// have instead (P, Q and the sink), the supervisor from Q, and the sink from there.
-#[test]
-fn this_search_counts_two_admissions(rt: HostRuntime) -> Result<(), Fail> {
-    let mut trial = worked(rt.alloc(), &rt)?;
-    holds(&rt, trial.network.steps() == 0, "no steps");
-    let all = show_all(rt.alloc(), &rt, &mut trial, &[&[0, 1], &[2, 0]])?;
-    holds(&rt, are_counted(&all, &[6, 9]), "6 and 9");
-    Ok(())
-}
-
-// Each time a gain by one comparison; then A with P, R, the sink, L, and from L with the sink; B with Q, the sink, L, from L
-// with P and Q, from P with P, R and the sink, with M and the sink; the third with P, Q, R, the sink, L, P and Q, with Q and
-// the sink for B, and with P, R and the sink for A.
-#[test]
-fn this_search_counts_a_student_who_makes_room(rt: HostRuntime) -> Result<(), Fail> {
-    let mut trial = tight(rt.alloc(), &rt)?;
-    let all = show_all(rt.alloc(), &rt, &mut trial, &[&[0, 2], &[1], &[0, 1, 2]])?;
-    holds(&rt, are_counted(&all, &[6, 11, 13]), "6, 11 and 13");
-    Ok(())
+fn this_search_compares_so_much(rt: HostRuntime) -> Result<(), Fail> {
+    compare_cases(rt.alloc(), &rt, COUNTED.as_slice())
 }

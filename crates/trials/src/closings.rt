@@ -1,7 +1,7 @@
 //! Closings at a desk, byte for byte: which matching a round takes, with quotas that change between rounds, and rounds of
 //! sixty and forty lists.
 
-use crate::played::{Part, Sitting, play};
+use crate::played::{Part, Sitting, play_all};
 use crate::school::SCHOOL;
 use std::rt::HostRuntime;
 use std::test::Fail;
@@ -169,8 +169,5 @@ static PLAYS: [&[Sitting]; 8] = [
 
 #[test]
 fn rounds_close_by_their_lists(rt: HostRuntime) -> Result<(), Fail> {
-    for sittings in PLAYS.as_slice() {
-        play(rt.alloc(), &rt, sittings)?;
-    }
-    Ok(())
+    play_all(rt.alloc(), &rt, PLAYS.as_slice())
 }

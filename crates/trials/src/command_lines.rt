@@ -12,14 +12,16 @@ use std::test::Fail;
 use web::Watched;
 
 /// A round with a greedy maximum matching and prices that prove it; another price of P, another place of A, another price of Z,
-/// and no place of A; and what `check` prints of each.
+/// no place of A, prices at their limits, and none of Z; and what `check` prints of each.
 #[rattlefmt::skip]
 static CHECKS: &str =
-    r#"S,L,5^nP,P,L,1^nP,Q,L,1^nP,Z,L,0^nC,A,P,Q^nC,C,Z,P^nM,A,Q^nM,C,P^nU,A,1,0,1,0,0,0,0,0,0^nU,C,1,-1,2,0,0,0,0,0,0^nY,P,0,1,-1,0,0,0,0,0,0^nY,Q,0,0,0,0,0,0,0,0,0^nY,Z,0,2,-2,0,0,0,0,0,0^nZ,L,0,0,0,0,0,0,0,0,0^n  | spadesk check round.txt | 0 | best size 2 profile 0 2 0 0 0 0 0 0^n |
-       S,L,5^nP,P,L,1^nP,Q,L,1^nP,Z,L,0^nC,A,P,Q^nC,C,Z,P^nM,A,Q^nM,C,P^nU,A,1,0,1,0,0,0,0,0,0^nU,C,1,-1,2,0,0,0,0,0,0^nY,P,0,0,0,0,0,0,0,0,0^nY,Q,0,0,0,0,0,0,0,0,0^nY,Z,0,2,-2,0,0,0,0,0,0^nZ,L,0,0,0,0,0,0,0,0,0^n   | spadesk check round.txt | 1 | fault 4 A 1^n                         |
-       S,L,5^nP,P,L,1^nP,Q,L,1^nP,Z,L,0^nC,A,P,Q^nC,C,Z,P^nM,A,P^nM,C,P^nU,A,1,0,1,0,0,0,0,0,0^nU,C,1,-1,2,0,0,0,0,0,0^nY,P,0,1,-1,0,0,0,0,0,0^nY,Q,0,0,0,0,0,0,0,0,0^nY,Z,0,2,-2,0,0,0,0,0,0^nZ,L,0,0,0,0,0,0,0,0,0^n  | spadesk check round.txt | 1 | fault 1^n                             |
-       S,L,5^nP,P,L,1^nP,Q,L,1^nP,Z,L,0^nC,A,P,Q^nC,C,Z,P^nM,A,Q^nM,C,P^nU,A,1,0,1,0,0,0,0,0,0^nU,C,1,-1,2,0,0,0,0,0,0^nY,P,0,1,-1,0,0,0,0,0,0^nY,Q,0,0,0,0,0,0,0,0,0^nY,Z,-1,2,-2,0,0,0,0,0,0^nZ,L,0,0,0,0,0,0,0,0,0^n | spadesk check round.txt | 1 | fault 3^n                             |
-       S,L,5^nP,P,L,1^nP,Q,L,1^nP,Z,L,0^nC,A,P,Q^nC,C,Z,P^nM,C,P^nU,A,1,0,1,0,0,0,0,0,0^nU,C,1,-1,2,0,0,0,0,0,0^nY,P,0,1,-1,0,0,0,0,0,0^nY,Q,0,0,0,0,0,0,0,0,0^nY,Z,0,2,-2,0,0,0,0,0,0^nZ,L,0,0,0,0,0,0,0,0,0^n         | spadesk check round.txt | 1 | fault 5^n                             |"#;
+    r#"S,L,5^nP,P,L,1^nP,Q,L,1^nP,Z,L,0^nC,A,P,Q^nC,C,Z,P^nM,A,Q^nM,C,P^nU,A,1,0,1,0,0,0,0,0,0^nU,C,1,-1,2,0,0,0,0,0,0^nY,P,0,1,-1,0,0,0,0,0,0^nY,Q,0,0,0,0,0,0,0,0,0^nY,Z,0,2,-2,0,0,0,0,0,0^nZ,L,0,0,0,0,0,0,0,0,0^n             | spadesk check round.txt | 0 | best size 2 profile 0 2 0 0 0 0 0 0^n |
+       S,L,5^nP,P,L,1^nP,Q,L,1^nP,Z,L,0^nC,A,P,Q^nC,C,Z,P^nM,A,Q^nM,C,P^nU,A,1,0,1,0,0,0,0,0,0^nU,C,1,-1,2,0,0,0,0,0,0^nY,P,0,0,0,0,0,0,0,0,0^nY,Q,0,0,0,0,0,0,0,0,0^nY,Z,0,2,-2,0,0,0,0,0,0^nZ,L,0,0,0,0,0,0,0,0,0^n              | spadesk check round.txt | 1 | fault 4 A 1^n                         |
+       S,L,5^nP,P,L,1^nP,Q,L,1^nP,Z,L,0^nC,A,P,Q^nC,C,Z,P^nM,A,P^nM,C,P^nU,A,1,0,1,0,0,0,0,0,0^nU,C,1,-1,2,0,0,0,0,0,0^nY,P,0,1,-1,0,0,0,0,0,0^nY,Q,0,0,0,0,0,0,0,0,0^nY,Z,0,2,-2,0,0,0,0,0,0^nZ,L,0,0,0,0,0,0,0,0,0^n             | spadesk check round.txt | 1 | fault 1^n                             |
+       S,L,5^nP,P,L,1^nP,Q,L,1^nP,Z,L,0^nC,A,P,Q^nC,C,Z,P^nM,A,Q^nM,C,P^nU,A,1,0,1,0,0,0,0,0,0^nU,C,1,-1,2,0,0,0,0,0,0^nY,P,0,1,-1,0,0,0,0,0,0^nY,Q,0,0,0,0,0,0,0,0,0^nY,Z,-1,2,-2,0,0,0,0,0,0^nZ,L,0,0,0,0,0,0,0,0,0^n            | spadesk check round.txt | 1 | fault 3^n                             |
+       S,L,5^nP,P,L,1^nP,Q,L,1^nP,Z,L,0^nC,A,P,Q^nC,C,Z,P^nM,C,P^nU,A,1,0,1,0,0,0,0,0,0^nU,C,1,-1,2,0,0,0,0,0,0^nY,P,0,1,-1,0,0,0,0,0,0^nY,Q,0,0,0,0,0,0,0,0,0^nY,Z,0,2,-2,0,0,0,0,0,0^nZ,L,0,0,0,0,0,0,0,0,0^n                    | spadesk check round.txt | 1 | fault 5^n                             |
+       S,L,5^nP,P,L,1^nP,Q,L,1^nP,Z,L,0^nC,A,P,Q^nC,C,Z,P^nM,A,Q^nM,C,P^nU,A,1,0,1,0,0,0,0,0,0^nU,C,1,-1,2,0,0,0,0,0,0^nY,P,0,1,-1,0,0,0,0,0,0^nY,Q,0,0,0,0,0,0,0,0,0^nY,Z,0,1000000,-1000000,0,0,0,0,0,0^nZ,L,0,0,0,0,0,0,0,0,0^n | spadesk check round.txt | 0 | best size 2 profile 0 2 0 0 0 0 0 0^n |
+       S,L,5^nP,P,L,1^nP,Q,L,1^nP,Z,L,0^nC,A,P,Q^nC,C,Z,P^nM,A,Q^nM,C,P^nU,A,1,0,1,0,0,0,0,0,0^nU,C,1,-1,2,0,0,0,0,0,0^nY,P,0,1,-1,0,0,0,0,0,0^nY,Q,0,0,0,0,0,0,0,0,0^nY,Z,0,0,0,0,0,0,0,0,0^nZ,L,0,0,0,0,0,0,0,0,0^n              | spadesk check round.txt | 1 | fault 4 C 1^n                         |"#;
 
 #[test]
 fn a_round_is_checked(rt: HostRuntime) -> Result<(), Fail> {
@@ -61,17 +63,6 @@ static SMALL_FILES: &str =
 #[test]
 fn small_files_are_rounds_or_are_told_why_not(rt: HostRuntime) -> Result<(), Fail> {
     print_rounds(&rt, &rt, SMALL_FILES)
-}
-
-#[test]
-fn a_large_file_is_refused(rt: HostRuntime) -> Result<(), Fail> {
-    let mut large = String::new(rt.alloc());
-    for _ in 0..26_215 {
-        large.push_str("S,L,500,1\n")?;
-    }
-    fs::write(&rt, "round.txt", &large)?;
-    let words = "spadesk solve round.txt";
-    prints(&rt, &rt, words, (b"", b"refused 4: TooLarge\n"), 1)
 }
 
 /// What `--help` prints.

@@ -1,7 +1,6 @@
 //! A desk over a database: what is put is read back, also by another desk.
 
 use crate::judged::holds;
-use crate::offices::{Put, plain};
 use desk::Desk;
 use rolls::{Plain, Refusal, Reply, Request, Text};
 use sqlite::{Connection, MemStore};
@@ -28,6 +27,14 @@ pub(crate) fn new_desk(alloc: Global, rt: &impl Abort) -> Result<Desk<MemStore>,
     Ok(desk_over(alloc, rt, connection))
 }
 
+/// The request that puts a student.
+pub(crate) fn put_student(alloc: Global, code: &str, label: &str) -> Result<Request, Fail> {
+    let code = Text::of(alloc, code)?;
+    let label = Text::of(alloc, label)?;
+    Ok(Request::Plain(Plain::PutStudent { code, label }))
+}
+
+/// The request that reads a student.
 pub(crate) fn get_student(alloc: Global, code: &str) -> Result<Request, Fail> {
     let code = Text::of(alloc, code)?;
     Ok(Request::Plain(Plain::GetStudent { code }))
@@ -44,7 +51,7 @@ pub(crate) fn is_named(answer: &Result<Reply, Refusal>, name: &str) -> bool {
 /// A student is put and read, and another is not known.
 fn requests(alloc: Global) -> Result<Vec<Request>, Fail> {
     let mut requests = Vec::new(alloc);
-    requests.push(Request::Plain(plain(alloc, Put::Student("S1", "Ann"))?))?;
+    requests.push(put_student(alloc, "S1", "Ann")?)?;
     requests.push(get_student(alloc, "S1")?)?;
     requests.push(get_student(alloc, "S9")?)?;
     Ok(requests)

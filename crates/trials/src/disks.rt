@@ -1,8 +1,7 @@
 //! A desk over disks in memory, of which one fails from some call on.
 
-use crate::desks::{get_student, is_named};
+use crate::desks::{get_student, is_named, put_student};
 use crate::judged::holds;
-use crate::offices::{Put, plain};
 use desk::Desk;
 use rolls::{Refusal, Reply, Request};
 use sqlite::{Alter, Connection, FileStore, Files, Options};
@@ -25,11 +24,10 @@ fn database_with(alloc: Global, calls: u64) -> Option<Connection<FileStore<Fuse<
 fn put<S: Alter>(
     alloc: Global,
     desk: &mut Desk<S>,
-    code: &'static str,
-    label: &'static str,
+    code: &str,
+    label: &str,
 ) -> Result<Result<Reply, Refusal>, Fail> {
-    let request = Request::Plain(plain(alloc, Put::Student(code, label))?);
-    Ok(desk.ask(request))
+    Ok(desk.ask(put_student(alloc, code, label)?))
 }
 
 /// Ann is read from the office, Bob is refused by the tables, and nobody hears of him.

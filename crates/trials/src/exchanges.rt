@@ -1,6 +1,6 @@
 //! Streams at a desk over a database in memory, byte for byte.
 
-use crate::played::{Part, Sitting, Stream, play};
+use crate::played::{Part, Sitting, Stream, play_all};
 use std::io::ErrorKind;
 use std::rt::HostRuntime;
 use std::test::Fail;
@@ -48,10 +48,7 @@ static STREAMS: [&[Sitting]; 12] = [
 
 #[test]
 fn streams_come_in_pieces_and_break_off(rt: HostRuntime) -> Result<(), Fail> {
-    for sittings in STREAMS.as_slice() {
-        play(rt.alloc(), &rt, sittings)?;
-    }
-    Ok(())
+    play_all(rt.alloc(), &rt, STREAMS.as_slice())
 }
 
 /// Requests, each after those before it.
@@ -90,10 +87,40 @@ const EXCHANGES: &str =
        PUT /projects/P     | {"name":"Pumps","quota":2}                  | 400 Bad Request        | {"fault":"Members","number":8}
        GET /projects/P     |                                             | 200 OK                 | {"name":"Pumps","placed":0,"quota":2,"supervisor":"L"}
        GET /projects/p     |                                             | 404 Not Found          | {"fault":"UnknownProject","number":14}
+       PUT /projects/P     | {"name":"","quota":501,"supervisor":"k"}    | 400 Bad Request        | {"fault":"Code","number":9}
+       PUT /projects/Q     | {"name":"","quota":501,"supervisor":"K"}    | 400 Bad Request        | {"fault":"Label","number":10}
+       PUT /projects/Q     | {"name":"Qs","quota":501,"supervisor":"N"}  | 400 Bad Request        | {"fault":"Quota","number":11}
+       PUT /projects/P     | {"name":"Pipes","quota":0,"supervisor":"L"} | 200 OK                 | {"ok":true}
+       GET /projects/P     |                                             | 200 OK                 | {"name":"Pipes","placed":0,"quota":0,"supervisor":"L"}
        GET /students/S1?a  |                                             | 404 Not Found          | {"fault":"UnknownStudent","number":15}
        PUT /students/S1?a  | {"name":"Ann"}                              | 400 Bad Request        | {"fault":"Code","number":9}
        PUT /students/S2    | {"name":"Zoë \"Q\" \\ Łuk\u00e9"}           | 200 OK                 | {"ok":true}
        GET /students/S2    |                                             | 200 OK                 | {"list":null,"name":"Zoë \"Q\" \\ Łuké","placed":null}"#;
+
+/// Codes and labels at the ends of their forms.
+#[rattlefmt::skip]
+const FORMS: &str =
+    r#"PUT /students/A234567890123456  | {"name":" "}                                  | 200 OK          | {"ok":true}
+       PUT /students/A-0               | {"name":"Zoë Müller"}                         | 200 OK          | {"ok":true}
+       PUT /students/9                 | {"name":"Ann"}                                | 200 OK          | {"ok":true}
+       PUT /students/A2345678901234567 | {"name":"Ann"}                                | 400 Bad Request | {"fault":"Code","number":9}
+       PUT /students/s1                | {"name":"Ann"}                                | 400 Bad Request | {"fault":"Code","number":9}
+       PUT /projects/P                 | {"name":"Pumps","quota":1,"supervisor":""}    | 400 Bad Request | {"fault":"Code","number":9}
+       PUT /projects/P                 | {"name":"Pumps","quota":1,"supervisor":"-A"}  | 400 Bad Request | {"fault":"Code","number":9}
+       PUT /projects/P                 | {"name":"Pumps","quota":1,"supervisor":"S 1"} | 400 Bad Request | {"fault":"Code","number":9}
+       PUT /projects/P                 | {"name":"Pumps","quota":1,"supervisor":"Ä"}   | 400 Bad Request | {"fault":"Code","number":9}
+       PUT /students/S1                | {"name":"a\nb"}                               | 400 Bad Request | {"fault":"Label","number":10}
+       PUT /students/S1                | {"name":"a\u007f"}                            | 400 Bad Request | {"fault":"Label","number":10}"#;
+
+/// A label of 200 bytes.
+#[rattlefmt::skip]
+const LONGEST_LABEL: &str =
+    r#"PUT /students/S1 | {"name":"$"} | 200 OK | {"ok":true}"#;
+
+/// A label of 201 bytes.
+#[rattlefmt::skip]
+const LONG_LABEL: &str =
+    r#"PUT /students/S2 | {"name":"$"} | 400 Bad Request | {"fault":"Label","number":10}"#;
 
 /// A hundred supervisors, S0 to S99.
 #[rattlefmt::skip]
@@ -122,8 +149,9 @@ const _: () = prove!(13 + 65_522 + 1 == 65_536);
 
 /// Each play at tables of its own.
 #[rattlefmt::skip]
-static PLAYS: [&[Sitting]; 4] = [
+static PLAYS: [&[Sitting]; 5] = [
     &[(&[Part::Lines(EXCHANGES)], 2)],
+    &[(&[Part::Lines(FORMS), Part::Filled(200, "a", LONGEST_LABEL), Part::Filled(201, "a", LONG_LABEL)], 4)],
     &[(&[Part::Counted(0, 100, EACH_SUPERVISOR), Part::Lines(FULL)], 0)],
     &[(&[Part::Lines(NO_JSON)], 0)],
     &[(&[Part::Filled(65_522, " ", LARGEST)], 1)],
@@ -131,8 +159,5 @@ static PLAYS: [&[Sitting]; 4] = [
 
 #[test]
 fn requests_are_answered(rt: HostRuntime) -> Result<(), Fail> {
-    for sittings in PLAYS.as_slice() {
-        play(rt.alloc(), &rt, sittings)?;
-    }
-    Ok(())
+    play_all(rt.alloc(), &rt, PLAYS.as_slice())
 }

@@ -127,26 +127,3 @@ fn texts_that_are_none_have_their_fault(rt: HostRuntime) {
         holds(&rt, fault == Some(*want), name);
     }
 }
-
-/// A text of students' records, as long as an import may be.
-fn longest_text(alloc: Global) -> Result<Vec<u8>, Fail> {
-    let mut text = Vec::new(alloc);
-    text.extend_from_slice(b"code,name\n")?;
-    for _record in 0..21_842 {
-        text.extend_from_slice(b",\n\n")?;
-    }
-    Ok(text)
-}
-
-#[test]
-fn the_longest_text_is_read(rt: HostRuntime) -> Result<(), Fail> {
-    let alloc = rt.alloc();
-    let text = longest_text(alloc)?;
-    holds(&rt, text.len() == 65_536, "as long as may be");
-    let requests = well(
-        read(alloc, &rt, ImportKind::Students, &text),
-        "the longest text",
-    )?;
-    holds(&rt, requests.len() == 21_842, "the longest text");
-    Ok(())
-}

@@ -2,7 +2,7 @@
 
 use crate::judged::holds;
 use crate::rolls_of::{instance, places, projects, students, supervisors};
-use spa::{Code, Instance, InstanceFault, MatchFault, RANKS, Roll, profile};
+use spa::{Instance, InstanceFault, MatchFault, RANKS, Roll, profile};
 use std::alloc::Global;
 use std::process::Abort;
 use std::rt::HostRuntime;
@@ -49,49 +49,6 @@ fn the_first_fault_of_rolls_is_named(rt: HostRuntime) -> Result<(), Fail> {
         let fault = fault_of(rt.alloc(), supervisor_roll, project_roll, student_roll)?;
         holds(&rt, fault == Some(*want), student_roll);
     }
-    Ok(())
-}
-
-/// Whether these are the codes.
-fn are_codes(codes: &[Code], want: &[&str]) -> bool {
-    let mut all = codes.len() == want.len();
-    for (code, want) in codes.iter().zip(want.iter()) {
-        all = all && code.as_str() == *want;
-    }
-    all
-}
-
-/// Whether these are the lists.
-fn are_lists(lists: &[Vec<usize>], want: &[[usize; 2]]) -> bool {
-    let mut all = lists.len() == want.len();
-    for (list, want) in lists.iter().zip(want.iter()) {
-        all = all && list.as_slice() == want.as_slice();
-    }
-    all
-}
-
-/// Compares what an instance lends.
-fn compare_lent(rt: &impl Abort, lent: &Instance) {
-    holds(rt, are_codes(lent.supervisor_codes(), &["L", "K"]), "L K");
-    holds(
-        rt,
-        are_codes(lent.project_codes(), &["P", "Q", "Z"]),
-        "P Q Z",
-    );
-    holds(rt, are_codes(lent.student_codes(), &["A", "C"]), "A C");
-    holds(rt, lent.supervisor_count() == 2, "two supervisors");
-    holds(rt, lent.project_count() == 3, "three projects");
-    holds(rt, lent.student_count() == 2, "two students");
-    holds(rt, lent.supervisors() == [5, 1].as_slice(), "supervisors");
-    let projects = [(0, 1), (1, 2), (0, 0)];
-    holds(rt, lent.projects() == projects.as_slice(), "projects");
-    holds(rt, are_lists(lent.students(), &[[0, 1], [2, 0]]), "lists");
-}
-
-#[test]
-fn an_instance_lends_its_rolls(rt: HostRuntime) -> Result<(), Fail> {
-    let lent = instance(rt.alloc(), "L:5 K:1", "P:L:1 Q:K:2 Z:L:0", "A:P:Q C:Z:P")?;
-    compare_lent(&rt, &lent);
     Ok(())
 }
 

@@ -31,8 +31,6 @@ mod judged;
 #[cfg(test)]
 mod line_words;
 #[cfg(test)]
-mod offices;
-#[cfg(test)]
 mod pieces;
 #[cfg(test)]
 mod played;
@@ -63,6 +61,6 @@ mod streams;
 #[cfg(test)]
 mod terms;
 #[cfg(test)]
-mod texts;
-#[cfg(test)]
 mod walkthrough;
+#[cfg(test)]
+mod worths;

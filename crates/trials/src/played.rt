@@ -56,8 +56,20 @@ pub(crate) fn count(conn: &mut Connection<MemStore>, sql: &str) -> Result<i64, F
     Ok(conn.query_row(sql, &[])?.get(0)?)
 }
 
+/// Plays each of these at tables of its own.
+pub(crate) fn play_all(
+    alloc: Global,
+    rt: &impl Abort,
+    plays: &[&'static [Sitting]],
+) -> Result<(), Fail> {
+    for sittings in plays {
+        play(alloc, rt, sittings)?;
+    }
+    Ok(())
+}
+
 /// Plays sittings one after another, each at a desk that is opened anew over the tables of the one before.
-pub(crate) fn play(alloc: Global, rt: &impl Abort, sittings: &[Sitting]) -> Result<(), Fail> {
+fn play(alloc: Global, rt: &impl Abort, sittings: &[Sitting]) -> Result<(), Fail> {
     let mut connection = Connection::open_in_memory(alloc)?;
     for (parts, students) in sittings {
         connection = play_at(alloc, rt, connection, parts)?;

@@ -35,29 +35,43 @@ pub(crate) fn run_line(rt: &HostRuntime, words: &str) -> Result<Printed, Fail> {
     Ok(Printed { out, err, status })
 }
 
+/// Whether the line of these words prints this, with this status.
+fn is_printed(
+    rt: &HostRuntime,
+    words: &str,
+    (out, err): (&[u8], &[u8]),
+    status: u8,
+) -> Result<bool, Fail> {
+    let printed = run_line(rt, words)?;
+    let is_told = printed.out.as_slice() == out && printed.err.as_slice() == err;
+    Ok(is_told && printed.status == status)
+}
+
 /// Does the line of these words, and compares what it prints.
 pub(crate) fn prints(
     rt: &HostRuntime,
     abort: &impl Abort,
     words: &str,
-    (out, err): (&[u8], &[u8]),
+    texts: (&[u8], &[u8]),
     status: u8,
 ) -> Result<(), Fail> {
-    let printed = run_line(rt, words)?;
-    let is_told = printed.out.as_slice() == out && printed.err.as_slice() == err;
-    holds(abort, is_told && printed.status == status, words);
+    let is_printed = is_printed(rt, words, texts, status)?;
+    holds(abort, is_printed, words);
     Ok(())
 }
 
 /// Does the line of a row, and compares what it prints: its words, its status, and what is printed on standard output and on
-/// standard error.
+/// standard error. Behind these may stand what the row shows.
 fn print_row(rt: &HostRuntime, abort: &impl Abort, row: &str) -> Result<(), Fail> {
     let (words, rest) = first_cell(row);
     let (status, rest) = first_cell(rest);
-    let (out, err) = first_cell(rest);
+    let (out, rest) = first_cell(rest);
+    let (err, _shown) = first_cell(rest);
     let out = body_of(rt.alloc(), out)?;
-    let err = body_of(rt.alloc(), err.trim())?;
-    prints(rt, abort, words, (&out, &err), status.parse()?)
+    let err = body_of(rt.alloc(), err)?;
+    let is_printed = is_printed(rt, words, (&out, &err), status.parse()?)?;
+    holds(abort, is_printed, row);
+    Ok(())
 }
 
 /// The same of each row in turn.

@@ -2,7 +2,6 @@
 
 use crate::printed::{print_rows, prints, write_files};
 use std::fs;
-use std::process::Abort;
 use std::rt::HostRuntime;
 use std::test::Fail;
 
@@ -52,25 +51,12 @@ static NO_DATABASE: &str =
     r#"spadesk open-round no-such-folder/school.db | 1 |  | refused 2: Storage^n
        spadesk open-round text.db                  | 1 |  | refused 2: Storage^n"#;
 
-/// Writes the files, and does each line.
-fn print_over_files(rt: &HostRuntime, abort: &impl Abort, rows: &str) -> Result<(), Fail> {
-    write_files(rt, FILES.as_slice())?;
-    print_rows(rt, abort, rows)
-}
-
 #[test]
-fn a_new_file_keeps_an_office(rt: HostRuntime) -> Result<(), Fail> {
-    print_over_files(&rt, &rt, FIRST)
-}
-
-#[test]
-fn a_round_goes_from_imports_to_reports(rt: HostRuntime) -> Result<(), Fail> {
-    print_over_files(&rt, &rt, ROUND)
-}
-
-#[test]
-fn a_file_that_is_no_database_is_refused(rt: HostRuntime) -> Result<(), Fail> {
-    print_over_files(&rt, &rt, NO_DATABASE)
+fn lines_over_files_print_as_they_should(rt: HostRuntime) -> Result<(), Fail> {
+    write_files(&rt, FILES.as_slice())?;
+    print_rows(&rt, &rt, FIRST)?;
+    print_rows(&rt, &rt, ROUND)?;
+    print_rows(&rt, &rt, NO_DATABASE)
 }
 
 // An import file of 65,537 bytes.

@@ -1,7 +1,7 @@
 //! Imports over a stream, byte for byte: what each answers, that a faulty one changes nothing, and that one which comes twice is
 //! made once.
 
-use crate::played::{Part, Sitting, play};
+use crate::played::{Part, Sitting, play_all};
 use std::rt::HostRuntime;
 use std::test::Fail;
 
@@ -99,8 +99,5 @@ static PLAYS: [&[Sitting]; 5] = [
 
 #[test]
 fn imports_are_made_whole_and_once(rt: HostRuntime) -> Result<(), Fail> {
-    for sittings in PLAYS.as_slice() {
-        play(rt.alloc(), &rt, sittings)?;
-    }
-    Ok(())
+    play_all(rt.alloc(), &rt, PLAYS.as_slice())
 }

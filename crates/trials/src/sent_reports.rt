@@ -1,6 +1,6 @@
 //! Reports over a stream, byte for byte, and once more after the desk is opened anew.
 
-use crate::played::{Part, Sitting, play};
+use crate::played::{Part, Sitting, play_all};
 use crate::school::SCHOOL;
 use std::rt::HostRuntime;
 use std::test::Fail;
@@ -72,12 +72,12 @@ const BOTH: &str =
 
 /// The reports at one desk, and at a second one over its tables.
 #[rattlefmt::skip]
-static SITTINGS: [Sitting; 2] = [
+static PLAYS: [&[Sitting]; 1] = [&[
     (&[Part::Lines(SCHOOL), Part::Lines(OPEN), Part::Lines(REFUSED), Part::Lines(BEFORE), Part::Lines(CLOSE), Part::Lines(AFTER), Part::Lines(SECOND), Part::Lines(BOTH)], 3),
     (&[Part::Lines(BOTH)], 3),
-];
+]];
 
 #[test]
 fn reports_are_told(rt: HostRuntime) -> Result<(), Fail> {
-    play(rt.alloc(), &rt, SITTINGS.as_slice())
+    play_all(rt.alloc(), &rt, PLAYS.as_slice())
 }

@@ -2,11 +2,10 @@
 
 use crate::cells::first_cell;
 use crate::judged::{holds, well};
-use crate::offices::{Put, row};
 use crate::played::count;
 use desk::Desk;
 use office::Office;
-use rolls::{Change, Refusal, RowKey, Text};
+use rolls::{Change, Refusal, Row, RowKey, Text};
 use sqlite::{Connection, MemStore};
 use std::alloc::{AllocError, Global};
 use std::process::Abort;
@@ -20,9 +19,31 @@ type Sizes = (usize, usize, usize);
 /// What an opening answers, and the connection given back.
 type Opened = (Result<Sizes, StoreFault>, Connection<MemStore>);
 
-/// The change that puts it.
-fn put(alloc: Global, put: Put) -> Result<Change, AllocError> {
-    Ok(Change::Put(row(alloc, put)?))
+/// A put of the supervisor L.
+fn supervisor(alloc: Global) -> Result<Change, AllocError> {
+    Ok(Change::Put(Row::Supervisor {
+        code: Text::of(alloc, "L")?,
+        label: Text::of(alloc, "Lee")?,
+        quota: 5,
+    }))
+}
+
+/// A put of a project.
+fn project(alloc: Global, code: &str, supervisor: &str) -> Result<Change, AllocError> {
+    Ok(Change::Put(Row::Project {
+        code: Text::of(alloc, code)?,
+        label: Text::of(alloc, "Pumps")?,
+        supervisor: Text::of(alloc, supervisor)?,
+        quota: 1,
+    }))
+}
+
+/// A put of a student.
+fn student(alloc: Global, code: &str, label: &str) -> Result<Change, AllocError> {
+    Ok(Change::Put(Row::Student {
+        code: Text::of(alloc, code)?,
+        label: Text::of(alloc, label)?,
+    }))
 }
 
 fn sizes(office: &Office) -> Sizes {
@@ -60,11 +81,11 @@ fn open(
 /// Six changes: Ann is renamed, and Bob is taken away again.
 fn changes(alloc: Global) -> Result<Vec<Change>, Fail> {
     let mut changes = Vec::new(alloc);
-    changes.push(put(alloc, Put::Supervisor("L", "Lee", 5))?)?;
-    changes.push(put(alloc, Put::Project("P", "Pumps", 1, "L"))?)?;
-    changes.push(put(alloc, Put::Student("S1", "Ann"))?)?;
-    changes.push(put(alloc, Put::Student("S2", "Bob"))?)?;
-    changes.push(put(alloc, Put::Student("S1", "Anne"))?)?;
+    changes.push(supervisor(alloc)?)?;
+    changes.push(project(alloc, "P", "L")?)?;
+    changes.push(student(alloc, "S1", "Ann")?)?;
+    changes.push(student(alloc, "S2", "Bob")?)?;
+    changes.push(student(alloc, "S1", "Anne")?)?;
     changes.push(Change::Take(RowKey::Student(Text::of(alloc, "S2")?)))?;
     Ok(changes)
 }
@@ -80,8 +101,8 @@ fn has_anne(office: &Office) -> bool {
 /// A student, and a project of an unknown supervisor.
 fn refused(alloc: Global) -> Result<Vec<Change>, Fail> {
     let mut refused = Vec::new(alloc);
-    refused.push(put(alloc, Put::Student("S3", "Cy"))?)?;
-    refused.push(put(alloc, Put::Project("Q", "Pumps", 1, "K"))?)?;
+    refused.push(student(alloc, "S3", "Cy")?)?;
+    refused.push(project(alloc, "Q", "K")?)?;
     Ok(refused)
 }
 
@@ -306,7 +327,7 @@ const PETS: &str =
 /// Over that table nothing is saved: a second student is refused.
 fn refuses_bob(alloc: Global, rt: &impl Abort, store: &mut Store<MemStore>) -> Result<(), Fail> {
     let mut changes = Vec::new(alloc);
-    changes.push(put(alloc, Put::Student("S2", "Bob"))?)?;
+    changes.push(student(alloc, "S2", "Bob")?)?;
     compare_save(rt, store, &changes, Err(StoreFault::Storage));
     Ok(())
 }

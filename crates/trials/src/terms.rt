@@ -1,7 +1,7 @@
 //! Rounds at a desk, byte for byte: lists, closings, placements and reopenings, through streams and after the desk is opened
 //! anew.
 
-use crate::played::{Part, Sitting, play};
+use crate::played::{Part, Sitting, play_all};
 use crate::school::SCHOOL;
 use std::rt::HostRuntime;
 use std::test::Fail;
@@ -131,8 +131,5 @@ static PLAYS: [&[Sitting]; 3] = [
 
 #[test]
 fn rounds_open_close_and_open_again(rt: HostRuntime) -> Result<(), Fail> {
-    for sittings in PLAYS.as_slice() {
-        play(rt.alloc(), &rt, sittings)?;
-    }
-    Ok(())
+    play_all(rt.alloc(), &rt, PLAYS.as_slice())
 }

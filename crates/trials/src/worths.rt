@@ -1,0 +1,38 @@
+//! The order and sums of worths.
+
+use crate::judged::holds;
+use spa::{Lex, PLACES, Worth};
+use std::cmp::Ordering;
+use std::rt::HostRuntime;
+
+fn row(size: i64, first: i64, last: i64) -> [i64; PLACES] {
+    let mut places = [0; PLACES];
+    places[0] = size;
+    places[1] = first;
+    places[PLACES - 1] = last;
+    places
+}
+
+fn is_less<G: Worth>(a: G, b: G) -> bool {
+    a.cmp(b) == Ordering::Less
+}
+
+#[test]
+fn the_first_place_counts_first(rt: HostRuntime) {
+    holds(&rt, is_less(Lex(row(1, 0, 9)), Lex(row(1, 1, 0))), "1 0 9");
+    holds(&rt, is_less(Lex(row(1, 5, 5)), Lex(row(2, 0, 0))), "1 5 5");
+    holds(&rt, !is_less(Lex(row(2, 1, 0)), Lex(row(2, 1, 0))), "2 1 0");
+    let order = Lex(row(2, 0, 0)).cmp(Lex(row(1, 5, 5)));
+    holds(&rt, order == Ordering::Greater, "2 0 0");
+}
+
+#[test]
+fn sums_are_by_place(rt: HostRuntime) {
+    let v = Lex(row(1, -7, 3));
+    let w = Lex(row(1, 1, 1));
+    assert!(rt; v.span() == 7);
+    assert!(rt; w.span() == 1);
+    holds(&rt, v.plus(w) == Lex(row(2, -6, 4)), "a sum");
+    holds(&rt, v.minus(w) == Lex(row(0, -8, 2)), "a difference");
+    holds(&rt, Lex::zero().span() == 0, "zero");
+}

@@ -1,0 +1,39 @@
+#!/usr/bin/env python3
+"""Tells what the proof of each function weighs: the bytes that the prover keeps of it.
+
+    tools/sizes.py CRATE [COUNT]    after `rt check` in the crate's folder
+
+Seconds differ from machine to machine, and from hour to hour on one; these bytes do not, and a check's seconds go with them.
+The sum first, then the COUNT heaviest functions (30 where it is left out), and how much of each is of its paths: of its calls,
+the drops of an early return among them, and of what is owned at each.
+"""
+import collections
+import os
+import sys
+
+
+def function(name):
+    """The function, or the type's method, that a module is of."""
+    parts = name.split(".")
+    if not parts[0].endswith("-proofs") or len(parts) < 4:
+        return "definitions and the rest"
+    return ".".join(parts[1:4] if parts[2][:1].isupper() else parts[1:3])
+
+
+def main():
+    if len(sys.argv) < 2:
+        sys.exit(__doc__)
+    weights, paths = collections.Counter(), collections.Counter()
+    for folder, _, names in os.walk(f"crates/{sys.argv[1]}/out/incremental"):
+        for name in names:
+            size = os.path.getsize(os.path.join(folder, name))
+            weights[function(name)] += size
+            if "Lts" in name.split("."):
+                paths[function(name)] += size
+    print(f"{sum(weights.values()) / 1e6:8.2f} MB in all, {sum(paths.values()) / 1e6:.2f} of them of paths")
+    for name, weight in weights.most_common(int(sys.argv[2]) if len(sys.argv) > 2 else 30):
+        print(f"{weight / 1e6:8.2f} {paths[name] / 1e6:6.2f} {name}")
+
+
+if __name__ == "__main__":
+    main()
