@@ -139,12 +139,14 @@ impl Trial {
     }
 
     /// How many students have a place, and the sum of their ranks.
-    fn totals(&self, rt: &impl Abort) -> (usize, usize) {
-        let mut placed: usize = 0;
+    fn totals(&self, rt: &impl Abort) -> (i64, usize) {
+        let mut placed: i64 = 0;
         let mut ranks: usize = 0;
         for student in 0..self.students {
             let rank = self.rank_of(rt, student);
-            placed = placed.wrapping_add(rank.min(1));
+            if rank > 0 {
+                placed = placed.wrapping_add(1);
+            }
             ranks = ranks.wrapping_add(rank);
         }
         (placed, ranks)
@@ -178,7 +180,7 @@ fn paid(trial: &Trial, quotas: &[u32], offers: &[(usize, u32)]) -> Result<i64, F
 
 /// A student's list; how many have a place once it is admitted, and the sum of their ranks; and the least and the most
 /// relaxations that its admission may make.
-type Admission = (&'static [usize], usize, usize, (u64, u64));
+type Admission = (&'static [usize], i64, usize, (u64, u64));
 
 /// As many relaxations as may be, and at least one.
 const SOME: (u64, u64) = (1, u64::MAX);
@@ -222,7 +224,7 @@ fn compare_cases(alloc: Global, rt: &impl Abort, cases: &[Case]) -> Result<(), F
         for admission in *admissions {
             compare_admission(alloc, rt, &mut trial, *admission)?;
             let paid = paid(&trial, quotas, offers)?;
-            holds(rt, paid == admission.1 as i64, "what is paid");
+            holds(rt, paid == admission.1, "what is paid");
         }
     }
     Ok(())
