@@ -2,31 +2,15 @@
 
 use crate::cells::{body_of, first_cell};
 use crate::judged::holds;
-use crate::printed::{Printed, parted, print_rounds, print_rows, prints, run_line};
+use crate::pieces::Narrow;
+use crate::printed::{Printed, parted, print_rows, prints, run_line};
 use cli::{Unread, line, tell_unread};
-use std::fs;
-use std::io::{self, Write};
+use std::alloc::Global;
 use std::process::Abort;
 use std::rt::HostRuntime;
 use std::test::Fail;
+use std::{fs, io};
 use web::Watched;
-
-/// A round with a greedy maximum matching and prices that prove it; another price of P, another place of A, another price of Z,
-/// no place of A, prices at their limits, and none of Z; and what `check` prints of each.
-#[rattlefmt::skip]
-static CHECKS: &str =
-    r#"S,L,5^nP,P,L,1^nP,Q,L,1^nP,Z,L,0^nC,A,P,Q^nC,C,Z,P^nM,A,Q^nM,C,P^nU,A,1,0,1,0,0,0,0,0,0^nU,C,1,-1,2,0,0,0,0,0,0^nY,P,0,1,-1,0,0,0,0,0,0^nY,Q,0,0,0,0,0,0,0,0,0^nY,Z,0,2,-2,0,0,0,0,0,0^nZ,L,0,0,0,0,0,0,0,0,0^n             | spadesk check round.txt | 0 | best size 2 profile 0 2 0 0 0 0 0 0^n |
-       S,L,5^nP,P,L,1^nP,Q,L,1^nP,Z,L,0^nC,A,P,Q^nC,C,Z,P^nM,A,Q^nM,C,P^nU,A,1,0,1,0,0,0,0,0,0^nU,C,1,-1,2,0,0,0,0,0,0^nY,P,0,0,0,0,0,0,0,0,0^nY,Q,0,0,0,0,0,0,0,0,0^nY,Z,0,2,-2,0,0,0,0,0,0^nZ,L,0,0,0,0,0,0,0,0,0^n              | spadesk check round.txt | 1 | fault 4 A 1^n                         |
-       S,L,5^nP,P,L,1^nP,Q,L,1^nP,Z,L,0^nC,A,P,Q^nC,C,Z,P^nM,A,P^nM,C,P^nU,A,1,0,1,0,0,0,0,0,0^nU,C,1,-1,2,0,0,0,0,0,0^nY,P,0,1,-1,0,0,0,0,0,0^nY,Q,0,0,0,0,0,0,0,0,0^nY,Z,0,2,-2,0,0,0,0,0,0^nZ,L,0,0,0,0,0,0,0,0,0^n             | spadesk check round.txt | 1 | fault 1^n                             |
-       S,L,5^nP,P,L,1^nP,Q,L,1^nP,Z,L,0^nC,A,P,Q^nC,C,Z,P^nM,A,Q^nM,C,P^nU,A,1,0,1,0,0,0,0,0,0^nU,C,1,-1,2,0,0,0,0,0,0^nY,P,0,1,-1,0,0,0,0,0,0^nY,Q,0,0,0,0,0,0,0,0,0^nY,Z,-1,2,-2,0,0,0,0,0,0^nZ,L,0,0,0,0,0,0,0,0,0^n            | spadesk check round.txt | 1 | fault 3^n                             |
-       S,L,5^nP,P,L,1^nP,Q,L,1^nP,Z,L,0^nC,A,P,Q^nC,C,Z,P^nM,C,P^nU,A,1,0,1,0,0,0,0,0,0^nU,C,1,-1,2,0,0,0,0,0,0^nY,P,0,1,-1,0,0,0,0,0,0^nY,Q,0,0,0,0,0,0,0,0,0^nY,Z,0,2,-2,0,0,0,0,0,0^nZ,L,0,0,0,0,0,0,0,0,0^n                    | spadesk check round.txt | 1 | fault 5^n                             |
-       S,L,5^nP,P,L,1^nP,Q,L,1^nP,Z,L,0^nC,A,P,Q^nC,C,Z,P^nM,A,Q^nM,C,P^nU,A,1,0,1,0,0,0,0,0,0^nU,C,1,-1,2,0,0,0,0,0,0^nY,P,0,1,-1,0,0,0,0,0,0^nY,Q,0,0,0,0,0,0,0,0,0^nY,Z,0,1000000,-1000000,0,0,0,0,0,0^nZ,L,0,0,0,0,0,0,0,0,0^n | spadesk check round.txt | 0 | best size 2 profile 0 2 0 0 0 0 0 0^n |
-       S,L,5^nP,P,L,1^nP,Q,L,1^nP,Z,L,0^nC,A,P,Q^nC,C,Z,P^nM,A,Q^nM,C,P^nU,A,1,0,1,0,0,0,0,0,0^nU,C,1,-1,2,0,0,0,0,0,0^nY,P,0,1,-1,0,0,0,0,0,0^nY,Q,0,0,0,0,0,0,0,0,0^nY,Z,0,0,0,0,0,0,0,0,0^nZ,L,0,0,0,0,0,0,0,0,0^n              | spadesk check round.txt | 1 | fault 4 C 1^n                         |"#;
-
-#[test]
-fn a_round_is_checked(rt: HostRuntime) -> Result<(), Fail> {
-    print_rounds(&rt, &rt, CHECKS)
-}
 
 /// The round without matching and prices.
 const ALONE: &str = "S,L,5\nP,P,L,1\nP,Q,L,1\nP,Z,L,0\nC,A,P,Q\nC,C,Z,P\n";
@@ -48,21 +32,6 @@ fn what_solve_prints_is_accepted(rt: HostRuntime) -> Result<(), Fail> {
     fs::write(&rt, "round.txt", &solved.out)?;
     let best = b"best size 2 profile 0 2 0 0 0 0 0 0\n";
     prints(&rt, &rt, "spadesk check round.txt", (best, b""), 0)
-}
-
-// The text of the file, the line, its status, and what it prints on standard output and on standard error.
-#[rattlefmt::skip]
-static SMALL_FILES: &str =
-    r#"                 | spadesk solve round.txt   | 0 |                                       |
-                        | spadesk check round.txt   | 0 | best size 0 profile 0 0 0 0 0 0 0 0^n |
-       S,L,5^n          | spadesk check round.txt   | 1 | fault 2^n                             |
-       S,L,05^n         | spadesk check round.txt   | 1 |                                       | bad line 1^n
-       S,L,5^nP,P,K,1^n | spadesk solve round.txt   | 1 |                                       | bad line 2^n
-                        | spadesk check no-such.txt | 1 |                                       | refused 2: Storage^n"#;
-
-#[test]
-fn small_files_are_rounds_or_are_told_why_not(rt: HostRuntime) -> Result<(), Fail> {
-    print_rounds(&rt, &rt, SMALL_FILES)
 }
 
 /// What `--help` prints.
@@ -112,23 +81,20 @@ static WORDS_OF_NO_LINE: &str =
 
 #[test]
 fn help_and_faults_of_the_line_are_told_apart(rt: HostRuntime) -> Result<(), Fail> {
-    prints(&rt, &rt, "spadesk --help", (HELP.as_bytes(), b""), 0)?;
+    for words in ["spadesk --help", "spadesk -h", "spadesk help"] {
+        prints(&rt, &rt, words, (HELP.as_bytes(), b""), 0)?;
+    }
     let help = CHECK_HELP.as_bytes();
     prints(&rt, &rt, "spadesk check --help", (help, b""), 0)?;
     print_rows(&rt, &rt, WORDS_OF_NO_LINE)
 }
 
-/// Takes no byte.
-#[derive(Drop)]
-struct Shut;
-
-impl Write for Shut {
-    fn write(&mut self, _buf: &[u8]) -> io::Result<usize> {
-        Err(io::Error::from(io::ErrorKind::BrokenPipe))
-    }
-
-    fn flush(&mut self) -> io::Result<()> {
-        Ok(())
+/// A writer that takes no byte.
+fn shut(alloc: Global) -> Narrow {
+    Narrow {
+        taken: Vec::new(alloc),
+        room: 0,
+        fault: Some(io::ErrorKind::BrokenPipe),
     }
 }
 
@@ -147,7 +113,8 @@ fn a_text_that_cannot_be_printed_has_status_1(rt: HostRuntime) -> Result<(), Fai
     for row in PRINTING_LINES.lines() {
         let (words, text) = first_cell(row);
         fs::write(&rt, "round.txt", &body_of(rt.alloc(), text.trim())?)?;
-        let status = line(&rt, parted(&rt, words)?, Shut, Shut);
+        let (out, err) = (shut(rt.alloc()), shut(rt.alloc()));
+        let status = line(&rt, parted(&rt, words)?, out, err);
         holds(&rt, status == 1, words);
     }
     Ok(())
@@ -175,7 +142,7 @@ fn arguments_that_cannot_be_read_are_told(rt: HostRuntime) -> Result<(), Fail> {
     let memory = ("refused 1: Memory\n", 1);
     tells_unread(&rt, &rt, io::ErrorKind::OutOfMemory, memory);
     tells_unread(&rt, &rt, io::ErrorKind::InvalidInput, (NOT_UTF8, 2));
-    let status = tell_unread(Unread::NotUtf8, &mut Watched::new(Shut));
+    let status = tell_unread(Unread::NotUtf8, &mut Watched::new(shut(rt.alloc())));
     holds(&rt, status == 1, "a writer that is shut");
     Ok(())
 }

@@ -4,9 +4,10 @@ use crate::desks::new_desk;
 use crate::judged::holds;
 use crate::printed::prints;
 use desk::Desk;
-use sqlite::Alter;
+use sqlite::{Alter, MemStore};
 use std::io::{Read, Write};
 use std::net::{Ipv4Addr, Shutdown, TcpListener, TcpStream};
+use std::process::Abort;
 use std::rt::HostRuntime;
 use std::test::Fail;
 use web::{Watched, serve_on};
@@ -64,19 +65,23 @@ pub(crate) fn answered<S: Alter>(
 /// Two connections, of which the first sends two puts.
 const TWO: &[u8] = b"connection 1: 2 answers, closed\nconnection 2: 0 answers, closed\n";
 
-#[test]
-fn two_connections_are_served_in_turn(rt: HostRuntime) -> Result<(), Fail> {
-    let mut desk = new_desk(rt.alloc(), &rt)?;
+/// Serves them at a desk.
+fn serve_two(rt: &HostRuntime, abort: &impl Abort, desk: &mut Desk<MemStore>) -> Result<(), Fail> {
     let puts = String::from_str(rt.alloc(), PUTS)?;
-    let texts = [puts, String::new(rt.alloc())];
-    let (told, answers) = answered(&rt, &mut desk, &texts, 2)?;
-    holds(&rt, told.as_slice() == TWO, "two connections");
+    let (told, answers) = answered(rt, desk, &[puts, String::new(rt.alloc())], 2)?;
+    holds(abort, told.as_slice() == TWO, "two connections");
     let are_answers = match answers.as_slice() {
         [first, second] => first.len() == 164 && second.is_empty(),
         _ => false,
     };
-    holds(&rt, are_answers, "two answers");
+    holds(abort, are_answers, "two answers");
     Ok(())
+}
+
+#[test]
+fn two_connections_are_served_in_turn(rt: HostRuntime) -> Result<(), Fail> {
+    let mut desk = new_desk(rt.alloc(), &rt)?;
+    serve_two(&rt, &rt, &mut desk)
 }
 
 // A port that a listener has cannot be bound once more.

@@ -35,13 +35,13 @@ pub(crate) fn put_student(alloc: Global, code: &str, label: &str) -> Result<Requ
 }
 
 /// The request that reads a student.
-pub(crate) fn get_student(alloc: Global, code: &str) -> Result<Request, Fail> {
+fn get_student(alloc: Global, code: &str) -> Result<Request, Fail> {
     let code = Text::of(alloc, code)?;
     Ok(Request::Plain(Plain::GetStudent { code }))
 }
 
 /// Whether a student of this name is answered.
-pub(crate) fn is_named(answer: &Result<Reply, Refusal>, name: &str) -> bool {
+fn is_named(answer: &Result<Reply, Refusal>, name: &str) -> bool {
     match answer {
         Ok(Reply::Student { name: found, .. }) => found.as_str() == name,
         _ => false,
@@ -72,14 +72,18 @@ fn run(alloc: Global, rt: &impl Abort, desk: &mut Desk<MemStore>) -> Result<(), 
     Ok(())
 }
 
+/// Reads the student at another desk.
+fn read(alloc: Global, rt: &impl Abort, desk: &mut Desk<MemStore>) -> Result<(), Fail> {
+    let answer = desk.ask(get_student(alloc, "S1")?);
+    holds(rt, is_named(&answer, "Ann"), "another desk");
+    Ok(())
+}
+
 // The student is put, read, and read again by another desk over the same database.
 #[test]
 fn a_student_put_is_read_back(rt: HostRuntime) -> Result<(), Fail> {
-    let alloc = rt.alloc();
-    let mut desk = new_desk(alloc, &rt)?;
-    run(alloc, &rt, &mut desk)?;
-    let mut again = desk_over(alloc, &rt, desk.into_connection());
-    let answer = again.ask(get_student(alloc, "S1")?);
-    holds(&rt, is_named(&answer, "Ann"), "another desk");
-    Ok(())
+    let mut desk = new_desk(rt.alloc(), &rt)?;
+    run(rt.alloc(), &rt, &mut desk)?;
+    let mut again = desk_over(rt.alloc(), &rt, desk.into_connection());
+    read(rt.alloc(), &rt, &mut again)
 }

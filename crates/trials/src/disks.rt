@@ -1,9 +1,10 @@
 //! A desk over disks in memory, of which one fails from some call on.
 
-use crate::desks::{get_student, is_named, put_student};
+use crate::desks::put_student;
 use crate::judged::holds;
+use crate::played::play_lines;
 use desk::Desk;
-use rolls::{Refusal, Reply, Request};
+use rolls::Refusal;
 use sqlite::{Alter, Connection, FileStore, Files, Options};
 use sqlite_disk::{Fuse, Memory};
 use std::alloc::Global;
@@ -20,37 +21,18 @@ fn database_with(alloc: Global, calls: u64) -> Option<Connection<FileStore<Fuse<
     Connection::open_files(alloc, files, Options::new(1)).ok()
 }
 
-/// What a put of a student is answered.
-fn put<S: Alter>(
-    alloc: Global,
-    desk: &mut Desk<S>,
-    code: &str,
-    label: &str,
-) -> Result<Result<Reply, Refusal>, Fail> {
-    Ok(desk.ask(put_student(alloc, code, label)?))
-}
-
 /// Ann is read from the office, Bob is refused by the tables, and nobody hears of him.
-fn answers_without_tables<S: Alter>(
-    alloc: Global,
-    rt: &impl Abort,
-    desk: &mut Desk<S>,
-) -> Result<(), Fail> {
-    let read = desk.ask(get_student(alloc, "S1")?);
-    holds(rt, is_named(&read, "Ann"), "a read");
-    let refused = put(alloc, desk, "S2", "Bob")?;
-    holds(rt, matches!(refused, Err(Refusal::Storage)), "a put");
-    let unknown = desk.ask(get_student(alloc, "S2")?);
-    let is_unknown = matches!(unknown, Err(Refusal::UnknownStudent));
-    holds(rt, is_unknown, "an unknown student");
-    Ok(())
-}
+#[rattlefmt::skip]
+const AFTER_ANN: &str =
+    r#"GET /students/S1 |                | 200 OK                  | {"list":null,"name":"Ann","placed":null}
+       PUT /students/S2 | {"name":"Bob"} | 503 Service Unavailable | {"fault":"Storage","number":2}
+       GET /students/S2 |                | 404 Not Found           | {"fault":"UnknownStudent","number":15}"#;
 
 /// Puts Ann, which is a storage error where the calls are too few. Whether she was put, and what came after was answered.
 fn is_put<S: Alter>(alloc: Global, rt: &impl Abort, desk: &mut Desk<S>) -> Result<bool, Fail> {
-    match put(alloc, desk, "S1", "Ann")? {
+    match desk.ask(put_student(alloc, "S1", "Ann")?) {
         Ok(_done) => {
-            answers_without_tables(alloc, rt, desk)?;
+            play_lines(alloc, rt, desk, AFTER_ANN)?;
             Ok(true)
         }
         Err(refusal) => {

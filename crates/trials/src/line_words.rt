@@ -3,6 +3,7 @@
 use crate::judged::holds;
 use crate::printed::parted;
 use rolls::ReportKind;
+use std::alloc::{AllocError, Global};
 use std::process::Abort;
 use std::rt::HostRuntime;
 use std::test::Fail;
@@ -18,39 +19,39 @@ fn report_name(kind: ReportKind) -> &'static str {
     }
 }
 
+/// A line and its values.
+fn shown(alloc: Global, line: &Line) -> Result<String, AllocError> {
+    match line {
+        Line::Serve {
+            database,
+            port,
+            count,
+        } => format!(in alloc; "Serve {database}, {port}, {count}"),
+        Line::Import {
+            database,
+            kind,
+            id,
+            file,
+        } => format!(in alloc; "Import {database}, {}, {id}, {file}", kind.word()),
+        Line::OpenRound(database) => format!(in alloc; "OpenRound {database}"),
+        Line::ReopenRound(database) => format!(in alloc; "ReopenRound {database}"),
+        Line::CloseRound(database) => format!(in alloc; "CloseRound {database}"),
+        Line::Report {
+            database,
+            kind,
+            round,
+        } => format!(in alloc; "Report {database}, {}, {round}", report_name(*kind)),
+        Line::Solve(file) => format!(in alloc; "Solve {file}"),
+        Line::Check(file) => format!(in alloc; "Check {file}"),
+    }
+}
+
 /// A line and its values, or a fault and its text.
 fn told(rt: &HostRuntime, words: &str) -> Result<String, Fail> {
     let alloc = rt.alloc();
-    let list = parted(rt, words)?;
-    Ok(match command(alloc, &list) {
-        Ok(
-            Line::Serve {
-                database,
-                port,
-                count,
-            },
-        ) => format!(in alloc; "Serve {database}, {port}, {count}")?,
-        Ok(
-            Line::Import {
-                database,
-                kind,
-                id,
-                file,
-            },
-        ) => format!(in alloc; "Import {database}, {}, {id}, {file}", kind.word())?,
-        Ok(Line::OpenRound(database)) => format!(in alloc; "OpenRound {database}")?,
-        Ok(Line::ReopenRound(database)) => format!(in alloc; "ReopenRound {database}")?,
-        Ok(Line::CloseRound(database)) => format!(in alloc; "CloseRound {database}")?,
-        Ok(
-            Line::Report {
-                database,
-                kind,
-                round,
-            },
-        ) => format!(in alloc; "Report {database}, {}, {round}", report_name(kind))?,
-        Ok(Line::Solve(file)) => format!(in alloc; "Solve {file}")?,
-        Ok(Line::Check(file)) => format!(in alloc; "Check {file}")?,
-        Err(LineFault::Memory) => format!(in alloc; "Memory")?,
+    Ok(match command(alloc, &parted(rt, words)?) {
+        Ok(line) => shown(alloc, &line)?,
+        Err(LineFault::Memory) => String::from_str(alloc, "Memory")?,
         Err(LineFault::Help(text)) => format!(in alloc; "Help {text}")?,
         Err(LineFault::Fault(text)) => format!(in alloc; "Fault {text}")?,
     })
@@ -169,16 +170,4 @@ fn words_are_lines_or_are_told_why_not(rt: HostRuntime) -> Result<(), Fail> {
     compare_words(&rt, &rt, LINES.as_slice(), "", "")?;
     compare_words(&rt, &rt, FAULTS.as_slice(), "Fault ", HINT)?;
     compare_words(&rt, &rt, HELPS.as_slice(), "", "")
-}
-
-#[test]
-fn help_on_the_program_is_one_text(rt: HostRuntime) -> Result<(), Fail> {
-    let text = told(&rt, "spadesk --help")?;
-    let is_help = text.starts_with("Help Keeps a school's dissertation projects");
-    holds(&rt, is_help, "spadesk --help");
-    for words in ["spadesk help", "spadesk -h"] {
-        let other = told(&rt, words)?;
-        holds(&rt, other == text, words);
-    }
-    Ok(())
 }

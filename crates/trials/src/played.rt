@@ -7,7 +7,7 @@ use crate::desks::desk_over;
 use crate::judged::holds;
 use crate::pieces::{Narrow, Pieces};
 use desk::Desk;
-use sqlite::{Connection, MemStore};
+use sqlite::{Alter, Connection, MemStore};
 use std::alloc::{AllocError, Global};
 use std::io;
 use std::process::Abort;
@@ -122,10 +122,10 @@ fn play_parts(
 }
 
 /// Plays each line.
-pub(crate) fn play_lines(
+pub(crate) fn play_lines<S: Alter>(
     alloc: Global,
     rt: &impl Abort,
-    desk: &mut Desk<MemStore>,
+    desk: &mut Desk<S>,
     lines: &str,
 ) -> Result<(), Fail> {
     for line in lines.lines() {
@@ -197,10 +197,10 @@ pub(crate) fn answer(alloc: Global, status: &str, body: &str) -> Result<Vec<u8>,
 }
 
 /// Plays a line.
-fn play_line(
+fn play_line<S: Alter>(
     alloc: Global,
     rt: &impl Abort,
-    desk: &mut Desk<MemStore>,
+    desk: &mut Desk<S>,
     line: &str,
 ) -> Result<(), Fail> {
     let (asked, rest) = first_cell(line);
@@ -214,7 +214,7 @@ fn play_line(
 }
 
 /// Whether the message gets this one answer, after which the stream is closed.
-fn tells(alloc: Global, desk: &mut Desk<MemStore>, message: &[u8], want: &[u8]) -> bool {
+fn tells<S: Alter>(alloc: Global, desk: &mut Desk<S>, message: &[u8], want: &[u8]) -> bool {
     let end = End::Closed;
     let got = served(alloc, desk, whole(message), (100_000, None));
     got.written.as_slice() == want && got.result == Ok(Served { answered: 1, end })
@@ -248,9 +248,9 @@ struct Outcome {
 }
 
 /// Serves what the reader gives, to a writer with so much room.
-fn served(
+fn served<S: Alter>(
     alloc: Global,
-    desk: &mut Desk<MemStore>,
+    desk: &mut Desk<S>,
     reader: Pieces,
     (room, fault): (usize, Option<io::ErrorKind>),
 ) -> Outcome {

@@ -1,9 +1,28 @@
-//! Round texts in files: that they are read, and the first bad line of those that are none.
+//! Round texts in files: what is checked of those that are read, and the first bad line of those that are none.
 
 use crate::printed::{print_rounds, prints};
 use std::fs;
 use std::rt::HostRuntime;
 use std::test::Fail;
+
+/// A round with a greedy maximum matching and prices that prove it; another price of P, another place of A, another price of Z,
+/// no place of A, prices at their limits, and none of Z; and what `check` prints of each.
+#[rattlefmt::skip]
+static CHECKS: &str =
+    r#"S,L,5^nP,P,L,1^nP,Q,L,1^nP,Z,L,0^nC,A,P,Q^nC,C,Z,P^nM,A,Q^nM,C,P^nU,A,1,0,1,0,0,0,0,0,0^nU,C,1,-1,2,0,0,0,0,0,0^nY,P,0,1,-1,0,0,0,0,0,0^nY,Q,0,0,0,0,0,0,0,0,0^nY,Z,0,2,-2,0,0,0,0,0,0^nZ,L,0,0,0,0,0,0,0,0,0^n             | spadesk check round.txt | 0 | best size 2 profile 0 2 0 0 0 0 0 0^n |
+       S,L,5^nP,P,L,1^nP,Q,L,1^nP,Z,L,0^nC,A,P,Q^nC,C,Z,P^nM,A,Q^nM,C,P^nU,A,1,0,1,0,0,0,0,0,0^nU,C,1,-1,2,0,0,0,0,0,0^nY,P,0,0,0,0,0,0,0,0,0^nY,Q,0,0,0,0,0,0,0,0,0^nY,Z,0,2,-2,0,0,0,0,0,0^nZ,L,0,0,0,0,0,0,0,0,0^n              | spadesk check round.txt | 1 | fault 4 A 1^n                         |
+       S,L,5^nP,P,L,1^nP,Q,L,1^nP,Z,L,0^nC,A,P,Q^nC,C,Z,P^nM,A,P^nM,C,P^nU,A,1,0,1,0,0,0,0,0,0^nU,C,1,-1,2,0,0,0,0,0,0^nY,P,0,1,-1,0,0,0,0,0,0^nY,Q,0,0,0,0,0,0,0,0,0^nY,Z,0,2,-2,0,0,0,0,0,0^nZ,L,0,0,0,0,0,0,0,0,0^n             | spadesk check round.txt | 1 | fault 1^n                             |
+       S,L,5^nP,P,L,1^nP,Q,L,1^nP,Z,L,0^nC,A,P,Q^nC,C,Z,P^nM,A,Q^nM,C,P^nU,A,1,0,1,0,0,0,0,0,0^nU,C,1,-1,2,0,0,0,0,0,0^nY,P,0,1,-1,0,0,0,0,0,0^nY,Q,0,0,0,0,0,0,0,0,0^nY,Z,-1,2,-2,0,0,0,0,0,0^nZ,L,0,0,0,0,0,0,0,0,0^n            | spadesk check round.txt | 1 | fault 3^n                             |
+       S,L,5^nP,P,L,1^nP,Q,L,1^nP,Z,L,0^nC,A,P,Q^nC,C,Z,P^nM,C,P^nU,A,1,0,1,0,0,0,0,0,0^nU,C,1,-1,2,0,0,0,0,0,0^nY,P,0,1,-1,0,0,0,0,0,0^nY,Q,0,0,0,0,0,0,0,0,0^nY,Z,0,2,-2,0,0,0,0,0,0^nZ,L,0,0,0,0,0,0,0,0,0^n                    | spadesk check round.txt | 1 | fault 5^n                             |
+       S,L,5^nP,P,L,1^nP,Q,L,1^nP,Z,L,0^nC,A,P,Q^nC,C,Z,P^nM,A,Q^nM,C,P^nU,A,1,0,1,0,0,0,0,0,0^nU,C,1,-1,2,0,0,0,0,0,0^nY,P,0,1,-1,0,0,0,0,0,0^nY,Q,0,0,0,0,0,0,0,0,0^nY,Z,0,1000000,-1000000,0,0,0,0,0,0^nZ,L,0,0,0,0,0,0,0,0,0^n | spadesk check round.txt | 0 | best size 2 profile 0 2 0 0 0 0 0 0^n |
+       S,L,5^nP,P,L,1^nP,Q,L,1^nP,Z,L,0^nC,A,P,Q^nC,C,Z,P^nM,A,Q^nM,C,P^nU,A,1,0,1,0,0,0,0,0,0^nU,C,1,-1,2,0,0,0,0,0,0^nY,P,0,1,-1,0,0,0,0,0,0^nY,Q,0,0,0,0,0,0,0,0,0^nY,Z,0,0,0,0,0,0,0,0,0^nZ,L,0,0,0,0,0,0,0,0,0^n              | spadesk check round.txt | 1 | fault 4 C 1^n                         |"#;
+
+// Texts that are solved or are none, and a file that is not there.
+#[rattlefmt::skip]
+static OTHER_FILES: &str =
+    r#"                 | spadesk solve round.txt   | 0 |  |
+       S,L,5^nP,P,K,1^n | spadesk solve round.txt   | 1 |  | bad line 2^n
+                        | spadesk check no-such.txt | 1 |  | refused 2: Storage^n"#;
 
 // Texts that are read; all but the first lack prices. Behind the last bar stands what a text shows.
 #[rattlefmt::skip]
@@ -60,7 +79,9 @@ static FAULTY_TEXTS: &str =
        S,^x,5^n                                                                                                        | spadesk check round.txt | 1 |  | bad line 1^n  | a byte that is no text"#;
 
 #[test]
-fn texts_are_read_or_the_first_bad_line_is_named(rt: HostRuntime) -> Result<(), Fail> {
+fn texts_are_checked_or_the_first_bad_line_is_named(rt: HostRuntime) -> Result<(), Fail> {
+    print_rounds(&rt, &rt, CHECKS)?;
+    print_rounds(&rt, &rt, OTHER_FILES)?;
     print_rounds(&rt, &rt, FIT_TEXTS)?;
     print_rounds(&rt, &rt, FAULTY_TEXTS)
 }

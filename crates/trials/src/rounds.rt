@@ -93,36 +93,6 @@ fn an_audit_shows_a_better_matching(rt: HostRuntime) -> Result<(), Fail> {
     Ok(())
 }
 
-// A chain in which each admission moves all students before it: the i-th lists the next project, then the own one.
-#[test]
-fn a_chain_of_sixty_is_solved(rt: HostRuntime) -> Result<(), Fail> {
-    let mut projects = String::new(rt.alloc());
-    let mut students = String::new(rt.alloc());
-    for i in 1..60u32 {
-        write!(projects, "P{i}:L:1 ")?;
-        write!(students, "S{i}:P{}:P{i} ", i.wrapping_add(1))?;
-    }
-    projects.push_str("P60:L:1")?;
-    students.push_str("S60:P60")?;
-    let rolls = ("L:60", projects.as_str(), students.as_str());
-    compare_solved(rt.alloc(), &rt, rolls, [1, 59, 0, 0, 0, 0, 0, 0])?;
-    Ok(())
-}
-
-// Twenty copies of a pair of students of whom one takes the fourth choice.
-#[test]
-fn twenty_copies_are_solved(rt: HostRuntime) -> Result<(), Fail> {
-    let mut projects = String::from_str(rt.alloc(), "Y:L:0 Z:L:0")?;
-    let mut students = String::new(rt.alloc());
-    for k in 1..21u32 {
-        write!(projects, " X{k}:L:1 V{k}:L:1 U{k}:L:1")?;
-        write!(students, "A{k}:X{k}:V{k} C{k}:Z:X{k}:Y:U{k} ")?;
-    }
-    let rolls = ("L:500", projects.as_str(), students.as_str());
-    compare_solved(rt.alloc(), &rt, rolls, [20, 0, 0, 20, 0, 0, 0, 0])?;
-    Ok(())
-}
-
 /// Numbers that look random, of a linear congruence.
 #[derive(Drop)]
 struct Random(u32);

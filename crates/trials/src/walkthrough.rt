@@ -156,14 +156,23 @@ fn serve_shown<S: Alter>(
     compare_answers(rt.alloc(), abort, &answers)
 }
 
-/// Serves them at the office of a file.
-fn serve_file(rt: &HostRuntime, abort: &impl Abort, database: &str) -> Result<(), Fail> {
-    let Ok(connection) = Connection::open_from(rt, database, false, Unknown) else {
-        return Err(Fail::new("the database of the file"));
-    };
+/// Serves them at the office of a database.
+fn serve_over<S: Alter + Drop>(
+    rt: &HostRuntime,
+    abort: &impl Abort,
+    connection: Connection<S>,
+) -> Result<(), Fail> {
     match Desk::open(rt.alloc(), connection) {
         Ok(mut desk) => serve_shown(rt, abort, &mut desk),
         Err(_) => Err(Fail::new("the desk of the file")),
+    }
+}
+
+/// Serves them at the office of a file.
+fn serve_file(rt: &HostRuntime, abort: &impl Abort, database: &str) -> Result<(), Fail> {
+    match Connection::open_from(rt, database, false, Unknown) {
+        Ok(connection) => serve_over(rt, abort, connection),
+        Err(_) => Err(Fail::new("the database of the file")),
     }
 }
 
