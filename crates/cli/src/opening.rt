@@ -4,7 +4,8 @@ ghost use Rattle.std.specs.Prelude.{◌≡◌, ◌⊎◌, IfErr};
 
 use desk::Desk;
 use rolls::Refusal;
-use sqlite::{Connection, Error, ErrorCode, FileFrom, FileStore, Unknown};
+use sqlite::{Alter, Connection, Error, ErrorCode, FileFrom, FileStore, Unknown};
+use std::alloc::Global;
 use std::rt::HostRuntime;
 
 /// The database of a file.
@@ -20,16 +21,24 @@ fn refusal_of(error: Error) -> Refusal
     }
 }
 
+/// The desk over a database.
+///
+/// It takes any store: what `Desk::open` promises of a store of files by name takes the prover two minutes to set out.
+fn desk_over<S: Alter + Drop>(alloc: Global, connection: Connection<S>) -> Result<Desk<S>, Refusal>
+    ensures { IfErr result (λ r. (r ≡ Refusal.Memory) ⊎ ((r ≡ Refusal.Storage) ⊎ (r ≡ Refusal.Damaged))) }
+{
+    match Desk::open(alloc, connection) {
+        Ok(desk) => Ok(desk),
+        Err((refusal, _)) => Err(refusal),
+    }
+}
+
 /// Opens the office of the database file with this name; a file that is not there is made.
 pub(crate) fn open_desk(rt: &HostRuntime, database: &str) -> Result<Desk<Kept>, Refusal>
     ensures { IfErr result (λ r. (r ≡ Refusal.Memory) ⊎ ((r ≡ Refusal.Storage) ⊎ (r ≡ Refusal.Damaged))) }
 {
-    let connection = match Connection::open_from(rt, database, false, Unknown) {
-        Ok(connection) => connection,
-        Err((error, _)) => return Err(refusal_of(error)),
-    };
-    match Desk::open(rt.alloc(), connection) {
-        Ok(desk) => Ok(desk),
-        Err((refusal, _)) => Err(refusal),
+    match Connection::open_from(rt, database, false, Unknown) {
+        Ok(connection) => desk_over(rt.alloc(), connection),
+        Err((error, _)) => Err(refusal_of(error)),
     }
 }
