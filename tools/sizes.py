@@ -5,7 +5,9 @@
 
 Seconds differ from machine to machine, and from hour to hour on one; these bytes do not, and a check's seconds go with them.
 The sum first, then the COUNT heaviest functions (30 where it is left out), and how much of each is of its paths: of its calls,
-the drops of an early return among them, and of what is owned at each.
+the drops of an early return among them, and of what is owned at each. Last the ten longest waits from one file of the prover
+to the next, in seconds, each with the file that was waited for: what takes long and weighs little, as a call of a generic
+function at a large type does. They mean something only after a check from nothing with one job, `rt check --jobs 1`.
 """
 import collections
 import os
@@ -23,16 +25,22 @@ def function(name):
 def main():
     if len(sys.argv) < 2:
         sys.exit(__doc__)
-    weights, paths = collections.Counter(), collections.Counter()
+    weights, paths, written = collections.Counter(), collections.Counter(), []
     for folder, _, names in os.walk(f"crates/{sys.argv[1]}/out/incremental"):
         for name in names:
-            size = os.path.getsize(os.path.join(folder, name))
+            kept = os.stat(os.path.join(folder, name))
+            size = kept.st_size
+            written.append((kept.st_mtime, name))
             weights[function(name)] += size
             if "Lts" in name.split("."):
                 paths[function(name)] += size
     print(f"{sum(weights.values()) / 1e6:8.2f} MB in all, {sum(paths.values()) / 1e6:.2f} of them of paths")
     for name, weight in weights.most_common(int(sys.argv[2]) if len(sys.argv) > 2 else 30):
         print(f"{weight / 1e6:8.2f} {paths[name] / 1e6:6.2f} {name}")
+    written.sort()
+    waits = sorted(((there[0] - before[0], there[1]) for before, there in zip(written, written[1:])), reverse=True)
+    for wait, name in waits[:10]:
+        print(f"{wait:8.1f} s {name}")
 
 
 if __name__ == "__main__":
