@@ -1,4 +1,4 @@
-//! The office of a database file.
+//! A database file, and the office of a database.
 
 ghost use Rattle.std.specs.Prelude.{◌≡◌, ◌⊎◌, IfErr};
 
@@ -21,24 +21,28 @@ fn refusal_of(error: Error) -> Refusal
     }
 }
 
-/// The desk over a database.
+/// Opens the database file with this name; a file that is not there is made.
+pub(crate) fn open_file(rt: &HostRuntime, database: &str) -> Result<Connection<Kept>, Refusal>
+    ensures { IfErr result (λ r. (r ≡ Refusal.Memory) ⊎ ((r ≡ Refusal.Storage) ⊎ (r ≡ Refusal.Damaged))) }
+{
+    match Connection::open_from(rt, database, false, Unknown) {
+        Ok(connection) => Ok(connection),
+        Err((error, _)) => Err(refusal_of(error)),
+    }
+}
+
+/// Opens the office of a database.
 ///
-/// It takes any store: what `Desk::open` promises of a store of files by name takes the prover two minutes to set out.
-fn desk_over<S: Alter + Drop>(alloc: Global, connection: Connection<S>) -> Result<Desk<S>, Refusal>
+/// It takes any store, and so do those who hold the desk: a desk over a store of files by name takes the prover a minute in each function
+/// that holds one.
+pub(crate) fn open_desk<S: Alter + Drop>(
+    alloc: Global,
+    connection: Connection<S>,
+) -> Result<Desk<S>, Refusal>
     ensures { IfErr result (λ r. (r ≡ Refusal.Memory) ⊎ ((r ≡ Refusal.Storage) ⊎ (r ≡ Refusal.Damaged))) }
 {
     match Desk::open(alloc, connection) {
         Ok(desk) => Ok(desk),
         Err((refusal, _)) => Err(refusal),
-    }
-}
-
-/// Opens the office of the database file with this name; a file that is not there is made.
-pub(crate) fn open_desk(rt: &HostRuntime, database: &str) -> Result<Desk<Kept>, Refusal>
-    ensures { IfErr result (λ r. (r ≡ Refusal.Memory) ⊎ ((r ≡ Refusal.Storage) ⊎ (r ≡ Refusal.Damaged))) }
-{
-    match Connection::open_from(rt, database, false, Unknown) {
-        Ok(connection) => desk_over(rt.alloc(), connection),
-        Err((error, _)) => Err(refusal_of(error)),
     }
 }

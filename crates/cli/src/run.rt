@@ -5,14 +5,14 @@ ghost use Rattle.lines.specs.Rounds.{IsSolved, IsChecked};
 ghost use Rattle.cli.specs.Outcomes.{Printed, Tells, Asks, Imports, ImportsFile, OnFile, Serves, ServesAt, MayCome, ComesTo, refusal_line, of_round, of_unread, reply_text};
 
 use crate::files::read_file;
-use crate::opening::open_desk;
+use crate::opening::{open_desk, open_file};
 use crate::texts::{NOT_UTF8, bad_line, closed_line, labelled, refusal_line};
 use crate::unread::Unread;
 use desk::Desk;
 use intake::MOST_BYTES;
 use lines::{Trouble, checked, solved};
 use rolls::{Bytes, ImportKind, MOST_IMPORT_BYTES, Plain, Refusal, Reply, Request, Text};
-use sqlite::Alter;
+use sqlite::{Alter, Connection};
 use std::alloc::{AllocError, Global};
 use std::io::Write;
 use std::net::{Ipv4Addr, TcpListener};
@@ -95,6 +95,24 @@ fn ask_at<S: Alter, O: Sink, E: Sink>(
 }
 
 /// Asks a request of the office of a database, and tells what comes of it.
+fn ask_over<S: Alter + Drop, O: Sink, E: Sink>(
+    alloc: Global,
+    connection: Connection<S>,
+    request: Request,
+    out: &mut O,
+    err: &mut E,
+) -> u8
+    requires out { O.failures out.old < 2 ^ 64 - 1 }
+    requires err { E.failures err.old < 2 ^ 64 - 1 }
+    ensures { Tells (Asks request) (O.written out.old) (O.written out.new) (E.written err.old) (E.written err.new) (O.failures out.old + E.failures err.old) (O.failures out.new + E.failures err.new) result }
+{
+    match open_desk(alloc, connection) {
+        Ok(mut desk) => ask_at(&mut desk, request, out, err),
+        Err(refusal) => refuse(err, refusal),
+    }
+}
+
+/// The same of the office of a database file.
 fn ask<O: Sink, E: Sink>(
     rt: &HostRuntime,
     database: &str,
@@ -106,8 +124,8 @@ fn ask<O: Sink, E: Sink>(
     requires err { E.failures err.old < 2 ^ 64 - 1 }
     ensures { Tells (Asks request) (O.written out.old) (O.written out.new) (E.written err.old) (E.written err.new) (O.failures out.old + E.failures err.old) (O.failures out.new + E.failures err.new) result }
 {
-    match open_desk(rt, database) {
-        Ok(mut desk) => ask_at(&mut desk, request, out, err),
+    match open_file(rt, database) {
+        Ok(connection) => ask_over(rt.alloc(), connection, request, out, err),
         Err(refusal) => refuse(err, refusal),
     }
 }
@@ -237,6 +255,25 @@ fn serve_from<S: Alter, O: Sink, E: Sink>(
 }
 
 /// Serves so many connections to a port of the loopback address at the office of a database.
+fn serve_over<S: Alter + Drop, O: Sink, E: Sink>(
+    rt: &HostRuntime,
+    connection: Connection<S>,
+    port: u16,
+    count: u32,
+    out: &mut O,
+    err: &mut E,
+) -> u8
+    requires out { O.failures out.old < 2 ^ 64 - 1 }
+    requires err { E.failures err.old < 2 ^ 64 - 1 }
+    ensures { Tells (ServesAt port count) (O.written out.old) (O.written out.new) (E.written err.old) (E.written err.new) (O.failures out.old + E.failures err.old) (O.failures out.new + E.failures err.new) result }
+{
+    match open_desk(rt.alloc(), connection) {
+        Ok(mut desk) => serve_from(rt, &mut desk, port, count, out, err),
+        Err(refusal) => refuse(err, refusal),
+    }
+}
+
+/// The same at the office of a database file.
 fn serve<O: Sink, E: Sink>(
     rt: &HostRuntime,
     database: &str,
@@ -249,8 +286,8 @@ fn serve<O: Sink, E: Sink>(
     requires err { E.failures err.old < 2 ^ 64 - 1 }
     ensures { Tells (ServesAt port count) (O.written out.old) (O.written out.new) (E.written err.old) (E.written err.new) (O.failures out.old + E.failures err.old) (O.failures out.new + E.failures err.new) result }
 {
-    match open_desk(rt, database) {
-        Ok(mut desk) => serve_from(rt, &mut desk, port, count, out, err),
+    match open_file(rt, database) {
+        Ok(connection) => serve_over(rt, connection, port, count, out, err),
         Err(refusal) => refuse(err, refusal),
     }
 }
