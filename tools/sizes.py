@@ -3,11 +3,11 @@
 
     tools/sizes.py CRATE [COUNT]    after `rt check` in the crate's folder
 
-Seconds differ from machine to machine, and from hour to hour on one; these bytes do not, and a check's seconds go with them.
+Seconds differ from machine to machine, and from hour to hour on one; these bytes do not, and a check's seconds mostly go with them.
 The sum first, then the COUNT heaviest functions (30 where it is left out), and how much of each is of its paths: of its calls,
 the drops of an early return among them, and of what is owned at each. Last the ten longest waits from one file of the prover
 to the next, in seconds, each with the file that was waited for: what takes long and weighs little, as a call of a generic
-function at a large type does. They mean something only after a check from nothing with one job, `rt check --jobs 1`.
+function at a large type does. These are seconds of the clock, after a check from nothing with one job, `rt check --jobs 1`.
 """
 import collections
 import os
