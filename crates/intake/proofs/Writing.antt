@@ -1,6 +1,8 @@
 -- What is left to write.
-use Rattle.std.proofs.Common.{◌≡◌, ℕ, ◌+◌, ◌-◌, ◌<◌, ℤ, List, [], ◌∷◌, ◌++◌, length, get_or, map, take, drop, codes, Option, Some, None, flat_map, refl, sym, ap, ◌∙◌, arith, append_assoc, append-nil, add-one, drop-cons}
-use Rattle.std.proofs.lemmas.List.{get_or-map}
+use Rattle.std.proofs.Common.{◌≡◌, ℕ, ◌+◌, ◌-◌, ◌<◌, ◌≤◌, ℤ, List, [], ◌∷◌, ◌++◌, length, get_or, map, take, drop, codes, Option, Some, None, flat_map, refl, sym, ap, ◌∙◌, subst, inl, inr, decimal, arith, append_assoc, append-nil, add-one, drop-cons}
+use Rattle.std.specs.Fmt.{signed_decimal}
+use Rattle.std.proofs.lemmas.Bool.{cases_lt}
+use Rattle.std.proofs.lemmas.List.{get_or-map, drop_all}
 use Rattle.spa.specs.Shape.{IsPlaceOf, choice_at}
 use Rattle.spa.specs.Codes.{code_at}
 use Rattle.std.proofs.lemmas.List.Concat.{flat_map-append}
@@ -93,6 +95,46 @@ pairs_some p cs ls ks s k q student project h i j e known listed student_is proj
     let within : k - 1 < length (get_or ls s []) = omega arith in
     let listed_code : get_or (map (code_at p) (get_or ls s [])) (k - 1) [] ≡ project = get_or-map (code_at p) (get_or ls s []) (k - 1) 0 [] within ∙ ap (code_at p) listed ∙ project_is in
     rw (drop-cons cs s [], drop-cons ls s [], drop-cons ks s None, e, listed_code, student_is) (simp add-one)
+
+-- the next project's line
+pub next_project : (supervisors cs : List (List ℕ)) (ps : List (ℕ × ℕ)) (p : ℕ) (code supervisor : List ℕ) (quota : ℕ) → p < length cs → p < length ps
+    → get_or cs p [] ≡ code → code_at supervisors (get_or ps p (0, 0)).0 ≡ supervisor → (get_or ps p (0, 0)).1 ≡ quota
+    → project_text supervisors (drop p cs) (drop p ps) ≡ (line (codes "P") (code ∷ supervisor ∷ decimal quota ∷ []) ++ 10 ∷ []) ++ project_text supervisors (drop (p + 1) cs) (drop (p + 1) ps)
+next_project supervisors cs ps p code supervisor quota h i code_is supervisor_is quota_is = rw (drop-cons cs p [], drop-cons ps p (0, 0), code_is, supervisor_is, quota_is) (simp add-one)
+
+-- after the last project's line nothing is left to write
+pub last_project : (supervisors cs : List (List ℕ)) (ps : List (ℕ × ℕ)) (p : ℕ) (out whole : List ℕ) → length cs ≤ p → out ++ project_text supervisors (drop p cs) (drop p ps) ≡ whole → out ≡ whole
+last_project supervisors cs ps p out whole past h =
+    sym (append-nil out) ∙ subst (λ (t : List (List ℕ)). out ++ project_text supervisors t (drop p ps) ≡ whole) (drop_all p cs past) h
+
+-- the next student's line
+pub next_student : (projects cs lists : List (List ℕ)) (s : ℕ) (code list : List ℕ) → s < length cs → s < length lists → get_or cs s [] ≡ code → get_or lists s [] ≡ list
+    → student_text projects (drop s cs) (drop s lists) ≡ (line (codes "C") (code ∷ map (code_at projects) list) ++ 10 ∷ []) ++ student_text projects (drop (s + 1) cs) (drop (s + 1) lists)
+next_student projects cs lists s code list h i code_is list_is = rw (drop-cons cs s [], drop-cons lists s [], code_is, list_is) (simp add-one)
+
+-- after the last student's line nothing is left to write
+pub last_student : (projects cs lists : List (List ℕ)) (s : ℕ) (out whole : List ℕ) → length cs ≤ s → out ++ student_text projects (drop s cs) (drop s lists) ≡ whole → out ≡ whole
+last_student projects cs lists s out whole past h =
+    sym (append-nil out) ∙ subst (λ (t : List (List ℕ)). out ++ student_text projects t (drop s lists) ≡ whole) (drop_all s cs past) h
+
+-- the next line of prices
+pub next_price : (letter : List ℕ) (cs : List (List ℕ)) (vs : List (List ℤ)) (n : ℕ) (code : List ℕ) (price : List ℤ) → n < length cs → n < length vs
+    → get_or cs n [] ≡ code → get_or vs n [] ≡ price
+    → price_text letter (drop n cs) (drop n vs) ≡ (line letter (code ∷ map signed_decimal price) ++ 10 ∷ []) ++ price_text letter (drop (n + 1) cs) (drop (n + 1) vs)
+next_price letter cs vs n code price h i code_is price_is = rw (drop-cons cs n [], drop-cons vs n [], code_is, price_is) (simp add-one)
+
+-- after the last line of prices nothing is left to write
+pub last_price : (letter : List ℕ) (cs : List (List ℕ)) (vs : List (List ℤ)) (n : ℕ) (out whole : List ℕ) → length cs ≤ n → out ++ price_text letter (drop n cs) (drop n vs) ≡ whole → out ≡ whole
+last_price letter cs vs n out whole past h =
+    sym (append-nil out) ∙ subst (λ (t : List (List ℕ)). out ++ price_text letter t (drop n vs) ≡ whole) (drop_all n cs past) h
+
+-- what holds of the first n elements, and of one more
+pub one_more : {X : Type 0} (P : X → Type 0) (xs : List X) (n : ℕ) → ((k : ℕ) (d : X) → k < n → P (get_or xs k d)) → ((d : X) → P (get_or xs n d))
+    → (k : ℕ) (d : X) → k < n + 1 → P (get_or xs k d)
+one_more P xs n before here k d below = elim (cases_lt k n) [
+  | inl less ↦ before k d less
+  | inr past ↦ subst (λ m. P (get_or xs m d)) (let same : n ≡ k = omega arith in same) (here d)
+]
 
 -- the instance's sections, and then those of a matching and prices
 pub joined : (i : Named) (places : List (Option ℕ)) (prices : Prices) (out new : List ℕ) → out ≡ ended (flat_map section_lines (take 3 (sections (alone i))))

@@ -4,4 +4,5 @@ pub mod Unique
 pub mod Known
 pub mod Reading
 pub mod Runs
+pub mod Searched
 pub mod Turns

@@ -1,5 +1,5 @@
 -- One turn of the service.
-use Rattle.std.proofs.Common.{◌≡◌, ℕ, ◌+◌, ◌<◌, inl, inr, List, [], ◌∷◌, ◌++◌, length, take, drop, Option, Result, Ok, Err, IfOk, OnOk, IfErr, OnErr, refl, sym, ◌∙◌, subst, add-zero, length-append, arith}
+use Rattle.std.proofs.Common.{◌≡◌, ℕ, ◌+◌, ◌<◌, inl, inr, List, [], ◌∷◌, ◌++◌, length, take, drop, Option, Result, Ok, Err, IfOk, OnOk, IfErr, OnErr, refl, sym, ◌∙◌, subst, add-zero, length-append, arith, ap}
 use Rattle.std.specs.List.{concat}
 use Rattle.std.specs.Io.KnownBytes.{Appends}
 use Rattle.wire.specs.declared.front.Parts.{Parts}
@@ -10,7 +10,7 @@ use Rattle.wire.specs.Judged.{Judges}
 use Rattle.wire.specs.declared.outcome.Served.{Served}
 use Rattle.wire.specs.declared.outcome.StreamFault.{StreamFault}
 use Rattle.wire.specs.declared.outcome.StreamFault.TheVariants.{Memory, Read, Write}
-use Rattle.wire.specs.Run.{Said, said_at, unread, last_words, last_count}
+use Rattle.wire.specs.Run.{Said, said_at, unread, last_words, last_count, read_failed, write_failed}
 use Rattle.wire.specs.Served.{SoFar, GoesOn, BreaksOff, BrokeOff, WroteUntil, ServedTo}
 use Rattle.wire.specs.Taken.{Grows}
 use Rattle.wire.proofs.Known.{appends_compose, appends_none, consumes_none}
@@ -125,3 +125,33 @@ unfinished step refusal before now was left0 w0 left l w w1 w' rest r count end 
       wrote = subst (λ (f : StreamFault). WroteUntil refusal f goes.answers r l w0 w') (sym e)
           (inr (end, stops.0, (wrote.0, wrote.1, appends_compose w0 w1 w' (concat goes.answers) (take wrote.0 (last_words refusal end)) goes.wrote wrote.2)));
     }
+
+-- ---- what is counted
+
+-- a fault counts as one of its kind does
+pub fault_counts : (count : StreamFault → ℕ) (fault kind : StreamFault) (new old : ℕ) → fault ≡ kind → new ≡ old + count kind → new ≡ old + count fault
+fault_counts count fault kind new old e h = subst (λ (f : StreamFault). new ≡ old + count f) (sym e) h
+
+-- a fault of the reader is no want of memory
+pub no_memory_read : (fault : StreamFault) → fault ≡ Read → fault ≡ Memory → ⊥
+no_memory_read fault e f = let g : Read ≡ Memory = sym e ∙ f in cc
+
+-- nor is a fault of the writer
+pub no_memory_write : (fault : StreamFault) → fault ≡ Write → fault ≡ Memory → ⊥
+no_memory_write fault e f = let g : Write ≡ Memory = sym e ∙ f in cc
+
+-- the last words want no memory
+pub last_no_memory : (r : Result Served StreamFault) → IfErr r (λ e. e ≡ Write) → IfErr r (λ e. e ≡ Memory → ⊥)
+last_no_memory (Ok s) e = tt
+last_no_memory (Err f) e = no_memory_write f e
+
+-- the last words read nothing
+pub last_read : (r : Result Served StreamFault) (new old : ℕ) → new ≡ old → IfErr r (λ e. e ≡ Write) → new ≡ old + read_failed r
+last_read (Ok s) new old h e = h ∙ sym (add-zero old)
+last_read (Err f) new old h e = fault_counts (λ k. read_failed {A = Served} (Err k)) f Write new old e (h ∙ sym (add-zero old))
+
+-- they fail to be written once at most
+pub last_written : (r : Result Served StreamFault) (new before old : ℕ) → before ≡ old → IfErr r (λ e. e ≡ Write) → OnOk r (new ≡ before) → OnErr r (new ≡ before + 1)
+    → new ≡ old + write_failed r
+last_written (Ok s) new before old h e ok err = ok ∙ h ∙ sym (add-zero old)
+last_written (Err f) new before old h e ok err = fault_counts (λ k. write_failed {A = Served} (Err k)) f Write new old e (err ∙ ap (λ (n : ℕ). n + 1) h)

@@ -1,7 +1,8 @@
 -- A head, a fault and their absence in a window stay as more bytes come.
-use Rattle.std.proofs.Common.{◌≡◌, ◌≢◌, ℕ, zero, suc, ◌*◌, ◌<◌, ◌≤◌, inl, inr, Bool, true, false, ◌||◌, not, ◌==◌, List, [], ◌∷◌, ◌++◌, length, take, get_or, if◌then◌else◌, refl, sym, ap, ◌∙◌, subst, arith, append_assoc, length-append, All}
+use Rattle.std.proofs.Common.{◌≡◌, ◌≢◌, ℕ, zero, suc, ◌*◌, ◌<◌, ◌≤◌, inl, inr, Bool, true, false, ◌||◌, not, ◌==◌, List, [], ◌∷◌, ◌++◌, length, take, drop, drop-cons, get_or, if◌then◌else◌, refl, sym, ap, ◌∙◌, subst, arith, append_assoc, length-append, All}
 use Rattle.std.specs.List.{flat_map}
 use Rattle.std.proofs.lemmas.Bool.Decides.{nat_tests}
+use Rattle.std.proofs.lemmas.List.{drop_all}
 use Rattle.std.proofs.lemmas.List.Elements.{All-head, All-tail}
 use Rattle.httparse.specs.Grammar.{is_token_byte, is_uri_byte, AllPass, LineEnd, crlf, lf, print_end, print_blank, Field, print_field, IsField, RequestHead, ReadsRequest, HasNoRequest, NeverHasRequest, MayBecomeRequest, EndsInTarget}
 use Rattle.httparse.specs.Spans.{RequestExceeds}
@@ -42,6 +43,19 @@ malformed_stays buf more line never =
     let g = take_grows 8192 buf more in
     subst (λ (t : List ℕ). HasNoRequest t × IsMalformed t) (sym g.1)
     (never g.0, (line_stays false (window buf) g.0 line, λ more' h r. never (g.0 ++ more') h [] (subst (λ (t : List ℕ). ReadsRequest t h []) (append_assoc (window buf) g.0 more') r)))
+
+-- ---- a line that is looked for byte by byte
+
+-- where a line has begun, a byte LF ends it
+pub line_found : (begun : Bool) (xs : List ℕ) (i : ℕ) → has_line begun (drop i xs) ≡ has_line false xs → i < length xs → get_or xs i 0 ≡ 10 → begun ≡ true → true ≡ has_line false xs
+line_found begun xs i so lt ten b =
+    let next : has_line begun (get_or xs i 0 ∷ drop (suc i) xs) ≡ has_line false xs = subst (λ (t : List ℕ). has_line begun t ≡ has_line false xs) (drop-cons xs i 0 lt) so in
+    let ended : has_line begun (10 ∷ drop (suc i) xs) ≡ has_line false xs = subst (λ (x : ℕ). has_line begun (x ∷ drop (suc i) xs) ≡ has_line false xs) ten next in
+    subst (λ (v : Bool). has_line v (10 ∷ drop (suc i) xs) ≡ has_line false xs) b ended
+
+-- after the last byte no line was found
+pub line_lacks : (begun : Bool) (xs : List ℕ) (i : ℕ) → has_line begun (drop i xs) ≡ has_line false xs → length xs ≤ i → false ≡ has_line false xs
+line_lacks begun xs i so past = subst (λ (t : List ℕ). has_line begun t ≡ has_line false xs) (drop_all i xs past) so
 
 -- ---- a first line without its end
 

@@ -1,6 +1,7 @@
-use Rattle.std.proofs.Common.{◌≡◌, ℕ, ◌-◌, ◌<◌, Bool, List, length, take, sym, ap, subst, ◌∙◌, arith, rules}
+use Rattle.std.proofs.Common.{◌≡◌, ℕ, ◌-◌, ◌<◌, Bool, List, length, take, sym, ap, subst, ◌∙◌, arith}
 use denote.Ref.{Bor}
 use Rattle.std.proofs.lemmas.List.{length-map}
+use Rattle.std.proofs.lemmas.Result.{err_from_is_err_and}
 use Rattle.intake.specs.Lines.{round_lines}
 use Rattle.intake.specs.Reading.{pieces}
 use Rattle.intake.specs.Draft.{draft_of}
@@ -10,18 +11,18 @@ use Rattle.intake.proofs.read.read_round.Goals as goal
 
 pub overflow_sub-whole : goal.overflow_sub-whole
 overflow_sub-whole c =
-    let len : c.len-whole.result ≡ length c.in_ok-lines.lines.items = search (rules) in
+    let len : c.len-whole.result ≡ length c.in_ok-lines.lines.items = omega (arith, c.len-whole.ensures, c.in_ok-lines.lines.ok.0) in
     omega (arith, len, some_piece c.args.text.now, ap length c.in_ok-lines.ensures, length-map c.in_ok-lines.lines.items (λ (f : Bor (List ℕ)). f.now))
 
 pub index-requires-2 : goal.index-requires-2
 index-requires-2 c =
-    let len : c.len-whole.result ≡ length c.in_ok-lines.lines.items = search (rules) in
+    let len : c.len-whole.result ≡ length c.in_ok-lines.lines.items = omega (arith, c.len-whole.ensures, c.in_ok-lines.lines.ok.0) in
     omega (arith, len, c.len-whole.ensures, some_piece c.args.text.now, ap length c.in_ok-lines.ensures, length-map c.in_ok-lines.lines.items (λ (f : Bor (List ℕ)). f.now))
 
 pub returns-then-not-branch : goal.returns-then-not-branch
 returns-then-not-branch c =
     let n : ℕ = c.loop-n.n in
-    let len : c.len-whole.result ≡ length c.in_ok-lines.lines.items = search (rules) in
+    let len : c.len-whole.result ≡ length c.in_ok-lines.lines.items = omega (arith, c.len-whole.ensures, c.in_ok-lines.lines.ok.0) in
     let h : n < length c.in_ok-lines.lines.items = omega (arith, len, c.loop-n-test.true) in
     let many : length c.in_ok-lines.lines.items ≡ length (pieces c.args.text.now) = sym (length-map c.in_ok-lines.lines.items (λ (f : Bor (List ℕ)). f.now)) ∙ ap length c.in_ok-lines.ensures in
     record {
@@ -36,7 +37,7 @@ returns-then-not-branch c =
 pub loop-n-preserved : goal.loop-n-preserved
 loop-n-preserved c =
     let n : ℕ = c.loop-n.n in
-    let len : c.len-whole.result ≡ length c.in_ok-lines.lines.items = search (rules) in
+    let len : c.len-whole.result ≡ length c.in_ok-lines.lines.items = omega (arith, c.len-whole.ensures, c.in_ok-lines.lines.ok.0) in
     let h : n < length c.in_ok-lines.lines.items = omega (arith, len, c.loop-n-test.true) in
     let many : length c.in_ok-lines.lines.items ≡ length (pieces c.args.text.now) = sym (length-map c.in_ok-lines.lines.items (λ (f : Bor (List ℕ)). f.now)) ∙ ap length c.in_ok-lines.ensures in
     let added = subst (λ (b : Bool). AddsLine (draft_of c.loop-n.draft) c.index.result.now.now (draft_of c.add_line.new.self) b) c.if-not-branch.false c.in_ok-add_line.ensures in
@@ -49,8 +50,8 @@ loop-n-preserved c =
 pub returns-then-not-may_end : goal.returns-then-not-may_end
 returns-then-not-may_end c =
     let w : ℕ = c.len-whole.result - 1 in
-    let len : c.len-whole.result ≡ length c.in_ok-lines.lines.items = search (rules) in
-    let again : c.len.result ≡ length c.in_ok-lines.lines.items = search (rules) in
+    let len : c.len-whole.result ≡ length c.in_ok-lines.lines.items = omega (arith, c.len-whole.ensures, c.in_ok-lines.lines.ok.0) in
+    let again : c.len.result ≡ length c.in_ok-lines.lines.items = omega (arith, c.len.ensures, c.in_ok-lines.lines.ok.0) in
     let many : length c.in_ok-lines.lines.items ≡ length (pieces c.args.text.now) = sym (length-map c.in_ok-lines.lines.items (λ (f : Bor (List ℕ)). f.now)) ∙ ap length c.in_ok-lines.ensures in
     let some = some_piece c.args.text.now in
     let exit : c.loop-n.n ≡ w = omega (arith, c.loop-n-test.false, c.loop-n.auto.n-end) in
@@ -66,7 +67,7 @@ returns-then-not-may_end c =
 pub returns : goal.returns
 returns c =
     let w : ℕ = c.len-whole.result - 1 in
-    let len : c.len-whole.result ≡ length c.in_ok-lines.lines.items = search (rules) in
+    let len : c.len-whole.result ≡ length c.in_ok-lines.lines.items = omega (arith, c.len-whole.ensures, c.in_ok-lines.lines.ok.0) in
     let many : length c.in_ok-lines.lines.items ≡ length (pieces c.args.text.now) = sym (length-map c.in_ok-lines.lines.items (λ (f : Bor (List ℕ)). f.now)) ∙ ap length c.in_ok-lines.ensures in
     let some = some_piece c.args.text.now in
     let exit : c.loop-n.n ≡ w = omega (arith, c.loop-n-test.false, c.loop-n.auto.n-end) in
@@ -79,3 +80,36 @@ returns c =
         omega arith,
       );
     }
+
+pub pieces-requires : goal.pieces-requires
+pieces-requires c = tt
+
+pub new-draft-requires : goal.new-draft-requires
+new-draft-requires c = tt
+
+pub may_end-requires : goal.may_end-requires
+may_end-requires c = tt
+
+pub index-requires : goal.index-requires
+index-requires c = omega (arith, c.loop-n-test.true, c.len-whole.ensures)
+
+pub add_line-requires : goal.add_line-requires
+add_line-requires c = c.loop-n.invariant.draft
+
+pub finish-requires-clause-draft : goal.finish-requires-clause-draft
+finish-requires-clause-draft c = c.loop-n.invariant.draft
+
+pub finish-requires-clause-whole : goal.finish-requires-clause-whole
+finish-requires-clause-whole c = let end = c.may_end.ensures.0 c.if-not-may_end.false in end.1
+
+pub loop-n-smaller : goal.loop-n-smaller
+loop-n-smaller c = omega (arith, c.loop-n-test.true)
+
+pub returns-in_err-lines : goal.returns-in_err-lines
+returns-in_err-lines c = let p = err_from_is_err_and c.from_residual.result c.from_residual.ensures.1 in record { reading = rw (p.1, p.2) tt }
+
+pub returns-in_err-add_line : goal.returns-in_err-add_line
+returns-in_err-add_line c = let p = err_from_is_err_and c.from_residual-in_err-add_line.result c.from_residual-in_err-add_line.ensures.1 in record { reading = rw (p.1, p.2) tt }
+
+pub returns-in_err-finish : goal.returns-in_err-finish
+returns-in_err-finish c = let p = err_from_is_err_and c.from_residual-in_err-finish.result c.from_residual-in_err-finish.ensures.1 in record { reading = rw (p.1, p.2) tt }

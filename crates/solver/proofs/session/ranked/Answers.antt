@@ -1,14 +1,26 @@
-use Rattle.std.proofs.Common.{ℕ, ◌≡◌, ◌+◌, ◌≤◌, ◌==◌, ◌∙◌, cond, eqb, arith, List, length, Option, Some, ap, length-set}
-use Rattle.spa.specs.declared.TheConstants.{RANKS}
+use Rattle.std.proofs.Common.{ℕ, ◌≡◌, ◌+◌, ◌-◌, ◌<◌, ◌≤◌, ◌==◌, ◌∙◌, cond, eqb, arith, List, length, map, Option, Some, ap, length-set, drop, [], slice_get}
+use Rattle.spa.specs.declared.TheConstants.{RANKS, PLACES}
 use Rattle.spa.specs.Shape.{Shape, list_of, choice_at, IsPlaceOf}
 use Rattle.spa.specs.Matching.{Pair, rank, rank_in}
 use Rattle.spa.proofs.Counting.{one_at_most, one_more}
 use Rattle.spa.proofs.Places.{rest_some, count_none, rank_of_place}
-use Rattle.network.specs.Seen.{shape_of}
+use Rattle.network.specs.Seen.{shape_of, Seen}
 use Rattle.solver.proofs.Priced.{list_short}
 use Rattle.solver.proofs.Sittings.{place_held}
+use Rattle.std.proofs.Math.ListN.{drop_of_length-le}
+use Rattle.std.proofs.lemmas.List.{length-map}
+use Rattle.spa.specs.Places.{Places}
+use Rattle.spa.specs.Matched.{HasPlaces}
+use Rattle.solver.specs.Kept.{IsKept}
 use Rattle.solver.proofs.session.ranked.Goals as goal
 use Rattle.solver.proofs.session.ranked.Goals.{in-Some, in_default}
+
+-- a student's place is one of a list of at most 8
+placed_within : {students : ℕ} (v : Seen (Places PLACES)) (s k : ℕ) → IsKept v students → HasPlaces (shape_of v) v.places → slice_get v.places s ≡ Some (Some k) → k - 1 < RANKS
+placed_within v s k kept places is =
+    let inside = places.in_list s k is in
+    let short : length (list_of (shape_of v) s) ≤ RANKS = list_short (shape_of v) kept.sound s in
+    omega (arith, inside.first, inside.last, short)
 
 pub loop-student-preserved : goal.loop-student-preserved
 loop-student-preserved c =
@@ -40,3 +52,30 @@ loop-student-preserved c =
             small = λ k h. rw w.counts-is (let b = inv.small k h in omega (arith, b));
           }
     ]
+
+pub returns-clause-profile : goal.returns-clause-profile
+returns-clause-profile c =
+    let i : Shape = shape_of c.args.network.now in
+    let past : drop c.loop-student.student i.students ≡ [] = drop_of_length-le i.students (omega (arith, length-map c.args.network.now.lists (map (λ e. e.0)), c.requires.kept.count, c.loop-student-test.false)) in
+    λ k h. let all = rw past at (c.loop-student.invariant.so_far k h) in omega (arith, all)
+
+pub returns-clause-few : goal.returns-clause-few
+returns-clause-few c = λ k h. let small = c.loop-student.invariant.small k h in omega (arith, small, c.loop-student.auto.student-end)
+
+pub returns-clause-whole : goal.returns-clause-whole
+returns-clause-whole c = c.loop-student.invariant.whole
+
+pub offset_bounds-counts-place : goal.offset_bounds-counts-place
+offset_bounds-counts-place c = omega (arith, placed_within c.args.network.now c.loop-student.student c.in-Some.place c.requires.kept c.requires.places (c.place_of.ensures ∙ ap Some c.in-Some.is))
+
+pub bounds-counts-place : goal.bounds-counts-place
+bounds-counts-place c = omega (arith, placed_within c.args.network.now c.loop-student.student c.in-Some.place c.requires.kept c.requires.places (c.place_of.ensures ∙ ap Some c.in-Some.is))
+
+pub bounds-counts-place-in-Some : goal.bounds-counts-place-in-Some
+bounds-counts-place-in-Some c = omega (arith, placed_within c.args.network.now c.loop-student.student c.in-Some.place c.requires.kept c.requires.places (c.place_of.ensures ∙ ap Some c.in-Some.is))
+
+pub overflow_add-counts : goal.overflow_add-counts
+overflow_add-counts c =
+    let w = placed_within c.args.network.now c.loop-student.student c.in-Some.place c.requires.kept c.requires.places (c.place_of.ensures ∙ ap Some c.in-Some.is) in
+    let small = c.loop-student.invariant.small (c.in-Some.place - 1) (omega (arith, w)) in
+    omega (arith, small, c.loop-student-test.true, c.requires.kept.few)

@@ -65,3 +65,30 @@ returns-in-Some-clause-failed c = (
   c.if-not-is_not_below_zero.ensures.0 refl,
   c.in-Some.ensures,
 )
+
+pub returns-then-is_some-clause-accepted : goal.returns-then-is_some-clause-accepted
+returns-then-is_some-clause-accepted c = (λ h. absurd (false≢true h), λ b. sym (c.fault.ensures.none.1 b.matched) ∙ sym c.is_some.ensures ∙ c.if-is_some.true)
+
+pub returns-then-is_some-clause-failed : goal.returns-then-is_some-clause-failed
+returns-then-is_some-clause-failed c = λ m. false≢true (sym (c.fault.ensures.none.1 m) ∙ sym c.is_some.ensures ∙ c.if-is_some.true)
+
+pub returns-then-not-has_shape-clause-accepted : goal.returns-then-not-has_shape-clause-accepted
+returns-then-not-has_shape-clause-accepted c = (λ h. absurd (false≢true h), λ b. c.if-not-has_shape.ensures.1 b.shape)
+
+pub returns-then-not-has_shape-clause-failed : goal.returns-then-not-has_shape-clause-failed
+returns-then-not-has_shape-clause-failed c = (c.fault.ensures.none.0 (sym c.is_some.ensures ∙ c.if-is_some.false), λ h. false≢true (c.if-not-has_shape.ensures.1 h))
+
+pub returns-then-not-is_not_below_zero-clause-accepted : goal.returns-then-not-is_not_below_zero-clause-accepted
+returns-then-not-is_not_below_zero-clause-accepted c = (λ h. absurd (false≢true h), λ b. c.if-not-is_not_below_zero.ensures.1 b.not_below)
+
+pub first_uncovered-requires : goal.first_uncovered-requires
+first_uncovered-requires c = c.if-not-has_shape.ensures.0 refl
+
+pub is_equal-requires-clause-places : goal.is_equal-requires-clause-places
+is_equal-requires-clause-places c = let m = c.fault.ensures.none.0 (sym c.is_some.ensures ∙ c.if-is_some.false) in m.places
+
+pub is_equal-requires-clause-shape : goal.is_equal-requires-clause-shape
+is_equal-requires-clause-shape c = c.if-not-has_shape.ensures.0 refl
+
+pub returns-then-not-is_equal-clause-accepted : goal.returns-then-not-is_equal-clause-accepted
+returns-then-not-is_equal-clause-accepted c = (λ h. absurd (false≢true h), λ b. c.if-not-is_equal.ensures.1 b.equal)

@@ -4,10 +4,10 @@ use Rattle.wire.specs.declared.outcome.End.TheVariants.{Hundred}
 use Rattle.wire.specs.declared.outcome.StreamFault.{StreamFault}
 use Rattle.wire.specs.declared.outcome.StreamFault.TheVariants.{Memory, Read, Write}
 use Rattle.wire.specs.declared.outcome.Served.{Served}
-use Rattle.wire.specs.Run.{Said, write_failed}
+use Rattle.wire.specs.Run.{Said, read_failed, write_failed}
 use Rattle.wire.specs.Served.{SoFar, ServedTo}
 use Rattle.wire.proofs.Runs.{nothing_yet, hundred_here}
-use Rattle.wire.proofs.Turns.{finished, unfinished}
+use Rattle.wire.proofs.Turns.{last_no_memory, last_read, last_written, finished, unfinished}
 use Rattle.wire.proofs.service.serve_hundred.Goals as goal
 
 -- at first nothing was read, asked or written
@@ -36,6 +36,11 @@ counted : (A B : Type 0) (fault : StreamFault) (new old start : ℕ) → new ≡
 counted A B Memory new old start e h = cc
 counted A B Read new old start e h = cc
 counted A B Write new old start e h = cc
+
+counted_read : (A B : Type 0) (fault : StreamFault) (new old start : ℕ) → new ≡ old + read_failed {A = A} (Err fault) → old ≡ start → new ≡ start + read_failed {A = B} (Err fault)
+counted_read A B Memory new old start e h = cc
+counted_read A B Read new old start e h = cc
+counted_read A B Write new old start e h = cc
 
 pub returns-in-Err-clause-write_count : goal.returns-in-Err-clause-write_count
 returns-in-Err-clause-write_count g c = counted (Option End) Served c.in-Err.fault _ _ _ c.in-Err.ensures.write_count c.loop-answered.invariant.writes
@@ -99,3 +104,29 @@ loop-answered-preserved g c = record {
   reads = stays _ _ _ c.in-Ok.ensures.read_count c.loop-answered.invariant.reads;
   writes = stays _ _ _ c.in-Ok.ensures.write_count c.loop-answered.invariant.writes;
 }
+
+pub returns-in-Err-clause-served : goal.returns-in-Err-clause-served
+returns-in-Err-clause-served g c = tt
+
+pub finish-requires-clause-failures : goal.finish-requires-clause-failures
+finish-requires-clause-failures g c =
+    subst (λ (n : ℕ). n < 2 ^ 64 - 1) (sym (stays _ _ _ c.in-Ok.ensures.write_count c.loop-answered.invariant.writes)) c.requires.write_failures
+
+pub returns-in-Err-clause-fault : goal.returns-in-Err-clause-fault
+returns-in-Err-clause-fault g c = c.in-Err.ensures.fault
+
+pub returns-in-Some-clause-write_count : goal.returns-in-Some-clause-write_count
+returns-in-Some-clause-write_count g c =
+    last_written c.finish.result _ _ _ (stays _ _ _ c.in-Ok.ensures.write_count c.loop-answered.invariant.writes) c.finish.ensures.fault c.finish.ensures.count_ok c.finish.ensures.count_err
+
+pub returns-in-Err-clause-read_count : goal.returns-in-Err-clause-read_count
+returns-in-Err-clause-read_count g c = counted_read (Option End) Served c.in-Err.fault _ _ _ c.in-Err.ensures.read_count c.loop-answered.invariant.reads
+
+pub returns-in-Some-clause-fault : goal.returns-in-Some-clause-fault
+returns-in-Some-clause-fault g c = last_no_memory c.finish.result c.finish.ensures.fault
+
+pub returns-in-Some-clause-read_count : goal.returns-in-Some-clause-read_count
+returns-in-Some-clause-read_count g c = last_read c.finish.result _ _ (stays _ _ _ c.in-Ok.ensures.read_count c.loop-answered.invariant.reads) c.finish.ensures.fault
+
+pub loop-answered-smaller : goal.loop-answered-smaller
+loop-answered-smaller g c = omega (arith, c.loop-answered-test.true)

@@ -1,4 +1,6 @@
-use Rattle.std.proofs.Common.{◌≡◌, ℕ, List, subst, sym}
+use Rattle.std.proofs.Common.{◌≡◌, ℕ, ◌+◌, List, length, subst, sym, ap, refl, arith, vec_len}
+use Rattle.std.proofs.Math.Nat.{le_refl}
+use Rattle.std.proofs.lemmas.List.{length-drop}
 use Rattle.wire.specs.declared.front.Parts.{Parts}
 use Rattle.wire.specs.declared.front.Front.TheVariants.{Whole}
 use Rattle.std.specs.Io.KnownBytes.{Appends}
@@ -24,3 +26,37 @@ returns-clause-ok g c = (
 
 pub returns-clause-count_ok : goal.returns-clause-count_ok
 returns-clause-count_ok g c = c.in_ok-write_all.ensures.count_ok
+
+pub returns-clause-size : goal.returns-clause-size
+returns-clause-size g c =
+    omega (arith, ap length c.drop_front.ensures.items, length-drop (c.args.parts.head + c.args.parts.body) c.args.buffer.now.items, c.args.buffer.now.ok.0, c.drop_front.new.buffer.ok.0)
+
+pub as_slice-requires-2 : goal.as_slice-requires-2
+as_slice-requires-2 g c = tt
+
+pub returns-in_err-write_all-clause-capacity : goal.returns-in_err-write_all-clause-capacity
+returns-in_err-write_all-clause-capacity g c = refl
+
+pub returns-clause-err : goal.returns-clause-err
+returns-clause-err g c = tt
+
+pub returns-clause-fault : goal.returns-clause-fault
+returns-clause-fault g c = tt
+
+pub returns-clause-count_err : goal.returns-clause-count_err
+returns-clause-count_err g c = tt
+
+pub write_all-requires : goal.write_all-requires
+write_all-requires g c = c.requires.failures
+
+pub drop_front-requires : goal.drop_front-requires
+drop_front-requires g c = let known = c.requires.parts in omega (arith, known.1.fits, c.args.buffer.now.ok.0)
+
+pub returns-clause-taken : goal.returns-clause-taken
+returns-clause-taken g c = c.drop_front.ensures.items
+
+pub returns-clause-capacity : goal.returns-clause-capacity
+returns-clause-capacity g c = c.drop_front.ensures.capacity
+
+pub returns-in_err-write_all-clause-size : goal.returns-in_err-write_all-clause-size
+returns-in_err-write_all-clause-size g c = le_refl (vec_len c.args.buffer.now)

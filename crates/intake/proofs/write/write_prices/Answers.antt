@@ -1,0 +1,51 @@
+use Rattle.std.proofs.Common.{◌≡◌, ℕ, ◌+◌, ◌<◌, [], ◌∷◌, ◌++◌, length, get_or, map, drop, string_bytes, refl, sym, ap, ◌∙◌, arith}
+use Rattle.std.specs.Fmt.{signed_decimal}
+use Rattle.std.proofs.lemmas.Result.{err_from_is_err_and}
+use Rattle.std.proofs.lemmas.List.{get_or_read, get_or_default}
+use Rattle.intake.specs.Lines.{line}
+use Rattle.intake.proofs.Writing.{price_text, next, next_price, last_price, one_more}
+use Rattle.intake.proofs.write.write_prices.Goals as goal
+
+pub as_str-requires : goal.as_str-requires
+as_str-requires c = tt
+
+pub loop-n-preserved : goal.loop-n-preserved
+loop-n-preserved c =
+    let n : ℕ = c.loop-n.n in
+    let priced : n < length c.args.prices.now = c.loop-n-test.true in
+    let coded : n < length c.args.roll.now = omega (arith, priced, c.requires) in
+    let code = c.as_str.ensures.value ∙ get_or_read c.args.roll.now n c.index-roll-n.result coded c.index-roll-n.is [] in
+    let some = next_price c.args.letter.now c.args.roll.now c.args.prices.now n c.as_str.result.now (get_or c.args.prices.now n []) coded priced (sym code) refl in
+    record {
+      text = next (string_bytes c.loop-n.out) (string_bytes c.push_price.new.out) (line c.args.letter.now (c.as_str.result.now ∷ map signed_decimal (get_or c.args.prices.now n [])) ++ 10 ∷ [])
+          (price_text c.args.letter.now (drop (n + 1) c.args.roll.now) (drop (n + 1) c.args.prices.now))
+          _ c.in_ok-push_price.ensures (ap (λ rest. string_bytes c.loop-n.out ++ rest) (sym some) ∙ c.loop-n.invariant.text);
+      numbers = one_more (λ v. length v ≡ 9) c.args.prices.now n c.loop-n.invariant.numbers (λ d. ap length (get_or_default c.args.prices.now n d [] priced) ∙ c.told-prices n priced);
+    }
+
+pub push_price-requires : goal.push_price-requires
+push_price-requires c = tt
+
+pub loop-n-init : goal.loop-n-init
+loop-n-init c = record { text = refl; numbers = λ k d below. absurd (omega (arith, below)) }
+
+pub bounds-roll-n : goal.bounds-roll-n
+bounds-roll-n c = omega (arith, c.loop-n-test.true, c.requires)
+
+pub bounds-prices-n : goal.bounds-prices-n
+bounds-prices-n c = c.loop-n-test.true
+
+pub loop-n-smaller : goal.loop-n-smaller
+loop-n-smaller c = omega (arith, c.loop-n-test.true)
+
+pub returns-clause-text : goal.returns-clause-text
+returns-clause-text c = last_price c.args.letter.now c.args.roll.now c.args.prices.now c.loop-n.n (string_bytes c.loop-n.out) _ (omega (arith, c.loop-n-test.false, c.requires)) c.loop-n.invariant.text
+
+pub returns-clause-numbers : goal.returns-clause-numbers
+returns-clause-numbers c = λ k d below. c.loop-n.invariant.numbers k d (omega (arith, below, c.loop-n-test.false))
+
+pub returns-in_err-push_price-clause-text : goal.returns-in_err-push_price-clause-text
+returns-in_err-push_price-clause-text c = let p = err_from_is_err_and c.from_residual.result c.from_residual.ensures.1 in rw p.1 tt
+
+pub returns-in_err-push_price-clause-numbers : goal.returns-in_err-push_price-clause-numbers
+returns-in_err-push_price-clause-numbers c = let p = err_from_is_err_and c.from_residual.result c.from_residual.ensures.1 in rw p.1 tt
