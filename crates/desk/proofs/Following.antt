@@ -17,7 +17,7 @@ use Rattle.solver.specs.Sitting.{Sitting}
 use Rattle.allotment.specs.Layers.{layers}
 use Rattle.allotment.specs.Sittings.{MayJoin}
 use Rattle.desk.specs.declared.sessions.Fate.{Fate}
-use Rattle.desk.specs.declared.sessions.Fate.TheVariants.{Stays, Starts, Joins, Ends}
+use Rattle.desk.specs.declared.sessions.Fate.TheVariants.{Stays, Joins, Ends}
 use Rattle.desk.specs.Sessions.{plain_fate, fate_of, Goes, GoesOn, SitsAt, MayMeet}
 
 -- ---- a change

@@ -1,5 +1,5 @@
 -- What the office refuses unread is refused, and a request whose text has not to be read is refused by nothing else.
-use Rattle.std.proofs.Common.{◌≡◌, ℕ, List, Bool, true, ◌⊎◌, inl, inr, Option, Some, None, Result, Ok, Err, IfErr, refl, sym, ap, ◌∙◌}
+use Rattle.std.proofs.Common.{◌≡◌, ℕ, List, Bool, true, ◌⊎◌, inl, inr, Option, Some, None, Result, Ok, Err, IfErr, ap, ◌∙◌}
 use Rattle.std.specs.Prelude.{if◌then◌else◌}
 use Rattle.rolls.specs.declared.import.ImportKind.{ImportKind}
 use Rattle.rolls.specs.declared.request.Done.{Done}

@@ -1,4 +1,4 @@
-use Rattle.std.proofs.Common.{◌≡◌, IfErr, sym, subst}
+use Rattle.std.proofs.Common.{IfErr, sym, subst}
 use Rattle.rolls.specs.declared.request.Request.{Request}
 use Rattle.rolls.specs.Run.{MayRefuse, refusal}
 use Rattle.allotment.specs.Layers.{layers}

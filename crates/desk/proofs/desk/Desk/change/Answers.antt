@@ -1,10 +1,14 @@
-use Rattle.std.proofs.Common.{◌≡◌, Option, refl, sym, ap, subst, ◌∙◌}
-use Rattle.sqlite.specs.State.{State as Seen, Survives}
+use Rattle.std.proofs.Common.{◌≡◌, Option, Result, Ok, Err, IfSome, IsTrue, refl, sym, ap, subst, ◌∙◌}
+use Rattle.sqlite.specs.State.{State as Seen, HasCleanDisk, Survives}
 use Rattle.sqlite.specs.Held.{state}
 use Rattle.tables.specs.Steps.{IsLeft}
 use Rattle.rolls.specs.State.{State}
 use Rattle.rolls.specs.declared.request.Request.{Request}
-use Rattle.rolls.specs.Run.{Makes}
+use Rattle.rolls.specs.declared.refusal.Refusal.{Refusal}
+use Rattle.rolls.specs.declared.request.Reply.{Reply}
+use Rattle.rolls.specs.Run.{Makes, Step, refusal}
+use Rattle.store.specs.Saving.{AreActedOn}
+use Rattle.store.specs.Tables.{LeavesAlone}
 use Rattle.solver.specs.Sitting.{Sitting}
 use Rattle.allotment.specs.Layers.{layers}
 use Rattle.desk.specs.declared.sessions.Fate.{Fate}
@@ -57,3 +61,73 @@ returns-in-Ok-clause-crash g c =
 pub returns-in-Err-clause-session : goal.returns-in-Err-clause-session
 returns-in-Err-clause-session g c =
     ap (λ k. k.session) c.keep_session-in-Err.ensures.kept ∙ c.take-kept.ensures.value ∙ ap (λ k. k.session) c.self.view_is
+
+-- what is said of an office and tables, said of equal ones
+quiet_so : {T : Type 0} (q : Request) (p o : State) (s t u v : T) → p ≡ o → s ≡ t → u ≡ v → IfSome (refusal layers p q) (λ _. u ≡ s) → IfSome (refusal layers o q) (λ _. v ≡ t)
+quiet_so q p o s t u v d e f h = rw (← d, ← e, ← f) h
+
+step_so : (q : Request) (a : Result Reply Refusal) (p o m n : State) → p ≡ o → m ≡ n → Step layers p q a m → Step layers o q a n
+step_so q a p o m n d e h = rw (← d, ← e) h
+
+pub returns-in-Ok-clause-quiet : goal.returns-in-Ok-clause-quiet
+returns-in-Ok-clause-quiet g c =
+    quiet_so c.args.request c.self.inside.office c.args.self.now.office c.self.inside.store c.args.self.now.store c.save.new.self.store c.keep_session.new.self.store
+    (ap (λ k. k.office) c.self.view_is) (ap (λ k. k.store) c.self.view_is) (sym (ap (λ k. k.store) c.keep_session.ensures.kept)) c.save.ensures.quiet
+
+pub returns-in-Ok-clause-step : goal.returns-in-Ok-clause-step
+returns-in-Ok-clause-step g c =
+    step_so c.args.request (Ok c.in-Ok.reply) c.self.inside.office c.args.self.now.office c.save.new.self.office c.keep_session.new.self.office
+    (ap (λ k. k.office) c.self.view_is) (sym (ap (λ k. k.office) c.keep_session.ensures.kept)) c.in-Ok.ensures.step
+
+pub returns-in-Ok-clause-tables : goal.returns-in-Ok-clause-tables
+returns-in-Ok-clause-tables g c = c.keep_session.ensures.tables
+
+pub returns-in-Err-clause-tables : goal.returns-in-Err-clause-tables
+returns-in-Err-clause-tables g c = c.keep_session-in-Err.ensures.tables
+
+pub returns-in-Err-clause-quiet : goal.returns-in-Err-clause-quiet
+returns-in-Err-clause-quiet g c =
+    quiet_so c.args.request c.self.inside.office c.args.self.now.office c.self.inside.store c.args.self.now.store c.save.new.self.store c.keep_session-in-Err.new.self.store
+    (ap (λ k. k.office) c.self.view_is) (ap (λ k. k.store) c.self.view_is) (sym (ap (λ k. k.store) c.keep_session-in-Err.ensures.kept)) c.save.ensures.quiet
+
+pub returns-in-Err-clause-step : goal.returns-in-Err-clause-step
+returns-in-Err-clause-step g c =
+    step_so c.args.request (Err c.in-Err.refusal) c.self.inside.office c.args.self.now.office c.save.new.self.office c.keep_session-in-Err.new.self.office
+    (ap (λ k. k.office) c.self.view_is) (sym (ap (λ k. k.office) c.keep_session-in-Err.ensures.kept)) c.in-Err.ensures.step
+
+pub returns-in-Err-clause-crash : goal.returns-in-Err-clause-crash
+returns-in-Err-clause-crash g c =
+    left_so c.args.request c.self.inside.office c.args.self.now.office (state g.S.Store c.self.inside.store) (state g.S.Store c.args.self.now.store) (state g.S.Store c.save.new.self.store) (state g.S.Store c.keep_session-in-Err.new.self.store)
+    (ap (λ k. k.office) c.self.view_is) (ap (λ k. state g.S.Store k.store) c.self.view_is) (sym (ap (λ k. state g.S.Store k.store) c.keep_session-in-Err.ensures.kept)) c.save.ensures.crash
+
+pub returns-in-Err-clause-alone : goal.returns-in-Err-clause-alone
+returns-in-Err-clause-alone g c = λ _. tt
+
+pub returns-in-Err-clause-stays_open : goal.returns-in-Err-clause-stays_open
+returns-in-Err-clause-stays_open g c = λ _. tt
+
+pub returns-in-Err-clause-acted_on : goal.returns-in-Err-clause-acted_on
+returns-in-Err-clause-acted_on g c = λ _. refl
+
+-- a connection that is shut stays shut, of equal ones
+shut_so : (before seen new after : Seen) → before ≡ seen → new ≡ after → (HasCleanDisk new → IsTrue new.is_open → IsTrue before.is_open) → HasCleanDisk after → IsTrue after.is_open → IsTrue seen.is_open
+shut_so before seen new after e f h = rw (← e, ← f) h
+
+pub returns-in-Ok-clause-alone : goal.returns-in-Ok-clause-alone
+returns-in-Ok-clause-alone g c = subst (λ (z : Seen). HasCleanDisk z → LeavesAlone z) (sym (ap (λ k. state g.S.Store k.store) c.keep_session.ensures.kept)) c.in-Ok.ensures.alone
+
+pub returns-in-Ok-clause-stays_open : goal.returns-in-Ok-clause-stays_open
+returns-in-Ok-clause-stays_open g c = subst (λ (z : Seen). HasCleanDisk z → IsTrue z.is_open) (sym (ap (λ k. state g.S.Store k.store) c.keep_session.ensures.kept)) c.in-Ok.ensures.stays_open
+
+pub returns-in-Ok-clause-stays_shut : goal.returns-in-Ok-clause-stays_shut
+returns-in-Ok-clause-stays_shut g c =
+    shut_so (state g.S.Store c.self.inside.store) (state g.S.Store c.args.self.now.store) (state g.S.Store c.save.new.self.store) (state g.S.Store c.keep_session.new.self.store)
+    (ap (λ k. state g.S.Store k.store) c.self.view_is) (sym (ap (λ k. state g.S.Store k.store) c.keep_session.ensures.kept)) c.save.ensures.stays_shut
+
+pub returns-in-Err-clause-stays_shut : goal.returns-in-Err-clause-stays_shut
+returns-in-Err-clause-stays_shut g c =
+    shut_so (state g.S.Store c.self.inside.store) (state g.S.Store c.args.self.now.store) (state g.S.Store c.save.new.self.store) (state g.S.Store c.keep_session-in-Err.new.self.store)
+    (ap (λ k. state g.S.Store k.store) c.self.view_is) (sym (ap (λ k. state g.S.Store k.store) c.keep_session-in-Err.ensures.kept)) c.save.ensures.stays_shut
+
+pub returns-in-Ok-clause-acted_on : goal.returns-in-Ok-clause-acted_on
+returns-in-Ok-clause-acted_on g c = λ acted. c.in-Ok.ensures.acted_on (subst (λ (z : Seen). AreActedOn z.now.schema) (sym (ap (λ k. state g.S.Store k.store) c.self.view_is)) acted)
