@@ -1,10 +1,11 @@
 //! Rows as they are read.
 
-ghost use Rattle.std.specs.Prelude.{◌≡◌, ◌≢◌, ◌<◌, ◌^◌, ℕ, pos, Bool, IsTrue, false, cond, List, IsUtf8, IfOk, drop};
+ghost use Rattle.std.specs.Prelude.{◌≡◌, ◌≢◌, ◌<◌, ◌^◌, ℕ, pos, Bool, IsTrue, false, cond, List, IsUtf8, IfOk, drop, length, ◌+◌};
 ghost use Rattle.sqlite.specs.declared.types.Value.TheVariants.{Int, Blob, Text as Words};
 ghost use Rattle.sqlite.specs.Order.{Row as AnyCells, column};
 ghost use Rattle.sqlite_rules.specs.Lists.{Has};
 ghost use Rattle.rolls.specs.Kinds.{word_of};
+ghost use Rattle.tables.specs.Table.{kinds_of};
 ghost use Rattle.store.specs.Reading.{IsNoRow, IsRowWith, AreRowsOf};
 
 use crate::fault::StoreFault;
@@ -109,6 +110,34 @@ fn kind_at(cells: &Cells, at: usize) -> Result<ImportKind, StoreFault>
     Err(StoreFault::Damaged)
 }
 
+/// A row of one of the rolls. Numbers are read first, so that few texts are dropped where a column has no such value.
+fn roll_row(alloc: Global, table: Table, cells: &Cells) -> Result<Row, StoreFault>
+    requires { length cells.now ≡ length (kinds_of table) + 1 }
+    ensures row { IfOk result (IsRowWith table cells.now) }
+    ensures damaged { result ≡ Err StoreFault.Damaged → IsNoRow table (drop 1 cells.now) }
+{
+    match table {
+        Table::Supervisor => Ok(Row::Supervisor {
+            quota: number_at(cells, 3)?,
+            code: text_at(alloc, cells, 1)?,
+            label: text_at(alloc, cells, 2)?,
+        }),
+        Table::Project => Ok(Row::Project {
+            quota: number_at(cells, 4)?,
+            code: text_at(alloc, cells, 1)?,
+            label: text_at(alloc, cells, 2)?,
+            supervisor: text_at(alloc, cells, 3)?,
+        }),
+        Table::Student => Ok(Row::Student {
+            code: text_at(alloc, cells, 1)?,
+            label: text_at(alloc, cells, 2)?,
+        }),
+        Table::Round | Table::Choice | Table::Placement | Table::Import | Table::Edition => {
+            Err(StoreFault::Storage)
+        }
+    }
+}
+
 /// The row with these columns, which come after its rowid.
 fn row_with(alloc: Global, table: Table, cells: &Cells) -> Result<Row, StoreFault>
     ensures row { IfOk result (IsRowWith table cells.now) }
@@ -118,44 +147,46 @@ fn row_with(alloc: Global, table: Table, cells: &Cells) -> Result<Row, StoreFaul
         return Err(StoreFault::Storage);
     }
     match table {
-        Table::Supervisor => Ok(Row::Supervisor {
-            code: text_at(alloc, cells, 1)?,
-            label: text_at(alloc, cells, 2)?,
-            quota: number_at(cells, 3)?,
-        }),
-        Table::Project => Ok(Row::Project {
-            code: text_at(alloc, cells, 1)?,
-            label: text_at(alloc, cells, 2)?,
-            supervisor: text_at(alloc, cells, 3)?,
-            quota: number_at(cells, 4)?,
-        }),
-        Table::Student => Ok(Row::Student {
-            code: text_at(alloc, cells, 1)?,
-            label: text_at(alloc, cells, 2)?,
-        }),
+        Table::Supervisor | Table::Project | Table::Student => roll_row(alloc, table, cells),
+        Table::Round | Table::Choice | Table::Placement | Table::Import => {
+            round_row(alloc, table, cells)
+        }
+        Table::Edition => Err(StoreFault::Storage),
+    }
+}
+
+/// A row of a round, a list, a placement or an import, read in the same way.
+fn round_row(alloc: Global, table: Table, cells: &Cells) -> Result<Row, StoreFault>
+    requires { length cells.now ≡ length (kinds_of table) + 1 }
+    ensures row { IfOk result (IsRowWith table cells.now) }
+    ensures damaged { result ≡ Err StoreFault.Damaged → IsNoRow table (drop 1 cells.now) }
+{
+    match table {
+        Table::Supervisor | Table::Project | Table::Student | Table::Edition => {
+            Err(StoreFault::Storage)
+        }
         Table::Round => Ok(Row::Round {
             number: number_at(cells, 1)?,
             is_open: flag_at(cells, 2)?,
         }),
         Table::Choice => Ok(Row::Choice {
             round: number_at(cells, 1)?,
-            student: text_at(alloc, cells, 2)?,
             place: number_at(cells, 3)?,
+            student: text_at(alloc, cells, 2)?,
             project: text_at(alloc, cells, 4)?,
         }),
         Table::Placement => Ok(Row::Placement {
-            student: text_at(alloc, cells, 1)?,
             round: number_at(cells, 2)?,
-            project: text_at(alloc, cells, 3)?,
             rank: number_at(cells, 4)?,
+            student: text_at(alloc, cells, 1)?,
+            project: text_at(alloc, cells, 3)?,
         }),
         Table::Import => Ok(Row::Import {
-            id: text_at(alloc, cells, 1)?,
-            kind: kind_at(cells, 2)?,
-            bytes: blob_at(alloc, cells, 3)?,
             rows: number_at(cells, 4)?,
+            kind: kind_at(cells, 2)?,
+            id: text_at(alloc, cells, 1)?,
+            bytes: blob_at(alloc, cells, 3)?,
         }),
-        Table::Edition => Err(StoreFault::Storage),
     }
 }
 
