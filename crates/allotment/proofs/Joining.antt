@@ -10,12 +10,13 @@ use Rattle.std.proofs.lemmas.List.Folds.{find-append}
 use Rattle.std.proofs.lemmas.Slice.Eq.{bytes_eq-Decides}
 use Rattle.spa.specs.declared.TheConstants.{RANKS, MOST_STUDENTS}
 use Rattle.spa.specs.Codes.{code_at}
+use Rattle.spa.specs.declared.aim.Aim.TheVariants.{Greedy}
 use Rattle.spa.specs.Shape.{Shape}
 use Rattle.spa.specs.Instance as spa
 use Rattle.spa.specs.Instance.{Instance, project_codes}
 use Rattle.spa.specs.Named.{Named, Names, IsFit as IsFitInstance, instance_of, projects_named, students_named}
 use Rattle.spa.specs.Made.{IsRanking}
-use Rattle.solver.specs.Sitting.{with_list}
+use Rattle.solver.specs.Sitting.{Sitting, with_list}
 use Rattle.rolls.specs.declared.rounds.Round.{Round}
 use Rattle.rolls.specs.declared.rounds.Listed.{Listed}
 use Rattle.rolls.specs.Roll.{find as entry, put}
@@ -198,7 +199,7 @@ module _ (o n : State) (student : List ℕ) (first : IsFirstList o student n) (o
     as_many = omega (arith, length-append l.students (listed own ∷ []), same.as_many, length-map (lists_of o (last_round o)) listed, length-map (lists_of n (last_round n)) listed, many_lists);
   }
 
-  module _ (fit : IsFit n) (few : length (lists_of n (last_round n)) ≤ 500) (i : Named) (sound : IsFitInstance i) (same : IsSameRound (instance_of i) (round_instance o)) (list : List ℕ) (ranking : IsRanking (project_codes (round_instance n)) (choices_in n (last_round n) student) list) where
+  module _ (fit : IsFit n) (few : length (lists_of n (last_round n)) ≤ MOST_STUDENTS) (i : Named) (sound : IsFitInstance i) (same : IsSameRound (instance_of i) (round_instance o)) (list : List ℕ) (ranking : IsRanking (project_codes (round_instance n)) (choices_in n (last_round n) student) list) where
     own_fits : ListFits n (last_round n) own
     own_fits = holds_of_found list_key (ListFits n (last_round n)) (0, student) (lists_of n (last_round n)) own (fit.lists_fit (last_round n)) found_own
 
@@ -232,9 +233,10 @@ module _ (o n : State) (student : List ℕ) (first : IsFirstList o student n) (o
         (same.found student ∙ find_made list_key listed (λ e. e.code) (λ e. refl) student (lists_of o (last_round o)) ∙ ap (λ (x : Option Listed). option_map listed x) none_before)
 
     -- and with it the instance is that of the round after
-    pub sits_after : (shape : Shape) → with_list i.shape list ≡ shape → SitsIn n shape
-    sits_after shape here = record {
+    pub sits_after : (sitting : Sitting) → sitting.aim ≡ Greedy → with_list i.shape list ≡ sitting.shape → SitsIn n sitting
+    sits_after sitting greedy here = record {
       is_open = still_open;
+      greedy = greedy;
       named = with_one i student list;
       fit = fit_pushed i student list sound may_admit new_code;
       here = here;
@@ -244,13 +246,13 @@ module _ (o n : State) (student : List ℕ) (first : IsFirstList o student n) (o
           (joined_round (instance_of i) same);
     }
 
-module _ (n : State) (shape : Shape) (student : List ℕ) (joins : MayJoin n shape student) (fit : IsFit n) (few : length (lists_of n (last_round n)) ≤ 500) (list : List ℕ) (ranking : IsRanking (project_codes (round_instance n)) (choices_in n (last_round n) student) list) where
+module _ (n : State) (sitting : Sitting) (student : List ℕ) (joins : MayJoin n sitting student) (fit : IsFit n) (few : length (lists_of n (last_round n)) ≤ MOST_STUDENTS) (list : List ℕ) (ranking : IsRanking (project_codes (round_instance n)) (choices_in n (last_round n) student) list) where
   -- the list of a student who may join the session may be admitted
-  pub joins_admitted : MayAdmit shape list
+  pub joins_admitted : MayAdmit sitting.shape list
   joins_admitted = subst (λ (s : Shape). MayAdmit s list) joins.sat.here (may_admit joins.before n student joins.put joins.sat.is_open fit few joins.sat.named joins.sat.fit joins.sat.same list ranking)
 
   -- and then the session sits in the office
-  pub joins_sits : (new : Shape) → new ≡ with_list shape list → SitsIn n new
-  joins_sits new is =
-      sits_after joins.before n student joins.put joins.sat.is_open fit few joins.sat.named joins.sat.fit joins.sat.same list ranking new
+  pub joins_sits : (new : Sitting) → new.aim ≡ sitting.aim → new.shape ≡ with_list sitting.shape list → SitsIn n new
+  joins_sits new aim is =
+      sits_after joins.before n student joins.put joins.sat.is_open fit few joins.sat.named joins.sat.fit joins.sat.same list ranking new (aim ∙ joins.sat.greedy)
       (ap (λ (s : Shape). with_list s list) joins.sat.here ∙ sym is)

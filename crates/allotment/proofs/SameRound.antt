@@ -1,14 +1,15 @@
 -- Two instances of one round. What is said of matchings by codes reads an instance by what is found at a code, so the same
--- matchings are greedy maximum in both.
+-- matchings are best in both.
 use Rattle.std.proofs.Common.{◌≡◌, ℕ, suc, zero, ◌+◌, ◌<◌, ◌≤◌, List, [], ◌∷◌, length, count_by, find, All, Contains, slice_index, refl, sym, ap, subst, ◌∙◌, arith}
 use Rattle.std.specs.Prelude.{◌==◌, not, pos}
 use Rattle.std.specs.List.{prefix_len}
 use Rattle.std.specs.Option.{option_map_or}
 use Rattle.std.specs.Str.{bytes_eq}
 use Rattle.spa.specs.declared.TheConstants.{RANKS}
-use Rattle.spa.specs.Order.{Precedes}
+use Rattle.spa.specs.declared.aim.Aim.{Aim}
+use Rattle.spa.specs.Order.{Precedes, ranks_read}
 use Rattle.spa.specs.Instance.{Instance, Supervisor, Project, Student}
-use Rattle.spa.specs.Coded.{CodePair, choices_of, IsMatchingByCodes, IsGreedyMaximumByCodes}
+use Rattle.spa.specs.Coded.{CodePair, choices_of, IsMatchingByCodes, IsBestByCodes}
 use Rattle.rolls.specs.Stepping.{counted}
 use Rattle.allotment.specs.Sittings.{IsSameRound}
 
@@ -50,13 +51,13 @@ module _ (l m : Instance) (same : IsSameRound l m) where
         (h.supervisor_within s));
   }
 
--- a greedy maximum matching is one in both
-pub greedy_same : (l m : Instance) → IsSameRound l m → (M : List CodePair) → IsGreedyMaximumByCodes l M → IsGreedyMaximumByCodes m M
-greedy_same l m same M h =
+-- a matching that is best by an aim is so in both
+pub best_same : (aim : Aim) (l m : Instance) → IsSameRound l m → (M : List CodePair) → IsBestByCodes aim l M → IsBestByCodes aim m M
+best_same aim l m same M h =
     let back = matching_same m l (turned_round l m same) in
     record {
       matching = matching_same l m same M h.matching;
       largest = λ N n. h.largest N (back N n);
       first = λ N n e before. h.first N (back N n) e
-          (subst (λ (c : List ℕ → List (List ℕ)). Precedes RANKS (λ k. pos (profile_by c M k)) (λ k. pos (profile_by c N k))) (sym (choices_same l m same)) before);
+          (subst (λ (c : List ℕ → List (List ℕ)). Precedes RANKS (ranks_read aim (λ k. pos (profile_by c M k))) (ranks_read aim (λ k. pos (profile_by c N k)))) (sym (choices_same l m same)) before);
     }

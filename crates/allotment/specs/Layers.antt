@@ -1,7 +1,8 @@
 -- What the office takes from the layers beside it.
 use Rattle.std.specs.Prelude.{List, [], map, None, Result, Ok, Err}
 use Rattle.spa.specs.Instance.{Instance}
-use Rattle.spa.specs.Coded.{IsGreedyMaximumByCodes}
+use Rattle.spa.specs.declared.aim.Aim.TheVariants.{Greedy}
+use Rattle.spa.specs.Coded.{IsBestByCodes}
 use Rattle.intake.specs.Parts.{Parts}
 use Rattle.intake.specs.Lines.{round_text}
 use Rattle.rolls.specs.declared.refusal.Refusal.{Refusal}
@@ -38,7 +39,7 @@ as_read (Err fault) = Err (refused_as fault)
 -- and the requests of an import are those of the records that `csv` reads from its text
 abbrev pub layers : Layers
 layers = record {
-  MayTake = IsGreedyMaximumByCodes;
+  MayTake = IsBestByCodes Greedy;
   round_text = λ l. round_text (alone l);
   report = report_text;
   records = λ kind bytes. as_read (requests_of kind bytes);

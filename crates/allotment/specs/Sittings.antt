@@ -1,7 +1,7 @@
 -- A session that sits in the open round: the round's rolls, and its lists admitted in some order.
 use Rattle.std.specs.Prelude.{◌≡◌, ℕ, ◌+◌, ◌<◌, ◌≤◌, false, IsTrue, List, length, find, Option, None}
 use Rattle.std.specs.Str.{bytes_eq}
-use Rattle.spa.specs.Shape.{Shape}
+use Rattle.spa.specs.declared.aim.Aim.TheVariants.{Greedy}
 use Rattle.spa.specs.Instance.{Instance, Student}
 use Rattle.spa.specs.Named.{Named, IsFit as IsFitInstance, instance_of}
 use Rattle.rolls.specs.State.{State, last_round, round_is_open, has_list}
@@ -23,12 +23,13 @@ pub record IsSameRound (l m : Instance) : Type 0 where
   pub found : (code : List ℕ) → student_in l code ≡ student_in m code
   pub as_many : length l.students ≡ length m.students
 
--- a round is open, and this is its instance by positions, with the students in some order
-pub record SitsIn (office : State) (shape : Shape) : Type 0 where
+-- a round is open, and the session has its instance by positions, with the students in some order, and the greedy aim
+pub record SitsIn (office : State) (sitting : Sitting) : Type 0 where
   pub is_open : IsTrue (round_is_open office)
+  pub greedy : sitting.aim ≡ Greedy
   pub named : Named
   pub fit : IsFitInstance named
-  pub here : named.shape ≡ shape
+  pub here : named.shape ≡ sitting.shape
   pub same : IsSameRound (instance_of named) (round_instance office)
 
 -- a student who has no list in the open round of a fit office puts one
@@ -39,10 +40,10 @@ pub record IsFirstList (old : State) (student : List ℕ) (new : State) : Type 0
   pub allowed : plain_refusal old (PutList student choices) ≡ None
   pub after : new ≡ after_plain (PutList student choices) old
 
--- the instance is that of the open round but for this student, whose first list was just put
-pub record MayJoin (office : State) (shape : Shape) (student : List ℕ) : Type 0 where
+-- the session sits in the open round but for this student, whose first list was just put
+pub record MayJoin (office : State) (sitting : Sitting) (student : List ℕ) : Type 0 where
   pub before : State
-  pub sat : SitsIn before shape
+  pub sat : SitsIn before sitting
   pub put : IsFirstList before student office
 
 -- one student more is admitted, which took one relaxation at least and at most what one admission may take

@@ -11,12 +11,13 @@
 
 mod sitting;
 
-ghost use Rattle.std.specs.Prelude.{◌≡◌, ◌⊎◌, IfOk, IfErr, OnErr, IsTrue, Some, None, false};
+ghost use Rattle.std.specs.Prelude.{◌≡◌, ◌⊎◌, ◌-◌, ◌^◌, IfOk, IfErr, OnErr, IsTrue, Some, None, false};
 ghost use Rattle.rolls.specs.State.{round_is_open, has_import};
 ghost use Rattle.rolls.specs.Refusing.{refusal_of};
 ghost use Rattle.rolls.specs.Rows.{Turns};
 ghost use Rattle.rolls.specs.Run.{Makes, refusal};
 ghost use Rattle.rolls.specs.declared.request.Request.TheVariants as request;
+ghost use Rattle.imports.specs.Requests.{IsWithin};
 ghost use Rattle.allotment.specs.Layers.{layers, refused_as};
 
 use closing::places_law;
@@ -26,6 +27,7 @@ use office::Office;
 use rolls::{Bytes, Done, ImportKind, Refusal, Reply, ReportKind, Text};
 pub use sitting::{join, read_preview, sit};
 use solver::solve;
+use spa::Aim;
 use std::alloc::{AllocError, Global};
 
 /// Closes the open round with a greedy maximum matching of its instance.
@@ -38,7 +40,7 @@ pub fn close(alloc: Global, office: &mut Office) -> Result<Done, AllocError>
     places_law();
     let instance = office.instance()?;
     instance.fit();
-    let solved = solve(alloc, &instance)?;
+    let solved = solve(alloc, &instance, Aim::Greedy)?;
     office.close(&solved.matching)
 }
 
@@ -74,13 +76,14 @@ const WRONG_FIELDS: u32 = 8;
 
 /// The refusal of a text that is no import text.
 fn refused_as(fault: ImportFault) -> Refusal
+    requires few { IsWithin (2 ^ 32 - 1) fault }
     ensures { result ≡ refused_as fault }
 {
     match fault {
         ImportFault::Memory => Refusal::Memory,
         ImportFault::Header => Refusal::Header,
         ImportFault::Fields { record } => Refusal::Row {
-            record,
+            record: record as u32,
             inner: WRONG_FIELDS,
         },
     }

@@ -17,13 +17,14 @@ use closing::few_law;
 use office::Office;
 use rolls::{Project, Reply};
 use solver::Session;
-use spa::{Code, Instance, code_law};
+use spa::{Aim, Code, Instance, code_law};
 use std::alloc::{AllocError, Global};
 
 /// The students of an instance are admitted, one after another.
 fn admit_all(session: &mut Session, instance: &Instance) -> Result<(), AllocError>
     requires rolls { session.old.shape ≡ nobody instance.now.shape.supervisors instance.now.shape.projects }
     ensures all { OnOk result (session.new.shape ≡ instance.now.shape) }
+    ensures aim { OnOk result (session.new.aim ≡ session.old.aim) }
 {
     instance.fit();
     for student in 0..instance.student_count() {
@@ -35,18 +36,23 @@ fn admit_all(session: &mut Session, instance: &Instance) -> Result<(), AllocErro
 /// A session of the open round, with all its lists admitted. An `Err` is want of memory.
 pub fn sit(alloc: Global, office: &Office) -> Result<Session, AllocError>
     requires open { IsTrue (round_is_open office.now) }
-    ensures sits { IfOk result (λ session. SitsIn office.now session.shape) }
+    ensures sits { IfOk result (λ session. SitsIn office.now session) }
 {
     let instance = office.instance()?;
     instance.fit();
-    let mut session = Session::start(alloc, instance.supervisors(), instance.projects())?;
+    let mut session = Session::start(
+        alloc,
+        instance.supervisors(),
+        instance.projects(),
+        Aim::Greedy,
+    )?;
     admit_all(&mut session, &instance)?;
     Ok(session)
 }
 
 /// What closing the round now would answer, read from its session. Takes no memory.
 pub fn read_preview(session: &Session) -> Reply
-    ensures made { (o : State) → SitsIn o session.now.shape → Makes layers o request.Preview result o }
+    ensures made { (o : State) → SitsIn o session.now → Makes layers o request.Preview result o }
 {
     code_law();
     session.matched();
@@ -106,8 +112,8 @@ pub fn join(
     session: &mut Session,
     student: &str,
 ) -> Result<(), AllocError>
-    requires joins { MayJoin office.now session.old.shape student.now }
-    ensures sits { OnOk result (SitsIn office.now session.new.shape) }
+    requires joins { MayJoin office.now session.old student.now }
+    ensures sits { OnOk result (SitsIn office.now session.new) }
     ensures joined { OnOk result (IsOneMore session.old session.new) }
     ensures memory { OnErr result (session.new ≡ session.old) }
 {

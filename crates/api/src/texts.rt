@@ -4,6 +4,7 @@ ghost use Rattle.arrayvec.specs.ArrayVec.{array_vec_len};
 ghost use Rattle.rolls.specs.Told.{status_of};
 ghost use Rattle.serde_json.specs.View.{view};
 ghost use Rattle.serde_json.specs.Written.{compact_text};
+ghost use Rattle.wire.specs.declared.TheConstants.{MOST_SHORT_BODY};
 ghost use Rattle.wire.specs.Answers.{answer_bytes};
 ghost use Rattle.api.specs.Text.{reason_of, typed_answer, json_answer};
 ghost use Rattle.api.specs.Texts.{refusal_text, row_text, rows_text, supervisor_data, project_data, list_data, placed_data, student_data, truth_text, opened_text, round_text, closed_text, preview_text, reply_text, text_of, IsRead};
@@ -13,6 +14,7 @@ use arrayvec::ArrayVec;
 use http::StatusCode;
 use rolls::{Choices, Placement, Refusal, Reply};
 use serde_json::{Value, json};
+use spa::RANKS;
 use std::alloc::{AllocError, Global};
 use wire::{Answer, ShortText};
 
@@ -30,7 +32,7 @@ fn status_of(refusal: Refusal) -> StatusCode
 /// The body of a refused record.
 fn row_body(number: u32, inner: u32) -> ShortText
     ensures items { result.items ≡ row_text number inner }
-    ensures len { array_vec_len result ≤ 184 }
+    ensures len { array_vec_len result ≤ MOST_SHORT_BODY }
 {
     let mut out = ArrayVec::new();
     push_labelled(&mut out, b"{\"fault\":\"Row\",\"inner\":", inner);
@@ -62,7 +64,7 @@ fn done_answer() -> ShortText
 /// The answer of success with a body of a round.
 #[tactic(auto, unfolding(crate::specs::Text::reason_of))]
 fn round_answer(body: &ShortText) -> ShortText
-    requires { array_vec_len body.now ≤ 184 }
+    requires { array_vec_len body.now ≤ MOST_SHORT_BODY }
     ensures { result.items ≡ json_answer 200 body.now.items }
 {
     json(StatusCode::OK, body.as_slice())
@@ -71,7 +73,7 @@ fn round_answer(body: &ShortText) -> ShortText
 /// The body of an import.
 fn rows_body(rows: u32) -> ShortText
     ensures items { result.items ≡ rows_text rows }
-    ensures len { array_vec_len result ≤ 184 }
+    ensures len { array_vec_len result ≤ MOST_SHORT_BODY }
 {
     let mut out = ArrayVec::new();
     push_labelled(&mut out, b"{\"rows\":", rows);
@@ -82,7 +84,7 @@ fn rows_body(rows: u32) -> ShortText
 /// The body of an opened round.
 fn opened_body(round: u32) -> ShortText
     ensures items { result.items ≡ opened_text round }
-    ensures len { array_vec_len result ≤ 184 }
+    ensures len { array_vec_len result ≤ MOST_SHORT_BODY }
 {
     let mut out = ArrayVec::new();
     push_labelled(&mut out, b"{\"round\":", round);
@@ -91,9 +93,9 @@ fn opened_body(round: u32) -> ShortText
 }
 
 /// The body of a closed round.
-fn closed_body(round: u32, size: u32, profile: &[u32; 8]) -> ShortText
+fn closed_body(round: u32, size: u32, profile: &[u32; RANKS]) -> ShortText
     ensures items { result.items ≡ closed_text round size profile.now }
-    ensures len { array_vec_len result ≤ 184 }
+    ensures len { array_vec_len result ≤ MOST_SHORT_BODY }
 {
     let mut out = ArrayVec::new();
     push(&mut out, b"{\"profile\":[");
@@ -105,9 +107,9 @@ fn closed_body(round: u32, size: u32, profile: &[u32; 8]) -> ShortText
 }
 
 /// The body of a preview.
-fn preview_body(size: u32, profile: &[u32; 8]) -> ShortText
+fn preview_body(size: u32, profile: &[u32; RANKS]) -> ShortText
     ensures items { result.items ≡ preview_text size profile.now }
-    ensures len { array_vec_len result ≤ 184 }
+    ensures len { array_vec_len result ≤ MOST_SHORT_BODY }
 {
     let mut out = ArrayVec::new();
     push(&mut out, b"{\"profile\":[");
@@ -134,11 +136,11 @@ fn round_body(
     number: u32,
     is_open: bool,
     placed: u32,
-    profile: &[u32; 8],
+    profile: &[u32; RANKS],
     students: u32,
 ) -> ShortText
     ensures items { result.items ≡ round_text number is_open placed profile.now students }
-    ensures len { array_vec_len result ≤ 184 }
+    ensures len { array_vec_len result ≤ MOST_SHORT_BODY }
 {
     let mut out = ArrayVec::new();
     push_labelled(&mut out, round_start(is_open), placed);

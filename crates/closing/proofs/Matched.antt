@@ -3,7 +3,7 @@ use Rattle.std.proofs.Common.{◌≡◌, List, map, length, sym, ap, ◌∙◌, 
 use Rattle.std.proofs.lemmas.List.{length-map}
 use Rattle.spa.specs.Instance as spa
 use Rattle.spa.specs.Matched.{pairs}
-use Rattle.spa.specs.Coded.{CodePair, IsMatchingByCodes, IsGreedyMaximumByCodes, profile_by_codes, codes_of, taken, CodesSayTheSame}
+use Rattle.spa.specs.Coded.{CodePair, IsMatchingByCodes, IsBestByCodes, profile_by_codes, codes_of, taken, CodesSayTheSame}
 use Rattle.closing.specs.Laws.{PlacesAreTaken}
 
 -- the pairs that are taken are the matching's, and what is said of those by codes is said of these
@@ -17,7 +17,7 @@ places_taken law l ks are =
     let same : M ≡ taken l.students ks = says.same_pairs ks matched.places ∙ ap (λ (l : spa.Instance). taken l.students ks) is in
     record {
       matching = subst (IsMatchingByCodes l) same (subst (λ (l : spa.Instance). IsMatchingByCodes l M) is (says.to_codes (pairs i.shape ks) matched.matching));
-      greedy = λ g. subst (IsGreedyMaximumByCodes l) same (subst (λ (l : spa.Instance). IsGreedyMaximumByCodes l M) is (says.greedy_to_codes (pairs i.shape ks) g));
+      best = λ aim g. subst (IsBestByCodes aim l) same (subst (λ (l : spa.Instance). IsBestByCodes aim l M) is (says.best_to_codes aim (pairs i.shape ks) g));
       size = sym (ap length same) ∙ length-map (pairs i.shape ks) (codes_of i);
       profile = λ k. sym (ap (λ (N : List CodePair). profile_by_codes l N k) same) ∙ sym (ap (λ (l : spa.Instance). profile_by_codes l M k) is) ∙ says.profiles (pairs i.shape ks) matched.matching k;
     }

@@ -1,5 +1,6 @@
 -- Laws of rounds that close.
 use Rattle.std.specs.Prelude.{◌≡◌, ◌≤◌, ℕ, IsTrue, List, map, length, Option}
+use Rattle.spa.specs.declared.TheConstants.{MOST_STUDENTS}
 use Rattle.spa.specs.Instance.{Instance}
 use Rattle.spa.specs.Coded.{CodePair, taken}
 use Rattle.rolls.specs.State.{State, last_round, round_is_open, lists_of}
@@ -49,11 +50,11 @@ PlacesClose = (o : State) (ks : List (Option ℕ)) → IsFit o → IsTrue (round
           → IsClosed (taken (round_instance o).students ks) o (after_placing placed o) done;
     }
 
--- a fit office has no more placements than students, and no more lists in a round, so at most 500
+-- a fit office has no more placements than students, and no more lists in a round, so no more than a roll of students has
 abbrev pub AreFew : Type 0
 AreFew = (o : State) → IsFit o → record {
   placements : length o.placements ≤ length o.students;
-  few_placements : length o.placements ≤ 500;
+  few_placements : length o.placements ≤ MOST_STUDENTS;
   lists : (n : ℕ) → length (lists_of o n) ≤ length o.students;
-  few_lists : (n : ℕ) → length (lists_of o n) ≤ 500;
+  few_lists : (n : ℕ) → length (lists_of o n) ≤ MOST_STUDENTS;
 }

@@ -4,9 +4,10 @@ use Rattle.spa.specs.Shape.{IsPlaceOf}
 use Rattle.spa.specs.Codes.{code_at}
 use Rattle.spa.specs.Instance.{Instance}
 use Rattle.spa.specs.Named.{Named, IsFit, instance_of}
-use Rattle.spa.specs.Matching.{IsGreedyMaximum, profile}
+use Rattle.spa.specs.declared.aim.Aim.{Aim}
+use Rattle.spa.specs.Matching.{IsBest, profile}
 use Rattle.spa.specs.Matched.{pairs, IsMatched}
-use Rattle.spa.specs.Coded.{IsMatchingByCodes, IsGreedyMaximumByCodes, profile_by_codes, taken}
+use Rattle.spa.specs.Coded.{IsMatchingByCodes, IsBestByCodes, profile_by_codes, taken}
 use Rattle.rolls.specs.declared.rounds.Listed.{Listed}
 use Rattle.rolls.specs.declared.rounds.Placement.{Placement}
 
@@ -33,10 +34,10 @@ pub record ArePlacesOf (l : Instance) (ks : List (Option ℕ)) : Type 0 where
   pub same : instance_of instance ≡ l
   pub matched : IsMatched instance.shape ks
 
--- the pairs that are taken at places in the lists of the instance l are those of a matching of i: a matching by codes, greedy
--- maximum where that is, as large, and with the same profile
+-- the pairs that are taken at places in the lists of the instance l are those of a matching of i: a matching by codes, best by an
+-- aim where that is, as large, and with the same profile
 pub record AreTaken (i : Named) (l : Instance) (ks : List (Option ℕ)) : Type 0 where
   pub matching : IsMatchingByCodes l (taken l.students ks)
-  pub greedy : IsGreedyMaximum i.shape (pairs i.shape ks) → IsGreedyMaximumByCodes l (taken l.students ks)
+  pub best : (aim : Aim) → IsBest aim i.shape (pairs i.shape ks) → IsBestByCodes aim l (taken l.students ks)
   pub size : length (taken l.students ks) ≡ length (pairs i.shape ks)
   pub profile : (k : ℕ) → profile_by_codes l (taken l.students ks) k ≡ profile i.shape (pairs i.shape ks) k

@@ -5,6 +5,7 @@ use Rattle.std.specs.Cmp.{first_so, second_so}
 use Rattle.std.specs.List.{list_any, AllByRecursion}
 use Rattle.std.specs.Option.{option_map, option_and_then}
 use Rattle.std.proofs.lemmas.Option.{same_Some}
+use Rattle.spa.specs.declared.TheConstants.{RANKS}
 use Rattle.rolls.specs.declared.row.Row.{Row}
 use Rattle.rolls.specs.declared.row.RowKey.{RowKey}
 use Rattle.rolls.specs.declared.row.RowKey.TheVariants as key
@@ -160,7 +161,7 @@ nothing_held rows k = ap (λ x. first_of_two x (row_in rows k)) (empty_has_none 
 pub unread_unfit : (rows : List Row) → gathered empty (staged rows) ≡ None → (w : State) → IsFit w → AreRowsOf rows w → ⊥
 unread_unfit rows none w fit are =
     let by_stage = rows_to_staged rows w are in
-    let some = gathered_some w fit empty (staged rows) (record { fresh = all_fresh (staged rows); apart = by_stage.apart }) (in_stages 9 0 rows) (λ k. nothing_held (staged rows) k ∙ by_stage.each k) in
+    let some = gathered_some w fit empty (staged rows) (record { fresh = all_fresh (staged rows); apart = by_stage.apart }) (in_stages (RANKS + 1) 0 rows) (λ k. nothing_held (staged rows) k ∙ by_stage.each k) in
     let e : None ≡ Some some.0 = sym none ∙ some.1 in
     cc
 

@@ -10,6 +10,8 @@ use Rattle.std.specs.declared.cmp.Ordering.{Ordering}
 use Rattle.std.specs.declared.cmp.Ordering.TheVariants.{Less, Equal, Greater}
 use Rattle.std.specs.Str.{bytes_eq}
 use Rattle.std.proofs.lemmas.List.Sums.{sum_by-cons}
+use Rattle.spa.specs.declared.TheConstants.{MOST_SUPERVISORS, MOST_PROJECTS, MOST_STUDENTS, RANKS}
+use Rattle.rolls.specs.declared.TheConstants.{MOST_ROUNDS, MOST_IMPORTS}
 use Rattle.rolls.specs.declared.entries.Supervisor.{Supervisor}
 use Rattle.rolls.specs.declared.entries.Project.{Project}
 use Rattle.rolls.specs.declared.rounds.Round.{Round}
@@ -82,20 +84,20 @@ module _ {E : Type 0} (key : E → Key) where
 list_fits : (o : State) (n : ℕ) (l : Listed) → is_list o n l ≡ true → HasChoices l → ListFits o n l
 list_fits o n l h some =
     let known = list_all (has_project o) l.choices in
-    let b1 = second_so (has_student o l.student) (not (is_placed_before o l.student n) && (nat_le (length l.choices) 8 && (is_distinct l.choices && known))) h in
-    let b2 = second_so (not (is_placed_before o l.student n)) (nat_le (length l.choices) 8 && (is_distinct l.choices && known)) b1 in
-    let b3 = second_so (nat_le (length l.choices) 8) (is_distinct l.choices && known) b2 in
+    let b1 = second_so (has_student o l.student) (not (is_placed_before o l.student n) && (nat_le (length l.choices) RANKS && (is_distinct l.choices && known))) h in
+    let b2 = second_so (not (is_placed_before o l.student n)) (nat_le (length l.choices) RANKS && (is_distinct l.choices && known)) b1 in
+    let b3 = second_so (nat_le (length l.choices) RANKS) (is_distinct l.choices && known) b2 in
     record {
-      student = first_so (has_student o l.student) (not (is_placed_before o l.student n) && (nat_le (length l.choices) 8 && (is_distinct l.choices && known))) h;
-      choices = record { some = some; few = at_most _ _ (first_so (nat_le (length l.choices) 8) (is_distinct l.choices && known) b2); distinct = first_so (is_distinct l.choices) known b3 };
+      student = first_so (has_student o l.student) (not (is_placed_before o l.student n) && (nat_le (length l.choices) RANKS && (is_distinct l.choices && known))) h;
+      choices = record { some = some; few = at_most _ _ (first_so (nat_le (length l.choices) RANKS) (is_distinct l.choices && known) b2); distinct = first_so (is_distinct l.choices) known b3 };
       projects = tested (has_project o) l.choices (second_so (is_distinct l.choices) known b3);
-      not_placed = not_true _ (first_so (not (is_placed_before o l.student n)) (nat_le (length l.choices) 8 && (is_distinct l.choices && known)) b1);
+      not_placed = not_true _ (first_so (not (is_placed_before o l.student n)) (nat_le (length l.choices) RANKS && (is_distinct l.choices && known)) b1);
     }
 
 fits_list : (o : State) (n : ℕ) (l : Listed) → ListFits o n l → is_list o n l ≡ true
 fits_list o n l fits =
     both_so (has_student o l.student) _ fits.student (both_so (not (is_placed_before o l.student n)) _ (is_not _ fits.not_placed)
-    (both_so (nat_le (length l.choices) 8) _ (within _ _ fits.choices.few)
+    (both_so (nat_le (length l.choices) RANKS) _ (within _ _ fits.choices.few)
     (both_so (is_distinct l.choices) _ fits.choices.distinct (all_pass (λ p. IsTrue (has_project o p)) (has_project o) (λ p h. h) l.choices fits.projects))))
 
 lists_fit : (o : State) → IsDrafted o → list_all (λ r. list_all (is_list o r.number) r.lists) o.rounds ≡ true → (n : ℕ) → AllByRecursion (ListFits o n) (lists_of o n)
@@ -229,11 +231,11 @@ joined o h =
 pub whole_fit : (o : State) → IsDrafted o → is_whole o ≡ true → IsFit o
 whole_fit o d whole =
     let j = joined o whole in
-    let supervisors = nat_le (length o.supervisors) 100 in
-    let projects = nat_le (length o.projects) 400 in
-    let students = nat_le (length o.students) 500 in
-    let rounds = nat_le (length o.rounds) 12 in
-    let imports = nat_le (length o.imports) 200 in
+    let supervisors = nat_le (length o.supervisors) MOST_SUPERVISORS in
+    let projects = nat_le (length o.projects) MOST_PROJECTS in
+    let students = nat_le (length o.students) MOST_STUDENTS in
+    let rounds = nat_le (length o.rounds) MOST_ROUNDS in
+    let imports = nat_le (length o.imports) MOST_IMPORTS in
     let few1 = second_so supervisors (projects && (students && (rounds && imports))) j.few in
     let few2 = second_so projects (students && (rounds && imports)) few1 in
     let few3 = second_so students (rounds && imports) few2 in
@@ -262,10 +264,10 @@ whole_fit o d whole =
 -- and a fit office goes together
 pub fit_whole : (o : State) → IsFit o → is_whole o ≡ true
 fit_whole o fit =
-    let few = both_so (nat_le (length o.supervisors) 100) _ (within _ _ fit.supervisors.few)
-    (both_so (nat_le (length o.projects) 400) _ (within _ _ fit.projects.few)
-    (both_so (nat_le (length o.students) 500) _ (within _ _ fit.students.few)
-    (both_so (nat_le (length o.rounds) 12) _ (within _ _ fit.few_rounds) (within _ _ fit.imports.few)))) in
+    let few = both_so (nat_le (length o.supervisors) MOST_SUPERVISORS) _ (within _ _ fit.supervisors.few)
+    (both_so (nat_le (length o.projects) MOST_PROJECTS) _ (within _ _ fit.projects.few)
+    (both_so (nat_le (length o.students) MOST_STUDENTS) _ (within _ _ fit.students.few)
+    (both_so (nat_le (length o.rounds) MOST_ROUNDS) _ (within _ _ fit.few_rounds) (within _ _ fit.imports.few)))) in
     both_so (are_few o) _ few
     (both_so (are_offered o) _ (all_pass (ProjectFits o) (λ p. has_supervisor o p.supervisor) (λ p fits. fits.supervisor) o.projects fit.projects.each)
     (both_so (are_rounds o) _ (both_so (are_numbered 1 o.rounds) _ fit.numbered (both_so (only_last_open o.rounds) _ fit.last_open (fit_lists o fit)))

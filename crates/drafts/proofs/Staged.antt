@@ -5,6 +5,7 @@ use Rattle.std.specs.Prelude.{◌&&◌, ◌||◌, nat_le, ⊤}
 use Rattle.std.specs.Cmp.{first_so, second_so}
 use Rattle.std.specs.List.{list_any, AllByRecursion}
 use Rattle.std.proofs.lemmas.Bool.Decides.{nat_tests}
+use Rattle.spa.specs.declared.TheConstants.{RANKS}
 use Rattle.rolls.specs.declared.row.Row.{Row}
 use Rattle.rolls.specs.declared.row.RowKey.{RowKey}
 use Rattle.rolls.specs.declared.row.RowKey.TheVariants as key
@@ -111,17 +112,17 @@ module _ {A : Type 0} (f : Row → A → A) (z : A) where
             ∙ ap (λ s. seen f z k (at_stage s rows)) (sym here) ∙ seen_at_stage f z k rows
       ] refl
 
-within_by : (place : ℕ) (b : Bool) → nat_le place 8 ≡ b → cond b place 0 < 9
+within_by : (place : ℕ) (b : Bool) → nat_le place RANKS ≡ b → cond b place 0 < RANKS + 1
 within_by place true h = grind (arith, nat_tests, h)
 within_by place false h = omega arith
 
 -- no stage is past the last
-few_stages : (k : RowKey) → stage_of k < 9
-few_stages (key.Choice round student place) = within_by place (nat_le place 8) refl
+few_stages : (k : RowKey) → stage_of k < RANKS + 1
+few_stages (key.Choice round student place) = within_by place (nat_le place RANKS) refl
 few_stages k = omega arith
 
 seen_staged : {A : Type 0} (f : Row → A → A) (z : A) (k : RowKey) (rows : List Row) → seen f z k (staged rows) ≡ seen f z k rows
-seen_staged f z k rows = seen_in_stages f z 9 0 k rows (omega arith) (omega (arith, few_stages k))
+seen_staged f z k rows = seen_in_stages f z (RANKS + 1) 0 k rows (omega arith) (omega (arith, few_stages k))
 
 -- ---- the first row of a key, and how many there are
 

@@ -6,7 +6,9 @@ use Rattle.std.specs.List.{AllByRecursion}
 use Rattle.std.specs.Str.{bytes_eq}
 use Rattle.std.proofs.lemmas.Bool.Decides.{nat_tests}
 use Rattle.std.proofs.lemmas.List.{length-append}
+use Rattle.spa.specs.declared.TheConstants.{MOST_PLACES}
 use Rattle.spa.specs.Text.{is_code, is_label}
+use Rattle.rolls.specs.declared.TheConstants.{MOST_IMPORT_BYTES}
 use Rattle.rolls.specs.declared.entries.Supervisor.{Supervisor}
 use Rattle.rolls.specs.declared.entries.Project.{Project}
 use Rattle.rolls.specs.declared.entries.Student.{Student}
@@ -36,12 +38,12 @@ pub record AreOf {E : Type 0} (key : E → Key) (Form : E → Type 0) (es : List
 put_of : {E : Type 0} (key : E → Key) (Form : E → Type 0) (e : E) (es : List E) → Form e → AreOf key Form es → AreOf key Form (put key e es)
 put_of key Form e es h are = record { rise = rises-put key e es are.rise; each = all-put key Form e es h are.each }
 
--- a project with a code, a label and a quota of at most 500, whoever offers it
+-- a project with a code, a label and a quota within the limit, whoever offers it
 abbrev pub ProjectForm : Project → Type 0
 ProjectForm p = record {
   code : IsTrue (is_code p.code);
   label : IsTrue (is_label p.label);
-  quota : p.quota ≤ 500;
+  quota : p.quota ≤ MOST_PLACES;
 }
 
 -- a list of some projects
@@ -96,11 +98,11 @@ at_most n limit h = grind (arith, nat_tests)
 
 drafted_supervisor : (o : State) (code label : List ℕ) (quota : ℕ) → has_form o (row.Supervisor code label quota) ≡ true → IsDrafted o → IsDrafted (with_row (row.Supervisor code label quota) o)
 drafted_supervisor o code label quota form d =
-    let rest = second_so (is_code code) (is_label label && nat_le quota 500) form in
+    let rest = second_so (is_code code) (is_label label && nat_le quota MOST_PLACES) form in
     let fits : SupervisorFits (record { code = code; label = label; quota = quota }) = record {
-      code = first_so (is_code code) (is_label label && nat_le quota 500) form;
-      label = first_so (is_label label) (nat_le quota 500) rest;
-      quota = at_most quota 500 (second_so (is_label label) (nat_le quota 500) rest);
+      code = first_so (is_code code) (is_label label && nat_le quota MOST_PLACES) form;
+      label = first_so (is_label label) (nat_le quota MOST_PLACES) rest;
+      quota = at_most quota MOST_PLACES (second_so (is_label label) (nat_le quota MOST_PLACES) rest);
     } in
     record {
       rolls = record { supervisors = put_of supervisor_key SupervisorFits _ o.supervisors fits d.rolls.supervisors; projects = d.rolls.projects; students = d.rolls.students };
@@ -112,11 +114,11 @@ drafted_supervisor o code label quota form d =
 
 drafted_project : (o : State) (code label supervisor : List ℕ) (quota : ℕ) → has_form o (row.Project code label supervisor quota) ≡ true → IsDrafted o → IsDrafted (with_row (row.Project code label supervisor quota) o)
 drafted_project o code label supervisor quota form d =
-    let rest = second_so (is_code code) (is_label label && (is_code supervisor && nat_le quota 500)) form in
+    let rest = second_so (is_code code) (is_label label && (is_code supervisor && nat_le quota MOST_PLACES)) form in
     let fits : ProjectForm (record { code = code; label = label; supervisor = supervisor; quota = quota }) = record {
-      code = first_so (is_code code) (is_label label && (is_code supervisor && nat_le quota 500)) form;
-      label = first_so (is_label label) (is_code supervisor && nat_le quota 500) rest;
-      quota = at_most quota 500 (second_so (is_code supervisor) (nat_le quota 500) (second_so (is_label label) (is_code supervisor && nat_le quota 500) rest));
+      code = first_so (is_code code) (is_label label && (is_code supervisor && nat_le quota MOST_PLACES)) form;
+      label = first_so (is_label label) (is_code supervisor && nat_le quota MOST_PLACES) rest;
+      quota = at_most quota MOST_PLACES (second_so (is_code supervisor) (nat_le quota MOST_PLACES) (second_so (is_label label) (is_code supervisor && nat_le quota MOST_PLACES) rest));
     } in
     record {
       rolls = record { supervisors = d.rolls.supervisors; projects = put_of project_key ProjectForm _ o.projects fits d.rolls.projects; students = d.rolls.students };
@@ -175,11 +177,11 @@ drafted_placement o student round project rank d = record {
 
 drafted_import : (o : State) (id : List ℕ) (kind : ImportKind) (bytes : List ℕ) (rows : ℕ) → has_form o (row.Import id kind bytes rows) ≡ true → IsDrafted o → IsDrafted (with_row (row.Import id kind bytes rows) o)
 drafted_import o id kind bytes rows form d =
-    let rest = second_so (is_code id) (nat_le (length bytes) 65536 && nat_le rows 65536) form in
+    let rest = second_so (is_code id) (nat_le (length bytes) MOST_IMPORT_BYTES && nat_le rows MOST_IMPORT_BYTES) form in
     let fits : ImportFits (record { id = id; kind = kind; bytes = bytes; rows = rows }) = record {
-      id = first_so (is_code id) (nat_le (length bytes) 65536 && nat_le rows 65536) form;
-      bytes = at_most (length bytes) 65536 (first_so (nat_le (length bytes) 65536) (nat_le rows 65536) rest);
-      rows = at_most rows 65536 (second_so (nat_le (length bytes) 65536) (nat_le rows 65536) rest);
+      id = first_so (is_code id) (nat_le (length bytes) MOST_IMPORT_BYTES && nat_le rows MOST_IMPORT_BYTES) form;
+      bytes = at_most (length bytes) MOST_IMPORT_BYTES (first_so (nat_le (length bytes) MOST_IMPORT_BYTES) (nat_le rows MOST_IMPORT_BYTES) rest);
+      rows = at_most rows MOST_IMPORT_BYTES (second_so (nat_le (length bytes) MOST_IMPORT_BYTES) (nat_le rows MOST_IMPORT_BYTES) rest);
     } in
     record {
       rolls = d.rolls;

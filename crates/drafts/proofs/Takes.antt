@@ -6,7 +6,9 @@ use Rattle.std.specs.List.{AllByRecursion}
 use Rattle.std.specs.Option.{option_map, option_map_or}
 use Rattle.std.proofs.lemmas.Bool.Decides.{nat_tests}
 use Rattle.std.proofs.lemmas.Option.{slice_get_within}
+use Rattle.spa.specs.declared.TheConstants.{RANKS, MOST_PLACES}
 use Rattle.spa.specs.Text.{is_code, is_label}
+use Rattle.rolls.specs.declared.TheConstants.{MOST_IMPORT_BYTES}
 use Rattle.rolls.specs.declared.entries.Supervisor.{Supervisor}
 use Rattle.rolls.specs.declared.entries.Project.{Project}
 use Rattle.rolls.specs.declared.entries.Student.{Student}
@@ -57,7 +59,7 @@ pub record IsListed (w : State) (n : ℕ) (s : List ℕ) (i : ℕ) (c : List ℕ
   pub round : is_some (round_of w n) ≡ true
   pub student : has_student w s ≡ true
   pub project : has_project w c ≡ true
-  pub few : i < 8
+  pub few : i < RANKS
 
 pub listed : (w : State) → ((n : ℕ) → AllByRecursion (ListFits w n) (lists_of w n)) → (n : ℕ) (s : List ℕ) (i : ℕ) (c : List ℕ) → slice_get (choices_in w n s) i ≡ Some c → IsListed w n s i c
 listed w fits n s i c is = of_list (list_of w n s) refl is
@@ -89,14 +91,14 @@ form_of_supervisor : (w : State) → IsFit w → (o : State) (code label : List 
 form_of_supervisor w fit o code label quota there =
     let s : Supervisor = record { code = code; label = label; quota = quota } in
     let fits : SupervisorFits s = holds_of_found supervisor_key SupervisorFits (0, code) w.supervisors s fit.supervisors.each (entry_back supervisor_row supervisor_in (λ e. refl) _ _ there) in
-    both_so (is_code code) _ fits.code (both_so (is_label label) _ fits.label (within quota 500 fits.quota))
+    both_so (is_code code) _ fits.code (both_so (is_label label) _ fits.label (within quota MOST_PLACES fits.quota))
 
 form_of_project : (w : State) → IsFit w → (o : State) (code label supervisor : List ℕ) (quota : ℕ) → row_of w (key.Project code) ≡ Some (row.Project code label supervisor quota) → has_form o (row.Project code label supervisor quota) ≡ true
 form_of_project w fit o code label supervisor quota there =
     let p : Project = record { code = code; label = label; supervisor = supervisor; quota = quota } in
     let fits : ProjectFits w p = holds_of_found project_key (ProjectFits w) (0, code) w.projects p fit.projects.each (entry_back project_row project_in (λ e. refl) _ _ there) in
     let offered = known_code supervisor_key (λ (e : Supervisor). e.code) SupervisorFits (λ e. refl) (λ e f. f.code) supervisor w.supervisors fit.supervisors.each fits.supervisor in
-    both_so (is_code code) _ fits.code (both_so (is_label label) _ fits.label (both_so (is_code supervisor) _ offered (within quota 500 fits.quota)))
+    both_so (is_code code) _ fits.code (both_so (is_label label) _ fits.label (both_so (is_code supervisor) _ offered (within quota MOST_PLACES fits.quota)))
 
 form_of_student : (w : State) → IsFit w → (o : State) (code label : List ℕ) → row_of w (key.Student code) ≡ Some (row.Student code label) → has_form o (row.Student code label) ≡ true
 form_of_student w fit o code label there =
@@ -116,7 +118,7 @@ form_of_import : (w : State) → IsFit w → (o : State) (id : List ℕ) (kind :
 form_of_import w fit o id kind bytes rows there =
     let i : Import = record { id = id; kind = kind; bytes = bytes; rows = rows } in
     let fits : ImportFits i = holds_of_found import_key ImportFits (0, id) w.imports i fit.imports.each (entry_back import_row import_in (λ e. refl) _ _ there) in
-    both_so (is_code id) _ fits.id (both_so (nat_le (length bytes) 65536) _ (within (length bytes) 65536 fits.bytes) (within rows 65536 fits.rows))
+    both_so (is_code id) _ fits.id (both_so (nat_le (length bytes) MOST_IMPORT_BYTES) _ (within (length bytes) MOST_IMPORT_BYTES fits.bytes) (within rows MOST_IMPORT_BYTES fits.rows))
 
 -- ---- choices
 
@@ -128,8 +130,8 @@ some_row : (x : Option Round) → is_some (option_map round_row x) ≡ is_some x
 some_row None = refl
 some_row (Some r) = refl
 
-stage_is : (n : ℕ) (s : List ℕ) (i : ℕ) → i < 8 → stage_of (key.Choice n s (suc i)) ≡ suc i
-stage_is n s i h = ap (λ b. cond b (suc i) 0) (within (suc i) 8 (omega (arith, h)))
+stage_is : (n : ℕ) (s : List ℕ) (i : ℕ) → i < RANKS → stage_of (key.Choice n s (suc i)) ≡ suc i
+stage_is n s i h = ap (λ b. cond b (suc i) 0) (within (suc i) RANKS (omega (arith, h)))
 
 module _ (w : State) (fit : IsFit w) (o : State) (n : ℕ) (s : List ℕ) (i : ℕ) (c : List ℕ) (is : slice_get (choices_in w n s) i ≡ Some c)
     (behind : IsBehind o w (key.Choice n s (suc i))) (free : row_of o (key.Choice n s (suc i)) ≡ None) where
@@ -161,7 +163,7 @@ module _ (w : State) (fit : IsFit w) (o : State) (n : ℕ) (s : List ℕ) (i : �
 
   place_held : (j : ℕ) → j < i → j < length (choices_in o n s)
   place_held j l =
-      let few : i < 8 = here.few in
+      let few : i < RANKS = here.few in
       let same = behind (key.Choice n s (suc j)) (omega (arith, stage_is n s i few, stage_is n s j (omega (arith, l, few)), l)) in
       let there = before (choices_in w n s) i is j l in
       let held = sym (choice_at (choices_in o n s) j) ∙ same_entry (row.Choice n s (suc j)) project_chosen (λ e. refl) _ _ same ∙ choice_at (choices_in w n s) j ∙ there.1 in

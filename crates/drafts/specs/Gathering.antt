@@ -2,9 +2,11 @@
 use Rattle.std.specs.Prelude.{ℕ, zero, suc, ◌+◌, ◌==◌, nat_le, Bool, true, not, ◌&&◌, List, [], ◌∷◌, ◌++◌, length, Option, Some, None, is_some, if◌then◌else◌}
 use Rattle.std.specs.List.{filter}
 use Rattle.std.specs.Option.{option_map_or, option_and_then}
+use Rattle.spa.specs.declared.TheConstants.{RANKS, MOST_PLACES}
 use Rattle.spa.specs.Text.{is_code, is_label}
 use Rattle.spa.specs.declared.text.TextFault.{TextFault}
 use Rattle.spa.specs.declared.text.TextFault.TheVariants.{Memory as NoMemory, Form}
+use Rattle.rolls.specs.declared.TheConstants.{MOST_IMPORT_BYTES}
 use Rattle.rolls.specs.declared.rounds.Listed.{Listed}
 use Rattle.rolls.specs.declared.row.Row.{Row}
 use Rattle.rolls.specs.declared.row.Row.TheVariants as row
@@ -21,9 +23,9 @@ abbrev pub fault_of_text : TextFault → RowsFault
 fault_of_text NoMemory = Memory
 fault_of_text Form = Unfit
 
--- the stage at which a row is taken in: a choice at its place of 1 to 8, and all else before the choices
+-- the stage at which a row is taken in: a choice at its place in its list, and all else before the choices
 abbrev pub stage_of : RowKey → ℕ
-stage_of (key.Choice round student place) = if nat_le place 8 then place else 0
+stage_of (key.Choice round student place) = if nat_le place RANKS then place else 0
 stage_of _ = 0
 
 -- the rows of a stage
@@ -37,7 +39,7 @@ stages (suc n) stage rows = at_stage stage rows ++ stages n (suc stage) rows
 
 -- all rows, stage by stage
 abbrev pub staged : List Row → List Row
-staged rows = stages 9 0 rows
+staged rows = stages (RANKS + 1) 0 rows
 
 -- what a student lists among these
 abbrev pub choices_among : List ℕ → List Listed → List (List ℕ)
@@ -60,13 +62,13 @@ with_row (row.Import id kind bytes rows) o = record o { imports = put import_key
 
 -- whether a row has the form of an entry's, and a choice is the next of its list, in a round that is held
 abbrev pub has_form : State → Row → Bool
-has_form o (row.Supervisor code label quota) = is_code code && (is_label label && nat_le quota 500)
-has_form o (row.Project code label supervisor quota) = is_code code && (is_label label && (is_code supervisor && nat_le quota 500))
+has_form o (row.Supervisor code label quota) = is_code code && (is_label label && nat_le quota MOST_PLACES)
+has_form o (row.Project code label supervisor quota) = is_code code && (is_label label && (is_code supervisor && nat_le quota MOST_PLACES))
 has_form o (row.Student code label) = is_code code && is_label label
 has_form o (row.Round number is_open) = true
 has_form o (row.Choice round student place project) = is_code student && (is_code project && (has_round o round && (length (choices_in o round student) + 1 == place)))
 has_form o (row.Placement student round project rank) = is_code student && is_code project
-has_form o (row.Import id kind bytes rows) = is_code id && (nat_le (length bytes) 65536 && nat_le rows 65536)
+has_form o (row.Import id kind bytes rows) = is_code id && (nat_le (length bytes) MOST_IMPORT_BYTES && nat_le rows MOST_IMPORT_BYTES)
 
 -- whether nothing is held at a row's key
 abbrev pub is_new : State → Row → Bool

@@ -3,6 +3,8 @@ use Rattle.std.specs.Prelude.{◌-◌, ℕ, nat_le, Bool, false, not, ◌&&◌, 
 use Rattle.std.specs.List.{list_all}
 use Rattle.std.specs.Option.{option_map_or}
 use Rattle.std.specs.Str.{bytes_eq}
+use Rattle.spa.specs.declared.TheConstants.{MOST_SUPERVISORS, MOST_PROJECTS, MOST_STUDENTS, RANKS}
+use Rattle.rolls.specs.declared.TheConstants.{MOST_ROUNDS, MOST_IMPORTS}
 use Rattle.rolls.specs.declared.rounds.Listed.{Listed}
 use Rattle.rolls.specs.declared.rounds.Placement.{Placement}
 use Rattle.rolls.specs.State.{State, has_supervisor, has_project, has_student, is_placed_before, is_closed, choices_in, placed_in_project, placed_with_supervisor}
@@ -11,17 +13,17 @@ use Rattle.rolls.specs.Fit.{are_numbered, only_last_open, is_distinct}
 -- nothing is too long
 abbrev pub are_few : State → Bool
 are_few o =
-    nat_le (length o.supervisors) 100 && (nat_le (length o.projects) 400 && (nat_le (length o.students) 500
-    && (nat_le (length o.rounds) 12 && nat_le (length o.imports) 200)))
+    nat_le (length o.supervisors) MOST_SUPERVISORS && (nat_le (length o.projects) MOST_PROJECTS && (nat_le (length o.students) MOST_STUDENTS
+    && (nat_le (length o.rounds) MOST_ROUNDS && nat_le (length o.imports) MOST_IMPORTS)))
 
 -- the supervisor of each project is on the roll
 abbrev pub are_offered : State → Bool
 are_offered o = list_all (λ p. has_supervisor o p.supervisor) o.projects
 
--- a list of at most 8 projects on the roll, none of them twice, of a student on the roll whom no earlier round placed
+-- a list of projects on the roll, no more than there are ranks, none of them twice, of a student on the roll whom no earlier round placed
 abbrev pub is_list : State → ℕ → Listed → Bool
 is_list o n l =
-    has_student o l.student && (not (is_placed_before o l.student n) && (nat_le (length l.choices) 8
+    has_student o l.student && (not (is_placed_before o l.student n) && (nat_le (length l.choices) RANKS
     && (is_distinct l.choices && list_all (has_project o) l.choices)))
 
 -- the rounds have the numbers from 1 on, all but the last are closed, and each list is one of its round

@@ -11,10 +11,11 @@ ghost use Rattle.drafts.specs.Gathering.{stage_of, at_stage, staged, gathered};
 use crate::draft::Draft;
 use crate::fault::RowsFault;
 use rolls::Row;
+use spa::RANKS;
 use std::alloc::Global;
 
-/// How many stages there are.
-const STAGES: u32 = 9;
+/// How many stages there are: one for each place of a list, and one before them.
+const STAGES: u32 = RANKS as u32 + 1;
 
 /// The stage at which a row is taken in: a choice at its place, and all else before the choices.
 fn stage_of(row: &Row) -> u32

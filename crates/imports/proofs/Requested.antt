@@ -7,9 +7,10 @@ use Rattle.std.proofs.lemmas.Simd.{map-map}
 use Rattle.csv.specs.Records.{Row, fields_of}
 use Rattle.rolls.specs.declared.import.ImportKind.{ImportKind}
 use Rattle.imports.proofs.Records.{few_records}
-use Rattle.imports.specs.Requests.{records_of, has_other_length, requests_after}
+use Rattle.imports.specs.Requests.{IsWithin, records_of, has_other_length, requests_after}
 use Rattle.imports.specs.Kinds.{request_of}
-use Rattle.imports.specs.declared.fault.ImportFault.TheVariants.{Fields}
+use Rattle.imports.specs.declared.fault.ImportFault.{ImportFault}
+use Rattle.imports.specs.declared.fault.ImportFault.TheVariants.{Fields, Header, Memory}
 use Rattle.rolls.specs.declared.request.Plain.{Plain}
 
 -- how many items at the front pass a test of what f makes of them
@@ -45,3 +46,9 @@ as_many_requests kind rest requests read = by (position (has_other_length kind) 
         let same : map (request_of kind) (map fields_of rest) ≡ requests = cc in
         omega (arith, ap length same, length-map (map fields_of rest) (request_of kind), length-map rest fields_of)
     by (Some before) e = cc
+
+-- a record that is named is one of more, too
+pub within_more : (few many : ℕ) (fault : ImportFault) → few ≤ many → IsWithin few fault → IsWithin many fault
+within_more few many Memory more h = tt
+within_more few many Header more h = tt
+within_more few many (Fields number) more h = omega (arith, h)

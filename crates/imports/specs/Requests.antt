@@ -1,20 +1,31 @@
 -- The requests of an import text.
-use Rattle.std.specs.Prelude.{ℕ, ◌+◌, ◌%◌, ◌==◌, not, Bool, List, [], ◌∷◌, length, map, count_by, Result, Ok, Err, if◌then◌else◌}
+use Rattle.std.specs.Prelude.{ℕ, ◌+◌, ◌%◌, ◌==◌, ◌≤◌, ⊤, not, Bool, true, false, List, [], ◌∷◌, length, map, count_by, Result, Ok, Err, if◌then◌else◌}
 use Rattle.std.specs.List.{position}
 use Rattle.std.specs.Option.{option_map_or}
 use Rattle.std.specs.Str.{bytes_eq}
 use Rattle.std.specs.Cmp.Lexicographic.{pointwise}
+use Rattle.csv.specs.declared.error.ErrorKind.{ErrorKind}
+use Rattle.csv.specs.declared.error.ErrorKind.TheVariants as kind
 use Rattle.csv.specs.Reading.{records, default_config, strip_bom}
 use Rattle.rolls.specs.declared.import.ImportKind.{ImportKind}
 use Rattle.rolls.specs.declared.request.Plain.{Plain}
 use Rattle.imports.specs.declared.fault.ImportFault.{ImportFault}
-use Rattle.imports.specs.declared.fault.ImportFault.TheVariants.{Header, Fields}
+use Rattle.imports.specs.declared.fault.ImportFault.TheVariants.{Header, Fields, Memory}
 use Rattle.imports.specs.Kinds.{header_of, request_of}
 
 -- the records that `csv` reads: commas between fields, nothing trimmed, any number of fields, and one byte order mark at the
 -- front passed over; the header is the first of them
 abbrev pub records_of : List ℕ → List (List (List ℕ))
 records_of bytes = records default_config (strip_bom bytes)
+
+-- an error of a reader that tells of the records that it read: of their lengths, or of what they hold
+abbrev pub is_of_form : ErrorKind → Bool
+is_of_form (kind.UnequalLengths pos expected len) = true
+is_of_form (kind.Utf8 pos err) = true
+is_of_form (kind.Serialize why) = true
+is_of_form (kind.Deserialize pos err) = true
+is_of_form (kind.Io e) = false
+is_of_form kind.OutOfMemory = false
 
 -- an odd number of bytes are quotes, so one has no partner
 abbrev pub has_odd_quotes : List ℕ → Bool
@@ -27,6 +38,12 @@ is_header kind fields = pointwise bytes_eq fields (header_of kind)
 -- a record has another number of fields than the kind's header
 abbrev pub has_other_length : ImportKind → List (List ℕ) → Bool
 has_other_length kind fields = not (length fields == length (header_of kind))
+
+-- a record that the fault names is one of so many
+abbrev pub IsWithin : ℕ → ImportFault → Type 0
+IsWithin count (Fields number) = number ≤ count
+IsWithin count Header = ⊤
+IsWithin count Memory = ⊤
 
 -- the requests of the records after the header, or the first of them with another number of fields, counted from 1
 abbrev pub requests_after : ImportKind → List (List (List ℕ)) → Result (List Plain) ImportFault

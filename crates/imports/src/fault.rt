@@ -16,7 +16,7 @@ pub enum ImportFault {
     Header,
     /// The first record, counted from 1 after the header, that has another number of fields than the header. This is
     /// judged before any field.
-    Fields { record: u32 },
+    Fields { record: usize },
 }
 
 impl From<AllocError> for ImportFault {

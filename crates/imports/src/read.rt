@@ -1,20 +1,31 @@
 //! Import texts, read.
 #![tactic(auto)]
 
-ghost use Rattle.std.specs.Prelude.{◌≡◌, ◌<◌, ◌≤◌, ◌⊎◌, ◌^◌, ◌==◌, ◌%◌, length, map, IfOk, IfErr, Ok, Err, count_by};
+ghost use Rattle.std.specs.Prelude.{◌≡◌, ◌≤◌, ◌⊎◌, ◌==◌, ◌%◌, length, map, IfOk, IfErr, Ok, Err, count_by};
 ghost use Rattle.std.specs.List.{position};
 ghost use Rattle.std.specs.Str.{bytes_eq};
 ghost use Rattle.std.specs.Cmp.Lexicographic.{pointwise};
 ghost use Rattle.csv.specs.Records.{fields_of};
 ghost use Rattle.imports.specs.declared.fault.ImportFault.TheVariants.{Memory};
 ghost use Rattle.imports.specs.Kinds.{header_of, request_of};
-ghost use Rattle.imports.specs.Requests.{records_of, has_odd_quotes, is_header, has_other_length, requests_after, requests_of};
+ghost use Rattle.imports.specs.Requests.{IsWithin, records_of, has_odd_quotes, is_header, has_other_length, is_of_form, requests_after, requests_of};
 
 use crate::fault::ImportFault;
 use crate::kinds::{field, header_of, request_of};
-use csv::{ByteRecord, ReaderBuilder};
+use csv::{ByteRecord, ErrorKind, ReaderBuilder};
 use rolls::{ImportKind, Plain};
 use std::alloc::{AllocError, Global};
+
+/// Whether an error of a reader tells of the records that it read.
+fn is_of_form(kind: &ErrorKind) -> bool
+    ensures { result ≡ is_of_form kind.now }
+{
+    match kind {
+        ErrorKind::UnequalLengths { .. } | ErrorKind::Utf8 { .. } => true,
+        ErrorKind::Serialize(_) | ErrorKind::Deserialize { .. } => true,
+        ErrorKind::Io(_) | ErrorKind::OutOfMemory => false,
+    }
+}
 
 /// The records of a text, its header among them.
 fn records_of(alloc: Global, bytes: &[u8]) -> Result<Vec<ByteRecord>, AllocError>
@@ -26,11 +37,15 @@ fn records_of(alloc: Global, bytes: &[u8]) -> Result<Vec<ByteRecord>, AllocError
         .from_reader(alloc, bytes);
     let mut records = Vec::new(alloc);
     for record in reader.into_byte_records() {
-        // A reader of bytes fails for memory alone.
-        let Ok(record) = record else {
-            return Err(AllocError);
-        };
-        records.push(record)?;
+        match record {
+            Ok(record) => records.push(record)?,
+            Err(error) => {
+                // Records may have any number of fields, and their bytes need not be text, so only memory is left.
+                let for_memory = !is_of_form(error.kind());
+                prove!(for_memory);
+                return Err(AllocError);
+            }
+        }
     }
     Ok(records)
 }
@@ -93,28 +108,27 @@ fn requests_after(
     kind: ImportKind,
     rest: &[ByteRecord],
 ) -> Result<Vec<Plain>, ImportFault>
-    requires numbered { length rest.now < 2 ^ 32 }
     ensures read { IfOk result (λ requests. requests_after kind (map fields_of rest.now) ≡ Ok requests.items) }
     ensures fault { IfErr result (λ fault. (fault ≡ Memory) ⊎ (requests_after kind (map fields_of rest.now) ≡ Err fault)) }
+    ensures within { IfErr result (IsWithin (length rest.now)) }
 {
     match first_other(kind, rest) {
-        Some(before) => Err(ImportFault::Fields {
-            record: before as u32 + 1,
-        }),
+        Some(before) => Err(ImportFault::Fields { record: before + 1 }),
         None => Ok(requests_of(alloc, kind, rest)?),
     }
 }
 
-/// Reads an import text: a request for each record after the header, in their order. The text is shorter than 4 GiB, so that
-/// each record has its number.
+/// Reads an import text: a request for each record after the header, in their order.
 #[tactic(auto, unfolding(crate::specs::Requests::requests_of))]
 pub fn read_import(alloc: Global, kind: ImportKind, bytes: &[u8]) -> Result<Vec<Plain>, ImportFault>
-    requires numbered { length bytes.now < 2 ^ 32 }
     ensures read { IfOk result (λ requests. requests_of kind bytes.now ≡ Ok requests.items) }
     ensures few { IfOk result (λ requests. length requests.items ≤ length bytes.now) }
 
     // A fault of the definition comes unless memory is refused first.
     ensures fault { IfErr result (λ fault. (fault ≡ Memory) ⊎ (requests_of kind bytes.now ≡ Err fault)) }
+
+    // A record that is named is one of the text.
+    ensures within { IfErr result (IsWithin (length bytes.now)) }
 {
     if has_odd_quotes(bytes) {
         return Err(ImportFault::Header);

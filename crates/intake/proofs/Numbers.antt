@@ -2,7 +2,7 @@
 use Rattle.std.proofs.Common.{sym, ◌≡◌, ℕ, zero, suc, ◌<◌, ◌≤◌, ◌^◌, ◌≢◌, ◌+◌, ℤ, pos, negsuc, List, [], ◌∷◌, length, map, set, get_or, Result, Ok, decimal, refl, ap, ◌∙◌, arith, below_more, length-set, get_or-set_other, get_or-set_same, to_z, of_z}
 use denote.Ref.{Bor}
 use Rattle.std.proofs.lemmas.List.{get_or_default}
-use Rattle.spa.specs.declared.TheConstants.{PLACES}
+use Rattle.spa.specs.declared.TheConstants.{PLACES, MOST_PLACES}
 use Rattle.std.specs.Fmt.{signed_decimal}
 use Rattle.std.specs.Str.{IsUtf8}
 use Rattle.std.specs.Str.Parse.{ParsesUnsigned, ParsesSigned}
@@ -15,11 +15,11 @@ use lib.Signed.{mag}
 use mir.Syntax.{w64}
 
 -- a quota is text
-pub quota_utf8 : (n : ℕ) → n ≤ 500 → IsUtf8 (decimal n)
+pub quota_utf8 : (n : ℕ) → n ≤ MOST_PLACES → IsUtf8 (decimal n)
 quota_utf8 n h = IsUtf8-from_ascii (decimal n) (IsAscii-decimal n (omega arith))
 
 -- the text of a quota is read as it
-pub quota_parsed : {E : Type 0} (n : ℕ) (bs : List ℕ) (r : Result ℕ E) → n ≤ 500 → bs ≡ decimal n → ParsesUnsigned 32 10 bs r → r ≡ Ok n
+pub quota_parsed : {E : Type 0} (n : ℕ) (bs : List ℕ) (r : Result ℕ E) → n ≤ MOST_PLACES → bs ≡ decimal n → ParsesUnsigned 32 10 bs r → r ≡ Ok n
 quota_parsed n bs r h e p = parse-decimal 32 n bs r (omega arith) (omega arith) e p
 
 -- a number of a price is small

@@ -1,6 +1,7 @@
 -- What a pair's line refers to.
 use Rattle.std.proofs.Common.{◌≡◌, ℕ, zero, suc, ◌-◌, ◌<◌, List, [], ◌∷◌, length, map, get_or, slice_get, Some, None, Vec, Global, All, sym, ap, ◌∙◌, subst, inl, inr, arith}
 use Rattle.std.proofs.lemmas.Bool.{cases_order}
+use Rattle.spa.specs.declared.TheConstants.{RANKS}
 use Rattle.spa.specs.Shape.{IsPlaceOf}
 use Rattle.spa.specs.declared.code.Code.{Code}
 use Rattle.spa.specs.Codes.{Finds}
@@ -80,7 +81,7 @@ listed_at es n m e st h r same found =
     ap (λ (s : Student). s.list) (sym s)
 
 -- a position in the list of a student is small
-pub small_place : {n m : ℕ} (p : Parts) (es : List (List ℕ × Vec Code Global)) (s k : ℕ) (e : List ℕ × Vec Code Global) → IsDraft p → p.instance.students ≡ students_of (map (λ e. (e.0, e.1.items)) es) → s < n → n ≡ length es → e ≡ get_or es s e → k < m → m ≡ length e.1.items → k < 8
+pub small_place : {n m : ℕ} (p : Parts) (es : List (List ℕ × Vec Code Global)) (s k : ℕ) (e : List ℕ × Vec Code Global) → IsDraft p → p.instance.students ≡ students_of (map (λ e. (e.0, e.1.items)) es) → s < n → n ≡ length es → e ≡ get_or es s e → k < m → m ≡ length e.1.items → k < RANKS
 small_place p es s k e d students h many at l long =
     let here : slice_get p.instance.students s ≡ Some (record { code = e.0; list = e.1.items }) = ap (λ (l : List Student). slice_get l s) students ∙ student_at es s e (omega arith) at in
     let sound : IsSoundList (project_codes p.instance) e.1.items = all_found (λ (x : Student). IsSoundList (project_codes p.instance) x.list) p.instance.students s _ d.instance.listed here in

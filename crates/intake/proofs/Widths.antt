@@ -3,7 +3,7 @@ use Rattle.std.proofs.Common.{◌≡◌, ℕ, zero, suc, ◌+◌, ◌-◌, ◌*�
 use Rattle.std.specs.Fmt.{signed_decimal}
 use Rattle.std.specs.Prelude.{IsTrue, ⊤}
 use Rattle.std.proofs.lemmas.List.Elements.{All-nil, All-cons, All-head, All-tail, All-map, All-contains}
-use Rattle.spa.specs.declared.TheConstants.{MOST_PLACES}
+use Rattle.spa.specs.declared.TheConstants.{MOST_PLACES, RANKS, PLACES}
 use Rattle.spa.specs.Text.{is_code}
 use Rattle.spa.specs.Codes.{code_at}
 use Rattle.spa.specs.Instance.{Instance, Supervisor, Project, Student, supervisor_codes, project_codes, student_codes}
@@ -35,9 +35,17 @@ abbrev pub OfLetters : (List ℕ → Type 0) → List Section → Type 0
 OfLetters P [] = ⊤
 OfLetters P (s ∷ ss) = P s.letter × OfLetters P ss
 
+-- the width of a code with a list: each field has its comma before it
+abbrev pub list_width : ℕ
+list_width = 17 + 17 * RANKS
+
+-- the width of a code with a price
+abbrev pub price_width : ℕ
+price_width = 17 + 9 * PLACES
+
 -- the widths of the rows of the seven sections
 abbrev pub widths : List ℕ
-widths = 21 ∷ 38 ∷ 153 ∷ 34 ∷ 98 ∷ 98 ∷ 98 ∷ []
+widths = 21 ∷ 38 ∷ list_width ∷ 34 ∷ price_width ∷ price_width ∷ price_width ∷ []
 
 -- the code of an entry has the form
 code_found : {X : Type 0} (key : X → List ℕ) (es : List X) (n : ℕ) (e : X) → All (λ c. IsTrue (is_code c)) (map key es) → slice_get es n ≡ Some e → is_code (key e) ≡ true
@@ -85,10 +93,10 @@ module _ (F : ℕ → List ℕ → Type 0) (R : ℕ → Row → Type 0) (s : Sai
   student_list i n e v at = all_found (λ (e : Student). IsSoundList (project_codes i) e.list) i.students n e v.listed at
 
   -- the rows of students
-  student_rows : (i : Instance) → IsRoundInstance i → All (R 153) (map student_row i.students)
-  student_rows i v = entry_rows student_row 153 i.students (λ n e at.
+  student_rows : (i : Instance) → IsRoundInstance i → All (R list_width) (map student_row i.students)
+  student_rows i v = entry_rows student_row list_width i.students (λ n e at.
       let sound = student_list i n e v at in
-      s.more 16 (17 * length e.list) 153 e.code e.list (s.code e.code (code_found (λ (e : Student). e.code) i.students n e v.students.form at)) (code_rows e.list (list_said (project_codes i) e.list v.projects sound)) (omega (arith, sound.0.1)))
+      s.more 16 (17 * length e.list) list_width e.code e.list (s.code e.code (code_found (λ (e : Student). e.code) i.students n e v.students.form at)) (code_rows e.list (list_said (project_codes i) e.list v.projects sound)) (omega (arith, sound.0.1)))
 
   -- a code of a list, or nothing past its end
   at_said : (list : List (List ℕ)) (k : ℕ) → All (F 16) list → F 16 (code_at list k)
@@ -113,13 +121,13 @@ module _ (F : ℕ → List ℕ → Type 0) (R : ℕ → Row → Type 0) (s : Sai
   numbers_said (n ∷ v) h = s.more 8 (9 * length v) (9 * length (n ∷ v)) (signed_decimal n) (map signed_decimal v) (s.number n (h 0 (omega arith))) (numbers_said v (λ t l. h (suc t) (omega arith))) (omega arith)
 
   -- the rows of prices
-  prices_said : (cs : List (List ℕ)) (vs : List (List ℤ)) → All (λ c. IsTrue (is_code c)) cs → All IsPrice vs → All (R 98) (price_rows cs vs)
-  prices_said [] vs f p = All-nil (R 98)
-  prices_said (c ∷ cs) [] f p = All-nil (R 98)
+  prices_said : (cs : List (List ℕ)) (vs : List (List ℤ)) → All (λ c. IsTrue (is_code c)) cs → All IsPrice vs → All (R price_width) (price_rows cs vs)
+  prices_said [] vs f p = All-nil (R price_width)
+  prices_said (c ∷ cs) [] f p = All-nil (R price_width)
   prices_said (c ∷ cs) (v ∷ vs) f p =
       let price : IsPrice v = All-head IsPrice v vs p in
-      All-cons (R 98) (c ∷ map signed_decimal v) (price_rows cs vs)
-      (s.more 16 (9 * length v) 98 c (map signed_decimal v) (s.code c (All-head (λ c. IsTrue (is_code c)) c cs f)) (numbers_said v (λ t l. price.range t (omega (arith, price.numbers)))) (omega (arith, price.numbers)))
+      All-cons (R price_width) (c ∷ map signed_decimal v) (price_rows cs vs)
+      (s.more 16 (9 * length v) price_width c (map signed_decimal v) (s.code c (All-head (λ c. IsTrue (is_code c)) c cs f)) (numbers_said v (λ t l. price.range t (omega (arith, price.numbers)))) (omega (arith, price.numbers)))
       (prices_said cs vs (All-tail (λ c. IsTrue (is_code c)) c cs f) (All-tail IsPrice v vs p))
 
   -- the rows of an instance, places and prices

@@ -3,11 +3,12 @@ use Rattle.std.specs.Prelude.{◌≡◌, ℕ, List, [], ◌∷◌, ◌++◌, len
 use Rattle.std.specs.List.{range_with_len}
 use Rattle.std.specs.declared.alloc.Global.{Global}
 use Rattle.spa.specs.declared.TheConstants.{RANKS}
-use Rattle.spa.specs.Order.{greedy}
+use Rattle.spa.specs.declared.aim.Aim.TheVariants.{Greedy}
+use Rattle.spa.specs.Order.{order}
 use Rattle.spa.specs.Codes.{code_at}
 use Rattle.spa.specs.Shape.{Shape}
 use Rattle.spa.specs.Named.{Named}
-use Rattle.spa.specs.Matching.{IsGreedyMaximum, profile}
+use Rattle.spa.specs.Matching.{IsBest, profile}
 use Rattle.spa.specs.Matched.{pairs}
 use Rattle.verdict.specs.Verdict.{IsProvedBest, IsFirstFailure}
 use Rattle.verdict.specs.declared.conditions.CheckFault.{CheckFault}
@@ -28,7 +29,7 @@ pub record IsSolution (text printed : List ℕ) : Type 0 where
   pub round : RoundParts
   pub solved : Solved
   pub read : IsReading text (Ok round)
-  pub best : IsProvedBest greedy round.instance.shape solved.matching.places.items solved.prices
+  pub best : IsProvedBest (order Greedy) round.instance.shape solved.matching.places.items solved.prices
   pub is : printed ≡ round_text (proved round.instance solved.matching.places.items solved.prices)
 
 -- the size, and the numbers of pairs of rank 1 and so on, of the matching that places stand for
@@ -48,8 +49,8 @@ fault_text i Unequal = codes "fault 5" ++ 10 ∷ []
 pub record IsYes (text printed : List ℕ) : Type 0 where
   pub round : RoundParts
   pub read : IsReading text (Ok round)
-  pub best : IsProvedBest greedy round.instance.shape round.matching.places.items round.prices
-  pub greedy_maximum : IsGreedyMaximum round.instance.shape (pairs round.instance.shape round.matching.places.items)
+  pub best : IsProvedBest (order Greedy) round.instance.shape round.matching.places.items round.prices
+  pub greedy_maximum : IsBest Greedy round.instance.shape (pairs round.instance.shape round.matching.places.items)
   pub is : printed ≡ best_text round.instance.shape round.matching.places.items
 
 -- what is printed is the first condition that fails of the text's matching and prices
@@ -57,7 +58,7 @@ pub record IsNo (text printed : List ℕ) : Type 0 where
   pub round : RoundParts
   pub fault : CheckFault
   pub read : IsReading text (Ok round)
-  pub first : IsFirstFailure greedy round.instance.shape round.matching.places.items round.prices fault
+  pub first : IsFirstFailure (order Greedy) round.instance.shape round.matching.places.items round.prices fault
   pub is : printed ≡ fault_text round.instance fault
 
 -- what is told of a text that was not read

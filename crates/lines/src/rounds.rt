@@ -1,7 +1,8 @@
 //! What the lines on round files print.
 
 ghost use Rattle.std.specs.Prelude.{◌≡◌, ℕ, List, ◌∷◌, ◌++◌, flat_map, IfOk, OnOk, string_bytes, decimal};
-ghost use Rattle.spa.specs.Order.{greedy};
+ghost use Rattle.spa.specs.declared.aim.Aim.TheVariants.{Greedy};
+ghost use Rattle.spa.specs.Order.{order};
 ghost use Rattle.spa.specs.Matched.{HasPlaces};
 ghost use Rattle.verdict.specs.Verdict.{IsFirstFailure};
 ghost use Rattle.lines.specs.Rounds.{best_text, fault_text, IsSolved, IsChecked};
@@ -9,10 +10,9 @@ ghost use Rattle.lines.specs.Rounds.{best_text, fault_text, IsSolved, IsChecked}
 use intake::{RoundFault, RoundParts, read_round, write_round};
 use rolls::Refusal;
 use solver::solve;
-use spa::profile;
+use spa::{Aim, profile};
 use std::alloc::{AllocError, Global};
 use std::fmt::Write;
-use std::io;
 use verdict::{CheckFault, check};
 
 /// Why a line prints no result.
@@ -38,22 +38,6 @@ impl From<AllocError> for Trouble {
     }
 }
 
-impl From<io::Error> for Trouble {
-    ghost use Rattle.std.specs.Prelude.{◌≡◌, ◌⊎◌};
-    ghost use Rattle.rolls.specs.declared.refusal.Refusal.TheVariants.{Memory, Storage};
-    ghost use Rattle.lines.specs.declared.rounds.Trouble.TheVariants.{Refused};
-
-    ghost from_gives = { λ _ t. (t ≡ Refused Memory) ⊎ (t ≡ Refused Storage) };
-
-    fn from(error: io::Error) -> Trouble {
-        if error.kind() == io::ErrorKind::OutOfMemory {
-            Trouble::Refused(Refusal::Memory)
-        } else {
-            Trouble::Refused(Refusal::Storage)
-        }
-    }
-}
-
 impl From<RoundFault> for Trouble {
     ghost use Rattle.std.specs.Prelude.{◌≡◌};
     ghost use Rattle.lines.specs.Rounds.{trouble_of};
@@ -75,7 +59,7 @@ pub fn solved(alloc: Global, text: &[u8]) -> Result<String, Trouble>
 {
     let parts = read_round(alloc, text)?;
     parts.instance.fit();
-    let solved = solve(alloc, &parts.instance)?;
+    let solved = solve(alloc, &parts.instance, Aim::Greedy)?;
     Ok(write_round(
         alloc,
         &parts.instance,
@@ -88,7 +72,7 @@ pub fn checked(alloc: Global, text: &[u8]) -> Result<String, Trouble>
     ensures { IsChecked text.now result }
 {
     let parts = read_round(alloc, text)?;
-    match check(&parts.instance, &parts.matching, &parts.prices) {
+    match check(&parts.instance, Aim::Greedy, &parts.matching, &parts.prices) {
         Ok(()) => Ok(best(alloc, &parts)?),
         Err(fault) => Err(Trouble::Failed(failed(alloc, &parts, fault)?)),
     }
@@ -120,7 +104,7 @@ fn best(alloc: Global, parts: &RoundParts) -> Result<String, AllocError>
 
 /// What is printed of a check that failed: the number of the condition, and the first uncovered student and place.
 fn failed(alloc: Global, parts: &RoundParts, fault: CheckFault) -> Result<String, AllocError>
-    requires { IsFirstFailure greedy parts.now.instance.shape parts.now.matching.places.items parts.now.prices fault }
+    requires { IsFirstFailure (order Greedy) parts.now.instance.shape parts.now.matching.places.items parts.now.prices fault }
     ensures { IfOk result (λ text. string_bytes text ≡ fault_text parts.now.instance fault) }
 {
     parts.instance.fit();

@@ -5,6 +5,7 @@ use Rattle.std.specs.Cmp.{second_so}
 use Rattle.std.specs.Option.{option_map_or}
 use Rattle.std.specs.List.{AllByRecursion}
 use Rattle.std.proofs.lemmas.Bool.Decides.{nat_tests}
+use Rattle.spa.specs.declared.TheConstants.{RANKS}
 use Rattle.rolls.specs.declared.rounds.Round.{Round}
 use Rattle.rolls.specs.declared.request.Plain.TheVariants.{PutList, DropList, ReopenRound}
 use Rattle.rolls.specs.State.{State, has_project, has_student, round_of, last_round, round_is_open}
@@ -23,8 +24,8 @@ open_found (Some r) h = refl
 pub open_round : (o : State) → round_is_open o ≡ true → is_some (round_of o (last_round o)) ≡ true
 open_round o h = open_found (round_of o (last_round o)) h
 
-few : (n : ℕ) → (nat_le 1 n && nat_le n 8) ≡ true → n ≤ 8
-few n h = let low = second_so (nat_le 1 n) (nat_le n 8) h in grind (arith, nat_tests)
+few : (n : ℕ) → (nat_le 1 n && nat_le n RANKS) ≡ true → n ≤ RANKS
+few n h = let low = second_so (nat_le 1 n) (nat_le n RANKS) h in grind (arith, nat_tests)
 
 one_or_more : (n : ℕ) → (n == 0) ≡ false → 1 ≤ n
 one_or_more zero h = cc
@@ -40,8 +41,8 @@ module _ (o : State) (student : List ℕ) (choices : List (List ℕ)) (none : pl
   pub list_student : has_student o student ≡ true
   list_student = not_false (has_student o student) passed.1.0
 
-  pub list_few : length choices ≤ 8
-  list_few = few (length choices) (not_false (nat_le 1 (length choices) && nat_le (length choices) 8) passed.1.1.1.0)
+  pub list_few : length choices ≤ RANKS
+  list_few = few (length choices) (not_false (nat_le 1 (length choices) && nat_le (length choices) RANKS) passed.1.1.1.0)
 
   pub list_known : AllByRecursion (λ p. has_project o p ≡ true) choices
   list_known = choices_known o [] choices passed.1.1.1.1

@@ -3,7 +3,9 @@ use Rattle.std.specs.Prelude.{ℕ, Bool, false, not, ◌&&◌, ◌==◌, nat_lt,
 use Rattle.std.specs.List.{list_any}
 use Rattle.std.specs.Option.{option_map_or}
 use Rattle.std.specs.Str.{bytes_eq}
+use Rattle.spa.specs.declared.TheConstants.{RANKS, MOST_SUPERVISORS, MOST_PROJECTS, MOST_STUDENTS, MOST_PLACES}
 use Rattle.spa.specs.Text.{is_code, is_label}
+use Rattle.rolls.specs.declared.TheConstants.{MOST_ROUNDS, MOST_IMPORTS, MOST_IMPORT_BYTES}
 use Rattle.rolls.specs.declared.import.ImportKind.{ImportKind}
 use Rattle.rolls.specs.Kinds.{same_kind}
 use Rattle.rolls.specs.declared.refusal.Refusal.{Refusal}
@@ -28,9 +30,9 @@ abbrev pub supervisor_tests : State → List ℕ → List ℕ → ℕ → List (
 supervisor_tests o code label quota =
     (not (is_code code), no.Code)
     ∷ (not (is_label label), no.Label)
-    ∷ (nat_lt 500 quota, no.Quota)
+    ∷ (nat_lt MOST_PLACES quota, no.Quota)
     ∷ (nat_lt quota (placed_with_supervisor o code), no.BelowPlaced)
-    ∷ (not (has_supervisor o code) && nat_le 100 (length o.supervisors), no.RollFull)
+    ∷ (not (has_supervisor o code) && nat_le MOST_SUPERVISORS (length o.supervisors), no.RollFull)
     ∷ []
 
 -- what a put of a project is judged by
@@ -39,11 +41,11 @@ project_tests o code label supervisor quota =
     (not (is_code code), no.Code)
     ∷ (not (is_code supervisor), no.Code)
     ∷ (not (is_label label), no.Label)
-    ∷ (nat_lt 500 quota, no.Quota)
+    ∷ (nat_lt MOST_PLACES quota, no.Quota)
     ∷ (not (has_supervisor o supervisor), no.UnknownSupervisor)
     ∷ (is_moved o code supervisor, no.SupervisorFixed)
     ∷ (nat_lt quota (placed_in_project o code), no.BelowPlaced)
-    ∷ (not (has_project o code) && nat_le 400 (length o.projects), no.RollFull)
+    ∷ (not (has_project o code) && nat_le MOST_PROJECTS (length o.projects), no.RollFull)
     ∷ []
 
 -- what a put of a student is judged by
@@ -51,14 +53,14 @@ abbrev pub student_tests : State → List ℕ → List ℕ → List (Bool × Ref
 student_tests o code label =
     (not (is_code code), no.Code)
     ∷ (not (is_label label), no.Label)
-    ∷ (not (has_student o code) && nat_le 500 (length o.students), no.RollFull)
+    ∷ (not (has_student o code) && nat_le MOST_STUDENTS (length o.students), no.RollFull)
     ∷ []
 
 -- what an opening of a round is judged by
 abbrev pub opening_tests : State → List (Bool × Refusal)
 opening_tests o =
     (round_is_open o, no.RoundIsOpen)
-    ∷ (nat_le 12 (last_round o), no.RoundsFull)
+    ∷ (nat_le MOST_ROUNDS (last_round o), no.RoundsFull)
     ∷ []
 
 -- what the choices of a list are judged by, each in turn, after those that stand before them
@@ -75,7 +77,7 @@ list_tests o student choices =
     (not (round_is_open o), no.NoRoundOpen)
     ∷ (not (has_student o student), no.UnknownStudent)
     ∷ (is_placed o student, no.AlreadyPlaced)
-    ∷ (not (nat_le 1 (length choices) && nat_le (length choices) 8), no.ListLength)
+    ∷ (not (nat_le 1 (length choices) && nat_le (length choices) RANKS), no.ListLength)
     ∷ choice_tests o [] choices
 
 -- what a drop of a list is judged by
@@ -109,9 +111,9 @@ is_other_import o id kind bytes = option_map_or (λ i. not (same_kind kind i.kin
 abbrev pub import_tests : State → List ℕ → ImportKind → List ℕ → List (Bool × Refusal)
 import_tests o id kind bytes =
     (not (is_code id), no.Code)
-    ∷ (nat_lt 65536 (length bytes), no.TooLarge)
+    ∷ (nat_lt MOST_IMPORT_BYTES (length bytes), no.TooLarge)
     ∷ (is_other_import o id kind bytes, no.ImportIdUsed)
-    ∷ (not (has_import o id) && nat_le 200 (length o.imports), no.RollFull)
+    ∷ (not (has_import o id) && nat_le MOST_IMPORTS (length o.imports), no.RollFull)
     ∷ []
 
 -- the first refusal of a plain request

@@ -1,12 +1,14 @@
--- Comparing the total weights of two matchings, one of them greedy maximum.
+-- Comparing the total weights of two matchings, one of them best.
 use Rattle.std.proofs.Common.{◌≡◌, ℕ, ◌<◌, ◌<ℤ◌, ℤ, ◌∙◌, sym, subst, arith, List}
-use Rattle.spa.specs.Order.{greedy, IsSettled}
+use Rattle.spa.specs.declared.aim.Aim.{Aim}
+use Rattle.spa.specs.Order.{Precedes, as_read, order, IsSettled}
+use Rattle.spa.specs.Reading.{read_alike}
 use Rattle.spa.specs.Shape.{Shape}
-use Rattle.spa.specs.Matching.{Pair, IsBest, IsMatching, weight_row}
+use Rattle.spa.specs.Matching.{Pair, IsUnbeaten, IsMatching, weight_row}
 use Rattle.spa.specs.declared.TheConstants.{PLACES}
 
 -- rows with the same first places come before one another alike
-pub moved : (v w x y : ℕ → ℤ) → ((t : ℕ) → t < PLACES → v t ≡ w t) → ((t : ℕ) → t < PLACES → x t ≡ y t) → greedy v x → greedy w y
+pub moved : (v w x y : ℕ → ℤ) → ((t : ℕ) → t < PLACES → v t ≡ w t) → ((t : ℕ) → t < PLACES → x t ≡ y t) → Precedes PLACES v x → Precedes PLACES w y
 moved v w x y e f p =
     let a : v p.place ≡ w p.place = e p.place p.in_range in
     let b : x p.place ≡ y p.place = f p.place p.in_range in
@@ -20,9 +22,13 @@ moved v w x y e f p =
     below : (k : ℕ) → k < p.place → k < PLACES
     below k h = let r = p.in_range in omega (arith, h, r)
 
+-- the same by an aim
+pub moved_by : (aim : Aim) (v w x y : ℕ → ℤ) → ((t : ℕ) → t < PLACES → v t ≡ w t) → ((t : ℕ) → t < PLACES → x t ≡ y t) → order aim v x → order aim w y
+moved_by aim v w x y e f = moved (as_read aim v) (as_read aim w) (as_read aim x) (as_read aim y) (read_alike aim v w e) (read_alike aim x y f)
+
 -- what weighs no less than a best matching is best
-pub also_best : IsSettled greedy → (i : Shape) (M N : List Pair) → IsMatching i M → IsBest greedy i N → ¬ greedy (weight_row i M) (weight_row i N) → IsBest greedy i M
-also_best order i M N matching best no_less = record {
+pub also_best : (aim : Aim) → IsSettled (order aim) → (i : Shape) (M N : List Pair) → IsMatching i M → IsUnbeaten (order aim) i N → ¬ order aim (weight_row i M) (weight_row i N) → IsUnbeaten (order aim) i M
+also_best aim settled i M N matching best no_less = record {
   matching = matching;
-  unbeaten = λ L m. order.goes_on (weight_row i L) (weight_row i N) (weight_row i M) (best.unbeaten L m) no_less;
+  unbeaten = λ L m. settled.goes_on (weight_row i L) (weight_row i N) (weight_row i M) (best.unbeaten L m) no_less;
 }

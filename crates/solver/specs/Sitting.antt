@@ -1,9 +1,12 @@
--- What callers see of a session: the students admitted so far with their lists, and the relaxations.
+-- What callers see of a session: its aim, the students admitted so far with their lists, and the relaxations.
 use Rattle.std.specs.Prelude.{◌≡◌, ℕ, ◌+◌, ◌*◌, ◌≤◌, ◌++◌, ◌∷◌, [], List, length, sum_by}
 use Rattle.spa.specs.Shape.{Shape}
+use Rattle.spa.specs.declared.aim.Aim.{Aim}
 
 -- the value of a session
 pub record Sitting : Type 0 where
+  -- which of the largest matchings is best
+  pub aim : Aim
   -- the rolls, and the lists admitted so far, by position
   pub shape : Shape
   -- the relaxations since the start
@@ -31,6 +34,7 @@ most_relaxations i = (node_count i + 1) * arc_count i
 
 -- a student was admitted with this list
 pub record IsAdmitted (old new : Sitting) (list : List ℕ) (relaxations : ℕ) : Type 0 where
+  pub aim : new.aim ≡ old.aim
   pub shape : new.shape ≡ with_list old.shape list
   pub counted : new.steps ≡ old.steps + relaxations
   pub compared : length list ≤ relaxations

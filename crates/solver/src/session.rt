@@ -3,8 +3,9 @@
 
 ghost use Rattle.std.specs.Prelude.{◌≡◌, ◌≢◌, ℕ, ◌<◌, ◌≤◌, List, length, slice_index, All, AllPairs, IfOk, OnErr};
 ghost use Rattle.spa.specs.declared.TheConstants.{MOST_SUPERVISORS, MOST_PROJECTS, MOST_STUDENTS, MOST_PLACES, RANKS};
+ghost use Rattle.spa.specs.declared.aim.Aim.{Aim};
 ghost use Rattle.spa.specs.Shape.{IsSound};
-ghost use Rattle.spa.specs.Matching.{Pair, IsGreedyMaximum, profile};
+ghost use Rattle.spa.specs.Matching.{Pair, IsBest, profile};
 ghost use Rattle.spa.specs.Matched.{pairs, HasPlaces};
 ghost use Rattle.network.specs.Seen.{shape_of};
 ghost use Rattle.solver.specs.Sitting.{nobody, IsAdmitted};
@@ -13,16 +14,16 @@ ghost use Rattle.solver.specs.Kept.{IsKept};
 
 use crate::worths::admit_weighed;
 use network::{Admitted, Network};
-use spa::{Lex, RANKS, lex_law, order_law};
+use spa::{Aim, Lex, RANKS, lex_law, order_law};
 use std::alloc::{AllocError, Global};
 use std::marker::Model;
 
-/// A law with nothing to do: the places of a session's network stand for a greedy maximum matching.
+/// A law with nothing to do: the places of a network whose worths are weights, as an aim reads them, stand for a matching
+/// that is best by the aim.
 fn best(network: &Network<Lex>)
-    requires weighed { IsOf (shape_of network.now) network.now }
     requires sound { IsSound (shape_of network.now) }
     ensures places { HasPlaces (shape_of network.now) network.now.places }
-    ensures greedy_maximum { IsGreedyMaximum (shape_of network.now) (pairs (shape_of network.now) network.now.places) }
+    ensures best { (aim : Aim) → IsOf aim (shape_of network.now) network.now → IsBest aim (shape_of network.now) (pairs (shape_of network.now) network.now.places) }
 {
     lex_law();
     order_law();
@@ -31,7 +32,7 @@ fn best(network: &Network<Lex>)
 
 /// How many students have a place.
 fn placed(network: &Network<Lex>, students: usize) -> u32
-    requires kept { IsKept network.now students }
+    requires kept { (aim : Aim) × IsKept aim network.now students }
     requires places { HasPlaces (shape_of network.now) network.now.places }
     ensures count { result ≡ length (pairs (shape_of network.now) network.now.places) }
     ensures few { result ≤ students }
@@ -47,7 +48,7 @@ fn placed(network: &Network<Lex>, students: usize) -> u32
 
 /// How many students have place 1 of their lists and so on.
 fn ranked(network: &Network<Lex>, students: usize) -> [u32; RANKS]
-    requires kept { IsKept network.now students }
+    requires kept { (aim : Aim) × IsKept aim network.now students }
     requires places { HasPlaces (shape_of network.now) network.now.places }
     ensures profile { (k : ℕ) → k < RANKS → slice_index result k ≡ profile (shape_of network.now) (pairs (shape_of network.now) network.now.places) k }
     ensures few { (k : ℕ) → k < RANKS → slice_index result k ≤ students }
@@ -62,9 +63,10 @@ fn ranked(network: &Network<Lex>, students: usize) -> [u32; RANKS]
     counts
 }
 
-/// Rolls, and the students admitted so far, with a greedy maximum matching of their lists.
+/// Rolls, and the students admitted so far, with a matching of their lists that is best by the aim of the session.
 #[derive(Drop)]
 pub struct Session {
+    aim: Aim,
     network: Network<Lex>,
     students: usize,
     // Room for a list with its weights, so that an admission asks for none.
@@ -77,30 +79,33 @@ impl Model for Session {
 
     ghost Value = { Sitting };
 
-    ghost view = { λ s. sitting_of s.network };
+    ghost view = { λ s. sitting_of s.aim s.network };
 
-    ghost invariant = { λ s. IsKept s.network s.students };
+    ghost invariant = { λ s. IsKept s.aim s.network s.students };
 }
 
 impl Session {
-    /// The session of supervisors with their quotas, and of projects with supervisor, by position, and quota. Nobody is
-    /// admitted yet. An `Err` is want of memory.
+    /// The session of supervisors with their quotas, and of projects with supervisor, by position, and quota, whose
+    /// matchings are best by an aim. Nobody is admitted yet. An `Err` is want of memory.
     pub fn start(
         alloc: Global,
         supervisors: &[u32],
         projects: &[(usize, u32)],
+        aim: Aim,
     ) -> Result<Session, AllocError>
         requires few_supervisors { length supervisors.now ≤ MOST_SUPERVISORS }
         requires few_projects { length projects.now ≤ MOST_PROJECTS }
         requires offered { All (λ p. p.0 < length supervisors.now) projects.now }
         requires supervisor_quotas { All (λ q. q ≤ MOST_PLACES) supervisors.now }
         requires project_quotas { All (λ p. p.1 ≤ MOST_PLACES) projects.now }
+        ensures aim { IfOk result (λ s. s.aim ≡ aim) }
         ensures shape { IfOk result (λ s. s.shape ≡ nobody supervisors.now projects.now) }
         ensures steps { IfOk result (λ s. s.steps ≡ 0) }
     {
         let network = Network::start(alloc, supervisors, projects)?;
         let entries = Vec::with_capacity(alloc, RANKS)?;
         Ok(Session {
+            aim,
             network,
             students: 0,
             entries,
@@ -118,23 +123,23 @@ impl Session {
         ensures admitted { IfOk result (λ a. IsAdmitted self.old self.new list.now a.relaxations) }
         ensures memory { OnErr result (self.new ≡ self.old) }
     {
-        let admitted = admit_weighed(&mut self.network, &mut self.entries, list)?;
+        let admitted = admit_weighed(self.aim, &mut self.network, &mut self.entries, list)?;
         self.students += 1;
         Ok(admitted)
     }
 
-    /// The law that the students admitted so far have a greedy maximum matching: no matching has more pairs, and none
-    /// with as many has a better profile.
+    /// The law that the students admitted so far have a best matching: no matching has more pairs, and none with as many
+    /// has a better profile by the session's aim.
     pub fn matched(&self)
-        ensures { (M : List Pair) × IsGreedyMaximum self.now.shape M }
+        ensures { (M : List Pair) × IsBest self.now.aim self.now.shape M }
     {
         best(&self.network);
     }
 
-    /// How many pairs a greedy maximum matching of the students admitted so far has. Takes no memory.
+    /// How many pairs a best matching of the students admitted so far has. Takes no memory.
     pub fn size(&self) -> u32
-        ensures size { (M : List Pair) → IsGreedyMaximum self.now.shape M → result ≡ length M }
-        ensures few { result ≤ 500 }
+        ensures size { (M : List Pair) → IsBest self.now.aim self.now.shape M → result ≡ length M }
+        ensures few { result ≤ MOST_STUDENTS }
     {
         best(&self.network);
         placed(&self.network, self.students)
@@ -142,8 +147,8 @@ impl Session {
 
     /// How many pairs of it have rank 1 and so on. Takes no memory.
     pub fn profile(&self) -> [u32; RANKS]
-        ensures profile { (M : List Pair) → IsGreedyMaximum self.now.shape M → (k : ℕ) → k < RANKS → slice_index result k ≡ profile self.now.shape M k }
-        ensures few { (k : ℕ) → k < RANKS → slice_index result k ≤ 500 }
+        ensures profile { (M : List Pair) → IsBest self.now.aim self.now.shape M → (k : ℕ) → k < RANKS → slice_index result k ≡ profile self.now.shape M k }
+        ensures few { (k : ℕ) → k < RANKS → slice_index result k ≤ MOST_STUDENTS }
         ensures whole { length result ≡ RANKS }
     {
         best(&self.network);

@@ -1,16 +1,20 @@
-//! Greedy maximum matchings, with prices that prove them.
+//! Matchings that are best by an aim, with prices that prove them.
 #![tactic(auto)]
 
-ghost use Rattle.std.specs.Prelude.{◌≡◌, ℕ, ◌<◌, length, slice_get, Some, IfOk, IfSome};
-ghost use Rattle.spa.specs.Order.{greedy};
-ghost use Rattle.spa.specs.Matching.{IsGreedyMaximum};
+ghost use Rattle.std.specs.Prelude.{◌≡◌, ℕ, ◌<◌, ◌≤◌, length, slice_get, Some, IfOk, IfSome};
+ghost use Rattle.spa.specs.Order.{order};
+ghost use Rattle.spa.specs.Matching.{IsBest};
 ghost use Rattle.spa.specs.Matched.{pairs};
+ghost use Rattle.spa.specs.declared.TheConstants.{PLACES};
+ghost use Rattle.spa.specs.Places.{lex_ops};
+ghost use Rattle.network.specs.declared.TheConstants.{LARGEST_PRICE};
+ghost use Rattle.network.specs.Seen.{price};
 ghost use Rattle.verdict.specs.Verdict.{IsProvedBest};
 ghost use Rattle.solver.specs.Solved.{IsOf, AreRowsOf, ArePricesOf};
 
 use crate::worths::{admit_weighed, numbers};
 use network::Network;
-use spa::{Instance, Lex, Matching, PLACES, RANKS, lex_law, order_law};
+use spa::{Aim, Instance, Lex, Matching, PLACES, RANKS, lex_law, order_law};
 use std::alloc::{AllocError, Global};
 use verdict::{Prices, verdict_law};
 
@@ -21,14 +25,15 @@ pub struct Solved {
     pub prices: Prices,
 }
 
-/// A network of the instance's rolls that has admitted all its students, with the weight of each pair as its worth.
-fn admit_all(alloc: Global, instance: &Instance) -> Result<Network<Lex>, AllocError>
-    ensures { IfOk result (λ n. IsOf instance.now.shape n) }
+/// A network of the instance's rolls that has admitted all its students, with the weight of each pair, as the aim reads
+/// it, as its worth.
+fn admit_all(alloc: Global, instance: &Instance, aim: Aim) -> Result<Network<Lex>, AllocError>
+    ensures { IfOk result (λ n. IsOf aim instance.now.shape n) }
 {
     let mut network = Network::start(alloc, instance.supervisors(), instance.projects())?;
     let mut entries = Vec::with_capacity(alloc, RANKS)?;
     for student in 0..instance.student_count() {
-        admit_weighed(&mut network, &mut entries, instance.list(student))?;
+        admit_weighed(aim, &mut network, &mut entries, instance.list(student))?;
     }
     Ok(network)
 }
@@ -62,43 +67,44 @@ fn matching_of(
     Ok(Matching { places })
 }
 
-/// The numbers of worths.
-fn rows(alloc: Global, worths: &[Lex]) -> Result<Vec<[i64; PLACES]>, AllocError>
-    ensures { IfOk result (λ v. AreRowsOf v.items worths.now) }
+/// The numbers of worths, as the aim reads them.
+fn rows(alloc: Global, aim: Aim, worths: &[Lex]) -> Result<Vec<[i64; PLACES]>, AllocError>
+    requires { (n : ℕ) → (lex_ops PLACES).span (price (lex_ops PLACES) worths.now n) ≤ LARGEST_PRICE }
+    ensures { IfOk result (λ v. AreRowsOf aim v.items worths.now) }
 {
     let mut rows = Vec::with_capacity(alloc, worths.len())?;
     for worth in worths {
-        rows.push(numbers(worth))?;
+        rows.push(numbers(aim, worth))?;
     }
     Ok(rows)
 }
 
-/// The prices of the network as rows of numbers.
-fn prices_of(alloc: Global, network: &Network<Lex>) -> Result<Prices, AllocError>
-    ensures { IfOk result (λ p. ArePricesOf network.now p) }
+/// The prices of the network as rows of numbers: size and ranks at their places, whatever the aim.
+fn prices_of(alloc: Global, aim: Aim, network: &Network<Lex>) -> Result<Prices, AllocError>
+    ensures { IfOk result (λ p. ArePricesOf aim network.now p) }
 {
     let (students, projects, supervisors) = network.prices()?;
     Ok(Prices {
-        students: rows(alloc, &students)?,
-        projects: rows(alloc, &projects)?,
-        supervisors: rows(alloc, &supervisors)?,
+        students: rows(alloc, aim, &students)?,
+        projects: rows(alloc, aim, &projects)?,
+        supervisors: rows(alloc, aim, &supervisors)?,
     })
 }
 
-/// A greedy maximum matching of the instance, and prices that prove it: `verdict::check` accepts them. No matching has
-/// more pairs, and none with as many has a better profile.
+/// A matching of the instance that is best by the aim, and prices that prove it: `verdict::check` accepts them. No
+/// matching has more pairs, and none with as many has a better profile. An `Err` is want of memory.
 ///
-/// It admits the students one by one to a network whose pairs are worth their weights.
-pub fn solve(alloc: Global, instance: &Instance) -> Result<Solved, AllocError>
-    ensures proved { IfOk result (λ s. IsProvedBest greedy instance.now.shape s.matching.places.items s.prices) }
-    ensures greedy_maximum { IfOk result (λ s. IsGreedyMaximum instance.now.shape (pairs instance.now.shape s.matching.places.items)) }
+/// It admits the students one by one to a network whose pairs are worth their weights, as the aim reads them.
+pub fn solve(alloc: Global, instance: &Instance, aim: Aim) -> Result<Solved, AllocError>
+    ensures proved { IfOk result (λ s. IsProvedBest (order aim) instance.now.shape s.matching.places.items s.prices) }
+    ensures best { IfOk result (λ s. IsBest aim instance.now.shape (pairs instance.now.shape s.matching.places.items)) }
 {
     order_law();
     lex_law();
     verdict_law(instance);
-    let network = admit_all(alloc, instance)?;
+    let network = admit_all(alloc, instance, aim)?;
     network.priced();
     let matching = matching_of(alloc, &network, instance.student_count())?;
-    let prices = prices_of(alloc, &network)?;
+    let prices = prices_of(alloc, aim, &network)?;
     Ok(Solved { matching, prices })
 }

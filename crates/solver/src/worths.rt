@@ -1,7 +1,10 @@
-//! What a pair is worth, and lists of projects with their worths.
+//! What a pair is worth by an aim, lists of projects with their worths, and the numbers of worths.
 #![tactic(auto)]
 
-ghost use Rattle.std.specs.Prelude.{◌≡◌, ℕ, ◌<◌, ◌≤◌, length, All, IfOk, OnOk, OnErr};
+ghost use Rattle.std.specs.Prelude.{◌≡◌, ℕ, ◌<◌, ◌≤◌, ◌^◌, length, All, IfOk, OnOk, OnErr};
+ghost use Rattle.spa.specs.declared.aim.Aim.{Aim};
+ghost use Rattle.spa.specs.declared.aim.Aim.TheVariants.{Generous};
+ghost use Rattle.spa.specs.Order.{as_read};
 ghost use Rattle.spa.specs.Row.{at};
 ghost use Rattle.spa.specs.Places.{lex_ops, row};
 ghost use Rattle.spa.specs.declared.TheConstants.{MOST_STUDENTS, RANKS, PLACES};
@@ -9,36 +12,41 @@ ghost use Rattle.network.specs.Seen.{IsAdmission};
 ghost use Rattle.solver.specs.Weights.{worth_of, weighed};
 
 use network::{Admitted, Network};
-use spa::{Lex, PLACES, lex_law};
+use spa::{Aim, Lex, PLACES, lex_law};
 use std::alloc::{AllocError, Global};
 
-/// The worth of a pair of this rank: one for the size, and one at the rank.
-pub(crate) fn worth_of(rank: usize) -> Lex
+/// The worth of a pair of this rank, which is its weight as the aim reads it: one for the size, and for the rank one more
+/// from the front on, or one less from the back on.
+pub(crate) fn worth_of(aim: Aim, rank: usize) -> Lex
     requires first { 1 ≤ rank }
     requires last { rank ≤ RANKS }
-    ensures { result ≡ worth_of rank }
+    ensures { result ≡ worth_of aim rank }
 {
     let mut row = [0; PLACES];
     row[0] = 1;
-    row[rank] = 1;
+    match aim {
+        Aim::Greedy => row[rank] = 1,
+        Aim::Generous => row[PLACES - rank] = -1,
+    }
     Lex(row)
 }
 
 /// A list of projects, each with its worth.
-fn weigh(list: &[usize], entries: &mut Vec<(usize, Lex)>) -> Result<(), AllocError>
+fn weigh(aim: Aim, list: &[usize], entries: &mut Vec<(usize, Lex)>) -> Result<(), AllocError>
     requires { length list.now ≤ RANKS }
-    ensures { OnOk result (entries.new.items ≡ weighed list.now) }
+    ensures { OnOk result (entries.new.items ≡ weighed aim list.now) }
 {
     entries.clear();
     for before in 0..list.len() {
-        entries.push((list[before], worth_of(before + 1)))?;
+        entries.push((list[before], worth_of(aim, before + 1)))?;
     }
     Ok(())
 }
 
-/// One more student is admitted to a network, with the weights of the pairs of a list as their worths. The entries are
-/// room to work in.
+/// One more student is admitted to a network, with the weights of the pairs of a list, as the aim reads them, as their
+/// worths. The entries are room to work in.
 pub(crate) fn admit_weighed(
+    aim: Aim,
     network: &mut Network<Lex>,
     entries: &mut Vec<(usize, Lex)>,
     list: &[usize],
@@ -46,17 +54,35 @@ pub(crate) fn admit_weighed(
     requires few { length network.old.lists < MOST_STUDENTS }
     requires short { length list.now ≤ RANKS }
     requires known { All (λ p. p < length network.old.projects) list.now }
-    ensures admitted { IfOk result (λ a. IsAdmission (lex_ops PLACES) network.old network.new (weighed list.now) a.placed a.relaxations) }
+    ensures admitted { IfOk result (λ a. IsAdmission (lex_ops PLACES) network.old network.new (weighed aim list.now) a.placed a.relaxations) }
     ensures memory { OnErr result (network.new ≡ network.old) }
 {
     lex_law();
-    weigh(list, entries)?;
+    weigh(aim, list, entries)?;
     network.admit(entries)
 }
 
-/// The numbers of a worth.
-pub(crate) fn numbers(worth: &Lex) -> [i64; PLACES]
-    ensures { (t : ℕ) → at result t ≡ row PLACES worth.now t }
+/// The numbers of a worth, as the aim reads them: so they stand at their places again.
+pub(crate) fn numbers(aim: Aim, worth: &Lex) -> [i64; PLACES]
+    requires { (lex_ops PLACES).span worth.now < 2 ^ 62 }
+    ensures { (t : ℕ) → t < PLACES → at result t ≡ as_read aim (row PLACES worth.now) t }
 {
-    worth.0
+    match aim {
+        Aim::Greedy => worth.0,
+        Aim::Generous => turned(worth),
+    }
+}
+
+/// The numbers of a worth, as a generous aim reads them.
+fn turned(worth: &Lex) -> [i64; PLACES]
+    requires { (lex_ops PLACES).span worth.now < 2 ^ 62 }
+    ensures { (t : ℕ) → t < PLACES → at result t ≡ as_read Generous (row PLACES worth.now) t }
+{
+    lex_law();
+    let mut numbers = [0; PLACES];
+    numbers[0] = worth.0[0];
+    for k in 1..PLACES {
+        numbers[k] = -worth.0[PLACES - k];
+    }
+    numbers
 }

@@ -4,11 +4,12 @@ use Rattle.std.specs.List.{prefix_len}
 use Rattle.std.specs.Option.{option_map_or}
 use Rattle.std.specs.Str.{bytes_eq}
 use Rattle.spa.specs.declared.TheConstants.{RANKS}
-use Rattle.spa.specs.Order.{Precedes}
+use Rattle.spa.specs.declared.aim.Aim.{Aim}
+use Rattle.spa.specs.Order.{Precedes, ranks_read}
 use Rattle.spa.specs.Instance.{Instance, Supervisor, Project, Student}
 use Rattle.spa.specs.Codes.{code_at}
 use Rattle.spa.specs.Named.{Named, IsFit, instance_of}
-use Rattle.spa.specs.Matching.{Pair, IsMatching, IsGreedyMaximum, profile}
+use Rattle.spa.specs.Matching.{Pair, IsMatching, IsBest, profile}
 use Rattle.spa.specs.Matched.{pairs, HasPlaces}
 
 -- a student's and a project's code
@@ -47,12 +48,12 @@ rank_by_codes l e = 1 + prefix_len (λ q. not (bytes_eq q e.project)) (choices_o
 abbrev pub profile_by_codes : Instance → List CodePair → ℕ → ℕ
 profile_by_codes l M k = count_by (λ e. rank_by_codes l e == k + 1) M
 
--- no matching is larger, and none of the same size has a profile that comes after
-pub record IsGreedyMaximumByCodes (l : Instance) (M : List CodePair) : Type 0 where
+-- no matching is larger, and none of the same size has a profile that comes after, as the aim reads profiles
+pub record IsBestByCodes (aim : Aim) (l : Instance) (M : List CodePair) : Type 0 where
   pub matching : IsMatchingByCodes l M
   pub largest : (N : List CodePair) → IsMatchingByCodes l N → length N ≤ length M
   pub first : (N : List CodePair) → IsMatchingByCodes l N → length N ≡ length M
-      → ¬ Precedes RANKS (λ k. pos (profile_by_codes l M k)) (λ k. pos (profile_by_codes l N k))
+      → ¬ Precedes RANKS (ranks_read aim (λ k. pos (profile_by_codes l M k))) (ranks_read aim (λ k. pos (profile_by_codes l N k)))
 
 -- the codes of a pair
 abbrev pub codes_of : Named → Pair → CodePair
@@ -70,8 +71,8 @@ pub record SaysTheSame (i : Named) : Type 0 where
   pub to_codes : (M : List Pair) → IsMatching i.shape M → IsMatchingByCodes (instance_of i) (map (codes_of i) M)
   pub from_codes : (N : List CodePair) → IsMatchingByCodes (instance_of i) N → (M : List Pair) × IsMatching i.shape M × (map (codes_of i) M ≡ N)
   pub profiles : (M : List Pair) → IsMatching i.shape M → (k : ℕ) → profile_by_codes (instance_of i) (map (codes_of i) M) k ≡ profile i.shape M k
-  pub greedy_to_codes : (M : List Pair) → IsGreedyMaximum i.shape M → IsGreedyMaximumByCodes (instance_of i) (map (codes_of i) M)
-  pub greedy_from_codes : (N : List CodePair) → IsGreedyMaximumByCodes (instance_of i) N → (M : List Pair) × IsGreedyMaximum i.shape M × (map (codes_of i) M ≡ N)
+  pub best_to_codes : (aim : Aim) (M : List Pair) → IsBest aim i.shape M → IsBestByCodes aim (instance_of i) (map (codes_of i) M)
+  pub best_from_codes : (aim : Aim) (N : List CodePair) → IsBestByCodes aim (instance_of i) N → (M : List Pair) × IsBest aim i.shape M × (map (codes_of i) M ≡ N)
   pub same_pairs : (ks : List (Option ℕ)) → HasPlaces i.shape ks → map (codes_of i) (pairs i.shape ks) ≡ taken (instance_of i).students ks
 
 -- so it is of each instance

@@ -2,7 +2,8 @@
 use Rattle.std.specs.Prelude.{◌≡◌, ℕ, zero, suc, ◌+◌, ◌≤◌, ◌==◌, not, List, [], ◌∷◌, length, count_by, All, Contains, pos, ℤ, Option, Some, None, cond}
 use Rattle.std.specs.List.{prefix_len}
 use Rattle.spa.specs.declared.TheConstants.{RANKS}
-use Rattle.spa.specs.Order.{RowOrder, Precedes}
+use Rattle.spa.specs.declared.aim.Aim.{Aim}
+use Rattle.spa.specs.Order.{RowOrder, Precedes, ranks_read}
 use Rattle.spa.specs.Shape.{Shape, list_of, choice_at, supervisor_of, project_quota, supervisor_quota}
 
 -- a student and a project
@@ -45,16 +46,17 @@ abbrev pub weight_row : Shape → List Pair → ℕ → ℤ
 weight_row i M t = pos (total_weight i M t)
 
 -- a matching whose total weight comes before that of no other matching
-pub record IsBest (order : RowOrder) (i : Shape) (M : List Pair) : Type 0 where
+pub record IsUnbeaten (order : RowOrder) (i : Shape) (M : List Pair) : Type 0 where
   pub matching : IsMatching i M
   pub unbeaten : (N : List Pair) → IsMatching i N → ¬ order (weight_row i M) (weight_row i N)
 
--- no matching is larger, and none of the same size has a profile that comes after
-pub record IsGreedyMaximum (i : Shape) (M : List Pair) : Type 0 where
+-- no matching is larger, and none of the same size has a profile that comes after, as the aim reads profiles: a greedy
+-- maximum matching by the greedy aim, a generous maximum one by the generous
+pub record IsBest (aim : Aim) (i : Shape) (M : List Pair) : Type 0 where
   pub matching : IsMatching i M
   pub largest : (N : List Pair) → IsMatching i N → length N ≤ length M
   pub first : (N : List Pair) → IsMatching i N → length N ≡ length M
-      → ¬ Precedes RANKS (λ k. pos (profile i M k)) (λ k. pos (profile i N k))
+      → ¬ Precedes RANKS (ranks_read aim (λ k. pos (profile i M k))) (ranks_read aim (λ k. pos (profile i N k)))
 
 -- the pairs of places in lists, from the student n on
 abbrev pub pairs_from : ℕ → List (List ℕ) → List (Option ℕ) → List Pair

@@ -5,17 +5,21 @@
 //!
 //! Promised: `Code::read` and `Label::read` keep exactly the texts that have the form. `Instance::new` answers the
 //! instance that is, by codes, exactly the rolls handed in, or names the first fault. `Matching::fault` is none exactly
-//! for a matching, and `profile` counts its pairs by rank. `Lex` keeps the laws of `Worth`. The functions of `laws`
-//! carry what the crates above rest on: prices bound every matching, and codes say the same as positions.
+//! for a matching; `profile` counts its pairs by rank, and `Matching::counts` by project and by supervisor. `precedes`
+//! compares rows of numbers as an `Aim` reads them; `Lex` and `Generous` keep the laws of `Worth`. The functions of
+//! `laws` carry what the crates above rest on: prices bound every matching, and codes say the same as positions.
 //!
 //! Read on in `specs/Shape.antt`, `specs/Matching.antt` and `specs/Prices.antt`, which speak of positions, then in
 //! `specs/Instance.antt` and `specs/Coded.antt`, which say the same by codes.
 #![tactic(auto)]
 
+mod aim;
 mod code;
 mod codes;
 mod columns;
+mod counts;
 mod fault;
+mod generous;
 mod instance;
 mod label;
 mod laws;
@@ -28,11 +32,14 @@ mod rolls;
 mod text;
 mod worth;
 
+pub use aim::Aim;
 pub use code::Code;
+pub use counts::Counts;
 pub use fault::{InstanceFault, Roll};
+pub use generous::{Generous, generous_law};
 pub use instance::Instance;
 pub use label::Label;
-pub use laws::{code_law, greedy_law, list_law, order_law, place_law, price_law};
+pub use laws::{aim_law, code_law, list_law, order_law, place_law, price_law};
 pub use lex::{Lex, lex_law};
 pub use matching::{MatchFault, Matching, profile, total_weight};
 pub use order::precedes;
@@ -50,6 +57,12 @@ pub const MOST_STUDENTS: usize = 500;
 
 /// The greatest quota of a supervisor or a project.
 pub const MOST_PLACES: u32 = 500;
+
+/// The most bytes of a code.
+pub const MOST_CODE_BYTES: usize = 16;
+
+/// The most bytes of a label.
+pub const MOST_LABEL_BYTES: usize = 200;
 
 /// The longest list, and so the ranks that a pair can have.
 pub const RANKS: usize = 8;

@@ -6,6 +6,7 @@ use Rattle.std.specs.Option.{option_map_or}
 use Rattle.std.specs.List.{AllByRecursion}
 use Rattle.std.proofs.lemmas.Bool.{cases_eq, eq-eqb}
 use Rattle.std.proofs.lemmas.Map.Entries.{option_filter}
+use Rattle.rolls.specs.declared.TheConstants.{MOST_ROUNDS}
 use Rattle.rolls.specs.declared.rounds.Round.{Round}
 use Rattle.rolls.specs.declared.rounds.Listed.{Listed}
 use Rattle.rolls.specs.declared.rounds.Placement.{Placement}
@@ -29,7 +30,7 @@ placement_fits_still o new p h closed lists = record {
 
 -- ---- the next round is opened
 
-pub fit_opened : (o : State) → IsFit o → is_open o (last_round o) ≡ false → last_round o < 12 → IsFit (after_opening o)
+pub fit_opened : (o : State) → IsFit o → is_open o (last_round o) ≡ false → last_round o < MOST_ROUNDS → IsFit (after_opening o)
 fit_opened o fit closed room = fit_with_rounds o (after_opening o).rounds o.placements fit (record {
   numbered = numbered_after_opening o fit.numbered;
   few_rounds = omega (arith, last_after_opening o fit.numbered, room);

@@ -4,6 +4,8 @@ use Rattle.std.specs.Prelude.{◌&&◌, nat_le, nat_lt}
 use Rattle.std.specs.Option.{option_map_or}
 use Rattle.std.specs.Cmp.{first_so, second_so}
 use Rattle.std.proofs.lemmas.Bool.{leb-true, leb-false}
+use Rattle.spa.specs.declared.TheConstants.{RANKS}
+use Rattle.rolls.specs.declared.TheConstants.{MOST_ROUNDS}
 use Rattle.rolls.specs.declared.rounds.Listed.{Listed}
 use Rattle.rolls.specs.declared.rounds.Placement.{Placement}
 use Rattle.rolls.specs.Roll.{put, take_out, same_key}
@@ -43,7 +45,7 @@ student_fit code label o fit none =
 opened_fit : (o : State) → IsFit o → plain_refusal o OpenRound ≡ None → IsFit (after_plain OpenRound o)
 opened_fit o fit none =
     let passed = allowed (opening_tests o) none in
-    fit_opened o fit passed.0 (leb-false 12 (last_round o) passed.1.0)
+    fit_opened o fit passed.0 (leb-false MOST_ROUNDS (last_round o) passed.1.0)
 
 -- who is placed nowhere is not placed before a round
 placed_nowhere : (n : ℕ) (x : Option Placement) → is_some x ≡ false → option_map_or (λ p. nat_lt p.round n) x false ≡ false
@@ -53,12 +55,12 @@ placed_nowhere n (Some p) h = cc
 list_fits : (student : List ℕ) (choices : List (List ℕ)) (o : State) → plain_refusal o (PutList student choices) ≡ None → ListFits o (last_round o) (record { student = student; choices = choices })
 list_fits student choices o none =
     let passed = allowed (list_tests o student choices) none in
-    let size : (nat_le 1 (length choices) && nat_le (length choices) 8) ≡ true = not_false _ passed.1.1.1.0 in
+    let size : (nat_le 1 (length choices) && nat_le (length choices) RANKS) ≡ true = not_false _ passed.1.1.1.0 in
     record {
       student = not_false _ passed.1.0;
       choices = record {
-        some = leb-true 1 (length choices) (first_so (nat_le 1 (length choices)) (nat_le (length choices) 8) size);
-        few = leb-true (length choices) 8 (second_so (nat_le 1 (length choices)) (nat_le (length choices) 8) size);
+        some = leb-true 1 (length choices) (first_so (nat_le 1 (length choices)) (nat_le (length choices) RANKS) size);
+        few = leb-true (length choices) RANKS (second_so (nat_le 1 (length choices)) (nat_le (length choices) RANKS) size);
         distinct = choices_distinct o [] choices passed.1.1.1.1;
       };
       projects = choices_known o [] choices passed.1.1.1.1;

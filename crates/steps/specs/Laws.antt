@@ -1,5 +1,6 @@
 -- What plain requests and imports make of a fit office.
 use Rattle.std.specs.Prelude.{◌≡◌, ◌&&◌, ◌++◌, not, nat_le, false, List, [], ◌∷◌, length, None}
+use Rattle.rolls.specs.declared.TheConstants.{MOST_IMPORTS}
 use Rattle.rolls.specs.declared.request.Plain.{Plain}
 use Rattle.rolls.specs.declared.import.Import.{Import}
 use Rattle.rolls.specs.declared.row.Change.{Change}
@@ -26,7 +27,7 @@ TurnsFollow = (cs ds : List Change) (o m n : State) → Turns cs o m → Turns d
 
 -- a fit office that keeps one import more is fit, where the import fits and there is room for it
 abbrev pub KeepingFits : Type 0
-KeepingFits = (i : Import) (o : State) → IsFit o → ImportFits i → (not (has_import o i.id) && nat_le 200 (length o.imports)) ≡ false → IsFit (with_import i o)
+KeepingFits = (i : Import) (o : State) → IsFit o → ImportFits i → (not (has_import o i.id) && nat_le MOST_IMPORTS (length o.imports)) ≡ false → IsFit (with_import i o)
 
 -- and its row turns the rows
 abbrev pub KeepingTurns : Type 0

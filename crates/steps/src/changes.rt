@@ -1,6 +1,7 @@
 //! Changes of the tables that need a loop.
 
 ghost use Rattle.std.specs.Prelude.{◌≡◌, ◌≤◌, IfOk, length};
+ghost use Rattle.spa.specs.declared.TheConstants.{RANKS};
 ghost use Rattle.steps.specs.Changes as says;
 
 use rolls::{Change, Placement, Row, RowKey, Text};
@@ -16,8 +17,8 @@ pub fn list_changes(
     old: usize,
     new: &[Code],
 ) -> Result<Vec<Change>, AllocError>
-    requires few { old ≤ 8 }
-    requires few_new { length new.now ≤ 8 }
+    requires few { old ≤ RANKS }
+    requires few_new { length new.now ≤ RANKS }
     ensures { IfOk result (λ changes. changes.items ≡ says.list_changes round student.now old new.now) }
 {
     let mut changes = Vec::with_capacity(alloc, old + new.len())?;

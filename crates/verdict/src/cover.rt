@@ -2,7 +2,7 @@
 #![tactic(auto)]
 
 ghost use Rattle.std.specs.Prelude.{◌≡◌, ℕ, ◌<◌, ◌≤◌, ◌↔◌, IsTrue, length, MatchOption, pos};
-ghost use Rattle.spa.specs.Order.{greedy, plus};
+ghost use Rattle.spa.specs.Order.{order, plus};
 ghost use Rattle.spa.specs.Row.{at};
 ghost use Rattle.spa.specs.Shape.{IsPlaceOf, list_of};
 ghost use Rattle.spa.specs.Matching.{weight};
@@ -10,7 +10,7 @@ ghost use Rattle.verdict.specs.Rows.{EachInRange};
 ghost use Rattle.verdict.specs.Verdict.{HasShape, IsUncoveredAt, IsFirstUncovered};
 
 use crate::prices::Prices;
-use spa::{Instance, PLACES, list_law, precedes};
+use spa::{Aim, Instance, PLACES, list_law, precedes};
 
 /// What three prices come to together.
 fn paid(
@@ -42,12 +42,18 @@ fn weight_of(rank: usize) -> [i64; PLACES]
     weight
 }
 
-/// Whether the prices do not cover the student and the project at this place of the list.
-fn is_uncovered(instance: &Instance, prices: &Prices, student: usize, place: usize) -> bool
+/// Whether the prices do not cover the student and the project at this place of the list, by an aim.
+fn is_uncovered(
+    instance: &Instance,
+    aim: Aim,
+    prices: &Prices,
+    student: usize,
+    place: usize,
+) -> bool
     requires shape { HasShape instance.now.shape prices.now }
     requires student { student < length instance.now.shape.students }
     requires listed { IsPlaceOf (list_of instance.now.shape student) place }
-    ensures { IsTrue result ↔ IsUncoveredAt greedy instance.now.shape prices.now student place }
+    ensures { IsTrue result ↔ IsUncoveredAt (order aim) instance.now.shape prices.now student place }
 {
     list_law(instance);
     let project = instance.choice(student, place);
@@ -57,18 +63,23 @@ fn is_uncovered(instance: &Instance, prices: &Prices, student: usize, place: usi
         &prices.projects[project],
         &prices.supervisors[supervisor],
     );
-    precedes(&paid, &weight_of(place))
+    precedes(aim, &paid, &weight_of(place))
 }
 
 /// The first place of the student's list that the prices do not cover.
-fn first_uncovered_place(instance: &Instance, prices: &Prices, student: usize) -> Option<usize>
+fn first_uncovered_place(
+    instance: &Instance,
+    aim: Aim,
+    prices: &Prices,
+    student: usize,
+) -> Option<usize>
     requires shape { HasShape instance.now.shape prices.now }
     requires student { student < length instance.now.shape.students }
-    ensures { MatchOption result ((k : ℕ) → IsPlaceOf (list_of instance.now.shape student) k → ¬ IsUncoveredAt greedy instance.now.shape prices.now student k) (λ k. IsPlaceOf (list_of instance.now.shape student) k × IsUncoveredAt greedy instance.now.shape prices.now student k × ((j : ℕ) → 1 ≤ j → j < k → ¬ IsUncoveredAt greedy instance.now.shape prices.now student j)) }
+    ensures { MatchOption result ((k : ℕ) → IsPlaceOf (list_of instance.now.shape student) k → ¬ IsUncoveredAt (order aim) instance.now.shape prices.now student k) (λ k. IsPlaceOf (list_of instance.now.shape student) k × IsUncoveredAt (order aim) instance.now.shape prices.now student k × ((j : ℕ) → 1 ≤ j → j < k → ¬ IsUncoveredAt (order aim) instance.now.shape prices.now student j)) }
 {
     for before in 0..instance.list(student).len() {
         let place = before + 1;
-        if is_uncovered(instance, prices, student, place) {
+        if is_uncovered(instance, aim, prices, student, place) {
             return Some(place);
         }
     }
@@ -76,12 +87,16 @@ fn first_uncovered_place(instance: &Instance, prices: &Prices, student: usize) -
 }
 
 /// The first student, and the first place of the list, that the prices do not cover.
-pub(crate) fn first_uncovered(instance: &Instance, prices: &Prices) -> Option<(usize, usize)>
+pub(crate) fn first_uncovered(
+    instance: &Instance,
+    aim: Aim,
+    prices: &Prices,
+) -> Option<(usize, usize)>
     requires { HasShape instance.now.shape prices.now }
-    ensures { MatchOption result ((s k : ℕ) → s < length instance.now.shape.students → IsPlaceOf (list_of instance.now.shape s) k → ¬ IsUncoveredAt greedy instance.now.shape prices.now s k) (λ r. IsFirstUncovered greedy instance.now.shape prices.now r.0 r.1) }
+    ensures { MatchOption result ((s k : ℕ) → s < length instance.now.shape.students → IsPlaceOf (list_of instance.now.shape s) k → ¬ IsUncoveredAt (order aim) instance.now.shape prices.now s k) (λ r. IsFirstUncovered (order aim) instance.now.shape prices.now r.0 r.1) }
 {
     for student in 0..instance.student_count() {
-        if let Some(place) = first_uncovered_place(instance, prices, student) {
+        if let Some(place) = first_uncovered_place(instance, aim, prices, student) {
             return Some((student, place));
         }
     }

@@ -1,13 +1,13 @@
 //! Prices of an instance: whether they have its shape, and whether none is below zero.
 #![tactic(auto)]
 
-ghost use Rattle.std.specs.Prelude.{◌↔◌, IsTrue};
-ghost use Rattle.spa.specs.Order.{greedy, none};
+ghost use Rattle.std.specs.Prelude.{◌≡◌, ◌↔◌, IsTrue};
+ghost use Rattle.spa.specs.Order.{order, none};
 ghost use Rattle.spa.specs.Row.{at};
 ghost use Rattle.verdict.specs.Rows.{EachInRange, AllInRange, AreNotBelowZero};
 ghost use Rattle.verdict.specs.Verdict.{HasShape, IsNotBelowZero};
 
-use spa::{Instance, PLACES, precedes};
+use spa::{Aim, Instance, PLACES, precedes};
 
 /// The greatest number that a place of a price may have, and the least but for its sign.
 pub const LIMIT: i64 = 1_000_000;
@@ -44,19 +44,26 @@ fn are_in_range(prices: &[[i64; PLACES]]) -> bool
     true
 }
 
-/// Whether a price comes before zero.
-fn is_below_zero(price: &[i64; PLACES]) -> bool
-    ensures { IsTrue result ↔ greedy (at price.now) none }
+/// The price of nothing: zero.
+fn nothing() -> [i64; PLACES]
+    ensures { at result ≡ none }
 {
-    precedes(price, &[0; PLACES])
+    [0; PLACES]
 }
 
-/// Whether no price comes before zero.
-fn are_not_below_zero(prices: &[[i64; PLACES]]) -> bool
-    ensures { IsTrue result ↔ AreNotBelowZero greedy prices.now }
+/// Whether a price comes before zero by an aim.
+fn is_below_zero(aim: Aim, price: &[i64; PLACES]) -> bool
+    ensures { IsTrue result ↔ order aim (at price.now) none }
+{
+    precedes(aim, price, &nothing())
+}
+
+/// Whether none of these prices comes before zero by an aim.
+fn are_not_below_zero(aim: Aim, prices: &[[i64; PLACES]]) -> bool
+    ensures { IsTrue result ↔ AreNotBelowZero (order aim) prices.now }
 {
     for price in prices {
-        if is_below_zero(price) {
+        if is_below_zero(aim, price) {
             return false;
         }
     }
@@ -75,15 +82,15 @@ pub(crate) fn has_shape(instance: &Instance, prices: &Prices) -> bool
         && are_in_range(&prices.supervisors)
 }
 
-/// Whether no price comes before zero.
-pub(crate) fn is_not_below_zero(prices: &Prices) -> bool
-    ensures { IsTrue result ↔ IsNotBelowZero greedy prices.now }
+/// Whether no price comes before zero by an aim.
+pub(crate) fn is_not_below_zero(aim: Aim, prices: &Prices) -> bool
+    ensures { IsTrue result ↔ IsNotBelowZero (order aim) prices.now }
 {
-    if !are_not_below_zero(&prices.students) {
+    if !are_not_below_zero(aim, &prices.students) {
         return false;
     }
-    if !are_not_below_zero(&prices.projects) {
+    if !are_not_below_zero(aim, &prices.projects) {
         return false;
     }
-    are_not_below_zero(&prices.supervisors)
+    are_not_below_zero(aim, &prices.supervisors)
 }

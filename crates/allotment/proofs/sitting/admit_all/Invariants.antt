@@ -3,8 +3,11 @@ use Rattle.allotment.proofs.sitting.admit_all.Given as goal
 
 -- the first students are admitted
 abbrev pub invariant-loop-student : goal.invariant-loop-student
-invariant-loop-student l = l.session.shape ≡ record {
-  supervisors = l.instance.shape.supervisors;
-  projects = l.instance.shape.projects;
-  students = take l.student l.instance.shape.students;
+invariant-loop-student l = record {
+  admitted : l.session.shape ≡ record {
+    supervisors = l.instance.shape.supervisors;
+    projects = l.instance.shape.projects;
+    students = take l.student l.instance.shape.students;
+  };
+  aim : l.session.aim ≡ l.fn.session.aim;
 }

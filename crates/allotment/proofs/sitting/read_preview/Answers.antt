@@ -1,14 +1,16 @@
 use Rattle.std.proofs.Common.{◌≡◌, ℕ, ◌+◌, List, length, map, refl, sym, ap, subst, ◌∙◌, arith}
 use Rattle.std.proofs.lemmas.List.{length-map}
 use Rattle.spa.specs.declared.TheConstants.{RANKS}
+use Rattle.spa.specs.declared.aim.Aim.{Aim}
+use Rattle.spa.specs.declared.aim.Aim.TheVariants.{Greedy}
 use Rattle.spa.specs.Shape.{Shape}
 use Rattle.spa.specs.Named.{instance_of}
-use Rattle.spa.specs.Matching.{Pair, IsGreedyMaximum, profile}
-use Rattle.spa.specs.Coded.{CodePair, codes_of, profile_by_codes, IsGreedyMaximumByCodes}
+use Rattle.spa.specs.Matching.{Pair, IsBest, profile}
+use Rattle.spa.specs.Coded.{CodePair, codes_of, profile_by_codes, IsBestByCodes}
 use Rattle.rolls.specs.Instances.{round_instance}
 use Rattle.rolls.specs.Closing.{profile_of}
 use Rattle.rolls.specs.declared.request.Reply.TheVariants as reply
-use Rattle.allotment.proofs.SameRound.{choices_same, greedy_same, profile_by}
+use Rattle.allotment.proofs.SameRound.{choices_same, best_same, profile_by}
 use Rattle.office.proofs.Counted.{counted_is}
 use Rattle.allotment.proofs.sitting.read_preview.Goals as goal
 
@@ -17,10 +19,10 @@ returns c = record {
   made = λ o sits.
       let l = instance_of sits.named in
       let M : List Pair = c.matched.ensures.0 in
-      let best : IsGreedyMaximum sits.named.shape M = subst (λ (x : Shape). IsGreedyMaximum x M) (sym sits.here) c.matched.ensures.1 in
+      let best : IsBest Greedy sits.named.shape M = subst (λ (x : Shape). IsBest Greedy x M) (sym sits.here) (subst (λ (aim : Aim). IsBest aim c.args.session.now.shape M) sits.greedy c.matched.ensures.1) in
       let says = c.code_law.ensures sits.named sits.fit in
       let N : List CodePair = map (codes_of sits.named) M in
-      let greedy : IsGreedyMaximumByCodes (round_instance o) N = greedy_same l (round_instance o) sits.same N (says.greedy_to_codes M best) in
+      let greedy : IsBestByCodes Greedy (round_instance o) N = best_same Greedy l (round_instance o) sits.same N (says.best_to_codes Greedy M best) in
       let size : c.size.result ≡ length N = c.size.ensures.size M c.matched.ensures.1 ∙ sym (length-map M (codes_of sits.named)) in
       let ranks : (k : ℕ) → profile sits.named.shape M k ≡ profile_by_codes (round_instance o) N k = λ k.
       sym (says.profiles M best.matching k) ∙ ap (λ (f : List ℕ → List (List ℕ)). profile_by f N k) (choices_same l (round_instance o) sits.same) in

@@ -1,4 +1,5 @@
 use Rattle.std.proofs.Common.{◌≡◌, suc, ◌+◌, ◌-◌, ◌∙◌, arith}
+use Rattle.spa.specs.declared.TheConstants.{RANKS}
 use Rattle.drafts.specs.View.{drafted}
 use Rattle.drafts.proofs.Faults.{handed_on}
 use Rattle.drafts.proofs.Gathered.{gathered_on, gathered_off}
@@ -7,9 +8,9 @@ use Rattle.drafts.proofs.gathering.take_all.Goals as goal
 pub returns-in_err-take_stage-clause-unfit : goal.returns-in_err-take_stage-clause-unfit
 returns-in_err-take_stage-clause-unfit c =
     let stage = c.loop-stage.stage in
-    let left : suc (8 - stage) + stage ≡ 9 = omega (arith, c.loop-stage-test.true) in
-    λ is. c.loop-stage.invariant (suc (8 - stage)) left
-    ∙ gathered_off (drafted c.loop-stage.found) (8 - stage) stage c.args.rows.now (c.take_stage.ensures.unfit (c.in_err-take_stage.was ∙ handed_on c.from_residual.result _ c.from_residual.ensures.1 is))
+    let left : suc (RANKS - stage) + stage ≡ RANKS + 1 = omega (arith, c.loop-stage-test.true) in
+    λ is. c.loop-stage.invariant (suc (RANKS - stage)) left
+    ∙ gathered_off (drafted c.loop-stage.found) (RANKS - stage) stage c.args.rows.now (c.take_stage.ensures.unfit (c.in_err-take_stage.was ∙ handed_on c.from_residual.result _ c.from_residual.ensures.1 is))
 
 pub loop-stage-preserved : goal.loop-stage-preserved
 loop-stage-preserved c =

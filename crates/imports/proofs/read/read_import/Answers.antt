@@ -1,12 +1,7 @@
 use Rattle.std.proofs.Common.{ap, arith, length}
-use Rattle.std.proofs.lemmas.Result.{IfOk-weaker}
-use Rattle.imports.proofs.Requested.{as_many_requests, few_read}
+use Rattle.std.proofs.lemmas.Result.{IfErr-weaker, IfOk-weaker}
+use Rattle.imports.proofs.Requested.{as_many_requests, few_read, within_more}
 use Rattle.imports.proofs.read.read_import.Goals as goal
-
-pub requests_after-requires : goal.requests_after-requires
-requests_after-requires c =
-    let few = few_read c.args.bytes.now c.in_ok-records.records.items c.in_ok-records.ensures in
-    record { numbered = omega (arith, ap length c.as_slice.ensures.value, c.in-Some.ensures.cases.1) }
 
 pub returns-clause-few : goal.returns-clause-few
 returns-clause-few c =
@@ -14,3 +9,8 @@ returns-clause-few c =
     IfOk-weaker c.requests_after.result _ _
     (λ requests read. omega (arith, as_many_requests c.args.kind _ requests.items read, ap length c.as_slice.ensures.value, c.in-Some.ensures.cases.1))
     c.requests_after.ensures.read
+
+pub returns-clause-within : goal.returns-clause-within
+returns-clause-within c =
+    let few = few_read c.args.bytes.now c.in_ok-records.records.items c.in_ok-records.ensures in
+    IfErr-weaker c.requests_after.result _ _ (λ fault. within_more _ _ fault (omega (arith, ap length c.as_slice.ensures.value, c.in-Some.ensures.cases.1))) c.requests_after.ensures.within

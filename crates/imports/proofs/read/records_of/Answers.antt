@@ -20,6 +20,7 @@ loop-record-init c =
     rw (start, rdr, c.new-records.ensures.items) (record {
       plain = rw (e, h) at fr.trim ∙ c.new.ensures.trim;
       ready = inr (inr (rw (e, h) at fr.has_headers, fr.headers));
+      flexible = rw e at fr.flexible;
       turns = left;
       config = rw (e, h) at fr.config ∙ c.new.ensures.config;
       left = strip_bom c.args.bytes.now;
@@ -30,17 +31,20 @@ loop-record-init c =
 pub loop-record-preserved : goal.loop-record-preserved
 loop-record-preserved c =
     let inv = c.loop-record.invariant in
-    let s = rw (c.in-Some.is, c.in-Ok.is) at ((c.next.ensures.steps inv.turns inv.plain).0 inv.ready) in
+    let steps = c.next.ensures.steps inv.turns inv.plain in
+    let s = rw (c.in-Some.is, c.in-Ok.is) at (steps.0 inv.ready) in
+    let kept = rw (c.in-Some.is, c.in-Ok.is) at steps.3 in
     let m = rows-more (λ (s : Bor (List ℕ)). Some s.now) c.loop-record.record-iterator.rdr c.next.new.self.rdr (fields_of c.in-Ok.record) default_config st.StartRecord (strip_bom c.args.bytes.now) inv.left
     (map fields_of c.loop-record.records.items) inv.config inv.source inv.reached s.0 in
     record {
       plain = s.0.3 ∙ inv.plain;
       ready = inl s.1;
+      flexible = kept ∙ inv.flexible;
       turns = s.2;
       config = s.0.2 ∙ inv.config;
       left = m.0;
       source = m.1;
-      reached = rw (c.in_ok-push.ensures.items, map-append fields_of c.loop-record.records.items (c.in-Ok.record ∷ [])) m.2;
+      reached = rw (c.in_ok-push-in-Ok.ensures.items, map-append fields_of c.loop-record.records.items (c.in-Ok.record ∷ [])) m.2;
     }
 
 pub returns : goal.returns

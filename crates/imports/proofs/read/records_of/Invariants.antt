@@ -1,4 +1,4 @@
-use Rattle.std.proofs.Common.{◌≡◌, ◌<◌, List, ℕ, Some, map}
+use Rattle.std.proofs.Common.{◌≡◌, ◌<◌, true, List, ℕ, Some, map}
 use Rattle.csv.specs.Reading.{Reached, Ready, default_config, source_of, strip_bom}
 use Rattle.csv.specs.Records.{fields_of}
 use Rattle.csv.specs.declared.parser.State.TheVariants as st
@@ -9,6 +9,7 @@ abbrev pub invariant-loop-record : goal.invariant-loop-record
 invariant-loop-record l = record {
   plain : l.record-iterator.rdr.trim ≡ trim.None;
   ready : Ready l.record-iterator.rdr;
+  flexible : l.record-iterator.rdr.flexible ≡ true;
   turns : 0 < l.record-iterator.left;
   config : l.record-iterator.rdr.config ≡ default_config;
   left : List ℕ;

@@ -11,7 +11,7 @@ loop-student-preserved c =
     let i : Shape = shape_of c.args.network.now in
     let ks : List (Option ℕ) = c.args.network.now.places in
     let s : ℕ = c.loop-student.student in
-    let it = place_held c.args.network.now c.args.students s c.place_of.result c.requires.kept c.requires.places.one_each c.loop-student-test.true c.place_of.ensures in
+    let it = place_held c.requires.kept.0 c.args.network.now c.args.students s c.place_of.result c.requires.kept.1 c.requires.places.one_each c.loop-student-test.true c.place_of.ensures in
     let so_far = c.loop-student.invariant.so_far in
     let small = c.loop-student.invariant.small in
     elim c.match-place_of.branch [

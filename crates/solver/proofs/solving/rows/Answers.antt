@@ -1,7 +1,8 @@
-use Rattle.std.proofs.Common.{◌≡◌, ◌∙◌, sym, arith, ℕ, get_or}
+use Rattle.std.proofs.Common.{◌≡◌, ◌≤◌, ◌∙◌, sym, subst, arith, ℕ, get_or}
 use Rattle.spa.specs.Places.{Places, lex_ops}
 use Rattle.std.proofs.lemmas.List.{get_or_default}
 use Rattle.spa.specs.declared.TheConstants.{PLACES}
+use Rattle.network.specs.declared.TheConstants.{LARGEST_PRICE}
 use Rattle.solver.proofs.Reading.{rows_more, all_rows}
 use Rattle.solver.proofs.solving.rows.Goals as goal
 
@@ -15,9 +16,17 @@ loop-worth-preserved c =
     let here : get_or c.args.worths.now m (lex_ops PLACES).zero ≡ w = get_or_default c.args.worths.now m (lex_ops PLACES).zero w c.loop-worth-test.true ∙ sym c.worth-item.is in
     record {
       each = omega (arith, e, len);
-      same = rw grown (λ n t h. rows_more c.loop-worth.rows.items c.args.worths.now c.numbers.result w m e c.loop-worth.invariant.same here c.numbers.ensures n t h);
+      same = rw grown (λ n t h low. rows_more c.args.aim c.loop-worth.rows.items c.args.worths.now c.numbers.result w m e c.loop-worth.invariant.same here c.numbers.ensures n t h low);
     }
+
+pub numbers-requires : goal.numbers-requires
+numbers-requires c =
+    let m : ℕ = c.loop-worth.worth-index in
+    let w : Places PLACES = c.worth-item.result in
+    let here : get_or c.args.worths.now m (lex_ops PLACES).zero ≡ w = get_or_default c.args.worths.now m (lex_ops PLACES).zero w c.loop-worth-test.true ∙ sym c.worth-item.is in
+    let s = subst (λ (x : Places PLACES). (lex_ops PLACES).span x ≤ LARGEST_PRICE) here (c.requires m) in
+    omega (arith, s)
 
 pub returns : goal.returns
 returns c =
-    all_rows c.loop-worth.rows.items c.args.worths.now (let e = c.loop-worth.invariant.each in omega (arith, e)) c.loop-worth.invariant.same
+    all_rows c.args.aim c.loop-worth.rows.items c.args.worths.now (let e = c.loop-worth.invariant.each in omega (arith, e)) c.loop-worth.invariant.same

@@ -1,7 +1,8 @@
 use Rattle.std.proofs.Common.{ℕ, ◌≤◌, sym, subst, arith, List, Option, length, ◌∙◌, ap}
-use Rattle.spa.specs.Order.{greedy}
+use Rattle.spa.specs.declared.TheConstants.{RANKS}
+use Rattle.spa.specs.Order.{order}
 use Rattle.spa.specs.Shape.{Shape, IsPlaceOf, list_of}
-use Rattle.spa.specs.Matching.{IsGreedyMaximum}
+use Rattle.spa.specs.Matching.{IsBest}
 use Rattle.spa.specs.Matched.{pairs}
 use Rattle.verdict.specs.Verdict.{IsProvedBest}
 use Rattle.solver.proofs.Priced.{shape_is, list_short}
@@ -14,44 +15,44 @@ use Rattle.solver.proofs.solving.solve.Goals as goal
 pub matching_of-requires-clause-small : goal.matching_of-requires-clause-small
 matching_of-requires-clause-small c s k e =
     let i : Shape = c.args.instance.now.shape in
-    let inside : IsPlaceOf (list_of i s) k = subst (λ (j : Shape). IsPlaceOf (list_of j s) k) (shape_is i c.in_ok-network.network c.in_ok-network.ensures) (c.priced.ensures.matched.places.in_list s k e) in
-    let short : length (list_of i s) ≤ 8 = list_short i c.student_count.ensures.fit.sound s in
+    let inside : IsPlaceOf (list_of i s) k = subst (λ (j : Shape). IsPlaceOf (list_of j s) k) (shape_is c.args.aim i c.in_ok-network.network c.in_ok-network.ensures) (c.priced.ensures.matched.places.in_list s k e) in
+    let short : length (list_of i s) ≤ RANKS = list_short i c.student_count.ensures.fit.sound s in
     omega (arith, short)
 
 pub returns-clause-proved : goal.returns-clause-proved
 returns-clause-proved c =
     let i : Shape = c.args.instance.now.shape in
-    let b : IsProvedBest greedy i c.in_ok-network.network.places c.in_ok-prices.prices = proved_best c.lex_law.ensures c.order_law.ensures i c.in_ok-network.network c.in_ok-prices.prices c.student_count.ensures.fit.sound c.in_ok-network.ensures c.in_ok-prices.ensures c.priced.ensures in
-    subst (λ (ks : List (Option ℕ)). IsProvedBest greedy i ks c.in_ok-prices.prices) (sym c.in_ok-matching.ensures) b
+    let b : IsProvedBest (order c.args.aim) i c.in_ok-network.network.places c.in_ok-prices.prices = proved_best c.args.aim c.lex_law.ensures i c.in_ok-network.network c.in_ok-prices.prices c.student_count.ensures.fit.sound c.in_ok-network.ensures c.in_ok-prices.ensures c.priced.ensures in
+    subst (λ (ks : List (Option ℕ)). IsProvedBest (order c.args.aim) i ks c.in_ok-prices.prices) (sym c.in_ok-matching.ensures) b
 
-pub returns-clause-greedy_maximum : goal.returns-clause-greedy_maximum
-returns-clause-greedy_maximum c =
+pub returns-clause-best : goal.returns-clause-best
+returns-clause-best c =
     let i : Shape = c.args.instance.now.shape in
-    let b : IsProvedBest greedy i c.in_ok-network.network.places c.in_ok-prices.prices = proved_best c.lex_law.ensures c.order_law.ensures i c.in_ok-network.network c.in_ok-prices.prices c.student_count.ensures.fit.sound c.in_ok-network.ensures c.in_ok-prices.ensures c.priced.ensures in
-    subst (λ (ks : List (Option ℕ)). IsGreedyMaximum i (pairs i ks)) (sym c.in_ok-matching.ensures) (c.verdict_law.ensures c.in_ok-network.network.places c.in_ok-prices.prices b)
+    let b : IsProvedBest (order c.args.aim) i c.in_ok-network.network.places c.in_ok-prices.prices = proved_best c.args.aim c.lex_law.ensures i c.in_ok-network.network c.in_ok-prices.prices c.student_count.ensures.fit.sound c.in_ok-network.ensures c.in_ok-prices.ensures c.priced.ensures in
+    subst (λ (ks : List (Option ℕ)). IsBest c.args.aim i (pairs i ks)) (sym c.in_ok-matching.ensures) (c.verdict_law.ensures c.args.aim c.in_ok-network.network.places c.in_ok-prices.prices b)
 
 pub matching_of-requires-clause-students : goal.matching_of-requires-clause-students
-matching_of-requires-clause-students c = ap length c.in_ok-network.ensures.lists ∙ length-map c.args.instance.now.shape.students weighed ∙ sym c.student_count.ensures.count
+matching_of-requires-clause-students c = ap length c.in_ok-network.ensures.lists ∙ length-map c.args.instance.now.shape.students (weighed c.args.aim) ∙ sym c.student_count.ensures.count
 
 pub matching_of-requires-clause-places : goal.matching_of-requires-clause-places
 matching_of-requires-clause-places c =
-    let same = shape_is c.args.instance.now.shape c.in_ok-network.network c.in_ok-network.ensures in
+    let same = shape_is c.args.aim c.args.instance.now.shape c.in_ok-network.network c.in_ok-network.ensures in
     c.priced.ensures.matched.places.one_each ∙ ap (λ j. length j.students) same ∙ sym c.student_count.ensures.count
 
 pub returns-in_err-network-clause-proved : goal.returns-in_err-network-clause-proved
 returns-in_err-network-clause-proved c = IfOk-from_err c.from_residual.result _ c.from_residual.ensures.0
 
-pub returns-in_err-network-clause-greedy_maximum : goal.returns-in_err-network-clause-greedy_maximum
-returns-in_err-network-clause-greedy_maximum c = IfOk-from_err c.from_residual.result _ c.from_residual.ensures.0
+pub returns-in_err-network-clause-best : goal.returns-in_err-network-clause-best
+returns-in_err-network-clause-best c = IfOk-from_err c.from_residual.result _ c.from_residual.ensures.0
 
 pub returns-in_err-matching-clause-proved : goal.returns-in_err-matching-clause-proved
 returns-in_err-matching-clause-proved c = IfOk-from_err c.from_residual-in_err-matching.result _ c.from_residual-in_err-matching.ensures.0
 
-pub returns-in_err-matching-clause-greedy_maximum : goal.returns-in_err-matching-clause-greedy_maximum
-returns-in_err-matching-clause-greedy_maximum c = IfOk-from_err c.from_residual-in_err-matching.result _ c.from_residual-in_err-matching.ensures.0
+pub returns-in_err-matching-clause-best : goal.returns-in_err-matching-clause-best
+returns-in_err-matching-clause-best c = IfOk-from_err c.from_residual-in_err-matching.result _ c.from_residual-in_err-matching.ensures.0
 
 pub returns-in_err-prices-clause-proved : goal.returns-in_err-prices-clause-proved
 returns-in_err-prices-clause-proved c = IfOk-from_err c.from_residual-in_err-prices.result _ c.from_residual-in_err-prices.ensures.0
 
-pub returns-in_err-prices-clause-greedy_maximum : goal.returns-in_err-prices-clause-greedy_maximum
-returns-in_err-prices-clause-greedy_maximum c = IfOk-from_err c.from_residual-in_err-prices.result _ c.from_residual-in_err-prices.ensures.0
+pub returns-in_err-prices-clause-best : goal.returns-in_err-prices-clause-best
+returns-in_err-prices-clause-best c = IfOk-from_err c.from_residual-in_err-prices.result _ c.from_residual-in_err-prices.ensures.0

@@ -2,6 +2,7 @@ use Rattle.std.proofs.Common.{◌≡◌, Bool, true, false, not, Option, Some, N
 use Rattle.std.specs.Prelude.{if◌then◌else◌, is_some, option_copied}
 use Rattle.std.proofs.lemmas.Bool.{le-ltb}
 use denote.Ref.{Bor}
+use Rattle.spa.specs.declared.TheConstants.{MOST_PLACES}
 use Rattle.rolls.specs.declared.refusal.Refusal.{Refusal}
 use Rattle.rolls.specs.declared.refusal.Refusal.TheVariants as no
 use Rattle.rolls.specs.State.{State, supervisor_of}
@@ -19,5 +20,5 @@ none_copied (Some e) h = cc
 
 pub returns-then-is_none : goal.returns-then-is_none
 returns-then-is_none c =
-    unknown _ _ _ _ _ _ c.if-not-is_code_text.ensures c.if-not-is_code_text-2.ensures c.if-not-is_label_text.ensures (le-ltb 500 c.args.quota c.if-quota-gt-MOST_PLACES.false)
+    unknown _ _ _ _ _ _ c.if-not-is_code_text.ensures c.if-not-is_code_text-2.ensures c.if-not-is_label_text.ensures (le-ltb MOST_PLACES c.args.quota c.if-quota-gt-MOST_PLACES.false)
     (ap is_some (ap (λ (o : State). supervisor_of o c.args.supervisor.now) (sym c.self.view_is) ∙ sym c.by_code.ensures) ∙ none_copied c.by_code.result c.if-is_none.ensures)
