@@ -1,6 +1,7 @@
 //! Connections of a listener, served at a desk one after another.
 ghost use Rattle.std.specs.Io.KnownBytes.{Appends};
 ghost use Rattle.std.specs.Prelude.{◌≡◌, ℕ, ◌+◌, ◌≤◌, ◌<◌, ◌-◌, ◌^◌, ◌++◌, length, take, OnOk, OnErr};
+ghost use Rattle.wire.specs.declared.TheConstants.{MOST_SHORT_BODY};
 ghost use Rattle.arrayvec.specs.ArrayVec.{array_vec_len};
 ghost use Rattle.web.specs.Connections.{Connects, AllServed, SomeServed, end_word, fault_word, told_of, connection_line};
 
@@ -45,7 +46,7 @@ fn fault_word(fault: StreamFault) -> &'static [u8]
 
 /// Appends what is told of a connection.
 fn push_told(out: &mut ShortText, came: &Result<Served, StreamFault>)
-    requires { array_vec_len out.old ≤ 200 }
+    requires { array_vec_len out.old ≤ MOST_SHORT_BODY }
     ensures items { out.new.items ≡ out.old.items ++ told_of came.now }
     ensures len { array_vec_len out.new ≤ array_vec_len out.old + 30 }
 {

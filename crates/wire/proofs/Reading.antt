@@ -4,6 +4,7 @@ use Rattle.std.proofs.Math.Nat.{min-le_right, le-min}
 use Rattle.std.proofs.lemmas.List.{take-append-le, length-take-le}
 use borrow.Author.Tests.{eqb-true}
 use Rattle.std.specs.Io.KnownBytes.{IsAtEnd}
+use Rattle.wire.specs.declared.TheConstants.{MOST_MESSAGE_BYTES}
 use Rattle.wire.specs.declared.front.Front.TheVariants.{Open}
 use Rattle.wire.specs.declared.outcome.End.TheVariants.{Closed, Unfinished}
 use Rattle.wire.specs.Messages.{Stops}
@@ -51,12 +52,12 @@ pub within_front : (n : ℕ) (xs ys : List ℕ) → n ≤ length xs → n ≤ le
 within_front n xs ys within = omega (arith, length-append xs ys, within)
 
 -- no more is asked of the reader than the buffer has room for
-pub asked_fits : (len room : ℕ) → room ≡ min 4096 (73728 - len) → len < 73728 → len + room ≤ 73728
-asked_fits len room e below = omega (arith, e, min-le_right 4096 (73728 - len), below)
+pub asked_fits : (len room : ℕ) → room ≡ min 4096 (MOST_MESSAGE_BYTES - len) → len < MOST_MESSAGE_BYTES → len + room ≤ MOST_MESSAGE_BYTES
+asked_fits len room e below = omega (arith, e, min-le_right 4096 (MOST_MESSAGE_BYTES - len), below)
 
 -- some byte is asked for
-pub asked_some : (len room : ℕ) → room ≡ min 4096 (73728 - len) → len < 73728 → 0 < room
-asked_some len room e below = let some : 1 ≤ min 4096 (73728 - len) = le-min (omega arith) (omega (arith, below)) in omega (arith, e, some)
+pub asked_some : (len room : ℕ) → room ≡ min 4096 (MOST_MESSAGE_BYTES - len) → len < MOST_MESSAGE_BYTES → 0 < room
+asked_some len room e below = let some : 1 ≤ min 4096 (MOST_MESSAGE_BYTES - len) = le-min (omega arith) (omega (arith, below)) in omega (arith, e, some)
 
 -- what was read stands at the buffer's end, since that had room
 pub put_at_end : {E : Type 0} (old new buf spare : List ℕ) (r : Result (Unit {0}) E) (n len most : ℕ) → new ≡ (if is_ok r then old ++ take n (buf ++ spare) else old)
@@ -66,7 +67,7 @@ put_at_end old new buf spare (Err f) n len most e succeeds le room =
     absurd (let ok : false ≡ true = succeeds (omega (arith, ap length (take-append-le n buf spare le) ∙ length-take-le n buf le, le, room)) in cc)
 
 -- the buffer keeps to its limit
-pub put_fits : (old new buf : List ℕ) (n : ℕ) → new ≡ old ++ take n buf → n ≤ length buf → length old + length buf ≤ 73728 → length new ≤ 73728
+pub put_fits : (old new buf : List ℕ) (n : ℕ) → new ≡ old ++ take n buf → n ≤ length buf → length old + length buf ≤ MOST_MESSAGE_BYTES → length new ≤ MOST_MESSAGE_BYTES
 put_fits old new buf n e le room = omega (arith, ap length e ∙ length-append old (take n buf), length-take-le n buf le, le, room)
 
 -- either the reader is at its end, or the buffer has grown

@@ -2,6 +2,7 @@
 use Rattle.std.proofs.Common.{◌≡◌, ℕ, ◌+◌, ◌<◌, List, [], ◌∷◌, ◌++◌, length, drop, Option, refl, sym, ap, ◌∙◌, subst, append_assoc, append-nil, length-append, arith}
 use Rattle.std.specs.List.{concat}
 use Rattle.std.specs.Io.KnownBytes.{Appends}
+use Rattle.wire.specs.declared.TheConstants.{MOST_MESSAGES}
 use Rattle.wire.specs.declared.front.Parts.{Parts}
 use Rattle.wire.specs.declared.front.Front.TheVariants.{Whole}
 use Rattle.wire.specs.declared.outcome.End.{End}
@@ -94,7 +95,7 @@ answers_on step before now after left0 w0 left w w' rest count p a so judged x w
 }
 
 -- an end that comes before the hundredth message
-ends_at : (count : ℕ) (rest : List ℕ) (end : End) → count < 100 → Stops rest end → EndsAt count rest end
+ends_at : (count : ℕ) (rest : List ℕ) (end : End) → count < MOST_MESSAGES → Stops rest end → EndsAt count rest end
 ends_at count rest Closed few stops = (few, stops)
 ends_at count rest Unfinished few stops = (few, stops)
 ends_at count rest BadHead few stops = (few, stops)
@@ -103,7 +104,7 @@ ends_at count rest Hundred few stops = absurd stops
 
 -- the stream is at an end, and its last words are written
 pub ends_here : {S : Type 0} (step : S → Said → List ℕ → S → Type 0) (refusal : End → List ℕ) (before now : S) (left0 w0 left w w' : Option (List ℕ)) (rest : List ℕ) (count : ℕ) (end : End)
-    → SoFar step before left0 w0 left w rest count now → count < 100 → Stops (rest ++ unread left) end → Appends w w' (last_words refusal end)
+    → SoFar step before left0 w0 left w rest count now → count < MOST_MESSAGES → Stops (rest ++ unread left) end → Appends w w' (last_words refusal end)
     → ServedTo step refusal before left0 w0 left w' (record { answered = count + last_count end; end = end }) now
 ends_here step refusal before now left0 w0 left w w' rest count end so few stops wrote = record {
   given = so.given;
@@ -126,8 +127,8 @@ ends_here step refusal before now left0 w0 left w w' rest count end so few stops
 
 -- a hundred messages were answered
 pub hundred_here : {S : Type 0} (step : S → Said → List ℕ → S → Type 0) (refusal : End → List ℕ) (before now : S) (left0 w0 left w : Option (List ℕ)) (rest : List ℕ)
-    → SoFar step before left0 w0 left w rest 100 now
-    → ServedTo step refusal before left0 w0 left w (record { answered = 100; end = Hundred }) now
+    → SoFar step before left0 w0 left w rest MOST_MESSAGES now
+    → ServedTo step refusal before left0 w0 left w (record { answered = MOST_MESSAGES; end = Hundred }) now
 hundred_here step refusal before now left0 w0 left w rest so = record {
   given = so.given;
   read = so.read;

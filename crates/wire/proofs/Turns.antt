@@ -2,6 +2,7 @@
 use Rattle.std.proofs.Common.{◌≡◌, ℕ, ◌+◌, ◌<◌, inl, inr, List, [], ◌∷◌, ◌++◌, length, take, drop, Option, Result, Ok, Err, IfOk, OnOk, IfErr, OnErr, refl, sym, ◌∙◌, subst, add-zero, length-append, arith, ap}
 use Rattle.std.specs.List.{concat}
 use Rattle.std.specs.Io.KnownBytes.{Appends}
+use Rattle.wire.specs.declared.TheConstants.{MOST_MESSAGES}
 use Rattle.wire.specs.declared.front.Parts.{Parts}
 use Rattle.wire.specs.declared.front.Front.TheVariants.{Whole, Open}
 use Rattle.wire.specs.declared.outcome.End.{End}
@@ -93,7 +94,7 @@ nothing_broken step refusal before left w = record {
 -- the last words were written
 pub finished : {S : Type 0} (step : S → Said → List ℕ → S → Type 0) (refusal : End → List ℕ) (before now was : S) (left0 w0 left l w w1 w' : Option (List ℕ)) (rest r : List ℕ) (count : ℕ) (end : End)
     (result : Result Served StreamFault)
-    → SoFar step before left0 w0 left w rest count was → count < 100
+    → SoFar step before left0 w0 left w rest count was → count < MOST_MESSAGES
     → Stops (r ++ unread l) end × GoesOn step left w rest was l w1 r now 0
     → IfOk result (λ s. s ≡ record { answered = count + last_count end; end = end }) → OnOk result (Appends w1 w' (last_words refusal end))
     → IfOk result (λ served. ServedTo step refusal before left0 w0 l w' served now)
@@ -105,7 +106,7 @@ finished step refusal before now was left0 w0 left l w w1 w' rest r count end (E
 -- or not all of them
 pub unfinished : {S : Type 0} (step : S → Said → List ℕ → S → Type 0) (refusal : End → List ℕ) (before now was : S) (left0 w0 left l w w1 w' : Option (List ℕ)) (rest r : List ℕ) (count : ℕ) (end : End)
     (result : Result Served StreamFault)
-    → SoFar step before left0 w0 left w rest count was → count < 100
+    → SoFar step before left0 w0 left w rest count was → count < MOST_MESSAGES
     → Stops (r ++ unread l) end × GoesOn step left w rest was l w1 r now 0
     → IfErr result (λ e. e ≡ Write) → OnErr result ((n : ℕ) × (n < length (last_words refusal end)) × Appends w1 w' (take n (last_words refusal end)))
     → IfErr result (λ fault. BrokeOff step refusal before left0 w0 l w' now fault)

@@ -8,6 +8,7 @@ use Rattle.wire.specs.declared.front.Head.TheVariants.{Found, Malformed, Missing
 use Rattle.wire.specs.declared.front.Parts.{Parts}
 use Rattle.wire.specs.declared.front.Front.{Front}
 use Rattle.wire.specs.declared.front.Front.TheVariants.{Whole, Stop, Open}
+use Rattle.wire.specs.declared.TheConstants.{MOST_MESSAGE_BYTES}
 use Rattle.wire.specs.Messages.{Message, has_line, IsMalformed, Begins, Stops, IsCut}
 
 -- what a search for a head in the window found
@@ -34,4 +35,4 @@ Judges buf (Whole p) =
     × ((more : List ℕ) → Begins (buf ++ more) m (drop (p.head + p.body) buf ++ more))
 Judges buf (Stop end) = (more : List ℕ) → Stops (buf ++ more) end
 Judges buf Open =
-    (length buf < 73728) × IsCut buf
+    (length buf < MOST_MESSAGE_BYTES) × IsCut buf

@@ -2,6 +2,7 @@
 use Rattle.std.specs.Prelude.{◌≡◌, ℕ, ◌+◌, ◌<◌, ◌≤◌, ◌⊎◌, List, [], ◌∷◌, ◌++◌, length, take, Option}
 use Rattle.std.specs.List.{concat}
 use Rattle.std.specs.Io.KnownBytes.{Appends, Consumes}
+use Rattle.wire.specs.declared.TheConstants.{MOST_MESSAGES}
 use Rattle.wire.specs.declared.outcome.End.{End}
 use Rattle.wire.specs.Messages.{Message, Messages, Splits, Stops, IsCut}
 use Rattle.wire.specs.declared.outcome.Served.{Served}
@@ -67,8 +68,8 @@ pub record BrokeOff {S : Type 0} (step : S → Said → List ℕ → S → Type 
   pub given : List ℕ
   pub read : Consumes left0 left given
   pub messages : List Message
-  pub few : length messages ≤ 100
-  pub none_after : fault ≡ Read → length messages < 100
+  pub few : length messages ≤ MOST_MESSAGES
+  pub none_after : fault ≡ Read → length messages < MOST_MESSAGES
   pub rest : List ℕ
   pub split : (more : List ℕ) → Splits (given ++ more) messages (rest ++ more)
   pub answers : List (List ℕ)
@@ -87,4 +88,4 @@ abbrev pub BreaksOff : {S : Type 0} → (S → Said → List ℕ → S → Type 
     → Option (List ℕ) → Option (List ℕ) → S → StreamFault → Type 0
 BreaksOff {S} step refusal left w rest now left' w' now' fault =
     (before : S) (left0 w0 : Option (List ℕ)) (count : ℕ)
-    → SoFar step before left0 w0 left w rest count now → count < 100 → BrokeOff step refusal before left0 w0 left' w' now' fault
+    → SoFar step before left0 w0 left w rest count now → count < MOST_MESSAGES → BrokeOff step refusal before left0 w0 left' w' now' fault

@@ -4,14 +4,12 @@ ghost use Rattle.wire.specs.Taken.{Grows, Finds, AtEndIfNone};
 ghost use Rattle.wire.specs.declared.front.Front.TheVariants.{Open};
 ghost use Rattle.wire.specs.Judged.{Judges};
 
+use crate::MOST_MESSAGE_BYTES;
 use crate::endpoints::Source;
 use crate::front::{FIELDS, Front, Parts, judge};
 use crate::outcome::{End, StreamFault};
 use httparse::spans::HeaderSpan;
 use std::alloc::{AllocError, Global};
-
-/// The greatest message: the greatest head, and the greatest body.
-pub const MOST: usize = 73728;
 
 /// How many bytes are read at once.
 const CHUNK: usize = 4096;
@@ -25,9 +23,9 @@ pub enum Next {
 /// An empty buffer with room for a whole message.
 pub fn empty(alloc: Global) -> Result<Vec<u8>, AllocError>
     ensures items { IfOk result (λ v. v.items ≡ []) }
-    ensures room { IfOk result (λ v. MOST ≤ vec_capacity v) }
+    ensures room { IfOk result (λ v. MOST_MESSAGE_BYTES ≤ vec_capacity v) }
 {
-    Vec::with_capacity(alloc, MOST)
+    Vec::with_capacity(alloc, MOST_MESSAGE_BYTES)
 }
 
 /// Takes the first `n` bytes away.
@@ -44,22 +42,22 @@ pub fn drop_front(buffer: &mut Vec<u8>, n: usize)
 /// Reads some bytes to the end of the buffer, and says how many.
 fn refill<R: Source>(reader: &mut R, buffer: &mut Vec<u8>) -> Result<usize, StreamFault>
     requires failures { R.failures reader.old < 2 ^ 64 - 1 }
-    requires capacity { MOST ≤ vec_capacity buffer.old }
-    requires room { vec_len buffer.old < MOST }
+    requires capacity { MOST_MESSAGE_BYTES ≤ vec_capacity buffer.old }
+    requires room { vec_len buffer.old < MOST_MESSAGE_BYTES }
     ensures grows { OnOk result
         (Grows buffer.old.items buffer.new.items (R.left reader.old) (R.left reader.new)) }
     ensures end { IfOk result (λ n. AtEndIfNone n buffer.old.items buffer.new.items (R.left reader.new)) }
     ensures same { OnErr result (buffer.new.items ≡ buffer.old.items) }
     ensures kept { OnErr result
         (Grows buffer.old.items buffer.new.items (R.left reader.old) (R.left reader.new)) }
-    ensures room { vec_len buffer.new ≤ MOST }
-    ensures capacity { MOST ≤ vec_capacity buffer.new }
+    ensures room { vec_len buffer.new ≤ MOST_MESSAGE_BYTES }
+    ensures capacity { MOST_MESSAGE_BYTES ≤ vec_capacity buffer.new }
     ensures fault { IfErr result (λ e. e ≡ StreamFault.Read) }
     ensures count_ok { OnOk result (R.failures reader.new ≡ R.failures reader.old) }
     ensures count_err { OnErr result (R.failures reader.new ≡ R.failures reader.old + 1) }
 {
     let mut chunk = [0u8; CHUNK];
-    let room = CHUNK.min(MOST - buffer.len());
+    let room = CHUNK.min(MOST_MESSAGE_BYTES - buffer.len());
     match reader.read(&mut chunk[..room]) {
         Ok(n) => {
             let _ = buffer.extend_from_slice(&chunk[..n]);
@@ -84,15 +82,15 @@ fn read_on<R: Source>(
     headers: &mut [HeaderSpan],
 ) -> Result<Option<Next>, StreamFault>
     requires failures { R.failures reader.old < 2 ^ 64 - 1 }
-    requires capacity { MOST ≤ vec_capacity buffer.old }
-    requires size { vec_len buffer.old ≤ MOST }
+    requires capacity { MOST_MESSAGE_BYTES ≤ vec_capacity buffer.old }
+    requires size { vec_len buffer.old ≤ MOST_MESSAGE_BYTES }
     requires fields { length headers.old ≡ FIELDS }
     ensures grows { Grows buffer.old.items buffer.new.items (R.left reader.old) (R.left reader.new) }
     ensures finds { IfOk result (λ found. IfSome found (Finds buffer.new.items (R.left reader.new))) }
     ensures more { IfOk result (λ found. IfNone found (vec_len buffer.old < vec_len buffer.new)) }
     ensures open { OnErr result (Judges buffer.new.items Front.Open) }
-    ensures size { vec_len buffer.new ≤ MOST }
-    ensures capacity { MOST ≤ vec_capacity buffer.new }
+    ensures size { vec_len buffer.new ≤ MOST_MESSAGE_BYTES }
+    ensures capacity { MOST_MESSAGE_BYTES ≤ vec_capacity buffer.new }
     ensures fault { IfErr result (λ e. e ≡ StreamFault.Read) }
     ensures count_ok { OnOk result (R.failures reader.new ≡ R.failures reader.old) }
     ensures count_err { OnErr result (R.failures reader.new ≡ R.failures reader.old + 1) }
@@ -119,14 +117,14 @@ pub fn read_next<R: Source>(
     headers: &mut [HeaderSpan],
 ) -> Result<Next, StreamFault>
     requires failures { R.failures reader.old < 2 ^ 64 - 1 }
-    requires capacity { MOST ≤ vec_capacity buffer.old }
-    requires size { vec_len buffer.old ≤ MOST }
+    requires capacity { MOST_MESSAGE_BYTES ≤ vec_capacity buffer.old }
+    requires size { vec_len buffer.old ≤ MOST_MESSAGE_BYTES }
     requires fields { length headers.old ≡ FIELDS }
     ensures grows { Grows buffer.old.items buffer.new.items (R.left reader.old) (R.left reader.new) }
     ensures finds { IfOk result (Finds buffer.new.items (R.left reader.new)) }
     ensures open { OnErr result (Judges buffer.new.items Front.Open) }
-    ensures size { vec_len buffer.new ≤ MOST }
-    ensures capacity { MOST ≤ vec_capacity buffer.new }
+    ensures size { vec_len buffer.new ≤ MOST_MESSAGE_BYTES }
+    ensures capacity { MOST_MESSAGE_BYTES ≤ vec_capacity buffer.new }
     ensures fault { IfErr result (λ e. e ≡ StreamFault.Read) }
     ensures count_ok { OnOk result (R.failures reader.new ≡ R.failures reader.old) }
     ensures count_err { OnErr result (R.failures reader.new ≡ R.failures reader.old + 1) }

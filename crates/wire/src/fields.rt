@@ -6,10 +6,8 @@ ghost use Rattle.std.specs.Str.Parse.{digits_value};
 ghost use Rattle.httparse.specs.Spans.{IsHeaderWithin, header_bytes};
 ghost use Rattle.wire.specs.Messages.{IsShort, is_named, is_number, length_of, lengths, framing_by, framing_of};
 
+use crate::{MOST_BODY_BYTES, MOST_FIELDS};
 use httparse::spans::HeaderSpan;
-
-/// The most bytes of a body.
-const GREATEST_BODY: u64 = 65536;
 
 /// What a head says of its body: the length, that it says something wrong, or that there is too much.
 #[derive(Clone, Copy)]
@@ -55,11 +53,11 @@ fn is_number(value: &[u8]) -> bool
 /// The number, as far as it can be a length.
 fn saturated(value: &[u8]) -> u64
     requires { IsTrue (is_number value.now) }
-    ensures { result ≡ min (digits_value 10 value.now) 65537 }
+    ensures { result ≡ min (digits_value 10 value.now) (MOST_BODY_BYTES + 1) }
 {
     let mut total = 0;
     for digit in value {
-        total = (total * 10 + u64::from(*digit - b'0')).min(GREATEST_BODY + 1);
+        total = (total * 10 + u64::from(*digit - b'0')).min(MOST_BODY_BYTES + 1);
     }
     total
 }
@@ -73,7 +71,7 @@ fn length_of(value: &[u8]) -> Framing
         return Framing::Wrong;
     }
     let number = saturated(value);
-    if number > GREATEST_BODY {
+    if number > MOST_BODY_BYTES {
         return Framing::Long;
     }
     Framing::Length(number as usize)
@@ -106,7 +104,7 @@ pub fn framing_of(buf: &[u8], minor: u8, headers: &[HeaderSpan]) -> Framing
     ensures value { result ≡ framing_of minor (map (header_bytes buf.now) headers.now) }
     ensures small { IsShort result }
 {
-    if headers.len() > 32 {
+    if headers.len() > MOST_FIELDS {
         return Framing::Long;
     }
     if minor != 1 || has_field(buf, headers, b"transfer-encoding") {

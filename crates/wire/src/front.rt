@@ -3,13 +3,11 @@ ghost use Rattle.std.specs.Prelude.{◌≡◌, ◌≤◌, ◌+◌, ℕ, false, l
 ghost use Rattle.wire.specs.Messages.{has_line};
 ghost use Rattle.wire.specs.Judged.{FindsHead, Judges};
 
+use crate::MOST_HEAD_BYTES;
 use crate::fields::{Framing, framing_of};
 use crate::outcome::End;
 use httparse::spans::{HeaderSpan, RequestSpans, Span, parse_request};
 use httparse::{Error, Status};
-
-/// The bytes in which a head stands.
-const WINDOW: usize = 8192;
 
 /// The fields for which the parser has room: more than stand in so many bytes, so whole heads are judged.
 pub const FIELDS: usize = 2800;
@@ -57,7 +55,7 @@ fn has_line(buf: &[u8]) -> bool
 /// Looks for a head at the front.
 fn find_head(window: &[u8], headers: &mut [HeaderSpan]) -> Head
     requires room { length headers.old ≡ FIELDS }
-    requires short { length window.now ≤ WINDOW }
+    requires short { length window.now ≤ MOST_HEAD_BYTES }
     ensures { FindsHead window.now headers.new result }
 {
     match parse_request(window, headers) {
@@ -83,7 +81,7 @@ pub fn judge(buf: &[u8], headers: &mut [HeaderSpan]) -> Front
     requires { length headers.old ≡ FIELDS }
     ensures { Judges buf.now result }
 {
-    let window = &buf[..WINDOW.min(buf.len())];
+    let window = &buf[..MOST_HEAD_BYTES.min(buf.len())];
     match find_head(window, headers) {
         Head::Found(spans) => match framing_of(window, spans.version, &headers[..spans.headers]) {
             Framing::Wrong => Front::Stop(End::BadHead),
@@ -103,7 +101,7 @@ pub fn judge(buf: &[u8], headers: &mut [HeaderSpan]) -> Front
         },
         Head::Malformed => Front::Stop(End::BadHead),
         Head::Missing => {
-            if buf.len() < WINDOW {
+            if buf.len() < MOST_HEAD_BYTES {
                 Front::Open
             } else {
                 Front::Stop(End::TooLarge)

@@ -8,13 +8,14 @@ ghost use Rattle.wire.specs.Run.{said_at, last_words, last_count, unread, read_f
 ghost use Rattle.wire.specs.Answers.{answer_bytes};
 ghost use Rattle.wire.specs.Served.{SoFar, GoesOn, BreaksOff, BrokeOff, ServedTo};
 
-use crate::buffer::{MOST, Next, drop_front, empty, read_next};
+use crate::buffer::{Next, drop_front, empty, read_next};
 use crate::ending::finish;
 use crate::endpoints::{Sink, Source};
 use crate::front::{FIELDS, Front, Parts};
 use crate::handling::{Answer, Handler};
 use crate::outcome::{End, Served, StreamFault};
 use crate::writing::write_all;
+use crate::{MOST_MESSAGE_BYTES, MOST_MESSAGES};
 use httparse::spans::{EMPTY_HEADER_SPAN, HeaderSpan};
 use std::alloc::Global;
 
@@ -69,8 +70,8 @@ fn turn<D, H: Handler<D>, R: Source, W: Sink>(
 ) -> Result<Option<End>, StreamFault>
     requires read_failures { R.failures reader.old < 2 ^ 64 - 1 }
     requires write_failures { W.failures writer.old < 2 ^ 64 - 1 }
-    requires capacity { MOST ≤ vec_capacity buffer.old }
-    requires size { vec_len buffer.old ≤ MOST }
+    requires capacity { MOST_MESSAGE_BYTES ≤ vec_capacity buffer.old }
+    requires size { vec_len buffer.old ≤ MOST_MESSAGE_BYTES }
     requires fields { length headers.old ≡ FIELDS }
     ensures answers { IfOk result (λ o. IfNone o (GoesOn H.step
         (R.left reader.old) (W.written writer.old) buffer.old.items desk.old
@@ -83,8 +84,8 @@ fn turn<D, H: Handler<D>, R: Source, W: Sink>(
     ensures breaks { IfErr result (λ fault. BreaksOff H.step H.refusal
         (R.left reader.old) (W.written writer.old) buffer.old.items desk.old
         (R.left reader.new) (W.written writer.new) desk.new fault) }
-    ensures size { OnOk result (vec_len buffer.new ≤ MOST) }
-    ensures capacity { OnOk result (MOST ≤ vec_capacity buffer.new) }
+    ensures size { OnOk result (vec_len buffer.new ≤ MOST_MESSAGE_BYTES) }
+    ensures capacity { OnOk result (MOST_MESSAGE_BYTES ≤ vec_capacity buffer.new) }
     ensures fault { IfErr result (λ fault. fault ≢ StreamFault.Memory) }
     ensures read_count { R.failures reader.new ≡ R.failures reader.old + read_failed result }
     ensures write_count { W.failures writer.new ≡ W.failures writer.old + write_failed result }
@@ -101,7 +102,7 @@ fn turn<D, H: Handler<D>, R: Source, W: Sink>(
     }
 }
 
-/// Answers the messages in turn, at most a hundred of them.
+/// Answers the messages in turn, as many as a stream may have.
 fn serve_hundred<D, H: Handler<D>, R: Source, W: Sink>(
     handler: &H,
     desk: &mut D,
@@ -112,7 +113,7 @@ fn serve_hundred<D, H: Handler<D>, R: Source, W: Sink>(
 ) -> Result<Served, StreamFault>
     requires read_failures { R.failures reader.old < 2 ^ 64 - 1 }
     requires write_failures { W.failures writer.old < 2 ^ 64 - 1 }
-    requires capacity { MOST ≤ vec_capacity buffer.old }
+    requires capacity { MOST_MESSAGE_BYTES ≤ vec_capacity buffer.old }
     requires empty { buffer.old.items ≡ [] }
     requires fields { length headers.old ≡ FIELDS }
     ensures served { IfOk result (λ served. ServedTo H.step H.refusal desk.old (R.left reader.old) (W.written writer.old)
@@ -123,7 +124,7 @@ fn serve_hundred<D, H: Handler<D>, R: Source, W: Sink>(
     ensures read_count { R.failures reader.new ≡ R.failures reader.old + read_failed result }
     ensures write_count { W.failures writer.new ≡ W.failures writer.old + write_failed result }
 {
-    for answered in 0..100 {
+    for answered in 0..MOST_MESSAGES {
         match turn(handler, desk, reader, writer, buffer, headers) {
             Err(fault) => return Err(fault),
             Ok(found) => {
@@ -134,7 +135,7 @@ fn serve_hundred<D, H: Handler<D>, R: Source, W: Sink>(
         }
     }
     Ok(Served {
-        answered: 100,
+        answered: MOST_MESSAGES,
         end: End::Hundred,
     })
 }

@@ -1,6 +1,7 @@
 use Rattle.std.proofs.Common.{◌≡◌, ◌+◌, ◌≤◌, ◌∙◌, ◌++◌, arith, refl, sym, take, length, ◌-◌, vec_len, vec_capacity}
 use Rattle.std.proofs.Math.Nat.{min-le_left}
 use Rattle.std.proofs.lemmas.List.{length-take-le}
+use Rattle.wire.specs.declared.TheConstants.{MOST_MESSAGE_BYTES}
 use Rattle.wire.proofs.Known.{grows_none}
 use Rattle.wire.proofs.Reading.{within_front, asked_fits, asked_some, put_at_end, put_fits, end_or_more}
 use Rattle.wire.proofs.buffer.refill.Given as given
@@ -8,10 +9,10 @@ use Rattle.wire.proofs.buffer.refill.Goals as goal
 
 -- as much as was asked for
 asked : (g : given.Over) (c : goal.After-extend_from_slice g) → length c.read.new.buf ≡ c.min-room.result
-asked g c = c.read.auto.buf ∙ length-take-le c.min-room.result _ (omega (arith, c.min-room.ensures, min-le_left 4096 (73728 - c.len.result)))
+asked g c = c.read.auto.buf ∙ length-take-le c.min-room.result _ (omega (arith, c.min-room.ensures, min-le_left 4096 (MOST_MESSAGE_BYTES - c.len.result)))
 
 -- what was asked for fits into the buffer
-fits : (g : given.Over) (c : goal.After-extend_from_slice g) → vec_len c.args.buffer.now + length c.read.new.buf ≤ 73728
+fits : (g : given.Over) (c : goal.After-extend_from_slice g) → vec_len c.args.buffer.now + length c.read.new.buf ≤ MOST_MESSAGE_BYTES
 fits g c = omega (arith, asked_fits (vec_len c.args.buffer.now) c.min-room.result (rw (sym c.len.ensures) c.min-room.ensures) c.requires.room, asked g c)
 
 -- what was read stands at the buffer's end
@@ -27,10 +28,10 @@ pub min-room-requires : goal.min-room-requires
 min-room-requires g c = tt
 
 pub slice_bounds-chunk-end : goal.slice_bounds-chunk-end
-slice_bounds-chunk-end g c = omega (arith, c.min-room.ensures, min-le_left 4096 (73728 - c.len.result))
+slice_bounds-chunk-end g c = omega (arith, c.min-room.ensures, min-le_left 4096 (MOST_MESSAGE_BYTES - c.len.result))
 
 pub slice_bounds-read-end : goal.slice_bounds-read-end
-slice_bounds-read-end g c = sym (length-take-le c.min-room.result _ (omega (arith, c.min-room.ensures, min-le_left 4096 (73728 - c.len.result))))
+slice_bounds-read-end g c = sym (length-take-le c.min-room.result _ (omega (arith, c.min-room.ensures, min-le_left 4096 (MOST_MESSAGE_BYTES - c.len.result))))
 
 pub slice_bounds-chunk-end-in-Ok : goal.slice_bounds-chunk-end-in-Ok
 slice_bounds-chunk-end-in-Ok g c = within_front c.in-Ok.n c.read.new.buf _ c.in-Ok.ensures.bound

@@ -1,4 +1,5 @@
 use Rattle.std.proofs.Common.{◌≡◌, ◌<◌, ◌≤◌, ℕ, ◌+◌, ◌-◌, ◌^◌, List, [], Option, Some, None, IfSome, IfNone, Err, refl, sym, subst, arith, vec_len, ap, length}
+use Rattle.wire.specs.declared.TheConstants.{MOST_MESSAGE_BYTES, MOST_MESSAGES}
 use Rattle.wire.specs.declared.outcome.End.{End}
 use Rattle.wire.specs.declared.outcome.End.TheVariants.{Hundred}
 use Rattle.wire.specs.declared.outcome.StreamFault.{StreamFault}
@@ -16,7 +17,7 @@ starts : {S : Type 0} (step : S → Said → List ℕ → S → Type 0) (before 
 starts step before left w rest e = subst (λ (t : List ℕ). SoFar step before left w left w t 0 before) (sym e) (nothing_yet step before left w)
 
 -- an empty buffer is within its limit
-short : (xs : List ℕ) (n : ℕ) → length xs ≡ n → xs ≡ [] → n ≤ 73728
+short : (xs : List ℕ) (n : ℕ) → length xs ≡ n → xs ≡ [] → n ≤ MOST_MESSAGE_BYTES
 short xs n l e = let z = ap length e in omega arith
 
 pub loop-answered-init : goal.loop-answered-init
@@ -74,7 +75,7 @@ returns-in-Some-clause-broken g c =
 
 -- a hundred messages were answered
 hundred : {S : Type 0} (step : S → Said → List ℕ → S → Type 0) (refusal : End → List ℕ) (before now : S) (left0 w0 left w : Option (List ℕ)) (rest : List ℕ) (count : ℕ)
-    → SoFar step before left0 w0 left w rest count now → count ≡ 100 → ServedTo step refusal before left0 w0 left w (record { answered = 100; end = Hundred }) now
+    → SoFar step before left0 w0 left w rest count now → count ≡ MOST_MESSAGES → ServedTo step refusal before left0 w0 left w (record { answered = MOST_MESSAGES; end = Hundred }) now
 hundred step refusal before now left0 w0 left w rest count so e =
     hundred_here step refusal before now left0 w0 left w rest (subst (λ (k : ℕ). SoFar step before left0 w0 left w rest k now) e so)
 
