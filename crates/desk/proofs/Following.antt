@@ -25,11 +25,11 @@ use Rattle.desk.specs.Sessions.{plain_fate, fate_of, Goes, GoesOn, SitsAt, MayMe
 -- a student who is put is in no list, so the session sits as before
 put_stays : (o : State) (code label : List ℕ) (kept : Option Sitting) → SitsAt o kept → SitsAt (after_plain (PutStudent code label) o) kept
 put_stays o code label None sits = sits
-put_stays o code label (Some s) sits = record { is_open = sits.is_open; named = sits.named; fit = sits.fit; here = sits.here; same = sits.same }
+put_stays o code label (Some s) sits = record { is_open = sits.is_open; greedy = sits.greedy; named = sits.named; fit = sits.fit; here = sits.here; same = sits.same }
 
 -- who puts a first list may join
 put_joins : (o n : State) (student : List ℕ) (choices : List (List ℕ)) (kept : Option Sitting) → IsFit o → plain_refusal o (PutList student choices) ≡ None → has_list o (last_round o) student ≡ false → n ≡ after_plain (PutList student choices) o
-    → SitsAt o kept → IfSome kept (λ s. MayJoin n s.shape student)
+    → SitsAt o kept → IfSome kept (λ s. MayJoin n s student)
 put_joins o n student choices None fit allowed none after sits = sits
 put_joins o n student choices (Some s) fit allowed none after sits =
     record { before = o; sat = sits; put = record { fit = fit; none_yet = none; choices = choices; allowed = allowed; after = after } }

@@ -1,5 +1,5 @@
 -- Changes that turn the rows of one office into those of the next, saved: the tables stand for the next one.
-use Rattle.std.proofs.Common.{◌≡◌, IsTrue, inl, inr, List, Option, None, sym, subst, ◌∙◌, arith}
+use Rattle.std.proofs.Common.{◌≡◌, IsTrue, inl, inr, List, Option, None, refl, sym, subst, ◌∙◌, arith}
 use Rattle.sqlite.specs.Effect.{Database}
 use Rattle.sqlite.specs.State.{State as Seen, HasCleanDisk, Survives}
 use Rattle.sqlite.proofs.StateLemmas.{survives_weaker}
@@ -16,6 +16,10 @@ use Rattle.rolls.specs.Fit.{IsFit}
 use Rattle.rolls.specs.Run.{Makes, refusal}
 use Rattle.allotment.specs.Layers.{layers}
 use Rattle.store.specs.Tables.{TablesHold, StandsFor, Opens}
+use Rattle.rolls.specs.declared.refusal.Refusal.{Refusal}
+use Rattle.rolls.specs.declared.refusal.Refusal.TheVariants as no
+use Rattle.store.specs.declared.fault.StoreFault.{StoreFault}
+use Rattle.store.specs.declared.fault.StoreFault.TheVariants as store
 use Rattle.store.specs.Saving.{Saves}
 use Rattle.desk.specs.Keeping.{CarriesOut, Keeps, StandsForOne}
 
@@ -77,3 +81,9 @@ call_carried q office next done old new none made fit turns keeps it =
 pub opened_stands : (old new : Database) (office : State) → Opens old new office → StandsFor new office
 opened_stands old new office (inl made) = subst (λ (o : State). StandsFor new o) (sym made.1) made.2
 opened_stands old new office (inr found) = subst (λ (db : Database). StandsFor db office) (sym found.0) found.1
+
+-- what is told as a fault of the storage was one of the store
+pub was_storage : (fault : StoreFault) (refusal : Refusal) → (fault ≡ store.Memory → refusal ≡ no.Memory) → (fault ≡ store.Damaged → refusal ≡ no.Damaged) → refusal ≡ no.Storage → fault ≡ store.Storage
+was_storage store.Memory refusal memory damaged e = let is = memory refl in cc
+was_storage store.Storage refusal memory damaged e = refl
+was_storage store.Damaged refusal memory damaged e = let is = damaged refl in cc

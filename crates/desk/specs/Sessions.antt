@@ -1,7 +1,10 @@
 -- What becomes of the session that a desk keeps.
-use Rattle.std.specs.Prelude.{◌≡◌, ℕ, List, [], ◌∷◌, IsTrue, ⊤, Option, Some, None, is_some, IfSome, Result, Ok, Err, if◌then◌else◌}
+use Rattle.std.specs.Prelude.{◌≡◌, ℕ, false, List, [], ◌∷◌, IsTrue, ⊤, Option, Some, None, is_some, IfSome, Result, Ok, Err, if◌then◌else◌}
 use Rattle.rolls.specs.State.{State, last_round, has_list, has_import}
 use Rattle.rolls.specs.declared.refusal.Refusal.{Refusal}
+use Rattle.rolls.specs.declared.refusal.Refusal.TheVariants.{Storage}
+use Rattle.rolls.specs.Reads.{changes_nothing}
+use Rattle.rolls.specs.Refusing.{refusal_of}
 use Rattle.rolls.specs.declared.request.Plain.{Plain}
 use Rattle.rolls.specs.declared.request.Plain.TheVariants.{PutSupervisor, PutProject, PutStudent, OpenRound, PutList, DropList, ReopenRound, GetSupervisor, GetProject, GetStudent, GetRound}
 use Rattle.rolls.specs.declared.request.Reply.{Reply}
@@ -63,20 +66,24 @@ abbrev pub GoesOn : State → Request → Result Reply Refusal → Option Sittin
 GoesOn o q (Ok reply) old new = Goes (fate_of o q) old new
 GoesOn o q (Err refusal) old new = new ≡ old
 
--- over a run: each request is a step of the office, and the session goes on over each
+-- a request that is refused by name is answered so, and a fault of the storage is told of what changes the office alone
+abbrev pub IsToldRight : State → Request → Result Reply Refusal → Type 0
+IsToldRight o q a = IfSome (refusal_of o q) (λ r. a ≡ Err r) × (a ≡ Err Storage → changes_nothing o q ≡ false)
+
+-- over a run: each request is a step of the office and told right, and the session goes on over each
 abbrev pub RunsOn : State → Option Sitting → List Request → List (Result Reply Refusal) → State → Option Sitting → Type 0
 RunsOn o old [] [] n new = (n ≡ o) × (new ≡ old)
-RunsOn o old (q ∷ qs) (a ∷ answers) n new = (m : State) × (kept : Option Sitting) × Step layers o q a m × GoesOn o q a old kept × RunsOn m kept qs answers n new
+RunsOn o old (q ∷ qs) (a ∷ answers) n new = (m : State) × (kept : Option Sitting) × Step layers o q a m × GoesOn o q a old kept × IsToldRight o q a × RunsOn m kept qs answers n new
 RunsOn o old [] (a ∷ answers) n new = ⊥
 RunsOn o old (q ∷ qs) [] n new = ⊥
 
 -- a session that is kept sits in the office
 abbrev pub SitsAt : State → Option Sitting → Type 0
-SitsAt o kept = IfSome kept (λ s. SitsIn o s.shape)
+SitsAt o kept = IfSome kept (λ s. SitsIn o s)
 
 -- a session that is kept may meet this fate in an office that was just changed
 abbrev pub MayMeet : Fate → State → Option Sitting → Type 0
 MayMeet Stays o kept = SitsAt o kept
 MayMeet Starts o kept = ⊥
-MayMeet (Joins student) o kept = IfSome kept (λ s. MayJoin o s.shape student)
+MayMeet (Joins student) o kept = IfSome kept (λ s. MayJoin o s student)
 MayMeet Ends o kept = ⊤

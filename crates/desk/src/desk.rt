@@ -1,6 +1,6 @@
 //! The desk.
 
-ghost use Rattle.std.specs.Prelude.{◌≡◌, ◌≢◌, ◌⊎◌, Err, IfOk, IfErr, IsErr, IfSome, IsTrue, OnOk, OnErr, None, option_map, false, true};
+ghost use Rattle.std.specs.Prelude.{◌≡◌, ◌≢◌, ◌⊎◌, Err, IfOk, IfErr, IsOk, IsErr, IfSome, IsTrue, is_some, OnOk, OnErr, None, option_map, false, true};
 ghost use Rattle.sqlite.specs.State.{HasCleanDisk, IsLive, Survives};
 ghost use Rattle.sqlite.specs.Held.{state};
 ghost use Rattle.tables.specs.Steps.{IsKept, IsLeft};
@@ -13,6 +13,8 @@ ghost use Rattle.rolls.specs.Run.{Makes, MayRefuse, Step, Run, refusal};
 ghost use Rattle.allotment.specs.Layers.{layers};
 ghost use Rattle.store.specs.Tables.{Opens, Founds, HasNone, LeavesAlone};
 ghost use Rattle.store.specs.Reading.{AreListed, IsDamaged};
+ghost use Rattle.tables.specs.Causes.{IsCaused, IsStopped};
+ghost use Rattle.store.specs.Causes.{IsHinderedOpening, IsHinderedToSave};
 ghost use Rattle.desk.specs.Keeping.{AnswersKept, Begins, CarriesOut, Keeps, StandsForOne, needs_no_table};
 ghost use Rattle.desk.specs.Sessions.{GoesOn, RunsOn, SitsAt};
 
@@ -89,6 +91,9 @@ impl<S: Alter> Desk<S> {
         ensures damaged { IfErr result (λ e. HasCleanDisk (state S.Store e.1) → e.0 ≡ Refusal.Damaged → IsDamaged (state S.Store connection).now × (HasNone (state S.Store connection).now.schema → ⊥)) }
         ensures refused { IfErr result (λ e. (e.0 ≡ Refusal.Memory) ⊎ ((e.0 ≡ Refusal.Storage) ⊎ (e.0 ≡ Refusal.Damaged))) }
         ensures kept { IfErr result (λ e. HasCleanDisk (state S.Store e.1) → IsKept (state S.Store connection) (state S.Store e.1)) }
+
+        // Why the storage has failed: an open transaction apart, a shut connection, a fault of the disk, or a refused statement.
+        ensures cause { IfErr result (λ e. connection.in_transaction ≡ false → HasCleanDisk (state S.Store e.1) → e.0 ≡ Refusal.Storage → IsStopped IsHinderedOpening (state S.Store connection) (state S.Store e.1)) }
         ensures given_back { IfErr result (λ e. let back = e.1 in connection.in_transaction ≡ false → back.in_transaction ≡ false) }
 
         // Where a transaction is open already it is no want of memory, and no damage.
@@ -201,6 +206,9 @@ impl<S: Alter> Desk<S> {
         // A refusal leaves the session, and so do reads, puts of students and repeated imports. An answered preview leaves one, a
         // first list joins the one that is kept or drops it, and every other change leaves none.
         ensures session { GoesOn self.old.office request result self.old.session self.new.session }
+
+        // A preview that is read from a session answers: it takes no memory.
+        ensures kept { request ≡ Request.Preview → refusal_of self.old.office request ≡ None → IsTrue (is_some self.old.session) → IsOk result }
     {
         if let Some(refusal) = self.office.refusal_of(&request) {
             return Err(refusal);
@@ -247,6 +255,7 @@ impl<S: Alter> Desk<S> {
         ensures tables { Keeps (state S.Store self.new.store) self.new.office }
         ensures storage { result ≢ Err Refusal.Storage }
         ensures session { GoesOn self.old.office Request.Preview result self.old.session self.new.session }
+        ensures kept { IsTrue (is_some self.old.session) → IsOk result }
     {
         self.keeps();
         if let Some(session) = &self.session {
@@ -334,6 +343,7 @@ impl<S: Alter> Desk<S> {
         ensures stays_open { HasCleanDisk (state S.Store self.new.store) → OnOk result (IsTrue (state S.Store self.new.store).is_open) }
         ensures stays_shut { HasCleanDisk (state S.Store self.new.store) → IsTrue (state S.Store self.new.store).is_open → IsTrue (state S.Store self.old.store).is_open }
         ensures acted_on { AreActedOn (state S.Store self.old.store).now.schema → result ≡ Err Refusal.Storage }
+        ensures cause { let changes = done.changes in (AreActedOn (state S.Store self.old.store).now.schema → ⊥) → IsCaused Refusal.Storage (IsHinderedToSave changes.items) result (state S.Store self.old.store) (state S.Store self.new.store) }
         ensures no_session { self.new.session ≡ None }
     {
         match self.store.save(&done.changes) {

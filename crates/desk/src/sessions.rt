@@ -64,7 +64,7 @@ pub fn fate_of(alloc: Global, office: &Office, request: &Request) -> Result<Fate
 
 /// The session with one student more; none where memory was refused.
 fn joined(alloc: Global, office: &Office, kept: Option<Session>, student: &str) -> Option<Session>
-    requires joins { IfSome kept (λ s. MayJoin office.now s.shape student.now) }
+    requires joins { IfSome kept (λ s. MayJoin office.now s student.now) }
     ensures joined { IsJoined kept result }
     ensures sits { SitsAt office.now result }
 {

@@ -3,6 +3,8 @@ use Rattle.std.proofs.Common.{◌≡◌, inl, inr, List, [], ◌∷◌, Bool, tr
 use Rattle.std.specs.Option.{option_map, option_map_or}
 use Rattle.std.specs.List.{AllByRecursion}
 use Rattle.spa.specs.Text.{is_code}
+use Rattle.spa.specs.declared.TheConstants.{RANKS}
+use Rattle.rolls.specs.declared.TheConstants.{MOST_ROUNDS}
 use Rattle.rolls.specs.declared.rounds.Listed.{Listed}
 use Rattle.rolls.specs.declared.rounds.Round.{Round}
 use Rattle.rolls.proofs.Determined.{choice_at}
@@ -91,11 +93,11 @@ module _ (o : State) (fit : IsFit o) where
   round_there round student l None is h = absurd (cc)
   round_there round student l (Some r) is h = (round_within o fit.numbered round r is).within
 
-  -- a choice that stands in a round: its round, its student and its project are known, and its place is one of eight
+  -- a choice that stands in a round: its round, its student and its project are known, and its place is one of a list's
   record IsStanding (n : ℕ) (s : List ℕ) (k : ℕ) (p : List ℕ) : Type 0 where
-    round : n ≤ 12
+    round : n ≤ MOST_ROUNDS
     student : is_code s ≡ true
-    place : k ≤ 8
+    place : k ≤ RANKS
     project : is_code p ≡ true
 
   choice_stands : (round : ℕ) (student : List ℕ) (i : ℕ) (project : List ℕ) → slice_get (choices_in o round student) i ≡ Some project → IsStanding round student (suc i) project

@@ -12,3 +12,4 @@ mod Permuted
 mod Fitness
 mod Judged
 mod Reopening
+mod Causes

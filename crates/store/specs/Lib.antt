@@ -4,3 +4,4 @@ pub mod Tables
 pub mod Saving
 pub mod Reading
 pub mod Laws
+pub mod Causes

@@ -1,5 +1,5 @@
 -- What the rows that are read from the tables say.
-use Rattle.std.specs.Prelude.{◌≡◌, ◌≢◌, ◌⊎◌, [], take, ◌<◌, ◌^◌, ℕ, true, IsTrue, IsUtf8, List, map, drop, nat_lt}
+use Rattle.std.specs.Prelude.{◌≡◌, ◌≢◌, ◌⊎◌, [], take, ◌<◌, ◌^◌, ℕ, Bool, true, false, IsTrue, IsUtf8, List, map, drop, nat_lt}
 use Rattle.std.specs.List.{list_all}
 use Rattle.sqlite.specs.Order.{Row as Cells}
 use Rattle.sqlite.specs.Effect.{Database}
@@ -8,7 +8,7 @@ use Rattle.rolls.specs.declared.row.Row.TheVariants as row
 use Rattle.rolls.specs.State.{State}
 use Rattle.rolls.specs.Fit.{IsFit}
 use Rattle.tables.specs.declared.table.Table.{Table}
-use Rattle.tables.specs.declared.table.Table.TheVariants.{Edition}
+use Rattle.tables.specs.declared.table.Table.TheVariants.{Edition, Supervisor, Project, Student, Round, Choice, Placement, Import}
 use Rattle.store.specs.Rows.{IsRoll, columns, is_in, columns_of, rolls}
 use Rattle.sqlite.specs.Schema.{Schema}
 use Rattle.sqlite.specs.State.{State as Seen, IsUnchanged}
@@ -26,6 +26,21 @@ IsTyped (row.Round number is_open) = number < 2 ^ 32
 IsTyped (row.Choice round student place project) = (round < 2 ^ 32) × IsUtf8 student × (place < 2 ^ 32) × IsUtf8 project
 IsTyped (row.Placement student round project rank) = IsUtf8 student × (round < 2 ^ 32) × IsUtf8 project × (rank < 2 ^ 32)
 IsTyped (row.Import id kind bytes rows) = IsUtf8 id × (rows < 2 ^ 32)
+
+-- the table is one of supervisors, projects or students
+abbrev pub is_of_rolls : Table → Bool
+is_of_rolls Supervisor = true
+is_of_rolls Project = true
+is_of_rolls Student = true
+is_of_rolls _ = false
+
+-- the table is one of rounds, lists, placements or imports
+abbrev pub is_of_rounds : Table → Bool
+is_of_rounds Round = true
+is_of_rounds Choice = true
+is_of_rounds Placement = true
+is_of_rounds Import = true
+is_of_rounds _ = false
 
 -- a row of the table, whose columns these are after its rowid
 abbrev pub IsRowWith : Table → Cells → Row → Type 0

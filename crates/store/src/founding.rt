@@ -4,6 +4,8 @@ ghost use Rattle.std.specs.Prelude.{◌≡◌, ◌≢◌, IsTrue, false, OnOk, O
 ghost use Rattle.sqlite.specs.State.{HasCleanDisk, Survives};
 ghost use Rattle.sqlite.specs.Held.{state};
 ghost use Rattle.tables.specs.Steps.{Does, HasSaved, HasStepped, IsKept, IsLeft, Stays};
+ghost use Rattle.tables.specs.Causes.{IsCaused, IsCausedInside};
+ghost use Rattle.store.specs.Causes.{IsHinderedFounding, IsHinderedMaking};
 ghost use Rattle.store.specs.Tables.{Empties, HasNone, MakesTables};
 
 use crate::fault::StoreFault;
@@ -32,6 +34,7 @@ pub fn has_none(schema: &Schema) -> bool
 fn make_each<S: Alter>(tx: &mut Transaction<'_, S>, tables: &[Table]) -> Result<(), TableFault>
     ensures same_reference { tx.new.conn.ghost_name ≡ tx.old.conn.ghost_name }
     ensures step { Does (Stays (MakesTables tables.now)) result (state S.Store tx.old.conn.now) (state S.Store tx.new.conn.now) }
+    ensures cause { IsCausedInside (IsHinderedMaking tables.now) result (state S.Store tx.old.conn.now) (state S.Store tx.new.conn.now) }
 {
     for table in tables {
         make(tx, *table)?;
@@ -43,6 +46,7 @@ fn make_each<S: Alter>(tx: &mut Transaction<'_, S>, tables: &[Table]) -> Result<
 fn make_tables<S: Alter>(tx: &mut Transaction<'_, S>) -> Result<(), TableFault>
     ensures same_reference { tx.new.conn.ghost_name ≡ tx.old.conn.ghost_name }
     ensures step { Does (HasStepped Empties) result (state S.Store tx.old.conn.now) (state S.Store tx.new.conn.now) }
+    ensures cause { IsCausedInside IsHinderedFounding result (state S.Store tx.old.conn.now) (state S.Store tx.new.conn.now) }
 {
     make_each(tx, &TABLES)?;
     insert(tx, Table::Edition, params![1, 1])
@@ -53,6 +57,7 @@ pub fn found<S: Alter>(conn: &mut Connection<S>) -> Result<(), StoreFault>
     ensures ok { HasCleanDisk (state S.Store conn.new) → OnOk result (HasSaved Empties (state S.Store conn.old) (state S.Store conn.new)) }
     ensures err { HasCleanDisk (state S.Store conn.new) → OnErr result (IsKept (state S.Store conn.old) (state S.Store conn.new)) }
     ensures faults { result ≢ Err StoreFault.Damaged }
+    ensures cause { conn.old.in_transaction ≡ false → IsCaused StoreFault.Storage IsHinderedFounding result (state S.Store conn.old) (state S.Store conn.new) }
     ensures crash { Survives (state S.Store conn.old) (state S.Store conn.new) (IsLeft Empties (state S.Store conn.old)) }
     ensures ended { conn.old.in_transaction ≡ false → conn.new.in_transaction ≡ false }
 {

@@ -5,7 +5,9 @@ ghost use Rattle.sqlite.specs.declared.types.Value.TheVariants.{Int};
 ghost use Rattle.sqlite.specs.Order.{column};
 ghost use Rattle.sqlite.specs.State.{HasCleanDisk, IsUnchanged, Survives};
 ghost use Rattle.sqlite.specs.Held.{state};
-ghost use Rattle.tables.specs.Table.{table_at};
+ghost use Rattle.tables.specs.Causes.{IsCaused, IsUnread};
+ghost use Rattle.tables.specs.Table.{sql_of, table_at};
+ghost use Rattle.store.specs.Causes.{IsHinderedReading};
 ghost use Rattle.tables.specs.Steps.{Rests};
 ghost use Rattle.rolls.specs.State.{State};
 ghost use Rattle.rolls.specs.Fit.{IsFit};
@@ -109,6 +111,7 @@ fn read_table<S: Alter>(
     ensures rows { HasCleanDisk (state S.Store conn.new) → IfOk result (λ rows. ReadsTable table rows.items (state S.Store conn.old) (state S.Store conn.new)) }
     ensures damaged { HasCleanDisk (state S.Store conn.new) → result ≡ Err StoreFault.Damaged → IsTrue (state S.Store conn.old).is_open × HoldsNoRow table (state S.Store conn.old).now }
     ensures rests { HasCleanDisk (state S.Store conn.new) → Rests (state S.Store conn.old) (state S.Store conn.new) }
+    ensures cause { IsCaused StoreFault.Storage (IsUnread (sql_of table).select) result (state S.Store conn.old) (state S.Store conn.new) }
     ensures mode { conn.old.in_transaction ≡ false → conn.new.in_transaction ≡ false }
     ensures survives { Survives (state S.Store conn.old) (state S.Store conn.new) (λ _. ⊥) }
 {
@@ -121,6 +124,7 @@ fn read_rows<S: Alter>(alloc: Global, conn: &mut Connection<S>) -> Result<Vec<Ro
     ensures rows { HasCleanDisk (state S.Store conn.new) → IfOk result (λ rows. ReadsAll rows.items (state S.Store conn.old) (state S.Store conn.new)) }
     ensures damaged { HasCleanDisk (state S.Store conn.new) → result ≡ Err StoreFault.Damaged → HoldsUnread (state S.Store conn.old) }
     ensures rests { HasCleanDisk (state S.Store conn.new) → Rests (state S.Store conn.old) (state S.Store conn.new) }
+    ensures cause { IsCaused StoreFault.Storage IsHinderedReading result (state S.Store conn.old) (state S.Store conn.new) }
     ensures mode { conn.old.in_transaction ≡ false → conn.new.in_transaction ≡ false }
     ensures survives { Survives (state S.Store conn.old) (state S.Store conn.new) (λ _. ⊥) }
 {
@@ -136,6 +140,7 @@ fn read_rows<S: Alter>(alloc: Global, conn: &mut Connection<S>) -> Result<Vec<Ro
 fn office_from(alloc: Global, rows: Vec<Row>) -> Result<Office, StoreFault>
     ensures rows { IfOk result (λ office. AreRowsOf rows.items office) }
     ensures unfit { result ≡ Err StoreFault.Damaged → (o : State) → IsFit o → AreRowsOf rows.items o → ⊥ }
+    ensures faults { result ≢ Err StoreFault.Storage }
 {
     match Office::from_rows(alloc, rows) {
         Ok(office) => Ok(office),
@@ -150,6 +155,7 @@ pub fn office_of<S: Alter>(alloc: Global, conn: &mut Connection<S>) -> Result<Of
     ensures unlisted { (AreListed (state S.Store conn.old).now.schema → ⊥) → result ≡ Err StoreFault.Damaged }
     ensures damaged { HasCleanDisk (state S.Store conn.new) → result ≡ Err StoreFault.Damaged → IsDamaged (state S.Store conn.old).now }
     ensures rests { HasCleanDisk (state S.Store conn.new) → Rests (state S.Store conn.old) (state S.Store conn.new) }
+    ensures cause { IsCaused StoreFault.Storage IsHinderedReading result (state S.Store conn.old) (state S.Store conn.new) }
     ensures mode { conn.old.in_transaction ≡ false → conn.new.in_transaction ≡ false }
     ensures survives { Survives (state S.Store conn.old) (state S.Store conn.new) (λ _. ⊥) }
 {

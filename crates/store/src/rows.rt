@@ -1,12 +1,12 @@
 //! Rows as they are read.
 
-ghost use Rattle.std.specs.Prelude.{◌≡◌, ◌≢◌, ◌<◌, ◌^◌, ℕ, pos, Bool, IsTrue, false, cond, List, IsUtf8, IfOk, drop, length, ◌+◌};
+ghost use Rattle.std.specs.Prelude.{◌≡◌, ◌≢◌, ◌<◌, ◌^◌, ℕ, pos, Bool, IsTrue, true, false, cond, List, IsUtf8, IfOk, drop, length, ◌+◌};
 ghost use Rattle.sqlite.specs.declared.types.Value.TheVariants.{Int, Blob, Text as Words};
 ghost use Rattle.sqlite.specs.Order.{Row as AnyCells, column};
 ghost use Rattle.sqlite_rules.specs.Lists.{Has};
 ghost use Rattle.rolls.specs.Kinds.{word_of};
 ghost use Rattle.tables.specs.Table.{kinds_of};
-ghost use Rattle.store.specs.Reading.{IsNoRow, IsRowWith, AreRowsOf};
+ghost use Rattle.store.specs.Reading.{IsNoRow, IsRowWith, AreRowsOf, is_of_rolls, is_of_rounds};
 
 use crate::fault::StoreFault;
 use rolls::{Bytes, ImportKind, Row, Text};
@@ -19,9 +19,10 @@ use tables::Table;
 fn text_at(alloc: Global, cells: &Cells, at: usize) -> Result<Text, StoreFault>
     ensures text { IfOk result (λ text. column cells.now at ≡ Words text) }
     ensures damaged { result ≡ Err StoreFault.Damaged → (text : List ℕ) → IsUtf8 text → column cells.now at ≢ Words text }
+    ensures faults { result ≢ Err StoreFault.Storage }
 {
     let Ok(value) = cells.get_ref(at) else {
-        return Err(StoreFault::Storage);
+        return Err(StoreFault::Damaged);
     };
     let ValueRef::Text(bytes) = value else {
         return Err(StoreFault::Damaged);
@@ -36,9 +37,10 @@ fn text_at(alloc: Global, cells: &Cells, at: usize) -> Result<Text, StoreFault>
 fn number_at(cells: &Cells, at: usize) -> Result<u32, StoreFault>
     ensures number { IfOk result (λ n. column cells.now at ≡ Int (pos n)) }
     ensures damaged { result ≡ Err StoreFault.Damaged → (n : ℕ) → n < 2 ^ 32 → column cells.now at ≢ Int (pos n) }
+    ensures faults { result ≢ Err StoreFault.Storage }
 {
     let Ok(value) = cells.get_ref(at) else {
-        return Err(StoreFault::Storage);
+        return Err(StoreFault::Damaged);
     };
     let ValueRef::Int(n) = value else {
         return Err(StoreFault::Damaged);
@@ -53,6 +55,7 @@ fn number_at(cells: &Cells, at: usize) -> Result<u32, StoreFault>
 fn flag_at(cells: &Cells, at: usize) -> Result<bool, StoreFault>
     ensures flag { IfOk result (λ b. column cells.now at ≡ Int (pos (cond b 1 0))) }
     ensures damaged { result ≡ Err StoreFault.Damaged → (b : Bool) → column cells.now at ≢ Int (pos (cond b 1 0)) }
+    ensures faults { result ≢ Err StoreFault.Storage }
 {
     match number_at(cells, at)? {
         0 => Ok(false),
@@ -65,9 +68,10 @@ fn flag_at(cells: &Cells, at: usize) -> Result<bool, StoreFault>
 fn blob_at(alloc: Global, cells: &Cells, at: usize) -> Result<Bytes, StoreFault>
     ensures blob { IfOk result (λ bytes. column cells.now at ≡ Blob bytes) }
     ensures damaged { result ≡ Err StoreFault.Damaged → (bytes : List ℕ) → column cells.now at ≢ Blob bytes }
+    ensures faults { result ≢ Err StoreFault.Storage }
 {
     let Ok(value) = cells.get_ref(at) else {
-        return Err(StoreFault::Storage);
+        return Err(StoreFault::Damaged);
     };
     let ValueRef::Blob(bytes) = value else {
         return Err(StoreFault::Damaged);
@@ -88,9 +92,10 @@ fn names(bytes: &[u8], kind: ImportKind) -> bool
 fn kind_at(cells: &Cells, at: usize) -> Result<ImportKind, StoreFault>
     ensures kind { IfOk result (λ kind. column cells.now at ≡ Words (word_of kind)) }
     ensures damaged { result ≡ Err StoreFault.Damaged → (kind : ImportKind) → column cells.now at ≢ Words (word_of kind) }
+    ensures faults { result ≢ Err StoreFault.Storage }
 {
     let Ok(value) = cells.get_ref(at) else {
-        return Err(StoreFault::Storage);
+        return Err(StoreFault::Damaged);
     };
     let ValueRef::Text(word) = value else {
         return Err(StoreFault::Damaged);
@@ -112,9 +117,11 @@ fn kind_at(cells: &Cells, at: usize) -> Result<ImportKind, StoreFault>
 
 /// A row of one of the rolls. Numbers are read first, so that few texts are dropped where a column has no such value.
 fn roll_row(alloc: Global, table: Table, cells: &Cells) -> Result<Row, StoreFault>
-    requires { length cells.now ≡ length (kinds_of table) + 1 }
+    requires columns { length cells.now ≡ length (kinds_of table) + 1 }
+    requires own { is_of_rolls table ≡ true }
     ensures row { IfOk result (IsRowWith table cells.now) }
     ensures damaged { result ≡ Err StoreFault.Damaged → IsNoRow table (drop 1 cells.now) }
+    ensures faults { result ≢ Err StoreFault.Storage }
 {
     match table {
         Table::Supervisor => Ok(Row::Supervisor {
@@ -133,7 +140,7 @@ fn roll_row(alloc: Global, table: Table, cells: &Cells) -> Result<Row, StoreFaul
             label: text_at(alloc, cells, 2)?,
         }),
         Table::Round | Table::Choice | Table::Placement | Table::Import | Table::Edition => {
-            Err(StoreFault::Storage)
+            Err(StoreFault::Damaged)
         }
     }
 }
@@ -142,28 +149,31 @@ fn roll_row(alloc: Global, table: Table, cells: &Cells) -> Result<Row, StoreFaul
 fn row_with(alloc: Global, table: Table, cells: &Cells) -> Result<Row, StoreFault>
     ensures row { IfOk result (IsRowWith table cells.now) }
     ensures damaged { result ≡ Err StoreFault.Damaged → IsNoRow table (drop 1 cells.now) }
+    ensures faults { result ≢ Err StoreFault.Storage }
 {
     if cells.column_count() != table.width() + 1 {
-        return Err(StoreFault::Storage);
+        return Err(StoreFault::Damaged);
     }
     match table {
         Table::Supervisor | Table::Project | Table::Student => roll_row(alloc, table, cells),
         Table::Round | Table::Choice | Table::Placement | Table::Import => {
             round_row(alloc, table, cells)
         }
-        Table::Edition => Err(StoreFault::Storage),
+        Table::Edition => Err(StoreFault::Damaged),
     }
 }
 
 /// A row of a round, a list, a placement or an import, read in the same way.
 fn round_row(alloc: Global, table: Table, cells: &Cells) -> Result<Row, StoreFault>
-    requires { length cells.now ≡ length (kinds_of table) + 1 }
+    requires columns { length cells.now ≡ length (kinds_of table) + 1 }
+    requires own { is_of_rounds table ≡ true }
     ensures row { IfOk result (IsRowWith table cells.now) }
     ensures damaged { result ≡ Err StoreFault.Damaged → IsNoRow table (drop 1 cells.now) }
+    ensures faults { result ≢ Err StoreFault.Storage }
 {
     match table {
         Table::Supervisor | Table::Project | Table::Student | Table::Edition => {
-            Err(StoreFault::Storage)
+            Err(StoreFault::Damaged)
         }
         Table::Round => Ok(Row::Round {
             number: number_at(cells, 1)?,
@@ -194,6 +204,7 @@ fn round_row(alloc: Global, table: Table, cells: &Cells) -> Result<Row, StoreFau
 pub fn rows_with(alloc: Global, table: Table, all: &[Cells]) -> Result<Vec<Row>, StoreFault>
     ensures rows { IfOk result (λ rows. AreRowsOf table all.now rows.items) }
     ensures damaged { result ≡ Err StoreFault.Damaged → (cells : AnyCells) × Has all.now cells × IsNoRow table (drop 1 cells) }
+    ensures faults { result ≢ Err StoreFault.Storage }
 {
     let mut rows = Vec::new(alloc);
     for cells in all {

@@ -4,7 +4,9 @@ ghost use Rattle.std.specs.Prelude.{◌≡◌, ◌≢◌, cond, IsTrue, false, O
 ghost use Rattle.sqlite.specs.Effect.{IsDatabase};
 ghost use Rattle.sqlite.specs.State.{HasCleanDisk, Survives};
 ghost use Rattle.sqlite.specs.Held.{state};
+ghost use Rattle.tables.specs.Causes.{IsCaused, IsCausedInside};
 ghost use Rattle.tables.specs.Steps.{Does, HasSaved, HasStepped, IsKept, IsLeft, Stays};
+ghost use Rattle.store.specs.Causes.{IsHinderedAmong, IsHinderedChange, IsHinderedToSave};
 ghost use Rattle.store.specs.Saving.{Applies, AppliesOne, AreActedOn, LeavesOthers, Saves};
 
 use crate::fault::StoreFault;
@@ -26,6 +28,7 @@ fn flag(value: bool) -> u32
 fn put_row<S: Alter>(tx: &mut Transaction<'_, S>, row: &Row) -> Result<(), TableFault>
     ensures same_reference { tx.new.conn.ghost_name ≡ tx.old.conn.ghost_name }
     ensures step { Does (HasStepped (AppliesOne (Change.Put row.now))) result (state S.Store tx.old.conn.now) (state S.Store tx.new.conn.now) }
+    ensures cause { IsCausedInside (IsHinderedChange (Change.Put row.now)) result (state S.Store tx.old.conn.now) (state S.Store tx.new.conn.now) }
 {
     match row {
         Row::Supervisor { code, label, quota } => put(
@@ -86,6 +89,7 @@ fn put_row<S: Alter>(tx: &mut Transaction<'_, S>, row: &Row) -> Result<(), Table
 fn take_row<S: Alter>(tx: &mut Transaction<'_, S>, key: &RowKey) -> Result<(), TableFault>
     ensures same_reference { tx.new.conn.ghost_name ≡ tx.old.conn.ghost_name }
     ensures step { Does (HasStepped (AppliesOne (Change.Take key.now))) result (state S.Store tx.old.conn.now) (state S.Store tx.new.conn.now) }
+    ensures cause { IsCausedInside (IsHinderedChange (Change.Take key.now)) result (state S.Store tx.old.conn.now) (state S.Store tx.new.conn.now) }
 {
     match key {
         RowKey::Supervisor(code) => delete(tx, Table::Supervisor, params![code.as_str()]),
@@ -104,6 +108,7 @@ fn take_row<S: Alter>(tx: &mut Transaction<'_, S>, key: &RowKey) -> Result<(), T
 fn apply<S: Alter>(tx: &mut Transaction<'_, S>, change: &Change) -> Result<(), TableFault>
     ensures same_reference { tx.new.conn.ghost_name ≡ tx.old.conn.ghost_name }
     ensures step { Does (HasStepped (AppliesOne change.now)) result (state S.Store tx.old.conn.now) (state S.Store tx.new.conn.now) }
+    ensures cause { IsCausedInside (IsHinderedChange change.now) result (state S.Store tx.old.conn.now) (state S.Store tx.new.conn.now) }
 {
     match change {
         Change::Put(row) => put_row(tx, row),
@@ -118,6 +123,7 @@ pub fn apply_all<S: Alter>(
 ) -> Result<(), TableFault>
     ensures same_reference { tx.new.conn.ghost_name ≡ tx.old.conn.ghost_name }
     ensures step { Does (Stays (Applies changes.now)) result (state S.Store tx.old.conn.now) (state S.Store tx.new.conn.now) }
+    ensures cause { IsCausedInside (IsHinderedAmong changes.now) result (state S.Store tx.old.conn.now) (state S.Store tx.new.conn.now) }
 {
     for change in changes {
         apply(tx, change)?;
@@ -132,6 +138,7 @@ fn commit_all<S: Alter>(conn: &mut Connection<S>, changes: &[Change]) -> Result<
     ensures ok { HasCleanDisk (state S.Store conn.new) → OnOk result (HasSaved (Applies changes.now) (state S.Store conn.old) (state S.Store conn.new)) }
     ensures err { HasCleanDisk (state S.Store conn.new) → OnErr result (IsKept (state S.Store conn.old) (state S.Store conn.new)) }
     ensures faults { result ≢ Err StoreFault.Damaged }
+    ensures cause { conn.old.in_transaction ≡ false → IsCaused StoreFault.Storage (IsHinderedAmong changes.now) result (state S.Store conn.old) (state S.Store conn.new) }
     ensures crash { Survives (state S.Store conn.old) (state S.Store conn.new) (IsLeft (Applies changes.now) (state S.Store conn.old)) }
     ensures ended { conn.old.in_transaction ≡ false → conn.new.in_transaction ≡ false }
 {
@@ -151,6 +158,7 @@ pub fn save_all<S: Alter>(conn: &mut Connection<S>, changes: &[Change]) -> Resul
     ensures ok { HasCleanDisk (state S.Store conn.new) → OnOk result (HasSaved (Applies changes.now) (state S.Store conn.old) (state S.Store conn.new)) }
     ensures err { HasCleanDisk (state S.Store conn.new) → OnErr result (IsKept (state S.Store conn.old) (state S.Store conn.new)) }
     ensures faults { result ≢ Err StoreFault.Damaged }
+    ensures cause { conn.old.in_transaction ≡ false → IsCaused StoreFault.Storage (IsHinderedToSave changes.now) result (state S.Store conn.old) (state S.Store conn.new) }
     ensures crash { Survives (state S.Store conn.old) (state S.Store conn.new) (IsLeft (Applies changes.now) (state S.Store conn.old)) }
     ensures ended { conn.old.in_transaction ≡ false → conn.new.in_transaction ≡ false }
     ensures begun { IsTrue conn.old.in_transaction → result ≡ Err StoreFault.Storage }

@@ -4,6 +4,8 @@ ghost use Rattle.std.specs.Prelude.{◌≡◌, ◌≢◌, IsTrue, false, Err, If
 ghost use Rattle.sqlite.specs.State.{HasCleanDisk, IsLive, Survives};
 ghost use Rattle.sqlite.specs.Held.{state};
 ghost use Rattle.tables.specs.Steps.{HasSaved, IsKept, IsLeft};
+ghost use Rattle.tables.specs.Causes.{IsCaused, IsStopped};
+ghost use Rattle.store.specs.Causes.{IsHinderedOpening, IsHinderedReading, IsHinderedToSave};
 ghost use Rattle.store.specs.Tables.{Founds, HasNone, LeavesAlone, Opens, StandsFor};
 ghost use Rattle.store.specs.Reading.{AreListed, IsDamaged};
 ghost use Rattle.store.specs.Saving.{AreActedOn, LeavesOthers, Saves};
@@ -53,6 +55,7 @@ fn open_tables<S: Alter>(alloc: Global, conn: &mut Connection<S>) -> Result<Offi
     ensures damaged { HasCleanDisk (state S.Store conn.new) → result ≡ Err StoreFault.Damaged → IsDamaged (state S.Store conn.old).now }
     ensures some { result ≡ Err StoreFault.Damaged → HasNone (state S.Store conn.old).now.schema → ⊥ }
     ensures kept { HasCleanDisk (state S.Store conn.new) → OnErr result (IsKept (state S.Store conn.old) (state S.Store conn.new)) }
+    ensures cause { conn.old.in_transaction ≡ false → IsCaused StoreFault.Storage IsHinderedOpening result (state S.Store conn.old) (state S.Store conn.new) }
     ensures crash { Survives (state S.Store conn.old) (state S.Store conn.new) (IsLeft Founds (state S.Store conn.old)) }
 {
     if !conn.is_autocommit() {
@@ -88,6 +91,9 @@ impl<S: Alter> Store<S> {
         ensures unlisted { conn.in_transaction ≡ false → (HasNone (state S.Store conn).now.schema → ⊥) → (AreListed (state S.Store conn).now.schema → ⊥) → IsErr result × IfErr result (λ it. it.0 ≡ StoreFault.Damaged) }
         ensures kept { IfErr result (λ it. HasCleanDisk (state S.Store it.1) → IsKept (state S.Store conn) (state S.Store it.1)) }
 
+        // Why the storage has failed: an open transaction apart, a shut connection, a fault of the disk, or a refused statement.
+        ensures cause { IfErr result (λ it. conn.in_transaction ≡ false → HasCleanDisk (state S.Store it.1) → it.0 ≡ StoreFault.Storage → IsStopped IsHinderedOpening (state S.Store conn) (state S.Store it.1)) }
+
         // A crash at any moment of the call.
         ensures crash { IfOk result (λ it. Survives (state S.Store conn) (state S.Store it.0) (IsLeft Founds (state S.Store conn))) }
         ensures crash_err { IfErr result (λ it. Survives (state S.Store conn) (state S.Store it.1) (IsLeft Founds (state S.Store conn))) }
@@ -104,6 +110,7 @@ impl<S: Alter> Store<S> {
         ensures unlisted { self.old.in_transaction ≡ false → (AreListed (state S.Store self.old).now.schema → ⊥) → result ≡ Err StoreFault.Damaged }
         ensures damaged { HasCleanDisk (state S.Store self.new) → result ≡ Err StoreFault.Damaged → IsDamaged (state S.Store self.old).now }
         ensures kept { HasCleanDisk (state S.Store self.new) → IsKept (state S.Store self.old) (state S.Store self.new) }
+        ensures cause { self.old.in_transaction ≡ false → IsCaused StoreFault.Storage IsHinderedReading result (state S.Store self.old) (state S.Store self.new) }
 
         // A crash at any moment of the call.
         ensures crash { Survives (state S.Store self.old) (state S.Store self.new) (λ _. ⊥) }
@@ -128,6 +135,9 @@ impl<S: Alter> Store<S> {
 
         // Nothing is saved where a foreign key would write other rows too.
         ensures acted_on { AreActedOn (state S.Store self.old).now.schema → result ≡ Err StoreFault.Storage }
+
+        // Why else the storage has failed, but for an open transaction: a shut connection, a fault of the disk, or a refused statement.
+        ensures cause { self.old.in_transaction ≡ false → (AreActedOn (state S.Store self.old).now.schema → ⊥) → IsCaused StoreFault.Storage (IsHinderedToSave changes.now) result (state S.Store self.old) (state S.Store self.new) }
 
         // A crash at any moment of the call.
         ensures crash { Survives (state S.Store self.old) (state S.Store self.new) (IsLeft (Saves changes.now) (state S.Store self.old)) }

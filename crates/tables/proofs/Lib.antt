@@ -23,3 +23,4 @@ mod Texts
 mod Tables
 mod Told
 pub mod Relisting
+pub mod Causes

@@ -31,7 +31,7 @@ use Rattle.sqlite_draft.specs.declared.query.Draft.{Draft}
 use Rattle.sqlite_draft.specs.declared.join.Step.TheVariants.{Inner}
 use Rattle.sqlite_schema.specs.declared.program.Program.{Program}
 use Rattle.sqlite_resolve.specs.declared.error.CompileError.TheVariants.{NoSuchTable, Mismatch}
-use Rattle.sqlite.specs.Listing.{reads_listing, IsSourceOf, listing_schema, if_select}
+use Rattle.sqlite.specs.Listing.{understood, reads_listing, IsSourceOf, listing_schema, if_select}
 use Rattle.sqlite.specs.State.{State, Shown as HasShown, IsUnchanged, text_of}
 use Rattle.sqlite_resolve.specs.declared.compiled.Compiled.{Compiled}
 use Rattle.tables.proofs.Understood.{planned_of, compiled_of, Means}
@@ -300,15 +300,20 @@ module _ (sql : List ℕ) (t0 : Table) (it : IsSelect sql t0) where
         both.1,
       )
 
-  -- rows that are shown change nothing
-  select_unchanged : (old new : State) (rows : List Row) → HasShown sql [] old new rows → IsUnchanged old new
-  unfolding HasShown returning timed
-  select_unchanged old new rows h =
-      let p = planned_of old.now.schema sql it.plain.p h.0 it.unlisted it.plain.parsed h.1.is in
+  -- the text has no RETURNING
+  pub no_returning : (schema : Schema) (c : Compiled) → understood schema sql ≡ Ok c → c.returning ≡ None
+  unfolding returning timed
+  no_returning schema c is =
+      let p = planned_of schema sql it.plain.p c it.unlisted it.plain.parsed is in
       let q = rw (it.plain.plain, it.plain.no_names, it.plain.statement) at p in
       let none : q.0 ≡ None = let e = q.2 in cc in
-      let is : h.0.returning ≡ None = ap (λ (it : Compiled). it.returning) q.4 ∙ none in
-      let seen = rw is at h.2 in
+      ap (λ (it : Compiled). it.returning) q.4 ∙ none
+
+  -- rows that are shown change nothing
+  select_unchanged : (old new : State) (rows : List Row) → HasShown sql [] old new rows → IsUnchanged old new
+  unfolding HasShown
+  select_unchanged old new rows h =
+      let seen = rw (no_returning old.now.schema h.0 h.1.is) at h.2 in
       seen.3
 
   -- the same of a call that answers them
@@ -322,23 +327,14 @@ module _ (sql : List ℕ) (t0 : Table) (it : IsSelect sql t0) where
 
   -- the text commits nothing
   pub select_commits : (old : State) (params : Row) (db : Trees) → CommitsShowing sql params old db → ⊥
-  unfolding CommitsShowing returning timed
-  select_commits old params db h =
-      let p = planned_of old.now.schema sql it.plain.p h.0 it.unlisted it.plain.parsed h.1.is in
-      let q = rw (it.plain.plain, it.plain.no_names, it.plain.statement) at p in
-      let none : q.0 ≡ None = let e = q.2 in cc in
-      let is : h.0.returning ≡ None = ap (λ (it : Compiled). it.returning) q.4 ∙ none in
-      absurd (let f = rw is at h.2 in cc)
+  unfolding CommitsShowing
+  select_commits old params db h = absurd (let f = rw (no_returning old.now.schema h.0 h.1.is) at h.2 in cc)
 
   -- the text changes nothing
   pub select_rests : (old new : State) → RanQuery sql old new → Rests old new
-  unfolding FailsToQuery returning timed
+  unfolding FailsToQuery
   select_rests old new (inl (rows, h)) = unchanged_rests old new (select_unchanged old new rows h)
   select_rests old new (inr (e, inl h)) = not_run_rests old new sql [] e h
   select_rests old new (inr (e, inr h)) =
-      let p = planned_of old.now.schema sql it.plain.p h.0 it.unlisted it.plain.parsed h.1.is in
-      let q = rw (it.plain.plain, it.plain.no_names, it.plain.statement) at p in
-      let none : q.0 ≡ None = let e = q.2 in cc in
-      let is : h.0.returning ≡ None = ap (λ (it : Compiled). it.returning) q.4 ∙ none in
-      let seen = rw is at h.2 in
+      let seen = rw (no_returning old.now.schema h.0 h.1.is) at h.2 in
       unchanged_rests old new seen.3

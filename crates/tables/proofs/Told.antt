@@ -1,16 +1,15 @@
 -- What the statements of each table do.
-use Rattle.std.proofs.Common.{◌≡◌, ℕ, [], subst, length, take, Result, IfOk, Vec}
+use Rattle.std.proofs.Common.{◌≡◌, ◌<◌, ◌≤◌, inl, inr, sym, ◌∙◌, ℕ, [], subst, length, take, Result, IfOk, Vec}
 use Rattle.std.specs.declared.alloc.Global.{Global}
 use Rattle.sqlite.specs.Order.{Row}
-use Rattle.sqlite.specs.State.{State, Shown, CommitsShowing}
+use Rattle.sqlite.specs.State.{State, HasCleanDisk, Survives, Shown, CommitsShowing}
 use Rattle.sqlite.specs.Tree.{Trees}
 use Rattle.tables.specs.declared.fault.TableFault.{TableFault}
 use Rattle.tables.specs.Keyed.{IsKeyed}
 use Rattle.tables.specs.declared.table.Table.{Table}
 use Rattle.tables.specs.Table.{Sql, checks_of, shape_of, sql_of, table_at, kinds_of, key_in, IsRowOf, IsKeyOf}
-use Rattle.tables.specs.Writes.{Makes, Adds, Removes}
+use Rattle.tables.specs.Writes.{Makes, Adds, Removes, Replaces}
 use Rattle.tables.specs.Steps.{HasRun, HasStepped, Shows, RanQuery, Rests}
-use Rattle.tables.proofs.Putting.{Replaces}
 use Rattle.tables.proofs.Places.{nowhere}
 use Rattle.tables.proofs.Creating.{create_makes, create_writes}
 use Rattle.tables.proofs.Adding.{inserts, insert_writes}
@@ -20,6 +19,10 @@ use Rattle.tables.proofs.Selecting.{read_shows, select_commits, select_rests}
 use Rattle.tables.proofs.Runs.{stepped_by}
 use Rattle.tables.proofs.Texts.{create_is, insert_is, update_is, delete_is, select_is}
 use Rattle.tables.proofs.Tables.{texts}
+use Rattle.tables.proofs.Putting.{finds_none}
+use Rattle.tables.proofs.Causes.{stopped_after, stopped_as, unordered, unread}
+use Rattle.tables.specs.Causes.{FailsToRead, IsHindered, IsHinderedToPut, IsStopped, IsUnread}
+use Rattle.tables.specs.declared.fault.TableFault.TheVariants.{Storage}
 
 module _ (table : Table) (told : Sql) (is : told ≡ sql_of table) (old new : State) (count : ℕ) where
   -- the table was made
@@ -56,3 +59,26 @@ module _ (table : Table) (told : Sql) (is : told ≡ sql_of table) (old new : St
   -- and changes nothing
   pub rests : RanQuery told.select old new → Rests old new
   rests ran = select_rests (sql_of table).select (table_at table nowhere) (select_is table (texts table)) old new (subst (λ (sql : Sql). RanQuery sql.select old new) is ran)
+
+  -- why it fails
+  pub unread_by : (fault : TableFault) → fault ≡ Storage → FailsToRead told.select fault old new → IsStopped (IsUnread (sql_of table).select) old new
+  unread_by fault storage h = go (subst (λ (sql : Sql). FailsToRead sql.select fault old new) is h)
+    where
+      go : FailsToRead (sql_of table).select fault old new → IsStopped (IsUnread (sql_of table).select) old new
+      go (inl (e, fails, is)) = unread (sql_of table).select (table_at table nowhere) (select_is table (texts table)) old new e (sym is ∙ storage) fails
+      go (inr (rows, shown, mixed, is)) = unordered (sql_of table).select (table_at table nowhere) (select_is table (texts table)) old new rows mixed shown
+
+-- why a row cannot be put
+module _ (table : Table) (row : Row) (old new : State) where
+  abbrev Unput : Type 0
+  Unput = IsStopped (IsHinderedToPut table row) old new
+
+  pub unreplaced : IsStopped (IsHindered (sql_of table).update row) old new → Unput
+  unreplaced = stopped_as _ _ old new (λ h. inl h)
+
+  pub unadded : (mid : State) (count : ℕ) → count ≡ 0 → Survives old mid (λ _. ⊥) → HasCleanDisk mid → mid.faults ≤ new.faults → HasStepped (Replaces (table_at table) (key_in table row) row count) old mid → IsStopped (IsHindered (sql_of table).insert row) mid new → Unput
+  unadded mid count zero survives clean up did =
+      stopped_after _ _ old mid new survives clean up (λ h. inr (inl (record { between = mid.now; none = finds_none (table_at table) _ _ count _ _ zero did.step; hindered = h })))
+
+  pub several : (count : ℕ) → 1 < count → HasStepped (Replaces (table_at table) (key_in table row) row count) old new → Unput
+  several count many did = record { why = inr (inr (inr (inr (record { count = count; several = many; after = new.now; replaced = did.step })))) }

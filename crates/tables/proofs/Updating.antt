@@ -39,8 +39,7 @@ use Rattle.sqlite_rules.proofs.ListLemmas.{all_has}
 use Rattle.sqlite.proofs.Callers.{one_step}
 use Rattle.tables.specs.Keyed.{id_of, IsKeyed}
 use Rattle.tables.specs.Table.{Place, Lists, cells, are_of}
-use Rattle.tables.specs.Writes.{begins_with, without}
-use Rattle.tables.proofs.Putting.{Replaces}
+use Rattle.tables.specs.Writes.{begins_with, without, Replaces}
 use Rattle.tables.proofs.Places.{placed, listed_along}
 use Rattle.tables.proofs.Inserting.{went, same_value}
 use Rattle.tables.proofs.Understood.{planned_of, Means, IsWriteText, runs_by, and_then_ok, ends_in_write, on_table_writes, compiles_to_write}

@@ -5,3 +5,4 @@ pub mod Inert
 pub mod Layout
 pub mod Steps
 pub mod Faults
+pub mod Causes

@@ -1,5 +1,5 @@
 -- What a statement does to the rows of its table, and that it does nothing else.
-use Rattle.std.specs.Prelude.{◌≡◌, ◌≢◌, [], ◌∷◌, ◌&&◌, List, Bool, true, ℕ, filter, drop, not}
+use Rattle.std.specs.Prelude.{◌≡◌, ◌≢◌, [], ◌∷◌, ◌++◌, ◌&&◌, List, Bool, true, ℕ, filter, map, length, drop, not}
 use Rattle.std.specs.List.{AllByRecursion}
 use Rattle.sqlite.specs.Order.{Row, column}
 use Rattle.sqlite.specs.Term.{Term}
@@ -57,3 +57,9 @@ Removes table key = Turns table (without key)
 -- of the rows with this key there is one, the given one
 unfoldable pub Puts : (Place → AnyTable) → Row → Row → Database → Database → Type 0
 Puts table key given = Turns table (with_row key given)
+
+-- where no foreign key acts on the table, each row with this key is replaced by the given one, and nothing else changes; so many there were
+abbrev pub Replaces : (Place → AnyTable) → Row → Row → ℕ → Database → Database → Type 0
+Replaces table key given count old new =
+    (place : Place) (rows : List Row) → IsInert old.schema place.tree → Stands table place rows old
+    → Stands table place (map (λ (_ : Row). given) (filter (begins_with key) rows) ++ without key rows) new × WritesOnly place.tree old new × (count ≡ length (filter (begins_with key) rows))

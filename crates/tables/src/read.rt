@@ -1,11 +1,12 @@
 //! Reading a whole table.
 
-ghost use Rattle.std.specs.Prelude.{◌≡◌, IfOk, IsTrue, false, []};
+ghost use Rattle.std.specs.Prelude.{◌≡◌, ◌&&◌, IfOk, IfErr, IsTrue, false, []};
 ghost use Rattle.sqlite.specs.State.{HasCleanDisk, Shown, Survives, CommitsShowing};
 ghost use Rattle.sqlite.specs.Held.{state};
 ghost use Rattle.sqlite_value.specs.Value.{owned};
 ghost use Rattle.sqlite_trees.specs.Tree.{rowid};
 ghost use Rattle.sqlite_trees.specs.View.{is_int};
+ghost use Rattle.tables.specs.Causes.{FailsToRead};
 ghost use Rattle.tables.specs.Steps.{RanQuery};
 ghost use Rattle.tables.specs.Keyed.{IsKeyed, comes_first, rises, have_ids};
 
@@ -62,7 +63,8 @@ fn have_ids(rows: &[Row]) -> bool
 /// Whether the rowids are integers, and no two are one.
 #[tactic(auto, using(crate::proofs::Rising::keyed_if_rising))]
 fn are_keyed(rows: &[Row]) -> bool
-    ensures { IsTrue result → IsKeyed rows.now }
+    ensures right { IsTrue result → IsKeyed rows.now }
+    ensures exact { result ≡ (have_ids rows.now && rises rows.now) }
 {
     have_ids(rows) && rise(rows)
 }
@@ -75,6 +77,9 @@ pub(crate) fn read_text<S: Alter>(
     ensures keyed { IfOk result (λ rows. IsKeyed rows.items) }
     ensures shown { HasCleanDisk (state S.Store conn.new) → IfOk result (λ rows. Shown sql.now [] (state S.Store conn.old) (state S.Store conn.new) rows.items) }
     ensures ran { HasCleanDisk (state S.Store conn.new) → RanQuery sql.now (state S.Store conn.old) (state S.Store conn.new) }
+
+    // Why it fails: the query fails, and the fault is that of its error, or its rows are in another order.
+    ensures told { HasCleanDisk (state S.Store conn.new) → IfErr result (λ fault. FailsToRead sql.now fault (state S.Store conn.old) (state S.Store conn.new)) }
     ensures mode { conn.old.in_transaction ≡ false → conn.new.in_transaction ≡ false }
     ensures survives { Survives (state S.Store conn.old) (state S.Store conn.new) (CommitsShowing sql.now [] (state S.Store conn.old)) }
 {

@@ -4,6 +4,8 @@ ghost use Rattle.std.specs.Prelude.{◌≡◌, OnOk, false};
 ghost use Rattle.sqlite.specs.Effect.{IsDatabase};
 ghost use Rattle.sqlite.specs.State.{HasCleanDisk, IsUnchanged, Survives};
 ghost use Rattle.sqlite.specs.Held.{state};
+ghost use Rattle.tables.specs.declared.fault.TableFault.TheVariants.{Storage};
+ghost use Rattle.tables.specs.Causes.{IsCaused, IsUnready};
 ghost use Rattle.tables.specs.Steps.{Rests};
 
 use crate::fault::TableFault;
@@ -14,6 +16,7 @@ pub fn need_open<S: Alter>(conn: &mut Connection<S>) -> Result<(), TableFault>
     ensures same { HasCleanDisk (state S.Store conn.new) → OnOk result (IsUnchanged (state S.Store conn.old) (state S.Store conn.new)) }
     ensures sound { HasCleanDisk (state S.Store conn.new) → OnOk result (IsDatabase (state S.Store conn.new).now) }
     ensures rests { HasCleanDisk (state S.Store conn.new) → Rests (state S.Store conn.old) (state S.Store conn.new) }
+    ensures cause { IsCaused Storage IsUnready result (state S.Store conn.old) (state S.Store conn.new) }
     ensures mode { conn.old.in_transaction ≡ false → conn.new.in_transaction ≡ false }
     ensures survives { Survives (state S.Store conn.old) (state S.Store conn.new) (λ _. ⊥) }
 {

@@ -4,7 +4,9 @@ ghost use Rattle.std.specs.Prelude.{◌≡◌, [], IfOk, false};
 ghost use Rattle.sqlite.specs.State.{HasCleanDisk, Survives};
 ghost use Rattle.sqlite.specs.Values.{bound};
 ghost use Rattle.sqlite.specs.Held.{state};
-ghost use Rattle.tables.specs.Table.{IsRowOf, IsKeyOf, checks_of, key_in, table_at};
+ghost use Rattle.tables.specs.declared.fault.TableFault.TheVariants.{Storage};
+ghost use Rattle.tables.specs.Causes.{IsCaused, IsCausedInside, IsHindered, IsHinderedToPut, IsUnread};
+ghost use Rattle.tables.specs.Table.{IsRowOf, IsKeyOf, checks_of, key_in, sql_of, table_at};
 ghost use Rattle.tables.specs.Writes.{Adds, Makes, Puts, Removes};
 ghost use Rattle.tables.specs.Steps.{Does, HasStepped, Rests, Shows};
 
@@ -19,6 +21,7 @@ use sqlite_value::value::ValueRef;
 pub fn make<S: Alter>(tx: &mut Transaction<'_, S>, table: Table) -> Wrote
     ensures same_reference { tx.new.conn.ghost_name ≡ tx.old.conn.ghost_name }
     ensures step { Does (HasStepped (Makes (table_at table) (checks_of table) [])) result (state S.Store tx.old.conn.now) (state S.Store tx.new.conn.now) }
+    ensures cause { IsCausedInside (IsHindered (sql_of table).create []) result (state S.Store tx.old.conn.now) (state S.Store tx.new.conn.now) }
 {
     write(tx, table.shape().create, &[])?;
     Ok(())
@@ -30,6 +33,7 @@ pub fn insert<S: Alter>(tx: &mut Transaction<'_, S>, table: Table, row: &[ValueR
 
     ensures same_reference { tx.new.conn.ghost_name ≡ tx.old.conn.ghost_name }
     ensures step { Does (HasStepped (Adds (table_at table) (bound row.now))) result (state S.Store tx.old.conn.now) (state S.Store tx.new.conn.now) }
+    ensures cause { IsCausedInside (IsHindered (sql_of table).insert (bound row.now)) result (state S.Store tx.old.conn.now) (state S.Store tx.new.conn.now) }
 {
     write(tx, table.shape().insert, row)?;
     Ok(())
@@ -41,6 +45,7 @@ pub fn put<S: Alter>(tx: &mut Transaction<'_, S>, table: Table, row: &[ValueRef<
 
     ensures same_reference { tx.new.conn.ghost_name ≡ tx.old.conn.ghost_name }
     ensures step { Does (HasStepped (Puts (table_at table) (key_in table (bound row.now)) (bound row.now))) result (state S.Store tx.old.conn.now) (state S.Store tx.new.conn.now) }
+    ensures cause { IsCausedInside (IsHinderedToPut table (bound row.now)) result (state S.Store tx.old.conn.now) (state S.Store tx.new.conn.now) }
 {
     match write(tx, table.shape().update, row)? {
         0 => insert(tx, table, row),
@@ -55,6 +60,7 @@ pub fn delete<S: Alter>(tx: &mut Transaction<'_, S>, table: Table, key: &[ValueR
 
     ensures same_reference { tx.new.conn.ghost_name ≡ tx.old.conn.ghost_name }
     ensures step { Does (HasStepped (Removes (table_at table) (bound key.now))) result (state S.Store tx.old.conn.now) (state S.Store tx.new.conn.now) }
+    ensures cause { IsCausedInside (IsHindered (sql_of table).delete (bound key.now)) result (state S.Store tx.old.conn.now) (state S.Store tx.new.conn.now) }
 {
     write(tx, table.shape().delete, key)?;
     Ok(())
@@ -64,6 +70,7 @@ pub fn delete<S: Alter>(tx: &mut Transaction<'_, S>, table: Table, key: &[ValueR
 pub fn read<S: Alter>(conn: &mut Connection<S>, table: Table) -> Result<Vec<Row>, TableFault>
     ensures rows { HasCleanDisk (state S.Store conn.new) → IfOk result (λ rows. Shows (table_at table) rows.items (state S.Store conn.old) (state S.Store conn.new)) }
     ensures rests { HasCleanDisk (state S.Store conn.new) → Rests (state S.Store conn.old) (state S.Store conn.new) }
+    ensures cause { IsCaused Storage (IsUnread (sql_of table).select) result (state S.Store conn.old) (state S.Store conn.new) }
     ensures mode { conn.old.in_transaction ≡ false → conn.new.in_transaction ≡ false }
     ensures survives { Survives (state S.Store conn.old) (state S.Store conn.new) (λ _. ⊥) }
 {

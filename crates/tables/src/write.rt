@@ -1,12 +1,15 @@
 //! One statement in a transaction.
 
-ghost use Rattle.std.specs.Prelude.{◌≡◌};
+ghost use Rattle.std.specs.Prelude.{◌≡◌, true, Err, IfErr};
+ghost use Rattle.sqlite.specs.State.{HasCleanDisk, ExecutesInside};
 ghost use Rattle.sqlite.specs.Values.{bound};
 ghost use Rattle.sqlite.specs.Held.{state};
+ghost use Rattle.tables.specs.Causes.{IsCausedInside, IsHindered};
+ghost use Rattle.tables.specs.Faults.{fault_of};
 ghost use Rattle.tables.specs.Steps.{HasRun, IsPart};
 
 use crate::fault::TableFault;
-use sqlite::{Alter, Transaction};
+use sqlite::{Alter, Error, Transaction};
 use sqlite_value::value::ValueRef;
 
 /// Runs a statement with these parameters, and tells how many rows it wrote.
@@ -17,6 +20,13 @@ pub(crate) fn write<S: Alter>(
 ) -> Result<usize, TableFault>
     ensures same_reference { tx.new.conn.ghost_name ≡ tx.old.conn.ghost_name }
     ensures step { IsPart (λ count. HasRun sql.now (bound params.now) count) result (state S.Store tx.old.conn.now) (state S.Store tx.new.conn.now) }
+
+    // The fault is that of the statement's error.
+    ensures told { HasCleanDisk (state S.Store tx.new.conn.now) → (state S.Store tx.old.conn.now).in_transaction ≡ true → IfErr result (λ fault. (e : Error) × ExecutesInside 0 sql.now (bound params.now) (state S.Store tx.old.conn.now) (state S.Store tx.new.conn.now) (Err e) × (fault ≡ fault_of e)) }
+    ensures cause { IsCausedInside (IsHindered sql.now (bound params.now)) result (state S.Store tx.old.conn.now) (state S.Store tx.new.conn.now) }
 {
-    Ok(tx.execute(sql, params)?)
+    match tx.execute(sql, params) {
+        Ok(count) => Ok(count),
+        Err(error) => Err(TableFault::from(error)),
+    }
 }

@@ -1,6 +1,10 @@
 use Rattle.std.proofs.Common.{◌≤◌, length, refl, arith, ◌∙◌}
 use Rattle.tables.proofs.Runs.{part_none, part_ok, part_then}
 use Rattle.store.proofs.Making.{made_all, made_more, made_none}
+use Rattle.std.proofs.Common.{rules}
+use Rattle.sqlite.specs.State.{HasCleanDisk}
+use Rattle.sqlite.specs.Held.{state}
+use Rattle.store.proofs.Causes.{table_refused}
 use Rattle.store.proofs.founding.make_each.Goals as goal
 
 pub loop-table-init : goal.loop-table-init
@@ -15,3 +19,10 @@ pub returns-clause-step : goal.returns-clause-step
 returns-clause-step g c =
     let end : length c.args.tables.now ≤ c.loop-table.table-index = omega arith in
     part_ok _ _ _ _ _ _ (made_all c.loop-table.table-index _ _ _ end) c.loop-table.invariant.1
+
+pub returns-in_err-make-clause-cause : goal.returns-in_err-make-clause-cause
+returns-in_err-make-clause-cause g c inside clean h =
+    let so_far = c.loop-table.invariant.1 in
+    let early : HasCleanDisk (state g.S.Store c.loop-table.tx.conn.now) = omega (arith, c.make.ensures.step.survives.clean) in
+    let made = so_far.did early in
+    table_refused c.loop-table.table-index c.args.tables.now _ _ _ _ c.loop-table-test.true so_far.survives early c.make.ensures.step.survives.counts made (c.make.ensures.cause (made.mode ∙ inside) clean (search rules))

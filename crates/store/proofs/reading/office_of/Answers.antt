@@ -9,6 +9,11 @@ use Rattle.tables.proofs.Runs.{rests_then}
 use Rattle.tables.proofs.Runs.{survives_both}
 use Rattle.store.proofs.Gathering.{none_back, holds_back, unchanged_then}
 use Rattle.store.proofs.Judged.{other_edition, unread, unfit, stood}
+use Rattle.std.proofs.Common.{inl, refl, sym, ap, ◌∙◌}
+use Rattle.store.specs.declared.fault.StoreFault.TheVariants.{Storage}
+use Rattle.tables.specs.declared.table.Table.TheVariants.{Edition}
+use Rattle.store.specs.Causes.{IsHinderedReading}
+use Rattle.store.proofs.Causes.{of_storage, hindered_reading, unchanged_before}
 use Rattle.store.proofs.reading.office_of.Goals as goal
 
 pub returns-then-not-are_first-clause-damaged : goal.returns-then-not-are_first-clause-damaged
@@ -70,3 +75,18 @@ returns-clause-rests g c clean =
 
 pub returns-clause-survives : goal.returns-clause-survives
 returns-clause-survives g c = survives_both _ _ _ c.in_ok-edition.ensures.survives c.in_ok-rows.ensures.survives
+
+pub returns-in_err-edition-clause-cause : goal.returns-in_err-edition-clause-cause
+returns-in_err-edition-clause-cause g c clean h =
+    let gives = rw h at c.from_residual.ensures.1 in
+    hindered_reading Edition _ _ (inl refl) (c.read.ensures.cause clean (c.in_err-edition.was ∙ ap Err (of_storage _ (sym gives))))
+
+pub returns-in_err-rows-clause-cause : goal.returns-in_err-rows-clause-cause
+returns-in_err-rows-clause-cause g c clean h =
+    let was : c.read_rows.result ≡ Err Storage = search rules in
+    let early : HasCleanDisk (state g.S.Store c.read.new.conn) = omega (arith, c.read_rows.ensures.survives.clean) in
+    let shows = c.in_ok-edition.ensures.rows early in
+    unchanged_before IsHinderedReading IsHinderedReading _ _ _ shows.same c.in_ok-edition.ensures.survives early c.read_rows.ensures.survives.counts (λ limit db it. it) (c.read_rows.ensures.cause clean was)
+
+pub returns-in_err-office-clause-cause : goal.returns-in_err-office-clause-cause
+returns-in_err-office-clause-cause g c clean h = absurd (c.office_from.ensures.faults (search rules))

@@ -6,6 +6,8 @@ use Rattle.store.specs.declared.fault.StoreFault.TheVariants.{Damaged}
 use Rattle.store.specs.Rows.{rolls}
 use Rattle.store.specs.Reading.{ReadsSome}
 use Rattle.store.proofs.Gathering.{reads_none, reads_more, reads_all, unread_then}
+use Rattle.store.specs.declared.fault.StoreFault.TheVariants.{Storage}
+use Rattle.store.proofs.Causes.{table_unread}
 use Rattle.store.proofs.reading.read_rows.Goals as goal
 
 pub loop-table-init : goal.loop-table-init
@@ -65,3 +67,9 @@ pub returns-clause-rows : goal.returns-clause-rows
 returns-clause-rows g c clean =
     let end : c.loop-table.table-index ≡ length rolls = omega arith in
     reads_all c.loop-table.table-index _ _ _ end (c.loop-table.invariant.reads clean)
+
+pub returns-in_err-more-clause-cause : goal.returns-in_err-more-clause-cause
+returns-in_err-more-clause-cause g c clean h =
+    let was : c.read_table.result ≡ Err Storage = search rules in
+    let early : HasCleanDisk (state g.S.Store c.loop-table.conn) = omega (arith, c.read_table.ensures.survives.clean) in
+    table_unread c.loop-table.table-index _ _ _ _ _ c.loop-table-test.true (c.loop-table.invariant.reads early) c.loop-table.invariant.survives early c.read_table.ensures.survives.counts (c.read_table.ensures.cause clean was)

@@ -8,3 +8,6 @@ returns-clause-damaged g c clean h =
     let found = c.rows_with.ensures.damaged h in
     let shows = c.in_ok-cells.ensures.rows clean in
     (shows.same.0.was_open, holds_none _ _ found.0 _ _ shows (subst (λ all. Has all found.0) c.as_slice.ensures.value found.1) found.2)
+
+pub returns-clause-cause : goal.returns-clause-cause
+returns-clause-cause g c clean h = absurd (c.rows_with.ensures.faults h)

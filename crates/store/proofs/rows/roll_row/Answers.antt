@@ -6,4 +6,4 @@ use Rattle.store.proofs.rows.roll_row.Goals as goal
 
 pub returns-in_ok-text_at-in-Project-3-clause-row : goal.returns-in_ok-text_at-in-Project-3-clause-row
 returns-in_ok-text_at-in-Project-3-clause-row c =
-    rw c.in-Project.is (refl, four_after _ _ _ _ _ (c.requires ∙ ap (λ table. length (kinds_of table) + 1) c.in-Project.is) c.in_ok-text_at-in-Project.ensures.text c.in_ok-text_at-in-Project-2.ensures.text c.in_ok-text_at-in-Project-3.ensures.text c.in_ok-number_at-in-Project.ensures.number)
+    rw c.in-Project.is (refl, four_after _ _ _ _ _ (c.requires.columns ∙ ap (λ table. length (kinds_of table) + 1) c.in-Project.is) c.in_ok-text_at-in-Project.ensures.text c.in_ok-text_at-in-Project-2.ensures.text c.in_ok-text_at-in-Project-3.ensures.text c.in_ok-number_at-in-Project.ensures.number)

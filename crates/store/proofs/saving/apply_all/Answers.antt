@@ -1,6 +1,10 @@
 use Rattle.std.proofs.Common.{refl, ◌∙◌}
 use Rattle.tables.proofs.Runs.{part_none, part_then}
 use Rattle.store.proofs.Applying.{changes_more, changes_none}
+use Rattle.std.proofs.Common.{arith, rules}
+use Rattle.sqlite.specs.State.{HasCleanDisk}
+use Rattle.sqlite.specs.Held.{state}
+use Rattle.store.proofs.Causes.{change_refused}
 use Rattle.store.proofs.saving.apply_all.Goals as goal
 
 pub loop-change-preserved : goal.loop-change-preserved
@@ -12,3 +16,10 @@ loop-change-preserved g c =
 
 pub loop-change-init : goal.loop-change-init
 loop-change-init g c = (refl, part_none _ _ (changes_none _))
+
+pub returns-in_err-apply-clause-cause : goal.returns-in_err-apply-clause-cause
+returns-in_err-apply-clause-cause g c inside clean h =
+    let so_far = c.loop-change.invariant.1 in
+    let early : HasCleanDisk (state g.S.Store c.loop-change.tx.conn.now) = omega (arith, c.apply.ensures.step.survives.clean) in
+    let made = so_far.did early in
+    change_refused c.loop-change.change-index c.args.changes.now c.change-item.result _ _ _ c.loop-change-test.true c.change-item.is so_far.survives early c.apply.ensures.step.survives.counts made (c.apply.ensures.cause (made.mode ∙ inside) clean (search rules))

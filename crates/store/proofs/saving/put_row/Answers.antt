@@ -36,3 +36,24 @@ pub returns-in-Import-clause-step : goal.returns-in-Import-clause-step
 returns-in-Import-clause-step g c =
     rw c.in-Import.is (part_as _ _ _ _ _ (λ _ p. stepped_as _ _ _ _ (hold_put _ _ _) p)
     (rw (c.params-to_sql-in-Import.ensures, c.params-to_sql-in-Import-2.ensures, c.params-to_sql-in-Import-3.ensures, c.params-to_sql-in-Import-4.ensures, c.as_str-in-Import.ensures, c.word.ensures, c.as_slice.ensures) at c.put-in-Import.ensures.step))
+
+pub returns-in-Supervisor-clause-cause : goal.returns-in-Supervisor-clause-cause
+returns-in-Supervisor-clause-cause g c = rw c.in-Supervisor.is (rw (c.params-to_sql.ensures, c.params-to_sql-in-Supervisor.ensures, c.params-to_sql-in-Supervisor-2.ensures, c.as_str.ensures, c.as_str-in-Supervisor.ensures) at c.put.ensures.cause)
+
+pub returns-in-Project-clause-cause : goal.returns-in-Project-clause-cause
+returns-in-Project-clause-cause g c = rw c.in-Project.is (rw (c.params-to_sql-in-Project.ensures, c.params-to_sql-in-Project-2.ensures, c.params-to_sql-in-Project-3.ensures, c.params-to_sql-in-Project-4.ensures, c.as_str-in-Project.ensures, c.as_str-in-Project-2.ensures, c.as_str-in-Project-3.ensures) at c.put-in-Project.ensures.cause)
+
+pub returns-in-Student-clause-cause : goal.returns-in-Student-clause-cause
+returns-in-Student-clause-cause g c = rw c.in-Student.is (rw (c.params-to_sql-in-Student.ensures, c.params-to_sql-in-Student-2.ensures, c.as_str-in-Student.ensures, c.as_str-in-Student-2.ensures) at c.put-in-Student.ensures.cause)
+
+pub returns-in-Round-clause-cause : goal.returns-in-Round-clause-cause
+returns-in-Round-clause-cause g c = rw c.in-Round.is (rw (c.params-to_sql-in-Round.ensures, c.params-to_sql-in-Round-2.ensures, c.flag.ensures) at c.put-in-Round.ensures.cause)
+
+pub returns-in-Choice-clause-cause : goal.returns-in-Choice-clause-cause
+returns-in-Choice-clause-cause g c = rw c.in-Choice.is (rw (c.params-to_sql-in-Choice.ensures, c.params-to_sql-in-Choice-2.ensures, c.params-to_sql-in-Choice-3.ensures, c.params-to_sql-in-Choice-4.ensures, c.as_str-in-Choice.ensures, c.as_str-in-Choice-2.ensures) at c.put-in-Choice.ensures.cause)
+
+pub returns-in-Placement-clause-cause : goal.returns-in-Placement-clause-cause
+returns-in-Placement-clause-cause g c = rw c.in-Placement.is (rw (c.params-to_sql-in-Placement.ensures, c.params-to_sql-in-Placement-2.ensures, c.params-to_sql-in-Placement-3.ensures, c.params-to_sql-in-Placement-4.ensures, c.as_str-in-Placement.ensures, c.as_str-in-Placement-2.ensures) at c.put-in-Placement.ensures.cause)
+
+pub returns-in-Import-clause-cause : goal.returns-in-Import-clause-cause
+returns-in-Import-clause-cause g c = rw c.in-Import.is (rw (c.params-to_sql-in-Import.ensures, c.params-to_sql-in-Import-2.ensures, c.params-to_sql-in-Import-3.ensures, c.params-to_sql-in-Import-4.ensures, c.as_str-in-Import.ensures, c.word.ensures, c.as_slice.ensures) at c.put-in-Import.ensures.cause)

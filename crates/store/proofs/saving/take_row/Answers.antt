@@ -24,3 +24,24 @@ returns-in-Placement-clause-step g c = rw c.in-Placement.is (part_as _ _ _ _ _ (
 
 pub returns-in-Import-clause-step : goal.returns-in-Import-clause-step
 returns-in-Import-clause-step g c = rw c.in-Import.is (part_as _ _ _ _ _ (λ _ p. stepped_as _ _ _ _ (hold_take _ _ _) p) (rw (c.params-to_sql-in-Import.ensures, c.as_str-in-Import.ensures) at c.delete-in-Import.ensures.step))
+
+pub returns-in-Supervisor-clause-cause : goal.returns-in-Supervisor-clause-cause
+returns-in-Supervisor-clause-cause g c = rw c.in-Supervisor.is (rw (c.params-to_sql.ensures, c.as_str.ensures) at c.delete.ensures.cause)
+
+pub returns-in-Project-clause-cause : goal.returns-in-Project-clause-cause
+returns-in-Project-clause-cause g c = rw c.in-Project.is (rw (c.params-to_sql-in-Project.ensures, c.as_str-in-Project.ensures) at c.delete-in-Project.ensures.cause)
+
+pub returns-in-Student-clause-cause : goal.returns-in-Student-clause-cause
+returns-in-Student-clause-cause g c = rw c.in-Student.is (rw (c.params-to_sql-in-Student.ensures, c.as_str-in-Student.ensures) at c.delete-in-Student.ensures.cause)
+
+pub returns-in-Round-clause-cause : goal.returns-in-Round-clause-cause
+returns-in-Round-clause-cause g c = rw c.in-Round.is (rw c.params-to_sql-in-Round.ensures at c.delete-in-Round.ensures.cause)
+
+pub returns-in-Choice-clause-cause : goal.returns-in-Choice-clause-cause
+returns-in-Choice-clause-cause g c = rw c.in-Choice.is (rw (c.params-to_sql-in-Choice.ensures, c.params-to_sql-in-Choice-2.ensures, c.params-to_sql-in-Choice-3.ensures, c.as_str-in-Choice.ensures) at c.delete-in-Choice.ensures.cause)
+
+pub returns-in-Placement-clause-cause : goal.returns-in-Placement-clause-cause
+returns-in-Placement-clause-cause g c = rw c.in-Placement.is (rw (c.params-to_sql-in-Placement.ensures, c.as_str-in-Placement.ensures) at c.delete-in-Placement.ensures.cause)
+
+pub returns-in-Import-clause-cause : goal.returns-in-Import-clause-cause
+returns-in-Import-clause-cause g c = rw c.in-Import.is (rw (c.params-to_sql-in-Import.ensures, c.as_str-in-Import.ensures) at c.delete-in-Import.ensures.cause)

@@ -2,5 +2,5 @@ use Rattle.std.proofs.Common.{sym, ◌∙◌}
 use Rattle.tables.proofs.Rising.{keyed_if_rising}
 use Rattle.tables.proofs.read.are_keyed.Goals as goal
 
-pub returns-then-have_ids : goal.returns-then-have_ids
-returns-then-have_ids c h = keyed_if_rising _ (sym c.have_ids.ensures ∙ c.if-have_ids.true) (sym c.rise.ensures ∙ h)
+pub returns-then-have_ids-clause-right : goal.returns-then-have_ids-clause-right
+returns-then-have_ids-clause-right c h = keyed_if_rising _ (sym c.have_ids.ensures ∙ c.if-have_ids.true) (sym c.rise.ensures ∙ h)

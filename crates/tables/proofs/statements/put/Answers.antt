@@ -1,7 +1,12 @@
 use Rattle.tables.specs.Table.{table_at}
 use Rattle.tables.proofs.Runs.{part_ok, part_then}
 use Rattle.tables.proofs.Putting.{puts_once, puts_more}
-use Rattle.tables.proofs.Told.{replaced}
+use Rattle.tables.proofs.Told.{replaced, several, unadded, unreplaced}
+use Rattle.std.proofs.Common.{◌<◌, arith, rules}
+use Rattle.sqlite.specs.State.{HasCleanDisk}
+use Rattle.sqlite.specs.Held.{state}
+use Rattle.tables.specs.Table.{Sql}
+use Rattle.tables.proofs.Causes.{stopped_by}
 use Rattle.tables.proofs.statements.put.Goals as goal
 
 pub returns-in-0-clause-step : goal.returns-in-0-clause-step
@@ -10,3 +15,18 @@ returns-in-0-clause-step g c =
 
 pub returns-in-1-clause-step : goal.returns-in-1-clause-step
 returns-in-1-clause-step g c = part_ok _ _ _ _ _ _ (λ p. puts_once (table_at c.args.table) _ _ _ _ _ c.in-1.is (replaced c.args.table _ c.shape.ensures.texts _ _ _ _ c.requires p)) c.in_ok-write.ensures.step
+
+pub returns-in_err-write-clause-cause : goal.returns-in_err-write-clause-cause
+returns-in_err-write-clause-cause g c inside clean h = unreplaced c.args.table _ _ _ (stopped_by _ _ (λ (sql : Sql). sql.update) _ _ _ c.shape.ensures.texts (c.write.ensures.cause inside clean (search rules)))
+
+pub returns-in-0-clause-cause : goal.returns-in-0-clause-cause
+returns-in-0-clause-cause g c inside clean h =
+    let step = c.in_ok-write.ensures.step in
+    let early : HasCleanDisk (state g.S.Store c.write.new.tx.conn.now) = omega (arith, c.insert.ensures.step.survives.clean) in
+    let ran = step.did early in
+    unadded c.args.table _ _ _ _ _ c.in-0.is step.survives early c.insert.ensures.step.survives.counts (replaced c.args.table _ c.shape.ensures.texts _ _ _ _ c.requires ran) (c.insert.ensures.cause ran.shown.mode clean h)
+
+pub returns-in_default-clause-cause : goal.returns-in_default-clause-cause
+returns-in_default-clause-cause g c inside clean h =
+    let many : 1 < c.in_ok-write.field-0 = grind (arith, c.in_default) in
+    several c.args.table _ _ _ _ many (replaced c.args.table _ c.shape.ensures.texts _ _ _ _ c.requires (c.in_ok-write.ensures.step.did clean))

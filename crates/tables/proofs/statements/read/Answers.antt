@@ -1,6 +1,7 @@
 use Rattle.sqlite.proofs.StateLemmas.{survives_weaker}
 use Rattle.sqlite.specs.Held.{state}
-use Rattle.tables.proofs.Told.{rows_are, commits_none, rests}
+use Rattle.tables.proofs.Told.{rows_are, commits_none, rests, unread_by}
+use Rattle.std.proofs.Common.{refl}
 use Rattle.tables.proofs.statements.read.Goals as goal
 
 pub returns-clause-rows : goal.returns-clause-rows
@@ -11,3 +12,6 @@ returns-clause-survives g c = survives_weaker _ _ _ _ (λ clean db h. commits_no
 
 pub returns-clause-rests : goal.returns-clause-rests
 returns-clause-rests g c clean = rests c.args.table _ c.shape.ensures.texts _ _ (c.read_text.ensures.ran clean)
+
+pub returns-clause-cause : goal.returns-clause-cause
+returns-clause-cause g c clean h = unread_by c.args.table _ c.shape.ensures.texts _ _ _ refl (rw h at (c.read_text.ensures.told clean))

@@ -1,16 +1,27 @@
-use Rattle.std.proofs.Common.{inl, inr, rules}
+use Rattle.std.proofs.Common.{◌≡◌, inl, inr, rules}
 use Rattle.std.proofs.lemmas.Bool.{cases_Bool}
 use Rattle.sqlite.specs.Held.{state}
+use Rattle.tables.specs.declared.fault.TableFault.TheVariants.{Storage}
+use Rattle.tables.specs.Faults.{fault_of}
+use Rattle.tables.proofs.Causes.{stopped}
 use Rattle.tables.proofs.write.write.Goals as goal
 
-pub returns-clause-step : goal.returns-clause-step
-returns-clause-step g c = record {
+pub returns-in-Ok-clause-step : goal.returns-in-Ok-clause-step
+returns-in-Ok-clause-step g c = record {
   survives = search rules;
   did = λ clean. elim (cases_Bool (state g.S.Store c.args.tx.now.conn.now).in_transaction) [
     | inl inside ↦
-        let ran = rw c.in_ok-execute.was at (c.execute.ensures.runs clean inside) in
+        let ran = rw c.in-Ok.is at (c.execute.ensures.runs clean inside) in
         record { inside = inside; shown = ran.1; ran = ran.0 }
-    | inr outside ↦ let e = (c.execute.ensures.ended outside).0 in absurd (let f = c.in_ok-execute.was in cc)
+    | inr outside ↦ let e = (c.execute.ensures.ended outside).0 in absurd (let f = c.in-Ok.is in cc)
   ];
   kept = search rules;
 }
+
+pub returns-in-Err-clause-step : goal.returns-in-Err-clause-step
+returns-in-Err-clause-step g c = record { survives = search rules; did = λ clean. tt; kept = search rules }
+
+pub returns-in-Err-clause-cause : goal.returns-in-Err-clause-cause
+returns-in-Err-clause-cause g c inside clean h =
+    let other : fault_of c.in-Err.error ≡ Storage = let told = c.from.ensures in cc in
+    stopped _ _ _ _ _ other (rw c.in-Err.is at (c.execute.ensures.runs clean inside))

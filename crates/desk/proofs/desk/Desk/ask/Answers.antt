@@ -245,3 +245,6 @@ returns-in-Preview-clause-stays_shut g c = still_open (state g.S.Store c.args.se
 
 pub returns-in-Preview-clause-crash : goal.returns-in-Preview-clause-crash
 returns-in-Preview-clause-crash g c = still_left (state g.S.Store c.args.self.now.store) (state g.S.Store c.preview.new.self.store) _ (sym (ap (state g.S.Store) c.preview.ensures.store))
+
+pub returns-in-Preview-clause-kept : goal.returns-in-Preview-clause-kept
+returns-in-Preview-clause-kept g c = λ _ _ some. c.preview.ensures.kept some

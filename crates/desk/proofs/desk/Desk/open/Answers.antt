@@ -4,6 +4,7 @@ use Rattle.store.specs.declared.fault.StoreFault.TheVariants.{Memory, Storage, D
 use Rattle.rolls.specs.declared.refusal.Refusal.{Refusal}
 use Rattle.rolls.specs.declared.refusal.Refusal.TheVariants.{Memory as TheMemory, Storage as TheStorage, Damaged as TheDamaged}
 use Rattle.desk.proofs.Settling.{opened_stands}
+use Rattle.desk.proofs.Settling.{was_storage}
 use Rattle.desk.proofs.desk.Desk.open.Goals as goal
 
 pub invariant_of-result : goal.invariant_of-result
@@ -30,3 +31,6 @@ returns-in-Err-clause-damaged g c = λ clean is.
 
 pub returns-in-Err-clause-unlisted : goal.returns-in-Err-clause-unlisted
 returns-in-Err-clause-unlisted g c = λ settled some other. (refl, c.refusal_of_fault.ensures.damaged (c.in-Err.ensures.unlisted settled some other).1)
+
+pub returns-in-Err-clause-cause : goal.returns-in-Err-clause-cause
+returns-in-Err-clause-cause g c = λ ended clean is. c.in-Err.ensures.cause ended clean (was_storage c.in-Err.fault c.refusal_of_fault.result c.refusal_of_fault.ensures.memory c.refusal_of_fault.ensures.damaged is)

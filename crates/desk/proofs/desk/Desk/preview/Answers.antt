@@ -12,7 +12,7 @@ pub returns-clause-step : goal.returns-clause-step
 returns-clause-step g c =
     let o : State = c.args.self.now.office in
     let reply = c.read_preview-reply.result in
-    let sits : SitsIn o c.in_ok-session.session.shape = subst (λ (x : State). SitsIn x c.in_ok-session.session.shape) (ap (λ k. k.office) c.self.view_is) c.in_ok-session.ensures.sits in
+    let sits : SitsIn o c.in_ok-session.session = subst (λ (x : State). SitsIn x c.in_ok-session.session) (ap (λ k. k.office) c.self.view_is) c.in_ok-session.ensures.sits in
     let made : Makes layers o request.Preview reply o = c.read_preview-reply.ensures.made o sits in
     (c.requires.allowed, subst (λ (x : State). Makes layers o request.Preview reply x) (sym (ap (λ k. k.office) c.keep_session.ensures.kept)) made)
 

@@ -14,6 +14,12 @@ use Rattle.store.specs.Saving.{AreActedOn, Saves}
 use Rattle.solver.specs.Sitting.{Sitting}
 use Rattle.desk.specs.Sessions.{SitsAt}
 use Rattle.desk.proofs.Settling.{saved_keeps, kept_keeps}
+use Rattle.sqlite.specs.State.{HasCleanDisk}
+use Rattle.rolls.specs.declared.refusal.Refusal.TheVariants.{Damaged as TheDamaged, Memory as TheMemory}
+use Rattle.store.specs.declared.fault.StoreFault.TheVariants.{Damaged, Memory}
+use Rattle.store.specs.Causes.{IsHinderedToSave}
+use Rattle.tables.specs.Causes.{IsStopped}
+use Rattle.desk.proofs.Settling.{was_storage}
 use Rattle.desk.proofs.desk.Desk.settle.Goals as goal
 
 -- changes that turn an office into the next one turn it into what the next one is exchanged for
@@ -71,3 +77,17 @@ pub returns-in-Err-clause-acted_on : goal.returns-in-Err-clause-acted_on
 returns-in-Err-clause-acted_on g c =
     acted_so (state g.S.Store c.self.inside.store) (state g.S.Store c.args.self.now.store) c.in-Err.fault c.refusal_of_fault.result
     (ap (λ k. state g.S.Store k.store) c.self.view_is) c.in-Err.ensures.acted_on c.refusal_of_fault.ensures.storage
+
+-- and why else it is told
+caused_so : (given changes : List Change) (before seen new : Seen) (fault : StoreFault) (refusal : Refusal) → given ≡ changes → before ≡ seen → (fault ≡ Memory → refusal ≡ TheMemory) → (fault ≡ Damaged → refusal ≡ TheDamaged)
+    → ((AreActedOn before.now.schema → ⊥) → HasCleanDisk new → ◌≡◌ {A = Result (Unit {0}) StoreFault} (Err fault) (Err Storage) → IsStopped (IsHinderedToSave given) before new)
+    → (AreActedOn seen.now.schema → ⊥) → HasCleanDisk new → ◌≡◌ {A = Result Reply Refusal} (Err refusal) (Err TheStorage) → IsStopped (IsHinderedToSave changes) seen new
+caused_so given changes before seen new fault refusal e f memory damaged caused quiet clean told =
+    let is : refusal ≡ TheStorage = cc in
+    subst (λ (z : Seen). IsStopped (IsHinderedToSave changes) z new) f
+    (subst (λ (cs : List Change). IsStopped (IsHinderedToSave cs) before new) e (caused (λ acted. quiet (subst (λ (z : Seen). AreActedOn z.now.schema) f acted)) clean (ap Err (was_storage fault refusal memory damaged is))))
+
+pub returns-in-Err-clause-cause : goal.returns-in-Err-clause-cause
+returns-in-Err-clause-cause g c =
+    caused_so c.deref.result.now c.args.done.changes.items (state g.S.Store c.self.inside.store) (state g.S.Store c.args.self.now.store) (state g.S.Store c.save.new.self) c.in-Err.fault c.refusal_of_fault.result c.deref.ensures.value
+    (ap (λ k. state g.S.Store k.store) c.self.view_is) c.refusal_of_fault.ensures.memory c.refusal_of_fault.ensures.damaged (c.in-Err.ensures.cause c.self.invariant.ended)

@@ -1,0 +1,74 @@
+-- Why a call of the store failed, from why the statement did on which it ended.
+use Rattle.std.proofs.Common.{◌≡◌, ◌≤◌, ◌<◌, inl, inr, ℕ, true, false, List, [], take, get_or, length, Option, Some, Err, refl, sym, ap, subst, ◌∙◌, arith}
+use Rattle.std.proofs.lemmas.Option.{slice_get_read, slice_get-get_or}
+use Rattle.sqlite.specs.declared.error.Error.{Error}
+use Rattle.sqlite.specs.Effect.{Database}
+use Rattle.sqlite.specs.Steps.{FailsToCommit}
+use Rattle.sqlite.specs.State.{State as Seen, HasCleanDisk, Survives, IsUnchanged}
+use Rattle.rolls.specs.declared.row.Change.{Change}
+use Rattle.tables.specs.declared.fault.TableFault.{TableFault}
+use Rattle.tables.specs.declared.fault.TableFault.TheVariants as fault
+use Rattle.tables.specs.declared.table.Table.{Table}
+use Rattle.tables.specs.Faults.{fault_of}
+use Rattle.std.proofs.lemmas.Bool.{cases_Bool}
+use Rattle.sqlite_rules.specs.Lists.{Has}
+use Rattle.rolls.specs.declared.row.Row.{Row}
+use Rattle.tables.specs.Causes.{IsHindered, IsStopped, IsUnread}
+use Rattle.store.specs.Reading.{ReadsSome}
+use Rattle.store.specs.Rows.{kept, rolls}
+use Rattle.store.proofs.Judging.{is_next}
+use Rattle.tables.specs.Steps.{Stays}
+use Rattle.tables.specs.Table.{sql_of}
+use Rattle.tables.proofs.Causes.{stopped_after, stopped_as, stopped_before, uncommitted}
+use Rattle.store.specs.declared.fault.StoreFault.TheVariants.{Storage}
+use Rattle.store.specs.Faults.{of_table}
+use Rattle.store.specs.Saving.{Applies}
+use Rattle.store.specs.Tables.{MakesTables}
+use Rattle.store.specs.Causes.{IsHinderedAmong, IsHinderedChange, IsHinderedMaking, IsHinderedReading, IsHinderedToSave}
+
+-- a fault of the storage is one of a statement
+pub of_storage : (f : TableFault) → of_table f ≡ Storage → f ≡ fault.Storage
+of_storage fault.Memory h = cc
+of_storage fault.Storage h = refl
+
+-- a call of nothing but what it is hindered by
+module _ (first begun : Seen) (begins : begun ≡ record first { in_transaction = true }) where
+  -- a transaction that has begun has changed nothing
+  begun_first : (K : Option ℕ → Database → Type 0) (c : Seen) → IsStopped K begun c → IsStopped K first c
+  begun_first K c stops = record { why = (subst (λ (s : Seen). IsStopped K s c) begins stops).why }
+
+  -- a statement of the transaction failed, which was dropped then
+  pub broken_off : (K : Option ℕ → Database → Type 0) (b c : Seen) → b.faults ≤ c.faults → IsStopped K begun b → IsStopped K first c
+  broken_off K b c up stops = begun_first K c (stopped_before K begun b c up stops)
+
+  -- the commit failed
+  pub not_committed : (K : Option ℕ → Database → Type 0) (b c : Seen) (e : Error) → Survives begun b (λ _. ⊥) → HasCleanDisk b → b.faults ≤ c.faults → b.in_transaction ≡ true → fault_of e ≡ fault.Storage → FailsToCommit b c e → IsStopped K first c
+  not_committed K b c e survives clean up inside other fails = begun_first K c (stopped_after (λ _ _. ⊥) K begun b c survives clean up (λ none. absurd none) (uncommitted b c e other inside fails))
+
+-- one of the changes was refused
+pub change_refused : (i : ℕ) (changes : List Change) (change : Change) (a b c : Seen) → i < length changes → change ≡ get_or changes i change → Survives a b (λ _. ⊥) → HasCleanDisk b → b.faults ≤ c.faults → Stays (Applies (take i changes)) a b
+    → IsStopped (IsHinderedChange change) b c → IsStopped (IsHinderedAmong changes) a c
+change_refused i changes change a b c low is survives clean up made =
+    stopped_after (IsHinderedChange change) (IsHinderedAmong changes) a b c survives clean up (λ h. record { count = i; change = change; there = slice_get_read changes (length changes) i change refl low is; between = b.now; made = made.step; hindered = h })
+
+-- one of the tables was refused
+pub table_refused : (i : ℕ) (tables : List Table) (d : Table) (a b c : Seen) → i < length tables → Survives a b (λ _. ⊥) → HasCleanDisk b → b.faults ≤ c.faults → Stays (MakesTables (take i tables)) a b
+    → IsStopped (IsHindered (sql_of (get_or tables i d)).create []) b c → IsStopped (IsHinderedMaking tables) a c
+table_refused i tables d a b c low survives clean up made =
+    stopped_after _ (IsHinderedMaking tables) a b c survives clean up (λ h. record { count = i; table = get_or tables i d; there = slice_get-get_or tables i d low; between = b.now; made = made.step; hindered = h })
+
+-- a call after another that changed nothing
+pub unchanged_before : (H K : Option ℕ → Database → Type 0) (a b c : Seen) → IsUnchanged a b → Survives a b (λ _. ⊥) → HasCleanDisk b → b.faults ≤ c.faults → ((limit : Option ℕ) (db : Database) → H limit db → K limit db) → IsStopped H b c → IsStopped K a c
+unchanged_before H K a b c same survives clean up f = stopped_after H K a b c survives clean up (λ h. f a.step_limit a.now (subst (H a.step_limit) same.0.now_is h))
+
+-- a table that cannot be read is one of the tables
+pub hindered_reading : (table : Table) (a b : Seen) → Has kept table → IsStopped (IsUnread (sql_of table).select) a b → IsStopped IsHinderedReading a b
+hindered_reading table a b among = stopped_as (IsUnread (sql_of table).select) IsHinderedReading a b (λ h. record { table = table; kept = among; hindered = h })
+
+-- one of the rolls cannot be read, where those before it were
+pub table_unread : (i : ℕ) (rows : List Row) (a b c : Seen) (d : Table) → i < length rolls → ReadsSome i rows a b → Survives a b (λ _. ⊥) → HasCleanDisk b → b.faults ≤ c.faults → IsStopped (IsUnread (sql_of (get_or rolls i d)).select) b c → IsStopped IsHinderedReading a c
+table_unread i rows a b c d low some survives clean up stops = elim (cases_Bool a.is_open) [
+  | inl open_before ↦ stopped_after (IsUnread (sql_of (get_or rolls i d)).select) IsHinderedReading a b c survives clean up
+      (λ h. record { table = get_or rolls i d; kept = inr (is_next rolls i d low); hindered = subst (IsUnread (sql_of (get_or rolls i d)).select a.step_limit) (some.same open_before).0.now_is h }) stops
+  | inr shut ↦ record { why = inl shut }
+]

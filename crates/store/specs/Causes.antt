@@ -1,0 +1,61 @@
+-- Why the tables are not made, read or changed, for another cause than want of memory.
+use Rattle.std.specs.Prelude.{◌≡◌, ◌⊎◌, pos, ℕ, List, [], ◌∷◌, Option, Some, take, slice_get}
+use Rattle.sqlite.specs.declared.types.Value.TheVariants.{Int}
+use Rattle.sqlite.specs.Effect.{Database}
+use Rattle.sqlite_rules.specs.Lists.{Has}
+use Rattle.rolls.specs.declared.row.Change.{Change}
+use Rattle.rolls.specs.declared.row.Change.TheVariants.{Put, Take}
+use Rattle.tables.specs.declared.table.Table.{Table}
+use Rattle.tables.specs.declared.table.Table.TheVariants.{Edition}
+use Rattle.tables.specs.Table.{sql_of}
+use Rattle.tables.specs.Causes.{IsHindered, IsHinderedToPut, IsUnread, IsUnready}
+use Rattle.store.specs.Rows.{columns, kept, key_columns, table_at_key, table_of}
+use Rattle.store.specs.Saving.{Applies}
+use Rattle.store.specs.Tables.{HasNone, MakesTables}
+
+-- a change is refused
+abbrev pub IsHinderedChange : Change → Option ℕ → Database → Type 0
+IsHinderedChange (Put row) = IsHinderedToPut (table_of row) (columns row)
+IsHinderedChange (Take key) = IsHindered (sql_of (table_at_key key)).delete (key_columns key)
+
+-- one of the changes is refused, once those before it are made
+pub record IsHinderedAmong (changes : List Change) (limit : Option ℕ) (db : Database) : Type 0 where
+  pub count : ℕ
+  pub change : Change
+  pub there : slice_get changes count ≡ Some change
+  pub between : Database
+  pub made : Applies (take count changes) db between
+  pub hindered : IsHinderedChange change limit between
+
+-- a transaction of these changes is refused
+abbrev pub IsHinderedToSave : List Change → Option ℕ → Database → Type 0
+IsHinderedToSave changes limit db = IsUnready limit db ⊎ IsHinderedAmong changes limit db
+
+-- one of these tables is refused, once those before it are made
+pub record IsHinderedMaking (tables : List Table) (limit : Option ℕ) (db : Database) : Type 0 where
+  pub count : ℕ
+  pub table : Table
+  pub there : slice_get tables count ≡ Some table
+  pub between : Database
+  pub made : MakesTables (take count tables) db between
+  pub hindered : IsHindered (sql_of table).create [] limit between
+
+-- the number of the edition is refused, once the tables are made
+pub record IsHinderedNumbering (limit : Option ℕ) (db : Database) : Type 0 where
+  pub between : Database
+  pub made : MakesTables kept db between
+  pub hindered : IsHindered (sql_of Edition).insert (Int (pos 1) ∷ Int (pos 1) ∷ []) limit between
+
+-- the tables cannot be made
+abbrev pub IsHinderedFounding : Option ℕ → Database → Type 0
+IsHinderedFounding limit db = IsHinderedMaking kept limit db ⊎ IsHinderedNumbering limit db
+
+-- one of the tables cannot be read
+pub record IsHinderedReading (limit : Option ℕ) (db : Database) : Type 0 where
+  pub table : Table
+  pub kept : Has kept table
+  pub hindered : IsUnread (sql_of table).select limit db
+
+-- the tables are not there and cannot be made, or one cannot be read
+abbrev pub IsHinderedOpening : Option ℕ → Database → Type 0
+IsHinderedOpening limit db = (HasNone db.schema × IsHinderedFounding limit db) ⊎ IsHinderedReading limit db

@@ -1,0 +1,107 @@
+-- Why a statement is not carried out, for another cause than want of memory.
+use Rattle.std.specs.Prelude.{◌≡◌, ◌⊎◌, ◌<◌, ◌&&◌, ℕ, pos, Bool, true, false, codes, List, [], Option, None, Result, Err}
+use Rattle.sqlite_disk.specs.Disk.{MoreFaults}
+use Rattle.sqlite_resolve.specs.declared.compiled.Compiled.{Compiled}
+use Rattle.sqlite.specs.declared.error.Error.{Error}
+use Rattle.sqlite.specs.Order.{Row}
+use Rattle.sqlite.specs.Clock.{timed}
+use Rattle.sqlite.specs.Effect.{Database}
+use Rattle.sqlite.specs.Does.{Does}
+use Rattle.sqlite.specs.State.{State, HasCleanDisk, Savepoint, IsStatement, IsNotRun, ExecutesInside, FailsToQuery, Shown, mode_of, text_of}
+use Rattle.tables.specs.declared.fault.TableFault.{TableFault}
+use Rattle.tables.specs.declared.fault.TableFault.TheVariants.{Storage}
+use Rattle.tables.specs.declared.table.Table.{Table}
+use Rattle.tables.specs.Faults.{fault_of}
+use Rattle.tables.specs.Keyed.{have_ids, rises}
+use Rattle.tables.specs.Table.{sql_of, table_at, key_in}
+use Rattle.tables.specs.Writes.{Removes, Replaces}
+
+-- an open connection that shows this database
+abbrev pub showing : Option ℕ → Bool → List Savepoint → Database → State
+showing limit in_transaction marks db = record {
+  now = db;
+  committed = db;
+  in_transaction = in_transaction;
+  marks = marks;
+  is_open = true;
+  is_clean = true;
+  faults = 0;
+  blamed = None;
+  changes = 0;
+  last_rowid = pos 0;
+  step_limit = limit;
+  may_leave = λ _. ⊥;
+  IsShielded = ⊥;
+}
+
+-- over an open connection that shows this database the call is refused, for another cause than want of memory
+pub record IsRefused (Refuses : State → Error → Type 0) (limit : Option ℕ) (db : Database) : Type 0 where
+  pub in_transaction : Bool
+  pub marks : List Savepoint
+  pub error : Error
+  pub other : fault_of error ≡ Storage
+  pub refused : Refuses (showing limit in_transaction marks db) error
+
+-- what a statement of this text would write is too large to be stored
+pub record IsTooLarge (sql : List ℕ) (params : Row) (limit : Option ℕ) (db : Database) : Type 0 where
+  pub in_transaction : Bool
+  pub marks : List Savepoint
+  pub meant : Compiled
+  pub is : IsStatement (showing limit in_transaction marks db) sql params meant
+  pub large : Does limit (mode_of (showing limit in_transaction marks db)) (timed params meant.formats is.now) db (text_of sql meant) meant.returning meant.command (Err None)
+
+-- a statement of this text is refused
+abbrev pub IsHindered : List ℕ → Row → Option ℕ → Database → Type 0
+IsHindered sql params limit db = IsRefused (λ s e. ExecutesInside 0 sql params s s (Err e)) limit db ⊎ IsTooLarge sql params limit db
+
+-- the rowids that a query of this text shows are no integers, or do not rise
+pub record ShowsUnordered (sql : List ℕ) (db : Database) : Type 0 where
+  pub limit : Option ℕ
+  pub in_transaction : Bool
+  pub marks : List Savepoint
+  pub rows : List Row
+  pub shown : let s = showing limit in_transaction marks db in Shown sql [] s s rows
+  pub unordered : have_ids rows && rises rows ≡ false
+
+-- a query of this text is refused, or shows rows in another order
+abbrev pub IsUnread : List ℕ → Option ℕ → Database → Type 0
+IsUnread sql limit db = IsRefused (λ s e. FailsToQuery sql [] s s e) limit db ⊎ ShowsUnordered sql db
+
+-- a query failed with an error that is this fault, or it showed rows in another order
+abbrev pub FailsToRead : List ℕ → TableFault → State → State → Type 0
+FailsToRead sql fault old new =
+    ((e : Error) × FailsToQuery sql [] old new e × (fault ≡ fault_of e)) ⊎ ((rows : List Row) × Shown sql [] old new rows × (have_ids rows && rises rows ≡ false) × (fault ≡ Storage))
+
+-- the plainest query is refused
+abbrev pub IsUnready : Option ℕ → Database → Type 0
+IsUnready = IsRefused (λ s e. IsNotRun s s (codes "SELECT 1") [] e)
+
+-- a put replaces several rows
+pub record ReplacesSeveral (table : Table) (row : Row) (db : Database) : Type 0 where
+  pub count : ℕ
+  pub several : 1 < count
+  pub after : Database
+  pub replaced : Replaces (table_at table) (key_in table row) row count db after
+
+-- the row can't be added, where there is none with its key
+pub record IsHinderedToAdd (table : Table) (row : Row) (limit : Option ℕ) (db : Database) : Type 0 where
+  pub between : Database
+  pub none : Removes (table_at table) (key_in table row) db between
+  pub hindered : IsHindered (sql_of table).insert row limit between
+
+-- a put of the row is refused: as it replaces the row with its key, or as it is added, or since several rows have its key
+abbrev pub IsHinderedToPut : Table → Row → Option ℕ → Database → Type 0
+IsHinderedToPut table row limit db = IsHindered (sql_of table).update row limit db ⊎ (IsHinderedToAdd table row limit db ⊎ ReplacesSeveral table row db)
+
+-- Why a call from the one state to the other fails, for another cause than want of memory: the connection is shut, the disk has failed or
+-- refused once more, or the call is hindered in this way.
+pub record IsStopped (Hinders : Option ℕ → Database → Type 0) (old new : State) : Type 0 where
+  pub why : (old.is_open ≡ false) ⊎ (MoreFaults old.faults new.faults ⊎ Hinders old.step_limit old.now)
+
+-- where a call answers this error, this is why, unless the disk gave back other bytes than it was given
+abbrev pub IsCaused : {A E : Type 0} → E → (Option ℕ → Database → Type 0) → Result A E → State → State → Type 0
+IsCaused storage Hinders result old new = HasCleanDisk new → result ≡ Err storage → IsStopped Hinders old new
+
+-- the same of a call in a transaction
+abbrev pub IsCausedInside : {A : Type 0} → (Option ℕ → Database → Type 0) → Result A TableFault → State → State → Type 0
+IsCausedInside Hinders result old new = old.in_transaction ≡ true → IsCaused Storage Hinders result old new
