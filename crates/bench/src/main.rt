@@ -69,14 +69,14 @@ fn student(alloc: Global, n: usize) -> Result<Plain, AllocError> {
     })
 }
 
-/// How far the projects of a list stand apart.
-static STEPS: [usize; RANKS] = [0, 18, 70, 156, 276, 30, 218, 40];
+/// How far the projects of a list stand apart, for lists of up to twelve.
+static STEPS: [usize; 12] = [0, 18, 70, 156, 276, 30, 218, 40, 100, 120, 330, 350];
 
-/// The choices of a student: eight projects, others than those of the next student.
+/// The choices of a student: as many projects as a list may have, others than those of the next student.
 fn choices(alloc: Global, n: usize) -> Result<Texts, AllocError> {
     let mut choices = Vec::new(alloc);
-    for step in STEPS {
-        let p = n.wrapping_mul(31).wrapping_add(step) % MOST_PROJECTS;
+    for step in &STEPS[..RANKS] {
+        let p = n.wrapping_mul(31).wrapping_add(*step) % MOST_PROJECTS;
         choices.push(Text::of(alloc, &format!(in alloc; "P{p}")?)?)?;
     }
     Ok(Texts::of(choices))

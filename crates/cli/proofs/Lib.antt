@@ -1,3 +1,2 @@
 mod Anew
-mod Limited
 mod Telling

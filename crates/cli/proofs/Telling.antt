@@ -8,7 +8,9 @@ use Rattle.rolls.specs.Told.{number_of, name_of}
 use Rattle.rolls.specs.State.{State}
 use Rattle.rolls.specs.Fit.{IsFit}
 use Rattle.web.specs.Connections.{AllServed, lines_after}
-use Rattle.cli.specs.Outcomes.{Outcome, prints, refused, refusal_line, named_line, listening, Printed, Tells, IsUnread, IsUnopened, IsServed, Serves, ServesAt}
+use Rattle.cli.specs.declared.tasks.Task.{Task}
+use Rattle.cli.specs.declared.tasks.Task.TheVariants as task
+use Rattle.cli.specs.Outcomes.{MayDo, Outcome, prints, refused, refusal_line, named_line, listening, Printed, Tells, IsUnread, IsUnopened, IsServed, Serves, ServesAt}
 
 -- a text on standard output, with this status
 pub on_out : (Is : Outcome → Type 0) (text : List ℕ) (status : ℕ) (w0 w other : Option (List ℕ)) (f0 f g ends : ℕ) → Is (record { out = text; err = []; status = status })
@@ -27,6 +29,11 @@ pub unopened : (r : Refusal) → ((r ≡ no.Memory) ⊎ ((r ≡ no.Storage) ⊎ 
 unopened r (inl memory) = inl (ap refused memory)
 unopened r (inr (inl storage)) = inr (inl (ap refused storage))
 unopened r (inr (inr damaged)) = inr (inr (ap refused damaged))
+
+-- so it is one of a task
+pub unopened_by : (done : Task) (r : Refusal) → ((r ≡ no.Memory) ⊎ ((r ≡ no.Storage) ⊎ (r ≡ no.Damaged))) → MayDo done (refused r)
+unopened_by (task.Ask asked) r why = inl (unopened r why)
+unopened_by (task.Serve port count) r why = inl (unopened r why)
 
 -- the connections were served and told after the port
 pub all_served : (office next : State) (port count : ℕ) (w0 w1 w : Option (List ℕ)) (f0 f1 f : ℕ) → Appends w0 w1 (listening port) → f1 ≡ f0 → AllServed office count w1 w next → f ≡ f1

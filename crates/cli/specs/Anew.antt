@@ -17,3 +17,8 @@ abbrev pub BrokenAnew : Option (List ℕ) → Option (List ℕ) → Option (List
 BrokenAnew left0 w0 left w =
     ((fault : StreamFault) × (after : State) × BrokeOff AnswersMessage end_text empty left0 w0 left w after fault)
     ⊎ ((left ≡ left0) × (w ≡ w0))
+
+-- the stream was served to its end and the status is 0, or it broke off and the status is 1
+abbrev pub StreamsAnew : Option (List ℕ) → Option (List ℕ) → Option (List ℕ) → Option (List ℕ) → ℕ → Type 0
+StreamsAnew left0 w0 left w status =
+    (ServedAnew left0 w0 left w × (status ≡ 0)) ⊎ (BrokenAnew left0 w0 left w × (status ≡ 1))

@@ -25,6 +25,8 @@ use Rattle.words.specs.declared.line.Line.TheVariants as line
 use Rattle.words.specs.declared.line.LineFault.{LineFault}
 use Rattle.words.specs.declared.line.LineFault.TheVariants.{Memory, Help, Fault}
 use Rattle.words.specs.Reading.{IsAnswer}
+use Rattle.cli.specs.declared.tasks.Task.{Task}
+use Rattle.cli.specs.declared.tasks.Task.TheVariants as task
 use Rattle.cli.specs.declared.unread.Unread.{Unread}
 use Rattle.cli.specs.declared.unread.Unread.TheVariants as unread
 use Rattle.wire.specs.declared.outcome.Served.{Served}
@@ -150,6 +152,11 @@ Imports id kind bytes o =
 -- a line that imports a file: it could not be read, or what comes of importing its bytes
 abbrev pub ImportsFile : List ℕ → ImportKind → Outcome → Type 0
 ImportsFile id kind o = IsUnread o ⊎ ((bytes : List ℕ) × Imports id kind bytes o)
+
+-- what a task at the office of a database may come to
+abbrev pub MayDo : Task → Outcome → Type 0
+MayDo (task.Ask asked) o = Asks asked o
+MayDo (task.Serve port count) o = ServesAt port count o
 
 -- what a line may come to
 abbrev pub MayCome : Line → Outcome → Type 0

@@ -1,18 +1,20 @@
 //! Files, read in one piece.
 
 ghost use Rattle.std.specs.Prelude.{◌≡◌, ◌⊎◌, ◌+◌, ◌^◌, ◌<◌, take, IfOk, IfErr, IfSome};
+ghost use Rattle.std.specs.IoError.{error_kind};
 
 use rolls::Refusal;
 use std::alloc::Global;
 use std::fs::File;
-use std::io::{self, Read};
+use std::io::{self, ErrorKind, Read};
 use std::rt::HostRuntime;
 
 /// The refusal of a file that cannot be read.
-fn refusal_of(error: io::Error) -> Refusal
-    ensures { (result ≡ Refusal.Memory) ⊎ (result ≡ Refusal.Storage) }
+fn refusal_of(error: &io::Error) -> Refusal
+    ensures memory { error_kind error.now ≡ ErrorKind.OutOfMemory → result ≡ Refusal.Memory }
+    ensures storage { (error_kind error.now ≡ ErrorKind.OutOfMemory → ⊥) → result ≡ Refusal.Storage }
 {
-    if error.kind() == io::ErrorKind::OutOfMemory {
+    if error.kind() == ErrorKind::OutOfMemory {
         Refusal::Memory
     } else {
         Refusal::Storage
@@ -24,22 +26,21 @@ pub(crate) fn read_file(rt: &HostRuntime, path: &str, most: usize) -> Result<Vec
     requires { most < 2 ^ 32 }
     ensures { IfErr result (λ r. (r ≡ Refusal.Memory) ⊎ (r ≡ Refusal.Storage)) }
 {
-    let file = match File::open(rt, path) {
-        Ok(file) => file,
-        Err(error) => return Err(refusal_of(error)),
-    };
-    match read_some(rt.alloc(), file, most) {
-        Ok(bytes) => Ok(bytes),
-        Err(error) => Err(refusal_of(error)),
+    match File::open(rt, path) {
+        Ok(file) => read_some(rt.alloc(), file, most),
+        Err(error) => Err(refusal_of(&error)),
     }
 }
 
 /// What a reader gives up to its end, or up to the first byte above the limit.
-fn read_some<R: Read + Drop>(alloc: Global, reader: R, most: usize) -> io::Result<Vec<u8>>
+fn read_some<R: Read + Drop>(alloc: Global, reader: R, most: usize) -> Result<Vec<u8>, Refusal>
     requires { most < 2 ^ 32 }
-    ensures { IfOk result (λ bytes. IfSome (R.remaining reader) (λ all. bytes.items ≡ take (most + 1) all)) }
+    ensures ok { IfOk result (λ bytes. IfSome (R.remaining reader) (λ all. bytes.items ≡ take (most + 1) all)) }
+    ensures err { IfErr result (λ r. (r ≡ Refusal.Memory) ⊎ (r ≡ Refusal.Storage)) }
 {
     let mut bytes = Vec::new(alloc);
-    reader.take(most as u64 + 1).read_to_end(&mut bytes)?;
-    Ok(bytes)
+    match reader.take(most as u64 + 1).read_to_end(&mut bytes) {
+        Ok(_) => Ok(bytes),
+        Err(error) => Err(refusal_of(&error)),
+    }
 }

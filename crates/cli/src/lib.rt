@@ -5,17 +5,20 @@
 //!
 //! Promised: what is printed, where and with which status is an outcome of the line that `clap` reads from the words: a
 //! round file's result, or the answer of one step of a fit office, or the lines of the connections served; where a
-//! writer fails the status is 1. Arguments that cannot be read are told too. Without arguments a stream is served over a
-//! new database, from the empty office on. Begin with `specs/Outcomes.antt` and `specs/Anew.antt`.
+//! writer fails the status is 1. A database is closed behind what is told: its file alone stands for the office then, or
+//! it is known why not. Arguments that cannot be read are told too. Without arguments a stream is served over a
+//! new database, from the empty office on. Begin with `specs/Outcomes.antt`, `specs/Databases.antt` and `specs/Anew.antt`.
 #![tactic(auto)]
 
 mod files;
 mod opening;
+mod printing;
 mod program;
 mod run;
+mod tasks;
 mod texts;
 mod unread;
 
-pub use program::{serve_anew, start};
+pub use program::{begin, serve_anew, start};
 pub use run::{line, tell_line, tell_unread};
 pub use unread::Unread;

@@ -1,19 +1,27 @@
-//! A database file, and the office of a database.
+//! A database file: it is opened by its name, and closed.
 
-ghost use Rattle.std.specs.Prelude.{◌≡◌, ◌⊎◌, IfErr};
+ghost use Rattle.std.specs.Prelude.{◌≡◌, ◌⊎◌, IfOk, IfErr};
+ghost use Rattle.sqlite_wal.specs.Reads.{AreClean};
+ghost use Rattle.sqlite_trees.specs.View.{IsClean};
+ghost use Rattle.sqlite_store.specs.FileStore.{view};
+ghost use Rattle.sqlite.specs.Files.{IsClosed, FailsToClose};
+ghost use Rattle.sqlite.specs.Closing.{IsCopied};
 
-use desk::Desk;
 use rolls::Refusal;
-use sqlite::{Alter, Connection, Error, ErrorCode, FileFrom, FileStore, Unknown};
-use std::alloc::Global;
+use sqlite::{Connection, Error, ErrorCode, FileFrom, FileStore, Files, Unknown};
+use sqlite_disk::Disk;
 use std::rt::HostRuntime;
 
 /// The database of a file.
 pub(crate) type Kept = FileStore<FileFrom<Unknown>>;
 
+/// What comes of closing a database file: its files, or why it is not closed, and what is left of it.
+pub(crate) type Closing<D> = Result<Files<D>, (Error, FileStore<D>)>;
+
 /// The refusal of a database that cannot be opened.
 fn refusal_of(error: Error) -> Refusal
-    ensures { (result ≡ Refusal.Memory) ⊎ (result ≡ Refusal.Storage) }
+    ensures memory { error ≡ Error.SqliteFailure ErrorCode.OutOfMemory → result ≡ Refusal.Memory }
+    ensures storage { (error ≡ Error.SqliteFailure ErrorCode.OutOfMemory → ⊥) → result ≡ Refusal.Storage }
 {
     match error {
         Error::SqliteFailure(ErrorCode::OutOfMemory) => Refusal::Memory,
@@ -31,18 +39,10 @@ pub(crate) fn open_file(rt: &HostRuntime, database: &str) -> Result<Connection<K
     }
 }
 
-/// Opens the office of a database.
-///
-/// It takes any store, and so do those who hold the desk: a desk over a store of files by name takes the prover a minute in each function
-/// that holds one.
-pub(crate) fn open_desk<S: Alter + Drop>(
-    alloc: Global,
-    connection: Connection<S>,
-) -> Result<Desk<S>, Refusal>
-    ensures { IfErr result (λ r. (r ≡ Refusal.Memory) ⊎ ((r ≡ Refusal.Storage) ⊎ (r ≡ Refusal.Damaged))) }
+/// Closes a database file: its log is copied into it.
+pub(crate) fn close_file<D: Disk + Drop>(connection: Connection<FileStore<D>>) -> Closing<D>
+    ensures closed { IfOk result (λ files. AreClean D.Disk files.log files.db → IsCopied connection files) }
+    ensures failed { IfErr result (λ e. IsClosed connection e.1 × (IsClean (view e.1) → FailsToClose connection e.1 e.0)) }
 {
-    match Desk::open(alloc, connection) {
-        Ok(desk) => Ok(desk),
-        Err((refusal, _)) => Err(refusal),
-    }
+    connection.close_files()
 }

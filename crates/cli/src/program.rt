@@ -1,9 +1,10 @@
 //! The program: a line where there are arguments, or else standard input served over a new database in memory.
 
-ghost use Rattle.std.specs.Prelude.{◌≡◌, ◌-◌, ◌^◌, ◌<◌, ◌≤◌, IsTrue, false};
-ghost use Rattle.cli.specs.Anew.{ServedAnew, BrokenAnew};
+ghost use Rattle.std.specs.Prelude.{◌≡◌, ◌-◌, ◌^◌, ◌<◌, ◌+◌, ◌≤◌, IsTrue, false, length, map, string_bytes};
+ghost use Rattle.cli.specs.Anew.{ServedAnew, BrokenAnew, StreamsAnew};
+ghost use Rattle.cli.specs.Outcomes.{Tells, ComesTo};
 
-use crate::run::{line, tell_unread};
+use crate::run::{tell_line, tell_unread};
 use crate::unread::Unread;
 use desk::Desk;
 use sqlite::Connection;
@@ -33,6 +34,31 @@ pub fn serve_anew<R: Source, W: Sink>(alloc: Global, reader: &mut R, writer: &mu
     }
 }
 
+/// Does the line of these words, of which the first is the program's name, as `tell_line` does; where there is no other word,
+/// serves the reader's stream to `out`, as `serve_anew` does. Gives the status of the program: 0 for a stream that was served to
+/// its end, and 1 for one that was not.
+pub fn begin<R: Source, O: Sink, E: Sink>(
+    rt: &HostRuntime,
+    words: &[String],
+    reader: &mut R,
+    out: &mut O,
+    err: &mut E,
+) -> u8
+    requires reader { R.failures reader.old < 2 ^ 64 - 1 }
+    requires out { O.failures out.old < 2 ^ 64 - 1 }
+    requires err { E.failures err.old < 2 ^ 64 - 1 }
+    ensures line { 1 < length words.now → Tells (ComesTo (map string_bytes words.now)) (O.written out.old) (O.written out.new) (E.written err.old) (E.written err.new) (O.failures out.old + E.failures err.old) (O.failures out.new + E.failures err.new) result }
+    ensures unread { 1 < length words.now → reader.new ≡ reader.old }
+    ensures stream { length words.now ≤ 1 → StreamsAnew (R.left reader.old) (O.written out.old) (R.left reader.new) (O.written out.new) result }
+    ensures silent { length words.now ≤ 1 → err.new ≡ err.old }
+    ensures status { result ≤ 2 }
+{
+    if words.len() > 1 {
+        return tell_line(rt, words, out, err);
+    }
+    u8::from(!serve_anew(rt.alloc(), reader, out))
+}
+
 /// The words of the command line, the program's name first.
 fn given(rt: &HostRuntime) -> io::Result<Vec<String>> {
     Ok(env::args(rt)?.collect(rt.alloc())?)
@@ -40,19 +66,18 @@ fn given(rt: &HostRuntime) -> io::Result<Vec<String>> {
 
 /// Does all that the program does, and gives its status, which is at most 2.
 ///
-/// Without arguments standard input is served to standard output, as by `serve_anew`: nothing but the answers is printed, and
-/// the status is 0, or 1 where the stream was not served to its end. With arguments the line is done that they stand for, as by
-/// `line`, or it is told why they cannot be read, as by `tell_unread`.
+/// Its arguments are words for `begin`, which reads standard input and writes to standard output and standard error, or it is told
+/// why they cannot be read, as by `tell_unread`.
 pub fn start(rt: &HostRuntime) -> u8
     ensures { result ≤ 2 }
 {
+    let mut err = Watched::new(rt.stderr());
     match given(rt) {
-        Ok(words) if words.len() > 1 => line(rt, words, rt.stdout(), rt.stderr()),
-        Ok(_) => {
+        Ok(words) => {
             let mut reader = Watched::new(rt.stdin());
-            let mut writer = Watched::new(rt.stdout());
-            u8::from(!serve_anew(rt.alloc(), &mut reader, &mut writer))
+            let mut out = Watched::new(rt.stdout());
+            begin(rt, &words, &mut reader, &mut out, &mut err)
         }
-        Err(error) => tell_unread(Unread::of(&error), &mut Watched::new(rt.stderr())),
+        Err(error) => tell_unread(Unread::of(&error), &mut err),
     }
 }

@@ -1,12 +1,14 @@
 //! The texts that lines print. None of them takes memory, so that what was done is told.
 
 ghost use Rattle.std.specs.Prelude.{◌≡◌, ◌+◌, ◌*◌, ◌≤◌, [], ◌∷◌, ◌++◌, length, decimal};
+ghost use Rattle.wire.specs.declared.TheConstants.{MOST_SHORT_TEXT};
 ghost use Rattle.arrayvec.specs.ArrayVec.{array_vec_len};
 ghost use Rattle.rolls.specs.declared.refusal.Refusal.TheVariants as no;
 ghost use Rattle.cli.specs.Outcomes.{named_line, refusal_line, bad_line, counts_text, closed_line};
 
 use arrayvec::ArrayVec;
 use rolls::Refusal;
+use spa::RANKS;
 use web::{ShortText, push, push_labelled, push_number};
 
 /// What is told where an argument is not UTF-8, as `clap` words a fault of the line.
@@ -71,7 +73,7 @@ pub(crate) fn bad_line(number: usize) -> ShortText
 
 /// Appends numbers, each after a space.
 fn push_counts(out: &mut ShortText, counts: &[u32])
-    requires { array_vec_len out.old + 11 * length counts.now ≤ 320 }
+    requires { array_vec_len out.old + 11 * length counts.now ≤ MOST_SHORT_TEXT }
     ensures items { out.new.items ≡ out.old.items ++ counts_text counts.now }
     ensures len { array_vec_len out.new ≤ array_vec_len out.old + 11 * length counts.now }
 {
@@ -81,7 +83,7 @@ fn push_counts(out: &mut ShortText, counts: &[u32])
 }
 
 /// The line of a closed round.
-pub(crate) fn closed_line(round: u32, size: u32, profile: &[u32; 8]) -> ShortText
+pub(crate) fn closed_line(round: u32, size: u32, profile: &[u32; RANKS]) -> ShortText
     ensures { result.items ≡ closed_line round size profile.now }
 {
     let mut line = ArrayVec::new();

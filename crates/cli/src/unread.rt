@@ -1,6 +1,9 @@
 //! Why the arguments of the program cannot be read.
 
-use std::io;
+ghost use Rattle.std.specs.Prelude.{◌≡◌};
+ghost use Rattle.std.specs.IoError.{error_kind};
+
+use std::io::{self, ErrorKind};
 
 /// Why the arguments of the program cannot be read.
 #[derive(Clone, Copy, Drop)]
@@ -13,8 +16,11 @@ pub enum Unread {
 
 impl Unread {
     /// What the error stands for that reading the arguments gave.
-    pub fn of(error: &io::Error) -> Self {
-        if error.kind() == io::ErrorKind::OutOfMemory {
+    pub fn of(error: &io::Error) -> Self
+        ensures memory { error_kind error.now ≡ ErrorKind.OutOfMemory → result ≡ Unread.Memory }
+        ensures not_utf8 { (error_kind error.now ≡ ErrorKind.OutOfMemory → ⊥) → result ≡ Unread.NotUtf8 }
+    {
+        if error.kind() == ErrorKind::OutOfMemory {
             Unread::Memory
         } else {
             Unread::NotUtf8

@@ -21,7 +21,7 @@ const BEFORE: &str =
 const TWO_FIRSTS: &str =
     r#"PUT /lists/A       | {"choices":["P","Q"]} | 200 OK | {"ok":true}
        PUT /lists/B       | {"choices":["Q","P"]} | 200 OK | {"ok":true}
-       POST /rounds/close |                       | 200 OK | {"profile":[2,0,0,0,0,0,0,0],"round":1,"size":2}
+       POST /rounds/close |                       | 200 OK | {"profile":[2,0,0,0^,],"round":1,"size":2}
        GET /students/A    |                       | 200 OK | {"list":null,"name":"Ann","placed":{"project":"P","rank":1,"round":1}}
        GET /students/B    |                       | 200 OK | {"list":null,"name":"Bob","placed":{"project":"Q","rank":1,"round":1}}"#;
 
@@ -30,7 +30,7 @@ const TWO_FIRSTS: &str =
 const FIRST_AND_FOURTH: &str =
     r#"PUT /lists/A       | {"choices":["X","V"]}         | 200 OK | {"ok":true}
        PUT /lists/C       | {"choices":["Z","X","Y","U"]} | 200 OK | {"ok":true}
-       POST /rounds/close |                               | 200 OK | {"profile":[1,0,0,1,0,0,0,0],"round":1,"size":2}
+       POST /rounds/close |                               | 200 OK | {"profile":[1,0,0,1^,],"round":1,"size":2}
        GET /students/A    |                               | 200 OK | {"list":null,"name":"Ann","placed":{"project":"X","rank":1,"round":1}}
        GET /students/C    |                               | 200 OK | {"list":null,"name":"Cy","placed":{"project":"U","rank":4,"round":1}}"#;
 
@@ -38,23 +38,23 @@ const FIRST_AND_FOURTH: &str =
 #[rattlefmt::skip]
 const QUOTA_GOES: &str =
     r#"PUT /lists/A    | {"choices":["P"]}                           | 200 OK | {"ok":true}
-       GET /preview    |                                             | 200 OK | {"profile":[1,0,0,0,0,0,0,0],"size":1}
+       GET /preview    |                                             | 200 OK | {"profile":[1,0,0,0^,],"size":1}
        PUT /projects/P | {"name":"Pumps","quota":0,"supervisor":"L"} | 200 OK | {"ok":true}
-       GET /preview    |                                             | 200 OK | {"profile":[0,0,0,0,0,0,0,0],"size":0}"#;
+       GET /preview    |                                             | 200 OK | {"profile":[0,0,0,0^,],"size":0}"#;
 
 /// A list of eight; the last of them gets no place where the student may have the first.
 #[rattlefmt::skip]
 const EIGHT: &str =
     r#"PUT /lists/B       | {"choices":["Z","Y","X","W","V","U","Q","P"]} | 200 OK | {"ok":true}
        GET /students/B    |                                               | 200 OK | {"list":["Z","Y","X","W","V","U","Q","P"],"name":"Bob","placed":null}
-       POST /rounds/close |                                               | 200 OK | {"profile":[0,0,1,0,0,0,0,0],"round":1,"size":1}
+       POST /rounds/close |                                               | 200 OK | {"profile":[0,0,1,0^,],"round":1,"size":1}
        GET /students/B    |                                               | 200 OK | {"list":null,"name":"Bob","placed":{"project":"X","rank":3,"round":1}}"#;
 
 /// Lists of one student in two rounds: the first round places nobody at a quota of 0, the second has a list of its own.
 #[rattlefmt::skip]
 const TWO_LISTS: &str =
     r#"PUT /lists/B       | {"choices":["Z"]}     | 200 OK        | {"ok":true}
-       POST /rounds/close |                       | 200 OK        | {"profile":[0,0,0,0,0,0,0,0],"round":1,"size":0}
+       POST /rounds/close |                       | 200 OK        | {"profile":[0,0,0,0^,],"round":1,"size":0}
        POST /rounds       |                       | 200 OK        | {"round":2}
        GET /students/B    |                       | 200 OK        | {"list":null,"name":"Bob","placed":null}
        DELETE /lists/B    |                       | 404 Not Found | {"fault":"NoList","number":25}
@@ -63,8 +63,8 @@ const TWO_LISTS: &str =
        DELETE /lists/B    |                       | 404 Not Found | {"fault":"NoList","number":25}
        PUT /lists/B       | {"choices":["Y","Q"]} | 200 OK        | {"ok":true}
        GET /students/B    |                       | 200 OK        | {"list":["Y","Q"],"name":"Bob","placed":null}
-       POST /rounds/close |                       | 200 OK        | {"profile":[0,1,0,0,0,0,0,0],"round":2,"size":1}
-       GET /rounds/1      |                       | 200 OK        | {"open":false,"placed":0,"profile":[0,0,0,0,0,0,0,0],"round":1,"students":1}
+       POST /rounds/close |                       | 200 OK        | {"profile":[0,1,0,0^,],"round":2,"size":1}
+       GET /rounds/1      |                       | 200 OK        | {"open":false,"placed":0,"profile":[0,0,0,0^,],"round":1,"students":1}
        GET /students/B    |                       | 200 OK        | {"list":null,"name":"Bob","placed":{"project":"Q","rank":2,"round":2}}"#;
 
 /// P of quota 2 takes one student in each of two rounds.
@@ -72,12 +72,12 @@ const TWO_LISTS: &str =
 const TWO_ROUNDS: &str =
     r#"PUT /projects/P    | {"name":"Pumps","quota":2,"supervisor":"L"} | 200 OK | {"ok":true}
        PUT /lists/A       | {"choices":["P"]}                           | 200 OK | {"ok":true}
-       POST /rounds/close |                                             | 200 OK | {"profile":[1,0,0,0,0,0,0,0],"round":1,"size":1}
+       POST /rounds/close |                                             | 200 OK | {"profile":[1,0,0,0^,],"round":1,"size":1}
        POST /rounds       |                                             | 200 OK | {"round":2}
        PUT /lists/B       | {"choices":["P"]}                           | 200 OK | {"ok":true}
        PUT /lists/C       | {"choices":["P"]}                           | 200 OK | {"ok":true}
-       POST /rounds/close |                                             | 200 OK | {"profile":[1,0,0,0,0,0,0,0],"round":2,"size":1}
-       GET /rounds/1      |                                             | 200 OK | {"open":false,"placed":1,"profile":[1,0,0,0,0,0,0,0],"round":1,"students":1}
+       POST /rounds/close |                                             | 200 OK | {"profile":[1,0,0,0^,],"round":2,"size":1}
+       GET /rounds/1      |                                             | 200 OK | {"open":false,"placed":1,"profile":[1,0,0,0^,],"round":1,"students":1}
        GET /supervisors/L |                                             | 200 OK | {"name":"Lee","placed":2,"quota":5}
        GET /projects/P    |                                             | 200 OK | {"name":"Pumps","placed":2,"quota":2,"supervisor":"L"}
        GET /students/A    |                                             | 200 OK | {"list":null,"name":"Ann","placed":{"project":"P","rank":1,"round":1}}"#;
@@ -86,10 +86,10 @@ const TWO_ROUNDS: &str =
 #[rattlefmt::skip]
 const REOPENED: &str =
     r#"POST /rounds/reopen |                                             | 200 OK       | {"round":2}
-       GET /rounds/2       |                                             | 200 OK       | {"open":true,"placed":0,"profile":[0,0,0,0,0,0,0,0],"round":2,"students":2}
+       GET /rounds/2       |                                             | 200 OK       | {"open":true,"placed":0,"profile":[0,0,0,0^,],"round":2,"students":2}
        PUT /projects/P     | {"name":"Pumps","quota":0,"supervisor":"L"} | 409 Conflict | {"fault":"BelowPlaced","number":17}
        PUT /projects/P     | {"name":"Pumps","quota":1,"supervisor":"L"} | 200 OK       | {"ok":true}
-       GET /preview        |                                             | 200 OK       | {"profile":[0,0,0,0,0,0,0,0],"size":0}"#;
+       GET /preview        |                                             | 200 OK       | {"profile":[0,0,0,0^,],"size":0}"#;
 
 /// A supervisor of quota 60, an open round, and the last of sixty students.
 #[rattlefmt::skip]
@@ -116,7 +116,7 @@ const SIXTY_LISTS: &str =
 #[rattlefmt::skip]
 const SIXTY: &str =
     r#"PUT /lists/S60     | {"choices":["P60"]} | 200 OK | {"ok":true}
-       POST /rounds/close |                     | 200 OK | {"profile":[1,59,0,0,0,0,0,0],"round":1,"size":60}
+       POST /rounds/close |                     | 200 OK | {"profile":[1,59,0,0^,],"round":1,"size":60}
        GET /students/S60  |                     | 200 OK | {"list":null,"name":"Ann","placed":{"project":"P60","rank":1,"round":1}}"#;
 
 /// All others have their own.
@@ -146,8 +146,8 @@ const FORTY_LISTS: &str =
 /// Twenty pairs.
 #[rattlefmt::skip]
 const FORTY: &str =
-    r#"GET /preview       |  | 200 OK | {"profile":[20,0,0,20,0,0,0,0],"size":40}
-       POST /rounds/close |  | 200 OK | {"profile":[20,0,0,20,0,0,0,0],"round":1,"size":40}"#;
+    r#"GET /preview       |  | 200 OK | {"profile":[20,0,0,20^,],"size":40}
+       POST /rounds/close |  | 200 OK | {"profile":[20,0,0,20^,],"round":1,"size":40}"#;
 
 /// One of each pair has the fourth choice.
 #[rattlefmt::skip]

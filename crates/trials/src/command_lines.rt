@@ -30,8 +30,8 @@ fn what_solve_prints_is_accepted(rt: HostRuntime) -> Result<(), Fail> {
     let is_well = solved.err.is_empty() && solved.status == 0;
     holds(&rt, is_well && is_solved(&solved), "a round is solved");
     fs::write(&rt, "round.txt", &solved.out)?;
-    let best = b"best size 2 profile 0 2 0 0 0 0 0 0\n";
-    prints(&rt, &rt, "spadesk check round.txt", (best, b""), 0)
+    let best = body_of(rt.alloc(), "best size 2 profile 0 2 0 0^0^n")?;
+    prints(&rt, &rt, "spadesk check round.txt", (&best, b""), 0)
 }
 
 /// What `--help` prints.

@@ -1,5 +1,6 @@
 //! Instances, matchings and profiles, worked out by hand.
 
+use crate::cells::ranks;
 use crate::judged::holds;
 use crate::rolls_of::{instance, places, projects, students, supervisors};
 use spa::{Instance, InstanceFault, MatchFault, RANKS, Roll, profile};
@@ -10,7 +11,7 @@ use std::test::Fail;
 
 /// Rolls, and the first fault of them.
 #[rattlefmt::skip]
-static FAULTS: [(&str, &str, &str, InstanceFault); 14] = [
+static FAULTS: [(&str, &str, &str, InstanceFault); 13] = [
     ("L:501",     "",                  "",                      InstanceFault::Limit),
     ("L:5 L:501", "P:N:1",             "A A",                   InstanceFault::Limit),
     ("L:5",       "P:L:501",           "",                      InstanceFault::Limit),
@@ -19,7 +20,6 @@ static FAULTS: [(&str, &str, &str, InstanceFault); 14] = [
     ("L:5",       "P:N:1",             "A:P A:P",               InstanceFault::RepeatedCode(Roll::Students, 1)),
     ("L:5",       "P:L:1 Q:N:1",       "A",                     InstanceFault::UnknownSupervisor(1)),
     ("L:5",       "P:L:1",             "A:P B",                 InstanceFault::ListLength(1)),
-    ("L:5",       "P:L:1",             "A:P:P:P:P:P:P:P:P:P",   InstanceFault::ListLength(0)),
     ("L:5",       "P:L:1",             "A:P:N",                 InstanceFault::UnknownProject(0, 2)),
     ("L:5",       "P:L:1",             "A:P B:P:N:P",           InstanceFault::UnknownProject(1, 2)),
     ("L:5",       "P:L:1",             "A:P:P",                 InstanceFault::RepeatedProject(0, 2)),
@@ -52,23 +52,35 @@ fn the_first_fault_of_rolls_is_named(rt: HostRuntime) -> Result<(), Fail> {
     Ok(())
 }
 
+#[test]
+fn a_list_has_no_more_choices_than_there_are_ranks(rt: HostRuntime) -> Result<(), Fail> {
+    let mut roll = String::from_str(rt.alloc(), "A:P")?;
+    for _ in 0..RANKS {
+        roll.push_str(":P")?;
+    }
+    let fault = fault_of(rt.alloc(), "L:5", "P:L:1", &roll)?;
+    holds(&rt, fault == Some(InstanceFault::ListLength(0)), &roll);
+    Ok(())
+}
+
 // A lists P; B lists R, P; C lists Z, P, R; D lists R, Q, P. P has quota 2, Q and R have 1, Z has 0; L, who offers P, Q
-// and Z, has 2, and K, who offers R, has 1. Places, their first fault, and without one their size and profile.
+// and Z, has 2, and K, who offers R, has 1. Places, their first fault, and without one their size and how many have the
+// first ranks.
 #[rattlefmt::skip]
-static MATCHINGS: [(&str, Option<MatchFault>, usize, [u32; RANKS]); 13] = [
-    ("----", None,                                0, [0, 0, 0, 0, 0, 0, 0, 0]),
-    ("1---", None,                                1, [1, 0, 0, 0, 0, 0, 0, 0]),
-    ("12--", None,                                2, [1, 1, 0, 0, 0, 0, 0, 0]),
-    ("--3-", None,                                1, [0, 0, 1, 0, 0, 0, 0, 0]),
-    ("11-2", None,                                3, [2, 1, 0, 0, 0, 0, 0, 0]),
-    ("---",  Some(MatchFault::Length),            0, [0, 0, 0, 0, 0, 0, 0, 0]),
-    ("-3-4", Some(MatchFault::Place(1)),          0, [0, 0, 0, 0, 0, 0, 0, 0]),
-    ("1--0", Some(MatchFault::Place(3)),          0, [0, 0, 0, 0, 0, 0, 0, 0]),
-    ("--1-", Some(MatchFault::ProjectOver(3)),    0, [0, 0, 0, 0, 0, 0, 0, 0]),
-    ("121-", Some(MatchFault::ProjectOver(3)),    0, [0, 0, 0, 0, 0, 0, 0, 0]),
-    ("12-3", Some(MatchFault::ProjectOver(0)),    0, [0, 0, 0, 0, 0, 0, 0, 0]),
-    ("-1-1", Some(MatchFault::ProjectOver(2)),    0, [0, 0, 0, 0, 0, 0, 0, 0]),
-    ("12-2", Some(MatchFault::SupervisorOver(0)), 0, [0, 0, 0, 0, 0, 0, 0, 0]),
+static MATCHINGS: [(&str, Option<MatchFault>, usize, &[u32]); 13] = [
+    ("----", None,                                0, &[]),
+    ("1---", None,                                1, &[1]),
+    ("12--", None,                                2, &[1, 1]),
+    ("--3-", None,                                1, &[0, 0, 1]),
+    ("11-2", None,                                3, &[2, 1]),
+    ("---",  Some(MatchFault::Length),            0, &[]),
+    ("-3-4", Some(MatchFault::Place(1)),          0, &[]),
+    ("1--0", Some(MatchFault::Place(3)),          0, &[]),
+    ("--1-", Some(MatchFault::ProjectOver(3)),    0, &[]),
+    ("121-", Some(MatchFault::ProjectOver(3)),    0, &[]),
+    ("12-3", Some(MatchFault::ProjectOver(0)),    0, &[]),
+    ("-1-1", Some(MatchFault::ProjectOver(2)),    0, &[]),
+    ("12-2", Some(MatchFault::SupervisorOver(0)), 0, &[]),
 ];
 
 /// Compares the fault of each row's places, and where they have none their size and profile.
@@ -76,15 +88,15 @@ fn compare_matchings(
     alloc: Global,
     rt: &impl Abort,
     instance: &Instance,
-    rows: &[(&'static str, Option<MatchFault>, usize, [u32; RANKS])],
+    rows: &[(&'static str, Option<MatchFault>, usize, &'static [u32])],
 ) -> Result<(), Fail> {
-    for (text, want, size, ranks) in rows {
+    for (text, want, size, counts) in rows {
         let matching = places(alloc, text)?;
         let fault = matching.fault(instance);
         holds(rt, fault == *want, text);
         if fault.is_none() {
             holds(rt, matching.size(instance) == *size, text);
-            holds(rt, profile(instance, &matching) == *ranks, text);
+            holds(rt, profile(instance, &matching) == ranks(counts), text);
         }
     }
     Ok(())

@@ -7,6 +7,8 @@
 #[cfg(test)]
 mod admissions;
 #[cfg(test)]
+mod aims;
+#[cfg(test)]
 mod cells;
 #[cfg(test)]
 mod checks;
@@ -16,6 +18,8 @@ mod closings;
 mod command_lines;
 #[cfg(test)]
 mod connections;
+#[cfg(test)]
+mod copies;
 #[cfg(test)]
 mod desks;
 #[cfg(test)]

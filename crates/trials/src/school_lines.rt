@@ -1,6 +1,9 @@
 //! The lines over a database file.
 
 use crate::printed::{print_rows, prints, write_files};
+use rolls::MOST_IMPORT_BYTES;
+use sqlite::{Connection, FileStore, Unknown};
+use sqlite_disk::Disk;
 use std::fs;
 use std::rt::HostRuntime;
 use std::test::Fail;
@@ -20,30 +23,30 @@ static FILES: [(&str, &str); 7] = [
 /// Lines on a file that is not there at first.
 #[rattlefmt::skip]
 static FIRST: &str =
-    r#"spadesk import first.db students I1 first.csv    | 0 | rows 2^n                                 |
-       spadesk import first.db students I1 first.csv    | 0 | rows 2^n                                 |
-       spadesk import first.db supervisors I1 first.csv | 1 |                                          | refused 27: ImportIdUsed^n
-       spadesk import first.db students I2 second.csv   | 1 |                                          | refused 29: Row 2 8^n
-       spadesk import first.db students a!b no-such.csv | 1 |                                          | refused 2: Storage^n
-       spadesk open-round first.db                      | 0 | round 1^n                                |
-       spadesk open-round first.db                      | 1 |                                          | refused 18: RoundIsOpen^n
-       spadesk close-round first.db                     | 0 | round 1 size 0 profile 0 0 0 0 0 0 0 0^n |
-       spadesk report first.db profile 9                | 1 |                                          | refused 26: UnknownRound^n
-       spadesk reopen-round first.db                    | 0 | round 1^n                                |"#;
+    r#"spadesk import first.db students I1 first.csv    | 0 | rows 2^n                           |
+       spadesk import first.db students I1 first.csv    | 0 | rows 2^n                           |
+       spadesk import first.db supervisors I1 first.csv | 1 |                                    | refused 27: ImportIdUsed^n
+       spadesk import first.db students I2 second.csv   | 1 |                                    | refused 29: Row 2 8^n
+       spadesk import first.db students a!b no-such.csv | 1 |                                    | refused 2: Storage^n
+       spadesk open-round first.db                      | 0 | round 1^n                          |
+       spadesk open-round first.db                      | 1 |                                    | refused 18: RoundIsOpen^n
+       spadesk close-round first.db                     | 0 | round 1 size 0 profile 0 0 0 0^0^n |
+       spadesk report first.db profile 9                | 1 |                                    | refused 26: UnknownRound^n
+       spadesk reopen-round first.db                    | 0 | round 1^n                          |"#;
 
 /// A round from imports to reports.
 #[rattlefmt::skip]
 static ROUND: &str =
-    r#"spadesk import round.db supervisors I1 supervisors.csv | 0 | rows 1^n                                                                                                                                                                     |
-       spadesk import round.db projects I2 projects.csv       | 0 | rows 3^n                                                                                                                                                                     |
-       spadesk import round.db students I3 students.csv       | 0 | rows 3^n                                                                                                                                                                     |
-       spadesk open-round round.db                            | 0 | round 1^n                                                                                                                                                                    |
-       spadesk import round.db lists I4 lists.csv             | 0 | rows 3^n                                                                                                                                                                     |
-       spadesk close-round round.db                           | 0 | round 1 size 2 profile 0 2 0 0 0 0 0 0^n                                                                                                                                     |
-       spadesk report round.db placements 1                   | 0 | A                Q                 2^nC                P                 2^n                                                                                                 |
-       spadesk report round.db unplaced 1                     | 0 | B                Bob^n                                                                                                                                                       |
-       spadesk report round.db loads 1                        | 0 | L                     2    5^n  P                   1    1^n  Q                   1    1^n  Z                   0    0^n                                                     |
-       spadesk report round.db profile 1                      | 0 | ROUND       1 closed^nSTUDENTS    3^nPLACED      2^nRANK 1      0^nRANK 2      2^nRANK 3      0^nRANK 4      0^nRANK 5      0^nRANK 6      0^nRANK 7      0^nRANK 8      0^n |"#;
+    r#"spadesk import round.db supervisors I1 supervisors.csv | 0 | rows 1^n                                                                                                                 |
+       spadesk import round.db projects I2 projects.csv       | 0 | rows 3^n                                                                                                                 |
+       spadesk import round.db students I3 students.csv       | 0 | rows 3^n                                                                                                                 |
+       spadesk open-round round.db                            | 0 | round 1^n                                                                                                                |
+       spadesk import round.db lists I4 lists.csv             | 0 | rows 3^n                                                                                                                 |
+       spadesk close-round round.db                           | 0 | round 1 size 2 profile 0 2 0 0^0^n                                                                                       |
+       spadesk report round.db placements 1                   | 0 | A                Q                 2^nC                P                 2^n                                             |
+       spadesk report round.db unplaced 1                     | 0 | B                Bob^n                                                                                                   |
+       spadesk report round.db loads 1                        | 0 | L                     2    5^n  P                   1    1^n  Q                   1    1^n  Z                   0    0^n |
+       spadesk report round.db profile 1                      | 0 | ROUND       1 closed^nSTUDENTS    3^nPLACED      2^nRANK 1      0^nRANK 2      2^nRANK 3      0^nRANK 4      0^n^k       |"#;
 
 /// Files that are no database: a folder that is not there, and a text.
 #[rattlefmt::skip]
@@ -59,14 +62,38 @@ fn lines_over_files_print_as_they_should(rt: HostRuntime) -> Result<(), Fail> {
     print_rows(&rt, &rt, NO_DATABASE)
 }
 
-// An import file of 65,537 bytes.
+/// The last record of a long import file.
+static LAST_RECORD: &str = "S2,Bob\n";
+
+// An import file of 65,536 bytes, whose last record stands at its end, and one of a byte more.
 #[test]
-fn an_import_file_above_the_limit_is_refused(rt: HostRuntime) -> Result<(), Fail> {
-    let mut text = String::from_str(rt.alloc(), "code,name\n")?;
-    for _ in 0..65_527 {
-        text.push_str("x")?;
+fn an_import_file_is_read_to_its_end_or_is_too_large(rt: HostRuntime) -> Result<(), Fail> {
+    let mut text = String::from_str(rt.alloc(), "code,name\nS1,Ann\n")?;
+    for _ in text.len()..MOST_IMPORT_BYTES - LAST_RECORD.len() {
+        text.push_str("\n")?;
     }
+    text.push_str(LAST_RECORD)?;
     fs::write(&rt, "large.csv", &text)?;
     let words = "spadesk import large.db students I1 large.csv";
+    prints(&rt, &rt, words, (b"rows 2\n", b""), 0)?;
+    text.push_str("\n")?;
+    fs::write(&rt, "large.csv", &text)?;
     prints(&rt, &rt, words, (b"", b"refused 4: TooLarge\n"), 1)
+}
+
+/// Gives a database a table with the name of one of an office, and closes it.
+fn spoil<D: Disk + Drop>(mut connection: Connection<FileStore<D>>) -> Result<(), Fail> {
+    connection.execute_batch("CREATE TABLE student (a INTEGER)")?;
+    connection.close()?;
+    Ok(())
+}
+
+#[test]
+fn a_database_of_other_tables_is_damaged(rt: HostRuntime) -> Result<(), Fail> {
+    match Connection::open_from(&rt, "other.db", false, Unknown) {
+        Ok(connection) => spoil(connection)?,
+        Err(_) => return Err(Fail::new("the database of the file")),
+    }
+    let words = "spadesk open-round other.db";
+    prints(&rt, &rt, words, (b"", b"refused 30: Damaged\n"), 1)
 }

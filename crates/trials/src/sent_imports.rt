@@ -2,6 +2,7 @@
 //! made once.
 
 use crate::played::{Part, Sitting, play_all};
+use rolls::MOST_IMPORT_BYTES;
 use std::rt::HostRuntime;
 use std::test::Fail;
 
@@ -56,7 +57,7 @@ const LISTS: &str =
        POST /imports/lists/E | student,choices^nS1,P Q^nS2,P^n | 200 OK       | {"rows":2}
        POST /imports/lists/F | student,choices^nS1,Q P^nS2,^n  | 409 Conflict | {"fault":"Row","inner":23,"number":29,"record":2}
        GET /students/S1      |                                 | 200 OK       | {"list":["P","Q"],"name":"Ann","placed":null}
-       POST /rounds/close    |                                 | 200 OK       | {"profile":[1,1,0,0,0,0,0,0],"round":1,"size":2}"#;
+       POST /rounds/close    |                                 | 200 OK       | {"profile":[1,1,0,0^,],"round":1,"size":2}"#;
 
 /// A header alone, under an id of its own.
 #[rattlefmt::skip]
@@ -85,7 +86,7 @@ const ONE_FIELD: &str =
     r#"POST /imports/students/U | code,name^n$ | 409 Conflict | {"fault":"Row","inner":8,"number":29,"record":1}"#;
 
 // The text of records that have one field is as long as an import may be.
-const _: () = prove!(10 + 2 * 32_763 == 65_536);
+const _: () = prove!(10 + 2 * 32_763 == MOST_IMPORT_BYTES);
 
 /// Each play at tables of its own.
 #[rattlefmt::skip]

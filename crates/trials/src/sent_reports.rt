@@ -30,7 +30,7 @@ const REFUSED: &str =
 /// The reports of an open round.
 #[rattlefmt::skip]
 const BEFORE: &str =
-    r#"GET /reports/profile/1     |  | 200 OK | ROUND       1 open^nSTUDENTS    2^nPLACED      0^nRANK 1      0^nRANK 2      0^nRANK 3      0^nRANK 4      0^nRANK 5      0^nRANK 6      0^nRANK 7      0^nRANK 8      0^n
+    r#"GET /reports/profile/1     |  | 200 OK | ROUND       1 open^nSTUDENTS    2^nPLACED      0^nRANK 1      0^nRANK 2      0^nRANK 3      0^nRANK 4      0^n^k
        GET /reports/loads/1       |  | 200 OK | L                     0    5^n  P                   0    1^n  Q                   0    1^n  Z                   0    0^n
        GET /reports/unplaced/0001 |  | 200 OK | A                Zoë Å^nC                Cy^n
        GET /reports/placements/1  |  | 200 OK | "#;
@@ -38,12 +38,12 @@ const BEFORE: &str =
 /// The round closes.
 #[rattlefmt::skip]
 const CLOSE: &str =
-    r#"POST /rounds/close |  | 200 OK | {"profile":[0,2,0,0,0,0,0,0],"round":1,"size":2}"#;
+    r#"POST /rounds/close |  | 200 OK | {"profile":[0,2,0,0^,],"round":1,"size":2}"#;
 
 /// The reports of the closed round.
 #[rattlefmt::skip]
 const AFTER: &str =
-    r#"GET /reports/profile/1    |  | 200 OK | ROUND       1 closed^nSTUDENTS    2^nPLACED      2^nRANK 1      0^nRANK 2      2^nRANK 3      0^nRANK 4      0^nRANK 5      0^nRANK 6      0^nRANK 7      0^nRANK 8      0^n
+    r#"GET /reports/profile/1    |  | 200 OK | ROUND       1 closed^nSTUDENTS    2^nPLACED      2^nRANK 1      0^nRANK 2      2^nRANK 3      0^nRANK 4      0^n^k
        GET /reports/loads/1      |  | 200 OK | L                     2    5^n  P                   1    1^n  Q                   1    1^n  Z                   0    0^n
        GET /reports/unplaced/1   |  | 200 OK | 
        GET /reports/placements/1 |  | 200 OK | A                Q                 2^nC                P                 2^n"#;
@@ -53,12 +53,12 @@ const AFTER: &str =
 const SECOND: &str =
     r#"POST /rounds/reopen |                                             | 200 OK | {"round":1}
        PUT /lists/B        | {"choices":["Z"]}                           | 200 OK | {"ok":true}
-       POST /rounds/close  |                                             | 200 OK | {"profile":[0,2,0,0,0,0,0,0],"round":1,"size":2}
+       POST /rounds/close  |                                             | 200 OK | {"profile":[0,2,0,0^,],"round":1,"size":2}
        PUT /supervisors/K  | {"name":"Kim","quota":500}                  | 200 OK | {"ok":true}
        PUT /projects/P     | {"name":"Pumps","quota":2,"supervisor":"L"} | 200 OK | {"ok":true}
        POST /rounds        |                                             | 200 OK | {"round":2}
        PUT /lists/B        | {"choices":["P"]}                           | 200 OK | {"ok":true}
-       POST /rounds/close  |                                             | 200 OK | {"profile":[1,0,0,0,0,0,0,0],"round":2,"size":1}"#;
+       POST /rounds/close  |                                             | 200 OK | {"profile":[1,0,0,0^,],"round":2,"size":1}"#;
 
 /// The reports of both rounds: loads count the rounds up to their own, beside the quotas of today.
 #[rattlefmt::skip]
@@ -68,7 +68,7 @@ const BOTH: &str =
        GET /reports/loads/1      |  | 200 OK | K                     0  500^nL                     2    5^n  P                   1    2^n  Q                   1    1^n  Z                   0    0^n
        GET /reports/loads/2      |  | 200 OK | K                     0  500^nL                     3    5^n  P                   2    2^n  Q                   1    1^n  Z                   0    0^n
        GET /reports/placements/2 |  | 200 OK | B                P                 1^n
-       GET /reports/profile/2    |  | 200 OK | ROUND       2 closed^nSTUDENTS    1^nPLACED      1^nRANK 1      1^nRANK 2      0^nRANK 3      0^nRANK 4      0^nRANK 5      0^nRANK 6      0^nRANK 7      0^nRANK 8      0^n"#;
+       GET /reports/profile/2    |  | 200 OK | ROUND       2 closed^nSTUDENTS    1^nPLACED      1^nRANK 1      1^nRANK 2      0^nRANK 3      0^nRANK 4      0^n^k"#;
 
 /// The reports at one desk, and at a second one over its tables.
 #[rattlefmt::skip]

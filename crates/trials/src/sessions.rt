@@ -5,17 +5,17 @@ ghost use Rattle.std.specs.Prelude.{◌≡◌, IfOk};
 use crate::judged::holds;
 use crate::rolls_of::instance;
 use solver::{Session, solve};
-use spa::{Instance, profile};
+use spa::{Aim, Instance, profile};
 use std::alloc::Global;
 use std::process::Abort;
 use std::rt::HostRuntime;
 use std::test::Fail;
 
 /// A session to which all students of the instance were admitted.
-fn session_of(alloc: Global, instance: &Instance) -> Result<Session, Fail>
+fn session_of(alloc: Global, instance: &Instance, aim: Aim) -> Result<Session, Fail>
     ensures { IfOk result (λ session. session.shape ≡ instance.now.shape) }
 {
-    let mut session = Session::start(alloc, instance.supervisors(), instance.projects())?;
+    let mut session = Session::start(alloc, instance.supervisors(), instance.projects(), aim)?;
     for student in 0..instance.student_count() {
         session.admit(instance.list(student))?;
     }
@@ -35,12 +35,18 @@ static ROLLS: [Rolls; 6] = [
     ("L:5",     "P:L:1",                             ""),
 ];
 
-/// Compares the size and the profile that a session of each row tells with those of the matching that is solved.
-fn compare_with_solved(alloc: Global, rt: &impl Abort, rows: &[Rolls]) -> Result<(), Fail> {
+/// Compares the size and the profile that a session of each row tells with those of the matching that is solved by the
+/// same aim.
+fn compare_with_solved(
+    alloc: Global,
+    rt: &impl Abort,
+    aim: Aim,
+    rows: &[Rolls],
+) -> Result<(), Fail> {
     for (supervisors, projects, students) in rows {
         let instance = instance(alloc, supervisors, projects, students)?;
-        let session = session_of(alloc, &instance)?;
-        let matching = solve(alloc, &instance)?.matching;
+        let session = session_of(alloc, &instance, aim)?;
+        let matching = solve(alloc, &instance, aim)?.matching;
         holds(rt, matching.fault(&instance).is_none(), students);
         let size = matching.size(&instance);
         holds(rt, session.size() as usize == size, students);
@@ -52,5 +58,6 @@ fn compare_with_solved(alloc: Global, rt: &impl Abort, rows: &[Rolls]) -> Result
 
 #[test]
 fn sessions_tell_what_is_solved(rt: HostRuntime) -> Result<(), Fail> {
-    compare_with_solved(rt.alloc(), &rt, ROLLS.as_slice())
+    compare_with_solved(rt.alloc(), &rt, Aim::Greedy, ROLLS.as_slice())?;
+    compare_with_solved(rt.alloc(), &rt, Aim::Generous, ROLLS.as_slice())
 }

@@ -7,6 +7,7 @@ use crate::played::{Part, play_at, play_lines};
 use crate::school::SCHOOL;
 use desk::Desk;
 use rolls::{Reply, Request};
+use spa::RANKS;
 use sqlite::{Connection, MemStore};
 use std::alloc::Global;
 use std::process::Abort;
@@ -17,14 +18,14 @@ use std::test::Fail;
 #[rattlefmt::skip]
 const OPEN: &str =
     r#"POST /rounds | | 200 OK | {"round":1}
-       GET /preview | | 200 OK | {"profile":[0,0,0,0,0,0,0,0],"size":0}"#;
+       GET /preview | | 200 OK | {"profile":[0,0,0,0^,],"size":0}"#;
 
 /// The two students list.
 const FIRST: &str = r#"PUT /lists/A | {"choices":["P","Q"]} | 200 OK | {"ok":true}"#;
 
 const SECOND: &str = r#"PUT /lists/C | {"choices":["Z","P"]} | 200 OK | {"ok":true}"#;
 
-const PREVIEW: &str = r#"GET /preview || 200 OK | {"profile":[0,2,0,0,0,0,0,0],"size":2}"#;
+const PREVIEW: &str = r#"GET /preview || 200 OK | {"profile":[0,2,0,0^,],"size":2}"#;
 
 /// The relaxations of the session that is kept after these lines.
 fn steps_after(
@@ -72,48 +73,48 @@ static MIXED: &str =
        none | GET /preview               |                                             | 409 Conflict     | {"fault":"NoRoundOpen","number":19}
        none | POST /rounds               |                                             | 200 OK           | {"round":1}
        none | PUT /lists/A               | {"choices":["P","Q"]}                       | 200 OK           | {"ok":true}
-       kept | GET /preview               |                                             | 200 OK           | {"profile":[1,0,0,0,0,0,0,0],"size":1}
+       kept | GET /preview               |                                             | 200 OK           | {"profile":[1,0,0,0^,],"size":1}
        kept | GET /students/A            |                                             | 200 OK           | {"list":["P","Q"],"name":"Ann","placed":null}
        kept | PUT /students/A            | {"name":"Anna"}                             | 200 OK           | {"ok":true}
        kept | PUT /lists/B               | {"choices":["P"]}                           | 200 OK           | {"ok":true}
-       kept | GET /preview               |                                             | 200 OK           | {"profile":[1,1,0,0,0,0,0,0],"size":2}
+       kept | GET /preview               |                                             | 200 OK           | {"profile":[1,1,0,0^,],"size":2}
        kept | PUT /lists/B               | {"choices":["P","P"]}                       | 400 Bad Request  | {"fault":"RepeatedProject","number":24}
        kept | PUT /lists/E               | {"choices":["P"]}                           | 404 Not Found    | {"fault":"UnknownStudent","number":15}
        kept | PUT /lists/C               | {"choices":["Z","P"]}                       | 200 OK           | {"ok":true}
-       kept | GET /preview               |                                             | 200 OK           | {"profile":[1,1,0,0,0,0,0,0],"size":2}
+       kept | GET /preview               |                                             | 200 OK           | {"profile":[1,1,0,0^,],"size":2}
        kept | DELETE /lists/D            |                                             | 404 Not Found    | {"fault":"NoList","number":25}
        none | DELETE /lists/C            |                                             | 200 OK           | {"ok":true}
-       none | GET /rounds/1              |                                             | 200 OK           | {"open":true,"placed":0,"profile":[0,0,0,0,0,0,0,0],"round":1,"students":2}
-       kept | GET /preview               |                                             | 200 OK           | {"profile":[1,1,0,0,0,0,0,0],"size":2}
+       none | GET /rounds/1              |                                             | 200 OK           | {"open":true,"placed":0,"profile":[0,0,0,0^,],"round":1,"students":2}
+       kept | GET /preview               |                                             | 200 OK           | {"profile":[1,1,0,0^,],"size":2}
        none | PUT /lists/B               | {"choices":["Q"]}                           | 200 OK           | {"ok":true}
-       kept | GET /preview               |                                             | 200 OK           | {"profile":[2,0,0,0,0,0,0,0],"size":2}
+       kept | GET /preview               |                                             | 200 OK           | {"profile":[2,0,0,0^,],"size":2}
        none | PUT /supervisors/L         | {"name":"Lee","quota":1}                    | 200 OK           | {"ok":true}
-       kept | GET /preview               |                                             | 200 OK           | {"profile":[1,0,0,0,0,0,0,0],"size":1}
+       kept | GET /preview               |                                             | 200 OK           | {"profile":[1,0,0,0^,],"size":1}
        kept | PUT /supervisors/L         | {"name":"Lee","quota":501}                  | 400 Bad Request  | {"fault":"Quota","number":11}
        none | PUT /projects/P            | {"name":"Pumps","quota":2,"supervisor":"L"} | 200 OK           | {"ok":true}
-       kept | GET /preview               |                                             | 200 OK           | {"profile":[1,0,0,0,0,0,0,0],"size":1}
+       kept | GET /preview               |                                             | 200 OK           | {"profile":[1,0,0,0^,],"size":1}
        kept | POST /rounds               |                                             | 409 Conflict     | {"fault":"RoundIsOpen","number":18}
        kept | GET /projects/P            |                                             | 200 OK           | {"name":"Pumps","placed":0,"quota":2,"supervisor":"L"}
        none | POST /imports/students/I1  | code,name                                   | 200 OK           | {"rows":0}
        none | POST /imports/students/I1  | code,name                                   | 200 OK           | {"rows":0}
-       kept | GET /preview               |                                             | 200 OK           | {"profile":[1,0,0,0,0,0,0,0],"size":1}
+       kept | GET /preview               |                                             | 200 OK           | {"profile":[1,0,0,0^,],"size":1}
        kept | POST /imports/students/I1  | code,name                                   | 200 OK           | {"rows":0}
        kept | POST /imports/lists/I1     | code,name                                   | 409 Conflict     | {"fault":"ImportIdUsed","number":27}
        kept | PUT /lists/D               | {"choices":["P","Q"]}                       | 200 OK           | {"ok":true}
-       kept | GET /preview               |                                             | 200 OK           | {"profile":[1,0,0,0,0,0,0,0],"size":1}
-       none | POST /rounds/close         |                                             | 200 OK           | {"profile":[1,0,0,0,0,0,0,0],"round":1,"size":1}
+       kept | GET /preview               |                                             | 200 OK           | {"profile":[1,0,0,0^,],"size":1}
+       none | POST /rounds/close         |                                             | 200 OK           | {"profile":[1,0,0,0^,],"round":1,"size":1}
        none | GET /preview               |                                             | 409 Conflict     | {"fault":"NoRoundOpen","number":19}
        none | POST /rounds/reopen        |                                             | 200 OK           | {"round":1}
-       kept | GET /preview               |                                             | 200 OK           | {"profile":[1,0,0,0,0,0,0,0],"size":1}
+       kept | GET /preview               |                                             | 200 OK           | {"profile":[1,0,0,0^,],"size":1}
        kept | PUT /lists/C               | {"choices":["Q"]}                           | 200 OK           | {"ok":true}
        kept | GET /supervisors/L         |                                             | 200 OK           | {"name":"Lee","placed":0,"quota":1}
        none | PUT /supervisors/L         | {"name":"Lee","quota":5}                    | 200 OK           | {"ok":true}
-       kept | GET /preview               |                                             | 200 OK           | {"profile":[3,0,0,0,0,0,0,0],"size":3}
+       kept | GET /preview               |                                             | 200 OK           | {"profile":[3,0,0,0^,],"size":3}
        kept | GET /rounds/2              |                                             | 404 Not Found    | {"fault":"UnknownRound","number":26}
-       none | POST /rounds/close         |                                             | 200 OK           | {"profile":[3,0,0,0,0,0,0,0],"round":1,"size":3}"#;
+       none | POST /rounds/close         |                                             | 200 OK           | {"profile":[3,0,0,0^,],"round":1,"size":3}"#;
 
 /// Size and profile of a preview.
-fn preview(desk: &mut Desk<MemStore>) -> Option<(u32, [u32; 8])> {
+fn preview(desk: &mut Desk<MemStore>) -> Option<(u32, [u32; RANKS])> {
     match desk.ask(Request::Preview) {
         Ok(Reply::Preview { size, profile }) => Some((size, profile)),
         _ => None,

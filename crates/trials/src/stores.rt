@@ -53,8 +53,8 @@ static ROUNDS: &str =
 /// What is told of them.
 #[rattlefmt::skip]
 static OF_FIT_ROUNDS: &str =
-    r#"closed round | | GET /rounds/1 || 200 OK | {"open":false,"placed":1,"profile":[0,1,0,0,0,0,0,0],"round":1,"students":1}
-       nobody there | | GET /rounds/2 || 200 OK | {"open":false,"placed":0,"profile":[0,0,0,0,0,0,0,0],"round":2,"students":1}
+    r#"closed round | | GET /rounds/1 || 200 OK | {"open":false,"placed":1,"profile":[0,1,0,0^,],"round":1,"students":1}
+       nobody there | | GET /rounds/2 || 200 OK | {"open":false,"placed":0,"profile":[0,0,0,0^,],"round":2,"students":1}
        open round   | | GET /students/B || 200 OK | {"list":["P"],"name":"Bob","placed":null}
        placement    | | GET /students/A || 200 OK | {"list":null,"name":"Ann","placed":{"project":"Q","rank":2,"round":1}}"#;
 

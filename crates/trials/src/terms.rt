@@ -3,6 +3,7 @@
 
 use crate::played::{Part, Sitting, play_all};
 use crate::school::SCHOOL;
+use spa::RANKS;
 use std::rt::HostRuntime;
 use std::test::Fail;
 
@@ -33,7 +34,6 @@ const LISTS: &str =
        POST /rounds    |                                                   | 409 Conflict    | {"fault":"RoundIsOpen","number":18}
        PUT /lists/S9   | {"choices":[]}                                    | 404 Not Found   | {"fault":"UnknownStudent","number":15}
        PUT /lists/A    | {"choices":[]}                                    | 400 Bad Request | {"fault":"ListLength","number":23}
-       PUT /lists/A    | {"choices":["P","Q","Y","Z","P","Q","Y","Z","P"]} | 400 Bad Request | {"fault":"ListLength","number":23}
        PUT /lists/A    | {"choices":["P","P"]}                             | 400 Bad Request | {"fault":"RepeatedProject","number":24}
        PUT /lists/A    | {"choices":["P","N"]}                             | 404 Not Found   | {"fault":"UnknownProject","number":14}
        PUT /lists/A    | {"choices":["P","N","P"]}                         | 404 Not Found   | {"fault":"UnknownProject","number":14}
@@ -44,45 +44,49 @@ const LISTS: &str =
        PUT /lists/A    | {"choices":["Q"]}                                 | 200 OK          | {"ok":true}
        DELETE /lists/A |                                                   | 200 OK          | {"ok":true}
        DELETE /lists/A |                                                   | 404 Not Found   | {"fault":"NoList","number":25}
-       GET /preview    |                                                   | 200 OK          | {"profile":[0,0,0,0,0,0,0,0],"size":0}
+       GET /preview    |                                                   | 200 OK          | {"profile":[0,0,0,0^,],"size":0}
        PUT /lists/A    | {"choices":["P","Q"]}                             | 200 OK          | {"ok":true}
-       GET /preview    |                                                   | 200 OK          | {"profile":[1,0,0,0,0,0,0,0],"size":1}
+       GET /preview    |                                                   | 200 OK          | {"profile":[1,0,0,0^,],"size":1}
        PUT /lists/C    | {"choices":["Z","P"]}                             | 200 OK          | {"ok":true}
        GET /students/A |                                                   | 200 OK          | {"list":["P","Q"],"name":"Ann","placed":null}
-       GET /rounds/1   |                                                   | 200 OK          | {"open":true,"placed":0,"profile":[0,0,0,0,0,0,0,0],"round":1,"students":2}
-       GET /preview    |                                                   | 200 OK          | {"profile":[0,2,0,0,0,0,0,0],"size":2}
+       GET /rounds/1   |                                                   | 200 OK          | {"open":true,"placed":0,"profile":[0,0,0,0^,],"round":1,"students":2}
+       GET /preview    |                                                   | 200 OK          | {"profile":[0,2,0,0^,],"size":2}
        GET /roundtext  |                                                   | 200 OK          | S,L,5^nP,P,L,1^nP,Q,L,1^nP,Z,L,0^nC,A,P,Q^nC,C,Z,P^n"#;
+
+/// A choice more than there are ranks.
+const TOO_LONG: &str =
+    r#"PUT /lists/A | {"choices":[$"P"]} | 400 Bad Request | {"fault":"ListLength","number":23}"#;
 
 /// The round closes, opens again and closes again.
 #[rattlefmt::skip]
 const CLOSED: &str =
-    r#"POST /rounds/close  |                                             | 200 OK       | {"profile":[0,2,0,0,0,0,0,0],"round":1,"size":2}
+    r#"POST /rounds/close  |                                             | 200 OK       | {"profile":[0,2,0,0^,],"round":1,"size":2}
        POST /rounds/close  |                                             | 409 Conflict | {"fault":"NoRoundOpen","number":19}
        GET /students/A     |                                             | 200 OK       | {"list":null,"name":"Ann","placed":{"project":"Q","rank":2,"round":1}}
        GET /students/C     |                                             | 200 OK       | {"list":null,"name":"Cy","placed":{"project":"P","rank":2,"round":1}}
-       GET /rounds/1       |                                             | 200 OK       | {"open":false,"placed":2,"profile":[0,2,0,0,0,0,0,0],"round":1,"students":2}
+       GET /rounds/1       |                                             | 200 OK       | {"open":false,"placed":2,"profile":[0,2,0,0^,],"round":1,"students":2}
        GET /projects/P     |                                             | 200 OK       | {"name":"Pumps","placed":1,"quota":1,"supervisor":"L"}
        GET /supervisors/L  |                                             | 200 OK       | {"name":"Lee","placed":2,"quota":5}
        PUT /projects/P     | {"name":"Pumps","quota":0,"supervisor":"L"} | 409 Conflict | {"fault":"BelowPlaced","number":17}
        PUT /supervisors/L  | {"name":"Lee","quota":1}                    | 409 Conflict | {"fault":"BelowPlaced","number":17}
        POST /rounds/reopen |                                             | 200 OK       | {"round":1}
        POST /rounds/reopen |                                             | 409 Conflict | {"fault":"RoundIsOpen","number":18}
-       GET /rounds/1       |                                             | 200 OK       | {"open":true,"placed":0,"profile":[0,0,0,0,0,0,0,0],"round":1,"students":2}
+       GET /rounds/1       |                                             | 200 OK       | {"open":true,"placed":0,"profile":[0,0,0,0^,],"round":1,"students":2}
        GET /students/A     |                                             | 200 OK       | {"list":["P","Q"],"name":"Ann","placed":null}
        DELETE /lists/A     |                                             | 200 OK       | {"ok":true}
-       POST /rounds/close  |                                             | 200 OK       | {"profile":[0,1,0,0,0,0,0,0],"round":1,"size":1}
+       POST /rounds/close  |                                             | 200 OK       | {"profile":[0,1,0,0^,],"round":1,"size":1}
        POST /rounds        |                                             | 200 OK       | {"round":2}
        PUT /lists/C        | {"choices":["Q"]}                           | 409 Conflict | {"fault":"AlreadyPlaced","number":22}
        PUT /projects/P     | {"name":"Pumps","quota":2,"supervisor":"L"} | 200 OK       | {"ok":true}
        PUT /lists/A        | {"choices":["P"]}                           | 200 OK       | {"ok":true}
        PUT /lists/B        | {"choices":["P"]}                           | 200 OK       | {"ok":true}
-       POST /rounds/close  |                                             | 200 OK       | {"profile":[1,0,0,0,0,0,0,0],"round":2,"size":1}"#;
+       POST /rounds/close  |                                             | 200 OK       | {"profile":[1,0,0,0^,],"round":2,"size":1}"#;
 
 /// What is read after all that, and once more after the desk is opened anew.
 #[rattlefmt::skip]
 const AFTER: &str =
-    r#"GET /rounds/1      |  | 200 OK | {"open":false,"placed":1,"profile":[0,1,0,0,0,0,0,0],"round":1,"students":1}
-       GET /rounds/2      |  | 200 OK | {"open":false,"placed":1,"profile":[1,0,0,0,0,0,0,0],"round":2,"students":2}
+    r#"GET /rounds/1      |  | 200 OK | {"open":false,"placed":1,"profile":[0,1,0,0^,],"round":1,"students":1}
+       GET /rounds/2      |  | 200 OK | {"open":false,"placed":1,"profile":[1,0,0,0^,],"round":2,"students":2}
        GET /projects/P    |  | 200 OK | {"name":"Pumps","placed":2,"quota":2,"supervisor":"L"}
        GET /supervisors/L |  | 200 OK | {"name":"Lee","placed":2,"quota":5}
        GET /students/C    |  | 200 OK | {"list":null,"name":"Cy","placed":{"project":"P","rank":2,"round":1}}"#;
@@ -100,16 +104,16 @@ const QUOTAS: &str =
        POST /rounds       |                                             | 200 OK | {"round":1}
        PUT /lists/A       | {"choices":["P"]}                           | 200 OK | {"ok":true}
        PUT /lists/B       | {"choices":["Q","R"]}                       | 200 OK | {"ok":true}
-       POST /rounds/close |                                             | 200 OK | {"profile":[1,1,0,0,0,0,0,0],"round":1,"size":2}
+       POST /rounds/close |                                             | 200 OK | {"profile":[1,1,0,0^,],"round":1,"size":2}
        GET /students/B    |                                             | 200 OK | {"list":null,"name":"Bob","placed":{"project":"R","rank":2,"round":1}}
        POST /rounds       |                                             | 200 OK | {"round":2}
-       POST /rounds/close |                                             | 200 OK | {"profile":[0,0,0,0,0,0,0,0],"round":2,"size":0}"#;
+       POST /rounds/close |                                             | 200 OK | {"profile":[0,0,0,0^,],"round":2,"size":0}"#;
 
 /// Twelve rounds.
 #[rattlefmt::skip]
 const EACH_ROUND: &str =
     r#"POST /rounds       |  | 200 OK | {"round":$}
-       POST /rounds/close |  | 200 OK | {"profile":[0,0,0,0,0,0,0,0],"round":$,"size":0}"#;
+       POST /rounds/close |  | 200 OK | {"profile":[0,0,0,0^,],"round":$,"size":0}"#;
 
 /// After the twelfth.
 #[rattlefmt::skip]
@@ -122,7 +126,7 @@ const TWELVE: &str =
 #[rattlefmt::skip]
 static PLAYS: [&[Sitting]; 3] = [
     &[
-        (&[Part::Lines(SCHOOL), Part::Lines(SHUT), Part::Lines(LISTS), Part::Lines(CLOSED), Part::Lines(AFTER)], 3),
+        (&[Part::Lines(SCHOOL), Part::Lines(SHUT), Part::Lines(LISTS), Part::Filled(RANKS as u32, r#""P","#, TOO_LONG), Part::Lines(CLOSED), Part::Lines(AFTER)], 3),
         (&[Part::Lines(AFTER)], 3),
     ],
     &[(&[Part::Lines(QUOTAS)], 2)],

@@ -1,7 +1,7 @@
 //! The order and sums of worths.
 
 use crate::judged::holds;
-use spa::{Lex, PLACES, Worth};
+use spa::{Generous, Lex, PLACES, Worth};
 use std::cmp::Ordering;
 use std::rt::HostRuntime;
 
@@ -24,6 +24,31 @@ fn the_first_place_counts_first(rt: HostRuntime) {
     holds(&rt, !is_less(Lex(row(2, 1, 0)), Lex(row(2, 1, 0))), "2 1 0");
     let order = Lex(row(2, 0, 0)).cmp(Lex(row(1, 5, 5)));
     holds(&rt, order == Ordering::Greater, "2 0 0");
+}
+
+#[test]
+fn of_a_generous_row_the_last_rank_counts_before_the_first(rt: HostRuntime) {
+    let few_late = Generous(row(2, 0, 1));
+    let many_late = Generous(row(2, 1, 2));
+    holds(&rt, is_less(many_late, few_late), "2 1 2");
+    holds(&rt, is_less(Generous(row(1, 0, 0)), many_late), "1 0 0");
+    holds(&rt, !is_less(few_late, few_late), "2 0 1");
+}
+
+#[test]
+fn sums_of_generous_rows_are_by_place(rt: HostRuntime) {
+    let v = Generous(row(2, 0, 1));
+    let w = Generous(row(2, 1, 2));
+    assert!(rt; v.span() == 2);
+    assert!(rt; w.span() == 2);
+    let sum = v.plus(w);
+    assert!(rt; sum.span() == 4);
+    holds(&rt, sum.minus(w).cmp(v) == Ordering::Equal, "a difference");
+    holds(
+        &rt,
+        sum.minus(sum).cmp(Generous::zero()) == Ordering::Equal,
+        "zero",
+    );
 }
 
 #[test]

@@ -12,4 +12,4 @@ pub returns-in-Err : goal.returns-in-Err
 returns-in-Err g c = on_err (Imports c.args.id.now c.args.kind c.args.bytes.items) (refusal_line no.Memory) 1 _ _ _ _ _ _ _ (inr (inl refl)) c.refuse-in-Err.ensures
 
 pub returns-in-Ok : goal.returns-in-Ok
-returns-in-Ok g c = tells_more _ (Imports c.args.id.now c.args.kind c.args.bytes.items) (λ o is. inr (inr (subst (λ (q : Request). Asks q o) c.in-Ok.ensures is))) _ _ _ _ _ _ _ c.ask.ensures
+returns-in-Ok g c = tells_more _ (Imports c.args.id.now c.args.kind c.args.bytes.items) (λ o is. inr (inr (subst (λ (q : Request). Asks q o) c.in-Ok.ensures is))) _ _ _ _ _ _ _ c.do_on.ensures

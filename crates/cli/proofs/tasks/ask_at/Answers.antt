@@ -1,14 +1,14 @@
 use Rattle.std.proofs.Common.{inr, refl, Ok, Err}
 use Rattle.cli.specs.Outcomes.{Asks, reply_text, refusal_line}
 use Rattle.cli.proofs.Telling.{on_out, on_err}
-use Rattle.cli.proofs.run.ask_at.Goals as goal
+use Rattle.cli.proofs.tasks.ask_at.Goals as goal
 
-pub returns-in-Ok : goal.returns-in-Ok
-returns-in-Ok g c =
-    on_out (Asks c.args.request) (reply_text c.in-Ok.reply) 0 _ _ _ _ _ _ _
+pub returns-in-Ok-clause-told : goal.returns-in-Ok-clause-told
+returns-in-Ok-clause-told g c =
+    on_out (Asks c.args.asked) (reply_text c.in-Ok.reply) 0 _ _ _ _ _ _ _
     (inr (record { office = c.args.desk.now.office; fit = c.keeps.ensures.fit; answer = Ok c.in-Ok.reply; next = c.ask.new.self.office; step = c.in-Ok.ensures.step; is = refl })) c.print_reply.ensures
 
-pub returns-in-Err : goal.returns-in-Err
-returns-in-Err g c =
-    on_err (Asks c.args.request) (refusal_line c.in-Err.refusal) 1 _ _ _ _ _ _ _
+pub returns-in-Err-clause-told : goal.returns-in-Err-clause-told
+returns-in-Err-clause-told g c =
+    on_err (Asks c.args.asked) (refusal_line c.in-Err.refusal) 1 _ _ _ _ _ _ _
     (inr (record { office = c.args.desk.now.office; fit = c.keeps.ensures.fit; answer = Err c.in-Err.refusal; next = c.ask.new.self.office; step = c.in-Err.ensures.step; is = refl })) c.refuse.ensures

@@ -1,0 +1,69 @@
+//! What is told on standard output or standard error, and the status.
+
+ghost use Rattle.std.specs.Prelude.{◌≡◌, ◌-◌, ◌^◌, ◌<◌, ◌+◌};
+ghost use Rattle.cli.specs.Outcomes.{Printed, Tells, refusal_line, of_round, reply_text};
+
+use crate::texts::{bad_line, closed_line, labelled, refusal_line};
+use lines::Trouble;
+use rolls::{Refusal, Reply};
+use web::{Sink, write_all};
+
+/// Writes a text, and gives the status, or 1 where it could not be written.
+pub(crate) fn print<W: Sink>(out: &mut W, text: &[u8], status: u8) -> u8
+    requires { W.failures out.old < 2 ^ 64 - 1 }
+    ensures { Printed text.now status (W.written out.old) (W.written out.new) (W.failures out.old) (W.failures out.new) result }
+{
+    match write_all(out, text) {
+        Ok(()) => status,
+        Err(_) => 1,
+    }
+}
+
+/// Writes a refusal, and gives its status.
+pub(crate) fn refuse<W: Sink>(err: &mut W, refusal: Refusal) -> u8
+    requires { W.failures err.old < 2 ^ 64 - 1 }
+    ensures { Printed (refusal_line refusal) 1 (W.written err.old) (W.written err.new) (W.failures err.old) (W.failures err.new) result }
+{
+    print(err, refusal_line(refusal).as_slice(), 1)
+}
+
+/// Writes what is printed of an answer.
+pub(crate) fn print_reply<W: Sink>(out: &mut W, reply: &Reply) -> u8
+    requires { W.failures out.old < 2 ^ 64 - 1 }
+    ensures { Printed (reply_text reply.now) 0 (W.written out.old) (W.written out.new) (W.failures out.old) (W.failures out.new) result }
+{
+    match reply {
+        Reply::Rows(rows) => print(out, labelled(b"rows ", *rows).as_slice(), 0),
+        Reply::Opened { round } => print(out, labelled(b"round ", *round).as_slice(), 0),
+        Reply::Closed {
+            round,
+            size,
+            profile,
+        } => print(out, closed_line(*round, *size, profile).as_slice(), 0),
+        Reply::Text(text) => print(out, text.as_str().as_bytes(), 0),
+        Reply::Done
+        | Reply::Supervisor { .. }
+        | Reply::Project { .. }
+        | Reply::Student { .. }
+        | Reply::Round { .. }
+        | Reply::Preview { .. } => print(out, b"", 0),
+    }
+}
+
+/// Tells what came of the text of a round file.
+pub(crate) fn tell_round<O: Sink, E: Sink>(
+    came: Result<String, Trouble>,
+    out: &mut O,
+    err: &mut E,
+) -> u8
+    requires out { O.failures out.old < 2 ^ 64 - 1 }
+    requires err { E.failures err.old < 2 ^ 64 - 1 }
+    ensures { Tells (λ o. o ≡ of_round came) (O.written out.old) (O.written out.new) (E.written err.old) (E.written err.new) (O.failures out.old + E.failures err.old) (O.failures out.new + E.failures err.new) result }
+{
+    match came {
+        Ok(text) => print(out, text.as_bytes(), 0),
+        Err(Trouble::Failed(text)) => print(out, text.as_bytes(), 1),
+        Err(Trouble::Refused(refusal)) => refuse(err, refusal),
+        Err(Trouble::BadLine(number)) => print(err, bad_line(number).as_slice(), 1),
+    }
+}

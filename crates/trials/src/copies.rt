@@ -1,0 +1,145 @@
+//! The file of a database that no program has open, copied alone: it is the same office.
+//!
+//! All tests run in one folder, so no two of them name the same database.
+
+use crate::judged::holds;
+use crate::printed::{parted, print_rows, prints, write_files};
+use cli::line;
+use std::io::Write;
+use std::net::{Ipv4Addr, Shutdown, TcpListener, TcpStream};
+use std::process::Abort;
+use std::rt::HostRuntime;
+use std::test::Fail;
+use std::{fs, io};
+
+/// The files of these lines.
+#[rattlefmt::skip]
+static FILES: [(&str, &str); 4] = [
+    ("supervisors.csv",  "code,name,quota\nL,Lee,5\n"),
+    ("projects.csv",     "code,name,supervisor,quota\nP,Pumps,L,1\nQ,Quays,L,1\n"),
+    ("students.csv",     "code,name\nA,Ann\nB,Bob\n"),
+    ("lists.csv",        "student,choices\nA,P Q\nB,P\n"),
+];
+
+/// Lines of each kind but one, also refused ones: each is done on a copy of the file that the line before left.
+#[rattlefmt::skip]
+static LINES: &str =
+    r#"spadesk import a1.db supervisors I1 supervisors.csv | 0 | rows 1^n                                 |
+       spadesk import a2.db projects I2 projects.csv       | 0 | rows 2^n                                 |
+       spadesk import a3.db students I1 students.csv       | 1 |                                          | refused 27: ImportIdUsed^n
+       spadesk import a4.db students I3 students.csv       | 0 | rows 2^n                                 |
+       spadesk open-round a5.db                            | 0 | round 1^n                                |
+       spadesk import a6.db lists I4 lists.csv             | 0 | rows 2^n                                 |
+       spadesk close-round a7.db                           | 0 | round 1 size 2 profile 1 1 0 0 0 0 0 0^n |
+       spadesk report a8.db unplaced 2                     | 1 |                                          | refused 26: UnknownRound^n
+       spadesk report a9.db placements 1                   | 0 | A                Q                 2^nB                P                 1^n |
+       spadesk reopen-round a10.db                         | 0 | round 1^n                                |
+       spadesk reopen-round a11.db                         | 1 |                                          | refused 18: RoundIsOpen^n
+       spadesk import a12.db lists I4 lists.csv            | 0 | rows 2^n                                 |"#;
+
+/// What the copies are after a connection of the line `serve`, which takes a list away and closes the round.
+#[rattlefmt::skip]
+static SERVED: &str =
+    r#"spadesk report a14.db placements 1 | 0 | B                P                 1^n |
+       spadesk report a14.db unplaced 1   | 0 |                                        |
+       spadesk report a14.db loads 1      | 0 | L                     1    5^n  P                   1    1^n  Q                   0    1^n |
+       spadesk open-round a14.db          | 0 | round 2^n                              |"#;
+
+/// What a client asks.
+const ASKED: &str = "DELETE /lists/A HTTP/1.1\r\n\r\nPOST /rounds/close HTTP/1.1\r\n\r\n";
+
+/// Copies a file alone, as it is after the line with this number.
+fn copy_after(rt: &HostRuntime, number: u32) -> Result<(), Fail> {
+    let from = format!(in rt.alloc(); "a{number}.db")?;
+    let to = format!(in rt.alloc(); "a{}.db", number.wrapping_add(1))?;
+    fs::copy(rt, &from, &to)?;
+    Ok(())
+}
+
+/// A writer that calls the port of the line that writes to it, as a client, once it writes.
+#[derive(Drop)]
+struct Caller<'a> {
+    rt: &'a HostRuntime,
+    port: u16,
+    client: Option<TcpStream>,
+    told: Vec<u8>,
+}
+
+impl Write for Caller<'_> {
+    fn write(&mut self, buf: &[u8]) -> io::Result<usize> {
+        if self.client.is_none() {
+            let mut client = TcpStream::connect(self.rt, (Ipv4Addr::LOCALHOST, self.port))?;
+            client.write_all(ASKED.as_bytes())?;
+            client.shutdown(Shutdown::Write)?;
+            self.client = Some(client);
+        }
+        self.told.write(buf)
+    }
+
+    fn flush(&mut self) -> io::Result<()> {
+        Ok(())
+    }
+}
+
+/// Serves one connection of a caller, by the line of these words and a port that is free.
+fn serves_caller(rt: &HostRuntime, abort: &impl Abort) -> Result<(), Fail> {
+    let listener = TcpListener::bind(rt, (Ipv4Addr::LOCALHOST, 0))?;
+    let port = listener.local_addr()?.port();
+    drop(listener);
+    let words = format!(in rt.alloc(); "spadesk serve a13.db {port} 1")?;
+    let mut caller = Caller {
+        rt,
+        port,
+        client: None,
+        told: Vec::new(rt.alloc()),
+    };
+    let status = line(rt, parted(rt, &words)?, &mut caller, Vec::new(rt.alloc()));
+    let want = format!(in rt.alloc(); "listening {port}\nconnection 1: 2 answers, closed\n")?;
+    let is_told = status == 0 && caller.told.as_slice() == want.as_bytes();
+    holds(abort, is_told, "a caller is served");
+    Ok(())
+}
+
+#[test]
+fn a_file_that_is_closed_is_the_whole_database(rt: HostRuntime) -> Result<(), Fail> {
+    write_files(&rt, FILES.as_slice())?;
+    let mut number = 1;
+    for row in LINES.lines() {
+        print_rows(&rt, &rt, row)?;
+        copy_after(&rt, number)?;
+        number = number.wrapping_add(1);
+    }
+    serves_caller(&rt, &rt)?;
+    copy_after(&rt, 13)?;
+    print_rows(&rt, &rt, SERVED)
+}
+
+/// The first so many bytes of a file, as a file of its own, are refused, and stay as they are.
+fn refuses_beginning(rt: &HostRuntime, abort: &impl Abort, len: usize) -> Result<(), Fail> {
+    let bytes = fs::read(rt, "whole.db")?;
+    let name = format!(in rt.alloc(); "cut{len}.db")?;
+    let beginning = &bytes[..len.min(bytes.len())];
+    fs::write(rt, &name, beginning)?;
+    let words = format!(in rt.alloc(); "spadesk open-round {name}")?;
+    prints(rt, abort, &words, (b"", b"refused 2: Storage\n"), 1)?;
+    let left = fs::read(rt, &name)?;
+    holds(abort, left.as_slice() == beginning, &name);
+    Ok(())
+}
+
+/// Files of no byte and of one become an office.
+#[rattlefmt::skip]
+static BLANK: &str =
+    r#"spadesk open-round none.db | 0 | round 1^n |
+       spadesk open-round one.db  | 0 | round 1^n |"#;
+
+#[test]
+fn a_copy_that_is_cut_off_is_refused(rt: HostRuntime) -> Result<(), Fail> {
+    prints(&rt, &rt, "spadesk open-round whole.db", (b"round 1\n", b""), 0)?;
+    for len in [2, 99, 4_096, 61_440, 65_535] {
+        refuses_beginning(&rt, &rt, len)?;
+    }
+    fs::write(&rt, "none.db", "")?;
+    fs::write(&rt, "one.db", "S")?;
+    print_rows(&rt, &rt, BLANK)
+}
