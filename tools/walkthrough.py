@@ -5,7 +5,8 @@ tools/walkthrough.py SPADESK [--write]     needs curl, jq and sqlite3
 tools/walkthrough.py                       only compares the texts of the test with those of the example
 
 The commands are the lines after a `$` in the blocks of examples/first-round/README.md; they run in a folder of their own, beside
-the files of the example. With --write the walkthrough shows what was printed.
+the files of the example. With --write the walkthrough shows what was printed. After each line, and once `serve` has ended, a copy of
+the database file alone is held beside one with its log: each report on each must be the same, and each row that SQLite reads.
 
 The lines of the program, and what is served, are also a test of the gate, crates/trials/src/walkthrough.rt, which has the texts of the
 example for its own. Here each of them is compared with the example, file by file, line by line and request by request.
@@ -13,6 +14,7 @@ example for its own. Here each of them is compared with the example, file by fil
 import os
 import re
 import shutil
+import sqlite3
 import subprocess
 import sys
 import tempfile
@@ -56,13 +58,42 @@ def compare_test():
         sys.exit("the test does not have:\n" + "\n".join(missing))
 
 
-def run(command, folder, env):
+def seen(folder, names, env):
+    """The reports of the office of these files, and the rows of its tables, each seen in a folder of its own."""
+    with tempfile.TemporaryDirectory() as told, tempfile.TemporaryDirectory() as read:
+        for name in names:
+            shutil.copy(os.path.join(folder, name), told)
+            shutil.copy(os.path.join(folder, name), read)
+        reports = []
+        for kind in ("profile", "loads", "unplaced", "placements"):
+            ran = subprocess.run(["spadesk", "report", "school.db", kind, "1"], cwd=told, env=env, capture_output=True, timeout=60)
+            reports.append((ran.stdout, ran.stderr, ran.returncode))
+        database = sqlite3.connect(os.path.join(read, "school.db"))
+        rows = [*database.execute("PRAGMA integrity_check"), *database.iterdump()]
+        database.close()
+    return reports, rows
+
+
+def compare_copies(command, folder, env):
+    """Ends where the database file alone is not what it is with its log."""
+    if not os.path.exists(f"{folder}/school.db-wal"):
+        return
+    if seen(folder, ["school.db"], env) != seen(folder, ["school.db", "school.db-wal"], env):
+        sys.exit(f"after this a copy of the file alone is another office: {command}")
+
+
+def run(command, folder, env, served):
     """What a command prints; one that ends with `&` is left running, and a moment is given it to begin."""
     if command.endswith("&"):
-        subprocess.Popen(command.rstrip("& "), shell=True, cwd=folder, env=env)
+        served.append(subprocess.Popen(command.rstrip("& "), shell=True, cwd=folder, env=env))
         time.sleep(2)
         return ""
     ran = subprocess.run(command, shell=True, cwd=folder, env=env, stdout=subprocess.PIPE, stderr=subprocess.STDOUT, timeout=60)
+    is_ended = command.startswith("cat ")
+    for it in served if is_ended else []:
+        it.wait(timeout=60)
+    if command.startswith("spadesk ") or is_ended:
+        compare_copies(command, folder, env)
     text = ran.stdout.decode()
     return text if text.endswith("\n") or not text else text + "\n"
 
@@ -81,9 +112,11 @@ def main(program=None, *flags):
         os.symlink(os.path.abspath(program), f"{folder}/bin/spadesk")
         env = {**os.environ, "PATH": f"{folder}/bin:{os.environ['PATH']}"}
 
+        served = []
+
         def played(block):
             commands = re.findall(r"^\$ (.*)$", block[1], re.M)
-            return "```console\n" + "".join(f"$ {it}\n{run(it, folder, env)}" for it in commands) + "```"
+            return "```console\n" + "".join(f"$ {it}\n{run(it, folder, env, served)}" for it in commands) + "```"
 
         told = re.sub(r"```console\n(.*?)```", played, shown, flags=re.S)
     if "--write" in flags:

@@ -1,0 +1,169 @@
+#!/usr/bin/env python3
+"""What has to be believed to read a clause: the definitions that it rests on, in reading order, and how many lines they have.
+
+tools/believed.py CRATE FUNCTION CLAUSE     as: tools/believed.py desk Desk::run run
+tools/believed.py --readme                  compares the figures that README.md names, row by row of "What has to be believed"
+
+A definition is counted once, with the comment above it. The closure follows the names in the clause, and then in each definition, by
+the `use` lines of its file, through the crates of this repository. Types of the program are named apart, and what stands in the
+libraries beneath is counted by name alone.
+"""
+import os
+import re
+import sys
+
+HERE = os.path.dirname(os.path.abspath(__file__))
+CRATES = os.path.join(HERE, "..", "crates")
+NAME = r"[^\W\d][\w\-'⁺]*"
+MARKS = r"(?:(?:pattern|unfoldable|abbrev|pub|axiom)\s+)*"
+SIGNATURE = re.compile(rf"^(\s*){MARKS}(?:(record|data)\s+)?({NAME})\s+(?:\{{[^}}]*\}}\s+)*(?::|\(|where)")
+OPENS_RECORD = re.compile(rf"^(\s*){MARKS}(?:record|data)\s+({NAME})")
+
+
+def files_below(folder, ending):
+    for top, _, names in sorted(os.walk(folder)):
+        for name in sorted(names):
+            if name.endswith(ending):
+                yield os.path.join(top, name)
+
+
+def uses_of(text, word):
+    """The names that the `use` lines of a file bring in, each with its module and the name that it has there; a module has no name."""
+    brought = {}
+    for line in re.findall(rf"^\s*(?:pub )?{word} ([^;\n]*);?", text, re.M):
+        group = re.match(r"(.*)\.\{(.*)\}$", line.strip())
+        if group:
+            for item in group.group(2).split(","):
+                there, _, here = item.strip().partition(" as ")
+                brought[here or there] = (group.group(1), there)
+        else:
+            module, _, here = line.strip().partition(" as ")
+            brought[here or module.rsplit(".", 1)[-1]] = (module, None)
+    return brought
+
+
+class File:
+    """A file of definitions: its module, what it brings in, and the text of each definition with the comment above it."""
+
+    def __init__(self, path, crate):
+        self.path = os.path.relpath(path, os.path.join(HERE, ".."))
+        inside = os.path.relpath(path, os.path.join(CRATES, crate, "specs"))[: -len(".antt")]
+        self.module = f"Rattle.{crate}.specs." + inside.replace(os.sep, ".")
+        text = open(path, encoding="utf-8").read()
+        self.brought = uses_of(text, "use")
+        self.found = {}
+        self.read(text.split("\n"))
+
+    def read(self, lines):
+        comment, name, indent = [], None, 0
+        for line in lines:
+            bare = line.strip()
+            if bare.startswith("use ") or bare.startswith("pub use ") or bare.startswith("module "):
+                comment, name = [], None
+                continue
+            begins = OPENS_RECORD.match(line) or SIGNATURE.match(line)
+            depth = len(line) - len(line.lstrip())
+            if not bare:
+                comment, name = [], None
+            elif bare.startswith("--"):
+                if name is None or depth <= indent:
+                    comment, name = comment + [line], None
+            elif begins and (name is None or depth <= indent and not bare.startswith(name + " ")):
+                name, indent = begins.groups()[-1], depth
+                self.found[name] = comment + [line]
+                comment = []
+            elif name is not None:
+                self.found[name].append(line)
+
+
+class Book:
+    def __init__(self):
+        self.modules = {}
+        for crate in sorted(os.listdir(CRATES)):
+            for path in files_below(os.path.join(CRATES, crate, "specs"), ".antt"):
+                it = File(path, crate)
+                self.modules[it.module] = it
+        self.order, self.seen, self.types, self.beneath = [], set(), set(), set()
+
+    def follow(self, module, name):
+        """Takes a definition and what it rests on, what it rests on first."""
+        it = self.modules.get(module)
+        if ".specs.declared" in module or ".specs.contracts" in module:
+            mine = module.split(".")[1] in os.listdir(CRATES) and not module.endswith("TheConstants")
+            (self.types if mine else self.beneath).add(module.removesuffix(".TheVariants") if mine else (module, name))
+        elif it is None:
+            self.beneath.add((module, name))
+        elif name not in it.found and name in it.brought:
+            self.follow(it.brought[name][0], it.brought[name][1] or name)
+        elif name in it.found and (module, name) not in self.seen:
+            self.seen.add((module, name))
+            self.words("\n".join(line for line in it.found[name] if not line.strip().startswith("--")), it.brought, it)
+            self.order.append((it, name))
+
+    def words(self, text, brought, it=None):
+        for word in re.findall(rf"{NAME}(?:\.{NAME})*|◌[^\s]*◌", text):
+            first, _, rest = word.partition(".")
+            if it is not None and first in it.found:
+                self.follow(it.module, first)
+            elif first in brought:
+                module, there = brought[first]
+                if there is not None:
+                    self.follow(module, there)
+                elif rest:
+                    self.follow(module, rest.partition(".")[0])
+
+
+def clause_of(crate, function, label):
+    """The text of a clause, and what its file brings in."""
+    owner, _, name = function.rpartition("::")
+    for path in files_below(os.path.join(CRATES, crate, "src"), ".rt"):
+        text = open(path, encoding="utf-8").read()
+        if owner and not re.search(rf"impl[^\n]*\b{owner}\b", text):
+            continue
+        head = re.search(rf"\bfn {name}\b.*?\n\s*\{{\n", text, re.S)
+        if head:
+            for clause in re.finditer(r"ensures ?(\w*) ?\{ (.*?) \}\n", head.group(0), re.S):
+                if clause.group(1) == label or (label == "-" and not clause.group(1)):
+                    return clause.group(2), uses_of(text, "ghost use")
+    sys.exit(f"no clause {label} of {function} in {crate}")
+
+
+def closure(crate, function, label):
+    book = Book()
+    book.words(*clause_of(crate, function, label))
+    return book
+
+
+def figures(book):
+    return len(book.order), sum(len(it.found[name]) for it, name in book.order)
+
+
+def show(crate, function, label):
+    book = closure(crate, function, label)
+    at = None
+    for it, name in book.order:
+        if it.path != at:
+            at = it.path
+            print(f"---- {at}\n")
+        print("\n".join(it.found[name]) + "\n")
+    count, lines = figures(book)
+    print(f"{count} definitions, {lines} lines; types of the program: {len(book.types)}; names of the libraries beneath: {len(book.beneath)}")
+
+
+def compare():
+    readme = open(os.path.join(HERE, "..", "README.md"), encoding="utf-8").read()
+    rows = re.findall(r"^\|[^|]*\| `([\w:]+)` \*(\S+)\* of `(\w+)` \| ([\d,]+) \| ([\d,]+) \|$", readme, re.M)
+    wrong = 0
+    for function, label, crate, *told in rows:
+        there = [f"{n:,}" for n in figures(closure(crate, function, label))]
+        wrong += told != there
+        print(f"{function} {label}: {there[0]} definitions, {there[1]} lines" + ("" if told == there else f"; README says {told[0]}, {told[1]}"))
+    sys.exit("README.md is to be mended" if wrong or not rows else 0)
+
+
+if sys.argv[1:] == ["--readme"]:
+    compare()
+elif len(sys.argv) == 4:
+    show(*sys.argv[1:])
+else:
+    sys.exit(__doc__)
