@@ -1,12 +1,14 @@
 -- An import makes its rows one after another. While it is under way, what is left decides as the whole did from the office
 -- before; at the end nothing is left, so all rows were made.
 use Rattle.std.proofs.Common.{◌≡◌, ℕ, suc, ◌+◌, List, [], ◌∷◌, ◌++◌, length, Option, Some, None, refl, sym, ap, subst, ◌∙◌, arith}
+use Rattle.std.proofs.lemmas.List.{append_assoc, append-nil}
 use Rattle.std.specs.Prelude.{◌&&◌, not, nat_le, Bool, true, false, is_some, Ok, if◌then◌else◌}
 use Rattle.std.specs.Option.{option_map, unwrap_or}
 use Rattle.rolls.specs.declared.TheConstants.{MOST_IMPORTS}
 use Rattle.rolls.specs.declared.import.Import.{Import}
 use Rattle.rolls.specs.declared.import.ImportKind.{ImportKind}
 use Rattle.rolls.specs.declared.request.Reply.TheVariants as reply
+use Rattle.rolls.specs.declared.row.Row.TheVariants as row
 use Rattle.rolls.specs.declared.row.Change.TheVariants as change
 use Rattle.rolls.specs.declared.refusal.Refusal.{Refusal}
 use Rattle.rolls.specs.declared.refusal.Refusal.TheVariants as no
@@ -22,6 +24,7 @@ use Rattle.rolls.specs.Told.{number_of}
 use Rattle.rolls.specs.Importing.{or_else, at_record, rows_refusal, after_rows, import_refusal, with_import}
 use Rattle.rolls.specs.Answers.{IsDone, Imports}
 use Rattle.rolls.proofs.Allowed.{allowed}
+use Rattle.steps.specs.Changes.{changes_of, changes_of_rows, import_changes}
 use Rattle.steps.proofs.Imported.{turns_follow, keep_none}
 use Rattle.steps.proofs.Turning.{turns_import}
 use Rattle.office.specs.Importing.{AreMade}
@@ -31,6 +34,7 @@ pub record IsUnderWay (rows rest : List Plain) (old now : State) (changes : List
   pub refusal : rows_refusal 1 old rows ≡ rows_refusal (made + 1) now rest
   pub after : after_rows rows old ≡ after_rows rest now
   pub turns : Turns changes old now
+  pub exact : changes_of_rows rows old ≡ changes ++ changes_of_rows rest now
   pub counted : made + length rest ≡ length rows
 
 -- nothing is made yet
@@ -39,6 +43,7 @@ none_made rows all old is = record {
   refusal = ap (rows_refusal 1 old) (sym is);
   after = ap (λ (ps : List Plain). after_rows ps old) (sym is);
   turns = λ k. refl;
+  exact = ap (λ (ps : List Plain). changes_of_rows ps old) (sym is);
   counted = let same = ap length is in omega (arith, same);
 }
 
@@ -51,8 +56,9 @@ module _ (rows left rest : List Plain) (p : Plain) (old now : State) (changes : 
   next_refused r is = private_refusal ∙ ap (λ (x : Option Refusal). or_else (at_record (made + 1) x) (rows_refusal (suc (made + 1)) (after_plain p now) rest)) is
 
   -- the next row is made
-  pub next_made : (new : State) (done : Done) (more : List Change) → IsDone p now new done → more ≡ changes ++ done.changes.items → IsUnderWay rows rest old new more (made + 1)
-  next_made new done more is added = record {
+  pub next_made : (new : State) (done : Done) (more : List Change) → IsDone p now new done → done.changes.items ≡ changes_of p now → more ≡ changes ++ done.changes.items
+      → IsUnderWay rows rest old new more (made + 1)
+  next_made new done more is these added = record {
     refusal =
         private_refusal
         ∙ ap (λ (x : Option Refusal). or_else (at_record (made + 1) x) (rows_refusal (suc (made + 1)) (after_plain p now) rest)) is.allowed
@@ -60,12 +66,18 @@ module _ (rows left rest : List Plain) (p : Plain) (old now : State) (changes : 
         ∙ ap (λ (o : State). rows_refusal ((made + 1) + 1) o rest) (sym is.after);
     after = way.after ∙ ap (λ (ps : List Plain). after_rows ps now) next ∙ ap (after_rows rest) (sym is.after);
     turns = subst (λ (cs : List Change). Turns cs old new) (sym added) (turns_follow changes done.changes.items old now new way.turns is.changes);
+    exact =
+        way.exact
+        ∙ ap (λ (ps : List Plain). changes ++ changes_of_rows ps now) next
+        ∙ sym (append_assoc changes (changes_of p now) (changes_of_rows rest (after_plain p now)))
+        ∙ (λ i. (changes ++ sym these i) ++ changes_of_rows rest (sym is.after i))
+        ∙ ap (λ (cs : List Change). cs ++ changes_of_rows rest new) (sym added);
     counted = let one = ap length next in omega (arith, one, way.counted);
   }
 
 -- nothing is left
 pub all_made : (rows rest : List Plain) (old now : State) (changes : List Change) (made : ℕ) → length rest ≡ 0 → IsUnderWay rows rest old now changes made → AreMade rows old now changes
-all_made rows [] old now changes made none way = record { allowed = way.refusal; after = sym way.after; turns = way.turns }
+all_made rows [] old now changes made none way = record { allowed = way.refusal; after = sym way.after; turns = way.turns; exact = sym (way.exact ∙ append-nil changes) }
 all_made rows (p ∷ rest) old now changes made none way = absurd (omega (arith, none))
 
 -- ---- the import
@@ -77,6 +89,22 @@ nothing_kept (Some i) h = cc
 something_kept : (x : Option Import) (n : ℕ) → option_map (λ (i : Import). i.rows) x ≡ Some n → is_some x ≡ true
 something_kept None n h = cc
 something_kept (Some i) n h = refl
+
+module _ (id : List ℕ) (kind : ImportKind) (bytes : List ℕ) (rows : List Plain) (old : State) where
+  -- what changes where a kept import changes nothing
+  abbrev unless_kept : Bool → List Change
+  unless_kept b = if b then [] else changes_of_rows rows old ++ change.Put (row.Import id kind bytes (length rows)) ∷ []
+
+  -- a kept import changes nothing
+  pub kept_unchanged : (n : ℕ) → kept_rows old id ≡ Some n → [] ≡ import_changes id kind bytes rows old
+  kept_unchanged n is = sym (ap unless_kept (something_kept (import_of old id) n is))
+
+  -- a new one changes what its rows do, and last comes its own row
+  pub new_changes : kept_rows old id ≡ None → (mid : State) (changes : List Change) → AreMade rows old mid changes
+      → changes ++ change.Put (row.Import id kind bytes (length rows)) ∷ [] ≡ import_changes id kind bytes rows old
+  new_changes free mid changes made =
+      ap (λ (cs : List Change). cs ++ change.Put (row.Import id kind bytes (length rows)) ∷ []) made.exact
+      ∙ sym (ap unless_kept (nothing_kept (import_of old id) free))
 
 module _ (id : List ℕ) (kind : ImportKind) (bytes : List ℕ) (rows : List Plain) (old : State) (passed : first (import_tests old id kind bytes) ≡ None) where
   -- a kept import answers its own number

@@ -5,9 +5,11 @@ use Rattle.rolls.specs.declared.row.Change.{Change}
 use Rattle.rolls.specs.State.{State}
 use Rattle.rolls.specs.Rows.{Turns}
 use Rattle.rolls.specs.Importing.{rows_refusal, after_rows}
+use Rattle.steps.specs.Changes.{changes_of_rows}
 
--- none of them was refused, and these changes turn the rows
+-- none of them was refused, and these are their changes, which turn the rows
 pub record AreMade (rows : List Plain) (old new : State) (changes : List Change) : Type 0 where
   pub allowed : rows_refusal 1 old rows ≡ None
   pub after : new ≡ after_rows rows old
   pub turns : Turns changes old new
+  pub exact : changes ≡ changes_of_rows rows old

@@ -6,9 +6,10 @@
 //! long, and whatever an entry names is there.
 //!
 //! Promised: `refusal_of` names the first refusal that applies, and takes no memory; `apply` makes
-//! exactly the step of the request, and its changes turn the rows of the office before into those of
-//! the office after; after a refusal the office is as before; `from_rows` gives the office of the rows,
-//! and calls rows unfit only where no office has them. Begin with `office.rt`.
+//! exactly the step of the request, with exactly its changes in their order, which turn the rows of the
+//! office before into those of the office after; after a refusal the office is as before; `from_rows`
+//! gives the office of the rows, and calls rows unfit only where no office has them. Begin with
+//! `office.rt`.
 #![tactic(auto)]
 
 mod making;
@@ -16,3 +17,4 @@ mod office;
 
 pub use drafts::RowsFault;
 pub use office::Office;
+pub use rolls::{Change, Done, Plain, Refusal, Reply, Request, Row};

@@ -15,6 +15,7 @@ ghost use Rattle.rolls.specs.Fit.{IsFit};
 ghost use Rattle.rolls.specs.Refusing.{first, plain_refusal, refusal_of, round_tests};
 ghost use Rattle.rolls.specs.Answers.{Answers, IsDone};
 ghost use Rattle.rolls.specs.From.{AreRowsOf};
+ghost use Rattle.steps.specs.Changes.{changes_of};
 
 use drafts::{RowsFault, gather};
 use rolls::{
@@ -83,7 +84,7 @@ impl Office {
         }
     }
 
-    /// The same office, in memory of its own.
+    /// The same office. Both share the entries until either changes.
     pub fn copy(&self) -> Result<Self, AllocError>
         ensures same { IfOk result (λ copy. copy ≡ self.now) }
     {
@@ -145,6 +146,7 @@ impl Office {
     /// Makes the step of a plain request, or refuses it and stays as it was.
     pub fn apply(&mut self, request: Plain) -> Result<Done, Refusal>
         ensures step { Answers request self.old self.new result }
+        ensures changes { IfOk result (λ done. let changes = done.changes in changes.items ≡ changes_of request self.old) }
     {
         if let Some(refusal) = self.plain_refusal(&request) {
             return Err(refusal);
@@ -156,6 +158,7 @@ impl Office {
     pub fn make(&mut self, request: Plain) -> Result<Done, AllocError>
         requires allowed { plain_refusal self.old request ≡ None }
         ensures done { IfOk result (IsDone request self.old self.new) }
+        ensures changes { IfOk result (λ done. let changes = done.changes in changes.items ≡ changes_of request self.old) }
         ensures memory { OnErr result (self.new ≡ self.old) }
     {
         match request {

@@ -1,13 +1,15 @@
 -- The changes of the tables that a plain request makes, the first of them first.
-use Rattle.std.specs.Prelude.{ℕ, zero, suc, ◌+◌, ◌==◌, not, true, List, [], ◌∷◌, ◌++◌, length, map, filter}
+use Rattle.std.specs.Prelude.{ℕ, zero, suc, ◌+◌, ◌==◌, not, true, List, [], ◌∷◌, ◌++◌, length, map, filter, if◌then◌else◌}
 use Rattle.rolls.specs.declared.rounds.Placement.{Placement}
 use Rattle.rolls.specs.declared.row.Row.TheVariants as row
 use Rattle.rolls.specs.declared.row.RowKey.TheVariants as key
 use Rattle.rolls.specs.declared.row.Change.{Change}
 use Rattle.rolls.specs.declared.row.Change.TheVariants as change
+use Rattle.rolls.specs.declared.import.ImportKind.{ImportKind}
 use Rattle.rolls.specs.declared.request.Plain.{Plain}
 use Rattle.rolls.specs.declared.request.Plain.TheVariants.{PutSupervisor, PutProject, PutStudent, OpenRound, PutList, DropList, ReopenRound, GetSupervisor, GetProject, GetStudent, GetRound}
-use Rattle.rolls.specs.State.{State, last_round, choices_in}
+use Rattle.rolls.specs.State.{State, last_round, choices_in, has_import}
+use Rattle.rolls.specs.Stepping.{after_plain}
 
 -- a student's choices in a round are taken out at so many places, from a place on
 abbrev pub places_taken : ℕ → List ℕ → ℕ → ℕ → List Change
@@ -45,3 +47,13 @@ changes_of (GetSupervisor code) o = []
 changes_of (GetProject code) o = []
 changes_of (GetStudent code) o = []
 changes_of (GetRound round) o = []
+
+-- what plain requests change one after another, each in the tables of the office that those before it leave
+abbrev pub changes_of_rows : List Plain → State → List Change
+changes_of_rows [] o = []
+changes_of_rows (p ∷ ps) o = changes_of p o ++ changes_of_rows ps (after_plain p o)
+
+-- what an import of these rows changes: what they change, and last its own row; a kept import changes nothing
+abbrev pub import_changes : List ℕ → ImportKind → List ℕ → List Plain → State → List Change
+import_changes id kind bytes rows o =
+    if has_import o id then [] else changes_of_rows rows o ++ change.Put (row.Import id kind bytes (length rows)) ∷ []

@@ -7,6 +7,7 @@ ghost use Rattle.rolls.specs.State.{round_is_open};
 ghost use Rattle.rolls.specs.Instances.{round_instance};
 ghost use Rattle.rolls.specs.Answers.{IsClosed};
 ghost use Rattle.closing.specs.Places.{ArePlacesOf};
+ghost use Rattle.closing.specs.Changes as says;
 
 use super::Office;
 use super::placed::ranked;
@@ -36,6 +37,7 @@ impl Office {
         requires open { IsTrue (round_is_open self.old) }
         requires matching { ArePlacesOf (round_instance self.old) matching.now.places.items }
         ensures ok { IfOk result (IsClosed (taken (round_instance self.old).students matching.now.places.items) self.old self.new) }
+        ensures changes { IfOk result (λ done. let changes = done.changes in changes.items ≡ says.close_changes (taken (round_instance self.old).students matching.now.places.items) self.old) }
         ensures err { OnErr result (self.new ≡ self.old) }
     {
         places_law();

@@ -7,6 +7,7 @@ ghost use Rattle.rolls.specs.Fit.{ImportFits};
 ghost use Rattle.rolls.specs.Refusing.{first, import_tests, is_other_import};
 ghost use Rattle.rolls.specs.Importing.{rows_refusal, with_import};
 ghost use Rattle.rolls.specs.Answers.{Imports};
+ghost use Rattle.steps.specs.Changes.{import_changes};
 ghost use Rattle.office.specs.Importing.{AreMade};
 
 use super::Office;
@@ -72,6 +73,7 @@ impl Office {
     ) -> Result<Done, Refusal>
         requires few { length rows.items ≤ MOST_IMPORT_BYTES }
         ensures step { Imports id kind bytes rows.items self.old self.new result }
+        ensures changes { IfOk result (λ done. let changes = done.changes in changes.items ≡ import_changes id kind bytes rows.items self.old) }
     {
         if let Some(refusal) = self.import_refusal(id.as_str(), kind, bytes.as_slice()) {
             return Err(refusal);
@@ -101,6 +103,7 @@ impl Office {
         requires allowed { first (import_tests self.old id kind bytes) ≡ None }
         requires free { kept_rows self.old id ≡ None }
         ensures ok { IfOk result (λ done. Imports id kind bytes rows.items self.old self.new (Ok done)) }
+        ensures changes { IfOk result (λ done. let changes = done.changes in changes.items ≡ import_changes id kind bytes rows.items self.old) }
         ensures err { IfErr result (λ refusal. (refusal ≡ Refusal.Memory) ⊎ (rows_refusal 1 self.old rows.items ≡ Some refusal)) }
     {
         let count = rows.len() as u32;

@@ -6,6 +6,7 @@ ghost use Rattle.rolls.specs.State.{has_project, choices_in};
 ghost use Rattle.rolls.specs.declared.request.Plain.TheVariants as ask;
 ghost use Rattle.rolls.specs.Refusing.{plain_refusal};
 ghost use Rattle.rolls.specs.Answers.{IsDone};
+ghost use Rattle.steps.specs.Changes.{changes_of};
 
 use super::Office;
 use rolls::{Choices, Done, Listed, Reply, Text, Texts};
@@ -41,6 +42,7 @@ impl Office {
     pub(crate) fn put_list(&mut self, student: Text, choices: Texts) -> Result<Done, AllocError>
         requires allowed { plain_refusal self.old (ask.PutList student choices) ≡ None }
         ensures ok { IfOk result (IsDone (ask.PutList student choices) self.old self.new) }
+        ensures changes { IfOk result (λ done. let changes = done.changes in changes.items ≡ changes_of (ask.PutList student choices) self.old) }
         ensures err { OnErr result (self.new ≡ self.old) }
     {
         let round = self.last_round();
@@ -64,6 +66,7 @@ impl Office {
     pub(crate) fn drop_list(&mut self, student: Text) -> Result<Done, AllocError>
         requires allowed { plain_refusal self.old (ask.DropList student) ≡ None }
         ensures ok { IfOk result (IsDone (ask.DropList student) self.old self.new) }
+        ensures changes { IfOk result (λ done. let changes = done.changes in changes.items ≡ changes_of (ask.DropList student) self.old) }
         ensures err { OnErr result (self.new ≡ self.old) }
     {
         let round = self.last_round();

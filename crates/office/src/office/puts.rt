@@ -4,6 +4,7 @@ ghost use Rattle.std.specs.Prelude.{◌≡◌, None, IfOk, OnErr};
 ghost use Rattle.rolls.specs.declared.request.Plain.TheVariants as ask;
 ghost use Rattle.rolls.specs.Refusing.{plain_refusal};
 ghost use Rattle.rolls.specs.Answers.{IsDone};
+ghost use Rattle.steps.specs.Changes.{changes_of};
 
 use super::Office;
 use crate::making::{new_project, new_student, new_supervisor};
@@ -20,6 +21,7 @@ impl Office {
     ) -> Result<Done, AllocError>
         requires allowed { plain_refusal self.old (ask.PutSupervisor code label quota) ≡ None }
         ensures ok { IfOk result (IsDone (ask.PutSupervisor code label quota) self.old self.new) }
+        ensures changes { IfOk result (λ done. let changes = done.changes in changes.items ≡ changes_of (ask.PutSupervisor code label quota) self.old) }
         ensures err { OnErr result (self.new ≡ self.old) }
     {
         let (supervisor, changes) = new_supervisor(self.alloc, code, label, quota)?;
@@ -40,6 +42,7 @@ impl Office {
     ) -> Result<Done, AllocError>
         requires allowed { plain_refusal self.old (ask.PutProject code label supervisor quota) ≡ None }
         ensures ok { IfOk result (IsDone (ask.PutProject code label supervisor quota) self.old self.new) }
+        ensures changes { IfOk result (λ done. let changes = done.changes in changes.items ≡ changes_of (ask.PutProject code label supervisor quota) self.old) }
         ensures err { OnErr result (self.new ≡ self.old) }
     {
         let (project, changes) = new_project(self.alloc, code, label, supervisor, quota)?;
@@ -54,6 +57,7 @@ impl Office {
     pub(crate) fn put_student(&mut self, code: Text, label: Text) -> Result<Done, AllocError>
         requires allowed { plain_refusal self.old (ask.PutStudent code label) ≡ None }
         ensures ok { IfOk result (IsDone (ask.PutStudent code label) self.old self.new) }
+        ensures changes { IfOk result (λ done. let changes = done.changes in changes.items ≡ changes_of (ask.PutStudent code label) self.old) }
         ensures err { OnErr result (self.new ≡ self.old) }
     {
         let (student, changes) = new_student(self.alloc, code, label)?;

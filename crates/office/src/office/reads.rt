@@ -52,7 +52,7 @@ impl Office {
         }
     }
 
-    /// Where a student is placed, in memory of its own.
+    /// Where a student is placed.
     fn placement_of(&self, student: &str) -> Option<Placement>
         ensures { result ≡ placement_of self.now student.now }
     {

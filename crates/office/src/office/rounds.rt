@@ -5,6 +5,7 @@ ghost use Rattle.rolls.specs.State.{last_round, lists_of, round_of};
 ghost use Rattle.rolls.specs.declared.request.Plain.TheVariants as ask;
 ghost use Rattle.rolls.specs.Refusing.{plain_refusal};
 ghost use Rattle.rolls.specs.Answers.{IsDone};
+ghost use Rattle.steps.specs.Changes.{changes_of};
 
 use super::Office;
 use rolls::{Change, Done, Entry, Listed, Reply, Round, Row, Table};
@@ -44,6 +45,7 @@ impl Office {
     pub(crate) fn open_round(&mut self) -> Result<Done, AllocError>
         requires allowed { plain_refusal self.old ask.OpenRound ≡ None }
         ensures ok { IfOk result (IsDone ask.OpenRound self.old self.new) }
+        ensures changes { IfOk result (λ done. let changes = done.changes in changes.items ≡ changes_of ask.OpenRound self.old) }
         ensures err { OnErr result (self.new ≡ self.old) }
     {
         let number = self.last_round() + 1;
@@ -67,6 +69,7 @@ impl Office {
     pub(crate) fn reopen_round(&mut self) -> Result<Done, AllocError>
         requires allowed { plain_refusal self.old ask.ReopenRound ≡ None }
         ensures ok { IfOk result (IsDone ask.ReopenRound self.old self.new) }
+        ensures changes { IfOk result (λ done. let changes = done.changes in changes.items ≡ changes_of ask.ReopenRound self.old) }
         ensures err { OnErr result (self.new ≡ self.old) }
     {
         let round = self.last_round();

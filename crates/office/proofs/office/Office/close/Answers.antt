@@ -38,6 +38,14 @@ invariant_of-self-2 c =
     let law = c.places_law.ensures.close c.args.self.now c.args.matching.now.places.items (subst IsFit c.self.view_is c.self.invariant) c.requires.open c.requires.matching c.in_ok-placed.placed.items (made c) in
     subst IsFit (sym (after c)) law.fit
 
+pub returns-clause-changes : goal.returns-clause-changes
+returns-clause-changes c =
+    let old : State = c.args.self.now in
+    let ks = c.args.matching.now.places.items in
+    c.in_ok-changes.ensures
+    ∙ (λ i. closing_changes (c.last_round-round.ensures i) (c.deref-3.ensures.value i))
+    ∙ ap (closing_changes (last_round old)) (made c ∙ c.places_law.ensures.kept old ks (subst IsFit c.self.view_is c.self.invariant) (c.places_law.ensures.within old ks c.requires.matching))
+
 pub returns-clause-ok : goal.returns-clause-ok
 returns-clause-ok c =
     let old : State = c.args.self.now in

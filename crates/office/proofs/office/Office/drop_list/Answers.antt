@@ -30,9 +30,12 @@ after c =
 pub invariant_of-self-2 : goal.invariant_of-self-2
 invariant_of-self-2 c = made_fit (DropList c.args.student) (state_of c.self.inside) c.args.self.now c.self.view_is c.requires.allowed c.self.invariant _ (after c)
 
+pub returns-clause-changes : goal.returns-clause-changes
+returns-clause-changes c =
+    c.in_ok-changes.ensures
+    ∙ (λ i. list_changes (c.last_round-round.ensures i) (c.as_str-2.ensures i) (c.places_of-places.ensures i) [])
+    ∙ (λ i. list_changes (last_round c.args.self.now) c.args.student (length (choices_in c.args.self.now (c.last_round-round.ensures i) (c.as_str.ensures i))) [])
+
 pub returns-clause-ok : goal.returns-clause-ok
 returns-clause-ok c =
-    let changed = c.in_ok-changes.ensures
-    ∙ (λ i. list_changes (c.last_round-round.ensures i) (c.as_str-2.ensures i) (c.places_of-places.ensures i) [])
-    ∙ (λ i. list_changes (last_round c.args.self.now) c.args.student (length (choices_in c.args.self.now (c.last_round-round.ensures i) (c.as_str.ensures i))) []) in
-    made_done (DropList c.args.student) (state_of c.self.inside) c.args.self.now c.self.view_is c.requires.allowed c.self.invariant _ (after c) _ refl changed
+    made_done (DropList c.args.student) (state_of c.self.inside) c.args.self.now c.self.view_is c.requires.allowed c.self.invariant _ (after c) _ refl (returns-clause-changes c)

@@ -4,17 +4,22 @@ use Rattle.rolls.specs.State.{kept_rows}
 use Rattle.rolls.specs.Refusing.{first, import_tests}
 use Rattle.rolls.specs.Importing.{rows_refusal}
 use Rattle.rolls.specs.Answers.{Imports}
-use Rattle.office.proofs.Importing.{kept_answered, rows_decide}
+use Rattle.steps.specs.Changes.{import_changes}
+use Rattle.office.proofs.Importing.{kept_answered, kept_unchanged, rows_decide}
 use Rattle.office.proofs.office.Office.import.Goals as goal
 
 pub returns-in-Some-kept_rows : goal.returns-in-Some-kept_rows
 returns-in-Some-kept_rows c =
-    record { step = kept_answered c.args.id c.args.kind c.args.bytes c.args.rows.items c.args.self.now (search rules) c.in-Some-kept_rows.rows (search rules) c.answered.result c.answered.ensures.reply c.answered.ensures.changes }
+    record {
+      step = kept_answered c.args.id c.args.kind c.args.bytes c.args.rows.items c.args.self.now (search rules) c.in-Some-kept_rows.rows (search rules) c.answered.result c.answered.ensures.reply c.answered.ensures.changes;
+      changes = c.answered.ensures.changes ∙ kept_unchanged c.args.id c.args.kind c.args.bytes c.args.rows.items c.args.self.now c.in-Some-kept_rows.rows (search rules);
+    }
 
 pub returns-in-Ok : goal.returns-in-Ok
 returns-in-Ok c = record {
   step = subst (λ (new : State). Imports c.args.id c.args.kind c.args.bytes c.args.rows.items c.args.self.now new (Ok c.in-Ok.done)) (sym c.swap.ensures.x_after)
       (subst (λ (old : State). Imports c.args.id c.args.kind c.args.bytes c.args.rows.items old c.import_new.new.self (Ok c.in-Ok.done)) c.in_ok-next.ensures.same c.in-Ok.ensures.ok);
+  changes = subst (λ (old : State). c.in-Ok.done.changes.items ≡ import_changes c.args.id c.args.kind c.args.bytes c.args.rows.items old) c.in_ok-next.ensures.same c.in-Ok.ensures.changes;
 }
 
 pub returns : goal.returns
@@ -29,4 +34,5 @@ returns c =
         ];
         same = refl;
       };
+      changes = tt;
     }

@@ -6,7 +6,7 @@ use Rattle.rolls.specs.declared.row.Row.TheVariants as row
 use Rattle.rolls.specs.declared.row.Change.TheVariants as change
 use Rattle.rolls.specs.State.{State, has_import}
 use Rattle.rolls.specs.Importing.{with_import}
-use Rattle.office.proofs.Importing.{still_room, import_made}
+use Rattle.office.proofs.Importing.{still_room, import_made, new_changes}
 use Rattle.office.proofs.office.Office.import_new.Goals as goal
 
 pub keep-requires-clause-room : goal.keep-requires-clause-room
@@ -14,6 +14,12 @@ keep-requires-clause-room c =
     let mid : State = c.make_all.new.self in
     subst (λ (d : List ℕ). (not (has_import mid d) && nat_le MOST_IMPORTS (length mid.imports)) ≡ false) (sym (c.code_of.ensures ∙ c.as_str.ensures))
     (still_room c.args.id c.args.kind c.args.bytes c.args.rows.items c.args.self.now c.requires.allowed c.requires.free mid c.in_ok-changes.changes.items c.in_ok-changes.ensures.ok)
+
+pub returns-clause-changes : goal.returns-clause-changes
+returns-clause-changes c =
+    c.in_ok-push.ensures.items
+    ∙ ap (λ (n : ℕ). c.in_ok-changes.changes.items ++ change.Put (row.Import c.args.id c.args.kind c.args.bytes n) ∷ []) (c.len-count.ensures ∙ c.args.rows.ok.0)
+    ∙ new_changes c.args.id c.args.kind c.args.bytes c.args.rows.items c.args.self.now c.requires.free c.make_all.new.self c.in_ok-changes.changes.items c.in_ok-changes.ensures.ok
 
 pub returns-clause-ok : goal.returns-clause-ok
 returns-clause-ok c =

@@ -20,8 +20,11 @@ after c =
 pub invariant_of-self-2 : goal.invariant_of-self-2
 invariant_of-self-2 c = made_fit OpenRound (state_of c.self.inside) c.args.self.now c.self.view_is c.requires.allowed c.self.invariant _ (after c)
 
+pub returns-clause-changes : goal.returns-clause-changes
+returns-clause-changes c = c.in_ok-push.ensures.items ∙ (λ i. c.new-changes.ensures.items i ++ change.Put (row.Round (c.last_round-number.ensures i + 1) true) ∷ [])
+
 pub returns-clause-ok : goal.returns-clause-ok
 returns-clause-ok c =
     made_done OpenRound (state_of c.self.inside) c.args.self.now c.self.view_is c.requires.allowed c.self.invariant _ (after c) _
     (ap (λ n. reply.Opened (n + 1)) c.last_round-number.ensures)
-    (c.in_ok-push.ensures.items ∙ (λ i. c.new-changes.ensures.items i ++ change.Put (row.Round (c.last_round-number.ensures i + 1) true) ∷ []))
+    (returns-clause-changes c)
