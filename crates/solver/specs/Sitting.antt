@@ -1,6 +1,8 @@
 -- What callers see of a session: its aim, the students admitted so far with their lists, and the relaxations.
-use Rattle.std.specs.Prelude.{◌≡◌, ℕ, ◌+◌, ◌*◌, ◌≤◌, ◌++◌, ◌∷◌, [], List, length, sum_by}
+use Rattle.std.specs.Prelude.{◌≡◌, ℕ, ◌+◌, ◌*◌, ◌≤◌, ◌==◌, ◌++◌, ◌∷◌, [], List, length, sum_by, Bool}
+use Rattle.std.specs.List.{list_any}
 use Rattle.spa.specs.Shape.{Shape}
+use Rattle.spa.specs.Matching.{Pair, IsBest}
 use Rattle.spa.specs.declared.aim.Aim.{Aim}
 
 -- the value of a session
@@ -39,3 +41,9 @@ pub record IsAdmitted (old new : Sitting) (list : List ℕ) (relaxations : ℕ) 
   pub counted : new.steps ≡ old.steps + relaxations
   pub compared : length list ≤ relaxations
   pub bound : relaxations ≤ most_relaxations new.shape
+
+-- some best matching of the students admitted has the one at this position exactly where `placed` says so
+pub record TellsIfPlaced (s : Sitting) (student : ℕ) (placed : Bool) : Type 0 where
+  pub matching : List Pair
+  pub best : IsBest s.aim s.shape matching
+  pub told : placed ≡ list_any (λ e. e.student == student) matching
