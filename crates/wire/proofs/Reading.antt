@@ -1,8 +1,9 @@
 -- The end of a stream at the end of its reader.
-use Rattle.std.proofs.Common.{◌≡◌, true, false, ◌==◌, ◌∷◌, ℕ, ◌<◌, List, [], ◌++◌, length, Option, Some, None, refl, sym, subst, arith, ap, ◌∙◌, append-nil, ◌+◌, ◌-◌, ◌≤◌, zero, suc, min, take, Result, Ok, Err, IsOk, is_ok, if◌then◌else◌, length-append}
+use Rattle.std.proofs.Common.{◌≡◌, true, false, ◌==◌, ◌∷◌, ℕ, ◌<◌, List, [], ◌++◌, length, Option, Some, None, IfNone, refl, sym, subst, arith, ap, ◌∙◌, append-nil, ◌+◌, ◌-◌, ◌≤◌, zero, suc, min, take, Result, Ok, Err, IsOk, is_ok, if◌then◌else◌, length-append}
 use Rattle.std.proofs.Math.Nat.{min-le_right, le-min}
 use Rattle.std.proofs.lemmas.List.{take-append-le, length-take-le}
 use borrow.Author.Tests.{eqb-true}
+use lib.Dec.{eqb-suc-zero}
 use Rattle.std.specs.Io.KnownBytes.{IsAtEnd}
 use Rattle.wire.specs.declared.TheConstants.{MOST_MESSAGE_BYTES}
 use Rattle.wire.specs.declared.front.Front.TheVariants.{Open}
@@ -26,6 +27,15 @@ some_of (x ∷ xs) n l e = omega arith
 pub some_count : (n : ℕ) → (n ≡ 0 → ⊥) → 0 < n
 some_count zero h = absurd (h refl)
 some_count (suc n) h = omega arith
+
+-- and is told apart from 0
+pub none_alone : (n : ℕ) → (n ≡ 0 → ⊥) → (n == 0) ≡ false
+none_alone zero h = absurd (h refl)
+none_alone (suc n) h = eqb-suc-zero n
+
+-- what is said where nothing was found
+pub at_none : {A : Type 0} (P : Type 0) (found : Option A) → found ≡ None → IfNone found P → P
+at_none {A} P found e h = subst (λ (o : Option A). IfNone o P) e h
 
 -- at its end a reader has nothing left
 pub nothing_unread : (left : Option (List ℕ)) → IsAtEnd left → unread left ≡ []

@@ -1,6 +1,6 @@
 //! What has been read of a stream and not yet taken.
-ghost use Rattle.std.specs.Prelude.{◌≡◌, ◌≢◌, ◌+◌, ◌-◌, ◌^◌, ◌<◌, ◌≤◌, ℕ, List, Option, [], ◌++◌, length, drop, vec_len, vec_capacity, IfOk, OnOk, OnErr, IfErr, IfSome, IfNone};
-ghost use Rattle.wire.specs.Taken.{Grows, Finds, AtEndIfNone};
+ghost use Rattle.std.specs.Prelude.{◌≡◌, ◌≢◌, ◌+◌, ◌-◌, ◌^◌, ◌<◌, ◌≤◌, ◌==◌, false, ℕ, List, Option, [], ◌++◌, length, drop, vec_len, vec_capacity, IfOk, OnOk, OnErr, IfErr, IfSome, IfNone};
+ghost use Rattle.wire.specs.Taken.{Grows, Finds, AtEndIfNone, IsOpenBut};
 ghost use Rattle.wire.specs.declared.front.Front.TheVariants.{Open};
 ghost use Rattle.wire.specs.Judged.{Judges};
 
@@ -42,11 +42,13 @@ pub fn drop_front(buffer: &mut Vec<u8>, n: usize)
 /// Reads some bytes to the end of the buffer, and says how many.
 fn refill<R: Source>(reader: &mut R, buffer: &mut Vec<u8>) -> Result<usize, StreamFault>
     requires failures { R.failures reader.old < 2 ^ 64 - 1 }
+    requires open { R.ended reader.old ≡ false }
     requires capacity { MOST_MESSAGE_BYTES ≤ vec_capacity buffer.old }
     requires room { vec_len buffer.old < MOST_MESSAGE_BYTES }
     ensures grows { OnOk result
         (Grows buffer.old.items buffer.new.items (R.left reader.old) (R.left reader.new)) }
     ensures end { IfOk result (λ n. AtEndIfNone n buffer.old.items buffer.new.items (R.left reader.new)) }
+    ensures told { IfOk result (λ n. R.ended reader.new ≡ (n == 0)) }
     ensures same { OnErr result (buffer.new.items ≡ buffer.old.items) }
     ensures kept { OnErr result
         (Grows buffer.old.items buffer.new.items (R.left reader.old) (R.left reader.new)) }
@@ -82,12 +84,15 @@ fn read_on<R: Source>(
     headers: &mut [HeaderSpan],
 ) -> Result<Option<Next>, StreamFault>
     requires failures { R.failures reader.old < 2 ^ 64 - 1 }
+    requires open { R.ended reader.old ≡ false }
     requires capacity { MOST_MESSAGE_BYTES ≤ vec_capacity buffer.old }
     requires size { vec_len buffer.old ≤ MOST_MESSAGE_BYTES }
     requires fields { length headers.old ≡ FIELDS }
     ensures grows { Grows buffer.old.items buffer.new.items (R.left reader.old) (R.left reader.new) }
     ensures finds { IfOk result (λ found. IfSome found (Finds buffer.new.items (R.left reader.new))) }
     ensures more { IfOk result (λ found. IfNone found (vec_len buffer.old < vec_len buffer.new)) }
+    ensures goes_on { IfOk result (λ found. IfNone found (R.ended reader.new ≡ false)) }
+    ensures told { IfOk result (λ found. IfSome found (λ next. IsOpenBut next (R.ended reader.new))) }
     ensures open { OnErr result (Judges buffer.new.items Front.Open) }
     ensures size { vec_len buffer.new ≤ MOST_MESSAGE_BYTES }
     ensures capacity { MOST_MESSAGE_BYTES ≤ vec_capacity buffer.new }
@@ -117,11 +122,13 @@ pub fn read_next<R: Source>(
     headers: &mut [HeaderSpan],
 ) -> Result<Next, StreamFault>
     requires failures { R.failures reader.old < 2 ^ 64 - 1 }
+    requires open { R.ended reader.old ≡ false }
     requires capacity { MOST_MESSAGE_BYTES ≤ vec_capacity buffer.old }
     requires size { vec_len buffer.old ≤ MOST_MESSAGE_BYTES }
     requires fields { length headers.old ≡ FIELDS }
     ensures grows { Grows buffer.old.items buffer.new.items (R.left reader.old) (R.left reader.new) }
     ensures finds { IfOk result (Finds buffer.new.items (R.left reader.new)) }
+    ensures told { IfOk result (λ next. IsOpenBut next (R.ended reader.new)) }
     ensures open { OnErr result (Judges buffer.new.items Front.Open) }
     ensures size { vec_len buffer.new ≤ MOST_MESSAGE_BYTES }
     ensures capacity { MOST_MESSAGE_BYTES ≤ vec_capacity buffer.new }

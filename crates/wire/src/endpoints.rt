@@ -1,14 +1,15 @@
 //! The two ends of a stream: what is read and what is written, with counts of failures.
 
-ghost use Rattle.std.specs.Prelude.{◌≡◌, ℕ, ◌+◌, ◌-◌, ◌^◌, ◌<◌, ◌≤◌, List, Option, IfOk, OnOk, OnErr, length};
+ghost use Rattle.std.specs.Prelude.{◌≡◌, ℕ, Bool, false, ◌+◌, ◌-◌, ◌^◌, ◌<◌, ◌≤◌, ◌==◌, List, Option, IfOk, OnOk, OnErr, length};
 ghost use Rattle.std.specs.Io.KnownBytes.{Appends, Consumes, Keeps, IsAtEnd, ReadConsumes, WriteAppends};
 ghost use Rattle.wire.specs.Endpoints.{CountsErr, CountsNone};
-ghost use Rattle.wire.specs.Watching.{inner_of, failures_of};
+ghost use Rattle.wire.specs.Watching.{inner_of, failures_of, ended_of};
 
 use std::io;
 use std::io::{Read, Write};
 
-/// What is read, with a count of the calls that failed. A call is made only below the greatest count.
+/// What is read, with a count of the calls that failed. A call is made only below the greatest count, and none after one that
+/// gave no byte: that was the end.
 pub trait Source {
     // The bytes that are left to read, where they are known.
     ghost left: { Self → Option (List ℕ) };
@@ -16,12 +17,17 @@ pub trait Source {
     // How many calls failed.
     ghost failures: { Self → ℕ };
 
+    // Whether the last call gave no byte.
+    ghost ended: { Self → Bool };
+
     /// Reads some bytes into the front of `buf`; none at the end alone.
     fn read(&mut self, buf: &mut [u8]) -> io::Result<usize>
-        requires { failures self.old < 2 ^ 64 - 1 }
+        requires failures { failures self.old < 2 ^ 64 - 1 }
+        requires open { ended self.old ≡ false }
         ensures bound { IfOk result (λ n. n ≤ length buf.new) }
         ensures bytes { ReadConsumes (left self.old) (left self.new) result buf.new }
-        ensures count { CountsErr (failures self.old) (failures self.new) result };
+        ensures count { CountsErr (failures self.old) (failures self.new) result }
+        ensures end { IfOk result (λ n. ended self.new ≡ (n == 0)) };
 }
 
 /// What is written, with a count of the calls that failed or took no byte.
@@ -40,27 +46,37 @@ pub trait Sink {
         ensures count { CountsNone (failures self.old) (failures self.new) result };
 }
 
-/// Any reader or writer, with the count of its calls that failed, from 0.
+/// Any reader or writer, with the count of its calls that failed, from 0. Of a reader it is also kept whether it has ended.
 #[derive(Drop)]
 pub struct Watched<T> {
     inner: T,
     failures: u64,
+    ended: bool,
 }
 
 impl<T> Watched<T> {
-    /// Begins to watch, at a count of 0.
+    /// Begins to watch, at a count of 0. Nothing has ended yet.
     pub fn new(inner: T) -> Self
         ensures inner { inner_of result ≡ inner }
         ensures failures { failures_of result ≡ 0 }
+        ensures open { ended_of result ≡ false }
     {
-        Watched { inner, failures: 0 }
+        Watched {
+            inner,
+            failures: 0,
+            ended: false,
+        }
     }
 
     /// How many calls failed.
     pub fn failures(&self) -> u64
         ensures { result ≡ failures_of self.now }
     {
-        let Watched { inner: _, failures } = self;
+        let Watched {
+            inner: _,
+            failures,
+            ended: _,
+        } = self;
         *failures
     }
 
@@ -68,7 +84,11 @@ impl<T> Watched<T> {
     pub fn into_inner(self) -> T
         ensures { result ≡ inner_of self }
     {
-        let Watched { inner, failures: _ } = self;
+        let Watched {
+            inner,
+            failures: _,
+            ended: _,
+        } = self;
         inner
     }
 }
@@ -78,12 +98,19 @@ impl<R: Read> Source for Watched<R> {
 
     ghost failures = { failures_of };
 
+    ghost ended = { ended_of };
+
     fn read(&mut self, buf: &mut [u8]) -> io::Result<usize> {
-        let read = self.inner.read(buf);
-        if read.is_err() {
-            self.failures += 1;
+        match self.inner.read(buf) {
+            Ok(n) => {
+                self.ended = n == 0;
+                Ok(n)
+            }
+            Err(error) => {
+                self.failures += 1;
+                Err(error)
+            }
         }
-        read
     }
 }
 

@@ -77,7 +77,7 @@ fn length_of(value: &[u8]) -> Framing
     Framing::Length(number as usize)
 }
 
-/// What the fields `Content-Length` say.
+/// What the fields `Content-Length` say. Two of them are refused, even if they agree, as RFC 9112, section 6.3, lets a server do.
 fn framing_by_lengths(buf: &[u8], headers: &[HeaderSpan]) -> Framing
     requires { All (IsHeaderWithin (length buf.now)) headers.now }
     ensures value { result ≡ framing_by (lengths (map (header_bytes buf.now) headers.now)) }
@@ -98,7 +98,8 @@ fn framing_by_lengths(buf: &[u8], headers: &[HeaderSpan]) -> Framing
     }
 }
 
-/// What a head of this version and these headers says of its body.
+/// What a head of this version and these headers says of its body, as RFC 9112, section 6.3, has it. `Transfer-Encoding` is not read
+/// here: a head with it is refused.
 pub fn framing_of(buf: &[u8], minor: u8, headers: &[HeaderSpan]) -> Framing
     requires { All (IsHeaderWithin (length buf.now)) headers.now }
     ensures value { result ≡ framing_of minor (map (header_bytes buf.now) headers.now) }

@@ -1,5 +1,5 @@
 //! The service of a stream.
-ghost use Rattle.std.specs.Prelude.{◌≡◌, ◌≢◌, ℕ, ◌+◌, ◌-◌, ◌^◌, ◌<◌, ◌≤◌, List, Option, [], ◌++◌, length, take, drop, vec_len, vec_capacity, IfOk, OnOk, OnErr, IfErr, IfSome, IfNone};
+ghost use Rattle.std.specs.Prelude.{◌≡◌, ◌≢◌, false, ℕ, ◌+◌, ◌-◌, ◌^◌, ◌<◌, ◌≤◌, List, Option, [], ◌++◌, length, take, drop, vec_len, vec_capacity, IfOk, OnOk, OnErr, IfErr, IfSome, IfNone};
 ghost use Rattle.std.specs.Io.KnownBytes.{Appends};
 ghost use Rattle.httparse.specs.Spans.{IsWithin};
 ghost use Rattle.wire.specs.Messages.{Message, Stops};
@@ -69,6 +69,7 @@ fn turn<D, H: Handler<D>, R: Source, W: Sink>(
     headers: &mut [HeaderSpan],
 ) -> Result<Option<End>, StreamFault>
     requires read_failures { R.failures reader.old < 2 ^ 64 - 1 }
+    requires open { R.ended reader.old ≡ false }
     requires write_failures { W.failures writer.old < 2 ^ 64 - 1 }
     requires capacity { MOST_MESSAGE_BYTES ≤ vec_capacity buffer.old }
     requires size { vec_len buffer.old ≤ MOST_MESSAGE_BYTES }
@@ -76,6 +77,7 @@ fn turn<D, H: Handler<D>, R: Source, W: Sink>(
     ensures answers { IfOk result (λ o. IfNone o (GoesOn H.step
         (R.left reader.old) (W.written writer.old) buffer.old.items desk.old
         (R.left reader.new) (W.written writer.new) buffer.new.items desk.new 1)) }
+    ensures open { IfOk result (λ o. IfNone o (R.ended reader.new ≡ false)) }
     ensures ends { IfOk result (λ o. IfSome o (λ end.
         Stops (buffer.new.items ++ unread (R.left reader.new)) end
         × GoesOn H.step
@@ -112,6 +114,7 @@ fn serve_hundred<D, H: Handler<D>, R: Source, W: Sink>(
     headers: &mut [HeaderSpan],
 ) -> Result<Served, StreamFault>
     requires read_failures { R.failures reader.old < 2 ^ 64 - 1 }
+    requires open { R.ended reader.old ≡ false }
     requires write_failures { W.failures writer.old < 2 ^ 64 - 1 }
     requires capacity { MOST_MESSAGE_BYTES ≤ vec_capacity buffer.old }
     requires empty { buffer.old.items ≡ [] }
@@ -149,6 +152,7 @@ pub fn serve_messages<D, H: Handler<D>, R: Source, W: Sink>(
     writer: &mut W,
 ) -> Result<Served, StreamFault>
     requires read_failures { R.failures reader.old < 2 ^ 64 - 1 }
+    requires open { R.ended reader.old ≡ false }
     requires write_failures { W.failures writer.old < 2 ^ 64 - 1 }
     ensures served { IfOk result (λ served. ServedTo H.step H.refusal desk.old (R.left reader.old) (W.written writer.old)
         (R.left reader.new) (W.written writer.new) served desk.new) }

@@ -1,5 +1,6 @@
 use Rattle.std.proofs.Common.{refl, ◌∙◌, subst, sym, ◌<◌, ◌^◌, ◌-◌, ℕ}
 use Rattle.wire.proofs.Known.{grows_first, grows_on}
+use Rattle.wire.proofs.Reading.{at_none}
 use Rattle.wire.proofs.buffer.read_next.Goals as goal
 
 pub reading-init : goal.reading-init
@@ -8,6 +9,7 @@ reading-init g c = record {
   size = c.requires.size;
   capacity = c.requires.capacity;
   count = refl;
+  goes_on = c.requires.open;
 }
 
 pub read_on-requires-clause-failures : goal.read_on-requires-clause-failures
@@ -17,6 +19,9 @@ pub returns-in_err-found-clause-grows : goal.returns-in_err-found-clause-grows
 returns-in_err-found-clause-grows g c =
     grows_on c.args.buffer.now.items c.reading.buffer.items c.read_on.new.buffer.items (g.R.Source.left c.args.reader.now) (g.R.Source.left c.reading.reader)
     (g.R.Source.left c.read_on.new.reader) c.reading.invariant.grows c.read_on.ensures.grows
+
+pub read_on-requires-clause-open : goal.read_on-requires-clause-open
+read_on-requires-clause-open g c = c.reading.invariant.goes_on
 
 pub read_on-requires-clause-capacity : goal.read_on-requires-clause-capacity
 read_on-requires-clause-capacity g c = c.reading.invariant.capacity
@@ -36,6 +41,7 @@ reading-preserved g c = record {
   size = c.read_on.ensures.size;
   capacity = c.read_on.ensures.capacity;
   count = c.in_ok-found.ensures.count_ok ∙ c.reading.invariant.count;
+  goes_on = at_none _ _ c.in_default.is c.in_ok-found.ensures.goes_on;
 }
 
 pub read_on-requires-clause-fields : goal.read_on-requires-clause-fields

@@ -1,4 +1,4 @@
-use Rattle.std.proofs.Common.{◌≡◌, ◌≤◌, ◌-◌, vec_len, vec_capacity}
+use Rattle.std.proofs.Common.{◌≡◌, ◌≤◌, ◌-◌, false, vec_len, vec_capacity}
 use Rattle.wire.specs.declared.TheConstants.{MOST_MESSAGE_BYTES}
 use Rattle.wire.specs.Taken.{Grows}
 use Rattle.wire.proofs.buffer.read_next.Given as goal
@@ -9,6 +9,7 @@ invariant-reading g l = record {
   size : vec_len l.buffer ≤ MOST_MESSAGE_BYTES;
   capacity : MOST_MESSAGE_BYTES ≤ vec_capacity l.buffer;
   count : g.R.Source.failures l.reader ≡ g.R.Source.failures l.initial.reader;
+  goes_on : g.R.Source.ended l.reader ≡ false;
 }
 
 abbrev pub decreases-reading : goal.decreases-reading

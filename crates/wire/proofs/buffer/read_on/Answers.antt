@@ -1,7 +1,7 @@
-use Rattle.std.proofs.Common.{arith, vec_len, refl}
+use Rattle.std.proofs.Common.{arith, vec_len, refl, ◌∙◌}
 use Rattle.wire.specs.Run.{unread}
 use Rattle.wire.proofs.Known.{grows_first}
-use Rattle.wire.proofs.Reading.{some_count, empty_of, some_of, closed_here, unfinished_here, still_open}
+use Rattle.wire.proofs.Reading.{some_count, none_alone, empty_of, some_of, closed_here, unfinished_here, still_open}
 use Rattle.wire.proofs.buffer.read_on.Goals as goal
 
 pub returns-in-Whole-clause-finds : goal.returns-in-Whole-clause-finds
@@ -42,6 +42,12 @@ returns-else-is_empty-clause-open g c = tt
 pub returns-in-Whole-clause-more : goal.returns-in-Whole-clause-more
 returns-in-Whole-clause-more g c = tt
 
+pub returns-in-Whole-clause-goes_on : goal.returns-in-Whole-clause-goes_on
+returns-in-Whole-clause-goes_on g c = tt
+
+pub returns-in-Whole-clause-told : goal.returns-in-Whole-clause-told
+returns-in-Whole-clause-told g c = c.requires.open
+
 pub returns-in-Whole-clause-open : goal.returns-in-Whole-clause-open
 returns-in-Whole-clause-open g c = tt
 
@@ -56,6 +62,12 @@ returns-in-Whole-clause-count_err g c = tt
 
 pub returns-in-Stop-clause-more : goal.returns-in-Stop-clause-more
 returns-in-Stop-clause-more g c = tt
+
+pub returns-in-Stop-clause-goes_on : goal.returns-in-Stop-clause-goes_on
+returns-in-Stop-clause-goes_on g c = tt
+
+pub returns-in-Stop-clause-told : goal.returns-in-Stop-clause-told
+returns-in-Stop-clause-told g c = tt
 
 pub returns-in-Stop-clause-open : goal.returns-in-Stop-clause-open
 returns-in-Stop-clause-open g c = tt
@@ -72,11 +84,23 @@ returns-in-Stop-clause-count_err g c = tt
 pub returns-in-Err-clause-finds : goal.returns-in-Err-clause-finds
 returns-in-Err-clause-finds g c = tt
 
+pub returns-in-Err-clause-goes_on : goal.returns-in-Err-clause-goes_on
+returns-in-Err-clause-goes_on g c = tt
+
+pub returns-in-Err-clause-told : goal.returns-in-Err-clause-told
+returns-in-Err-clause-told g c = tt
+
 pub returns-in-Err-clause-more : goal.returns-in-Err-clause-more
 returns-in-Err-clause-more g c = tt
 
 pub returns-in-Err-clause-count_ok : goal.returns-in-Err-clause-count_ok
 returns-in-Err-clause-count_ok g c = tt
+
+pub returns-then-is_empty-clause-goes_on : goal.returns-then-is_empty-clause-goes_on
+returns-then-is_empty-clause-goes_on g c = tt
+
+pub returns-then-is_empty-clause-told : goal.returns-then-is_empty-clause-told
+returns-then-is_empty-clause-told g c = tt
 
 pub returns-then-is_empty-clause-more : goal.returns-then-is_empty-clause-more
 returns-then-is_empty-clause-more g c = tt
@@ -84,11 +108,23 @@ returns-then-is_empty-clause-more g c = tt
 pub returns-then-is_empty-clause-fault : goal.returns-then-is_empty-clause-fault
 returns-then-is_empty-clause-fault g c = tt
 
+pub returns-else-is_empty-clause-goes_on : goal.returns-else-is_empty-clause-goes_on
+returns-else-is_empty-clause-goes_on g c = tt
+
+pub returns-else-is_empty-clause-told : goal.returns-else-is_empty-clause-told
+returns-else-is_empty-clause-told g c = tt
+
 pub returns-else-is_empty-clause-more : goal.returns-else-is_empty-clause-more
 returns-else-is_empty-clause-more g c = tt
 
 pub returns-else-is_empty-clause-fault : goal.returns-else-is_empty-clause-fault
 returns-else-is_empty-clause-fault g c = tt
+
+pub returns-in-Ok-clause-goes_on : goal.returns-in-Ok-clause-goes_on
+returns-in-Ok-clause-goes_on g c = c.in-Ok.ensures.told ∙ none_alone c.in-Ok.field-0 c.in-Ok.field-0-test.1
+
+pub returns-in-Ok-clause-told : goal.returns-in-Ok-clause-told
+returns-in-Ok-clause-told g c = tt
 
 pub returns-in-Ok-clause-finds : goal.returns-in-Ok-clause-finds
 returns-in-Ok-clause-finds g c = tt
@@ -107,6 +143,9 @@ front_of-requires g c = c.requires.fields
 
 pub refill-requires-clause-failures : goal.refill-requires-clause-failures
 refill-requires-clause-failures g c = c.requires.failures
+
+pub refill-requires-clause-open : goal.refill-requires-clause-open
+refill-requires-clause-open g c = c.requires.open
 
 pub refill-requires-clause-capacity : goal.refill-requires-clause-capacity
 refill-requires-clause-capacity g c = c.requires.capacity

@@ -39,8 +39,11 @@ slice_bounds-chunk-end-in-Ok g c = within_front c.in-Ok.n c.read.new.buf _ c.in-
 pub slice_bounds-extend_from_slice-end : goal.slice_bounds-extend_from_slice-end
 slice_bounds-extend_from_slice-end g c = sym (length-take-le c.in-Ok.n _ (within_front c.in-Ok.n c.read.new.buf _ c.in-Ok.ensures.bound))
 
-pub read-requires : goal.read-requires
-read-requires g c = c.requires.failures
+pub read-requires-clause-failures : goal.read-requires-clause-failures
+read-requires-clause-failures g c = c.requires.failures
+
+pub read-requires-clause-open : goal.read-requires-clause-open
+read-requires-clause-open g c = c.requires.open
 
 pub returns-in-Ok-clause-grows : goal.returns-in-Ok-clause-grows
 returns-in-Ok-clause-grows g c = record { chunk = take c.in-Ok.n c.read.new.buf; read = c.in-Ok.ensures.bytes.0; grown = put g c }
@@ -49,6 +52,9 @@ pub returns-in-Ok-clause-end : goal.returns-in-Ok-clause-end
 returns-in-Ok-clause-end g c =
     end_or_more c.args.buffer.now.items c.extend_from_slice.new.self.items c.read.new.buf (g.R.Source.left c.read.new.self) c.in-Ok.n (put g c) c.in-Ok.ensures.bound
     (omega (arith, asked_some (vec_len c.args.buffer.now) c.min-room.result (rw (sym c.len.ensures) c.min-room.ensures) c.requires.room, asked g c)) c.in-Ok.ensures.bytes.1
+
+pub returns-in-Ok-clause-told : goal.returns-in-Ok-clause-told
+returns-in-Ok-clause-told g c = c.in-Ok.ensures.end
 
 pub returns-in-Ok-clause-same : goal.returns-in-Ok-clause-same
 returns-in-Ok-clause-same g c = tt
@@ -78,6 +84,9 @@ returns-in-Err-clause-grows g c = tt
 
 pub returns-in-Err-clause-end : goal.returns-in-Err-clause-end
 returns-in-Err-clause-end g c = tt
+
+pub returns-in-Err-clause-told : goal.returns-in-Err-clause-told
+returns-in-Err-clause-told g c = tt
 
 pub returns-in-Err-clause-same : goal.returns-in-Err-clause-same
 returns-in-Err-clause-same g c = refl

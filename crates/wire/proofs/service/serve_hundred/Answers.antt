@@ -1,4 +1,4 @@
-use Rattle.std.proofs.Common.{◌≡◌, ◌<◌, ◌≤◌, ℕ, ◌+◌, ◌-◌, ◌^◌, List, [], Option, Some, None, IfSome, IfNone, Err, refl, sym, subst, arith, vec_len, ap, length}
+use Rattle.std.proofs.Common.{◌≡◌, ◌<◌, ◌≤◌, ℕ, ◌+◌, ◌-◌, ◌^◌, List, [], Option, Some, None, IfSome, Err, refl, sym, subst, arith, vec_len, ap, length}
 use Rattle.wire.specs.declared.TheConstants.{MOST_MESSAGE_BYTES, MOST_MESSAGES}
 use Rattle.wire.specs.declared.outcome.End.{End}
 use Rattle.wire.specs.declared.outcome.End.TheVariants.{Hundred}
@@ -8,6 +8,7 @@ use Rattle.wire.specs.declared.outcome.Served.{Served}
 use Rattle.wire.specs.Run.{Said, read_failed, write_failed}
 use Rattle.wire.specs.Served.{SoFar, ServedTo}
 use Rattle.wire.proofs.Runs.{nothing_yet, hundred_here}
+use Rattle.wire.proofs.Reading.{at_none}
 use Rattle.wire.proofs.Turns.{last_no_memory, last_read, last_written, finished, unfinished}
 use Rattle.wire.proofs.service.serve_hundred.Goals as goal
 
@@ -26,6 +27,7 @@ loop-answered-init g c = record {
   size = short c.args.buffer.now.items (vec_len c.args.buffer.now) (omega (arith, c.args.buffer.now.ok.0)) c.requires.empty;
   capacity = c.requires.capacity;
   reads = refl;
+  goes_on = c.requires.open;
   writes = refl;
 }
 
@@ -88,10 +90,6 @@ returns-clause-served g c =
 pub finish-requires-clause-few : goal.finish-requires-clause-few
 finish-requires-clause-few g c = c.loop-answered-test.true
 
--- what is said where no end was found
-at_none : (P : Type 0) (found : Option End) → found ≡ None → IfNone found P → P
-at_none P found e h = subst (λ (o : Option End). IfNone o P) e h
-
 -- a count that grew by nothing stays
 stays : (new old start : ℕ) → new ≡ old + 0 → old ≡ start → new ≡ start
 stays new old start e h = omega arith
@@ -102,6 +100,7 @@ loop-answered-preserved g c = record {
       c.loop-answered.answered c.loop-answered.invariant.so_far;
   size = c.in-Ok.ensures.size;
   capacity = c.in-Ok.ensures.capacity;
+  goes_on = at_none _ c.in-Ok.found c.in_default.is c.in-Ok.ensures.open;
   reads = stays _ _ _ c.in-Ok.ensures.read_count c.loop-answered.invariant.reads;
   writes = stays _ _ _ c.in-Ok.ensures.write_count c.loop-answered.invariant.writes;
 }

@@ -1,4 +1,4 @@
-use Rattle.std.proofs.Common.{◌≡◌, ◌≤◌, vec_len, vec_capacity}
+use Rattle.std.proofs.Common.{◌≡◌, ◌≤◌, false, vec_len, vec_capacity}
 use Rattle.wire.specs.declared.TheConstants.{MOST_MESSAGE_BYTES}
 use Rattle.wire.specs.Served.{SoFar}
 use Rattle.wire.proofs.service.serve_hundred.Given as goal
@@ -10,5 +10,6 @@ invariant-loop-answered g l = record {
   size : vec_len l.buffer ≤ MOST_MESSAGE_BYTES;
   capacity : MOST_MESSAGE_BYTES ≤ vec_capacity l.buffer;
   reads : g.R.Source.failures l.reader ≡ g.R.Source.failures l.initial.reader;
+  goes_on : g.R.Source.ended l.reader ≡ false;
   writes : g.W.Sink.failures l.writer ≡ g.W.Sink.failures l.initial.writer;
 }
