@@ -9,7 +9,7 @@ mod puts;
 mod reads;
 mod rounds;
 
-ghost use Rattle.std.specs.Prelude.{◌≡◌, ◌∷◌, not, IfOk, OnErr, Err, None, []};
+ghost use Rattle.std.specs.Prelude.{ℕ, ◌≡◌, ◌∷◌, not, IfOk, IsOk, OnErr, Err, None, []};
 ghost use Rattle.rolls.specs.State.{State, empty};
 ghost use Rattle.rolls.specs.Fit.{IsFit};
 ghost use Rattle.rolls.specs.Refusing.{first, plain_refusal, refusal_of, round_tests};
@@ -160,6 +160,9 @@ impl Office {
         ensures done { IfOk result (IsDone request self.old self.new) }
         ensures changes { IfOk result (λ done. let changes = done.changes in changes.items ≡ changes_of request self.old) }
         ensures memory { OnErr result (self.new ≡ self.old) }
+
+        // The answer of a round takes no memory.
+        ensures round { (number : ℕ) → request ≡ Plain.GetRound number → IsOk result }
     {
         match request {
             Plain::PutSupervisor { code, label, quota } => self.put_supervisor(code, label, quota),
