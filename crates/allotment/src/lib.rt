@@ -21,8 +21,7 @@ ghost use Rattle.imports.specs.Requests.{IsWithin};
 ghost use Rattle.allotment.specs.Layers.{layers, refused_as};
 
 use closing::places_law;
-use imports::{ImportFault, read_import};
-use intake::write_round;
+use intake::{ImportFault, read_import, write_round};
 use office::Office;
 use rolls::{Bytes, Done, ImportKind, Refusal, Reply, ReportKind, Text};
 pub use sitting::{join, read_preview, sit};

@@ -1,4 +1,5 @@
 pub mod Refused
+mod Named
 pub mod Settling
 mod Running
 mod Reopening

@@ -42,7 +42,7 @@ unfolding Saves
 stands_after changes office next old new turns saves stands = hold_same new (after_changes changes (row_of office)) (row_of next) turns (saves (row_of office) stands)
 
 -- a disk that is clean was clean before
-was_clean : (old new : Seen) (P : Trees → Type 0) → Survives old new P → HasCleanDisk new → HasCleanDisk old
+pub was_clean : (old new : Seen) (P : Trees → Type 0) → Survives old new P → HasCleanDisk new → HasCleanDisk old
 was_clean old new P survives clean = let c = survives.clean in omega (arith, c, clean)
 
 -- after the changes are saved the tables stand for the next office

@@ -1,5 +1,5 @@
 -- What is opened after a crash.
-use Rattle.std.specs.Prelude.{◌≡◌, ◌⊎◌, IsTrue, List, Result}
+use Rattle.std.specs.Prelude.{◌≡◌, ◌⊎◌, IsTrue, List, [], ◌∷◌, Result}
 use Rattle.sqlite.specs.Effect.{Database, IsDatabase}
 use Rattle.sqlite.specs.State.{HasCleanDisk, Survives}
 use Rattle.sqlite.specs.Held.{state}
@@ -13,6 +13,15 @@ use Rattle.tables.specs.Steps.{IsLeft}
 use Rattle.store.specs.Tables.{LeavesAlone, Opens, StandsFor}
 use Rattle.desk.specs.Kept.{Kept}
 use Rattle.desk.specs.Keeping.{Begins, CarriesOut, StandsForOne}
+
+-- one of these requests, carried out, makes of the office this one
+abbrev pub OneMakes : State → List Request → State → Type 0
+OneMakes office [] left = ⊥
+OneMakes office (request ∷ requests) left = CarriesOut office request left ⊎ OneMakes office requests left
+
+-- the office itself, or one that one of these requests, carried out, makes of it
+abbrev pub IsOneOf : State → List Request → State → Type 0
+IsOneOf office requests left = (left ≡ office) ⊎ OneMakes office requests left
 
 module _ {S : Type 0} (ghosts : Ghosts S) where
   -- The connection is open on a clean disk, its tables stand for the office, and a crash leaves what is seen and nothing else. So it is
@@ -38,13 +47,19 @@ module _ {S : Type 0} (ghosts : Ghosts S) where
   abbrev pub RestIsKept : Type 0
   RestIsKept = (desk : Kept S) (office : State) → IsAtRest desk → IsOpenedAfter desk office → office ≡ desk.office
 
-  -- after one request the office before is opened, or one that the request, carried out, makes of it
-  abbrev pub AskIsWhole : Type 0
-  AskIsWhole = (old new : Kept S) (request : Request) (office : State) → IsAtRest old → Survives (state ghosts old.store) (state ghosts new.store) (IsLeft (λ _. StandsForOne (CarriesOut old.office request)) (state ghosts old.store))
-      → IsOpenedAfter new office → (office ≡ old.office) ⊎ CarriesOut old.office request office
+  -- after a crash that finds the desk so its office is opened, or one that one of these requests makes of it
+  abbrev pub LeavesOneOf : List Request → Kept S → Type 0
+  LeavesOneOf requests desk = (office : State) → IsOpenedAfter desk office → IsOneOf desk.office requests office
 
-  -- after a run the office before is opened, or one that some beginning of the run makes of it
+  -- After one request the office before is opened, or one that the request, carried out, makes of it. Where a crash before it could leave
+  -- more, since other requests were refused before, it still can.
+  abbrev pub AskIsWhole : Type 0
+  AskIsWhole = (old new : Kept S) (refused : List Request) (request : Request) → LeavesOneOf refused old
+      → Survives (state ghosts old.store) (state ghosts new.store) (IsLeft (λ _. StandsForOne (CarriesOut old.office request)) (state ghosts old.store))
+      → (office : State) → IsOpenedAfter new office → IsOneOf old.office (request ∷ refused) office
+
+  -- after a run the office before is opened, or what a crash before it could leave, or one that some beginning of the run makes of it
   abbrev pub RunIsWhole : Type 0
-  RunIsWhole = (old new : Kept S) (requests : List Request) (answers : List (Result Reply Refusal)) (office : State) → IsAtRest old
+  RunIsWhole = (old new : Kept S) (refused requests : List Request) (answers : List (Result Reply Refusal)) → LeavesOneOf refused old
       → Survives (state ghosts old.store) (state ghosts new.store) (IsLeft (λ _. StandsForOne (Begins old.office requests answers)) (state ghosts old.store))
-      → IsOpenedAfter new office → (office ≡ old.office) ⊎ Begins old.office requests answers office
+      → (office : State) → IsOpenedAfter new office → IsOneOf old.office refused office ⊎ Begins old.office requests answers office

@@ -1,4 +1,5 @@
 pub mod Kept
 pub mod Keeping
+pub mod Causes
 pub mod Sessions
 pub mod Laws

@@ -1,6 +1,6 @@
 //! The desk.
 
-ghost use Rattle.std.specs.Prelude.{◌≡◌, ◌≢◌, ◌⊎◌, Err, IfOk, IfErr, IsOk, IsErr, IfSome, IsTrue, is_some, OnOk, OnErr, None, option_map, false, true};
+ghost use Rattle.std.specs.Prelude.{ℕ, ◌≡◌, ◌≢◌, ◌⊎◌, Err, IfOk, IfErr, IsOk, IsErr, IfSome, IsTrue, is_some, OnOk, OnErr, None, option_map, false, true};
 ghost use Rattle.sqlite.specs.State.{HasCleanDisk, IsLive, Survives};
 ghost use Rattle.sqlite.specs.Held.{state};
 ghost use Rattle.tables.specs.Steps.{IsKept, IsLeft};
@@ -15,6 +15,7 @@ ghost use Rattle.store.specs.Tables.{Opens, Founds, HasNone, LeavesAlone};
 ghost use Rattle.store.specs.Reading.{AreListed, IsDamaged};
 ghost use Rattle.tables.specs.Causes.{IsCaused, IsStopped};
 ghost use Rattle.store.specs.Causes.{IsHinderedOpening, IsHinderedToSave};
+ghost use Rattle.desk.specs.Causes.{IsHinderedToAsk};
 ghost use Rattle.desk.specs.Keeping.{AnswersKept, Begins, CarriesOut, Keeps, StandsForOne, needs_no_table};
 ghost use Rattle.desk.specs.Sessions.{GoesOn, RunsOn, SitsAt};
 
@@ -70,6 +71,7 @@ fn made(alloc: Global, office: &mut Office, request: Request) -> Result<Done, Re
     ensures made { IfOk result (λ done. (refusal layers office.old request ≡ None) × Makes layers office.old request done.reply office.new) }
     ensures turns { IfOk result (λ done. let changes = done.changes in Turns changes.items office.old office.new) }
     ensures refused { IfErr result (MayRefuse (refusal layers office.old request)) }
+    ensures unstored { result ≢ Err Refusal.Storage }
 {
     match request {
         Request::Plain(plain) => Ok(office.make(plain)?),
@@ -180,7 +182,8 @@ impl<S: Alter> Desk<S> {
         Ok(answers)
     }
 
-    /// One step of the office.
+    /// One step of the office. An `Err` is the first refusal that applies, and leaves the office and its tables as they were. `Memory`
+    /// may take the place of any answer that takes memory, and `Storage`, a database error, that of a change alone.
     pub fn ask(&mut self, request: Request) -> Result<Reply, Refusal>
         ensures step { Step layers self.old.office request result self.new.office }
         ensures tables { Keeps (state S.Store self.new.store) self.new.office }
@@ -203,12 +206,17 @@ impl<S: Alter> Desk<S> {
         // Where a foreign key would write other rows too, no change is made.
         ensures acted_on { changes_nothing self.old.office request ≡ false → AreActedOn (state S.Store self.old.store).now.schema → IsErr result }
 
+        // Why the storage has failed: a foreign key apart, a shut connection, a fault of the disk, or a refused statement of the changes
+        // that the request makes.
+        ensures cause { (AreActedOn (state S.Store self.old.store).now.schema → ⊥) → IsCaused Refusal.Storage (IsHinderedToAsk self.old.office request) result (state S.Store self.old.store) (state S.Store self.new.store) }
+
         // A refusal leaves the session, and so do reads, puts of students and repeated imports. An answered preview leaves one, a
         // first list joins the one that is kept or drops it, and every other change leaves none.
         ensures session { GoesOn self.old.office request result self.old.session self.new.session }
 
-        // A preview that is read from a session answers: it takes no memory.
+        // A preview that is read from a session answers, and so does a read of a round: they take no memory.
         ensures kept { request ≡ Request.Preview → refusal_of self.old.office request ≡ None → IsTrue (is_some self.old.session) → IsOk result }
+        ensures round { (number : ℕ) → request ≡ Request.Plain (Plain.GetRound number) → refusal_of self.old.office request ≡ None → IsOk result }
     {
         if let Some(refusal) = self.office.refusal_of(&request) {
             return Err(refusal);
@@ -238,6 +246,7 @@ impl<S: Alter> Desk<S> {
     fn read(&mut self, plain: Plain) -> Result<Reply, Refusal>
         requires read { is_read plain ≡ true }
         requires allowed { plain_refusal self.old.office plain ≡ None }
+        ensures round { (number : ℕ) → plain ≡ Plain.GetRound number → IsOk result }
         ensures step { Step layers self.old.office (Request.Plain plain) result self.new.office }
         ensures store { self.new.store ≡ self.old.store }
         ensures tables { Keeps (state S.Store self.new.store) self.new.office }
@@ -288,9 +297,12 @@ impl<S: Alter> Desk<S> {
         ensures stays_open { HasCleanDisk (state S.Store self.new.store) → OnOk result (IsTrue (state S.Store self.new.store).is_open) }
         ensures stays_shut { HasCleanDisk (state S.Store self.new.store) → IsTrue (state S.Store self.new.store).is_open → IsTrue (state S.Store self.old.store).is_open }
         ensures acted_on { AreActedOn (state S.Store self.old.store).now.schema → IsErr result }
+        ensures cause { (AreActedOn (state S.Store self.old.store).now.schema → ⊥) → IsCaused Refusal.Storage (IsHinderedToAsk self.old.office request) result (state S.Store self.old.store) (state S.Store self.new.store) }
         ensures session { GoesOn self.old.office request result self.old.session self.new.session }
     {
         self.keeps();
+        // The session sits in the office before the change: it is out of the desk while the offices are exchanged, and comes back
+        // where nothing was changed.
         let fate = fate_of(self.alloc, &self.office, &request)?;
         let kept = self.session.take();
         match self.save(request) {
@@ -319,6 +331,7 @@ impl<S: Alter> Desk<S> {
         ensures stays_open { HasCleanDisk (state S.Store self.new.store) → OnOk result (IsTrue (state S.Store self.new.store).is_open) }
         ensures stays_shut { HasCleanDisk (state S.Store self.new.store) → IsTrue (state S.Store self.new.store).is_open → IsTrue (state S.Store self.old.store).is_open }
         ensures acted_on { AreActedOn (state S.Store self.old.store).now.schema → IsErr result }
+        ensures cause { (AreActedOn (state S.Store self.old.store).now.schema → ⊥) → IsCaused Refusal.Storage (IsHinderedToAsk self.old.office request) result (state S.Store self.old.store) (state S.Store self.new.store) }
         ensures no_session { self.new.session ≡ None }
     {
         self.keeps();

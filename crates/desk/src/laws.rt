@@ -6,8 +6,10 @@ use sqlite::Alter;
 
 /// What a crash leaves is opened as a whole office. Where a desk was just opened, or has just answered a change, a crash before
 /// the next request leaves its office. A crash after such a desk was asked one request, or a list of them, leaves the office
-/// before, or one that the request makes of it, or some first requests of the list and one more: never a part of a change. Which
-/// first requests is not said here; that a change which was answered stays is said of each request (`Desk::ask`, alone).
+/// before, or one that the request makes of it, or some first requests of the list and one more: never a part of a change. After
+/// a change that was refused, since the database failed, it may leave the office with that change; so the law goes on over any
+/// number of refused requests. Which first requests is not said here; that a change which was answered stays is said of each
+/// request (`Desk::ask`, alone).
 pub fn crash_law<S: Alter>()
     ensures rest { RestIsKept S.Store }
     ensures ask { AskIsWhole S.Store }

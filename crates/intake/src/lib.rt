@@ -1,4 +1,4 @@
-//! Texts that come from outside and go there: round texts.
+//! Texts that come from outside and go there: round texts, and by `imports` import texts.
 //!
 //! A round text is an instance by codes, and with it a matching and prices, in lines that people and other programs can
 //! read. Nothing here judges whether the matching is one of the instance or whether the prices prove it best: `verdict`
@@ -21,6 +21,7 @@ mod round;
 mod section;
 mod write;
 
+pub use imports::{ImportFault, read_import};
 pub use laws::round_law;
 pub use read::read_round;
 pub use round::{RoundFault, RoundParts};

@@ -3,8 +3,12 @@ use Rattle.rolls.specs.declared.request.Request.{Request}
 use Rattle.rolls.specs.Run.{MayRefuse, refusal}
 use Rattle.allotment.specs.Layers.{layers}
 use Rattle.desk.proofs.Refused.{may_refuse}
+use Rattle.desk.proofs.Named.{import_named, unstored}
 use Rattle.desk.proofs.desk.made.Goals as goal
 
 pub returns-in-Import-clause-refused : goal.returns-in-Import-clause-refused
 returns-in-Import-clause-refused c =
     subst (λ (q : Request). IfErr c.import.result (MayRefuse (refusal layers c.args.office.now q))) (sym c.in-Import.is) (may_refuse _ c.import.result c.import.ensures.refused)
+
+pub returns-in-Import-clause-unstored : goal.returns-in-Import-clause-unstored
+returns-in-Import-clause-unstored c = unstored _ c.import.result (import_named c.args.office.now c.in-Import.id c.in-Import.kind c.in-Import.bytes) c.import.ensures.refused

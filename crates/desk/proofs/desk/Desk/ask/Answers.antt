@@ -16,7 +16,9 @@ use Rattle.allotment.specs.Layers.{layers}
 use Rattle.solver.specs.Sitting.{Sitting}
 use Rattle.desk.specs.Sessions.{GoesOn}
 use Rattle.rolls.specs.Refusing.{refusal_of}
+use Rattle.rolls.specs.declared.refusal.Refusal.TheVariants.{Storage}
 use Rattle.desk.proofs.Following.{read_goes}
+use Rattle.desk.proofs.Named.{unread_named}
 use Rattle.desk.proofs.Running.{crash_none}
 use Rattle.desk.proofs.desk.Desk.ask.Goals as goal
 
@@ -58,6 +60,11 @@ pub returns-in-Some-clause-named : goal.returns-in-Some-clause-named
 returns-in-Some-clause-named g c =
     due (refusal_of c.args.self.now.office c.args.request) c.in-Some.refusal
     (sym (c.refusal_of.ensures.refusal ∙ ap (λ k. refusal_of k.office c.args.request) c.self.view_is) ∙ c.in-Some.is)
+
+pub returns-in-Some-clause-cause : goal.returns-in-Some-clause-cause
+returns-in-Some-clause-cause g c = λ quiet clean told.
+    let same : c.in-Some.refusal ≡ Storage = cc in
+    absurd (unread_named c.args.self.now.office c.args.request (sym (c.refusal_of.ensures.refusal ∙ ap (λ k. refusal_of k.office c.args.request) c.self.view_is) ∙ c.in-Some.is ∙ ap Some same))
 
 pub read-requires : goal.read-requires
 read-requires g c = record { read = sym c.if-is_read.ensures.read; allowed = search rules }

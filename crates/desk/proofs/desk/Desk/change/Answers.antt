@@ -14,6 +14,9 @@ use Rattle.allotment.specs.Layers.{layers}
 use Rattle.desk.specs.declared.sessions.Fate.{Fate}
 use Rattle.desk.specs.Keeping.{CarriesOut, StandsForOne}
 use Rattle.desk.specs.Sessions.{fate_of, Goes, MayMeet}
+use Rattle.rolls.specs.declared.refusal.Refusal.TheVariants.{Storage}
+use Rattle.tables.specs.Causes.{IsCaused}
+use Rattle.desk.specs.Causes.{IsHinderedToAsk}
 use Rattle.desk.proofs.Following.{meets}
 use Rattle.desk.proofs.desk.Desk.change.Goals as goal
 
@@ -131,3 +134,13 @@ returns-in-Err-clause-stays_shut g c =
 
 pub returns-in-Ok-clause-acted_on : goal.returns-in-Ok-clause-acted_on
 returns-in-Ok-clause-acted_on g c = λ acted. c.in-Ok.ensures.acted_on (subst (λ (z : Seen). AreActedOn z.now.schema) (sym (ap (λ k. state g.S.Store k.store) c.self.view_is)) acted)
+
+-- why the storage has failed, of the same office and tables
+caused_so : (q : Request) (a : Result Reply Refusal) (p o : State) (before seen new after : Seen) → p ≡ o → before ≡ seen → new ≡ after
+    → ((AreActedOn before.now.schema → ⊥) → IsCaused Storage (IsHinderedToAsk p q) a before new) → (AreActedOn seen.now.schema → ⊥) → IsCaused Storage (IsHinderedToAsk o q) a seen after
+caused_so q a p o before seen new after d e f h = rw (← d, ← e, ← f) h
+
+pub returns-in-Err-clause-cause : goal.returns-in-Err-clause-cause
+returns-in-Err-clause-cause g c =
+    caused_so c.args.request (Err c.in-Err.refusal) c.self.inside.office c.args.self.now.office (state g.S.Store c.self.inside.store) (state g.S.Store c.args.self.now.store) (state g.S.Store c.save.new.self.store) (state g.S.Store c.keep_session-in-Err.new.self.store)
+    (ap (λ k. k.office) c.self.view_is) (ap (λ k. state g.S.Store k.store) c.self.view_is) (sym (ap (λ k. state g.S.Store k.store) c.keep_session-in-Err.ensures.kept)) c.in-Err.ensures.cause

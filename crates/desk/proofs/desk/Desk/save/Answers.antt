@@ -1,9 +1,17 @@
-use Rattle.std.proofs.Common.{◌≡◌, None, ap, subst, ◌∙◌}
+use Rattle.std.proofs.Common.{◌≡◌, inl, inr, Result, None, ap, subst, ◌∙◌}
 use Rattle.rolls.specs.State.{State}
 use Rattle.rolls.specs.Rows.{Turns}
 use Rattle.rolls.specs.Run.{Makes, refusal}
 use Rattle.allotment.specs.Layers.{layers}
 use Rattle.sqlite.specs.Held.{state}
+use Rattle.sqlite.specs.State.{State as Seen}
+use Rattle.tables.specs.Causes.{IsCaused, IsStopped}
+use Rattle.store.specs.Causes.{IsHinderedToSave}
+use Rattle.rolls.specs.declared.request.Request.{Request}
+use Rattle.rolls.specs.declared.request.Done.{Done}
+use Rattle.rolls.specs.declared.refusal.Refusal.TheVariants.{Storage}
+use Rattle.desk.specs.Keeping.{CarriesOut}
+use Rattle.desk.specs.Causes.{IsHinderedToAsk}
 use Rattle.desk.proofs.Settling.{call_carried}
 use Rattle.desk.proofs.desk.Desk.save.Goals as goal
 
@@ -17,3 +25,29 @@ returns-clause-crash g c =
     let none = subst (λ (o : State). refusal layers o q ≡ None) same c.in-Ok.ensures.made.0 in
     let turns = subst (λ (o : State). Turns done.changes.items o c.made.new.office) same c.in-Ok.ensures.turns in
     call_carried q old c.made.new.office done (state g.S.Store c.args.self.now.store) (state g.S.Store c.settle.new.self.store) none made c.fit.ensures.fit turns c.keeps.ensures.tables c.settle.ensures.crash
+
+-- changes of a request that can't be saved hinder it
+hindered_by : {A E : Type 0} (storage : E) (result : Result A E) (office next : State) (q : Request) (done : Done) (old new : Seen) → CarriesOut office q next → Turns done.changes.items office next
+    → IsCaused storage (IsHinderedToSave done.changes.items) result old new → IsCaused storage (IsHinderedToAsk office q) result old new
+hindered_by storage result office next q done old new carried turns caused clean told =
+    let stopped = caused clean told in
+    record {
+      why = elim stopped.why [
+        | inl shut ↦ inl shut
+        | inr more ↦ inr (elim more [
+          | inl faults ↦ inl faults
+          | inr hindered ↦ inr (record { next = next; carried = carried; changes = done.changes.items; turns = turns; hindered = hindered })
+        ])
+      ];
+    }
+
+pub returns-clause-cause : goal.returns-clause-cause
+returns-clause-cause g c =
+    let q = c.args.request in
+    let old : State = c.args.self.now.office in
+    let done = c.in-Ok.done in
+    let same = c.in_ok-next.ensures.same ∙ ap (λ k. k.office) c.self.view_is in
+    let made = subst (λ (o : State). Makes layers o q done.reply c.made.new.office) same c.in-Ok.ensures.made.1 in
+    let none = subst (λ (o : State). refusal layers o q ≡ None) same c.in-Ok.ensures.made.0 in
+    let turns = subst (λ (o : State). Turns done.changes.items o c.made.new.office) same c.in-Ok.ensures.turns in
+    λ quiet. hindered_by Storage c.settle.result old c.made.new.office q done (state g.S.Store c.args.self.now.store) (state g.S.Store c.settle.new.self.store) (done.reply, (none, made)) turns (c.settle.ensures.cause quiet)

@@ -1,0 +1,17 @@
+-- Why a request that changes the office fails, for another cause than want of memory.
+use Rattle.std.specs.Prelude.{ℕ, List, Option}
+use Rattle.sqlite.specs.Effect.{Database}
+use Rattle.rolls.specs.declared.row.Change.{Change}
+use Rattle.rolls.specs.declared.request.Request.{Request}
+use Rattle.rolls.specs.State.{State}
+use Rattle.rolls.specs.Rows.{Turns}
+use Rattle.store.specs.Causes.{IsHinderedToSave}
+use Rattle.desk.specs.Keeping.{CarriesOut}
+
+-- changes that turn the office into one that the request makes of it can't be saved
+pub record IsHinderedToAsk (office : State) (request : Request) (limit : Option ℕ) (db : Database) : Type 0 where
+  pub next : State
+  pub carried : CarriesOut office request next
+  pub changes : List Change
+  pub turns : Turns changes office next
+  pub hindered : IsHinderedToSave changes limit db
