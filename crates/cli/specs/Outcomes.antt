@@ -1,5 +1,5 @@
 -- What a line of the program comes to: what it prints where, and its status.
-use Rattle.std.specs.Prelude.{◌≡◌, ◌⊎◌, ℕ, ◌+◌, ◌<◌, List, [], ◌∷◌, ◌++◌, length, flat_map, codes, decimal, string_bytes, Option, Result, Ok, Err, String}
+use Rattle.std.specs.Prelude.{◌≡◌, ◌⊎◌, ℕ, ◌+◌, ◌<◌, List, [], ◌∷◌, ◌++◌, length, take, flat_map, codes, decimal, string_bytes, Option, Result, Ok, Err, String}
 use Rattle.std.specs.declared.alloc.Global.{Global}
 use Rattle.std.specs.Io.KnownBytes.{Appends}
 use Rattle.rolls.specs.declared.import.ImportKind.{ImportKind}
@@ -16,7 +16,8 @@ use Rattle.rolls.specs.Fit.{IsFit}
 use Rattle.rolls.specs.Run.{Step}
 use Rattle.rolls.specs.Told.{number_of, name_of}
 use Rattle.allotment.specs.Layers.{layers}
-use Rattle.web.specs.Connections.{Connect, lines_after}
+use Rattle.desk.specs.Sessions.{IsToldRight}
+use Rattle.web.specs.Connections.{Connect, SomeServed, lines_after}
 use Rattle.lines.specs.Rounds.{IsSolved, IsChecked}
 use Rattle.lines.specs.declared.rounds.Trouble.{Trouble}
 use Rattle.lines.specs.declared.rounds.Trouble.TheVariants.{Refused, BadLine, Failed}
@@ -104,13 +105,15 @@ OnFile Is o = IsUnread o ⊎ ((bytes : List ℕ) × (came : Result (String Globa
 abbrev pub IsUnopened : Outcome → Type 0
 IsUnopened o = (o ≡ refused no.Memory) ⊎ ((o ≡ refused no.Storage) ⊎ (o ≡ refused no.Damaged))
 
--- a request was asked of an office, which is fit, and this is what comes of the answer
+-- A request was asked of an office, which is fit, and this is what comes of the answer. A refusal by name is told as itself, and a fault of
+-- the storage only of what changes the office.
 pub record IsAsked (asked : Request) (o : Outcome) : Type 0 where
   pub office : State
   pub fit : IsFit office
   pub answer : Result Reply Refusal
   pub next : State
   pub step : Step layers office asked answer next
+  pub told : IsToldRight office asked answer
   pub is : o ≡ of_answer answer
 
 -- a line that asks this of the office of a database
@@ -138,6 +141,12 @@ abbrev pub Serves : State → ℕ → ℕ → Option (List ℕ) → Option (List
 Serves office port count w0 w failures0 failures status =
     ((text : List ℕ) × IsServed office port count text × (failures ≡ failures0) × Appends w0 w text × (status ≡ 0))
     ⊎ ((failures ≡ failures0 + 1) × (status ≡ 1))
+
+-- The writer failed while it wrote the line of the port, and no connection was served, or after it, while it wrote the line of a connection.
+abbrev pub IsCutOff : State → ℕ → ℕ → Option (List ℕ) → Option (List ℕ) → State → Type 0
+IsCutOff office port count w0 w after =
+    ((n : ℕ) × (n < length (listening port)) × Appends w0 w (take n (listening port)) × (after ≡ office))
+    ⊎ ((between : Option (List ℕ)) × Appends w0 between (listening port) × SomeServed office count between w after)
 
 -- a line that serves so many connections: the database could not be opened, or the port not bound, or they were served at a fit office
 abbrev pub ServesAt : ℕ → ℕ → Outcome → Type 0

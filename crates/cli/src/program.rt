@@ -18,6 +18,7 @@ use web::{Sink, Source, Watched, serve_stream};
 /// It is not where memory runs out for the database, and where reader or writer fails.
 pub fn serve_anew<R: Source, W: Sink>(alloc: Global, reader: &mut R, writer: &mut W) -> bool
     requires read_failures { R.failures reader.old < 2 ^ 64 - 1 }
+    requires open { R.ended reader.old ≡ false }
     requires write_failures { W.failures writer.old < 2 ^ 64 - 1 }
     ensures served { IsTrue result → ServedAnew (R.left reader.old) (W.written writer.old) (R.left reader.new) (W.written writer.new) }
     ensures broken { result ≡ false → BrokenAnew (R.left reader.old) (W.written writer.old) (R.left reader.new) (W.written writer.new) }
@@ -45,6 +46,7 @@ pub fn begin<R: Source, O: Sink, E: Sink>(
     err: &mut E,
 ) -> u8
     requires reader { R.failures reader.old < 2 ^ 64 - 1 }
+    requires open { R.ended reader.old ≡ false }
     requires out { O.failures out.old < 2 ^ 64 - 1 }
     requires err { E.failures err.old < 2 ^ 64 - 1 }
     ensures line { 1 < length words.now → Tells (ComesTo (map string_bytes words.now)) (O.written out.old) (O.written out.new) (E.written err.old) (E.written err.new) (O.failures out.old + E.failures err.old) (O.failures out.new + E.failures err.new) result }

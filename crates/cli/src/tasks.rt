@@ -8,7 +8,7 @@ ghost use Rattle.sqlite.specs.Files.{file_state};
 ghost use Rattle.rolls.specs.Run.{Step};
 ghost use Rattle.allotment.specs.Layers.{layers};
 ghost use Rattle.web.specs.Connections.{Connect};
-ghost use Rattle.cli.specs.Outcomes.{Tells, Asks, Serves, ServesAt, MayDo};
+ghost use Rattle.cli.specs.Outcomes.{Tells, Asks, IsCutOff, Serves, ServesAt, MayDo};
 ghost use Rattle.cli.specs.Databases.{TakesTo, LeftBy, IsClosing};
 
 use crate::opening::{Closing, close_file, open_file};
@@ -67,14 +67,17 @@ fn serve_at<S: Alter, O: Sink>(
 ) -> u8
     requires { O.failures out.old < 2 ^ 64 - 1 }
     ensures told { Serves desk.old.office port count (O.written out.old) (O.written out.new) (O.failures out.old) (O.failures out.new) result }
+
+    // Nothing is served before the line of the port is out.
+    ensures cut { result ≡ 1 → IsCutOff desk.old.office port count (O.written out.old) (O.written out.new) desk.new.office }
     ensures served { (came : _) × Connect desk.old.office came desk.new.office }
 {
-    match write_all(out, labelled(b"listening ", u32::from(port)).as_slice()) {
+    let Ok(()) = write_all(out, labelled(b"listening ", u32::from(port)).as_slice()) else {
+        return 1;
+    };
+    match serve_on(alloc, desk, listener, count, out) {
+        Ok(()) => 0,
         Err(_) => 1,
-        Ok(()) => match serve_on(alloc, desk, listener, count, out) {
-            Ok(()) => 0,
-            Err(_) => 1,
-        },
     }
 }
 

@@ -51,20 +51,15 @@ one_more before mid after n w0 w w' one so_far last wrote = record {
 pub one_cut : (before mid after : State) (n count : ℕ) (w0 w w' : Option (List ℕ)) (one : Came) → n < count → AllServed before n w0 w mid → Connects mid one after
     → ((k : ℕ) × (k < length (connection_line (n + 1) one)) × Appends w w' (take k (connection_line (n + 1) one))) → SomeServed before count w0 w' after
 one_cut before mid after n count w0 w w' one few so_far last wrote =
-    let lines : List ℕ = lines_after 0 so_far.came in
-    let line : List ℕ = connection_line (n + 1) one in
-    let all : lines_after 0 (so_far.came ++ one ∷ []) ≡ lines ++ line = next_line n so_far.came one so_far.counted in
-    let long : length (lines ++ line) ≡ length lines + length line = length-append lines line in
-    let more : length (so_far.came ++ one ∷ []) ≡ length so_far.came + 1 = length-append so_far.came (one ∷ []) in
     let counted : length so_far.came ≡ n = so_far.counted in
-    let within : wrote.0 < length line = wrote.1 in
     record {
-      came = so_far.came ++ one ∷ [];
-      counted = omega (arith, more, counted, few);
+      told = so_far.came;
+      last = one;
+      few = omega (arith, counted, few);
       served = connect_more before mid after so_far.came one so_far.served last;
-      kept = length lines + wrote.0;
-      cut = rw (all, long) (omega (arith, within));
-      wrote = rw (all, take-append-add lines line wrote.0) (appends_compose w0 w w' _ _ so_far.wrote wrote.2);
+      kept = wrote.0;
+      cut = rw counted wrote.1;
+      wrote = rw counted (appends_compose w0 w w' _ _ so_far.wrote wrote.2);
     }
 
 -- what holds is said of a fault

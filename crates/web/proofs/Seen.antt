@@ -1,13 +1,11 @@
 -- A run at a desk is a run of its office.
-use Rattle.std.proofs.Common.{ℕ, List, [], ◌∷◌, Option, Some, None, Result, Ok, Err, IfOk, IfErr, refl, sym, ap, arith, append-nil}
-use Rattle.std.specs.Io.KnownBytes.{Appends, Consumes}
+use Rattle.std.proofs.Common.{ℕ, List, [], ◌∷◌, Option, Result, Ok, Err, IfOk, IfErr, ap}
 use Rattle.wire.specs.Messages.{Message}
 use Rattle.wire.specs.Run.{Said, said, Run}
 use Rattle.wire.specs.Served.{ServedTo, BrokeOff}
 use Rattle.wire.specs.declared.outcome.End.{End}
 use Rattle.wire.specs.declared.outcome.Served.{Served}
 use Rattle.wire.specs.declared.outcome.StreamFault.{StreamFault}
-use Rattle.wire.specs.declared.outcome.StreamFault.TheVariants.{Memory}
 
 module _ {D S : Type 0} (see : D → S) (step : S → Said → List ℕ → S → Type 0) (refusal : End → List ℕ) where
   -- the step as it is seen
@@ -61,26 +59,3 @@ module _ {D S : Type 0} (see : D → S) (step : S → Said → List ℕ → S �
       → IfErr result (λ fault. BrokeOff seen refusal before left0 w0 left w now fault) → IfErr result (λ fault. BrokeOff step refusal (see before) left0 w0 left w (see now) fault)
   broken_seen before now left0 w0 left w (Ok served) b = tt
   broken_seen before now left0 w0 left w (Err fault) b = broke_seen before now left0 w0 left w fault b
-
--- nothing was read, asked or written
-pub nothing_broken : {S : Type 0} (step : S → Said → List ℕ → S → Type 0) (refusal : End → List ℕ) (before : S) (left w : Option (List ℕ)) → BrokeOff step refusal before left w left w before Memory
-nothing_broken step refusal before left w = record {
-  given = [];
-  read = consumes_none left;
-  messages = [];
-  few = omega arith;
-  none_after = λ _. omega arith;
-  rest = [];
-  split = λ more. refl;
-  answers = [];
-  ran = refl;
-  wrote = (refl, refl, appends_none w);
-}
-  where
-    consumes_none : (a : Option (List ℕ)) → Consumes a a []
-    consumes_none None = tt
-    consumes_none (Some u) = refl
-
-    appends_none : (a : Option (List ℕ)) → Appends a a []
-    appends_none None = tt
-    appends_none (Some u) = sym (append-nil u)

@@ -1,5 +1,5 @@
 -- What became of the connections of a listener, and the line of each.
-use Rattle.std.specs.Prelude.{◌≡◌, ◌⊎◌, ℕ, ◌+◌, ◌<◌, ◌≤◌, List, [], ◌∷◌, ◌++◌, length, take, codes, decimal, Option, Result, Ok, Err}
+use Rattle.std.specs.Prelude.{◌≡◌, ◌⊎◌, ℕ, ◌+◌, ◌<◌, List, [], ◌∷◌, ◌++◌, length, take, codes, decimal, Option, Result, Ok, Err}
 use Rattle.std.specs.Io.KnownBytes.{Appends}
 use Rattle.rolls.specs.State.{State}
 use Rattle.wire.specs.declared.outcome.End.{End}
@@ -66,11 +66,12 @@ pub record AllServed (before : State) (count : ℕ) (w0 w : Option (List ℕ)) (
   pub served : Connect before came after
   pub wrote : Appends w0 w (lines_after 0 came)
 
--- some of so many connections were served, and their lines were written but for an end of the last
+-- some of so many connections were served: the lines of all but the last were written whole, and a part of the last one's
 pub record SomeServed (before : State) (count : ℕ) (w0 w : Option (List ℕ)) (after : State) : Type 0 where
-  pub came : List (Result Served StreamFault)
-  pub counted : length came ≤ count
-  pub served : Connect before came after
+  pub told : List (Result Served StreamFault)
+  pub last : Result Served StreamFault
+  pub few : length told < count
+  pub served : Connect before (told ++ last ∷ []) after
   pub kept : ℕ
-  pub cut : kept < length (lines_after 0 came)
-  pub wrote : Appends w0 w (take kept (lines_after 0 came))
+  pub cut : kept < length (connection_line (length told + 1) last)
+  pub wrote : Appends w0 w (lines_after 0 told ++ take kept (connection_line (length told + 1) last))

@@ -1,5 +1,5 @@
 //! The service of a stream at a desk.
-ghost use Rattle.std.specs.Prelude.{◌≡◌, ◌-◌, ◌^◌, ◌+◌, ◌<◌, Err, IfOk, IfErr};
+ghost use Rattle.std.specs.Prelude.{◌≡◌, ◌-◌, ◌^◌, ◌+◌, ◌<◌, false, Err, IfOk, IfErr};
 ghost use Rattle.wire.specs.Run.{read_failed, write_failed};
 ghost use Rattle.wire.specs.Served.{BrokeOff, ServedTo};
 ghost use Rattle.web.specs.Serving.{AnswersMessage, refusal_at, end_text};
@@ -53,6 +53,7 @@ pub fn serve_stream<S: Alter, R: Source, W: Sink>(
     writer: &mut W,
 ) -> Result<Served, StreamFault>
     requires read_failures { R.failures reader.old < 2 ^ 64 - 1 }
+    requires open { R.ended reader.old ≡ false }
     requires write_failures { W.failures writer.old < 2 ^ 64 - 1 }
 
     // What was written: the texts of the answers of a run of the office over the messages of the stream, and the

@@ -6,9 +6,9 @@ use Rattle.cli.proofs.tasks.ask_at.Goals as goal
 pub returns-in-Ok-clause-told : goal.returns-in-Ok-clause-told
 returns-in-Ok-clause-told g c =
     on_out (Asks c.args.asked) (reply_text c.in-Ok.reply) 0 _ _ _ _ _ _ _
-    (inr (record { office = c.args.desk.now.office; fit = c.keeps.ensures.fit; answer = Ok c.in-Ok.reply; next = c.ask.new.self.office; step = c.in-Ok.ensures.step; is = refl })) c.print_reply.ensures
+    (inr (record { office = c.args.desk.now.office; fit = c.keeps.ensures.fit; answer = Ok c.in-Ok.reply; next = c.ask.new.self.office; step = c.in-Ok.ensures.step; told = (c.in-Ok.ensures.named, c.in-Ok.ensures.storage); is = refl })) c.print_reply.ensures
 
 pub returns-in-Err-clause-told : goal.returns-in-Err-clause-told
 returns-in-Err-clause-told g c =
     on_err (Asks c.args.asked) (refusal_line c.in-Err.refusal) 1 _ _ _ _ _ _ _
-    (inr (record { office = c.args.desk.now.office; fit = c.keeps.ensures.fit; answer = Err c.in-Err.refusal; next = c.ask.new.self.office; step = c.in-Err.ensures.step; is = refl })) c.refuse.ensures
+    (inr (record { office = c.args.desk.now.office; fit = c.keeps.ensures.fit; answer = Err c.in-Err.refusal; next = c.ask.new.self.office; step = c.in-Err.ensures.step; told = (c.in-Err.ensures.named, c.in-Err.ensures.storage); is = refl })) c.refuse.ensures

@@ -1,6 +1,7 @@
 use Rattle.std.proofs.Common.{◌≡◌, ℕ, ◌+◌, arith}
 use Rattle.web.specs.Serving.{AnswersMessage, end_text}
-use Rattle.web.proofs.Seen.{served_seen, broken_seen, nothing_broken}
+use Rattle.wire.proofs.Turns.{nothing_broken}
+use Rattle.web.proofs.Seen.{served_seen, broken_seen}
 use Rattle.web.proofs.service.serve_stream.Goals as goal
 
 pub returns-in_default-clause-broken : goal.returns-in_default-clause-broken
