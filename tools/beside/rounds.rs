@@ -1,0 +1,475 @@
+//! The lines `solve FILE` and `check FILE` in plain Rust, std alone: what `spadesk` is measured beside. Dijkstra with potentials over
+//! labels of whole numbers in lexicographic order, a binary heap, labels cut at the best end found so far. It reads its text laxly:
+//! neither limits nor the order of lines are tested.
+//!
+//! RANKS in the environment of rustc is the number of places of a list, 8 where it is not set.
+
+use std::cmp::Reverse;
+use std::collections::{BinaryHeap, HashMap};
+use std::fmt::Write as _;
+use std::io::Write as _;
+use std::ops::{Add, Sub};
+
+const RANKS: usize = match option_env!("RANKS") {
+    Some(text) => number(text.as_bytes(), 0, 0),
+    None => 8,
+};
+const fn number(text: &[u8], at: usize, n: usize) -> usize {
+    if at == text.len() {
+        n
+    } else {
+        number(text, at + 1, 10 * n + (text[at] - b'0') as usize)
+    }
+}
+const NP: usize = RANKS + 1;
+
+trait Worth: Copy + Ord + Add<Output = Self> + Sub<Output = Self> {
+    fn zero() -> Self;
+    fn weight(rank: usize) -> Self;
+    fn places(self) -> [i64; NP];
+}
+#[derive(Clone, Copy, PartialEq, Eq, PartialOrd, Ord)]
+struct Lex([i64; NP]);
+impl Add for Lex {
+    type Output = Lex;
+    fn add(self, o: Lex) -> Lex {
+        let mut r = self;
+        for i in 0..NP {
+            r.0[i] += o.0[i]
+        }
+        r
+    }
+}
+impl Sub for Lex {
+    type Output = Lex;
+    fn sub(self, o: Lex) -> Lex {
+        let mut r = self;
+        for i in 0..NP {
+            r.0[i] -= o.0[i]
+        }
+        r
+    }
+}
+impl Worth for Lex {
+    fn zero() -> Lex {
+        Lex([0; NP])
+    }
+    fn weight(rank: usize) -> Lex {
+        let mut r = [0; NP];
+        r[0] = 1;
+        r[rank + 1] = 1;
+        Lex(r)
+    }
+    fn places(self) -> [i64; NP] {
+        self.0
+    }
+}
+#[derive(Default)]
+struct Round<'a> {
+    sups: Vec<(&'a str, u32)>,
+    projects: Vec<(&'a str, usize, u32)>,
+    students: Vec<(&'a str, Vec<usize>)>,
+    places: Vec<Option<usize>>,
+    u: Vec<[i64; NP]>,
+    y: Vec<[i64; NP]>,
+    z: Vec<[i64; NP]>,
+}
+
+fn prices<'a>(f: impl Iterator<Item = &'a str>) -> Option<[i64; NP]> {
+    let mut r = [0; NP];
+    let mut n = 0;
+    for x in f {
+        *r.get_mut(n)? = x.parse().ok()?;
+        n += 1
+    }
+    (n == NP).then_some(r)
+}
+
+fn read(text: &str) -> Result<Round<'_>, usize> {
+    let mut r = Round::default();
+    let (mut sn, mut pn, mut cn) = (HashMap::new(), HashMap::new(), HashMap::new());
+    for (i, line) in text.lines().enumerate() {
+        let mut f = line.split(',');
+        let ok = (|| {
+            let kind = f.next()?;
+            let code = f.next()?;
+            match kind {
+                "S" => {
+                    sn.insert(code, r.sups.len());
+                    r.sups.push((code, f.next()?.parse().ok()?))
+                }
+                "P" => {
+                    let l = *sn.get(f.next()?)?;
+                    pn.insert(code, r.projects.len());
+                    r.projects.push((code, l, f.next()?.parse().ok()?))
+                }
+                "C" => {
+                    let list = f.map(|c| pn.get(c).copied()).collect::<Option<Vec<_>>>()?;
+                    cn.insert(code, r.students.len());
+                    r.students.push((code, list));
+                    r.places.push(None)
+                }
+                "M" => {
+                    let (s, p) = (*cn.get(code)?, *pn.get(f.next()?)?);
+                    r.places[s] = Some(r.students[s].1.iter().position(|q| *q == p)?)
+                }
+                "U" => {
+                    (*cn.get(code)? == r.u.len()).then_some(())?;
+                    r.u.push(prices(f)?)
+                }
+                "Y" => {
+                    (*pn.get(code)? == r.y.len()).then_some(())?;
+                    r.y.push(prices(f)?)
+                }
+                "Z" => {
+                    (*sn.get(code)? == r.z.len()).then_some(())?;
+                    r.z.push(prices(f)?)
+                }
+                _ => return None,
+            }
+            Some(())
+        })();
+        ok.ok_or(i + 1)?;
+    }
+    Ok(r)
+}
+
+#[derive(Clone, Copy)]
+enum From {
+    Student(usize),
+    Supervisor(usize),
+}
+enum End {
+    Out,
+    At(usize, From),
+    Drop(usize),
+}
+
+struct Network<'a, G> {
+    r: &'a Round<'a>,
+    place: Vec<Option<usize>>,
+    inside: Vec<Vec<usize>>,
+    offers: Vec<Vec<usize>>,
+    load: Vec<u32>,
+    price: Vec<G>,
+    z: Vec<G>,
+    u: Vec<G>,
+    weight: Vec<G>,
+    dist: Vec<G>,
+    seen: Vec<u32>,    // the turn in which dist was written; so a turn clears nothing
+    settled: Vec<u32>, // the turn in which the node was settled
+    turn: u32,
+    heap: BinaryHeap<Reverse<(G, usize)>>,
+    done: Vec<(usize, G)>,
+    from: Vec<From>,
+    via: Vec<usize>,
+}
+impl<'a, G: Worth> Network<'a, G> {
+    fn new(r: &'a Round<'a>) -> Self {
+        let (np, nl) = (r.projects.len(), r.sups.len());
+        let mut offers = vec![vec![]; nl];
+        for (p, x) in r.projects.iter().enumerate() {
+            offers[x.1].push(p)
+        }
+        let weight: Vec<G> = (0..RANKS).map(G::weight).collect();
+        let z: Vec<G> = r.sups.iter().map(|x| if x.1 == 0 { weight[0] } else { G::zero() }).collect();
+        Network {
+            r,
+            place: vec![],
+            inside: vec![vec![]; np],
+            offers,
+            load: vec![0; nl],
+            price: r.projects.iter().map(|x| if x.2 == 0 { z[x.1] + weight[0] } else { z[x.1] }).collect(),
+            z,
+            u: vec![],
+            weight,
+            dist: vec![G::zero(); np + nl],
+            seen: vec![0; np + nl],
+            settled: vec![0; np + nl],
+            turn: 0,
+            heap: BinaryHeap::new(),
+            done: vec![],
+            from: vec![From::Student(0); np],
+            via: vec![0; nl],
+        }
+    }
+    fn full(&self, p: usize) -> bool {
+        self.inside[p].len() as u32 >= self.r.projects[p].2
+    }
+    fn price(&self, p: usize) -> G {
+        if self.full(p) {
+            self.price[p]
+        } else {
+            self.z[self.r.projects[p].1]
+        }
+    }
+    fn admit(&mut self, s0: usize) {
+        let np = self.r.projects.len();
+        let zero = G::zero();
+        let list = &self.r.students[s0].1;
+        let u0 = list.iter().enumerate().map(|(k, p)| self.weight[k] - self.price(*p)).max().unwrap_or(zero).max(zero);
+        self.place.push(None);
+        self.u.push(u0);
+        if u0 == zero {
+            return;
+        }
+        self.turn += 1;
+        let turn = self.turn;
+        let (mut heap, mut done) = (std::mem::take(&mut self.heap), std::mem::take(&mut self.done));
+        heap.clear();
+        done.clear();
+        let mut best = u0;
+        let mut end = End::Out;
+        macro_rules! label {
+            ($v:expr, $c:expr, $set:expr) => {{
+                let (v, c) = ($v, $c);
+                if c < best && self.settled[v] != turn && (self.seen[v] != turn || c < self.dist[v]) {
+                    self.dist[v] = c;
+                    self.seen[v] = turn;
+                    $set;
+                    heap.push(Reverse((c, v)))
+                }
+            }};
+        }
+        macro_rules! enter {
+            ($p:expr, $c:expr, $s:expr) => {{
+                let (p, c, s) = ($p, $c, $s);
+                let (_, l, _) = self.r.projects[p];
+                if !self.full(p) && self.load[l] < self.r.sups[l].1 {
+                    if c < best {
+                        best = c;
+                        end = End::At(p, From::Student(s))
+                    }
+                } else {
+                    label!(p, c, self.from[p] = From::Student(s))
+                }
+            }};
+        }
+        for (k, p) in list.iter().enumerate() {
+            enter!(*p, u0 + self.price(*p) - self.weight[k], s0)
+        }
+        while let Some(Reverse((d, v))) = heap.pop() {
+            if d >= best {
+                break;
+            }
+            if self.settled[v] == turn {
+                continue;
+            }
+            self.settled[v] = turn;
+            done.push((v, d));
+            if v < np {
+                let l = self.r.projects[v].1;
+                if !self.full(v) {
+                    label!(np + l, d, self.via[l] = v)
+                }
+                for i in 0..self.inside[v].len() {
+                    let s = self.inside[v][i];
+                    let b = d + self.u[s];
+                    if b < best {
+                        best = b;
+                        end = End::Drop(s)
+                    }
+                    for (k, q) in self.r.students[s].1.iter().enumerate() {
+                        if Some(k) != self.place[s] {
+                            enter!(*q, b + self.price(*q) - self.weight[k], s)
+                        }
+                    }
+                }
+            } else {
+                let l = v - np;
+                for i in 0..self.offers[l].len() {
+                    let q = self.offers[l][i];
+                    if !self.inside[q].is_empty() {
+                        label!(q, d + self.price(q) - self.z[l], self.from[q] = From::Supervisor(l))
+                    }
+                }
+            }
+        }
+        self.u[s0] = u0 - best;
+        for &(v, d) in &done {
+            if d >= best {
+                continue;
+            }
+            let x = best - d;
+            if v < np {
+                self.price[v] = self.price[v] + x;
+                for s in &self.inside[v] {
+                    self.u[*s] = self.u[*s] - x
+                }
+            } else {
+                self.z[v - np] = self.z[v - np] + x
+            }
+        }
+        (self.heap, self.done) = (heap, done);
+        self.push(end)
+    }
+    fn leave(&mut self, p: usize, s: usize) {
+        if let Some(i) = self.inside[p].iter().position(|x| *x == s) {
+            self.inside[p].swap_remove(i);
+        }
+    }
+    fn join(&mut self, p: usize, s: usize) {
+        self.inside[p].push(s);
+        self.place[s] = self.r.students[s].1.iter().position(|q| *q == p);
+    }
+    fn push(&mut self, end: End) {
+        // `fresh`: p gains one student net of the walk, so that it may become full
+        let (mut p, mut f, mut fresh) = match end {
+            End::Out => return,
+            End::At(p, f) => {
+                self.load[self.r.projects[p].1] += 1;
+                (p, f, true)
+            }
+            End::Drop(s) => {
+                let Some(k) = self.place[s].take() else { return };
+                let p = self.r.students[s].1[k];
+                self.leave(p, s);
+                (p, self.from[p], false)
+            }
+        };
+        loop {
+            match f {
+                From::Supervisor(l) => {
+                    p = self.via[l];
+                    f = self.from[p];
+                    fresh = true
+                }
+                From::Student(s) => {
+                    let old = self.place[s].map(|k| self.r.students[s].1[k]);
+                    if let Some(o) = old {
+                        self.leave(o, s)
+                    }
+                    self.join(p, s);
+                    if fresh && self.full(p) {
+                        self.price[p] = self.z[self.r.projects[p].1]
+                    }
+                    let Some(o) = old else { return };
+                    p = o;
+                    f = self.from[o];
+                    fresh = false;
+                }
+            }
+        }
+    }
+}
+
+fn write(r: &Round, n: &Network<impl Worth>) -> String {
+    let mut o = String::with_capacity(64 * (r.sups.len() + r.projects.len() + 3 * r.students.len()));
+    for (c, q) in &r.sups {
+        let _ = writeln!(o, "S,{c},{q}");
+    }
+    for (c, l, q) in &r.projects {
+        let _ = writeln!(o, "P,{c},{},{q}", r.sups[*l].0);
+    }
+    for (c, list) in &r.students {
+        let _ = write!(o, "C,{c}");
+        for p in list {
+            let _ = write!(o, ",{}", r.projects[*p].0);
+        }
+        o.push('\n');
+    }
+    for (s, (c, list)) in r.students.iter().enumerate() {
+        if let Some(k) = n.place[s] {
+            let _ = writeln!(o, "M,{c},{}", r.projects[list[k]].0);
+        }
+    }
+    let mut line = |k: char, c: &str, v: [i64; NP]| {
+        let _ = write!(o, "{k},{c}");
+        for x in v {
+            let _ = write!(o, ",{x}");
+        }
+        o.push('\n');
+    };
+    for (s, x) in r.students.iter().enumerate() {
+        line('U', x.0, n.u[s].places())
+    }
+    for (p, x) in r.projects.iter().enumerate() {
+        let y = if x.2 == 0 { n.weight[0] } else { n.price(p) - n.z[x.1] };
+        line('Y', x.0, y.places())
+    }
+    for (l, x) in r.sups.iter().enumerate() {
+        line('Z', x.0, n.z[l].places())
+    }
+    o
+}
+
+fn check(r: &Round) -> Result<[i64; NP], String> {
+    let (mut cp, mut cl, mut w) = (vec![0; r.projects.len()], vec![0; r.sups.len()], [0i64; NP]);
+    for (s, k) in r.places.iter().enumerate() {
+        if let Some(k) = k {
+            let p = r.students[s].1[*k];
+            cp[p] += 1;
+            cl[r.projects[p].1] += 1;
+            w[0] += 1;
+            w[k + 1] += 1
+        }
+    }
+    if cp.iter().zip(&r.projects).any(|(a, b)| *a > b.2) || cl.iter().zip(&r.sups).any(|(a, b)| *a > b.1) {
+        return Err("fault 1".into());
+    }
+    if r.u.len() != r.students.len() || r.y.len() != r.projects.len() || r.z.len() != r.sups.len() {
+        return Err("fault 2".into());
+    }
+    let all = || r.u.iter().chain(&r.y).chain(&r.z);
+    if all().flatten().any(|x| x.abs() > 1_000_000) {
+        return Err("fault 2".into());
+    }
+    if all().any(|v| *v < [0; NP]) {
+        return Err("fault 3".into());
+    }
+    for (s, (c, list)) in r.students.iter().enumerate() {
+        for (k, p) in list.iter().enumerate() {
+            let v = Lex(r.u[s]) + Lex(r.y[*p]) + Lex(r.z[r.projects[*p].1]);
+            if v < Lex::weight(k) {
+                return Err(format!("fault 4 {c} {}", k + 1));
+            }
+        }
+    }
+    let mut v = [0i64; NP];
+    for u in &r.u {
+        for i in 0..NP {
+            v[i] += u[i]
+        }
+    }
+    for (y, p) in r.y.iter().zip(&r.projects) {
+        for i in 0..NP {
+            v[i] += p.2 as i64 * y[i]
+        }
+    }
+    for (z, l) in r.z.iter().zip(&r.sups) {
+        for i in 0..NP {
+            v[i] += l.1 as i64 * z[i]
+        }
+    }
+    if v != w {
+        return Err("fault 5".into());
+    }
+    Ok(w)
+}
+
+fn run<'a, G: Worth>(r: &'a Round<'a>) -> Network<'a, G> {
+    let mut n = Network::<G>::new(r);
+    for s in 0..r.students.len() {
+        n.admit(s)
+    }
+    n
+}
+fn main() {
+    let words: Vec<String> = std::env::args().collect();
+    let text = std::fs::read_to_string(&words[2]).expect("a file");
+    let round = read(&text).unwrap_or_else(|line| {
+        eprintln!("bad line {line}");
+        std::process::exit(1)
+    });
+    if words[1] == "solve" {
+        std::io::stdout().write_all(write(&round, &run::<Lex>(&round)).as_bytes()).expect("an output");
+        return;
+    }
+    match check(&round) {
+        Ok(w) => println!("best size {} profile {}", w[0], w[1..].iter().map(|v| v.to_string()).collect::<Vec<_>>().join(" ")),
+        Err(fault) => {
+            println!("{fault}");
+            std::process::exit(1)
+        }
+    }
+}

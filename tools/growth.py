@@ -1,0 +1,115 @@
+#!/usr/bin/env python3
+"""Draws how `solve FILE` and `check FILE` grow with the students of a round, beside plain Rust.
+
+tools/growth.py SPADESK > docs/growth.svg     needs rustc and valgrind
+
+Instructions are counted, the start of the process taken off. The round of N students has N/5 supervisors and 4N/5 projects, lists of
+eight drawn evenly, and room for each student; what `solve` prints is what `check` reads. Both programs must come to the same size and
+profile. The counts also go to standard error.
+"""
+import os
+import random
+import re
+import subprocess
+import sys
+import tempfile
+
+from families import owners, spread
+
+HERE = os.path.dirname(os.path.abspath(__file__))
+SIZES = [60, 125, 250, 500]
+LINES = ["solve", "check"]
+WIDTH, HEIGHT, LEFT, BOTTOM, TOP = 400, 300, 52, 44, 46
+COLOURS = {"plain Rust": "#b0552f", "spadesk": "#1f5f8b"}
+
+
+def round_text(students):
+    """The text of a round with this many students."""
+    rng = random.Random(1)
+    supervisors, projects = students // 5, students * 4 // 5
+    owner = owners(rng, supervisors, projects)
+    lines = [f"S,L{l},{q}" for l, q in enumerate(spread(rng, students * 6 // 5 + supervisors, supervisors))]
+    lines += [f"P,P{p},L{owner[p]},{rng.choice((1, 1, 2, 2, 3))}" for p in range(projects)]
+    for student in range(students):
+        chosen = rng.sample(range(projects), 8)
+        lines.append(f"C,A{student}," + ",".join(f"P{p}" for p in chosen))
+    return "\n".join(lines) + "\n"
+
+
+def counted(program, line, file):
+    """The instructions of a whole process, and what it prints."""
+    tool = ["valgrind", "--tool=cachegrind", "--cache-sim=no", "--cachegrind-out-file=/dev/null"]
+    ran = subprocess.run([*tool, program, line, file], capture_output=True, text=True)
+    return int(re.search(r"I\s+refs:\s+([\d,]+)", ran.stderr).group(1).replace(",", "")), ran.stdout
+
+
+def measured(programs, folder):
+    """By line and program, the millions of instructions at each size."""
+    empty = os.path.join(folder, "empty")
+    open(empty, "w").close()
+    starts = {name: counted(path, "solve", empty)[0] for name, path in programs.items()}
+    found = {(line, name): [] for line in LINES for name in programs}
+    for students in SIZES:
+        file, solved = os.path.join(folder, "round"), os.path.join(folder, "solved")
+        with open(file, "w") as out:
+            out.write(round_text(students))
+        results = set()
+        for name, path in programs.items():
+            count, text = counted(path, "solve", file)
+            found["solve", name].append((count - starts[name]) / 1e6)
+            with open(solved, "w") as out:
+                out.write(text)
+            count, told = counted(path, "check", solved)
+            found["check", name].append((count - starts[name]) / 1e6)
+            results.add(told)
+        if len(results) != 1:
+            sys.exit(f"growth.py: {students} students: the programs differ: {sorted(results)}")
+    return found
+
+
+def panel(line, found, shift):
+    """One line of the program as a drawing: a curve for each program."""
+    most = max(max(found[line, name]) for name in COLOURS)
+
+    def at(students, millions):
+        x = shift + LEFT + (WIDTH - LEFT - 84) * students / SIZES[-1]
+        return x, HEIGHT - BOTTOM - (HEIGHT - BOTTOM - TOP) * millions / most
+
+    left, base = at(0, 0)
+    right, _ = at(SIZES[-1], 0)
+    parts = [
+        f'<text x="{left:.0f}" y="22" font-size="15">{line} FILE: million instructions</text>',
+        f'<path d="M{left:.1f},{TOP} V{base:.1f} H{right:.1f}" fill="none" stroke="#888"/>',
+        f'<text x="{(left + right) / 2:.0f}" y="{HEIGHT - 6}" text-anchor="middle">students</text>',
+    ]
+    for students in SIZES:
+        x, _ = at(students, 0)
+        parts.append(f'<text x="{x:.1f}" y="{base + 16:.1f}" text-anchor="middle">{students}</text>')
+    for rows, (name, colour) in enumerate(COLOURS.items()):
+        points = [at(students, millions) for students, millions in zip(SIZES, found[line, name])]
+        x, y = points[-1]
+        parts.append(f'<polyline points="{" ".join(f"{a:.1f},{b:.1f}" for a, b in points)}" fill="none" stroke="{colour}" stroke-width="2"/>')
+        parts += [f'<circle cx="{a:.1f}" cy="{b:.1f}" r="3" fill="{colour}"/>' for a, b in points]
+        parts.append(f'<text x="{x + 8:.1f}" y="{y + 4:.1f}" fill="{colour}">{found[line, name][-1]:.1f} {name}</text>')
+    return parts
+
+
+def main():
+    program = os.path.abspath(sys.argv[1])
+    with tempfile.TemporaryDirectory() as folder:
+        plain = os.path.join(folder, "rounds")
+        subprocess.run(["rustc", "-O", "--edition", "2021", "-o", plain, os.path.join(HERE, "beside", "rounds.rs")], check=True)
+        found = measured({"plain Rust": plain, "spadesk": program}, folder)
+    for line in LINES:
+        for name in COLOURS:
+            print(line, name, " ".join(f"{millions:.2f}" for millions in found[line, name]), file=sys.stderr)
+    size = f'viewBox="0 0 {2 * WIDTH} {HEIGHT}" width="{2 * WIDTH}" height="{HEIGHT}"'
+    print(f'<svg xmlns="http://www.w3.org/2000/svg" {size} font-family="sans-serif" font-size="12">')
+    print(f'<rect width="{2 * WIDTH}" height="{HEIGHT}" fill="white"/>')
+    for number, line in enumerate(LINES):
+        print("\n".join(panel(line, found, number * WIDTH)))
+    print("</svg>")
+
+
+if __name__ == "__main__":
+    main()
