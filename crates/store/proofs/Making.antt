@@ -19,7 +19,7 @@ use Rattle.rolls.specs.From.{row_in}
 use Rattle.rolls.specs.State.{State, empty}
 use Rattle.tables.specs.declared.table.Table.{Table}
 use Rattle.tables.specs.declared.table.Table.TheVariants.{Edition}
-use Rattle.tables.specs.Table.{Place, Lists, checks_of, table_at}
+use Rattle.tables.specs.Table.{Place, Lists, checks_of, key_in, table_at}
 use Rattle.tables.specs.Keyed.{Stands}
 use Rattle.tables.specs.Writes.{Makes, Adds}
 use Rattle.tables.specs.Steps.{HasStepped, IsLeft, Stays}
@@ -103,7 +103,7 @@ pub made_all : (i : ℕ) (all : List Table) (a b : Seen) → length all ≤ i �
 made_all i all a b end = subst (λ rs. Stays (MakesTables rs) a b) (take_all i all end)
 
 -- the tables, once that of the edition has its row
-empty_stands : (row : List Value) → row ∷ [] ≡ first_edition → (a b c : Database) → MakesTables kept a b → Adds (table_at Edition) row b c → StandsFor c empty
+empty_stands : (row : List Value) → row ∷ [] ≡ first_edition → (a b c : Database) → MakesTables kept a b → Adds (table_at Edition) (key_in Edition row) row b c → StandsFor c empty
 empty_stands row is a b c m n =
     let first : Has kept Edition = inl refl in
     let done = n (m.places Edition) [] (m.stand Edition first) in
@@ -120,7 +120,7 @@ empty_stands row is a b c m n =
     }
 
 -- and that they have the rules
-ruled_so : (row : List Value) (a b c : Database) → MakesTables kept a b → Adds (table_at Edition) row b c → AreRuled c.schema
+ruled_so : (row : List Value) (a b c : Database) → MakesTables kept a b → Adds (table_at Edition) (key_in Edition row) row b c → AreRuled c.schema
 unfolding AreRuled
 ruled_so row a b c m n table among place listed =
     let first : Has kept Edition = inl refl in
@@ -129,9 +129,9 @@ ruled_so row a b c m n table among place listed =
     ap (λ (t : AnyTable). t.checks) (listed_once c.schema (table_at table) place (m.places table) refl listed here) ∙ m.ruled table among
 
 -- the tables were made one after the other, and then the edition was written
-pub founded : (row : List Value) → row ∷ [] ≡ first_edition → (a b c : Seen) → Stays (MakesTables kept) a b → HasStepped (Adds (table_at Edition) row) b c → HasStepped Empties a c
+pub founded : (row : List Value) → row ∷ [] ≡ first_edition → (a b c : Seen) → Stays (MakesTables kept) a b → HasStepped (Adds (table_at Edition) (key_in Edition row) row) b c → HasStepped Empties a c
 unfolding Empties
-founded row is a b c m n = stays_stepped (MakesTables kept) (Adds (table_at Edition) row) Empties a b c (λ p q. (empty_stands row is a.now b.now c.now p q, ruled_so row a.now b.now c.now p q)) m n
+founded row is a b c m n = stays_stepped (MakesTables kept) (Adds (table_at Edition) (key_in Edition row) row) Empties a b c (λ p q. (empty_stands row is a.now b.now c.now p q, ruled_so row a.now b.now c.now p q)) m n
 
 -- the tables were made where there were none
 pub opens_new : (old new : Database) (office : State) → HasNone old.schema → office ≡ empty → Empties old new → Opens old new office

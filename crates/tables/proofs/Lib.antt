@@ -3,7 +3,9 @@ mod Understood
 mod Inserting
 mod Puts
 mod Rowids
+pub mod Testing
 mod Keyed
+mod Apart
 mod Adding
 mod Alike
 mod Appending
@@ -17,7 +19,6 @@ mod Putting
 mod Quiet
 mod Layouts
 mod Rising
-pub mod Testing
 mod Forms
 mod Texts
 mod Tables

@@ -33,7 +33,7 @@ module _ (table : Place → Table) (key : Row) (given : Row) where
   }
 
   -- there was none
-  pub puts_more : (count : ℕ) (a b c : State) → count ≡ 0 → HasStepped (Replaces table key given count) a b → HasStepped (Adds table given) b c → HasStepped (Puts table key given) a c
+  pub puts_more : (count : ℕ) (a b c : State) → count ≡ 0 → HasStepped (Replaces table key given count) a b → HasStepped (Adds table key given) b c → HasStepped (Puts table key given) a c
   unfolding Puts
   puts_more count a b c zero p q = record {
     inside = p.inside;

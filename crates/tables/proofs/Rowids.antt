@@ -72,7 +72,8 @@ along = along_permutation Along (λ xs. (λ h. h, λ y h. h))
 pub keyed_permuted : (xs ys : List Row) → IsPermutation xs ys → IsKeyed xs → IsKeyed ys
 keyed_permuted xs ys same = (along xs ys same).0
 
-none_has : {X : Type 0} (q : X → Bool) (xs : List X) (x : X) → list_any q xs ≡ false → Has xs x → q x ≡ false
+-- no row passes a test that none passes
+pub none_has : {X : Type 0} (q : X → Bool) (xs : List X) (x : X) → list_any q xs ≡ false → Has xs x → q x ≡ false
 none_has q [] x none h = absurd h
 none_has q (y ∷ xs) x none (inl same) = ap q same ∙ (or_parts _ _ none).0
 none_has q (y ∷ xs) x none (inr h) = none_has q xs x (or_parts _ _ none).1 h

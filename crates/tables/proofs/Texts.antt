@@ -27,6 +27,8 @@ use Rattle.sqlite_resolve.specs.Select.{outermost}
 use Rattle.sqlite.specs.Rows.{shown}
 use Rattle.sqlite_catalog.proofs.StepLemmas.{same_itself}
 use Rattle.sqlite_schema.specs.Names.{table_named}
+use Rattle.sqlite_schema.specs.Rules.{agree}
+use Rattle.sqlite_value.specs.Keys.{plain as in_order}
 use Rattle.sqlite_trees.specs.View.{is_int}
 use Rattle.sqlite_sql.specs.Term.{eval_all}
 use Rattle.sqlite_ast.specs.declared.TableBody.{TableBody}
@@ -42,6 +44,7 @@ use Rattle.tables.specs.Writes.{begins_with}
 use Rattle.tables.proofs.Places.{nowhere}
 use Rattle.tables.proofs.Creating.{IsCreate, made_command}
 use Rattle.tables.proofs.Adding.{IsInsert}
+use Rattle.tables.proofs.Apart.{HasKey}
 use Rattle.tables.proofs.Finding.{hit}
 use Rattle.tables.proofs.Selecting.{finding}
 use Rattle.tables.proofs.Deleting.{IsDelete}
@@ -78,10 +81,11 @@ module _ (table : Table) where
   abbrev plain : AnyTable
   plain = table_at table nowhere
 
-  -- a row that is given is added as it is, found by its key, and shown where it is set
+  -- a row that is given is added as it is, told apart and found by its key, and shown where it is set
   pub record Gives (row : Row) : Type 0 where
     pub one : value_rows row (suc (width shape)) (length (terms_of shape) / suc (width shape)) (terms_of shape) ≡ laid_out Null shape.key row ∷ []
     pub added : (here : List Row) → cells plain (with_rowid Chosen here (cast_row plain (laid_out Null shape.key row))) ≡ row
+    pub shares : (here : List Row) (r : Row) → agree in_order shape.primary r shape.primary (with_rowid Chosen here (cast_row plain (laid_out Null shape.key row))) ≡ begins_with (take (length shape.primary) row) (cells plain r)
     pub finds : (r : Row) → hit (finds_of shape (length shape.primary)) (showing (values_of shape)) row r ≡ begins_with (take (length shape.primary) row) (cells plain r)
     pub set : (r : Row) → is_int (rowid r) ≡ true → hit (finds_of shape (length shape.primary)) (showing (values_of shape)) row r ≡ true
         → cells plain (cast_row plain (rowid r ∷ eval_all (values_of shape) (row ∷ r ∷ []))) ≡ row
@@ -112,6 +116,7 @@ module _ (table : Table) where
     pub resolved : (schema : Schema) (at : ℕ) (place : Place) → slice_get schema.tables at ≡ Some (table_at table place) → AreResolved schema at place
     pub keys : Each (take shape.named (kinds_of table)) (λ key. (r : Row) → hit (finds_of shape shape.named) (col 1 0 ∷ []) key r ≡ begins_with key (cells plain r))
     pub rows : Each (kinds_of table) Gives
+    pub keyed : HasKey plain
 
 read_whole : (sql : List ℕ) → slice_range sql 0 (length sql) ≡ sql
 read_whole sql = take_all _ sql (omega arith)
@@ -167,7 +172,8 @@ module _ (table : Table) (it : Texts table) where
     whole = read_whole (said table).insert;
     given = λ row is.
         let gives = by_kinds (kinds_of table) (Gives table) it.rows row is in
-        record { source = laid_out Null told.key row; one = gives.one; shown = gives.added };
+        record { source = laid_out Null told.key row; one = gives.one; shown = gives.added; shares = gives.shares };
+    keyed = it.keyed;
   }
 
   -- the text that takes rows away

@@ -29,8 +29,8 @@ module _ (table : Table) (told : Sql) (is : told ≡ sql_of table) (old new : St
   pub created : HasRun told.create [] count old new → HasStepped (Makes (table_at table) (checks_of table) []) old new
   created run = stepped_by _ _ _ _ _ _ (create_writes (sql_of table).create (table_at table nowhere) (checks_of table) (create_is table (texts table))) (create_makes (sql_of table).create (table_at table nowhere) (checks_of table) (create_is table (texts table)) old new count) (subst (λ (sql : Sql). HasRun sql.create [] count old new) is run)
 
-  -- a row was added
-  pub inserted : (row : Row) → IsRowOf table row → HasRun told.insert row count old new → HasStepped (Adds (table_at table) row) old new
+  -- a row was added, where none had its key
+  pub inserted : (row : Row) → IsRowOf table row → HasRun told.insert row count old new → HasStepped (Adds (table_at table) (key_in table row) row) old new
   inserted row fits run = stepped_by _ _ _ _ _ _ (insert_writes (sql_of table).insert (table_at table nowhere) (kinds_of table) (insert_is table (texts table))) (inserts (sql_of table).insert (table_at table nowhere) (kinds_of table) (insert_is table (texts table)) old new row count fits) (subst (λ (sql : Sql). HasRun sql.insert row count old new) is run)
 
   -- rows were replaced

@@ -29,10 +29,6 @@ pub record Makes (table : Place → AnyTable) (checks : List Term) (rows : List 
   pub stands : Stands table place rows new
   pub others : (t : AnyTable) → Lists old.schema t → Lists new.schema t × (new.trees t.tree ≡ old.trees t.tree) × (t.tree ≢ place.tree)
 
--- a row more in this table, and nothing else
-abbrev pub Adds : (Place → AnyTable) → Row → Database → Database → Type 0
-Adds table row old new = (place : Place) (rows : List Row) → Stands table place rows old → Stands table place (row ∷ rows) new × WritesOnly place.tree old new
-
 -- where no foreign key acts on the table, its rows become what f makes of them, and nothing else changes
 abbrev pub Turns : (Place → AnyTable) → (List Row → List Row) → Database → Database → Type 0
 Turns table f old new = (place : Place) (rows : List Row) → IsInert old.schema place.tree → Stands table place rows old → Stands table place (f rows) new × WritesOnly place.tree old new
@@ -49,6 +45,11 @@ without key = filter (λ row. not (begins_with key row))
 -- the rows with this one in place of those that have its key
 abbrev pub with_row : Row → Row → List Row → List Row
 with_row key given rows = given ∷ without key rows
+
+-- a row more in this table, where none had its key, and nothing else
+abbrev pub Adds : (Place → AnyTable) → Row → Row → Database → Database → Type 0
+Adds table key row old new =
+    (place : Place) (rows : List Row) → Stands table place rows old → Stands table place (row ∷ rows) new × WritesOnly place.tree old new × (filter (begins_with key) rows ≡ [])
 
 -- the rows that begin with the key are gone
 unfoldable pub Removes : (Place → AnyTable) → Row → Database → Database → Type 0

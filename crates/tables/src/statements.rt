@@ -27,12 +27,12 @@ pub fn make<S: Alter>(tx: &mut Transaction<'_, S>, table: Table) -> Wrote
     Ok(())
 }
 
-/// Adds a row.
+/// Adds a row. The database refuses one whose key is there.
 pub fn insert<S: Alter>(tx: &mut Transaction<'_, S>, table: Table, row: &[ValueRef<'_>]) -> Wrote
     requires { IsRowOf table (bound row.now) }
 
     ensures same_reference { tx.new.conn.ghost_name ≡ tx.old.conn.ghost_name }
-    ensures step { Does (HasStepped (Adds (table_at table) (bound row.now))) result (state S.Store tx.old.conn.now) (state S.Store tx.new.conn.now) }
+    ensures step { Does (HasStepped (Adds (table_at table) (key_in table (bound row.now)) (bound row.now))) result (state S.Store tx.old.conn.now) (state S.Store tx.new.conn.now) }
     ensures cause { IsCausedInside (IsHindered (sql_of table).insert (bound row.now)) result (state S.Store tx.old.conn.now) (state S.Store tx.new.conn.now) }
 {
     write(tx, table.shape().insert, row)?;
