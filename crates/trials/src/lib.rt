@@ -33,6 +33,8 @@ mod instances;
 #[cfg(test)]
 mod judged;
 #[cfg(test)]
+mod kept;
+#[cfg(test)]
 mod line_words;
 #[cfg(test)]
 mod pieces;
