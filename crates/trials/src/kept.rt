@@ -25,7 +25,7 @@ fn told<S: Alter>(conn: &mut Connection<S>, sql: &str) -> Result<Option<String>,
 }
 
 /// What a database keeps. Of a table that is not there nothing is told, and of one without rows an empty line.
-pub(crate) fn kept<S: Alter>(
+pub(crate) fn kept_by<S: Alter>(
     alloc: Global,
     conn: &mut Connection<S>,
 ) -> Result<String, AllocError> {
@@ -47,5 +47,5 @@ pub(crate) fn keeps<S: Alter>(
     conn: &mut Connection<S>,
     want: &str,
 ) -> Result<bool, AllocError> {
-    Ok(kept(alloc, conn)?.as_str() == want)
+    Ok(kept_by(alloc, conn)?.as_str() == want)
 }

@@ -3,7 +3,7 @@
 use crate::cells::first_cell;
 use crate::desks::desk_over;
 use crate::judged::holds;
-use crate::kept::{keeps, kept};
+use crate::kept::{keeps, kept_by};
 use crate::played::{count, play_lines};
 use desk::Desk;
 use sqlite::{Connection, MemStore};
@@ -137,7 +137,7 @@ fn compare_hand_made(
         let (_name, rest) = first_cell(row);
         let (added, line) = first_cell(rest);
         let mut conn = made(alloc, before, added)?;
-        let kept = kept(alloc, &mut conn)?;
+        let kept = kept_by(alloc, &mut conn)?;
         let mut conn = opened(alloc, rt, conn, line)?;
         holds(rt, keeps(alloc, &mut conn, &kept)?, row);
     }
