@@ -45,6 +45,8 @@ mod played;
 #[cfg(test)]
 mod printed;
 #[cfg(test)]
+mod refused;
+#[cfg(test)]
 mod rolls_of;
 #[cfg(test)]
 mod round_texts;
