@@ -1,6 +1,6 @@
 /* Fails one call of the disk by a program, or ends the program before it: the call with the number in AT, counted from 1. MODE says
    how: `kill` ends the program before the call, `tear` half-way through a write, `once` fails the call, and `on` this one and all later
-   ones. Where COUNTED names a file, two numbers are written there at the end: the calls before the last text was printed, and all. */
+   ones, by EIO or, where FAULT says so, by ENOSPC. Where COUNTED names a file, two numbers are written there at the end: the calls before the last text was printed, and all. */
 #define _GNU_SOURCE
 #include <dlfcn.h>
 #include <errno.h>
@@ -13,11 +13,14 @@
 
 static unsigned long came, told, at;
 static const char *mode = "";
+static int fault = EIO;
 
 __attribute__((constructor)) static void start(void) {
     const char *number = getenv("AT");
     at = number ? strtoul(number, NULL, 10) : 0;
     mode = getenv("MODE") ? getenv("MODE") : "";
+    if (getenv("FAULT") && !strcmp(getenv("FAULT"), "ENOSPC"))
+        fault = ENOSPC;
 }
 
 __attribute__((destructor)) static void end(void) {
@@ -37,7 +40,7 @@ static int fails(void) {
     if (came == at && !strcmp(mode, "kill"))
         kill(getpid(), SIGKILL);
     if (!strcmp(mode, "on") || (came == at && !strcmp(mode, "once"))) {
-        errno = EIO;
+        errno = fault;
         return 1;
     }
     return 0;

@@ -6,15 +6,16 @@ use crate::school::SCHOOL;
 use std::rt::HostRuntime;
 use std::test::Fail;
 
-/// Five more projects, Y without a place, and an open round.
+/// Five more projects, Y without a place, and an open round; before it a list of eight comes too early.
 #[rattlefmt::skip]
 const BEFORE: &str =
-    r#"PUT /projects/U | {"name":"Urns","quota":1,"supervisor":"L"}  | 200 OK | {"ok":true}
-       PUT /projects/V | {"name":"Vats","quota":1,"supervisor":"L"}  | 200 OK | {"ok":true}
-       PUT /projects/W | {"name":"Walls","quota":1,"supervisor":"L"} | 200 OK | {"ok":true}
-       PUT /projects/X | {"name":"Xenon","quota":1,"supervisor":"L"} | 200 OK | {"ok":true}
-       PUT /projects/Y | {"name":"Yards","quota":0,"supervisor":"L"} | 200 OK | {"ok":true}
-       POST /rounds    |                                             | 200 OK | {"round":1}"#;
+    r#"PUT /projects/U | {"name":"Urns","quota":1,"supervisor":"L"}    | 200 OK       | {"ok":true}
+       PUT /projects/V | {"name":"Vats","quota":1,"supervisor":"L"}    | 200 OK       | {"ok":true}
+       PUT /projects/W | {"name":"Walls","quota":1,"supervisor":"L"}   | 200 OK       | {"ok":true}
+       PUT /projects/X | {"name":"Xenon","quota":1,"supervisor":"L"}   | 200 OK       | {"ok":true}
+       PUT /projects/Y | {"name":"Yards","quota":0,"supervisor":"L"}   | 200 OK       | {"ok":true}
+       PUT /lists/B    | {"choices":["Z","Y","X","W","V","U","Q","P"]} | 409 Conflict | {"fault":"NoRoundOpen","number":19}
+       POST /rounds    |                                               | 200 OK       | {"round":1}"#;
 
 /// Each gets the first choice.
 #[rattlefmt::skip]

@@ -84,12 +84,14 @@ fn two_connections_are_served_in_turn(rt: HostRuntime) -> Result<(), Fail> {
     serve_two(&rt, &rt, &mut desk)
 }
 
-// A port that a listener has cannot be bound once more.
+// A port that a listener has cannot be bound once more; a database that cannot be opened is told before.
 #[test]
 fn a_port_that_is_taken_is_told(rt: HostRuntime) -> Result<(), Fail> {
     let listener = TcpListener::bind(&rt, (Ipv4Addr::LOCALHOST, 0))?;
     let port = listener.local_addr()?.port();
     let words = format!(in rt.alloc(); "spadesk serve taken.db {port} 1")?;
     let message = format!(in rt.alloc(); "no port {port}\n")?;
-    prints(&rt, &rt, &words, (b"", message.as_bytes()), 1)
+    prints(&rt, &rt, &words, (b"", message.as_bytes()), 1)?;
+    let words = format!(in rt.alloc(); "spadesk serve no-such-folder/taken.db {port} 1")?;
+    prints(&rt, &rt, &words, (b"", b"refused 2: Storage\n"), 1)
 }

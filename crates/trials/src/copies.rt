@@ -135,7 +135,13 @@ static BLANK: &str =
 
 #[test]
 fn a_copy_that_is_cut_off_is_refused(rt: HostRuntime) -> Result<(), Fail> {
-    prints(&rt, &rt, "spadesk open-round whole.db", (b"round 1\n", b""), 0)?;
+    prints(
+        &rt,
+        &rt,
+        "spadesk open-round whole.db",
+        (b"round 1\n", b""),
+        0,
+    )?;
     for len in [2, 99, 4_096, 61_440, 65_535] {
         refuses_beginning(&rt, &rt, len)?;
     }

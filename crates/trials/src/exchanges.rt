@@ -73,6 +73,7 @@ const EXCHANGES: &str =
        PUT /supervisors/L  | {"name":"Lee","quota":5.0}                  | 400 Bad Request        | {"fault":"Quota","number":11}
        PUT /supervisors/L  | {"name":"Lee","quota":-1}                   | 400 Bad Request        | {"fault":"Quota","number":11}
        PUT /supervisors/L  | {"name":"Lee","quota":99999999999999999999} | 400 Bad Request        | {"fault":"Quota","number":11}
+       PUT /supervisors/L  | {"name":"","quota":500}                     | 400 Bad Request        | {"fault":"Label","number":10}
        PUT /supervisors/L  | {"name":"","quota":501}                     | 400 Bad Request        | {"fault":"Label","number":10}
        PUT /supervisors/-A | {"name":"Lee","quota":500}                  | 400 Bad Request        | {"fault":"Code","number":9}
        PUT /supervisors/L  | {"name":"Lee","quota":"5"}                  | 400 Bad Request        | {"fault":"Members","number":8}

@@ -27,11 +27,15 @@ mod disks;
 #[cfg(test)]
 mod exchanges;
 #[cfg(test)]
+mod failing;
+#[cfg(test)]
 mod import_texts;
 #[cfg(test)]
 mod instances;
 #[cfg(test)]
 mod judged;
+#[cfg(test)]
+mod kept;
 #[cfg(test)]
 mod line_words;
 #[cfg(test)]
@@ -40,6 +44,8 @@ mod pieces;
 mod played;
 #[cfg(test)]
 mod printed;
+#[cfg(test)]
+mod refused;
 #[cfg(test)]
 mod rolls_of;
 #[cfg(test)]

@@ -92,7 +92,7 @@ pub(crate) fn play_at(
 }
 
 /// Plays all parts.
-fn play_parts(
+pub(crate) fn play_parts(
     alloc: Global,
     rt: &impl Abort,
     desk: &mut Desk<MemStore>,
@@ -182,6 +182,13 @@ fn message(alloc: Global, asked: &str, body: &str) -> Result<Vec<u8>, AllocError
     framed(alloc, &format!(in alloc; "{asked} HTTP/1.1")?, body)
 }
 
+/// The message of a line.
+pub(crate) fn message_of(alloc: Global, line: &str) -> Result<Vec<u8>, AllocError> {
+    let (asked, rest) = first_cell(line);
+    let (body, _answer) = first_cell(rest);
+    message(alloc, asked, body)
+}
+
 /// The answer with this status and body, which is JSON where it begins with a brace, and else a text.
 pub(crate) fn answer(alloc: Global, status: &str, body: &str) -> Result<Vec<u8>, AllocError> {
     let kind = if body.starts_with('{') {
@@ -196,6 +203,14 @@ pub(crate) fn answer(alloc: Global, status: &str, body: &str) -> Result<Vec<u8>,
     )
 }
 
+/// The answer of a line.
+pub(crate) fn answer_of(alloc: Global, line: &str) -> Result<Vec<u8>, AllocError> {
+    let (_asked, rest) = first_cell(line);
+    let (_body, rest) = first_cell(rest);
+    let (status, told) = first_cell(rest);
+    answer(alloc, status, told.trim())
+}
+
 /// Plays a line.
 fn play_line<S: Alter>(
     alloc: Global,
@@ -203,33 +218,59 @@ fn play_line<S: Alter>(
     desk: &mut Desk<S>,
     line: &str,
 ) -> Result<(), Fail> {
-    let (asked, rest) = first_cell(line);
-    let (body, rest) = first_cell(rest);
-    let (status, told) = first_cell(rest);
-    let message = message(alloc, asked, body)?;
-    let want = answer(alloc, status, told.trim())?;
+    let message = message_of(alloc, line)?;
+    let want = answer_of(alloc, line)?;
     let is_told = tells(alloc, desk, &message, &want);
     holds(rt, is_told, line);
     Ok(())
 }
 
+/// What is written when the message of a line is served.
+pub(crate) fn asked<S: Alter>(
+    alloc: Global,
+    desk: &mut Desk<S>,
+    line: &str,
+) -> Result<Vec<u8>, AllocError> {
+    let message = message_of(alloc, line)?;
+    let got = served(
+        alloc,
+        desk,
+        whole(&message),
+        Vec::new(alloc),
+        (100_000, None),
+    );
+    Ok(got.written)
+}
+
 /// Whether the message gets this one answer, after which the stream is closed.
 fn tells<S: Alter>(alloc: Global, desk: &mut Desk<S>, message: &[u8], want: &[u8]) -> bool {
     let end = End::Closed;
-    let got = served(alloc, desk, whole(message), (100_000, None));
+    let got = served(
+        alloc,
+        desk,
+        whole(message),
+        Vec::new(alloc),
+        (100_000, None),
+    );
     got.written.as_slice() == want && got.result == Ok(Served { answered: 1, end })
 }
 
 /// Whether a read is answered with the same bytes twice.
 fn is_same(alloc: Global, desk: &mut Desk<MemStore>, asked: &str) -> Result<bool, AllocError> {
     let message = message(alloc, asked, "")?;
-    let first = served(alloc, desk, whole(&message), (100_000, None));
+    let first = served(
+        alloc,
+        desk,
+        whole(&message),
+        Vec::new(alloc),
+        (100_000, None),
+    );
     let is_read = first.written.starts_with(b"HTTP/1.1 200 OK\r\n");
     Ok(is_read && tells(alloc, desk, &message, &first.written))
 }
 
 /// All the bytes, a thousand at a time.
-fn whole(bytes: &[u8]) -> Pieces<'_> {
+pub(crate) fn whole(bytes: &[u8]) -> Pieces<'_> {
     Pieces {
         bytes,
         first: 1000,
@@ -240,21 +281,21 @@ fn whole(bytes: &[u8]) -> Pieces<'_> {
 
 /// What came of a stream.
 #[derive(Drop)]
-struct Outcome {
-    written: Vec<u8>,
-    result: Result<Served, StreamFault>,
+pub(crate) struct Outcome {
+    pub written: Vec<u8>,
+    pub result: Result<Served, StreamFault>,
     failed_reads: u64,
     failed_writes: u64,
 }
 
-/// Serves what the reader gives, to a writer with so much room.
-fn served<S: Alter>(
+/// Serves what the reader gives, to a writer with so much room that keeps what it takes here.
+pub(crate) fn served<S: Alter>(
     alloc: Global,
     desk: &mut Desk<S>,
     reader: Pieces,
+    taken: Vec<u8>,
     (room, fault): (usize, Option<io::ErrorKind>),
 ) -> Outcome {
-    let taken = Vec::new(alloc);
     let mut reader = Watched::new(reader);
     let mut writer = Watched::new(Narrow { taken, room, fault });
     let result = serve_stream(alloc, desk, &mut reader, &mut writer);
@@ -293,7 +334,7 @@ fn play_stream(alloc: Global, rt: &impl Abort, desk: &mut Desk<MemStore>, stream
         piece,
         fault: stream.broken,
     };
-    let got = served(alloc, desk, reader, stream.room);
+    let got = served(alloc, desk, reader, Vec::new(alloc), stream.room);
     let written = beginning(stream.written.0, stream.written.1);
     holds(rt, is_outcome(&got, written, &stream.result), stream.name);
 }
@@ -315,7 +356,7 @@ fn play_cuts(
             piece: 200,
             fault: None,
         };
-        let got = served(alloc, desk, reader, (100_000, None));
+        let got = served(alloc, desk, reader, Vec::new(alloc), (100_000, None));
         let is_well = is_outcome(&got, written, &Ok(Served { answered, end }));
         holds(rt, is_well, "cut into two pieces");
     }

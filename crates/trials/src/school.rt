@@ -10,3 +10,10 @@ pub(crate) const SCHOOL: &str =
        PUT /students/A    | {"name":"Ann"}                              | 200 OK | {"ok":true}
        PUT /students/B    | {"name":"Bob"}                              | 200 OK | {"ok":true}
        PUT /students/C    | {"name":"Cy"}                               | 200 OK | {"ok":true}"#;
+
+/// A round is open, in which A lists P and Q, and C lists Z and P.
+#[rattlefmt::skip]
+pub(crate) const LISTED: &str =
+    r#"POST /rounds | | 200 OK | {"round":1}
+       PUT /lists/A | {"choices":["P","Q"]} | 200 OK | {"ok":true}
+       PUT /lists/C | {"choices":["Z","P"]} | 200 OK | {"ok":true}"#;

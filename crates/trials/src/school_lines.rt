@@ -1,5 +1,6 @@
 //! The lines over a database file.
 
+use crate::judged::holds;
 use crate::printed::{print_rows, prints, write_files};
 use rolls::MOST_IMPORT_BYTES;
 use sqlite::{Connection, FileStore, Unknown};
@@ -48,11 +49,12 @@ static ROUND: &str =
        spadesk report round.db loads 1                        | 0 | L                     2    5^n  P                   1    1^n  Q                   1    1^n  Z                   0    0^n |
        spadesk report round.db profile 1                      | 0 | ROUND       1 closed^nSTUDENTS    3^nPLACED      2^nRANK 1      0^nRANK 2      2^nRANK 3      0^nRANK 4      0^n^k       |"#;
 
-/// Files that are no database: a folder that is not there, and a text.
+/// Names of no database: in a folder that is not there, of a text, and of a folder.
 #[rattlefmt::skip]
 static NO_DATABASE: &str =
     r#"spadesk open-round no-such-folder/school.db | 1 |  | refused 2: Storage^n
-       spadesk open-round text.db                  | 1 |  | refused 2: Storage^n"#;
+       spadesk open-round text.db                  | 1 |  | refused 2: Storage^n
+       spadesk open-round .                        | 1 |  | refused 2: Storage^n"#;
 
 #[test]
 fn lines_over_files_print_as_they_should(rt: HostRuntime) -> Result<(), Fail> {
@@ -65,7 +67,15 @@ fn lines_over_files_print_as_they_should(rt: HostRuntime) -> Result<(), Fail> {
 /// The last record of a long import file.
 static LAST_RECORD: &str = "S2,Bob\n";
 
-// An import file of 65,536 bytes, whose last record stands at its end, and one of a byte more.
+/// Import files that are refused before a database is opened: one that is not there, and one that is too long.
+#[rattlefmt::skip]
+static UNREAD: &str =
+    r#"spadesk import unmade.db students I1 no-such.csv             | 1 |  | refused 2: Storage^n
+       spadesk import unmade.db students I1 large.csv               | 1 |  | refused 4: TooLarge^n
+       spadesk import no-such-folder/large.db students I1 large.csv | 1 |  | refused 4: TooLarge^n"#;
+
+// An import file of 65,536 bytes, whose last record stands at its end, and one of a byte more: the file is judged before the
+// database is opened, so none is made.
 #[test]
 fn an_import_file_is_read_to_its_end_or_is_too_large(rt: HostRuntime) -> Result<(), Fail> {
     let mut text = String::from_str(rt.alloc(), "code,name\nS1,Ann\n")?;
@@ -78,6 +88,8 @@ fn an_import_file_is_read_to_its_end_or_is_too_large(rt: HostRuntime) -> Result<
     prints(&rt, &rt, words, (b"rows 2\n", b""), 0)?;
     text.push_str("\n")?;
     fs::write(&rt, "large.csv", &text)?;
+    print_rows(&rt, &rt, UNREAD)?;
+    holds(&rt, fs::read(&rt, "unmade.db").is_err(), "no database");
     prints(&rt, &rt, words, (b"", b"refused 4: TooLarge\n"), 1)
 }
 

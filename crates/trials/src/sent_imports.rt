@@ -37,6 +37,7 @@ const SPREADSHEETS: &str =
        POST /imports/students/A | code,name^nS1,^x^n                      | 409 Conflict    | {"fault":"Row","inner":10,"number":29,"record":1}
        POST /imports/students/A | code,name^n^x,Ann^n                     | 409 Conflict    | {"fault":"Row","inner":9,"number":29,"record":1}
        POST /imports/students/A | code,name^nS1,"An""n"^n                 | 200 OK          | {"rows":1}
+       GET /students/S1         |                                         | 200 OK          | {"list":null,"name":"An\"n","placed":null}
        POST /imports/students/B | ^e^b^fcode,name^r^nS1,Ann^r^nS2,Bob^r^n | 200 OK          | {"rows":2}"#;
 
 /// A supervisor and projects that come as imports.

@@ -3,6 +3,7 @@
 use crate::cells::first_cell;
 use crate::desks::desk_over;
 use crate::judged::holds;
+use crate::kept::{keeps, kept_by};
 use crate::played::{count, play_lines};
 use desk::Desk;
 use sqlite::{Connection, MemStore};
@@ -40,7 +41,8 @@ static OF_ROLLS: &str =
        quota of 501        | INSERT INTO supervisor VALUES ('L', 'Lee', 501)                                                  | Damaged
        quota below 0       | INSERT INTO supervisor VALUES ('L', 'Lee', -1)                                                   | Damaged
        another edition     | UPDATE edition SET number = 9                                                                    | Damaged
-       a table missing     | DROP TABLE student                                                                               | Damaged"#;
+       students missing    | DROP TABLE student                                                                               | Damaged
+       choices missing     | DROP TABLE choice                                                                                | Damaged"#;
 
 /// Rolls of one supervisor, two projects and two students, for the tables of rounds.
 static ROLLS: &str =
@@ -94,9 +96,6 @@ static OF_IMPORTS: &str =
        rows below 0    | INSERT INTO import VALUES ('I1', 'students', x'', -1)                                  | Damaged
        imports missing | DROP TABLE import                                                                      | Damaged"#;
 
-/// The number of tables and indices.
-const SCHEMA: &str = "SELECT count(*) FROM sqlite_schema";
-
 /// The tables with what is added to them.
 fn made(alloc: Global, before: &[&str], added: &str) -> Result<Connection<MemStore>, Fail> {
     let mut conn = Connection::open_in_memory(alloc)?;
@@ -127,7 +126,7 @@ fn opened(
     }
 }
 
-/// Compares what the tables of each row are opened as, and that no table is added or taken away.
+/// Compares what the tables of each row are opened as, and that their schema and their rows stay.
 fn compare_hand_made(
     alloc: Global,
     rt: &impl Abort,
@@ -138,9 +137,9 @@ fn compare_hand_made(
         let (_name, rest) = first_cell(row);
         let (added, line) = first_cell(rest);
         let mut conn = made(alloc, before, added)?;
-        let tables = count(&mut conn, SCHEMA)?;
+        let kept = kept_by(alloc, &mut conn)?;
         let mut conn = opened(alloc, rt, conn, line)?;
-        holds(rt, count(&mut conn, SCHEMA)? == tables, row);
+        holds(rt, keeps(alloc, &mut conn, &kept)?, row);
     }
     Ok(())
 }

@@ -19,6 +19,7 @@ const SHUT: &str =
        PUT /lists/A        | {"choices":["P","Q"]}                             | 409 Conflict           | {"fault":"NoRoundOpen","number":19}
        PUT /lists/A        | {"choices":[]}                                    | 409 Conflict           | {"fault":"NoRoundOpen","number":19}
        PUT /lists/A        | {"choices":["P","P"]}                             | 409 Conflict           | {"fault":"NoRoundOpen","number":19}
+       PUT /lists/A        | {"choices":["P","N"]}                             | 409 Conflict           | {"fault":"NoRoundOpen","number":19}
        PUT /lists/A        | {"choices":["P","N","P"]}                         | 409 Conflict           | {"fault":"NoRoundOpen","number":19}
        GET /rounds/1       |                                                   | 404 Not Found          | {"fault":"UnknownRound","number":26}
        GET /rounds/9999    |                                                   | 404 Not Found          | {"fault":"UnknownRound","number":26}
@@ -105,6 +106,7 @@ const QUOTAS: &str =
        PUT /lists/A       | {"choices":["P"]}                           | 200 OK | {"ok":true}
        PUT /lists/B       | {"choices":["Q","R"]}                       | 200 OK | {"ok":true}
        POST /rounds/close |                                             | 200 OK | {"profile":[1,1,0,0^,],"round":1,"size":2}
+       GET /students/A    |                                             | 200 OK | {"list":null,"name":"Ann","placed":{"project":"P","rank":1,"round":1}}
        GET /students/B    |                                             | 200 OK | {"list":null,"name":"Bob","placed":{"project":"R","rank":2,"round":1}}
        POST /rounds       |                                             | 200 OK | {"round":2}
        POST /rounds/close |                                             | 200 OK | {"profile":[0,0,0,0^,],"round":2,"size":0}"#;

@@ -1,0 +1,258 @@
+//! Memory that is refused: what is answered, what the tables keep, and that the same request is made when it is asked again.
+//!
+//! A request for `ARM` bytes and `n` more is beyond any machine, so it is refused. An allocator that listens takes it for: refuse the nth
+//! request from here on. It grants the `ASK` bytes where that request came, as no other does. So with the system's allocator each
+//! row runs undisturbed, and under `tools/memory/every.py` once for each request for memory that it makes.
+
+use crate::desks::{desk_over, new_desk};
+use crate::judged::holds;
+use crate::kept::{keeps, kept_by};
+use crate::played::{
+    Outcome, Part, answer_of, asked, message_of, play_lines, play_parts, served, whole,
+};
+use crate::school::{LISTED, SCHOOL};
+use desk::Desk;
+use rolls::Refusal;
+use sqlite::MemStore;
+use std::alloc::{AllocError, Global};
+use std::process::Abort;
+use std::rt::HostRuntime;
+use std::test::Fail;
+use web::StreamFault;
+
+const ARM: usize = 0x3000_0000_0000;
+
+const ASK: usize = 0x3100_0000_0000;
+
+/// Asks for the nth request for memory from here on to be refused.
+fn arm(alloc: Global, n: u32) {
+    let _ = Vec::<u8>::with_capacity(alloc, ARM + n as usize);
+}
+
+/// Whether that request came.
+fn is_hit(alloc: Global) -> bool {
+    Vec::<u8>::with_capacity(alloc, ASK).is_ok()
+}
+
+/// How a request is refused for want of memory.
+const MEMORY: &str = r#"||503 Service Unavailable | {"fault":"Memory","number":1}"#;
+
+/// What is played first; requests that come as one stream; what is read while none of them was made; and when all were.
+type Row = (&'static [Part], &'static str, &'static str, &'static str);
+
+/// Twenty pairs of students with lists in an open round, by five requests.
+#[rattlefmt::skip]
+const TWENTY: &[Part] = &[
+    Part::Lines(r#"POST /imports/supervisors/I1 | code,name,quota^nL,Lee,500^n | 200 OK | {"rows":1}"#),
+    Part::Filled(20, "X$,Pumps,L,1^nV$,Pumps,L,1^nU$,Pumps,L,1^n", r#"POST /imports/projects/I2 | code,name,supervisor,quota^nY,Yards,L,0^nZ,Zinc,L,0^n$ | 200 OK | {"rows":62}"#),
+    Part::Filled(20, "A$,Ann^nC$,Cy^n", r#"POST /imports/students/I3 | code,name^n$ | 200 OK | {"rows":40}"#),
+    Part::Lines(r#"POST /rounds || 200 OK | {"round":1}"#),
+    Part::Filled(20, "A$,X$ V$^nC$,Z X$ Y U$^n", r#"POST /imports/lists/I4 | student,choices^n$ | 200 OK | {"rows":40}"#),
+];
+
+/// A preview of the school, which starts a session where there is none.
+const PREVIEW: &str = r#"GET /preview || 200 OK | {"profile":[0,2,0,0^,],"size":2}"#;
+
+#[rattlefmt::skip]
+static ROWS: [Row; 7] = [
+    (&[],
+     r#"POST /imports/students/I1 | code,name^nS1,Ann^nS2,Bob^n | 200 OK | {"rows":2}"#,
+     r#"GET /students/S2 || 404 Not Found | {"fault":"UnknownStudent","number":15}"#,
+     r#"GET /students/S2 || 200 OK | {"list":null,"name":"Bob","placed":null}"#),
+    (&[],
+     r#"PUT /students/S1 | {"name":"Ann"} | 200 OK | {"ok":true}
+        PUT /students/S2 | {"name":"Bob"} | 200 OK | {"ok":true}
+        GET /students/S1 || 200 OK | {"list":null,"name":"Ann","placed":null}
+        GET /students/S2 || 200 OK | {"list":null,"name":"Bob","placed":null}"#,
+     r#"GET /students/S1 || 404 Not Found | {"fault":"UnknownStudent","number":15}
+        GET /students/S2 || 404 Not Found | {"fault":"UnknownStudent","number":15}"#,
+     r#"GET /students/S1 || 200 OK | {"list":null,"name":"Ann","placed":null}
+        GET /students/S2 || 200 OK | {"list":null,"name":"Bob","placed":null}"#),
+    (&[Part::Lines(SCHOOL), Part::Lines(LISTED)], PREVIEW, "", PREVIEW),
+    (&[Part::Lines(SCHOOL), Part::Lines(LISTED), Part::Lines(PREVIEW)], PREVIEW, PREVIEW, PREVIEW),
+    (&[Part::Lines(SCHOOL), Part::Lines(LISTED), Part::Lines(PREVIEW)],
+     r#"PUT /lists/B | {"choices":["Z","Q"]} | 200 OK | {"ok":true}"#,
+     r#"GET /preview || 200 OK | {"profile":[0,2,0,0^,],"size":2}
+        GET /students/B || 200 OK | {"list":null,"name":"Bob","placed":null}"#,
+     r#"GET /preview || 200 OK | {"profile":[1,1,0,0^,],"size":2}
+        GET /students/B || 200 OK | {"list":["Z","Q"],"name":"Bob","placed":null}"#),
+    (TWENTY, r#"GET /preview || 200 OK | {"profile":[20,0,0,20^,],"size":40}"#, "", ""),
+    (TWENTY,
+     r#"POST /rounds/close || 200 OK | {"profile":[20,0,0,20^,],"round":1,"size":40}"#,
+     r#"GET /rounds/1 || 200 OK | {"open":true,"placed":0,"profile":[0,0,0,0^,],"round":1,"students":40}
+        GET /preview || 200 OK | {"profile":[20,0,0,20^,],"size":40}"#,
+     r#"GET /rounds/1 || 200 OK | {"open":false,"placed":40,"profile":[20,0,0,20^,],"round":1,"students":40}"#),
+];
+
+/// What may come of a row: what is written, and what the tables then keep.
+#[derive(Drop)]
+struct Allowed {
+    written: Vec<u8>,
+    kept: String,
+}
+
+/// A desk at which the parts of a row were played.
+fn desk_of(alloc: Global, rt: &impl Abort, parts: &[Part]) -> Result<Desk<MemStore>, Fail> {
+    let mut desk = new_desk(alloc, rt)?;
+    play_parts(alloc, rt, &mut desk, parts)?;
+    Ok(desk)
+}
+
+/// What comes of a row where the requests that have a bit in `refused` are refused for want of memory, so as if they were not asked.
+fn played_without(alloc: Global, rt: &impl Abort, row: Row, refused: u32) -> Result<Allowed, Fail> {
+    let mut desk = desk_of(alloc, rt, row.0)?;
+    let mut written = Vec::new(alloc);
+    let mut bit = 1;
+    for line in row.1.lines() {
+        if refused & bit == 0 {
+            written.extend_from_slice(&asked(alloc, &mut desk, line)?)?;
+        } else {
+            written.extend_from_slice(&answer_of(alloc, MEMORY)?)?;
+        }
+        bit = bit.wrapping_mul(2);
+    }
+    let kept = kept_by(alloc, &mut desk.into_connection())?;
+    Ok(Allowed { written, kept })
+}
+
+/// What may come of a row: first where nothing is refused, last where each request is.
+fn all_allowed(alloc: Global, rt: &impl Abort, row: Row) -> Result<Vec<Allowed>, Fail> {
+    let mut count = 1u32;
+    for _line in row.1.lines() {
+        count = count.wrapping_mul(2);
+    }
+    let mut all = Vec::new(alloc);
+    for refused in 0..count {
+        all.push(played_without(alloc, rt, row, refused)?)?;
+    }
+    Ok(all)
+}
+
+/// The messages of lines.
+fn messages(alloc: Global, lines: &str) -> Result<Vec<u8>, AllocError> {
+    let mut bytes = Vec::new(alloc);
+    for line in lines.lines() {
+        bytes.extend_from_slice(&message_of(alloc, line)?)?;
+    }
+    Ok(bytes)
+}
+
+/// Asks the requests of a row with the nth request for memory refused. What came of them, and whether it was refused.
+fn refused(
+    alloc: Global,
+    desk: &mut Desk<MemStore>,
+    row: Row,
+    n: u32,
+) -> Result<(Outcome, bool), AllocError> {
+    let bytes = messages(alloc, row.1)?;
+    let taken = Vec::with_capacity(alloc, 10_000)?;
+    arm(alloc, n);
+    let got = served(alloc, desk, whole(&bytes), taken, (10_000, None));
+    let is_hit = is_hit(alloc);
+    Ok((got, is_hit))
+}
+
+/// Whether this may come of a row. A stream that breaks off for want of memory has asked nothing yet.
+fn is_allowed(all: &[Allowed], got: &Outcome, kept: &str) -> bool {
+    match got.result {
+        Ok(_) => {
+            for it in all {
+                if it.written.as_slice() == got.written.as_slice() && it.kept.as_str() == kept {
+                    return true;
+                }
+            }
+            false
+        }
+        Err(StreamFault::Memory) => match all.last() {
+            Some(none) => got.written.is_empty() && none.kept.as_str() == kept,
+            None => false,
+        },
+        Err(_) => false,
+    }
+}
+
+/// Runs a row, and looks at its tables. Whether the nth request for memory came.
+fn run(alloc: Global, rt: &impl Abort, row: Row, all: &[Allowed], n: u32) -> Result<bool, Fail> {
+    let mut desk = desk_of(alloc, rt, row.0)?;
+    let (got, is_hit) = refused(alloc, &mut desk, row, n)?;
+    let kept = kept_by(alloc, &mut desk.into_connection())?;
+    holds(rt, is_allowed(all, &got, &kept), row.1);
+    Ok(is_hit)
+}
+
+/// Runs a row, and asks its requests again where one was refused.
+fn run_again(
+    alloc: Global,
+    rt: &impl Abort,
+    row: Row,
+    (made, none): (&Allowed, &Allowed),
+    n: u32,
+) -> Result<(), Fail> {
+    let mut desk = desk_of(alloc, rt, row.0)?;
+    let (mut got, _is_hit) = refused(alloc, &mut desk, row, n)?;
+    if got.written.is_empty() || got.written.as_slice() == none.written.as_slice() {
+        play_lines(alloc, rt, &mut desk, row.2)?;
+    }
+    if got.written.as_slice() != made.written.as_slice() {
+        got = refused(alloc, &mut desk, row, 0)?.0;
+    }
+    holds(rt, got.written.as_slice() == made.written.as_slice(), row.1);
+    play_lines(alloc, rt, &mut desk, row.3)?;
+    let is_kept = keeps(alloc, &mut desk.into_connection(), &made.kept)?;
+    holds(rt, is_kept, row.1);
+    Ok(())
+}
+
+/// Runs a row with each request for memory refused in turn.
+fn sweep(alloc: Global, rt: &impl Abort, row: Row) -> Result<(), Fail> {
+    let all = all_allowed(alloc, rt, row)?;
+    let (Some(made), Some(none)) = (all.first(), all.last()) else {
+        return Err(Fail::new("nothing is allowed"));
+    };
+    for n in 1..1_000_000 {
+        let is_hit = run(alloc, rt, row, &all, n)?;
+        run_again(alloc, rt, row, (made, none), n)?;
+        if !is_hit {
+            return Ok(());
+        }
+    }
+    Err(Fail::new("the requests for memory have no end"))
+}
+
+#[test]
+fn what_is_refused_memory_is_made_when_it_is_asked_again(rt: HostRuntime) -> Result<(), Fail> {
+    for row in ROWS {
+        sweep(rt.alloc(), &rt, row)?;
+    }
+    Ok(())
+}
+
+/// Opens a desk over filled tables with the nth request for memory refused: it is opened, or refused and opened then. Whether that
+/// request came.
+fn open(alloc: Global, rt: &impl Abort, n: u32) -> Result<bool, Fail> {
+    let mut connection = desk_of(alloc, rt, TWENTY)?.into_connection();
+    let kept = kept_by(alloc, &mut connection)?;
+    arm(alloc, n);
+    let opened = Desk::open(alloc, connection);
+    let is_hit = is_hit(alloc);
+    let connection = match opened {
+        Ok(desk) => desk.into_connection(),
+        Err((refusal, connection)) => {
+            holds(rt, refusal == Refusal::Memory, "an opening without memory");
+            connection
+        }
+    };
+    let mut connection = desk_over(alloc, rt, connection).into_connection();
+    holds(rt, keeps(alloc, &mut connection, &kept)?, "filled tables");
+    Ok(is_hit)
+}
+
+#[test]
+fn a_desk_is_opened_or_refused_for_want_of_memory(rt: HostRuntime) -> Result<(), Fail> {
+    for n in 1..1_000_000 {
+        if !open(rt.alloc(), &rt, n)? {
+            return Ok(());
+        }
+    }
+    Err(Fail::new("the requests for memory have no end"))
+}

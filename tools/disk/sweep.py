@@ -1,0 +1,158 @@
+#!/usr/bin/env python3
+"""Fails each call of the disk of a line in turn, or ends the program there, and looks at what is printed and at what is left.
+
+tools/disk/sweep.py SPADESK [ROW..]     needs gcc, curl and sqlite3
+
+The rows are LINES, by their numbers from 1; without a number all are swept. Each call is failed alone and with all behind it, by EIO and by ENOSPC;
+the program is killed before it, and half-way through it where it is a write; and no file may grow beyond some size, for sizes from none in
+steps of 4,096 bytes, until the line is not hindered. Then one of these must hold, where the office is what the program itself reports of the files, and their rows:
+- all is printed as ever, and the office is that after the line;
+- the line is refused as a database that fails (over a connection it is the answer), and the office is that before the line, or that
+  after it, as a crash may leave it; where it is that before it, the line does its work when it is asked again;
+- the program was killed, and the office is that before or that after.
+What was printed was done: where a call behind the last text is the first that fails, the first of these holds, or the program was killed and
+the office is that after the line. Where all calls went well the file alone is that office.
+"""
+import os
+import resource
+import shutil
+import signal
+import subprocess
+import sys
+import tempfile
+from collections import Counter
+
+HERE = os.path.dirname(os.path.abspath(__file__))
+EXAMPLE = os.path.join(HERE, "..", "..", "examples", "first-round")
+PORT = 18081
+PUT = ["-X", "PUT", "-d", '{"choices":["SYMMETRY","CIPHER"]}', f"http://127.0.0.1:{PORT}/lists/S16"]
+REOPEN = ["-X", "POST", f"http://127.0.0.1:{PORT}/rounds/reopen"]
+LINES = [
+    ("import DB supervisors I1 supervisors.csv", None),
+    ("import DB projects I2 projects.csv", None),
+    ("import DB students I3 students.csv", None),
+    ("open-round DB", None),
+    ("import DB lists I4 lists.csv", None),
+    (f"serve DB {PORT} 1", PUT),
+    ("close-round DB", None),
+    ("close-round DB", None),
+    ("report DB placements 1", None),
+    (f"serve DB {PORT} 1", REOPEN),
+]
+MODES = [(mode, fault) for mode in ("once", "on") for fault in ("EIO", "ENOSPC")] + [("kill", ""), ("tear", "")]
+STORAGE = '{"fault":"Storage","number":2}'
+
+
+def limited(size):
+    """Lets no file of a process grow beyond this size: a write beyond it fails."""
+    signal.signal(signal.SIGXFSZ, signal.SIG_IGN)
+    resource.setrlimit(resource.RLIMIT_FSIZE, (size, size))
+
+
+class Sweep:
+    def __init__(self, program, folder):
+        self.program, self.folder, self.runs = os.path.abspath(program), folder, 0
+        self.library = os.path.join(folder, "fail.so")
+        subprocess.run(["gcc", "-O2", "-shared", "-fPIC", "-o", self.library, os.path.join(HERE, "fail.c"), "-ldl"], check=True)
+        for name in os.listdir(EXAMPLE):
+            shutil.copy(os.path.join(EXAMPLE, name), folder)
+
+    def line(self, words, request=None, mode=("", ""), at=0, size=None):
+        """What a line prints on both, its status, and what the one connection that it may serve is answered."""
+        counted = os.path.join(self.folder, "counted")
+        env = {**os.environ, "LD_PRELOAD": self.library, "MODE": mode[0], "FAULT": mode[1], "AT": str(at), "COUNTED": counted if size is None else ""}
+        how = {"cwd": self.folder, "env": env, "stdout": subprocess.PIPE, "stderr": subprocess.PIPE, "text": True}
+        if size is not None:
+            how["preexec_fn"] = lambda: limited(size)
+        with subprocess.Popen([self.program, *words.split()], **how) as it:
+            first = it.stdout.readline() if request else ""
+            answer = ""
+            if first.startswith("listening"):
+                answer = subprocess.run(["curl", "-s", *request], capture_output=True, text=True).stdout
+            out, err = it.communicate(timeout=60)
+        return first + out, err, it.returncode, answer
+
+    def copy(self, start, to, ends=("", "-wal")):
+        for end in ["", "-wal"]:
+            path = os.path.join(self.folder, to + end)
+            if os.path.exists(path):
+                os.remove(path)
+            if start and end in ends and os.path.exists(os.path.join(self.folder, start + end)):
+                shutil.copy(os.path.join(self.folder, start + end), path)
+
+    def office(self, name, ends=("", "-wal")):
+        """A report on a database, which the program opens for it and closes, and the rows that it has then."""
+        self.copy(name, "looked.db", ends)
+        report = self.line("report looked.db placements 1")
+        dump = subprocess.run(["sqlite3", os.path.join(self.folder, "looked.db"), "PRAGMA integrity_check", ".dump"], capture_output=True, text=True)
+        return dump.stdout, report
+
+    def judge(self, row, came, is_behind):
+        """What came of a run, in a word; else an end."""
+        words, request, undisturbed, before, after = row
+        self.runs += 1
+        left = self.office("swept.db")
+        where = "after" if left == after else "before" if left == before else "another office"
+        refused = came[3] == STORAGE if came[3] else came[:3] == ("", "refused 2: Storage\n", 1)
+        if came == undisturbed:
+            what = "as ever"
+        elif came[2] == -signal.SIGKILL:
+            what = "killed"
+        elif is_behind and (came[:2], came[3]) == (undisturbed[:2], undisturbed[3]):
+            what = "as ever but for the status"
+        else:
+            what = "refused 2" if refused else "another answer"
+        is_undone = where == "before" and what in ("killed", "refused 2") and not is_behind
+        if what == "another answer" or not (where == "after" or is_undone):
+            sys.exit(f"{words}: {what}, {where}: {came}")
+        if what == "refused 2" and is_undone:
+            again = self.line(words, request)
+            if again != undisturbed or self.office("swept.db") != after:
+                sys.exit(f"{words}: asked again: {again}")
+        return f"{what}, {where}"
+
+    def of(self, start, words, request):
+        """Sweeps a line over the database that stands in `start`, or a new one; what it leaves is the next start."""
+        told = words.replace("DB", "swept.db")
+        self.copy(start, "swept.db")
+        before = self.office("swept.db")
+        undisturbed = self.line(told, request)
+        with open(os.path.join(self.folder, "counted"), encoding="utf-8") as file:
+            first, last = map(int, file.read().split())
+        after = self.office("swept.db")
+        self.copy("swept.db", "after.db")
+        if self.office("after.db", [""]) != after:
+            sys.exit(f"{words}: the file alone is another office")
+        row = told, request, undisturbed, before, after
+        came = Counter()
+        for mode in MODES:
+            for at in range(1, last + 1):
+                self.copy(start, "swept.db")
+                came[mode[0], self.judge(row, self.line(told, request, mode, at), at > first)] += 1
+        for size in range(0, 1 << 20, 4096):
+            self.copy(start, "swept.db")
+            what = self.judge(row, self.line(told, request, size=size), False)
+            came["size", what] += 1
+            if what.startswith("as ever"):
+                break
+        print(f"{words:42} {last:4} calls, {last - first:3} behind what is printed")
+        for (mode, what), count in sorted(came.items()):
+            print(f"    {mode:5} {what:40} {count:5}", flush=True)
+
+
+def main(program, *numbers):
+    with tempfile.TemporaryDirectory() as folder:
+        sweep = Sweep(program, folder)
+        start = None
+        for number, (words, request) in enumerate(LINES, 1):
+            if not numbers or str(number) in numbers:
+                sweep.of(start, words, request)
+            sweep.copy(start, "after.db")
+            sweep.line(words.replace("DB", "after.db"), request)
+            start = f"step{number}.db"
+            sweep.copy("after.db", start)
+        print(f"{sweep.runs} runs")
+
+
+if __name__ == "__main__":
+    main(*sys.argv[1:])
