@@ -19,7 +19,7 @@ from families import owners, spread
 HERE = os.path.dirname(os.path.abspath(__file__))
 SIZES = [60, 125, 250, 500]
 LINES = ["solve", "check"]
-WIDTH, HEIGHT, LEFT, BOTTOM, TOP = 400, 300, 52, 44, 46
+WIDTH, HEIGHT, LEFT, RIGHT, BOTTOM, TOP = 420, 300, 36, 110, 44, 46
 COLOURS = {"plain Rust": "#b0552f", "spadesk": "#1f5f8b"}
 
 
@@ -28,11 +28,11 @@ def round_text(students):
     rng = random.Random(1)
     supervisors, projects = students // 5, students * 4 // 5
     owner = owners(rng, supervisors, projects)
-    lines = [f"S,L{l},{q}" for l, q in enumerate(spread(rng, students * 6 // 5 + supervisors, supervisors))]
-    lines += [f"P,P{p},L{owner[p]},{rng.choice((1, 1, 2, 2, 3))}" for p in range(projects)]
+    lines = [f"S,L{l:03},{q}" for l, q in enumerate(spread(rng, students * 6 // 5 + supervisors, supervisors))]
+    lines += [f"P,P{p:03},L{owner[p]:03},{rng.choice((1, 1, 2, 2, 3))}" for p in range(projects)]
     for student in range(students):
         chosen = rng.sample(range(projects), 8)
-        lines.append(f"C,A{student}," + ",".join(f"P{p}" for p in chosen))
+        lines.append(f"C,A{student:03}," + ",".join(f"P{p:03}" for p in chosen))
     return "\n".join(lines) + "\n"
 
 
@@ -72,7 +72,7 @@ def panel(line, found, shift):
     most = max(max(found[line, name]) for name in COLOURS)
 
     def at(students, millions):
-        x = shift + LEFT + (WIDTH - LEFT - 84) * students / SIZES[-1]
+        x = shift + LEFT + (WIDTH - LEFT - RIGHT) * students / SIZES[-1]
         return x, HEIGHT - BOTTOM - (HEIGHT - BOTTOM - TOP) * millions / most
 
     left, base = at(0, 0)
@@ -85,7 +85,7 @@ def panel(line, found, shift):
     for students in SIZES:
         x, _ = at(students, 0)
         parts.append(f'<text x="{x:.1f}" y="{base + 16:.1f}" text-anchor="middle">{students}</text>')
-    for rows, (name, colour) in enumerate(COLOURS.items()):
+    for name, colour in COLOURS.items():
         points = [at(students, millions) for students, millions in zip(SIZES, found[line, name])]
         x, y = points[-1]
         parts.append(f'<polyline points="{" ".join(f"{a:.1f},{b:.1f}" for a, b in points)}" fill="none" stroke="{colour}" stroke-width="2"/>')
