@@ -39,6 +39,8 @@ mod kept;
 #[cfg(test)]
 mod line_words;
 #[cfg(test)]
+mod offices;
+#[cfg(test)]
 mod pieces;
 #[cfg(test)]
 mod played;

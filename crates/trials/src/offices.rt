@@ -1,0 +1,69 @@
+//! An office and its tables without a desk: what is applied is saved, and loaded as it was.
+
+use crate::judged::{holds, well};
+use office::Office;
+use rolls::{Done, Plain, Refusal, Text};
+use sqlite::{Connection, MemStore};
+use std::alloc::Global;
+use std::process::Abort;
+use std::rt::HostRuntime;
+use std::test::Fail;
+use store::Store;
+
+/// The request that puts a student.
+fn put_student(alloc: Global) -> Result<Plain, Fail> {
+    Ok(Plain::PutStudent {
+        code: Text::of(alloc, "S1")?,
+        label: Text::of(alloc, "Ann")?,
+    })
+}
+
+/// The request that takes the student's list away.
+fn drop_list(alloc: Global) -> Result<Plain, Fail> {
+    Ok(Plain::DropList {
+        student: Text::of(alloc, "S1")?,
+    })
+}
+
+/// Whether the student was put, by one change of the tables.
+fn is_put(done: &Result<Done, Refusal>) -> bool {
+    match done {
+        Ok(done) => done.changes.len() == 1,
+        Err(_) => false,
+    }
+}
+
+/// Whether the office has this student, and no other.
+fn has_student(office: &Office) -> bool {
+    match office.students() {
+        [student] => student.code.as_str() == "S1" && student.label.as_str() == "Ann",
+        _ => false,
+    }
+}
+
+/// Applies the put, and then a request that is refused and changes nothing.
+fn applied(alloc: Global, rt: &impl Abort, office: &mut Office) -> Result<Done, Fail> {
+    let put = office.apply(put_student(alloc)?);
+    holds(rt, is_put(&put), "a put");
+    let refused = matches!(office.apply(drop_list(alloc)?), Err(Refusal::NoRoundOpen));
+    holds(rt, refused && has_student(office), "a refused request");
+    well(put, "a put")
+}
+
+/// Saves what was applied, and loads the office again.
+fn saved(rt: &impl Abort, store: &mut Store<MemStore>, done: &Done) -> Result<(), Fail> {
+    well(store.save(&done.changes), "a saving")?;
+    let loaded = well(store.load(), "a loading")?;
+    holds(rt, has_student(&loaded), "what is loaded");
+    Ok(())
+}
+
+#[test]
+fn what_is_applied_and_saved_is_loaded(rt: HostRuntime) -> Result<(), Fail> {
+    let connection = Connection::open_in_memory(rt.alloc())?;
+    let Ok((mut store, mut office)) = Store::open(rt.alloc(), connection) else {
+        return Err(Fail::new("an opening"));
+    };
+    let done = applied(rt.alloc(), &rt, &mut office)?;
+    saved(&rt, &mut store, &done)
+}
