@@ -27,8 +27,6 @@ mod disks;
 #[cfg(test)]
 mod exchanges;
 #[cfg(test)]
-mod failing;
-#[cfg(test)]
 mod import_texts;
 #[cfg(test)]
 mod instances;
