@@ -123,7 +123,7 @@ const LONGEST_LABEL: &str =
 const LONG_LABEL: &str =
     r#"PUT /students/S2 | {"name":"$"} | 400 Bad Request | {"fault":"Label","number":10}"#;
 
-/// A hundred supervisors, S0 to S99.
+/// A hundred supervisors, each with a code of its own: a letter and a number.
 #[rattlefmt::skip]
 const EACH_SUPERVISOR: &str =
     r#"PUT /supervisors/S$ | {"name":"Kim","quota":1} | 200 OK | {"ok":true}"#;
