@@ -29,7 +29,7 @@ use Rattle.rolls.proofs.Found.{holds_of_found}
 use Rattle.rolls.proofs.LastRound.{last_kept, reading_kept}
 use Rattle.closing.proofs.Entries.{find_made}
 use Rattle.closing.proofs.Listing.{same_as_itself}
-use Rattle.steps.proofs.StayingRounds.{lists_changed}
+use Rattle.row_changes.proofs.StayingRounds.{lists_changed}
 use Rattle.allotment.specs.Sittings.{IsSameRound, SitsIn, IsFirstList, MayJoin}
 
 -- ---- an instance by positions with one student more

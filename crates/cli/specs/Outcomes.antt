@@ -18,14 +18,14 @@ use Rattle.rolls.specs.Told.{number_of, name_of}
 use Rattle.allotment.specs.Layers.{layers}
 use Rattle.desk.specs.Sessions.{IsToldRight}
 use Rattle.web.specs.Connections.{Connect, SomeServed, lines_after}
-use Rattle.lines.specs.Rounds.{IsSolved, IsChecked}
-use Rattle.lines.specs.declared.rounds.Trouble.{Trouble}
-use Rattle.lines.specs.declared.rounds.Trouble.TheVariants.{Refused, BadLine, Failed}
-use Rattle.words.specs.declared.line.Line.{Line}
-use Rattle.words.specs.declared.line.Line.TheVariants as line
-use Rattle.words.specs.declared.line.LineFault.{LineFault}
-use Rattle.words.specs.declared.line.LineFault.TheVariants.{Memory, Help, Fault}
-use Rattle.words.specs.Reading.{IsAnswer}
+use Rattle.round_files.specs.Rounds.{IsSolved, IsChecked}
+use Rattle.round_files.specs.declared.rounds.Trouble.{Trouble}
+use Rattle.round_files.specs.declared.rounds.Trouble.TheVariants.{Refused, BadLine, Failed}
+use Rattle.commands.specs.declared.line.Line.{Line}
+use Rattle.commands.specs.declared.line.Line.TheVariants as line
+use Rattle.commands.specs.declared.line.LineFault.{LineFault}
+use Rattle.commands.specs.declared.line.LineFault.TheVariants.{Memory, Help, Fault}
+use Rattle.commands.specs.Reading.{IsAnswer}
 use Rattle.cli.specs.declared.tasks.Task.{Task}
 use Rattle.cli.specs.declared.tasks.Task.TheVariants as task
 use Rattle.cli.specs.declared.unread.Unread.{Unread}

@@ -4,8 +4,8 @@ ghost use Rattle.std.specs.Prelude.{◌≡◌, ◌-◌, ◌^◌, ◌<◌, ◌+�
 ghost use Rattle.cli.specs.Outcomes.{Printed, Tells, refusal_line, of_round, reply_text};
 
 use crate::texts::{bad_line, closed_line, labelled, refusal_line};
-use lines::Trouble;
 use rolls::{Refusal, Reply};
+use round_files::Trouble;
 use web::{Sink, write_all};
 
 /// Writes a text, and gives the status, or 1 where it could not be written.

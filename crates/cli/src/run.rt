@@ -1,7 +1,7 @@
 //! A whole line: its words, what it prints, and its status.
 
 ghost use Rattle.std.specs.Prelude.{◌≡◌, ◌-◌, ◌^◌, ◌<◌, ◌+◌, ◌≤◌, map, string_bytes, IfOk};
-ghost use Rattle.lines.specs.Rounds.{IsSolved, IsChecked};
+ghost use Rattle.round_files.specs.Rounds.{IsSolved, IsChecked};
 ghost use Rattle.cli.specs.Outcomes.{Printed, Tells, Imports, ImportsFile, OnFile, MayCome, ComesTo, of_unread};
 
 use crate::files::read_file;
@@ -9,14 +9,14 @@ use crate::printing::{print, refuse, tell_round};
 use crate::tasks::{Task, do_on};
 use crate::texts::NOT_UTF8;
 use crate::unread::Unread;
+use commands::{Line, LineFault, command};
 use intake::MOST_BYTES;
-use lines::{checked, solved};
 use rolls::{Bytes, ImportKind, MOST_IMPORT_BYTES, Plain, Refusal, Request, Text};
+use round_files::{checked, solved};
 use std::alloc::AllocError;
 use std::io::Write;
 use std::rt::HostRuntime;
 use web::{Sink, Watched};
-use words::{Line, LineFault, command};
 
 /// The request of an import of a file's bytes.
 fn import_of(

@@ -24,9 +24,9 @@ use Rattle.rolls.specs.Told.{number_of}
 use Rattle.rolls.specs.Importing.{or_else, at_record, rows_refusal, after_rows, import_refusal, with_import}
 use Rattle.rolls.specs.Answers.{IsDone, Imports}
 use Rattle.rolls.proofs.Allowed.{allowed}
-use Rattle.steps.specs.Changes.{changes_of, changes_of_rows, import_changes}
-use Rattle.steps.proofs.Imported.{turns_follow, keep_none}
-use Rattle.steps.proofs.Turning.{turns_import}
+use Rattle.row_changes.specs.Changes.{changes_of, changes_of_rows, import_changes}
+use Rattle.row_changes.proofs.Imported.{turns_follow, keep_none}
+use Rattle.row_changes.proofs.Turning.{turns_import}
 use Rattle.office.specs.Importing.{AreMade}
 
 -- all rows but the rest were made, so many of them, and with these changes

@@ -13,8 +13,8 @@ use Rattle.rolls.specs.Refusing.{plain_refusal, list_tests, drop_tests, reopenin
 use Rattle.rolls.proofs.Allowed.{allowed}
 use Rattle.rolls.proofs.LastRound.{some_round}
 use Rattle.rolls.specs.Fit.{IsFit}
-use Rattle.steps.proofs.Entries.{not_false}
-use Rattle.steps.proofs.Judged.{choices_known}
+use Rattle.row_changes.proofs.Entries.{not_false}
+use Rattle.row_changes.proofs.Judged.{choices_known}
 
 open_found : (x : Option Round) → option_map_or (λ r. r.is_open) x false ≡ true → is_some x ≡ true
 open_found None h = cc

@@ -15,9 +15,9 @@ ghost use Rattle.rolls.specs.Fit.{IsFit};
 ghost use Rattle.rolls.specs.Refusing.{first, plain_refusal, refusal_of, round_tests};
 ghost use Rattle.rolls.specs.Answers.{Answers, IsDone};
 ghost use Rattle.rolls.specs.From.{AreRowsOf};
-ghost use Rattle.steps.specs.Changes.{changes_of};
+ghost use Rattle.row_changes.specs.Changes.{changes_of};
 
-use drafts::{RowsFault, gather};
+use loading::{RowsFault, gather};
 use rolls::{
     Done, Import, Placement, Plain, Project, Refusal, Reply, Request, Round, Row, Student,
     Supervisor, Table,

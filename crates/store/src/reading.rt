@@ -19,7 +19,7 @@ ghost use Rattle.store.specs.Reading.{AreListed, IsAlone, IsElsewhere, IsListedA
 use crate::fault::StoreFault;
 use crate::kept::ROLLS;
 use crate::rows::rows_with;
-use drafts::RowsFault;
+use loading::RowsFault;
 use office::Office;
 use rolls::Row;
 use sqlite::{Alter, Connection, Row as Cells};

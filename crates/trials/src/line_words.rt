@@ -2,12 +2,12 @@
 
 use crate::judged::holds;
 use crate::printed::parted;
+use commands::{Line, LineFault, command};
 use rolls::ReportKind;
 use std::alloc::{AllocError, Global};
 use std::process::Abort;
 use std::rt::HostRuntime;
 use std::test::Fail;
-use words::{Line, LineFault, command};
 
 /// A kind of reports, told apart from the others.
 fn report_name(kind: ReportKind) -> &'static str {

@@ -6,13 +6,13 @@ ghost use Rattle.rolls.specs.State.{has_project, choices_in};
 ghost use Rattle.rolls.specs.declared.request.Plain.TheVariants as ask;
 ghost use Rattle.rolls.specs.Refusing.{plain_refusal};
 ghost use Rattle.rolls.specs.Answers.{IsDone};
-ghost use Rattle.steps.specs.Changes.{changes_of};
+ghost use Rattle.row_changes.specs.Changes.{changes_of};
 
 use super::Office;
 use rolls::{Choices, Done, Listed, Reply, Text, Texts};
+use row_changes::list_changes;
 use spa::Code;
 use std::alloc::AllocError;
-use steps::list_changes;
 
 impl Office {
     /// The codes of projects on the roll.

@@ -5,12 +5,12 @@ ghost use Rattle.rolls.specs.State.{last_round, lists_of, round_of};
 ghost use Rattle.rolls.specs.declared.request.Plain.TheVariants as ask;
 ghost use Rattle.rolls.specs.Refusing.{plain_refusal};
 ghost use Rattle.rolls.specs.Answers.{IsDone};
-ghost use Rattle.steps.specs.Changes.{changes_of};
+ghost use Rattle.row_changes.specs.Changes.{changes_of};
 
 use super::Office;
 use rolls::{Change, Done, Entry, Listed, Reply, Round, Row, Table};
+use row_changes::{kept_placements, reopening_changes};
 use std::alloc::AllocError;
-use steps::{kept_placements, reopening_changes};
 
 impl Office {
     /// The rounds, by number.

@@ -1,5 +1,5 @@
 use Rattle.std.proofs.Common.{inl, inr}
-use Rattle.lines.specs.Rounds.{IsSolved}
+use Rattle.round_files.specs.Rounds.{IsSolved}
 use Rattle.cli.specs.Outcomes.{OnFile, of_round, refusal_line}
 use Rattle.cli.proofs.Telling.{on_err, unread, tells_more}
 use Rattle.cli.proofs.run.solve_file.Goals as goal

@@ -5,8 +5,8 @@ use Rattle.rolls.specs.declared.rounds.Listed.{Listed}
 use Rattle.rolls.specs.Roll.{put, take_out}
 use Rattle.rolls.specs.State.{list_key, round_key, last_round, choices_in}
 use Rattle.rolls.specs.Stepping.{after_plain}
-use Rattle.steps.specs.Changes.{list_changes}
-use Rattle.steps.proofs.Staying.{choices_few}
+use Rattle.row_changes.specs.Changes.{list_changes}
+use Rattle.row_changes.proofs.Staying.{choices_few}
 use Rattle.office.specs.View.{state_of}
 use Rattle.office.proofs.Made.{made_fit, made_done, last_put}
 use Rattle.rolls.specs.declared.request.Plain.TheVariants.{DropList}

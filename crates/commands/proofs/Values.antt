@@ -1,0 +1,116 @@
+-- Where `clap` finds no fault in the words, they name a line, and each of its arguments has a word that may stand for it.
+use Rattle.std.proofs.Common.{◌≡◌, ◌||◌, ◌∙◌, ℕ, Bool, List, [], ◌∷◌, Option, Some, None, true, false, inl, inr, refl, sym, ap, subst, map, codes}
+use Rattle.std.specs.Prelude.{IsSomeAnd}
+use Rattle.std.specs.Borrow.{Bor}
+use Rattle.std.specs.List.{list_any}
+use Rattle.std.specs.Str.{bytes_eq}
+use Rattle.std.proofs.lemmas.Slice.Eq.{bytes_eq-Decides}
+use Rattle.rolls.specs.Kinds.{word_of}
+use Rattle.clap.proofs.WalkLemmas.{list_any-map}
+use Rattle.clap.specs.Faults.{level_fault}
+use Rattle.clap.specs.Simple.{Shape, argument_words, built, filled, help_rule, with_index}
+use Rattle.clap.specs.ValueTests.{accepts}
+use Rattle.clap.specs.Walk.{arg_by_id, nothing_held, rows_after}
+use Rattle.clap.specs.Words.{Row, Rule, Text, fault_of, subcommand_of}
+use Rattle.commands.specs.Kinds.{import_kinds, report_kinds, report_word}
+use Rattle.commands.specs.Program.{AreWords, parser_of, program, rule_by}
+use Rattle.commands.specs.Reading.{AreGiven, Each, IsGiven, fits, word_in}
+use Rattle.commands.specs.Table.{Argument, count, database, file, id, import_kind, port, report_kind, round}
+use Rattle.commands.specs.declared.program.Kinds.{Kinds}
+use Rattle.commands.specs.declared.table.Takes.{Takes}
+use Rattle.commands.specs.declared.table.Takes.TheVariants.{Word, Number, ImportKind, ReportKind}
+use Rattle.commands.proofs.Taken.{HasValue, IsHelp, IsValue, Plain, app_values, line_values}
+
+same_words : {K : Type 0} (word_by : K → Text) (kinds : List K) (names : List (Bor Text)) (word : Text) → map (λ n. n.now) names ≡ map word_by kinds
+    → list_any (λ (n : Bor Text). bytes_eq n.now word) names ≡ list_any (λ k. bytes_eq (word_by k) word) kinds
+same_words word_by kinds names word are =
+    list_any-map (λ (w : Text). bytes_eq w word) (λ (n : Bor Text). n.now) names ∙ ap (list_any (λ (w : Text). bytes_eq w word)) are ∙ sym (list_any-map (λ (w : Text). bytes_eq w word) word_by kinds)
+
+-- a word that passes the parser may stand for the argument
+fits_by : (kinds : Kinds) → AreWords kinds → (takes : Takes) (word : Text) → accepts false (parser_of kinds takes) word ≡ true → fits takes word ≡ true
+fits_by kinds are Word word h = refl
+fits_by kinds are (Number least most) word h = h
+fits_by kinds are ImportKind word h = sym (same_words word_of import_kinds kinds.imports.now word are.imports) ∙ h
+fits_by kinds are ReportKind word h = sym (same_words report_word report_kinds kinds.reports.now word are.reports) ∙ h
+
+some_and : {X : Type 0} (o : Option X) (P Q : X → Type 0) → ((x : X) → P x → Q x) → IsSomeAnd o P → IsSomeAnd o Q
+some_and None P Q f h = h
+some_and (Some x) P Q f h = f x h
+
+-- an argument's rule, at its place
+abbrev rule_at : Kinds → ℕ → Argument → Rule
+rule_at kinds i argument = with_index i (filled (rule_by kinds argument))
+
+is_value : (kinds : Kinds) (i : ℕ) (argument : Argument) → IsValue (rule_at kinds i argument)
+is_value kinds i argument = record { action = refl; range = refl; long = λ n. refl; short = λ c. refl }
+
+is_help : (i : ℕ) → IsHelp (with_index i (filled help_rule))
+is_help i = record { action = refl; range = refl }
+
+pub given_by : (kinds : Kinds) → AreWords kinds → (s : Shape) (rows : List Row) (i : ℕ) (argument : Argument) → HasValue s rows (rule_at kinds i argument)
+    → arg_by_id s.rules argument.name ≡ Some (rule_at kinds i argument) → IsGiven rows argument
+given_by kinds are s rows i argument has known =
+    some_and (word_in rows argument) _ (λ (word : Text). fits argument.takes word ≡ true) (λ word pass. fits_by kinds are argument.takes word pass) (has refl (rule_at kinds i argument) known)
+
+-- the rules of a line with one, three or four arguments
+one_leaf : (kinds : Kinds) → AreWords kinds → (s : Shape) (a : Argument) → s.rules ≡ rule_at kinds 1 a ∷ with_index 2 (filled help_rule) ∷ []
+    → arg_by_id s.rules a.name ≡ Some (rule_at kinds 1 a) → (words : List Text) → level_fault s [] nothing_held words false [] ≡ [] → Each (IsGiven (rows_after s.rules [] words)) (a ∷ [])
+one_leaf kinds are s a is known words e =
+    let simple : Each Plain s.rules = subst (λ (r : List Rule). Each Plain r) (sym is) (inl (is_value kinds 1 a), (inr (is_help 2), tt)) in
+    let none : Each (λ (b : Rule). b.defaults ≡ []) s.rules = subst (λ (r : List Rule). Each (λ (b : Rule). b.defaults ≡ []) r) (sym is) (refl, (refl, tt)) in
+    let has = subst (λ (r : List Rule). Each (HasValue s (rows_after s.rules [] words)) r) is (line_values s words simple none e) in
+    (given_by kinds are s (rows_after s.rules [] words) 1 a has.0 known, tt)
+
+three_leaf : (kinds : Kinds) → AreWords kinds → (s : Shape) (a b c : Argument) → s.rules ≡ rule_at kinds 1 a ∷ rule_at kinds 2 b ∷ rule_at kinds 3 c ∷ with_index 4 (filled help_rule) ∷ []
+    → arg_by_id s.rules a.name ≡ Some (rule_at kinds 1 a) → arg_by_id s.rules b.name ≡ Some (rule_at kinds 2 b) → arg_by_id s.rules c.name ≡ Some (rule_at kinds 3 c)
+    → (words : List Text) → level_fault s [] nothing_held words false [] ≡ [] → Each (IsGiven (rows_after s.rules [] words)) (a ∷ b ∷ c ∷ [])
+three_leaf kinds are s a b c is one two three words e =
+    let simple : Each Plain s.rules = subst (λ (r : List Rule). Each Plain r) (sym is) (inl (is_value kinds 1 a), (inl (is_value kinds 2 b), (inl (is_value kinds 3 c), (inr (is_help 4), tt)))) in
+    let none : Each (λ (d : Rule). d.defaults ≡ []) s.rules = subst (λ (r : List Rule). Each (λ (d : Rule). d.defaults ≡ []) r) (sym is) (refl, (refl, (refl, (refl, tt)))) in
+    let rows : List Row = rows_after s.rules [] words in
+    let has = subst (λ (r : List Rule). Each (HasValue s (rows_after s.rules [] words)) r) is (line_values s words simple none e) in
+    (given_by kinds are s rows 1 a has.0 one, (given_by kinds are s rows 2 b has.1.0 two, (given_by kinds are s rows 3 c has.1.1.0 three, tt)))
+
+four_leaf : (kinds : Kinds) → AreWords kinds → (s : Shape) (a b c d : Argument) → s.rules ≡ rule_at kinds 1 a ∷ rule_at kinds 2 b ∷ rule_at kinds 3 c ∷ rule_at kinds 4 d ∷ with_index 5 (filled help_rule) ∷ []
+    → arg_by_id s.rules a.name ≡ Some (rule_at kinds 1 a) → arg_by_id s.rules b.name ≡ Some (rule_at kinds 2 b) → arg_by_id s.rules c.name ≡ Some (rule_at kinds 3 c) → arg_by_id s.rules d.name ≡ Some (rule_at kinds 4 d)
+    → (words : List Text) → level_fault s [] nothing_held words false [] ≡ [] → Each (IsGiven (rows_after s.rules [] words)) (a ∷ b ∷ c ∷ d ∷ [])
+four_leaf kinds are s a b c d is one two three four words e =
+    let simple : Each Plain s.rules = subst (λ (r : List Rule). Each Plain r) (sym is) (inl (is_value kinds 1 a), (inl (is_value kinds 2 b), (inl (is_value kinds 3 c), (inl (is_value kinds 4 d), (inr (is_help 5), tt))))) in
+    let none : Each (λ (x : Rule). x.defaults ≡ []) s.rules = subst (λ (r : List Rule). Each (λ (x : Rule). x.defaults ≡ []) r) (sym is) (refl, (refl, (refl, (refl, (refl, tt))))) in
+    let rows : List Row = rows_after s.rules [] words in
+    let has = subst (λ (r : List Rule). Each (HasValue s (rows_after s.rules [] words)) r) is (line_values s words simple none e) in
+    (given_by kinds are s rows 1 a has.0 one, (given_by kinds are s rows 2 b has.1.0 two, (given_by kinds are s rows 3 c has.1.1.0 three, (given_by kinds are s rows 4 d has.1.1.1.0 four, tt))))
+
+-- `help` is no line
+no_help : (word : Text) → (bytes_eq (codes "help") word || false) ≡ true → bytes_eq word (codes "help") ≡ false → ⊥
+no_help word h other = go (bytes_eq (codes "help") word) refl h
+  where
+    go : (b : Bool) → bytes_eq (codes "help") word ≡ b → (b || false) ≡ true → ⊥
+    go true is h = let bad : true ≡ false = subst (λ (w : Text). bytes_eq w (codes "help") ≡ false) (sym ((bytes_eq-Decides (codes "help") word).0 is)) other in cc
+    go false is h = cc
+
+pub values_given : (kinds : Kinds) → AreWords kinds → (words : List Text) → fault_of (program kinds) words ≡ [] → IsSomeAnd (subcommand_of (program kinds) words) (λ s. AreGiven s.0 s.1)
+values_given kinds are words e =
+    app_values AreGiven (built (program kinds)) (argument_words (program kinds) words) refl refl (
+      (λ word at other ws f. three_leaf kinds are _ database port count refl refl refl refl ws f),
+      (
+        (λ word at other ws f. four_leaf kinds are _ database import_kind id file refl refl refl refl refl ws f),
+        (
+          (λ word at other ws f. one_leaf kinds are _ database refl refl ws f),
+          (
+            (λ word at other ws f. one_leaf kinds are _ database refl refl ws f),
+            (
+              (λ word at other ws f. one_leaf kinds are _ database refl refl ws f),
+              (
+                (λ word at other ws f. three_leaf kinds are _ database report_kind round refl refl refl refl ws f),
+                (
+                  (λ word at other ws f. one_leaf kinds are _ file refl refl ws f),
+                  ((λ word at other ws f. one_leaf kinds are _ file refl refl ws f), ((λ word at other ws f. absurd (no_help word at other)), tt)),
+                ),
+              ),
+            ),
+          ),
+        ),
+      ),
+    )
+    e

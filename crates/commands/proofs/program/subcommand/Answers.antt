@@ -1,0 +1,17 @@
+use Rattle.std.proofs.Common.{◌∙◌, ◌||◌, Bool, ap, ap₂, arith, refl}
+use Rattle.clap.specs.Words.{app_of, new_app, with_rule}
+use Rattle.commands.specs.Program.{with_argument}
+use Rattle.commands.specs.Table.{argument_by}
+use Rattle.commands.proofs.Loops.{folded_all, folded_more}
+use Rattle.commands.proofs.program.subcommand.Goals as goal
+
+pub loop-told-preserved : goal.loop-told-preserved
+loop-told-preserved c =
+    let arg = c.argument.ensures in (
+      folded_more (λ app a. with_argument c.args.kinds app (argument_by a)) (new_app c.args.row.now.name.now) c.args.row.now.arguments.now c.loop-told.told-index _ (app_of c.loop-told.command) _ (omega arith)
+          c.loop-told.invariant.0 (c.in_ok-command.ensures.shape arg.local ∙ ap (with_rule (app_of c.loop-told.command)) arg.rule),
+      c.in_ok-command.ensures.globals ∙ ap₂ (λ (a b : Bool). a || b) c.loop-told.invariant.1 arg.local,
+    )
+
+pub returns-clause-app : goal.returns-clause-app
+returns-clause-app c = folded_all (with_argument c.args.kinds) argument_by (new_app c.args.row.now.name.now) c.args.row.now.arguments.now _ c.loop-told.told-index _ (omega arith) c.loop-told.invariant.0 refl

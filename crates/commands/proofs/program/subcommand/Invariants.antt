@@ -1,0 +1,11 @@
+use Rattle.std.proofs.Common.{◌≡◌, fold, take, false}
+use Rattle.clap.specs.Words.{app_of, new_app}
+use Rattle.clap.specs.declared.builder.command.Command.TheViews.{out-Command}
+use Rattle.commands.specs.Program.{with_argument}
+use Rattle.commands.specs.Table.{argument_by}
+use Rattle.commands.proofs.program.subcommand.Given as goal
+
+abbrev pub invariant-loop-told : goal.invariant-loop-told
+invariant-loop-told l =
+    (app_of l.command ≡ fold (λ app a. with_argument l.fn.kinds app (argument_by a)) (new_app l.fn.row.name.now) (take l.told-index l.fn.row.arguments.now))
+    × ((out-Command l.command).has_globals ≡ false)

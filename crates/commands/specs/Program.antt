@@ -1,0 +1,47 @@
+-- The command by which `clap` reads the words.
+use Rattle.std.specs.Prelude.{◌≡◌, Some, codes, fold, map, true}
+use Rattle.rolls.specs.Kinds.{word_of}
+use Rattle.clap.specs.Words.{App, Rule, new_app, new_rule, with_rule, with_subcommand}
+use Rattle.clap.specs.declared.builder.value_parser.ValueParser.{ValueParser}
+use Rattle.clap.specs.declared.builder.value_parser.ValueParser.TheVariants.{Names, String, Unsigned}
+use Rattle.commands.specs.Kinds.{import_kinds, report_kinds, report_word}
+use Rattle.commands.specs.Table.{Argument, Told, lines}
+use Rattle.commands.specs.declared.program.Kinds.{Kinds}
+use Rattle.commands.specs.declared.table.Takes.{Takes}
+use Rattle.commands.specs.declared.table.Takes.TheVariants.{Word, Number, ImportKind, ReportKind}
+
+-- the words that are lent to `clap` are those of the kinds
+pub record AreWords (kinds : Kinds) : Type 0 where
+  pub imports : map (λ w. w.now) kinds.imports.now ≡ map word_of import_kinds
+  pub reports : map (λ w. w.now) kinds.reports.now ≡ map report_word report_kinds
+
+-- what is asked of a word
+abbrev pub parser_of : Kinds → Takes → ValueParser
+parser_of kinds Word = String
+parser_of kinds (Number least most) = Unsigned least most
+parser_of kinds ImportKind = Names kinds.imports
+parser_of kinds ReportKind = Names kinds.reports
+
+-- an argument that must be given
+abbrev pub rule_by : Kinds → Argument → Rule
+rule_by kinds argument = record (new_rule argument.name) { parser = Some (parser_of kinds argument.takes); required = true }
+
+-- a command with one more argument
+abbrev pub with_argument : Kinds → App → Argument → App
+with_argument kinds app argument = with_rule app (rule_by kinds argument)
+
+-- a line as a command of its own
+abbrev pub line_app : Kinds → Told → App
+line_app kinds told = fold (with_argument kinds) (new_app told.name) told.arguments
+
+-- a command with one more line as a subcommand
+abbrev pub with_line : Kinds → App → Told → App
+with_line kinds app told = with_subcommand app (line_app kinds told).top
+
+-- the program's name, of which a subcommand must be given
+abbrev pub program_name : App
+program_name = let app : App = new_app (codes "spadesk") in record app { top = record (app.top) { subcommand_required = true } }
+
+-- the program
+abbrev pub program : Kinds → App
+program kinds = fold (with_line kinds) program_name lines

@@ -1,0 +1,70 @@
+//! The lines of the program, and why words are none.
+
+ghost use Rattle.std.specs.Prelude.{◌≡◌};
+ghost use Rattle.commands.specs.declared.line.LineFault.TheVariants.{Memory};
+
+use rolls::{ImportKind, ReportKind};
+use std::alloc::AllocError;
+
+/// A line of the program, with its values.
+#[derive(Drop)]
+pub enum Line {
+    /// Serve connections to a database, one after another, and end.
+    Serve {
+        /// The file of the database; it is made where there is none.
+        database: String,
+        /// The port of 127.0.0.1 that is listened at, 1 to 65,535.
+        port: u16,
+        /// How many connections are served, 1 to 1,000,000.
+        count: u32,
+    },
+    /// Import a file into a database.
+    Import {
+        /// The file of the database.
+        database: String,
+        /// What the records are.
+        kind: ImportKind,
+        /// The id under which the import is kept.
+        id: String,
+        /// The file with the records.
+        file: String,
+    },
+    /// Open the next round of this database.
+    OpenRound(String),
+    /// Open the last round of this database again.
+    ReopenRound(String),
+    /// Close the open round of this database.
+    CloseRound(String),
+    /// Print a report of a round of a database.
+    Report {
+        /// The file of the database.
+        database: String,
+        /// What is reported.
+        kind: ReportKind,
+        /// The number of the round, 0 to 9,999. No round has the number 0.
+        round: u32,
+    },
+    /// Print the round of this file with a greedy maximum matching and prices.
+    Solve(String),
+    /// Check the matching and the prices of the round of this file.
+    Check(String),
+}
+
+/// Why words are no line.
+#[derive(Drop)]
+pub enum LineFault {
+    /// Memory was refused.
+    Memory,
+    /// They ask for help, which is this text.
+    Help(String),
+    /// They are no line of the program: a word is missing, unknown, one too many or out of its range. This text says which.
+    Fault(String),
+}
+
+impl From<AllocError> for LineFault {
+    ghost from_gives = { λ _ fault. fault ≡ Memory };
+
+    fn from(_error: AllocError) -> LineFault {
+        LineFault::Memory
+    }
+}

@@ -1,0 +1,176 @@
+//! The line that words stand for.
+
+ghost use Rattle.std.specs.Prelude.{◌≡◌, ◌^◌, IfOk, IsSomeAnd, Some, codes, map, string_bytes, true};
+ghost use Rattle.rolls.specs.Kinds.{word_of};
+ghost use Rattle.clap.specs.Words.{found_of, kind_of, rows_of, subcommand_rows_of};
+ghost use Rattle.commands.specs.Kinds.{report_word};
+ghost use Rattle.commands.specs.Program.{AreWords};
+ghost use Rattle.commands.specs.Reading.{AreGiven, IsAnswer, IsGiven, IsLineOf, IsNumberBelow, IsToldBy, fits, number_in, word_in};
+ghost use Rattle.commands.specs.Table.{argument_by};
+
+use crate::kinds::{import_kind, import_words, report_kind, report_words};
+use crate::line::{Line, LineFault};
+use crate::program::{Kinds, program};
+use crate::table::Argument;
+use crate::table::given::{COUNT, DATABASE, FILE, ID, IMPORT_KIND, PORT, REPORT_KIND, ROUND};
+use clap::error::ErrorKind;
+use clap::{ArgMatches, Error};
+use rolls::{ImportKind, ReportKind};
+use std::alloc::{AllocError, Global};
+use std::string::ToString;
+
+/// The word of an argument.
+fn word<'a>(given: &ArgMatches<'a>, argument: &Argument) -> &'a str
+    requires { IsGiven (rows_of (found_of given.now)) (argument_by argument.now) }
+    ensures word { word_in (rows_of (found_of given.now)) (argument_by argument.now) ≡ Some result.now }
+    ensures fits { fits argument.now.takes result.now ≡ true }
+{
+    given.get_str(argument.name).unwrap()
+}
+
+/// The word of an argument, as a text of its own.
+fn text(alloc: Global, given: &ArgMatches<'_>, argument: &Argument) -> Result<String, AllocError>
+    requires { IsGiven (rows_of (found_of given.now)) (argument_by argument.now) }
+    ensures { IfOk result (λ t. word_in (rows_of (found_of given.now)) (argument_by argument.now) ≡ Some (string_bytes t)) }
+{
+    String::from_str(alloc, word(given, argument))
+}
+
+/// The number that the word of an argument writes.
+fn number(given: &ArgMatches<'_>, argument: &Argument) -> u32
+    requires given { IsGiven (rows_of (found_of given.now)) (argument_by argument.now) }
+    requires small { IsNumberBelow (2 ^ 32) argument.now.takes }
+    ensures { number_in (rows_of (found_of given.now)) (argument_by argument.now) ≡ Some result }
+{
+    word(given, argument).parse::<u32>().unwrap()
+}
+
+/// The port.
+fn port(given: &ArgMatches<'_>) -> u16
+    requires { IsGiven (rows_of (found_of given.now)) Rattle.commands.specs.Table.port }
+    ensures { number_in (rows_of (found_of given.now)) Rattle.commands.specs.Table.port ≡ Some result }
+{
+    word(given, &PORT).parse::<u16>().unwrap()
+}
+
+/// The kind of imports.
+fn import(given: &ArgMatches<'_>) -> ImportKind
+    requires { IsGiven (rows_of (found_of given.now)) Rattle.commands.specs.Table.import_kind }
+    ensures { word_in (rows_of (found_of given.now)) Rattle.commands.specs.Table.import_kind ≡ Some (word_of result) }
+{
+    import_kind(word(given, &IMPORT_KIND)).unwrap()
+}
+
+/// The kind of reports.
+fn report(given: &ArgMatches<'_>) -> ReportKind
+    requires { IsGiven (rows_of (found_of given.now)) Rattle.commands.specs.Table.report_kind }
+    ensures { word_in (rows_of (found_of given.now)) Rattle.commands.specs.Table.report_kind ≡ Some (report_word result) }
+{
+    report_kind(word(given, &REPORT_KIND)).unwrap()
+}
+
+/// The line `serve`.
+fn serve_line(alloc: Global, given: &ArgMatches<'_>) -> Result<Line, AllocError>
+    requires { AreGiven (codes "serve") (rows_of (found_of given.now)) }
+    ensures { IfOk result (IsLineOf (codes "serve") (rows_of (found_of given.now))) }
+{
+    Ok(Line::Serve {
+        database: text(alloc, given, &DATABASE)?,
+        port: port(given),
+        count: number(given, &COUNT),
+    })
+}
+
+/// The line `import`.
+fn import_line(alloc: Global, given: &ArgMatches<'_>) -> Result<Line, AllocError>
+    requires { AreGiven (codes "import") (rows_of (found_of given.now)) }
+    ensures { IfOk result (IsLineOf (codes "import") (rows_of (found_of given.now))) }
+{
+    Ok(Line::Import {
+        database: text(alloc, given, &DATABASE)?,
+        kind: import(given),
+        id: text(alloc, given, &ID)?,
+        file: text(alloc, given, &FILE)?,
+    })
+}
+
+/// The line `report`.
+fn report_line(alloc: Global, given: &ArgMatches<'_>) -> Result<Line, AllocError>
+    requires { AreGiven (codes "report") (rows_of (found_of given.now)) }
+    ensures { IfOk result (IsLineOf (codes "report") (rows_of (found_of given.now))) }
+{
+    Ok(Line::Report {
+        database: text(alloc, given, &DATABASE)?,
+        kind: report(given),
+        round: number(given, &ROUND),
+    })
+}
+
+/// The line of the subcommand that was used.
+fn line_of(alloc: Global, name: &str, given: &ArgMatches<'_>) -> Result<Line, AllocError>
+    requires { AreGiven name.now (rows_of (found_of given.now)) }
+    ensures { IfOk result (IsLineOf name.now (rows_of (found_of given.now))) }
+{
+    match name {
+        "serve" => serve_line(alloc, given),
+        "import" => import_line(alloc, given),
+        "open-round" => Ok(Line::OpenRound(text(alloc, given, &DATABASE)?)),
+        "reopen-round" => Ok(Line::ReopenRound(text(alloc, given, &DATABASE)?)),
+        "close-round" => Ok(Line::CloseRound(text(alloc, given, &DATABASE)?)),
+        "report" => report_line(alloc, given),
+        "solve" => Ok(Line::Solve(text(alloc, given, &FILE)?)),
+        "check" => Ok(Line::Check(text(alloc, given, &FILE)?)),
+        _ => unreachable!(),
+    }
+}
+
+/// The line that a parse found.
+fn line_in(alloc: Global, matches: &ArgMatches<'_>) -> Result<Line, AllocError>
+    requires { IsSomeAnd (subcommand_rows_of matches.now) (λ s. AreGiven s.0 s.1) }
+    ensures { IfOk result (λ line. IsSomeAnd (subcommand_rows_of matches.now) (λ s. IsLineOf s.0 s.1 line)) }
+{
+    let (name, given) = matches.subcommand().unwrap();
+    line_of(alloc, name, given)
+}
+
+/// Why the words were not taken.
+fn fault_by(alloc: Global, error: &Error) -> LineFault
+    ensures { IsToldBy (kind_of error.now) result }
+{
+    if error.kind() == ErrorKind::OutOfMemory {
+        return LineFault::Memory;
+    }
+    match error.to_string(alloc) {
+        Err(_) => LineFault::Memory,
+        Ok(text) if error.kind() == ErrorKind::DisplayHelp => LineFault::Help(text),
+        Ok(text) => LineFault::Fault(text),
+    }
+}
+
+/// What the program's command makes of the words.
+fn answer<'a>(alloc: Global, kinds: Kinds<'a>, words: &'a [String]) -> Result<Line, LineFault>
+    requires { AreWords kinds }
+    ensures { IsAnswer (map string_bytes words.entry.now) result }
+{
+    match program(alloc, kinds)?.try_get_matches_from(words) {
+        Ok(matches) => Ok(line_in(alloc, &matches)?),
+        Err(error) => Err(fault_by(alloc, &error)),
+    }
+}
+
+/// The line that the words stand for, of which the first is the program's name.
+///
+/// The words are read as `clap` reads them. `Help` and `Fault` have its text: help is asked for by `help` and by `--help`,
+/// which may follow the name of a line, and a fault is a word that is missing, unknown, one too many or out of its range.
+/// `Memory` says that memory was refused.
+pub fn command(alloc: Global, words: &[String]) -> Result<Line, LineFault>
+    ensures { IsAnswer (map string_bytes words.now) result }
+{
+    let imports = import_words();
+    let reports = report_words();
+    let kinds = Kinds {
+        imports: imports.as_slice(),
+        reports: reports.as_slice(),
+    };
+    answer(alloc, kinds, words)
+}

@@ -1,6 +1,0 @@
-use Rattle.std.proofs.Common.{ap, sym}
-use Rattle.lines.specs.Rounds.{trouble_of}
-use Rattle.lines.proofs.rounds.TroubleFromRoundFault.from.Goals as goal
-
-pub returns-in-TooLarge : goal.returns-in-TooLarge
-returns-in-TooLarge c = sym (ap trouble_of c.in-TooLarge.is)

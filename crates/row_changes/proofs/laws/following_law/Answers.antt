@@ -1,0 +1,5 @@
+use Rattle.row_changes.proofs.Imported.{turns_follow}
+use Rattle.row_changes.proofs.laws.following_law.Goals as goal
+
+pub returns : goal.returns
+returns c = turns_follow

@@ -1,8 +1,0 @@
-use Rattle.std.proofs.Common.{◌≡◌, fold, take}
-use Rattle.clap.specs.Words.{app_of}
-use Rattle.words.specs.Program.{program_name, with_line}
-use Rattle.words.specs.Table.{told_by}
-use Rattle.words.proofs.program.program.Given as goal
-
-abbrev pub invariant-loop-row : goal.invariant-loop-row
-invariant-loop-row l = app_of l.command ≡ fold (λ app row. with_line l.fn.kinds app (told_by row)) program_name (take l.row-index l.lines)
