@@ -17,7 +17,8 @@ use Rattle.api.specs.declared.routes.Segments.{Segments}
 use Rattle.api.specs.declared.routes.Segments.TheVariants.{Any, Numbers}
 use Rattle.api.specs.declared.routes.Call.TheVariants as call
 use Rattle.api.specs.declared.routes.Put.TheVariants as put
-use Rattle.api.specs.Routes.{is_segment, row, fixed, read, asked, entry, list, numbered, import, fits, all_routes, fill, AreSegments, AllFit, HasRow, Names, NamesBy, IsNowhere, first_of}
+use Rattle.api.specs.Routes.{is_segment, row, fixed, read, asked, entry, list, numbered, import, fits, all_routes, fill, AreSegments, AllFit, HasRow, Names, IsNowhere, first_of}
+use Rattle.api.specs.Inside.Routes.{NamesBy}
 use Rattle.api.proofs.Found.{steps, found_along, ends_here, param_leaf, number_leaf}
 use Rattle.api.proofs.Sound.{both, makes, AllPlain, plain_all}
 

@@ -7,8 +7,8 @@ use Rattle.intake.specs.declared.section.SectionName.TheVariants.{Supervisors, P
 use Rattle.intake.specs.Parts.{Parts}
 use Rattle.intake.specs.Lines.{Row, line, round_lines}
 use Rattle.intake.specs.Reading.{Begins}
-use Rattle.intake.specs.Draft.{IsDraft, IsField}
-use Rattle.intake.specs.Entries.{Adds, AddsLine, HasTurn, letter_of, line_of}
+use Rattle.intake.specs.Inside.Draft.{IsDraft, IsField}
+use Rattle.intake.specs.Inside.Entries.{Adds, AddsLine, HasTurn, letter_of, line_of}
 use Rattle.intake.proofs.Goes.{goes_on}
 use Rattle.intake.proofs.Takes.{only, other_only}
 use Rattle.intake.proofs.Steps.{step}

@@ -5,7 +5,7 @@ use Rattle.std.proofs.lemmas.List.{map_push}
 use Rattle.spa.specs.Instance.{Instance, Supervisor, Project, Student, given, supervisors_of, projects_of, students_of}
 use Rattle.intake.specs.Parts.{Parts}
 use Rattle.intake.specs.declared.section.SectionName.TheVariants.{Supervisors, Projects, Students}
-use Rattle.intake.specs.Entries.{AddsPrice, with_entry}
+use Rattle.intake.specs.Inside.Entries.{AddsPrice, with_entry}
 use Rattle.intake.proofs.Lists.{blank}
 
 -- two fields

@@ -4,13 +4,13 @@ use Rattle.std.proofs.lemmas.Bool.{cases_order}
 use Rattle.spa.specs.declared.TheConstants.{RANKS}
 use Rattle.spa.specs.Shape.{IsPlaceOf}
 use Rattle.spa.specs.declared.code.Code.{Code}
-use Rattle.spa.specs.Codes.{Finds}
+use Rattle.spa.specs.Inside.Codes.{Finds}
 use Rattle.spa.specs.Instance.{Student, students_of, student_codes, project_codes}
 use Rattle.spa.specs.Made.{IsSoundList}
 use Rattle.intake.specs.Parts.{Parts, Rise}
 use Rattle.intake.specs.Lines.{choice_code}
-use Rattle.intake.specs.Draft.{IsDraft}
-use Rattle.intake.specs.Entries.{NextPair}
+use Rattle.intake.specs.Inside.Draft.{IsDraft}
+use Rattle.intake.specs.Inside.Entries.{NextPair}
 use Rattle.intake.proofs.Found.{slice_get_at}
 use Rattle.intake.proofs.Order.{get_found, cmp_apart}
 use Rattle.intake.proofs.Rolls.{within_get}

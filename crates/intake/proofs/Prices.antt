@@ -10,8 +10,8 @@ use Rattle.spa.specs.Codes.{code_at}
 use Rattle.spa.specs.Instance.{Supervisor, Project, Student}
 use Rattle.intake.specs.Parts.{Parts, IsPrice, ArePricesOrNone, IsRoundParts}
 use Rattle.intake.specs.Lines.{Row, Priced, priced, price_section, price_rows}
-use Rattle.intake.specs.Draft.{ArePricesUpTo, NoneOrAll, AreUnpriced, AreComplete, ArePricedInTurn}
-use Rattle.intake.specs.Entries.{NextPrice, NextPriceAt, IsTurn, At, prices_at, with_prices, with_price, AddsOne, AddsPrice}
+use Rattle.intake.specs.Inside.Draft.{ArePricesUpTo, NoneOrAll, AreUnpriced, AreComplete, ArePricedInTurn}
+use Rattle.intake.specs.Inside.Entries.{NextPrice, NextPriceAt, IsTurn, At, prices_at, with_prices, with_price, AddsOne, AddsPrice}
 use Rattle.intake.proofs.Pairing.{all_found}
 use Rattle.intake.proofs.Sections.{NoRows, NextAt, SameRows, Grows}
 

@@ -8,20 +8,21 @@ use Rattle.spa.specs.declared.TheConstants.{PLACES, RANKS}
 use Rattle.spa.specs.Order.{as_read, order, none, plus}
 use Rattle.spa.specs.declared.aim.Aim.{Aim}
 use Rattle.spa.specs.declared.aim.Aim.TheVariants.{Greedy, Generous}
-use Rattle.spa.specs.Reading.{read_alike, read_twice}
+use Rattle.spa.specs.Inside.Reading.{read_alike, read_twice}
 use Rattle.spa.specs.Shape.{Shape, IsSound, IsPlaceOf, list_of, choice_at, supervisor_of}
 use Rattle.spa.specs.Matching.{IsBest, rank_in, weight, weight_row}
 use Rattle.spa.specs.Matched.{pairs, IsMatched}
 use Rattle.spa.specs.Prices.{value, ProveBest}
 use Rattle.spa.specs.Laws.{AtMost}
-use Rattle.spa.specs.Places.{Places, lex_ops, row, row-places_of}
+use Rattle.spa.specs.Places.{Places, lex_ops, row}
+use Rattle.spa.specs.Inside.Places.{row-places_of}
 use Rattle.spa.specs.LexLaw.{IsLexicographic}
 use Rattle.spa.proofs.Duality.{listed_student, best_from_prices}
 use Rattle.spa.proofs.Aims.{aim_sums, best_from_unbeaten, read_sum}
 use Rattle.spa.proofs.Places.{rank_of_place}
 use Rattle.network.specs.Seen.{Seen, shape_of, ArePrices, IsPriced, price as worth_price, price_total, total_worth}
-use Rattle.solver.specs.Weights.{worth_of, weighed}
-use Rattle.solver.specs.Solved.{IsOf}
+use Rattle.solver.specs.Inside.Weights.{worth_of, weighed}
+use Rattle.solver.specs.Inside.Solved.{IsOf}
 use Rattle.solver.proofs.Weighing.{projects_of-weighed_from, length-weighed_from, entry-weighed_from}
 use Rattle.solver.proofs.Totals.{value_read, weight_is}
 use Rattle.solver.proofs.Better.{moved}

@@ -10,12 +10,13 @@ use Rattle.spa.specs.declared.aim.Aim.TheVariants.{Greedy, Generous}
 use Rattle.spa.specs.Order.{as_read}
 use Rattle.spa.specs.Row.{at}
 use Rattle.spa.specs.Matching.{weight}
-use Rattle.spa.specs.Places.{Places, lex_ops, row, row-places_of}
+use Rattle.spa.specs.Places.{Places, lex_ops, row}
+use Rattle.spa.specs.Inside.Places.{row-places_of}
 use Rattle.spa.specs.LexLaw.{IsLexicographic}
 use Rattle.verdict.specs.Rows.{price}
 use Rattle.network.specs.Seen.{price as worth_price}
-use Rattle.solver.specs.Weights.{worth_of}
-use Rattle.solver.specs.Solved.{AreRowsOf}
+use Rattle.solver.specs.Inside.Weights.{worth_of}
+use Rattle.solver.specs.Inside.Solved.{AreRowsOf}
 use Rattle.spa.proofs.LexOrder.{row-zero}
 
 -- an aim reads nothing of zero

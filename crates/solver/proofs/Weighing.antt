@@ -2,7 +2,7 @@
 use Rattle.std.proofs.Common.{◌≡◌, ℕ, zero, suc, ◌+◌, ◌<◌, List, [], ◌∷◌, ◌++◌, length, map, take, slice_index, get_or, All, refl, ap, sym, ◌∙◌, arith, subst}
 use Rattle.spa.specs.Places.{Places}
 use Rattle.spa.specs.declared.TheConstants.{PLACES}
-use Rattle.solver.specs.Weights.{worth_of, weighed_from, weighed}
+use Rattle.solver.specs.Inside.Weights.{worth_of, weighed_from, weighed}
 use Rattle.spa.specs.declared.aim.Aim.{Aim}
 
 module _ (aim : Aim) where

@@ -12,8 +12,8 @@ use Rattle.wire.specs.declared.fields.Framing.{Framing}
 use Rattle.wire.specs.declared.fields.Framing.TheVariants.{Length}
 use Rattle.wire.specs.declared.front.Front.TheVariants.{Whole, Stop, Open}
 use Rattle.wire.specs.declared.outcome.End.TheVariants.{BadHead, TooLarge}
-use Rattle.wire.specs.Messages.{window, HeadAt, HeadFramed, framing, framing_of, has_line, IsMalformed}
-use Rattle.wire.specs.Judged.{Judges}
+use Rattle.wire.specs.Messages.{window, HeadFramed, framing, framing_of, has_line, IsMalformed}
+use Rattle.wire.specs.Inside.Judged.{Judges}
 use Rattle.wire.proofs.Windows.{head_stays, malformed_stays}
 
 -- what the spans say is what the head says

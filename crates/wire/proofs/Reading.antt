@@ -9,9 +9,9 @@ use Rattle.wire.specs.declared.TheConstants.{MOST_MESSAGE_BYTES}
 use Rattle.wire.specs.declared.front.Front.TheVariants.{Open}
 use Rattle.wire.specs.declared.outcome.End.TheVariants.{Closed, Unfinished}
 use Rattle.wire.specs.Messages.{Stops}
-use Rattle.wire.specs.Judged.{Judges}
+use Rattle.wire.specs.Inside.Judged.{Judges}
 use Rattle.wire.specs.Run.{unread}
-use Rattle.wire.specs.Taken.{AtEndIfNone}
+use Rattle.wire.specs.Inside.Taken.{AtEndIfNone}
 
 -- a list whose length is 0 is empty
 pub empty_of : (xs : List ℕ) (n : ℕ) → length xs ≡ n → true ≡ (n == 0) → xs ≡ []

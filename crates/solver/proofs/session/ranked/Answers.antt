@@ -12,7 +12,7 @@ use Rattle.std.proofs.lemmas.List.{length-map}
 use Rattle.spa.specs.declared.aim.Aim.{Aim}
 use Rattle.spa.specs.Places.{Places}
 use Rattle.spa.specs.Matched.{HasPlaces}
-use Rattle.solver.specs.Kept.{IsKept}
+use Rattle.solver.specs.Inside.Kept.{IsKept}
 use Rattle.solver.proofs.session.ranked.Goals as goal
 use Rattle.solver.proofs.session.ranked.Goals.{in-Some, in_default}
 

@@ -9,7 +9,7 @@ use Rattle.solver.proofs.Priced.{shape_is, list_short}
 use Rattle.solver.proofs.Proved.{proved_best}
 use Rattle.std.proofs.lemmas.Result.{IfOk-from_err}
 use Rattle.std.proofs.lemmas.List.{length-map}
-use Rattle.solver.specs.Weights.{weighed}
+use Rattle.solver.specs.Inside.Weights.{weighed}
 use Rattle.solver.proofs.solving.solve.Goals as goal
 
 pub matching_of-requires-clause-small : goal.matching_of-requires-clause-small

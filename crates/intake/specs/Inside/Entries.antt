@@ -12,7 +12,7 @@ use Rattle.intake.specs.declared.section.SectionName.TheVariants.{Supervisors, P
 use Rattle.intake.specs.Parts.{Parts, Rise, IsPrice}
 use Rattle.intake.specs.Lines.{Row, Priced, priced, choice_code, line, round_lines, supervisor_row, project_row, student_row}
 use Rattle.intake.specs.Reading.{Begins}
-use Rattle.intake.specs.Draft.{IsDraft, HasNoPrices, NoneOrAll, AreUnpriced}
+use Rattle.intake.specs.Inside.Draft.{IsDraft, HasNoPrices, NoneOrAll, AreUnpriced}
 
 -- the letter of a section's lines
 abbrev pub letter_of : SectionName → List ℕ

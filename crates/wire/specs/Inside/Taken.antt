@@ -3,7 +3,7 @@ use Rattle.std.specs.Prelude.{◌≡◌, ⊤, ℕ, ◌<◌, Bool, false, List, �
 use Rattle.std.specs.Io.KnownBytes.{Consumes, IsAtEnd}
 use Rattle.wire.specs.declared.front.Front.TheVariants.{Whole}
 use Rattle.wire.specs.Messages.{Stops}
-use Rattle.wire.specs.Judged.{Judges}
+use Rattle.wire.specs.Inside.Judged.{Judges}
 use Rattle.wire.specs.declared.buffer.Next.{Next}
 use Rattle.wire.specs.declared.buffer.Next.TheVariants.{Message, Ends}
 use Rattle.wire.specs.Run.{unread}
