@@ -10,7 +10,7 @@ use Rattle.spa.specs.declared.fault.InstanceFault.TheVariants.{Memory, Limit, Re
 use Rattle.spa.specs.Codes.{IsFirstRepeated}
 use Rattle.spa.specs.Made.{IsSoundList, IsFirstUnknown, IsListFault, IsFirstListFault, IsFirstInstanceFault}
 use Rattle.intake.proofs.Found.{slice_get_at}
-use Rattle.intake.proofs.Pairing.{one_place, all_found}
+use Rattle.intake.proofs.PairLine.{one_place, all_found}
 use Rattle.intake.proofs.Prices.{filled, filled_all, filled_prices, filled_rows, changed_complete, priced_changed, some_turn}
 use Rattle.intake.proofs.Rolls.{within_get}
 use Rattle.intake.proofs.Sections.{letter_at}

@@ -12,7 +12,7 @@ use Rattle.intake.specs.Parts.{Parts, IsPrice, ArePricesOrNone, IsRoundParts}
 use Rattle.intake.specs.Lines.{Row, Priced, priced, price_section, price_rows}
 use Rattle.intake.specs.Inside.Draft.{ArePricesUpTo, NoneOrAll, AreUnpriced, AreComplete, ArePricedInTurn}
 use Rattle.intake.specs.Inside.Entries.{NextPrice, NextPriceAt, IsTurn, At, prices_at, with_prices, with_price, AddsOne, AddsPrice}
-use Rattle.intake.proofs.Pairing.{all_found}
+use Rattle.intake.proofs.PairLine.{all_found}
 use Rattle.intake.proofs.Sections.{NoRows, NextAt, SameRows, Grows}
 
 -- there are no rows without prices

@@ -17,7 +17,7 @@ use Rattle.intake.specs.Lines.{Row, choice_code, sections, priced, round_lines, 
 use Rattle.intake.specs.Inside.Draft.{IsDraft, IsWhole, ArePlaces, EndsPlaced}
 use Rattle.intake.specs.Inside.Entries.{ComesNext, NextPriceAt, HasTurn, IsNext, IsTurn, Entry, letter_of}
 use Rattle.intake.proofs.Order.{cmp_apart, get_found}
-use Rattle.intake.proofs.Pairing.{all_found, get_mapped}
+use Rattle.intake.proofs.PairLine.{all_found, get_mapped}
 use Rattle.intake.proofs.Prices.{SameCodes, rows_unpriced, parts_priced, takes_next, all_complete}
 use Rattle.intake.proofs.Rolls.{within_get}
 use Rattle.intake.proofs.Sections.{NextAt, has_letter, next_letter, next_at}

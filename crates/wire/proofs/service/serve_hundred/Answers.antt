@@ -9,7 +9,7 @@ use Rattle.wire.specs.Run.{Said, read_failed, write_failed}
 use Rattle.wire.specs.Inside.Served.{SoFar}
 use Rattle.wire.specs.Served.{ServedTo}
 use Rattle.wire.proofs.Runs.{nothing_yet, hundred_here}
-use Rattle.wire.proofs.Reading.{at_none}
+use Rattle.wire.proofs.ReaderEnd.{at_none}
 use Rattle.wire.proofs.Turns.{last_no_memory, last_read, last_written, finished, unfinished}
 use Rattle.wire.proofs.service.serve_hundred.Goals as goal
 

@@ -23,7 +23,7 @@ use Rattle.spa.proofs.Places.{rank_of_place}
 use Rattle.network.specs.Seen.{Seen, shape_of, ArePrices, IsPriced, price as worth_price, price_total, total_worth}
 use Rattle.solver.specs.Inside.Weights.{worth_of, weighed}
 use Rattle.solver.specs.Inside.Solved.{IsOf}
-use Rattle.solver.proofs.Weighing.{projects_of-weighed_from, length-weighed_from, entry-weighed_from}
+use Rattle.solver.proofs.ListWorths.{projects_of-weighed_from, length-weighed_from, entry-weighed_from}
 use Rattle.solver.proofs.Totals.{value_read, weight_is}
 use Rattle.solver.proofs.Better.{moved}
 

@@ -6,7 +6,7 @@ use Rattle.wire.specs.Run.{Said}
 use Rattle.api.specs.declared.routes.Methods.{Methods}
 use Rattle.api.specs.Requests.{Asks, asked_by, by_method}
 use Rattle.api.specs.Routes.{first_of}
-use Rattle.api.proofs.Named.{one_name}
+use Rattle.api.proofs.PathsOfRoutes.{one_name}
 
 pub one_asked : (said : Said) (asked other : Result Request Refusal) → Asks said asked → Asks said other → asked ≡ other
 one_asked said asked other (inl a) (inl b) =
