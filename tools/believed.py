@@ -3,6 +3,7 @@
 
 tools/believed.py CRATE FUNCTION CLAUSE     as: tools/believed.py desk Desk::run run
 tools/believed.py --readme                  compares the figures that README.md names, row by row of "What has to be believed"
+tools/believed.py --inside                  names the definitions that no public clause cites and that do not stand in specs/Inside/, and the reverse
 
 A definition is counted once, with the comment above it. The closure follows the names in the clause, and then in each definition, by
 the `use` lines of its file, through the crates of this repository. Types of the program are named apart, and what stands in the
@@ -161,8 +162,71 @@ def compare():
     sys.exit("README.md is to be mended" if wrong or not rows else 0)
 
 
+def exported(crate):
+    """What the root of a crate gives out: names, and modules."""
+    root = os.path.join(CRATES, crate, "src", "lib.rt")
+    text = open(root, encoding="utf-8").read() if os.path.exists(root) else ""
+    names = re.findall(r"\w+", " ".join(re.findall(r"^pub use ([^;]*);", text, re.M)))
+    return set(names), set(re.findall(r"^pub mod (\w+);", text, re.M)) | {"lib"}
+
+
+def public_words(path, names, modules):
+    """The clauses of the public functions of a file, what its public traits promise, and how its public types are seen."""
+    text = open(path, encoding="utf-8").read()
+    is_open = os.path.basename(path)[: -len(".rt")] in modules
+    owner, in_trait = None, False
+    lines = text.split("\n")
+    for at, line in enumerate(lines):
+        block = re.match(r"(pub )?(impl|trait)\b(.*)\{$", line)
+        if block:
+            of = re.sub(r"<[^<>]*>", "", block.group(3).split(" for ")[-1])
+            owner, in_trait = re.search(r"\w+", re.sub(r"<[^<>]*>", "", of)), block.group(2) == "trait" or " for " in block.group(3)
+            owner = owner and owner.group(0)
+        elif line == "}":
+            owner, in_trait = None, False
+        function = re.match(r"\s*(pub )?(?:const )?fn (\w+)", line)
+        is_public = is_open or (owner or (function and function.group(2))) in names
+        ghost = re.match(r"\s*ghost (?:Value|view) = \{(.*)\};$|\s*ghost \w+: \{(.*)\};$", line)
+        if ghost and is_public:
+            yield ghost.group(1) or ghost.group(2)
+        if function and is_public and (function.group(1) or in_trait):
+            head = []
+            for more in lines[at:]:
+                head.append(more)
+                if more.strip() == "{" or (more.endswith(("{", ";")) and not re.match(r"\s*(ensures|requires)", more)):
+                    break
+            yield from re.findall(r"^\s*(?:ensures|requires) ?\w* ?\{(.*?)\};?$", "\n".join(head), re.M | re.S)
+
+
+def cited():
+    """The definitions that the public clauses of all crates rest on."""
+    book = Book()
+    for crate in sorted(os.listdir(CRATES)):
+        names, modules = exported(crate)
+        for path in files_below(os.path.join(CRATES, crate, "src"), ".rt"):
+            brought = uses_of(open(path, encoding="utf-8").read(), "ghost use")
+            for words in public_words(path, names, modules):
+                book.words(words, brought)
+    return book
+
+
+def parted():
+    book = cited()
+    is_cited = {(it.module, name) for it, name in book.order}
+    wrong = 0
+    for module, it in sorted(book.modules.items()):
+        for name in it.found:
+            if ((module, name) in is_cited) == (".Inside." in module):
+                wrong += 1
+                print(f"{it.path}: {name} " + ("is cited by a public clause" if ".Inside." in module else "is cited by no public clause"))
+    print(f"{len(is_cited)} definitions are cited by public clauses")
+    sys.exit(1 if wrong else 0)
+
+
 if sys.argv[1:] == ["--readme"]:
     compare()
+elif sys.argv[1:] == ["--inside"]:
+    parted()
 elif len(sys.argv) == 4:
     show(*sys.argv[1:])
 else:

@@ -15,7 +15,7 @@ use Rattle.spa.specs.Shape.{Shape}
 use Rattle.spa.specs.Instance as spa
 use Rattle.spa.specs.Instance.{Instance, project_codes}
 use Rattle.spa.specs.Named.{Named, Names, IsFit as IsFitInstance, instance_of, projects_named, students_named}
-use Rattle.spa.specs.Made.{IsRanking}
+use Rattle.spa.specs.Inside.Made.{IsRanking}
 use Rattle.solver.specs.Sitting.{Sitting, with_list}
 use Rattle.rolls.specs.declared.rounds.Round.{Round}
 use Rattle.rolls.specs.declared.rounds.Listed.{Listed}

@@ -9,7 +9,7 @@ use Rattle.std.specs.declared.alloc.Global.{Global}
 use Rattle.spa.specs.Codes.{code_at}
 use Rattle.spa.specs.Instance as spa
 use Rattle.spa.specs.Instance.{project_codes}
-use Rattle.spa.specs.Made.{IsRanking}
+use Rattle.spa.specs.Inside.Made.{IsRanking}
 use Rattle.rolls.specs.declared.entries.Project.{Project}
 use Rattle.rolls.specs.declared.rounds.Listed.{Listed}
 use Rattle.rolls.specs.State.{State, project_key, list_key, last_round, lists_of, list_of, choices_in, has_project, placed_in_project}

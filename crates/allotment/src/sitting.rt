@@ -3,7 +3,7 @@
 ghost use Rattle.std.specs.Prelude.{◌≡◌, ◌<◌, ◌≤◌, Contains, All, length, map, IfOk, OnOk, OnErr, IsTrue};
 ghost use Rattle.spa.specs.Codes.{code_at};
 ghost use Rattle.spa.specs.Named.{IsFit};
-ghost use Rattle.spa.specs.Made.{IsRanking};
+ghost use Rattle.spa.specs.Inside.Made.{IsRanking};
 ghost use Rattle.spa.specs.Instance.{project_codes};
 ghost use Rattle.rolls.specs.State.{State, last_round, round_is_open, choices_in};
 ghost use Rattle.rolls.specs.Instances.{round_instance};

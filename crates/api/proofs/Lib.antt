@@ -1,8 +1,8 @@
-pub mod Refused
+pub mod Refusals
 pub mod Json
 pub mod Found
 pub mod Sound
-pub mod Named
-pub mod Routing
+pub mod PathsOfRoutes
+pub mod Routers
 pub mod Short
-pub mod Asking
+pub mod OneRequest

@@ -3,3 +3,4 @@ pub mod Members
 pub mod Requests
 pub mod Text
 pub mod Texts
+pub mod Inside

@@ -106,10 +106,6 @@ all_routes =
     ∷ row (codes "/supervisors/") (codes "code") (entry put.Supervisor call.GetSupervisor)
     ∷ []
 
--- a path as it is written, with what each method asks of it
-abbrev pub written : List ℕ × RouteOf Methods → List ℕ × Methods
-written r = (r.1.text, r.1.value)
-
 -- a pattern with these texts put in for its parameters, in order
 abbrev pub fill : List ℕ → List (List ℕ) → Option (List ℕ)
 fill [] [] = Some []
@@ -154,12 +150,6 @@ pub record Names (path : List ℕ) (methods : Methods) (values : List (List ℕ)
 abbrev pub first_of : List (List ℕ) → List ℕ
 first_of [] = []
 first_of (v ∷ values) = v
-
--- the path is that of a route, whose first parameter is this text
-pub record NamesBy (path : List ℕ) (methods : Methods) (code : List ℕ) : Type 0 where
-  pub values : List (List ℕ)
-  pub names : Names path methods values
-  pub first : code ≡ first_of values
 
 -- no route has the path
 abbrev pub IsNowhere : List ℕ → Type 0

@@ -2,7 +2,8 @@
 ghost use Rattle.std.specs.Prelude.{◌≡◌, ◌⊎◌, [], ◌∷◌, IfOk, IfErr, MatchOption};
 ghost use Rattle.std.specs.Str.{bytes_eq};
 ghost use Rattle.serde_json.specs.View.{view};
-ghost use Rattle.api.specs.Routes.{all_routes, NamesBy, IsNowhere};
+ghost use Rattle.api.specs.Routes.{all_routes, IsNowhere};
+ghost use Rattle.api.specs.Inside.Routes.{NamesBy};
 ghost use Rattle.api.specs.Requests.{put_by, by_body, by_method, asked_by, Asks};
 
 use crate::members::{choices_of, name_of, project_members, read_json, supervisor_members};

@@ -1,7 +1,8 @@
 //! What the paths of messages name.
 ghost use Rattle.std.specs.Prelude.{◌≡◌, ℕ, List, [], ◌∷◌, MatchOption, IfOk, IfErr, map, codes};
 ghost use Rattle.std.specs.Str.{all_ascii_digits};
-ghost use Rattle.api.specs.Routes.{called, number_of, fits, read, asked, entry, list, numbered, import, written, all_routes, NamesBy, IsNowhere};
+ghost use Rattle.api.specs.Routes.{called, number_of, fits, read, asked, entry, list, numbered, import, all_routes, IsNowhere};
+ghost use Rattle.api.specs.Inside.Routes.{written, NamesBy};
 
 use matchit::{InsertError, Router};
 use rolls::{ImportKind, Plain, ReportKind, Request, Text};

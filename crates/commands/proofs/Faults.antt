@@ -4,7 +4,8 @@ use Rattle.clap.specs.Words.{IsAmong}
 use Rattle.clap.specs.Words.{Kinds as ErrorKinds}
 use Rattle.clap.specs.declared.error.kind.ErrorKind.{ErrorKind}
 use Rattle.clap.specs.declared.error.kind.ErrorKind.TheVariants.{OutOfMemory}
-use Rattle.commands.specs.Reading.{IsFaultOf, IsToldBy}
+use Rattle.commands.specs.Reading.{IsFaultOf}
+use Rattle.commands.specs.Inside.Reading.{IsToldBy}
 use Rattle.commands.specs.declared.line.LineFault.{LineFault}
 use Rattle.commands.specs.declared.line.LineFault.TheVariants.{Memory, Help, Fault}
 

@@ -4,7 +4,8 @@ use Rattle.std.specs.Prelude.{IsOk}
 use Rattle.std.specs.Str.Parse.{ParsesUnsigned}
 use Rattle.clap.proofs.ValueTestLemmas.{accepts-Accepts}
 use Rattle.clap.specs.declared.builder.value_parser.ValueParser.TheVariants.{Unsigned}
-use Rattle.commands.specs.Reading.{IsNumberBelow, fits}
+use Rattle.commands.specs.Inside.Reading.{IsNumberBelow}
+use Rattle.commands.specs.Reading.{fits}
 use Rattle.commands.specs.declared.table.Takes.{Takes}
 use Rattle.commands.specs.declared.table.Takes.TheVariants.{Word, Number, ImportKind, ReportKind}
 

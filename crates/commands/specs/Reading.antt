@@ -1,5 +1,5 @@
 -- The line that words stand for, and the faults of words that are none.
-use Rattle.std.specs.Prelude.{◌≡◌, ◌≢◌, ◌<◌, ℕ, Bool, List, [], ◌∷◌, Option, Some, Result, IfErr, IfOk, IsSomeAnd, codes, find, option_map, string_bytes, true}
+use Rattle.std.specs.Prelude.{◌≡◌, ◌≢◌, ℕ, Bool, List, [], ◌∷◌, Option, Some, Result, IfErr, IfOk, IsSomeAnd, codes, find, option_map, string_bytes, true}
 use Rattle.std.specs.List.{list_any}
 use Rattle.std.specs.Str.{bytes_eq}
 use Rattle.std.specs.Str.Parse.{digits_value, without_leading_plus}
@@ -7,7 +7,7 @@ use Rattle.rolls.specs.Kinds.{word_of}
 use Rattle.clap.specs.Words.{App, IsAmong, Row, Text, fault_of, first_of, subcommand_of, takes}
 use Rattle.clap.specs.Words.{Kinds as ErrorKinds}
 use Rattle.clap.specs.declared.error.kind.ErrorKind.{ErrorKind}
-use Rattle.clap.specs.declared.error.kind.ErrorKind.TheVariants.{DisplayHelp, OutOfMemory}
+use Rattle.clap.specs.declared.error.kind.ErrorKind.TheVariants.{DisplayHelp}
 use Rattle.clap.specs.ValueTests.{is_unsigned_in}
 use Rattle.commands.specs.Kinds.{import_kinds, report_kinds, report_word}
 use Rattle.commands.specs.Program.{AreWords, program}
@@ -35,11 +35,6 @@ fits Word word = true
 fits (Number least most) word = is_unsigned_in least most word
 fits ImportKind word = list_any (λ kind. bytes_eq (word_of kind) word) import_kinds
 fits ReportKind word = list_any (λ kind. bytes_eq (report_word kind) word) report_kinds
-
--- each number that may stand for an argument is below the bound
-abbrev pub IsNumberBelow : ℕ → Takes → Type 0
-IsNumberBelow bound (Number least most) = most < bound
-IsNumberBelow bound _ = ⊥
 
 -- a word was read for the argument, and may stand for it
 abbrev pub IsGiven : List Row → Argument → Type 0
@@ -75,12 +70,6 @@ abbrev pub IsFaultOf : ErrorKinds → LineFault → Type 0
 IsFaultOf kinds Memory = Unit {0}
 IsFaultOf kinds (Help text) = IsAmong DisplayHelp kinds
 IsFaultOf kinds (Fault text) = (kind : ErrorKind) × IsAmong kind kinds × (kind ≢ DisplayHelp)
-
--- a fault tells this kind of error of `clap`'s
-abbrev pub IsToldBy : ErrorKind → LineFault → Type 0
-IsToldBy kind Memory = Unit {0}
-IsToldBy kind (Help text) = kind ≡ DisplayHelp
-IsToldBy kind (Fault text) = (kind ≢ OutOfMemory) × (kind ≢ DisplayHelp)
 
 -- a line is what `clap` reads in the words, and it takes them; a fault is one of its own
 pub record IsReading (app : App) (words : List Text) (result : Result Line LineFault) : Type 0 where

@@ -1,10 +1,8 @@
 -- The lines of the program, each told once.
-use Rattle.std.specs.Prelude.{List, [], ◌∷◌, map, codes}
+use Rattle.std.specs.Prelude.{List, [], ◌∷◌, codes}
 use Rattle.clap.specs.Words.{Text}
 use Rattle.commands.specs.declared.table.Takes.{Takes}
 use Rattle.commands.specs.declared.table.Takes.TheVariants.{Word, Number, ImportKind, ReportKind}
-use Rattle.commands.specs.declared.table.Argument.{Argument as GivenArgument}
-use Rattle.commands.specs.declared.table.Row.{Row as GivenRow}
 
 -- an argument, which must be given: its name, and what its word may be
 pub record Argument : Type 0 where
@@ -64,11 +62,3 @@ lines =
     ∷ told (codes "solve") (file ∷ [])
     ∷ told (codes "check") (file ∷ [])
     ∷ []
-
--- what the program tells of an argument
-abbrev pub argument_by : GivenArgument → Argument
-argument_by given = record { name = given.name.now; takes = given.takes }
-
--- and of a line
-abbrev pub told_by : GivenRow → Told
-told_by given = record { name = given.name.now; arguments = map argument_by given.arguments.now }

@@ -4,7 +4,7 @@ ghost use Rattle.std.specs.Prelude.{◌≡◌, IfOk, false};
 ghost use Rattle.clap.specs.Words.{app_of, rule_of};
 ghost use Rattle.clap.specs.declared.builder.command.Command.TheViews.{out-Command};
 ghost use Rattle.commands.specs.Program.{line_app, parser_of, program, rule_by};
-ghost use Rattle.commands.specs.Table.{argument_by, told_by};
+ghost use Rattle.commands.specs.Inside.Table.{argument_by, told_by};
 
 use crate::table::{Argument, Row, Takes, rows};
 use clap::builder::ValueParser;

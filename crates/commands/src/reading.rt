@@ -5,8 +5,10 @@ ghost use Rattle.rolls.specs.Kinds.{word_of};
 ghost use Rattle.clap.specs.Words.{found_of, kind_of, rows_of, subcommand_rows_of};
 ghost use Rattle.commands.specs.Kinds.{report_word};
 ghost use Rattle.commands.specs.Program.{AreWords};
-ghost use Rattle.commands.specs.Reading.{AreGiven, IsAnswer, IsGiven, IsLineOf, IsNumberBelow, IsToldBy, fits, number_in, word_in};
-ghost use Rattle.commands.specs.Table.{argument_by};
+ghost use Rattle.commands.specs.Reading.{AreGiven, IsAnswer, IsGiven, IsLineOf, fits, number_in, word_in};
+ghost use Rattle.commands.specs.Inside.Reading.{IsNumberBelow, IsToldBy};
+ghost use Rattle.commands.specs.Table;
+ghost use Rattle.commands.specs.Inside.Table.{argument_by};
 
 use crate::kinds::{import_kind, import_words, report_kind, report_words};
 use crate::line::{Line, LineFault};

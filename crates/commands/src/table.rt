@@ -1,7 +1,8 @@
 //! The lines of the program, each told once.
 
 ghost use Rattle.std.specs.Prelude.{◌≡◌, map};
-ghost use Rattle.commands.specs.Table.{lines, told_by};
+ghost use Rattle.commands.specs.Table.{lines};
+ghost use Rattle.commands.specs.Inside.Table.{told_by};
 
 use self::given::{COUNT, DATABASE, FILE, ID, IMPORT_KIND, PORT, REPORT_KIND, ROUND};
 

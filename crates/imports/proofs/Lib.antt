@@ -1,4 +1,4 @@
 mod Records
-mod Standing
+mod FieldTexts
 mod Alike
-mod Requested
+mod AfterHeader

@@ -1,11 +1,9 @@
 -- The requests of an import text.
-use Rattle.std.specs.Prelude.{ℕ, ◌+◌, ◌%◌, ◌==◌, ◌≤◌, ⊤, not, Bool, true, false, List, [], ◌∷◌, length, map, count_by, Result, Ok, Err, if◌then◌else◌}
+use Rattle.std.specs.Prelude.{ℕ, ◌+◌, ◌%◌, ◌==◌, ◌≤◌, ⊤, not, Bool, List, [], ◌∷◌, length, map, count_by, Result, Ok, Err, if◌then◌else◌}
 use Rattle.std.specs.List.{position}
 use Rattle.std.specs.Option.{option_map_or}
 use Rattle.std.specs.Str.{bytes_eq}
 use Rattle.std.specs.Cmp.Lexicographic.{pointwise}
-use Rattle.csv.specs.declared.error.ErrorKind.{ErrorKind}
-use Rattle.csv.specs.declared.error.ErrorKind.TheVariants as kind
 use Rattle.csv.specs.Reading.{records, default_config, strip_bom}
 use Rattle.rolls.specs.declared.import.ImportKind.{ImportKind}
 use Rattle.rolls.specs.declared.request.Plain.{Plain}
@@ -17,15 +15,6 @@ use Rattle.imports.specs.Kinds.{header_of, request_of}
 -- front passed over; the header is the first of them
 abbrev pub records_of : List ℕ → List (List (List ℕ))
 records_of bytes = records default_config (strip_bom bytes)
-
--- an error of a reader that tells of the records that it read: of their lengths, or of what they hold
-abbrev pub is_of_form : ErrorKind → Bool
-is_of_form (kind.UnequalLengths pos expected len) = true
-is_of_form (kind.Utf8 pos err) = true
-is_of_form (kind.Serialize why) = true
-is_of_form (kind.Deserialize pos err) = true
-is_of_form (kind.Io e) = false
-is_of_form kind.OutOfMemory = false
 
 -- an odd number of bytes are quotes, so one has no partner
 abbrev pub has_odd_quotes : List ℕ → Bool

@@ -8,7 +8,8 @@ ghost use Rattle.std.specs.Cmp.Lexicographic.{pointwise};
 ghost use Rattle.csv.specs.Records.{fields_of};
 ghost use Rattle.imports.specs.declared.fault.ImportFault.TheVariants.{Memory};
 ghost use Rattle.imports.specs.Kinds.{header_of, request_of};
-ghost use Rattle.imports.specs.Requests.{IsWithin, records_of, has_odd_quotes, is_header, has_other_length, is_of_form, requests_after, requests_of};
+ghost use Rattle.imports.specs.Requests.{IsWithin, records_of, has_odd_quotes, is_header, has_other_length, requests_after, requests_of};
+ghost use Rattle.imports.specs.Inside.Requests.{is_of_form};
 
 use crate::fault::ImportFault;
 use crate::kinds::{field, header_of, request_of};

@@ -7,7 +7,7 @@ use Rattle.std.proofs.lemmas.List.Splits.{length-slice_split}
 use Rattle.intake.specs.Parts.{Parts, IsRoundParts}
 use Rattle.intake.specs.Lines.{sections, round_lines, round_text, ended}
 use Rattle.intake.specs.Reading.{pieces, Begins, IsFirstBadLine}
-use Rattle.intake.specs.Draft.{IsDraft, IsWhole}
+use Rattle.intake.specs.Inside.Draft.{IsDraft, IsWhole}
 use Rattle.intake.proofs.Ends.{draft_begins}
 use Rattle.intake.proofs.Goes.{parts_plain}
 use Rattle.intake.proofs.Pieces.{pieces_back, text_back}

@@ -10,7 +10,7 @@ use Rattle.spa.specs.declared.fault.InstanceFault.TheVariants.{Memory, Limit, Re
 use Rattle.spa.specs.Codes.{IsFirstRepeated}
 use Rattle.spa.specs.Made.{IsSoundList, IsFirstUnknown, IsListFault, IsFirstListFault, IsFirstInstanceFault}
 use Rattle.intake.proofs.Found.{slice_get_at}
-use Rattle.intake.proofs.Pairing.{one_place, all_found}
+use Rattle.intake.proofs.PairLine.{one_place, all_found}
 use Rattle.intake.proofs.Prices.{filled, filled_all, filled_prices, filled_rows, changed_complete, priced_changed, some_turn}
 use Rattle.intake.proofs.Rolls.{within_get}
 use Rattle.intake.proofs.Sections.{letter_at}
@@ -18,8 +18,8 @@ use Rattle.intake.proofs.Steps.{prices_step}
 use Rattle.intake.specs.Parts.{Parts, Rise, IsPlace, ArePricesOrNone, IsRoundParts}
 use Rattle.intake.specs.Lines.{Row, choice_code, line, round_lines, section_lines, priced, price_section, pair_rows, supervisor_row, project_row, student_row}
 use Rattle.intake.specs.Reading.{Begins}
-use Rattle.intake.specs.Draft.{IsDraft, IsWhole, ArePlaces, ArePricesUpTo, NoneOrAll, AreComplete}
-use Rattle.intake.specs.Entries.{IsTurn, with_prices}
+use Rattle.intake.specs.Inside.Draft.{IsDraft, IsWhole, ArePlaces, ArePricesUpTo, NoneOrAll, AreComplete}
+use Rattle.intake.specs.Inside.Entries.{IsTurn, with_prices}
 
 -- nobody of the rest has a place
 pub no_more_pairs : (es : List Student) (ks : List (Option ℕ)) (n : ℕ) → pair_rows es (ks ++ replicate n None) ≡ pair_rows es ks

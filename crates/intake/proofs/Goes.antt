@@ -14,7 +14,7 @@ use Rattle.verdict.specs.Rows.{InRange}
 use Rattle.intake.specs.Parts.{Parts, IsPrice, IsRoundInstance, IsRoundParts}
 use Rattle.intake.specs.Lines.{Row, Section, line, sections, round_lines}
 use Rattle.intake.specs.Reading.{Begins}
-use Rattle.intake.specs.Draft.{IsDraft, IsField, IsFree}
+use Rattle.intake.specs.Inside.Draft.{IsDraft, IsField, IsFree}
 use Rattle.spa.proofs.Texts.{code_bytes}
 use Rattle.intake.proofs.Widths.{Said, OfRows, OfLetters, widths, rows_said}
 use Rattle.intake.proofs.Numbers.{small}

@@ -1,14 +1,14 @@
-mod Adding
+mod RowInDraft
 mod Bad
 mod Ends
 mod Widths
 mod Found
-mod Added
+mod LineInDraft
 mod Goes
 mod Lists
 mod Numbers
 mod Order
-mod Pairing
+mod PairLine
 mod Pieces
 mod Prices
 mod Rolls
@@ -18,4 +18,4 @@ mod Steps
 mod Takes
 mod Unique
 mod Whole
-mod Writing
+mod RestOfText

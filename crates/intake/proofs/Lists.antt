@@ -6,7 +6,7 @@ use Rattle.std.proofs.lemmas.List.{take_more, length-take-le}
 use Rattle.std.specs.Str.{bytes_eq}
 use Rattle.std.proofs.lemmas.Bool.Decides.{not_from_Decides}
 use Rattle.std.proofs.lemmas.Slice.Eq.{bytes_eq-Decides}
-use Rattle.spa.specs.Codes.{Finds}
+use Rattle.spa.specs.Inside.Codes.{Finds}
 use Rattle.spa.specs.Made.{IsSoundUpTo, IsSoundList}
 use Rattle.intake.proofs.Order.{get_found}
 use Rattle.intake.proofs.Rolls.{known_more, apart_more, contained, standing}

@@ -9,7 +9,7 @@ use Rattle.std.proofs.lemmas.Cmp.{nat_list_cmp_total, tied_itself}
 use Rattle.std.proofs.lemmas.Bool.{cases_lt}
 use Rattle.std.proofs.lemmas.List.{get_or_default, get_or_append_left, get_or_at, length-map}
 use Rattle.std.proofs.lemmas.List.Quantifiers.{all_pairs_push}
-use Rattle.spa.specs.Codes.{Finds}
+use Rattle.spa.specs.Inside.Codes.{Finds}
 use Rattle.intake.specs.Parts.{code_cmp, Rise}
 
 -- codes that compare as equal are the same

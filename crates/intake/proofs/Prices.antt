@@ -10,9 +10,9 @@ use Rattle.spa.specs.Codes.{code_at}
 use Rattle.spa.specs.Instance.{Supervisor, Project, Student}
 use Rattle.intake.specs.Parts.{Parts, IsPrice, ArePricesOrNone, IsRoundParts}
 use Rattle.intake.specs.Lines.{Row, Priced, priced, price_section, price_rows}
-use Rattle.intake.specs.Draft.{ArePricesUpTo, NoneOrAll, AreUnpriced, AreComplete, ArePricedInTurn}
-use Rattle.intake.specs.Entries.{NextPrice, NextPriceAt, IsTurn, At, prices_at, with_prices, with_price, AddsOne, AddsPrice}
-use Rattle.intake.proofs.Pairing.{all_found}
+use Rattle.intake.specs.Inside.Draft.{ArePricesUpTo, NoneOrAll, AreUnpriced, AreComplete, ArePricedInTurn}
+use Rattle.intake.specs.Inside.Entries.{NextPrice, NextPriceAt, IsTurn, At, prices_at, with_prices, with_price, AddsOne, AddsPrice}
+use Rattle.intake.proofs.PairLine.{all_found}
 use Rattle.intake.proofs.Sections.{NoRows, NextAt, SameRows, Grows}
 
 -- there are no rows without prices

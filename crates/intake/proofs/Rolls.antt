@@ -3,9 +3,10 @@ use Rattle.std.proofs.Common.{◌≡◌, ℕ, zero, suc, ◌+◌, ◌<◌, List,
 use Rattle.std.proofs.lemmas.Bool.{cases_lt}
 use Rattle.spa.specs.declared.code.Code.{Code}
 use Rattle.spa.specs.Instance.{supervisors_of, projects_of, students_of}
-use Rattle.spa.specs.Codes.{AreApart, Finds}
+use Rattle.spa.specs.Codes.{AreApart}
+use Rattle.spa.specs.Inside.Codes.{Finds}
 use Rattle.spa.specs.Made.{AreKnown, IsSoundList}
-use Rattle.intake.specs.Entries.{ComesNext}
+use Rattle.intake.specs.Inside.Entries.{ComesNext}
 use Rattle.intake.proofs.Found.{slice_get_at}
 use Rattle.intake.proofs.Order.{get_found}
 

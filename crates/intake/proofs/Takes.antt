@@ -14,10 +14,10 @@ use Rattle.intake.specs.declared.section.SectionName.{SectionName}
 use Rattle.intake.specs.declared.section.SectionName.TheVariants.{Supervisors, Projects, Students, Pairs, StudentPrices, ProjectPrices, SupervisorPrices}
 use Rattle.intake.specs.Parts.{Parts, Rise, IsPlace, IsRoll, IsRoundParts}
 use Rattle.intake.specs.Lines.{Row, choice_code, sections, priced, round_lines, supervisor_row, project_row, student_row, pair_rows}
-use Rattle.intake.specs.Draft.{IsDraft, IsWhole, ArePlaces, EndsPlaced}
-use Rattle.intake.specs.Entries.{ComesNext, NextPriceAt, HasTurn, IsNext, IsTurn, Entry, letter_of}
+use Rattle.intake.specs.Inside.Draft.{IsDraft, IsWhole, ArePlaces, EndsPlaced}
+use Rattle.intake.specs.Inside.Entries.{ComesNext, NextPriceAt, HasTurn, IsNext, IsTurn, Entry, letter_of}
 use Rattle.intake.proofs.Order.{cmp_apart, get_found}
-use Rattle.intake.proofs.Pairing.{all_found, get_mapped}
+use Rattle.intake.proofs.PairLine.{all_found, get_mapped}
 use Rattle.intake.proofs.Prices.{SameCodes, rows_unpriced, parts_priced, takes_next, all_complete}
 use Rattle.intake.proofs.Rolls.{within_get}
 use Rattle.intake.proofs.Sections.{NextAt, has_letter, next_letter, next_at}

@@ -18,10 +18,10 @@ use Rattle.verdict.specs.declared.prices.Prices.{Prices}
 use Rattle.intake.specs.Parts.{Rise, IsRoll, IsPlace, ArePricesOrNone, IsRoundInstance, IsRoundParts}
 use Rattle.intake.specs.View.{alone, proved}
 use Rattle.intake.proofs.Found.{slice_get_at}
-use Rattle.intake.proofs.Pairing.{get_mapped}
+use Rattle.intake.proofs.PairLine.{get_mapped}
 use Rattle.intake.proofs.Rolls.{contained}
 use Rattle.intake.proofs.Unique.{one_listed}
-use Rattle.intake.proofs.Writing.{named_supervisors, named_projects, named_students}
+use Rattle.intake.proofs.RestOfText.{named_supervisors, named_projects, named_students}
 
 -- the quotas of supervisors by codes
 supervisor_quotas : (cs : List (List ℕ)) (qs : List ℕ) → All (λ q. q ≤ MOST_PLACES) qs → All (λ q. q ≤ MOST_PLACES) (map (λ e. e.quota) (supervisors_named cs qs))

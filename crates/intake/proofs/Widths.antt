@@ -12,7 +12,7 @@ use Rattle.verdict.specs.Rows.{InRange}
 use Rattle.intake.specs.Parts.{Parts, IsRoll, IsPrice, IsRoundInstance}
 use Rattle.intake.specs.Lines.{Row, Section, choice_code, sections, supervisor_row, project_row, student_row, pair_rows, price_rows}
 use Rattle.intake.proofs.Found.{slice_get_at}
-use Rattle.intake.proofs.Pairing.{all_found, get_mapped}
+use Rattle.intake.proofs.PairLine.{all_found, get_mapped}
 
 -- what is said of a field, and of a row of fields, by their widths
 pub record Said (F : ℕ → List ℕ → Type 0) (R : ℕ → Row → Type 0) : Type 0 where

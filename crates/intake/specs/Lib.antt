@@ -2,5 +2,4 @@ pub mod Parts
 pub mod Lines
 pub mod Reading
 pub mod View
-pub mod Draft
-pub mod Entries
+pub mod Inside

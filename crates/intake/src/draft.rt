@@ -6,8 +6,8 @@ ghost use Rattle.spa.specs.Instance.{student_codes, project_codes};
 ghost use Rattle.spa.specs.Made.{IsSoundList};
 ghost use Rattle.intake.specs.Parts.{IsRoll, IsRoundParts};
 ghost use Rattle.intake.specs.declared.section.SectionName.TheVariants.{Supervisors, Projects, Students, Pairs};
-ghost use Rattle.intake.specs.Draft.{draft_of, IsDraft, HasNoPrices, NoneOrAll, IsField, nothing, IsWhole};
-ghost use Rattle.intake.specs.Entries.{Adds, AddsPrice, AddsLine, HasTurn, line_of};
+ghost use Rattle.intake.specs.Inside.Draft.{draft_of, IsDraft, HasNoPrices, NoneOrAll, IsField, nothing, IsWhole};
+ghost use Rattle.intake.specs.Inside.Entries.{Adds, AddsPrice, AddsLine, HasTurn, line_of};
 ghost use Rattle.intake.specs.Lines.{round_lines};
 ghost use Rattle.intake.specs.View.{parts_of};
 

@@ -2,9 +2,9 @@
 #![tactic(auto)]
 
 ghost use Rattle.std.specs.Prelude.{◌≡◌, ◌↔◌, ℕ, List, [], ◌∷◌, ◌++◌, map, length, IsTrue, MatchOption};
-ghost use Rattle.spa.specs.Codes.{Finds};
+ghost use Rattle.spa.specs.Inside.Codes.{Finds};
 ghost use Rattle.intake.specs.Parts.{Rise, IsRoll};
-ghost use Rattle.intake.specs.Entries.{ComesNext};
+ghost use Rattle.intake.specs.Inside.Entries.{ComesNext};
 
 use crate::fields::read_code;
 use spa::Code;

@@ -2,7 +2,7 @@
 #![tactic(auto)]
 
 ghost use Rattle.std.specs.Prelude.{◌≡◌, ◌↔◌, [], IsTrue};
-ghost use Rattle.intake.specs.Draft.{draft_of, IsWhole};
+ghost use Rattle.intake.specs.Inside.Draft.{draft_of, IsWhole};
 ghost use Rattle.intake.specs.Reading.{IsReading};
 
 use crate::MOST_BYTES;

@@ -3,7 +3,7 @@
 
 ghost use Rattle.std.specs.Prelude.{◌≡◌, MatchOption};
 ghost use Rattle.intake.specs.declared.section.SectionName.{SectionName};
-ghost use Rattle.intake.specs.Entries.{letter_of};
+ghost use Rattle.intake.specs.Inside.Entries.{letter_of};
 
 /// The sections in their order.
 #[derive(Clone, Copy)]

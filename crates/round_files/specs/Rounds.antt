@@ -17,8 +17,7 @@ use Rattle.intake.specs.Lines.{round_text}
 use Rattle.intake.specs.Reading.{IsReading}
 use Rattle.intake.specs.View.{proved}
 use Rattle.intake.specs.declared.round.RoundParts.{RoundParts}
-use Rattle.intake.specs.declared.round.RoundFault.{RoundFault}
-use Rattle.intake.specs.declared.round.RoundFault.TheVariants.{Memory, TooLarge, Line}
+use Rattle.intake.specs.declared.round.RoundFault.TheVariants.{TooLarge, Line}
 use Rattle.solver.specs.declared.solving.Solved.{Solved}
 use Rattle.rolls.specs.declared.refusal.Refusal.TheVariants.{Memory as NoMemory, TooLarge as AboveLimit}
 use Rattle.round_files.specs.declared.rounds.Trouble.{Trouble}
@@ -60,12 +59,6 @@ pub record IsNo (text printed : List ℕ) : Type 0 where
   pub read : IsReading text (Ok round)
   pub first : IsFirstFailure (order Greedy) round.instance.shape round.matching.places.items round.prices fault
   pub is : printed ≡ fault_text round.instance fault
-
--- what is told of a text that was not read
-abbrev pub trouble_of : RoundFault → Trouble
-trouble_of Memory = Refused NoMemory
-trouble_of TooLarge = Refused AboveLimit
-trouble_of (Line n) = BadLine n
 
 -- the text is none of a round, as is told; want of memory may take the place of anything
 abbrev pub IsTrouble : List ℕ → Trouble → Type 0

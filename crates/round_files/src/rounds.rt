@@ -40,7 +40,7 @@ impl From<AllocError> for Trouble {
 
 impl From<RoundFault> for Trouble {
     ghost use Rattle.std.specs.Prelude.{◌≡◌};
-    ghost use Rattle.round_files.specs.Rounds.{trouble_of};
+    ghost use Rattle.round_files.specs.Inside.Rounds.{trouble_of};
 
     ghost from_gives = { λ f t. t ≡ trouble_of f };
 

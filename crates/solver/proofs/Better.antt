@@ -2,7 +2,7 @@
 use Rattle.std.proofs.Common.{◌≡◌, ℕ, ◌<◌, ◌<ℤ◌, ℤ, ◌∙◌, sym, subst, arith, List}
 use Rattle.spa.specs.declared.aim.Aim.{Aim}
 use Rattle.spa.specs.Order.{Precedes, as_read, order, IsSettled}
-use Rattle.spa.specs.Reading.{read_alike}
+use Rattle.spa.specs.Inside.Reading.{read_alike}
 use Rattle.spa.specs.Shape.{Shape}
 use Rattle.spa.specs.Matching.{Pair, IsUnbeaten, IsMatching, weight_row}
 use Rattle.spa.specs.declared.TheConstants.{PLACES}

@@ -9,8 +9,8 @@ ghost use Rattle.spa.specs.Matching.{Pair, IsBest, profile};
 ghost use Rattle.spa.specs.Matched.{pairs, HasPlaces};
 ghost use Rattle.network.specs.Seen.{shape_of};
 ghost use Rattle.solver.specs.Sitting.{nobody, IsAdmitted, TellsIfPlaced};
-ghost use Rattle.solver.specs.Solved.{IsOf};
-ghost use Rattle.solver.specs.Kept.{IsKept};
+ghost use Rattle.solver.specs.Inside.Solved.{IsOf};
+ghost use Rattle.solver.specs.Inside.Kept.{IsKept};
 
 use crate::worths::admit_weighed;
 use network::{Admitted, Network};
@@ -75,7 +75,8 @@ pub struct Session {
 
 impl Model for Session {
     ghost use Rattle.solver.specs.Sitting.{Sitting};
-    ghost use Rattle.solver.specs.Kept.{sitting_of, IsKept};
+    ghost use Rattle.solver.specs.Kept.{sitting_of};
+    ghost use Rattle.solver.specs.Inside.Kept.{IsKept};
 
     ghost Value = { Sitting };
 

@@ -10,7 +10,7 @@ ghost use Rattle.spa.specs.Places.{lex_ops};
 ghost use Rattle.network.specs.declared.TheConstants.{LARGEST_PRICE};
 ghost use Rattle.network.specs.Seen.{price};
 ghost use Rattle.verdict.specs.Verdict.{IsProvedBest};
-ghost use Rattle.solver.specs.Solved.{IsOf, AreRowsOf, ArePricesOf};
+ghost use Rattle.solver.specs.Inside.Solved.{IsOf, AreRowsOf, ArePricesOf};
 
 use crate::worths::{admit_weighed, numbers};
 use network::Network;

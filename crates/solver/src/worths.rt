@@ -9,7 +9,7 @@ ghost use Rattle.spa.specs.Row.{at};
 ghost use Rattle.spa.specs.Places.{lex_ops, row};
 ghost use Rattle.spa.specs.declared.TheConstants.{MOST_STUDENTS, RANKS, PLACES};
 ghost use Rattle.network.specs.Seen.{IsAdmission};
-ghost use Rattle.solver.specs.Weights.{worth_of, weighed};
+ghost use Rattle.solver.specs.Inside.Weights.{worth_of, weighed};
 
 use network::{Admitted, Network};
 use spa::{Aim, Lex, PLACES, lex_law};

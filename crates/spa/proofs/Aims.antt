@@ -7,7 +7,7 @@ use Rattle.spa.specs.declared.TheConstants.{RANKS, PLACES}
 use Rattle.spa.specs.declared.aim.Aim.{Aim}
 use Rattle.spa.specs.declared.aim.Aim.TheVariants.{Greedy, Generous}
 use Rattle.spa.specs.Order.{as_read, ranks_read, order, plus}
-use Rattle.spa.specs.Reading.{read_alike}
+use Rattle.spa.specs.Inside.Reading.{read_alike}
 use Rattle.spa.specs.Shape.{Shape}
 use Rattle.spa.specs.Matching.{Pair, IsBest, IsUnbeaten, profile, weight_row}
 use Rattle.spa.proofs.Orders.{RowAtMost, RowAtMost_refl, RowAtMost_trans, RowAtMost-plus, at_most_from, not_before}

@@ -7,9 +7,12 @@ use Rattle.spa.specs.declared.TheConstants.{RANKS, PLACES}
 use Rattle.spa.specs.declared.aim.Aim.TheVariants.{Generous}
 use Rattle.spa.specs.Order.{Precedes, as_read}
 use Rattle.spa.specs.GenerousLaw.{OrdersByAim}
-use Rattle.spa.specs.Row.{at, greatest}
-use Rattle.spa.specs.Places.{Places, places_of, row, row-places_of, lex_ops}
-use Rattle.spa.specs.Reading.{value_read, read_alike}
+use Rattle.spa.specs.Row.{at}
+use Rattle.spa.specs.Inside.Row.{greatest}
+use Rattle.spa.specs.Places.{Places, places_of, row, lex_ops}
+use Rattle.spa.specs.Inside.Places.{row-places_of}
+use Rattle.spa.specs.Reading.{value_read}
+use Rattle.spa.specs.Inside.Reading.{read_alike}
 use Rattle.spa.proofs.Aims.{read_sum}
 use Rattle.spa.proofs.LexOrder.{lex_less_is, row_in_span, span_at_most}
 use Rattle.spa.proofs.Rows.{plus_of, minus_of, within}

@@ -1,5 +1,5 @@
 -- Rows of numbers by place, and which of two comes first.
-use Rattle.std.specs.Prelude.{◌≡◌, ℕ, zero, suc, ◌-◌, ◌<◌, ℤ, pos, neg_ℤ, ◌+ℤ◌, ◌*ℤ◌, ◌<ℤ◌}
+use Rattle.std.specs.Prelude.{◌≡◌, ℕ, zero, suc, ◌-◌, ◌<◌, ℤ, pos, neg_ℤ, ◌+ℤ◌, ◌<ℤ◌}
 use Rattle.spa.specs.declared.TheConstants.{PLACES, RANKS}
 use Rattle.spa.specs.declared.aim.Aim.{Aim}
 use Rattle.spa.specs.declared.aim.Aim.TheVariants.{Greedy, Generous}
@@ -42,10 +42,6 @@ none k = pos 0
 -- by place: the sum
 abbrev pub plus : (ℕ → ℤ) → (ℕ → ℤ) → ℕ → ℤ
 plus v w k = v k +ℤ w k
-
--- by place: n times the number
-abbrev pub times : ℕ → (ℕ → ℤ) → ℕ → ℤ
-times n v k = pos n *ℤ v k
 
 -- f 0 and so on, up to f (n - 1), added up
 abbrev pub sum_below : ℕ → (ℕ → ℤ) → ℤ

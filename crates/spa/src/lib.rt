@@ -2,6 +2,8 @@
 //!
 //! A value of these types is well formed by construction: every crate above takes it as given and tests nothing again.
 //! Nothing here chooses a matching; `network` and `solver` do, and `verdict` checks one. Nothing here knows an office.
+//! The problem is that of Kwanashie, Irving, Manlove and Sng, "Profile-based optimal matchings in the student/project
+//! allocation problem", with upper quotas alone.
 //!
 //! Promised: `Code::read` and `Label::read` keep exactly the texts that have the form. `Instance::new` answers the
 //! instance that is, by codes, exactly the rolls handed in, or names the first fault. `Matching::fault` is none exactly

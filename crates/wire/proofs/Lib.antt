@@ -1,8 +1,8 @@
 pub mod Windows
-pub mod Judging
+pub mod Window
 pub mod Unique
 pub mod Known
-pub mod Reading
+pub mod ReaderEnd
 pub mod Runs
-pub mod Searched
+pub mod FieldSearch
 pub mod Turns

@@ -8,10 +8,12 @@ use Rattle.wire.specs.declared.front.Front.TheVariants.{Whole}
 use Rattle.wire.specs.declared.outcome.End.{End}
 use Rattle.wire.specs.declared.outcome.End.TheVariants.{Closed, Unfinished, BadHead, TooLarge, Hundred}
 use Rattle.wire.specs.Messages.{Message, EndsAt, Splits, Begins, Stops}
-use Rattle.wire.specs.Judged.{IsPartsOf, Judges}
-use Rattle.wire.specs.Run.{Said, said, said_at, Run, unread, last_words, last_count}
-use Rattle.wire.specs.Served.{SoFar, ServedTo}
-use Rattle.wire.specs.Taken.{Grows}
+use Rattle.wire.specs.Inside.Judged.{IsPartsOf, Judges}
+use Rattle.wire.specs.Run.{Said, said, Run, unread, last_words, last_count}
+use Rattle.wire.specs.Inside.Run.{said_at}
+use Rattle.wire.specs.Inside.Served.{SoFar}
+use Rattle.wire.specs.Served.{ServedTo}
+use Rattle.wire.specs.Inside.Taken.{Grows}
 use Rattle.wire.proofs.Known.{appends_compose, appends_none, consumes_compose, consumes_none}
 
 -- one more message is split off

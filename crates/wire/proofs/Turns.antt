@@ -7,13 +7,15 @@ use Rattle.wire.specs.declared.front.Parts.{Parts}
 use Rattle.wire.specs.declared.front.Front.TheVariants.{Whole, Open}
 use Rattle.wire.specs.declared.outcome.End.{End}
 use Rattle.wire.specs.Messages.{Stops}
-use Rattle.wire.specs.Judged.{Judges}
+use Rattle.wire.specs.Inside.Judged.{Judges}
 use Rattle.wire.specs.declared.outcome.Served.{Served}
 use Rattle.wire.specs.declared.outcome.StreamFault.{StreamFault}
 use Rattle.wire.specs.declared.outcome.StreamFault.TheVariants.{Memory, Read, Write}
-use Rattle.wire.specs.Run.{Said, said_at, unread, last_words, last_count, read_failed, write_failed}
-use Rattle.wire.specs.Served.{SoFar, GoesOn, BreaksOff, BrokeOff, WroteUntil, ServedTo}
-use Rattle.wire.specs.Taken.{Grows}
+use Rattle.wire.specs.Run.{Said, unread, last_words, last_count, read_failed, write_failed}
+use Rattle.wire.specs.Inside.Run.{said_at}
+use Rattle.wire.specs.Inside.Served.{SoFar, GoesOn, BreaksOff}
+use Rattle.wire.specs.Served.{BrokeOff, WroteUntil, ServedTo}
+use Rattle.wire.specs.Inside.Taken.{Grows}
 use Rattle.wire.proofs.Known.{appends_compose, appends_none, consumes_none}
 use Rattle.wire.proofs.Runs.{reads_on, answers_on, splits_more, run_more, said_same, ends_here}
 

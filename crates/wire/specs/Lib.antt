@@ -1,8 +1,7 @@
 pub mod Endpoints
 pub mod Watching
 pub mod Messages
-pub mod Judged
 pub mod Run
 pub mod Answers
 pub mod Served
-pub mod Taken
+pub mod Inside

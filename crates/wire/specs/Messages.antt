@@ -44,12 +44,6 @@ framing_by [] = Length 0
 framing_by (value ∷ []) = length_of value
 framing_by (value ∷ other ∷ values) = Wrong
 
--- a length is at most that of the greatest body
-abbrev pub IsShort : Framing → Type 0
-IsShort (Length n) = n ≤ MOST_BODY_BYTES
-IsShort Wrong = Unit {0}
-IsShort Long = Unit {0}
-
 -- no more fields than are served, version 1.1, no coding but the plain one, and at most one length
 abbrev pub framing_of : ℕ → List (List ℕ × List ℕ) → Framing
 framing_of minor fields =

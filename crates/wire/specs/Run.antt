@@ -1,11 +1,9 @@
 -- Runs of a desk over the messages of a stream.
-use Rattle.std.specs.Prelude.{◌≡◌, ℕ, ◌+◌, List, [], ◌∷◌, slice_range, Option, Some, None, Result, Ok, Err}
+use Rattle.std.specs.Prelude.{◌≡◌, ℕ, List, [], ◌∷◌, Option, Some, None, Result, Ok, Err}
 use Rattle.wire.specs.declared.outcome.StreamFault.{StreamFault}
 use Rattle.wire.specs.declared.outcome.StreamFault.TheVariants.{Memory, Read, Write}
 use Rattle.wire.specs.declared.outcome.End.{End}
 use Rattle.wire.specs.declared.outcome.End.TheVariants.{Closed, Unfinished, BadHead, TooLarge, Hundred}
-use Rattle.wire.specs.declared.front.Parts.{Parts}
-use Rattle.httparse.specs.Spans.{span_bytes}
 use Rattle.wire.specs.Messages.{Message}
 
 -- what a desk sees of a message
@@ -17,14 +15,6 @@ pub record Said : Type 0 where
 -- what a message says
 abbrev pub said : Message → Said
 said m = record { method = m.head.method; target = m.head.target; body = m.body }
-
--- what stands at these parts of the buffer
-abbrev pub said_at : List ℕ → Parts → Said
-said_at buffer p = record {
-  method = span_bytes buffer p.method;
-  target = span_bytes buffer p.target;
-  body = slice_range buffer p.head (p.head + p.body);
-}
 
 -- step after step, these answers to these messages
 abbrev pub Run : {S : Type 0} → (S → Said → List ℕ → S → Type 0) → S → List Message → List (List ℕ) → S → Type 0

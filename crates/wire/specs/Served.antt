@@ -29,18 +29,6 @@ pub record ServedTo {S : Type 0} (step : S → Said → List ℕ → S → Type 
   pub wrote : Appends w0 w out
   pub serves : Serves step refusal before (given ++ unread left) out served.answered served.end after
 
--- so far, of the bytes given, these messages were answered, and the rest is kept
-pub record SoFar {S : Type 0} (step : S → Said → List ℕ → S → Type 0) (before : S) (left0 w0 : Option (List ℕ))
-    (left w : Option (List ℕ)) (rest : List ℕ) (count : ℕ) (now : S) : Type 0 where
-  pub given : List ℕ
-  pub read : Consumes left0 left given
-  pub messages : List Message
-  pub split : (more : List ℕ) → Splits (given ++ more) messages (rest ++ more)
-  pub counted : length messages ≡ count
-  pub answers : List (List ℕ)
-  pub ran : Run step before messages answers now
-  pub wrote : Appends w0 w (concat answers)
-
 -- all of the first bytes were written, and a beginning of the others
 abbrev pub WritesInto : Option (List ℕ) → Option (List ℕ) → List ℕ → List ℕ → Type 0
 WritesInto w0 w whole cut = (n : ℕ) × (n < length cut) × Appends w0 w (whole ++ take n cut)
@@ -75,17 +63,3 @@ pub record BrokeOff {S : Type 0} (step : S → Said → List ℕ → S → Type 
   pub answers : List (List ℕ)
   pub ran : Run step before messages answers now
   pub wrote : WroteUntil refusal fault answers rest left w0 w
-
--- what was served so far goes on to this, by so many more answers
-abbrev pub GoesOn : {S : Type 0} → (S → Said → List ℕ → S → Type 0) → Option (List ℕ) → Option (List ℕ) → List ℕ → S
-    → Option (List ℕ) → Option (List ℕ) → List ℕ → S → ℕ → Type 0
-GoesOn {S} step left w rest now left' w' rest' now' more =
-    (before : S) (left0 w0 : Option (List ℕ)) (count : ℕ)
-    → SoFar step before left0 w0 left w rest count now → SoFar step before left0 w0 left' w' rest' (count + more) now'
-
--- what was served so far breaks off here
-abbrev pub BreaksOff : {S : Type 0} → (S → Said → List ℕ → S → Type 0) → (End → List ℕ) → Option (List ℕ) → Option (List ℕ) → List ℕ → S
-    → Option (List ℕ) → Option (List ℕ) → S → StreamFault → Type 0
-BreaksOff {S} step refusal left w rest now left' w' now' fault =
-    (before : S) (left0 w0 : Option (List ℕ)) (count : ℕ)
-    → SoFar step before left0 w0 left w rest count now → count < MOST_MESSAGES → BrokeOff step refusal before left0 w0 left' w' now' fault

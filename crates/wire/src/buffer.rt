@@ -1,8 +1,8 @@
 //! What has been read of a stream and not yet taken.
 ghost use Rattle.std.specs.Prelude.{◌≡◌, ◌≢◌, ◌+◌, ◌-◌, ◌^◌, ◌<◌, ◌≤◌, ◌==◌, false, ℕ, List, Option, [], ◌++◌, length, drop, vec_len, vec_capacity, IfOk, OnOk, OnErr, IfErr, IfSome, IfNone};
-ghost use Rattle.wire.specs.Taken.{Grows, Finds, AtEndIfNone, IsOpenBut};
+ghost use Rattle.wire.specs.Inside.Taken.{Grows, Finds, AtEndIfNone, IsOpenBut};
 ghost use Rattle.wire.specs.declared.front.Front.TheVariants.{Open};
-ghost use Rattle.wire.specs.Judged.{Judges};
+ghost use Rattle.wire.specs.Inside.Judged.{Judges};
 
 use crate::MOST_MESSAGE_BYTES;
 use crate::endpoints::Source;

@@ -4,7 +4,8 @@ ghost use Rattle.std.specs.List.{list_all, list_any};
 ghost use Rattle.std.specs.Char.{is_ascii_digit};
 ghost use Rattle.std.specs.Str.Parse.{digits_value};
 ghost use Rattle.httparse.specs.Spans.{IsHeaderWithin, header_bytes};
-ghost use Rattle.wire.specs.Messages.{IsShort, is_named, is_number, length_of, lengths, framing_by, framing_of};
+ghost use Rattle.wire.specs.Inside.Messages.{IsShort};
+ghost use Rattle.wire.specs.Messages.{is_named, is_number, length_of, lengths, framing_by, framing_of};
 
 use crate::{MOST_BODY_BYTES, MOST_FIELDS};
 use httparse::spans::HeaderSpan;

@@ -1,7 +1,7 @@
 //! What stands at the front of a stream of which some bytes have come.
 ghost use Rattle.std.specs.Prelude.{◌≡◌, ◌≤◌, ◌+◌, ℕ, false, length};
 ghost use Rattle.wire.specs.Messages.{has_line};
-ghost use Rattle.wire.specs.Judged.{FindsHead, Judges};
+ghost use Rattle.wire.specs.Inside.Judged.{FindsHead, Judges};
 
 use crate::MOST_HEAD_BYTES;
 use crate::fields::{Framing, framing_of};

@@ -3,10 +3,12 @@ ghost use Rattle.std.specs.Prelude.{◌≡◌, ◌≢◌, false, ℕ, ◌+◌, �
 ghost use Rattle.std.specs.Io.KnownBytes.{Appends};
 ghost use Rattle.httparse.specs.Spans.{IsWithin};
 ghost use Rattle.wire.specs.Messages.{Message, Stops};
-ghost use Rattle.wire.specs.Judged.{IsPartsOf, Judges};
-ghost use Rattle.wire.specs.Run.{said_at, last_words, last_count, unread, read_failed, write_failed};
+ghost use Rattle.wire.specs.Inside.Judged.{IsPartsOf, Judges};
+ghost use Rattle.wire.specs.Inside.Run.{said_at};
+ghost use Rattle.wire.specs.Run.{last_words, last_count, unread, read_failed, write_failed};
 ghost use Rattle.wire.specs.Answers.{answer_bytes};
-ghost use Rattle.wire.specs.Served.{SoFar, GoesOn, BreaksOff, BrokeOff, ServedTo};
+ghost use Rattle.wire.specs.Inside.Served.{SoFar, GoesOn, BreaksOff};
+ghost use Rattle.wire.specs.Served.{BrokeOff, ServedTo};
 
 use crate::buffer::{Next, drop_front, empty, read_next};
 use crate::ending::finish;

@@ -1,4 +1,4 @@
-use Rattle.api.proofs.Asking.{one_asked}
+use Rattle.api.proofs.OneRequest.{one_asked}
 use Rattle.api.proofs.laws.one_request.Goals as goal
 
 pub returns : goal.returns

@@ -1,7 +1,8 @@
 -- A path that finds a row has the code that the row's parameter takes, if that fits.
 use Rattle.std.proofs.Common.{refl, sym, ap, ◌∙◌, subst}
-use Rattle.api.specs.Routes.{NamesBy, fits}
-use Rattle.api.proofs.Named.{nowhere, unfit, taken, code_read}
+use Rattle.api.specs.Inside.Routes.{NamesBy}
+use Rattle.api.specs.Routes.{fits}
+use Rattle.api.proofs.PathsOfRoutes.{nowhere, unfit, taken, code_read}
 use Rattle.api.proofs.routes.place_of.Goals as goal
 
 pub returns-in_default : goal.returns-in_default

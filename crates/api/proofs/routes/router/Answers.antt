@@ -4,7 +4,7 @@ use Rattle.std.proofs.lemmas.Result.{err_from_is_err_and}
 use Rattle.std.proofs.lemmas.List.{length-map}
 use Rattle.matchit.proofs.OnLiterals.{matchit_on_literals}
 use Rattle.api.specs.Routes.{all_routes}
-use Rattle.api.proofs.Routing.{told, goes_on, first_new, is_memory, all_made}
+use Rattle.api.proofs.Routers.{told, goes_on, first_new, is_memory, all_made}
 use Rattle.api.proofs.routes.router.Goals as goal
 
 pub loop-path-init : goal.loop-path-init

@@ -1,6 +1,6 @@
 use Rattle.std.proofs.Common.{sym, ◌∙◌}
 use Rattle.api.specs.Text.{fault_answer}
-use Rattle.api.proofs.Refused.{told_alone}
+use Rattle.api.proofs.Refusals.{told_alone}
 use Rattle.api.proofs.texts.refusal_answer.Goals as goal
 
 pub returns-in_default : goal.returns-in_default

@@ -2,7 +2,7 @@ use Rattle.std.proofs.Common.{◌∙◌, rules, tests, arith, ◌<◌, length}
 use Rattle.std.specs.Char.{is_ascii_digit}
 use Rattle.std.proofs.lemmas.Iterator.{YieldsList-from_slice}
 use Rattle.std.proofs.lemmas.Iterator.Search.{all_from_yields_List}
-use Rattle.imports.proofs.Standing.{quota_of_digits}
+use Rattle.imports.proofs.FieldTexts.{quota_of_digits}
 use Rattle.imports.proofs.fields.is_quota.Goals as goal
 
 pub returns-then-field-le-MOST_DIGITS : goal.returns-then-field-le-MOST_DIGITS

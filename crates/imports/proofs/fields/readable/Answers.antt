@@ -1,5 +1,5 @@
 use Rattle.std.proofs.Common.{◌∙◌}
-use Rattle.imports.proofs.Standing.{text_of_utf8, text_of_other}
+use Rattle.imports.proofs.FieldTexts.{text_of_utf8, text_of_other}
 use Rattle.imports.proofs.fields.readable.Goals as goal
 
 pub returns-in-Ok : goal.returns-in-Ok

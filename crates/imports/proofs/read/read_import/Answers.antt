@@ -1,6 +1,6 @@
 use Rattle.std.proofs.Common.{ap, arith, length}
 use Rattle.std.proofs.lemmas.Result.{IfErr-weaker, IfOk-weaker}
-use Rattle.imports.proofs.Requested.{as_many_requests, few_read, within_more}
+use Rattle.imports.proofs.AfterHeader.{as_many_requests, few_read, within_more}
 use Rattle.imports.proofs.read.read_import.Goals as goal
 
 pub returns-clause-few : goal.returns-clause-few

@@ -1,5 +1,5 @@
 use Rattle.std.proofs.Common.{◌∙◌, Ok, ap, inr, sym}
-use Rattle.imports.proofs.Requested.{none_found, other_found}
+use Rattle.imports.proofs.AfterHeader.{none_found, other_found}
 use Rattle.imports.proofs.read.requests_after.Goals as goal
 
 pub returns-in-Some-clause-fault : goal.returns-in-Some-clause-fault

@@ -1,6 +1,6 @@
 use Rattle.std.proofs.Common.{◌≡◌, ℕ, List, [], ◌∷◌, ◌++◌, length, map, get_or, take, Option, None, sym, ap, ◌∙◌, subst}
 use Rattle.std.proofs.lemmas.List.{length-map}
-use Rattle.spa.specs.Codes.{Finds}
+use Rattle.spa.specs.Inside.Codes.{Finds}
 use Rattle.intake.proofs.Lists.{blank, field_at, found_none, found_some, unknown_code, repeated_code, sound_more, read_more}
 use Rattle.intake.proofs.Order.{get_found, key_at}
 use Rattle.intake.proofs.draft.read_list.Goals as goal

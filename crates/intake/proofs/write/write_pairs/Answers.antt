@@ -3,7 +3,7 @@ use Rattle.std.proofs.lemmas.List.{get_or_read}
 use Rattle.spa.specs.Shape.{IsPlaceOf, list_of}
 use Rattle.intake.specs.Lines.{line}
 use Rattle.intake.proofs.Found.{slice_get_at}
-use Rattle.intake.proofs.Writing.{is_none, pairs_none, pairs_some, pair_text, next}
+use Rattle.intake.proofs.RestOfText.{is_none, pairs_none, pairs_some, pair_text, next}
 use Rattle.intake.proofs.write.write_pairs.Goals as goal
 use Rattle.intake.proofs.write.write_pairs.Goals.{in-Some+in_ok-push_pair, in_default}
 

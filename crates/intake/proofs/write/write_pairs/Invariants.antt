@@ -1,5 +1,5 @@
 use Rattle.std.proofs.Common.{◌≡◌, ◌++◌, drop, string_bytes}
-use Rattle.intake.proofs.Writing.{pair_text}
+use Rattle.intake.proofs.RestOfText.{pair_text}
 use Rattle.intake.proofs.write.write_pairs.Given as goal
 
 abbrev pub invariant-loop-s : goal.invariant-loop-s

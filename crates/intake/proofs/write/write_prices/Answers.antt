@@ -4,7 +4,7 @@ use Rattle.std.proofs.lemmas.Result.{err_from_is_err_and}
 use Rattle.std.proofs.lemmas.List.{get_or_read, get_or_default}
 use Rattle.spa.specs.declared.TheConstants.{PLACES}
 use Rattle.intake.specs.Lines.{line}
-use Rattle.intake.proofs.Writing.{price_text, next, next_price, last_price, one_more}
+use Rattle.intake.proofs.RestOfText.{price_text, next, next_price, last_price, one_more}
 use Rattle.intake.proofs.write.write_prices.Goals as goal
 
 pub as_str-requires : goal.as_str-requires

@@ -1,6 +1,6 @@
 use Rattle.std.proofs.Common.{◌≡◌, ℕ, ◌<◌, ℤ, List, length, ◌++◌, drop, get_or, string_bytes}
 use Rattle.spa.specs.declared.TheConstants.{PLACES}
-use Rattle.intake.proofs.Writing.{price_text}
+use Rattle.intake.proofs.RestOfText.{price_text}
 use Rattle.intake.proofs.write.write_prices.Given as goal
 
 abbrev pub invariant-loop-n : goal.invariant-loop-n

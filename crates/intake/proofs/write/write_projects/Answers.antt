@@ -4,7 +4,7 @@ use Rattle.std.proofs.lemmas.Result.{err_from_is_err_and}
 use Rattle.std.proofs.lemmas.List.{get_or_read}
 use Rattle.spa.specs.Text.{is_code}
 use Rattle.intake.specs.Lines.{line}
-use Rattle.intake.proofs.Writing.{project_text, next, next_project, last_project, one_more}
+use Rattle.intake.proofs.RestOfText.{project_text, next, next_project, last_project, one_more}
 use Rattle.intake.proofs.write.write_projects.Goals as goal
 
 pub project_codes-codes-requires : goal.project_codes-codes-requires

@@ -1,7 +1,7 @@
 use Rattle.std.proofs.Common.{◌≡◌, ℕ, ◌<◌, List, ◌++◌, drop, get_or, string_bytes}
 use Rattle.std.specs.Prelude.{IsTrue}
 use Rattle.spa.specs.Text.{is_code}
-use Rattle.intake.proofs.Writing.{project_text}
+use Rattle.intake.proofs.RestOfText.{project_text}
 use Rattle.intake.proofs.write.write_projects.Given as goal
 
 abbrev pub invariant-loop-p : goal.invariant-loop-p

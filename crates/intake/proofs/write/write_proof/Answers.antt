@@ -1,5 +1,5 @@
 use Rattle.std.proofs.Common.{string_bytes}
-use Rattle.intake.proofs.Writing.{four_written}
+use Rattle.intake.proofs.RestOfText.{four_written}
 use Rattle.intake.proofs.write.write_proof.Goals as goal
 
 pub returns : goal.returns

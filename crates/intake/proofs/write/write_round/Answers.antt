@@ -10,7 +10,7 @@ use Rattle.intake.specs.Lines.{round_text, ended, sections, section_lines}
 use Rattle.intake.specs.View.{written, alone}
 use Rattle.intake.proofs.Whole.{HasForms, HasRises, HasNumbers, alone_whole, proved_whole}
 use Rattle.intake.proofs.Size.{text_small}
-use Rattle.intake.proofs.Writing.{joined, instance_alone}
+use Rattle.intake.proofs.RestOfText.{joined, instance_alone}
 use Rattle.intake.proofs.write.write_round.Goals as goal
 use Rattle.intake.proofs.write.write_round.Goals.{in-Some+in_ok-write_proof, in_default}
 

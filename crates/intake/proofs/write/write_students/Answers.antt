@@ -5,7 +5,7 @@ use Rattle.std.proofs.lemmas.List.{get_or_read}
 use Rattle.spa.specs.Text.{is_code}
 use Rattle.spa.specs.Codes.{code_at}
 use Rattle.intake.specs.Lines.{line}
-use Rattle.intake.proofs.Writing.{student_text, next, next_student, last_student, one_more}
+use Rattle.intake.proofs.RestOfText.{student_text, next, next_student, last_student, one_more}
 use Rattle.intake.proofs.write.write_students.Goals as goal
 
 pub student_codes-codes-requires : goal.student_codes-codes-requires

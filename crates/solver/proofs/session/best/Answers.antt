@@ -1,5 +1,5 @@
 use Rattle.network.specs.Seen.{shape_of}
-use Rattle.solver.proofs.Priced.{places_best}
+use Rattle.solver.proofs.PricesProve.{places_best}
 use Rattle.solver.proofs.session.best.Goals as goal
 
 pub returns-clause-best : goal.returns-clause-best

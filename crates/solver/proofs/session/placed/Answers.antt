@@ -2,7 +2,7 @@ use Rattle.std.proofs.Common.{ℕ, ◌∙◌, arith, List, Option}
 use Rattle.spa.specs.Shape.{Shape}
 use Rattle.spa.proofs.Places.{left_none, left_some}
 use Rattle.network.specs.Seen.{shape_of}
-use Rattle.solver.proofs.Sittings.{place_held}
+use Rattle.solver.proofs.OneMoreStudent.{place_held}
 use Rattle.solver.proofs.session.placed.Goals as goal
 use Rattle.solver.proofs.session.placed.Goals.{in-Some, in_default}
 

@@ -2,17 +2,17 @@ use Rattle.std.proofs.Common.{ℕ, ◌≡◌, ◌+◌, ◌-◌, ◌<◌, ◌≤�
 use Rattle.spa.specs.declared.TheConstants.{RANKS, PLACES}
 use Rattle.spa.specs.Shape.{Shape, list_of, choice_at, IsPlaceOf}
 use Rattle.spa.specs.Matching.{Pair, rank, rank_in}
-use Rattle.spa.proofs.Counting.{one_at_most, one_more}
+use Rattle.spa.proofs.OneMore.{one_at_most, one_more}
 use Rattle.spa.proofs.Places.{rest_some, count_none, rank_of_place}
 use Rattle.network.specs.Seen.{shape_of, Seen}
-use Rattle.solver.proofs.Priced.{list_short}
-use Rattle.solver.proofs.Sittings.{place_held}
+use Rattle.solver.proofs.PricesProve.{list_short}
+use Rattle.solver.proofs.OneMoreStudent.{place_held}
 use Rattle.std.proofs.Math.ListN.{drop_of_length-le}
 use Rattle.std.proofs.lemmas.List.{length-map}
 use Rattle.spa.specs.declared.aim.Aim.{Aim}
 use Rattle.spa.specs.Places.{Places}
 use Rattle.spa.specs.Matched.{HasPlaces}
-use Rattle.solver.specs.Kept.{IsKept}
+use Rattle.solver.specs.Inside.Kept.{IsKept}
 use Rattle.solver.proofs.session.ranked.Goals as goal
 use Rattle.solver.proofs.session.ranked.Goals.{in-Some, in_default}
 

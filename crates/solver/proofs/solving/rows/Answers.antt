@@ -3,7 +3,7 @@ use Rattle.spa.specs.Places.{Places, lex_ops}
 use Rattle.std.proofs.lemmas.List.{get_or_default}
 use Rattle.spa.specs.declared.TheConstants.{PLACES}
 use Rattle.network.specs.declared.TheConstants.{LARGEST_PRICE}
-use Rattle.solver.proofs.Reading.{rows_more, all_rows}
+use Rattle.solver.proofs.RowsOfWorths.{rows_more, all_rows}
 use Rattle.solver.proofs.solving.rows.Goals as goal
 
 pub loop-worth-preserved : goal.loop-worth-preserved

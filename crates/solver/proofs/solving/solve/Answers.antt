@@ -5,11 +5,11 @@ use Rattle.spa.specs.Shape.{Shape, IsPlaceOf, list_of}
 use Rattle.spa.specs.Matching.{IsBest}
 use Rattle.spa.specs.Matched.{pairs}
 use Rattle.verdict.specs.Verdict.{IsProvedBest}
-use Rattle.solver.proofs.Priced.{shape_is, list_short}
-use Rattle.solver.proofs.Proved.{proved_best}
+use Rattle.solver.proofs.PricesProve.{shape_is, list_short}
+use Rattle.solver.proofs.FiveConditions.{proved_best}
 use Rattle.std.proofs.lemmas.Result.{IfOk-from_err}
 use Rattle.std.proofs.lemmas.List.{length-map}
-use Rattle.solver.specs.Weights.{weighed}
+use Rattle.solver.specs.Inside.Weights.{weighed}
 use Rattle.solver.proofs.solving.solve.Goals as goal
 
 pub matching_of-requires-clause-small : goal.matching_of-requires-clause-small

@@ -2,7 +2,7 @@ use Rattle.std.proofs.Common.{◌≡◌, ◌∙◌, ℕ, ◌+◌, ◌<◌, ◌�
 use Rattle.spa.specs.Shape.{Shape, list_of, choice_at, supervisor_of}
 use Rattle.spa.specs.Matching.{Pair}
 use Rattle.spa.specs.Matched.{in_project, with_supervisor}
-use Rattle.spa.proofs.Counting.{one_at_most}
+use Rattle.spa.proofs.OneMore.{one_at_most}
 use Rattle.spa.proofs.Places.{rest_end, count_none, count_some}
 use Rattle.spa.proofs.matching.counted.Goals as goal
 use Rattle.spa.proofs.matching.counted.Goals.{in-Some, in_default}

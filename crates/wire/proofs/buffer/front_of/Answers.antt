@@ -1,6 +1,6 @@
 use Rattle.std.proofs.Common.{◌≡◌, ℕ, List, subst}
 use Rattle.wire.specs.declared.front.Front.{Front}
-use Rattle.wire.specs.Judged.{Judges}
+use Rattle.wire.specs.Inside.Judged.{Judges}
 use Rattle.wire.proofs.buffer.front_of.Goals as goal
 
 -- the same bytes have the same front

@@ -1,6 +1,6 @@
 use Rattle.std.proofs.Common.{refl, ◌∙◌, subst, sym, ◌<◌, ◌^◌, ◌-◌, ℕ}
 use Rattle.wire.proofs.Known.{grows_first, grows_on}
-use Rattle.wire.proofs.Reading.{at_none}
+use Rattle.wire.proofs.ReaderEnd.{at_none}
 use Rattle.wire.proofs.buffer.read_next.Goals as goal
 
 pub reading-init : goal.reading-init

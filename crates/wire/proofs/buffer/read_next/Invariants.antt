@@ -1,6 +1,6 @@
 use Rattle.std.proofs.Common.{◌≡◌, ◌≤◌, ◌-◌, false, vec_len, vec_capacity}
 use Rattle.wire.specs.declared.TheConstants.{MOST_MESSAGE_BYTES}
-use Rattle.wire.specs.Taken.{Grows}
+use Rattle.wire.specs.Inside.Taken.{Grows}
 use Rattle.wire.proofs.buffer.read_next.Given as goal
 
 abbrev pub invariant-reading : goal.invariant-reading

@@ -1,7 +1,7 @@
 use Rattle.std.proofs.Common.{arith, vec_len, refl, ◌∙◌}
 use Rattle.wire.specs.Run.{unread}
 use Rattle.wire.proofs.Known.{grows_first}
-use Rattle.wire.proofs.Reading.{some_count, none_alone, empty_of, some_of, closed_here, unfinished_here, still_open}
+use Rattle.wire.proofs.ReaderEnd.{some_count, none_alone, empty_of, some_of, closed_here, unfinished_here, still_open}
 use Rattle.wire.proofs.buffer.read_on.Goals as goal
 
 pub returns-in-Whole-clause-finds : goal.returns-in-Whole-clause-finds

@@ -3,7 +3,7 @@ use Rattle.std.proofs.Math.Nat.{min-le_left}
 use Rattle.std.proofs.lemmas.List.{length-take-le}
 use Rattle.wire.specs.declared.TheConstants.{MOST_MESSAGE_BYTES}
 use Rattle.wire.proofs.Known.{grows_none}
-use Rattle.wire.proofs.Reading.{within_front, asked_fits, asked_some, put_at_end, put_fits, end_or_more}
+use Rattle.wire.proofs.ReaderEnd.{within_front, asked_fits, asked_some, put_at_end, put_fits, end_or_more}
 use Rattle.wire.proofs.buffer.refill.Given as given
 use Rattle.wire.proofs.buffer.refill.Goals as goal
 

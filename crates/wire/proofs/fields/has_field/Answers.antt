@@ -1,7 +1,7 @@
 use Rattle.std.proofs.Common.{refl, sym, ◌∙◌, arith}
 use Rattle.httparse.specs.Spans.{header_bytes}
 use Rattle.wire.specs.Messages.{is_named}
-use Rattle.wire.proofs.Searched.{any_found, any_left, any_none}
+use Rattle.wire.proofs.FieldSearch.{any_found, any_left, any_none}
 use Rattle.wire.proofs.fields.has_field.Goals as goal
 
 pub loop-header-init : goal.loop-header-init

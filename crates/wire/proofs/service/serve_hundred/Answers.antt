@@ -1,4 +1,4 @@
-use Rattle.std.proofs.Common.{◌≡◌, ◌<◌, ◌≤◌, ℕ, ◌+◌, ◌-◌, ◌^◌, List, [], Option, Some, None, IfSome, Err, refl, sym, subst, arith, vec_len, ap, length}
+use Rattle.std.proofs.Common.{◌≡◌, ◌<◌, ◌≤◌, ℕ, ◌+◌, ◌-◌, ◌^◌, List, [], Option, Some, IfSome, Err, refl, sym, subst, arith, vec_len, ap, length}
 use Rattle.wire.specs.declared.TheConstants.{MOST_MESSAGE_BYTES, MOST_MESSAGES}
 use Rattle.wire.specs.declared.outcome.End.{End}
 use Rattle.wire.specs.declared.outcome.End.TheVariants.{Hundred}
@@ -6,9 +6,10 @@ use Rattle.wire.specs.declared.outcome.StreamFault.{StreamFault}
 use Rattle.wire.specs.declared.outcome.StreamFault.TheVariants.{Memory, Read, Write}
 use Rattle.wire.specs.declared.outcome.Served.{Served}
 use Rattle.wire.specs.Run.{Said, read_failed, write_failed}
-use Rattle.wire.specs.Served.{SoFar, ServedTo}
+use Rattle.wire.specs.Inside.Served.{SoFar}
+use Rattle.wire.specs.Served.{ServedTo}
 use Rattle.wire.proofs.Runs.{nothing_yet, hundred_here}
-use Rattle.wire.proofs.Reading.{at_none}
+use Rattle.wire.proofs.ReaderEnd.{at_none}
 use Rattle.wire.proofs.Turns.{last_no_memory, last_read, last_written, finished, unfinished}
 use Rattle.wire.proofs.service.serve_hundred.Goals as goal
 

@@ -1,6 +1,6 @@
 use Rattle.std.proofs.Common.{◌≡◌, ◌≤◌, false, vec_len, vec_capacity}
 use Rattle.wire.specs.declared.TheConstants.{MOST_MESSAGE_BYTES}
-use Rattle.wire.specs.Served.{SoFar}
+use Rattle.wire.specs.Inside.Served.{SoFar}
 use Rattle.wire.proofs.service.serve_hundred.Given as goal
 
 abbrev pub invariant-loop-answered : goal.invariant-loop-answered

@@ -4,9 +4,9 @@ use Rattle.std.proofs.lemmas.List.{length-drop}
 use Rattle.wire.specs.declared.front.Parts.{Parts}
 use Rattle.wire.specs.declared.front.Front.TheVariants.{Whole}
 use Rattle.std.specs.Io.KnownBytes.{Appends}
-use Rattle.wire.specs.Judged.{Judges}
+use Rattle.wire.specs.Inside.Judged.{Judges}
 use Rattle.wire.specs.Answers.{answer_bytes}
-use Rattle.wire.specs.Run.{said_at}
+use Rattle.wire.specs.Inside.Run.{said_at}
 use Rattle.wire.proofs.service.serve_one.Goals as goal
 
 -- the same bytes have the same message

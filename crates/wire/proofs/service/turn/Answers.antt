@@ -3,7 +3,7 @@ use Rattle.wire.specs.declared.buffer.Next.{Next}
 use Rattle.wire.specs.declared.buffer.Next.TheVariants.{Message, Ends}
 use Rattle.wire.specs.declared.outcome.End.{End}
 use Rattle.wire.specs.declared.outcome.StreamFault.TheVariants.{Read, Write}
-use Rattle.wire.specs.Taken.{Finds}
+use Rattle.wire.specs.Inside.Taken.{Finds}
 use Rattle.wire.specs.Run.{read_failed, write_failed}
 use Rattle.wire.proofs.Turns.{fault_counts, no_memory_read, no_memory_write, breaks_reading, breaks_writing, message_goes_on, end_goes_on}
 use Rattle.wire.proofs.service.turn.Goals as goal

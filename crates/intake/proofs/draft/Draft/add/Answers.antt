@@ -2,9 +2,9 @@ use Rattle.std.proofs.Common.{◌≡◌, ℕ, List, length, arith, map, sym, ap,
 use denote.Ref.{Bor}
 use Rattle.std.proofs.lemmas.List.{length-map}
 use Rattle.std.proofs.lemmas.Result.{IfOk-weaker}
-use Rattle.intake.specs.Draft.{draft_of}
-use Rattle.intake.specs.Entries.{Adds, AddsLine, letter_of, line_of}
-use Rattle.intake.proofs.Added.{section_line, no_turn, no_line, moved_line, fields_after}
+use Rattle.intake.specs.Inside.Draft.{draft_of}
+use Rattle.intake.specs.Inside.Entries.{Adds, AddsLine, letter_of, line_of}
+use Rattle.intake.proofs.LineInDraft.{section_line, no_turn, no_line, moved_line, fields_after}
 use Rattle.intake.proofs.Lists.{first_field}
 use Rattle.intake.proofs.draft.Draft.add.Goals as goal
 

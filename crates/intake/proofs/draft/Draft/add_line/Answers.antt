@@ -1,8 +1,8 @@
 use Rattle.std.proofs.Common.{ℕ, List, All, map, sym, ap, subst, ◌∙◌}
 use denote.Ref.{Bor}
 use Rattle.std.proofs.lemmas.Result.{IfOk-weaker}
-use Rattle.intake.specs.Draft.{draft_of, IsField}
-use Rattle.intake.specs.Entries.{AddsLine, line_of}
+use Rattle.intake.specs.Inside.Draft.{draft_of, IsField}
+use Rattle.intake.specs.Inside.Entries.{AddsLine, line_of}
 use Rattle.intake.proofs.Pieces.{pieces_free, line_back}
 use Rattle.intake.proofs.draft.Draft.add_line.Goals as goal
 

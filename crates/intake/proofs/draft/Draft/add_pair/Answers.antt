@@ -5,10 +5,10 @@ use Rattle.intake.proofs.Order.{get_found}
 use Rattle.spa.specs.Instance.{Student}
 use Rattle.intake.specs.Parts.{IsRoll}
 use Rattle.intake.specs.Lines.{choice_code}
-use Rattle.intake.proofs.Adding.{two_fields, parts}
+use Rattle.intake.proofs.RowInDraft.{two_fields, parts}
 use Rattle.intake.proofs.Lists.{blank}
 use Rattle.intake.proofs.Rolls.{student_keys}
-use Rattle.intake.proofs.Pairing.{refers, nowhere, one_place, student_at, listed_at, small_place, get_mapped, same_found}
+use Rattle.intake.proofs.PairLine.{refers, nowhere, one_place, student_at, listed_at, small_place, get_mapped, same_found}
 use Rattle.intake.proofs.draft.Draft.add_pair.Goals as goal
 
 pub position_at-requires : goal.position_at-requires

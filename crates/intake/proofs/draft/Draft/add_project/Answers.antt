@@ -4,10 +4,10 @@ use Rattle.std.proofs.lemmas.List.{length-map}
 use Rattle.std.proofs.lemmas.Result.{err_from_is_err_and}
 use Rattle.spa.specs.Instance.{supervisors_of}
 use Rattle.intake.specs.Parts.{Rise, IsRoll}
-use Rattle.intake.proofs.Adding.{three_fields, project_added}
+use Rattle.intake.proofs.RowInDraft.{three_fields, project_added}
 use Rattle.intake.proofs.Lists.{blank, first_field}
 use Rattle.intake.proofs.Order.{get_found, key_at}
-use Rattle.intake.proofs.Pairing.{nowhere}
+use Rattle.intake.proofs.PairLine.{nowhere}
 use Rattle.intake.proofs.Rolls.{project_keys, supervisor_keys, comes_moved, contained, standing}
 use Rattle.intake.proofs.draft.Draft.add_project.Goals as goal
 

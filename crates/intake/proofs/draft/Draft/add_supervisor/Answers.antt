@@ -3,7 +3,7 @@ use denote.Ref.{Bor}
 use Rattle.std.proofs.lemmas.List.{length-map}
 use Rattle.std.proofs.lemmas.Result.{err_from_is_err_and}
 use Rattle.intake.specs.Parts.{Rise}
-use Rattle.intake.proofs.Adding.{two_fields, supervisor_added}
+use Rattle.intake.proofs.RowInDraft.{two_fields, supervisor_added}
 use Rattle.intake.proofs.Lists.{blank, first_field}
 use Rattle.intake.proofs.Rolls.{supervisor_keys, comes_moved}
 use Rattle.intake.proofs.draft.Draft.add_supervisor.Goals as goal

@@ -1,5 +1,5 @@
 use Rattle.std.proofs.Common.{map, sym, ap, ◌∙◌}
-use Rattle.intake.proofs.Adding.{price_moved}
+use Rattle.intake.proofs.RowInDraft.{price_moved}
 use Rattle.intake.proofs.Prices.{price_adds}
 use Rattle.intake.proofs.Rolls.{supervisor_keys, project_keys, student_keys}
 use Rattle.intake.proofs.draft.Draft.add_to.Goals as goal

@@ -1,5 +1,5 @@
 use Rattle.spa.specs.declared.TheConstants.{MOST_PROJECTS, MOST_SUPERVISORS}
-use Rattle.spa.proofs.Counting.{none_yet}
+use Rattle.spa.proofs.OneMore.{none_yet}
 use Rattle.spa.proofs.counts.Counts.new.Goals as goal
 
 pub returns-clause-projects : goal.returns-clause-projects

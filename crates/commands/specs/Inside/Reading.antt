@@ -1,0 +1,19 @@
+-- For proofs alone. The line that words stand for, and the faults of words that are none.
+use Rattle.std.specs.Prelude.{◌≡◌, ◌≢◌, ◌<◌, ℕ}
+use Rattle.clap.specs.declared.error.kind.ErrorKind.{ErrorKind}
+use Rattle.clap.specs.declared.error.kind.ErrorKind.TheVariants.{DisplayHelp, OutOfMemory}
+use Rattle.commands.specs.declared.line.LineFault.{LineFault}
+use Rattle.commands.specs.declared.line.LineFault.TheVariants.{Memory, Help, Fault}
+use Rattle.commands.specs.declared.table.Takes.{Takes}
+use Rattle.commands.specs.declared.table.Takes.TheVariants.{Number}
+
+-- each number that may stand for an argument is below the bound
+abbrev pub IsNumberBelow : ℕ → Takes → Type 0
+IsNumberBelow bound (Number least most) = most < bound
+IsNumberBelow bound _ = ⊥
+
+-- a fault tells this kind of error of `clap`'s
+abbrev pub IsToldBy : ErrorKind → LineFault → Type 0
+IsToldBy kind Memory = Unit {0}
+IsToldBy kind (Help text) = kind ≡ DisplayHelp
+IsToldBy kind (Fault text) = (kind ≢ OutOfMemory) × (kind ≢ DisplayHelp)

@@ -1,0 +1,13 @@
+-- For proofs alone. The lines of the program, each told once.
+use Rattle.std.specs.Prelude.{map}
+use Rattle.commands.specs.declared.table.Argument.{Argument as GivenArgument}
+use Rattle.commands.specs.declared.table.Row.{Row as GivenRow}
+use Rattle.commands.specs.Table.{Argument, Told}
+
+-- what the program tells of an argument
+abbrev pub argument_by : GivenArgument → Argument
+argument_by given = record { name = given.name.now; takes = given.takes }
+
+-- and of a line
+abbrev pub told_by : GivenRow → Told
+told_by given = record { name = given.name.now; arguments = map argument_by given.arguments.now }

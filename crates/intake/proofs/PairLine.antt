@@ -1,0 +1,92 @@
+-- What a pair's line refers to.
+use Rattle.std.proofs.Common.{◌≡◌, ℕ, zero, suc, ◌-◌, ◌<◌, List, [], ◌∷◌, length, map, get_or, slice_get, Some, None, Vec, Global, All, sym, ap, ◌∙◌, subst, inl, inr, arith}
+use Rattle.std.proofs.lemmas.Bool.{cases_order}
+use Rattle.spa.specs.declared.TheConstants.{RANKS}
+use Rattle.spa.specs.Shape.{IsPlaceOf}
+use Rattle.spa.specs.declared.code.Code.{Code}
+use Rattle.spa.specs.Inside.Codes.{Finds}
+use Rattle.spa.specs.Instance.{Student, students_of, student_codes, project_codes}
+use Rattle.spa.specs.Made.{IsSoundList}
+use Rattle.intake.specs.Parts.{Parts, Rise}
+use Rattle.intake.specs.Lines.{choice_code}
+use Rattle.intake.specs.Inside.Draft.{IsDraft}
+use Rattle.intake.specs.Inside.Entries.{NextPair}
+use Rattle.intake.proofs.Found.{slice_get_at}
+use Rattle.intake.proofs.Order.{get_found, cmp_apart}
+use Rattle.intake.proofs.Rolls.{within_get}
+
+-- what is found of a list that is made from another
+pub get_mapped : {X Y : Type 0} (f : X → Y) (xs : List X) (n : ℕ) (x : X) → slice_get xs n ≡ Some x → slice_get (map f xs) n ≡ Some (f x)
+get_mapped f [] n x e = cc
+get_mapped f (y ∷ xs) zero x e = (let s : y ≡ x = cc in ap (λ z. Some (f z)) s)
+get_mapped f (y ∷ xs) (suc n) x e = get_mapped f xs n x e
+
+-- what is found satisfies what all do
+pub all_found : {X : Type 0} (P : X → Type 0) (xs : List X) (n : ℕ) (x : X) → All P xs → slice_get xs n ≡ Some x → P x
+all_found P [] n x h e = cc
+all_found P (y ∷ xs) zero x h e = (let s : y ≡ x = cc in subst P s (h 0 y (omega arith)))
+all_found P (y ∷ xs) (suc n) x h e = all_found P xs n x (λ k d l. h (suc k) d (omega arith)) e
+
+-- a student of a draft, by codes
+pub student_at : (es : List (List ℕ × Vec Code Global)) (n : ℕ) (e : List ℕ × Vec Code Global) → n < length es → e ≡ get_or es n e
+    → slice_get (students_of (map (λ e. (e.0, e.1.items)) es)) n ≡ Some (record { code = e.0; list = e.1.items })
+student_at [] n e h r = absurd (omega arith)
+student_at (x ∷ es) zero e h r = ap (λ (y : List ℕ × Vec Code Global). Some (let s : Student = record { code = y.0; list = y.1.items } in s)) (sym r)
+student_at (x ∷ es) (suc n) e h r = student_at es n e (omega arith) r
+
+-- in codes that rise each stands once
+pub one_place : (codes : List (List ℕ)) (m n : ℕ) (code : List ℕ) → Rise codes → slice_get codes m ≡ Some code → slice_get codes n ≡ Some code → m ≡ n
+one_place codes m n code rise e f =
+    elim (cases_order m n) [
+      | inl same ↦ same
+      | inr o ↦ elim o [
+        | inl h ↦ absurd (cmp_apart (get_or codes m []) (get_or codes n []) (rise m n [] h (within_get codes n code f)) (get_found codes m code [] e ∙ sym (get_found codes n code [] f)))
+        | inr h ↦ absurd (cmp_apart (get_or codes n []) (get_or codes m []) (rise n m [] h (within_get codes m code e)) (get_found codes n code [] f ∙ sym (get_found codes m code [] e)))
+      ]
+    ]
+
+-- what a pair's line refers to, where the line has these two codes
+pub record Refers (p : Parts) (s k : ℕ) (a b : List ℕ) (e : Student) : Type 0 where
+  pub here : slice_get p.instance.students s ≡ Some e
+  pub code : slice_get (student_codes p.instance) s ≡ Some a
+  pub listed : IsPlaceOf e.list k
+  pub place : slice_get e.list (k - 1) ≡ Some b
+
+-- a pair that may be added refers to what is known
+pub refers : (p : Parts) (row : List (List ℕ)) (s k : ℕ) (a b : List ℕ) → IsDraft p → (t : NextPair p row s k) → row ≡ a ∷ b ∷ [] → Refers p s k a b t.student
+refers p row s k a b d t e =
+    let rows : t.student.code ∷ choice_code t.student.list k ∷ [] ≡ a ∷ b ∷ [] = sym t.is ∙ e in
+    let first : t.student.code ≡ a = cc in
+    let second : choice_code t.student.list k ≡ b = cc in
+    let named : slice_get (student_codes p.instance) s ≡ Some a = get_mapped (λ (x : Student). x.code) p.instance.students s t.student t.here ∙ ap Some first in
+    let listed = t.place in
+    let within : k - 1 < length t.student.list = omega arith in
+    let placed : slice_get t.student.list (k - 1) ≡ Some b = slice_get_at t.student.list (k - 1) [] b within second in
+    record {
+      here = t.here;
+      code = named;
+      listed = listed;
+      place = placed;
+    }
+
+-- a code that was found nowhere
+pub nowhere : (codes : List (List ℕ)) (n m : ℕ) (code other : List ℕ) → n ≡ length codes → code ≡ other → Finds codes n code None → slice_get codes m ≡ Some other → ⊥
+nowhere codes n m code other e same none found = none m (omega (arith, within_get codes m other found)) (found ∙ ap Some (sym same))
+
+-- the list of the student that was looked up
+pub listed_at : (es : List (List ℕ × Vec Code Global)) (n m : ℕ) (e : List ℕ × Vec Code Global) (st : Student) → n < length es → e ≡ get_or es n e → n ≡ m → slice_get (students_of (map (λ e. (e.0, e.1.items)) es)) m ≡ Some st → st.list ≡ e.1.items
+listed_at es n m e st h r same found =
+    let at : Some (let s : Student = record { code = e.0; list = e.1.items } in s) ≡ Some st = sym (student_at es n e h r) ∙ ap (slice_get (students_of (map (λ e. (e.0, e.1.items)) es))) same ∙ found in
+    let s : (let s : Student = record { code = e.0; list = e.1.items } in s) ≡ st = cc in
+    ap (λ (s : Student). s.list) (sym s)
+
+-- a position in the list of a student is small
+pub small_place : {n m : ℕ} (p : Parts) (es : List (List ℕ × Vec Code Global)) (s k : ℕ) (e : List ℕ × Vec Code Global) → IsDraft p → p.instance.students ≡ students_of (map (λ e. (e.0, e.1.items)) es) → s < n → n ≡ length es → e ≡ get_or es s e → k < m → m ≡ length e.1.items → k < RANKS
+small_place p es s k e d students h many at l long =
+    let here : slice_get p.instance.students s ≡ Some (record { code = e.0; list = e.1.items }) = ap (λ (l : List Student). slice_get l s) students ∙ student_at es s e (omega arith) at in
+    let sound : IsSoundList (project_codes p.instance) e.1.items = all_found (λ (x : Student). IsSoundList (project_codes p.instance) x.list) p.instance.students s _ d.instance.listed here in
+    omega (arith, sound.0.1)
+
+-- what is found at a position is one
+pub same_found : (codes : List (List ℕ)) (n : ℕ) (a b : List ℕ) → slice_get codes n ≡ Some a → slice_get codes n ≡ Some b → a ≡ b
+same_found codes n a b e f = (let s : Some a ≡ Some b = sym e ∙ f in cc)

@@ -1,0 +1,13 @@
+-- What proofs need and no public clause says.
+pub mod Among
+pub mod Arcs
+pub mod Fair
+pub mod Kept
+pub mod Labels
+pub mod Marks
+pub mod Prices
+pub mod Push
+pub mod Search
+pub mod State
+pub mod View
+pub mod Ways
