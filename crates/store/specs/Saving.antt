@@ -49,10 +49,6 @@ pub record Spares (old new : Database) : Type 0 where
 unfoldable pub LeavesOthers : Database → Database → Type 0
 LeavesOthers old new = (rows : RowKey → Option Row) → TablesHold old rows → Spares old new
 
--- where the tables held rows, nothing stood at the key of a row when its turn to be added came
-unfoldable pub AddsNew : List Change → Database → Type 0
-AddsNew changes old = (rows : RowKey → Option Row) → TablesHold old rows → AreFresh changes rows
-
 -- the same, of a run of statements, which spare the other tables and add rows of new keys alone
 unfoldable pub Applies : List Change → Database → Database → Type 0
 Applies changes old new =
@@ -62,6 +58,10 @@ Applies changes old new =
 unfoldable pub AppliesOne : Change → Database → Database → Type 0
 AppliesOne change old new =
     AreInert old.schema → (rows : RowKey → Option Row) → TablesHold old rows → TablesHold new (after_change change rows) × Spares old new × IsFresh change rows
+
+-- where the tables held rows, nothing stood at the key of a row when its turn to be added came
+unfoldable pub AddsNew : List Change → Database → Type 0
+AddsNew changes old = (rows : RowKey → Option Row) → TablesHold old rows → AreFresh changes rows
 
 -- the change that brings a row into its table so
 abbrev pub entering : Way → Row → Change
