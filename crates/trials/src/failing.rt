@@ -194,20 +194,8 @@ fn kept_in(
     }
 }
 
-/// The bytes of these files; the log is left out where all of it was copied into the database file.
-fn left_in(alloc: Global, files: &Files<Fuse<Memory>>, is_copied: bool) -> Result<Bytes, Fail> {
-    let bytes = bytes_of(alloc, files)?;
-    if !is_copied {
-        return Ok(bytes);
-    }
-    Ok(Bytes {
-        log: Vec::new(alloc),
-        db: bytes.db,
-    })
-}
-
-/// The files of a new database at whose desk these lines were played, where each change is copied into the database file at once, or
-/// all stand in the log.
+/// The files of a new database at whose desk these lines were played, where each change is copied into the database file at the next
+/// one, so that the log is short, or all stand in the log.
 fn filled(
     alloc: Global,
     rt: &impl Abort,
@@ -218,7 +206,7 @@ fn filled(
     match opened(alloc, &empty(alloc), ALL, frames)? {
         Ok(connection) => {
             let (_kept, connection) = kept_after(alloc, rt, connection, lines)?;
-            left_in(alloc, &connection.into_store().close(), is_copied)
+            bytes_of(alloc, &connection.into_store().close())
         }
         Err(_files) => Err(Fail::new("no new database")),
     }
