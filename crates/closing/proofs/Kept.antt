@@ -86,7 +86,7 @@ module _ (M : List CodePair) (o : State) (fit : IsFit o) where
     -- ---- the placements
 
     -- each pair's project stands in the student's list of the last round
-    pairs_listed : AllByRecursion (λ e. Contains (choices_in o (last_round o) e.student) e.project) M
+    pub pairs_listed : AllByRecursion (λ e. Contains (choices_in o (last_round o) e.student) e.project) M
     pairs_listed = all_weaker (λ (e : CodePair). Contains (choices_of (round_instance o) e.student) e.project) (λ e. Contains (choices_in o (last_round o) e.student) e.project)
         (λ e c. subst (λ (xs : List (List ℕ)). Contains xs e.project) (same_choices o e.student) c) M (recursion_from_All (λ (e : CodePair). Contains (choices_of (round_instance o) e.student) e.project) M may.matching.listed)
 

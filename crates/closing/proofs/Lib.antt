@@ -6,6 +6,7 @@ pub mod Opened
 pub mod Matched
 pub mod Placing
 pub mod Kept
+pub mod Unplaced
 pub mod Turned
 pub mod Answered
 pub mod Closed

@@ -1,5 +1,5 @@
--- The changes of a round that closes turn the rows of the office before into those after: a placement that is put turns the row
--- of its student, whatever stood there, and the first change turns the row of the round.
+-- The changes of a round that closes turn the rows of the office before into those after: a placement that is added turns the row
+-- of its student, where none stands, and the first change turns the row of the round.
 use Rattle.std.proofs.Common.{◌≡◌, ℕ, inl, inr, Bool, true, false, List, [], ◌∷◌, map, get_or, Option, Some, option_map, refl, sym, ap, ◌∙◌}
 use Rattle.std.specs.Prelude.{if◌then◌else◌}
 use Rattle.std.specs.Str.{bytes_eq}
@@ -23,17 +23,18 @@ use Rattle.rolls.proofs.Finding.{same_code, find-put}
 use Rattle.rolls.proofs.LastRound.{round_number, last_changed, other_kept}
 use Rattle.closing.specs.Changes.{close_changes}
 use Rattle.closing.proofs.Kept.{closed_round, choices_same, open_round}
+use Rattle.closing.proofs.Unplaced.{pairs_fresh}
 
--- ---- placements that are put
+-- ---- placements that are added
 
--- the change that puts a placement's row
-abbrev put_row : Placement → Change
-put_row p = change.Put (placement_row p)
+-- the change that adds a placement's row
+abbrev add_row : Placement → Change
+add_row p = change.Add (placement_row p)
 
 -- no other row changes
-others_stay : (ps : List Placement) (rows : RowKey → Option Row) (k : RowKey) → ((s : List ℕ) → same_row k (key.Placement s) ≡ false) → after_changes (map put_row ps) rows k ≡ rows k
+others_stay : (ps : List Placement) (rows : RowKey → Option Row) (k : RowKey) → ((s : List ℕ) → same_row k (key.Placement s) ≡ false) → after_changes (map add_row ps) rows k ≡ rows k
 others_stay [] rows k other = refl
-others_stay (p ∷ ps) rows k other = others_stay ps (after_change (put_row p) rows) k other ∙ ap (λ (b : Bool). if b then Some (placement_row p) else rows k) (other p.student)
+others_stay (p ∷ ps) rows k other = others_stay ps (after_change (add_row p) rows) k other ∙ ap (λ (b : Bool). if b then Some (placement_row p) else rows k) (other p.student)
 
 -- the row that a change finds is that of the entry that is put
 one_turned : (p : Placement) (es : List Placement) (s : List ℕ) → (if same_row (key.Placement s) (key.Placement p.student) then Some (placement_row p) else option_map placement_row (find placement_key (0, s) es)) ≡ option_map placement_row (find placement_key (0, s) (put placement_key p es))
@@ -46,10 +47,10 @@ one_turned p es s =
     ]
 
 placements_turned : (ps es : List Placement) (rows : RowKey → Option Row) → ((s : List ℕ) → rows (key.Placement s) ≡ option_map placement_row (find placement_key (0, s) es)) → (s : List ℕ)
-    → after_changes (map put_row ps) rows (key.Placement s) ≡ option_map placement_row (find placement_key (0, s) (put_all placement_key ps es))
+    → after_changes (map add_row ps) rows (key.Placement s) ≡ option_map placement_row (find placement_key (0, s) (put_all placement_key ps es))
 placements_turned [] es rows same s = same s
 placements_turned (p ∷ ps) es rows same s =
-    placements_turned ps (put placement_key p es) (after_change (put_row p) rows)
+    placements_turned ps (put placement_key p es) (after_change (add_row p) rows)
     (λ s. ap (λ (r : Option Row). if same_row (key.Placement s) (key.Placement p.student) then Some (placement_row p) else r) (same s) ∙ one_turned p es s) s
 
 -- ---- the round
@@ -83,14 +84,17 @@ module _ (M : List CodePair) (o : State) (fit : IsFit o) (may : MayClose o M) wh
             ∙ sym (ap (option_map round_row) (other_kept closed_round (λ r. refl) o fit.numbered n other))
       ]
 
-  -- closing turns the rows
-  pub close_turns : Turns (close_changes M o) o (after_close M o)
-  close_turns (key.Supervisor code) = others_stay (map (kept o) M) round_put (key.Supervisor code) (λ s. refl)
-  close_turns (key.Project code) = others_stay (map (kept o) M) round_put (key.Project code) (λ s. refl)
-  close_turns (key.Student code) = others_stay (map (kept o) M) round_put (key.Student code) (λ s. refl)
-  close_turns (key.Import id) = others_stay (map (kept o) M) round_put (key.Import id) (λ s. refl)
-  close_turns (key.Round n) = others_stay (map (kept o) M) round_put (key.Round n) (λ s. refl) ∙ round_turned n
-  close_turns (key.Choice round student place) =
+  closed_at : (k : RowKey) → after_changes (close_changes M o) (row_of o) k ≡ row_of (after_close M o) k
+  closed_at (key.Supervisor code) = others_stay (map (kept o) M) round_put (key.Supervisor code) (λ s. refl)
+  closed_at (key.Project code) = others_stay (map (kept o) M) round_put (key.Project code) (λ s. refl)
+  closed_at (key.Student code) = others_stay (map (kept o) M) round_put (key.Student code) (λ s. refl)
+  closed_at (key.Import id) = others_stay (map (kept o) M) round_put (key.Import id) (λ s. refl)
+  closed_at (key.Round n) = others_stay (map (kept o) M) round_put (key.Round n) (λ s. refl) ∙ round_turned n
+  closed_at (key.Choice round student place) =
       others_stay (map (kept o) M) round_put (key.Choice round student place) (λ s. refl)
       ∙ ap (λ (cs : List (List ℕ)). option_map (row.Choice round student place) (choice_in cs place)) (sym (choices_same M o fit round student))
-  close_turns (key.Placement s) = placements_turned (map (kept o) M) o.placements round_put (λ s. refl) s
+  closed_at (key.Placement s) = placements_turned (map (kept o) M) o.placements round_put (λ s. refl) s
+
+  -- closing turns the rows
+  pub close_turns : Turns (close_changes M o) o (after_close M o)
+  close_turns = record { fresh = (tt, pairs_fresh M o fit may round_put (λ s. refl)); rows = closed_at }

@@ -21,9 +21,9 @@ after_placing ps o = record (with_last (λ r. record r { is_open = false }) o) {
 abbrev pub placed_reply : ℕ → List Placement → Reply
 placed_reply round ps = reply.Closed round (length ps) (by_rank (λ k. count_by (λ p. (p.round == round) && (p.rank == k + 1)) ps))
 
--- the changes where a round closes with these placements: its row, and a row for each placement
+-- the changes where a round closes with these placements: its row is put, and a row is added for each placement
 abbrev pub closing_changes : ℕ → List Placement → List Change
-closing_changes round ps = change.Put (row.Round round false) ∷ map (λ p. change.Put (placement_row p)) ps
+closing_changes round ps = change.Put (row.Round round false) ∷ map (λ p. change.Add (placement_row p)) ps
 
 -- the changes where the last round closes with the matching M
 abbrev pub close_changes : List CodePair → State → List Change

@@ -72,7 +72,8 @@ fn placement_row(alloc: Global, placement: &Placement) -> Result<Row, AllocError
     })
 }
 
-/// The changes of the tables where a round closes with these placements: the round's row first.
+/// The changes of the tables where a round closes with these placements: the round's row is put first, and then
+/// the rows of the placements are added.
 pub fn close_changes(
     alloc: Global,
     round: u32,
@@ -86,7 +87,7 @@ pub fn close_changes(
         is_open: false,
     }))?;
     for placement in placed {
-        changes.push(Change::Put(placement_row(alloc, placement)?))?;
+        changes.push(Change::Add(placement_row(alloc, placement)?))?;
     }
     Ok(changes)
 }

@@ -24,7 +24,7 @@ use Rattle.rolls.specs.Told.{number_of}
 use Rattle.rolls.specs.Importing.{or_else, at_record, rows_refusal, after_rows, import_refusal, with_import}
 use Rattle.rolls.specs.Answers.{IsDone, Imports}
 use Rattle.rolls.proofs.Allowed.{allowed}
-use Rattle.row_changes.specs.Changes.{changes_of, changes_of_rows, import_changes}
+use Rattle.row_changes.specs.Changes.{put_or_added, changes_of, changes_of_rows, import_changes}
 use Rattle.row_changes.proofs.Imported.{turns_follow, keep_none}
 use Rattle.row_changes.proofs.Turning.{turns_import}
 use Rattle.office.specs.Importing.{AreMade}
@@ -42,7 +42,7 @@ pub none_made : (rows all : List Plain) (old : State) → all ≡ rows → IsUnd
 none_made rows all old is = record {
   refusal = ap (rows_refusal 1 old) (sym is);
   after = ap (λ (ps : List Plain). after_rows ps old) (sym is);
-  turns = λ k. refl;
+  turns = record { fresh = tt; rows = λ k. refl };
   exact = ap (λ (ps : List Plain). changes_of_rows ps old) (sym is);
   counted = let same = ap length is in omega (arith, same);
 }
@@ -93,7 +93,7 @@ something_kept (Some i) n h = refl
 module _ (id : List ℕ) (kind : ImportKind) (bytes : List ℕ) (rows : List Plain) (old : State) where
   -- what changes where a kept import changes nothing
   abbrev unless_kept : Bool → List Change
-  unless_kept b = if b then [] else changes_of_rows rows old ++ change.Put (row.Import id kind bytes (length rows)) ∷ []
+  unless_kept b = if b then [] else changes_of_rows rows old ++ change.Add (row.Import id kind bytes (length rows)) ∷ []
 
   -- a kept import changes nothing
   pub kept_unchanged : (n : ℕ) → kept_rows old id ≡ Some n → [] ≡ import_changes id kind bytes rows old
@@ -101,9 +101,9 @@ module _ (id : List ℕ) (kind : ImportKind) (bytes : List ℕ) (rows : List Pla
 
   -- a new one changes what its rows do, and last comes its own row
   pub new_changes : kept_rows old id ≡ None → (mid : State) (changes : List Change) → AreMade rows old mid changes
-      → changes ++ change.Put (row.Import id kind bytes (length rows)) ∷ [] ≡ import_changes id kind bytes rows old
+      → changes ++ change.Add (row.Import id kind bytes (length rows)) ∷ [] ≡ import_changes id kind bytes rows old
   new_changes free mid changes made =
-      ap (λ (cs : List Change). cs ++ change.Put (row.Import id kind bytes (length rows)) ∷ []) made.exact
+      ap (λ (cs : List Change). cs ++ change.Add (row.Import id kind bytes (length rows)) ∷ []) made.exact
       ∙ sym (ap unless_kept (nothing_kept (import_of old id) free))
 
 module _ (id : List ℕ) (kind : ImportKind) (bytes : List ℕ) (rows : List Plain) (old : State) (passed : first (import_tests old id kind bytes) ≡ None) where
@@ -115,7 +115,7 @@ module _ (id : List ℕ) (kind : ImportKind) (bytes : List ℕ) (rows : List Pla
         allowed = ap (λ (x : Option Refusal). or_else x (if has_import old id then None else rows_refusal 1 old rows)) passed ∙ ap (λ (b : Bool). if b then None else rows_refusal 1 old rows) kept;
         after = sym (ap (λ (b : Bool). if b then old else with_import (record { id = id; kind = kind; bytes = bytes; rows = length rows }) (after_rows rows old)) kept);
         reply = answer ∙ sym (ap (λ (x : Option ℕ). reply.Rows (unwrap_or x (length rows))) is);
-        changes = subst (λ (cs : List Change). Turns cs old old) (sym none) (λ k. refl);
+        changes = subst (λ (cs : List Change). Turns cs old old) (sym none) (record { fresh = tt; rows = λ k. refl });
       }
 
   module _ (free : kept_rows old id ≡ None) where
@@ -138,9 +138,14 @@ module _ (id : List ℕ) (kind : ImportKind) (bytes : List ℕ) (rows : List Pla
           ap (λ (is : List Import). not (is_some (find import_key (of_code id) is)) && nat_le MOST_IMPORTS (length is)) private_same
           ∙ (allowed (import_tests old id kind bytes) passed).1.1.1.0
 
+      -- its row is added
+      row_added : (i : Import) → i.id ≡ id → Turns (change.Add (import_row i) ∷ []) mid (with_import i mid)
+      row_added i own = subst (λ (b : Bool). Turns (put_or_added b (import_row i) ∷ []) mid (with_import i mid))
+          (ap (has_import mid) own ∙ ap (λ (is : List Import). is_some (find import_key (of_code id) is)) private_same ∙ private_new) (turns_import i mid)
+
       -- all rows were made, and it is kept
       pub import_made : (new : State) → new ≡ with_import (record { id = id; kind = kind; bytes = bytes; rows = length rows }) mid → (done : Done) → done.reply ≡ reply.Rows (length rows)
-          → done.changes.items ≡ changes ++ change.Put (import_row (record { id = id; kind = kind; bytes = bytes; rows = length rows })) ∷ [] → Imports id kind bytes rows old new (Ok done)
+          → done.changes.items ≡ changes ++ change.Add (import_row (record { id = id; kind = kind; bytes = bytes; rows = length rows })) ∷ [] → Imports id kind bytes rows old new (Ok done)
       import_made new is done answer changed =
           let i : Import = record { id = id; kind = kind; bytes = bytes; rows = length rows } in
           record {
@@ -148,5 +153,5 @@ module _ (id : List ℕ) (kind : ImportKind) (bytes : List ℕ) (rows : List Pla
             after = is ∙ ap (with_import i) made.after ∙ sym (ap (λ (b : Bool). if b then old else with_import i (after_rows rows old)) private_new);
             reply = answer ∙ sym (ap (λ (x : Option ℕ). reply.Rows (unwrap_or x (length rows))) free);
             changes = subst (λ (cs : List Change). Turns cs old new) (sym changed)
-                (turns_follow changes (change.Put (import_row i) ∷ []) old mid new made.turns (subst (Turns (change.Put (import_row i) ∷ []) mid) (sym is) (turns_import i mid)));
+                (turns_follow changes (change.Add (import_row i) ∷ []) old mid new made.turns (subst (Turns (change.Add (import_row i) ∷ []) mid) (sym is) (row_added i refl)));
           }

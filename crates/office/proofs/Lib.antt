@@ -4,3 +4,4 @@ pub mod Listing
 pub mod Few
 pub mod Reading
 pub mod Importing
+pub mod Known

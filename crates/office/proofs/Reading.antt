@@ -14,7 +14,7 @@ read_done q o done none after answer unchanged = record {
   allowed = none;
   after = after;
   reply = answer;
-  changes = subst (λ cs. Turns cs o o) (sym unchanged) (λ k. refl);
+  changes = subst (λ cs. Turns cs o o) (sym unchanged) (record { fresh = tt; rows = λ k. refl });
 }
 
 -- the same, where the request is named in two ways

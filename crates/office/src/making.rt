@@ -2,6 +2,7 @@
 
 ghost use Rattle.std.specs.Prelude.{◌≡◌, ℕ, List, [], ◌∷◌, IfOk, IsTrue};
 ghost use Rattle.spa.specs.Text.{is_code, is_label};
+ghost use Rattle.row_changes.specs.Changes.{put_or_added};
 
 use rolls::{Change, Project, Row, Student, Supervisor, Text};
 use spa::{Code, Label};
@@ -26,49 +27,63 @@ fn label_of(alloc: Global, text: &str) -> Result<Label, AllocError>
     }
 }
 
-/// The one change that puts a row.
-fn put_of_row(alloc: Global, row: Row) -> Result<Vec<Change>, AllocError>
-    ensures { IfOk result (λ changes. changes.items ≡ Change.Put row ∷ []) }
+/// A list of this change alone.
+pub(crate) fn one_change(alloc: Global, change: Change) -> Result<Vec<Change>, AllocError>
+    ensures { IfOk result (λ changes. changes.items ≡ change ∷ []) }
 {
     let mut changes = Vec::new(alloc);
-    changes.push(Change::Put(row))?;
+    changes.push(change)?;
     Ok(changes)
 }
 
-/// A supervisor, and the change that puts the row.
+/// The change that puts a row in the place of the one with its key where that is known, and adds it where it is not.
+fn put_or_added(known: bool, row: Row) -> Change
+    ensures { result ≡ put_or_added known row }
+{
+    if known {
+        Change::Put(row)
+    } else {
+        Change::Add(row)
+    }
+}
+
+/// A supervisor, whose code is known or not, and the change that puts or adds the row.
 pub(crate) fn new_supervisor(
     alloc: Global,
     code: Text,
     label: Text,
     quota: u32,
+    known: bool,
 ) -> Result<(Supervisor, Vec<Change>), AllocError>
     requires code_form { IsTrue (is_code code) }
     requires label_form { IsTrue (is_label label) }
     ensures made { IfOk result (λ made. made.0 ≡ record { code = code; label = label; quota = quota }) }
-    ensures changes { IfOk result (λ made. let changes = made.1 in changes.items ≡ Change.Put (Row.Supervisor code label quota) ∷ []) }
+    ensures changes { IfOk result (λ made. let changes = made.1 in changes.items ≡ put_or_added known (Row.Supervisor code label quota) ∷ []) }
 {
     let supervisor = Supervisor {
         code: code_of(code.as_str()),
         label: label_of(alloc, label.as_str())?,
         quota,
     };
-    let changes = put_of_row(alloc, Row::Supervisor { code, label, quota })?;
+    let row = Row::Supervisor { code, label, quota };
+    let changes = one_change(alloc, put_or_added(known, row))?;
     Ok((supervisor, changes))
 }
 
-/// A project, and the change that puts the row.
+/// A project, whose code is known or not, and the change that puts or adds the row.
 pub(crate) fn new_project(
     alloc: Global,
     code: Text,
     label: Text,
     supervisor: Text,
     quota: u32,
+    known: bool,
 ) -> Result<(Project, Vec<Change>), AllocError>
     requires code_form { IsTrue (is_code code) }
     requires label_form { IsTrue (is_label label) }
     requires supervisor_form { IsTrue (is_code supervisor) }
     ensures made { IfOk result (λ made. made.0 ≡ record { code = code; label = label; supervisor = supervisor; quota = quota }) }
-    ensures changes { IfOk result (λ made. let changes = made.1 in changes.items ≡ Change.Put (Row.Project code label supervisor quota) ∷ []) }
+    ensures changes { IfOk result (λ made. let changes = made.1 in changes.items ≡ put_or_added known (Row.Project code label supervisor quota) ∷ []) }
 {
     let project = Project {
         code: code_of(code.as_str()),
@@ -82,25 +97,27 @@ pub(crate) fn new_project(
         supervisor,
         quota,
     };
-    let changes = put_of_row(alloc, row)?;
+    let changes = one_change(alloc, put_or_added(known, row))?;
     Ok((project, changes))
 }
 
-/// A student, and the change that puts the row.
+/// A student, whose code is known or not, and the change that puts or adds the row.
 pub(crate) fn new_student(
     alloc: Global,
     code: Text,
     label: Text,
+    known: bool,
 ) -> Result<(Student, Vec<Change>), AllocError>
     requires code_form { IsTrue (is_code code) }
     requires label_form { IsTrue (is_label label) }
     ensures made { IfOk result (λ made. made.0 ≡ record { code = code; label = label }) }
-    ensures changes { IfOk result (λ made. let changes = made.1 in changes.items ≡ Change.Put (Row.Student code label) ∷ []) }
+    ensures changes { IfOk result (λ made. let changes = made.1 in changes.items ≡ put_or_added known (Row.Student code label) ∷ []) }
 {
     let student = Student {
         code: code_of(code.as_str()),
         label: label_of(alloc, label.as_str())?,
     };
-    let changes = put_of_row(alloc, Row::Student { code, label })?;
+    let row = Row::Student { code, label };
+    let changes = one_change(alloc, put_or_added(known, row))?;
     Ok((student, changes))
 }

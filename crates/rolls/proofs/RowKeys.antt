@@ -1,12 +1,13 @@
 -- Keys of rows that are the same are one: a key is given by its parts, and a test of parts that says yes is right.
-use Rattle.std.proofs.Common.{◌≡◌, ℕ, zero, suc, true, false, List, [], ◌∷◌, refl, sym, ap, subst, ◌∙◌}
-use Rattle.std.specs.Prelude.{◌&&◌}
+use Rattle.std.proofs.Common.{◌≡◌, ℕ, zero, suc, true, false, List, [], ◌∷◌, refl, sym, ap, subst, ◌∙◌, arith}
+use Rattle.std.specs.Prelude.{◌&&◌, ◌==◌}
 use Rattle.std.specs.Cmp.{first_so, second_so}
 use Rattle.std.specs.Str.{bytes_eq}
+use Rattle.std.proofs.lemmas.Bool.Decides.{nat_tests}
 use Rattle.std.proofs.lemmas.Slice.Eq.{bytes_eq-Decides}
 use Rattle.rolls.specs.declared.row.RowKey.{RowKey}
 use Rattle.rolls.specs.declared.row.RowKey.TheVariants as key
-use Rattle.rolls.specs.Rows.{parts_of, same_parts, same_row}
+use Rattle.rolls.specs.Rows.{parts_of, same_parts, same_row, is_in_list}
 
 pub same_bytes : (a b : List ℕ) → bytes_eq a b ≡ true → a ≡ b
 same_bytes a b h = (bytes_eq-Decides a b).0 h
@@ -65,3 +66,14 @@ apart_back k l h =
       | true ↦ λ e. let yes : same_row k l ≡ true = subst (λ m. same_row k m ≡ true) (sym (same_row_is l k e)) (same_row_self k) in cc
       | false ↦ λ e. refl
     ] refl
+
+-- a choice in a list is of the list's round and of its student
+pub in_list_is : (round : ℕ) (student : List ℕ) (n : ℕ) (s : List ℕ) (place : ℕ) → is_in_list round student (key.Choice n s place) ≡ true → (n ≡ round) × (s ≡ student)
+in_list_is round student n s place h =
+    let number : (n == round) ≡ true = first_so (n == round) (bytes_eq s student) h in
+    (grind (arith, nat_tests), same_bytes s student (second_so (n == round) (bytes_eq s student) h))
+
+pub in_list_self : (round : ℕ) (student : List ℕ) (place : ℕ) → is_in_list round student (key.Choice round student place) ≡ true
+in_list_self round student place =
+    let number : (round == round) ≡ true = grind (arith, nat_tests) in
+    ap (λ b. b && bytes_eq student student) number ∙ bytes_self student

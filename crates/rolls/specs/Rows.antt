@@ -1,5 +1,5 @@
 -- The rows of the tables: which row an office has at a key, and what changes make of that.
-use Rattle.std.specs.Prelude.{◌≡◌, ℕ, ◌-◌, ◌&&◌, nat_le, Bool, true, false, List, [], ◌∷◌, slice_get, Option, Some, None, if◌then◌else◌}
+use Rattle.std.specs.Prelude.{◌≡◌, ℕ, ◌-◌, ◌==◌, ◌&&◌, nat_le, Bool, true, false, List, [], ◌∷◌, slice_get, Option, Some, None, if◌then◌else◌}
 use Rattle.std.specs.Option.{option_map}
 use Rattle.std.specs.Str.{bytes_eq}
 use Rattle.rolls.specs.declared.entries.Supervisor.{Supervisor}
@@ -84,16 +84,36 @@ row_of o (key.Choice round student place) = option_map (row.Choice round student
 row_of o (key.Placement student) = option_map placement_row (placement_of o student)
 row_of o (key.Import id) = option_map import_row (import_of o id)
 
+-- whether a key is of a choice in this student's list in this round
+abbrev pub is_in_list : ℕ → List ℕ → RowKey → Bool
+is_in_list round student (key.Choice n s place) = (n == round) && bytes_eq s student
+is_in_list round student _ = false
+
 -- what the tables have at each key after a change
 abbrev pub after_change : Change → (RowKey → Option Row) → RowKey → Option Row
 after_change (change.Put r) rows k = if same_row k (key_of r) then Some r else rows k
+after_change (change.Add r) rows k = if same_row k (key_of r) then Some r else rows k
 after_change (change.Take at) rows k = if same_row k at then None else rows k
+after_change (change.TakeList round student) rows k = if is_in_list round student k then None else rows k
 
 -- after changes, the first of them first
 abbrev pub after_changes : List Change → (RowKey → Option Row) → RowKey → Option Row
 after_changes [] rows = rows
 after_changes (c ∷ cs) rows = after_changes cs (after_change c rows)
 
--- changes turn the rows of one office into those of another
-abbrev pub Turns : List Change → State → State → Type 0
-Turns changes old new = (k : RowKey) → after_changes changes (row_of old) k ≡ row_of new k
+-- a row is added at a key where nothing stands
+abbrev pub IsFresh : Change → (RowKey → Option Row) → Type 0
+IsFresh (change.Put r) rows = Unit
+IsFresh (change.Add r) rows = rows (key_of r) ≡ None
+IsFresh (change.Take at) rows = Unit
+IsFresh (change.TakeList round student) rows = Unit
+
+-- so is each row that is added, when its turn comes
+abbrev pub AreFresh : List Change → (RowKey → Option Row) → Type 0
+AreFresh [] rows = Unit
+AreFresh (c ∷ cs) rows = IsFresh c rows × AreFresh cs (after_change c rows)
+
+-- changes turn the rows of one office into those of another, and add no row at a key that has one
+pub record Turns (changes : List Change) (old new : State) : Type 0 where
+  pub fresh : AreFresh changes (row_of old)
+  pub rows : (k : RowKey) → after_changes changes (row_of old) k ≡ row_of new k

@@ -74,8 +74,12 @@ pub enum RowKey {
 /// A change of the tables.
 #[derive(Drop)]
 pub enum Change {
-    /// The row stands in its table, in the place of one with its key.
+    /// The row stands in its table, in the place of the one with its key.
     Put(Row),
+    /// A row of a new key stands in its table.
+    Add(Row),
     /// No row stands at this key.
     Take(RowKey),
+    /// No choice stands in this student's list in this round.
+    TakeList(u32, Text),
 }

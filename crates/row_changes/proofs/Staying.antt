@@ -6,7 +6,7 @@ use Rattle.std.specs.Option.{option_map_or}
 use Rattle.std.specs.List.{AllByRecursion}
 use Rattle.std.specs.Str.{bytes_eq}
 use Rattle.std.proofs.lemmas.Slice.Eq.{bytes_eq-Decides}
-use Rattle.spa.specs.declared.TheConstants.{MOST_SUPERVISORS, MOST_PROJECTS, RANKS, MOST_STUDENTS}
+use Rattle.spa.specs.declared.TheConstants.{MOST_SUPERVISORS, MOST_PROJECTS, MOST_STUDENTS}
 use Rattle.rolls.specs.declared.TheConstants.{MOST_IMPORTS, MOST_ROUNDS}
 use Rattle.rolls.specs.declared.entries.Supervisor.{Supervisor}
 use Rattle.rolls.specs.declared.entries.Project.{Project}
@@ -86,11 +86,7 @@ choices_hold o fit n student P none each = hold (list_of o n student) refl
     hold None is = none
     hold (Some l) is = each l (holds_of_found list_key (ListFits o n) (0, student) (lists_of o n) l (fit.lists_fit n) is)
 
--- there are no more than there are ranks
-pub choices_few : (o : State) → IsFit o → (n : ℕ) (student : List ℕ) → length (choices_in o n student) ≤ RANKS
-choices_few o fit n student = choices_hold o fit n student (λ cs. length cs ≤ RANKS) (omega arith) (λ l fits. fits.choices.few)
-
--- and each is known
+-- what is listed is known
 pub listed_known : (o : State) → IsFit o → (n : ℕ) (student project : List ℕ) (k : ℕ) → slice_get (choices_in o n student) k ≡ Some project → has_project o project ≡ true
 listed_known o fit n student project k h =
     all_at (λ p. has_project o p ≡ true) (choices_in o n student) k project (choices_hold o fit n student (AllByRecursion (λ p. has_project o p ≡ true)) tt (λ l fits. fits.projects)) h

@@ -4,14 +4,13 @@ use Rattle.rolls.specs.declared.TheConstants.{MOST_IMPORTS}
 use Rattle.rolls.specs.declared.request.Plain.{Plain}
 use Rattle.rolls.specs.declared.import.Import.{Import}
 use Rattle.rolls.specs.declared.row.Change.{Change}
-use Rattle.rolls.specs.declared.row.Change.TheVariants as change
 use Rattle.rolls.specs.State.{State, has_import}
 use Rattle.rolls.specs.Fit.{IsFit, ImportFits}
 use Rattle.rolls.specs.Rows.{Turns, import_row}
 use Rattle.rolls.specs.Importing.{after_rows, with_import}
 use Rattle.rolls.specs.Refusing.{plain_refusal}
 use Rattle.rolls.specs.Stepping.{after_plain}
-use Rattle.row_changes.specs.Changes.{changes_of}
+use Rattle.row_changes.specs.Changes.{put_or_added, changes_of}
 
 -- a fit office is fit after each plain request that it does not refuse
 abbrev pub StaysFit : Type 0
@@ -29,9 +28,9 @@ TurnsFollow = (cs ds : List Change) (o m n : State) → Turns cs o m → Turns d
 abbrev pub KeepingFits : Type 0
 KeepingFits = (i : Import) (o : State) → IsFit o → ImportFits i → (not (has_import o i.id) && nat_le MOST_IMPORTS (length o.imports)) ≡ false → IsFit (with_import i o)
 
--- and its row turns the rows
+-- and its row turns the rows: added where the import is new
 abbrev pub KeepingTurns : Type 0
-KeepingTurns = (i : Import) (o : State) → Turns (change.Put (import_row i) ∷ []) o (with_import i o)
+KeepingTurns = (i : Import) (o : State) → Turns (put_or_added (has_import o i.id) (import_row i) ∷ []) o (with_import i o)
 
 -- plain requests keep no import
 abbrev pub ImportsStay : Type 0

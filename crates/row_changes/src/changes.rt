@@ -8,26 +8,37 @@ use rolls::{Change, Placement, Row, RowKey, Text};
 use spa::Code;
 use std::alloc::{AllocError, Global};
 
-/// A student's list in a round gives way to new choices: first its places are taken out, as many as the
-/// old list has, and then the new choices are put. Without new choices the list goes.
+/// The change by which a student's list in a round goes, where there is one.
+fn list_taken(
+    alloc: Global,
+    round: u32,
+    student: &str,
+    has_list: bool,
+) -> Result<Vec<Change>, AllocError>
+    ensures { IfOk result (λ changes. changes.items ≡ says.list_taken round student.now has_list) }
+{
+    let mut changes = Vec::new(alloc);
+    if has_list {
+        changes.push(Change::TakeList(round, Text::of(alloc, student)?))?;
+    }
+    Ok(changes)
+}
+
+/// A student's list in a round gives way to new choices: first it goes, where there is one, and then the new
+/// choices are added.
 pub fn list_changes(
     alloc: Global,
     round: u32,
     student: &str,
-    old: usize,
+    has_list: bool,
     new: &[Code],
 ) -> Result<Vec<Change>, AllocError>
-    requires few { old ≤ RANKS }
-    requires few_new { length new.now ≤ RANKS }
-    ensures { IfOk result (λ changes. changes.items ≡ says.list_changes round student.now old new.now) }
+    requires { length new.now ≤ RANKS }
+    ensures { IfOk result (λ changes. changes.items ≡ says.list_changes round student.now has_list new.now) }
 {
-    let mut changes = Vec::with_capacity(alloc, old + new.len())?;
-    for place in 0..old {
-        let student = Text::of(alloc, student)?;
-        changes.push(Change::Take(RowKey::Choice(round, student, place as u32 + 1)))?;
-    }
+    let mut changes = list_taken(alloc, round, student, has_list)?;
     for (place, code) in new.iter().enumerate() {
-        changes.push(Change::Put(Row::Choice {
+        changes.push(Change::Add(Row::Choice {
             round,
             student: Text::of(alloc, student)?,
             place: place as u32 + 1,

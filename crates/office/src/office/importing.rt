@@ -115,7 +115,7 @@ impl Office {
             rows: count,
         };
         self.keep(import)?;
-        changes.push(Change::Put(Row::Import {
+        changes.push(Change::Add(Row::Import {
             id,
             kind,
             bytes,

@@ -1,15 +1,16 @@
 //! Requests that change a list.
 
-ghost use Rattle.std.specs.Prelude.{◌≡◌, ℕ, None, IfOk, OnErr, length, IsTrue};
+ghost use Rattle.std.specs.Prelude.{◌≡◌, None, IfOk, OnErr, IsTrue};
 ghost use Rattle.std.specs.List.{AllByRecursion};
-ghost use Rattle.rolls.specs.State.{has_project, choices_in};
+ghost use Rattle.rolls.specs.State.{has_project};
 ghost use Rattle.rolls.specs.declared.request.Plain.TheVariants as ask;
 ghost use Rattle.rolls.specs.Refusing.{plain_refusal};
 ghost use Rattle.rolls.specs.Answers.{IsDone};
 ghost use Rattle.row_changes.specs.Changes.{changes_of};
 
 use super::Office;
-use rolls::{Choices, Done, Listed, Reply, Text, Texts};
+use crate::making::one_change;
+use rolls::{Change, Choices, Done, Listed, Reply, Text, Texts};
 use row_changes::list_changes;
 use spa::Code;
 use std::alloc::AllocError;
@@ -28,16 +29,6 @@ impl Office {
         Ok(codes)
     }
 
-    /// How many places a student's list in a round has.
-    fn places_of(&self, round: u32, student: &str) -> usize
-        ensures { result ≡ length (choices_in self.now round student.now) }
-    {
-        match self.list_of(round, student) {
-            Some(list) => list.choices.as_slice().len(),
-            None => 0,
-        }
-    }
-
     /// Makes a student's list in the open round this one.
     pub(crate) fn put_list(&mut self, student: Text, choices: Texts) -> Result<Done, AllocError>
         requires allowed { plain_refusal self.old (ask.PutList student choices) ≡ None }
@@ -47,8 +38,8 @@ impl Office {
     {
         let round = self.last_round();
         let codes = self.codes_of(choices.as_slice())?;
-        let places = self.places_of(round, student.as_str());
-        let changes = list_changes(self.alloc, round, student.as_str(), places, &codes)?;
+        let has_list = self.list_of(round, student.as_str()).is_some();
+        let changes = list_changes(self.alloc, round, student.as_str(), has_list, &codes)?;
         let listed = Listed {
             student: self.students.by_code(student.as_str()).unwrap().code.copy(),
             choices: Choices::new(self.alloc, codes)?,
@@ -70,10 +61,9 @@ impl Office {
         ensures err { OnErr result (self.new ≡ self.old) }
     {
         let round = self.last_round();
-        let places = self.places_of(round, student.as_str());
-        let changes = list_changes(self.alloc, round, student.as_str(), places, &[])?;
         let mut last = self.last()?;
         last.lists.take_out(0, student.as_str())?;
+        let changes = one_change(self.alloc, Change::TakeList(round, student))?;
         self.rounds.put(last)?;
         Ok(Done {
             reply: Reply::Done,

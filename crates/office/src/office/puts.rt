@@ -24,7 +24,8 @@ impl Office {
         ensures changes { IfOk result (λ done. let changes = done.changes in changes.items ≡ changes_of (ask.PutSupervisor code label quota) self.old) }
         ensures err { OnErr result (self.new ≡ self.old) }
     {
-        let (supervisor, changes) = new_supervisor(self.alloc, code, label, quota)?;
+        let known = self.supervisors.by_code(code.as_str()).is_some();
+        let (supervisor, changes) = new_supervisor(self.alloc, code, label, quota, known)?;
         self.supervisors.put(supervisor)?;
         Ok(Done {
             reply: Reply::Done,
@@ -45,7 +46,8 @@ impl Office {
         ensures changes { IfOk result (λ done. let changes = done.changes in changes.items ≡ changes_of (ask.PutProject code label supervisor quota) self.old) }
         ensures err { OnErr result (self.new ≡ self.old) }
     {
-        let (project, changes) = new_project(self.alloc, code, label, supervisor, quota)?;
+        let known = self.projects.by_code(code.as_str()).is_some();
+        let (project, changes) = new_project(self.alloc, code, label, supervisor, quota, known)?;
         self.projects.put(project)?;
         Ok(Done {
             reply: Reply::Done,
@@ -60,7 +62,8 @@ impl Office {
         ensures changes { IfOk result (λ done. let changes = done.changes in changes.items ≡ changes_of (ask.PutStudent code label) self.old) }
         ensures err { OnErr result (self.new ≡ self.old) }
     {
-        let (student, changes) = new_student(self.alloc, code, label)?;
+        let known = self.students.by_code(code.as_str()).is_some();
+        let (student, changes) = new_student(self.alloc, code, label, known)?;
         self.students.put(student)?;
         Ok(Done {
             reply: Reply::Done,

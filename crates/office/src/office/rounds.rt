@@ -8,6 +8,7 @@ ghost use Rattle.rolls.specs.Answers.{IsDone};
 ghost use Rattle.row_changes.specs.Changes.{changes_of};
 
 use super::Office;
+use crate::making::one_change;
 use rolls::{Change, Done, Entry, Listed, Reply, Round, Row, Table};
 use row_changes::{kept_placements, reopening_changes};
 use std::alloc::AllocError;
@@ -49,11 +50,11 @@ impl Office {
         ensures err { OnErr result (self.new ≡ self.old) }
     {
         let number = self.last_round() + 1;
-        let mut changes = Vec::new(self.alloc);
-        changes.push(Change::Put(Row::Round {
+        let row = Row::Round {
             number,
             is_open: true,
-        }))?;
+        };
+        let changes = one_change(self.alloc, Change::Add(row))?;
         self.rounds.put(Round {
             number,
             is_open: true,

@@ -3,7 +3,4 @@ use Rattle.row_changes.specs.Changes as says
 use Rattle.row_changes.proofs.changes.list_changes.Given as goal
 
 abbrev pub invariant-loop-place : goal.invariant-loop-place
-invariant-loop-place l = l.changes.items ≡ says.places_taken l.round l.student 1 l.place
-
-abbrev pub invariant-loop-place-2 : goal.invariant-loop-place-2
-invariant-loop-place-2 l = l.changes.items ≡ says.list_changes l.round l.student l.old (take l.place l.new)
+invariant-loop-place l = l.changes.items ≡ says.list_changes l.round l.student l.has_list (take l.place l.new)

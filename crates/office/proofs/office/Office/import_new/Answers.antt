@@ -18,7 +18,7 @@ keep-requires-clause-room c =
 pub returns-clause-changes : goal.returns-clause-changes
 returns-clause-changes c =
     c.in_ok-push.ensures.items
-    ∙ ap (λ (n : ℕ). c.in_ok-changes.changes.items ++ change.Put (row.Import c.args.id c.args.kind c.args.bytes n) ∷ []) (c.len-count.ensures ∙ c.args.rows.ok.0)
+    ∙ ap (λ (n : ℕ). c.in_ok-changes.changes.items ++ change.Add (row.Import c.args.id c.args.kind c.args.bytes n) ∷ []) (c.len-count.ensures ∙ c.args.rows.ok.0)
     ∙ new_changes c.args.id c.args.kind c.args.bytes c.args.rows.items c.args.self.now c.requires.free c.make_all.new.self c.in_ok-changes.changes.items c.in_ok-changes.ensures.ok
 
 pub returns-clause-ok : goal.returns-clause-ok
@@ -31,4 +31,4 @@ returns-clause-ok c =
     (c.in_ok-keep.ensures ∙ (λ i. with_import (record { id = (c.code_of.ensures ∙ c.as_str.ensures) i; kind = c.args.kind; bytes = c.in_ok-copy.ensures i; rows = count i }) mid))
     (record { reply = reply.Rows c.len-count.result; changes = c.push.new.self })
     (ap reply.Rows count)
-    (c.in_ok-push.ensures.items ∙ ap (λ (n : ℕ). c.in_ok-changes.changes.items ++ change.Put (row.Import c.args.id c.args.kind c.args.bytes n) ∷ []) count)
+    (c.in_ok-push.ensures.items ∙ ap (λ (n : ℕ). c.in_ok-changes.changes.items ++ change.Add (row.Import c.args.id c.args.kind c.args.bytes n) ∷ []) count)

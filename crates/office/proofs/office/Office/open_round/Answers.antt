@@ -1,4 +1,4 @@
-use Rattle.std.proofs.Common.{◌≡◌, ◌+◌, true, List, [], ◌∷◌, ◌++◌, length, ap, ◌∙◌}
+use Rattle.std.proofs.Common.{◌≡◌, ℕ, ◌+◌, true, List, [], ◌∷◌, length, ap, ◌∙◌}
 use Rattle.rolls.specs.declared.rounds.Round.{Round}
 use Rattle.rolls.specs.declared.row.Row.TheVariants as row
 use Rattle.rolls.specs.declared.row.Change.TheVariants as change
@@ -21,7 +21,7 @@ pub invariant_of-self-2 : goal.invariant_of-self-2
 invariant_of-self-2 c = made_fit OpenRound (state_of c.self.inside) c.args.self.now c.self.view_is c.requires.allowed c.self.invariant _ (after c)
 
 pub returns-clause-changes : goal.returns-clause-changes
-returns-clause-changes c = c.in_ok-push.ensures.items ∙ (λ i. c.new-changes.ensures.items i ++ change.Put (row.Round (c.last_round-number.ensures i + 1) true) ∷ [])
+returns-clause-changes c = c.in_ok-changes.ensures ∙ ap (λ (n : ℕ). change.Add (row.Round (n + 1) true) ∷ []) c.last_round-number.ensures
 
 pub returns-clause-ok : goal.returns-clause-ok
 returns-clause-ok c =

@@ -1,16 +1,15 @@
-use Rattle.std.proofs.Common.{◌≡◌, ℕ, length, true, List, arith, refl, sym, ap, subst, ◌∙◌}
+use Rattle.std.proofs.Common.{◌≡◌, ℕ, length, true, List, is_some, arith, refl, sym, ap, subst, ◌∙◌}
 use Rattle.std.specs.Prelude.{option_copied}
 use Rattle.std.specs.List.{AllByRecursion}
-use Rattle.rolls.specs.Fit.{IsFit}
 use Rattle.rolls.specs.declared.rounds.Round.{Round}
 use Rattle.rolls.specs.declared.rounds.Listed.{Listed}
 use Rattle.rolls.specs.Roll.{Key, put}
-use Rattle.rolls.specs.State.{State, has_project, list_key, round_key, student_key, last_round, choices_in}
+use Rattle.rolls.specs.State.{State, has_project, list_key, round_key, student_key, last_round, has_list}
 use Rattle.rolls.specs.Stepping.{after_plain}
 use Rattle.rolls.proofs.Found.{found_key}
 use Rattle.row_changes.specs.Changes.{list_changes}
-use Rattle.row_changes.proofs.Staying.{choices_few}
 use Rattle.office.specs.View.{state_of}
+use Rattle.office.proofs.Known.{lent_is_there}
 use Rattle.office.proofs.Made.{made_fit, made_done, last_put}
 use Rattle.rolls.specs.declared.request.Plain.TheVariants.{PutList}
 use Rattle.office.proofs.Listing.{list_few, list_known}
@@ -20,14 +19,8 @@ use Rattle.office.proofs.office.Office.put_list.Goals.{After-drop-student-inside
 pub codes_of-requires : goal.codes_of-requires
 codes_of-requires c = subst (AllByRecursion (λ p. has_project c.args.self.now p ≡ true)) (sym c.as_slice.ensures) (list_known c.args.self.now c.args.student c.args.choices c.requires.allowed)
 
-pub list_changes-requires-clause-few : goal.list_changes-requires-clause-few
-list_changes-requires-clause-few c =
-    let few = choices_few c.args.self.now (subst IsFit c.self.view_is c.self.invariant) c.last_round-round.result c.as_str.result.now in
-    let are = c.places_of-places.ensures in
-    omega (arith, few, are)
-
-pub list_changes-requires-clause-few_new : goal.list_changes-requires-clause-few_new
-list_changes-requires-clause-few_new c =
+pub list_changes-requires : goal.list_changes-requires
+list_changes-requires c =
     let few = list_few c.args.self.now c.args.student c.args.choices c.requires.allowed in
     let are = ap (λ (cs : List (List ℕ)). length cs) (c.deref.ensures.value ∙ c.in_ok-codes.ensures ∙ c.as_slice.ensures) in
     omega (arith, few, are)
@@ -47,11 +40,15 @@ after c =
 pub invariant_of-self-2 : goal.invariant_of-self-2
 invariant_of-self-2 c = made_fit (PutList c.args.student c.args.choices) (state_of c.self.inside) c.args.self.now c.self.view_is c.requires.allowed c.self.invariant _ (after c)
 
+-- whether there is a list
+has_list_is : (c : After-drop-student-inside-2) → c.is_some-has_list.result ≡ has_list c.args.self.now (last_round c.args.self.now) c.args.student
+has_list_is c =
+    c.is_some-has_list.ensures ∙ lent_is_there c.list_of.result ∙ ap is_some c.list_of.ensures ∙ (λ i. has_list c.args.self.now (c.last_round-round.ensures i) (c.as_str.ensures i))
+
 pub returns-clause-changes : goal.returns-clause-changes
 returns-clause-changes c =
     c.in_ok-changes.ensures
-    ∙ (λ i. list_changes (c.last_round-round.ensures i) (c.as_str-2.ensures i) (c.places_of-places.ensures i) ((c.deref.ensures.value ∙ c.in_ok-codes.ensures ∙ c.as_slice.ensures) i))
-    ∙ (λ i. list_changes (last_round c.args.self.now) c.args.student (length (choices_in c.args.self.now (c.last_round-round.ensures i) (c.as_str.ensures i))) c.args.choices)
+    ∙ (λ i. list_changes (c.last_round-round.ensures i) (c.as_str-2.ensures i) (has_list_is c i) ((c.deref.ensures.value ∙ c.in_ok-codes.ensures ∙ c.as_slice.ensures) i))
 
 pub returns-clause-ok : goal.returns-clause-ok
 returns-clause-ok c =

@@ -1,10 +1,13 @@
-use Rattle.std.proofs.Common.{◌≡◌, List, refl, ap, ◌∙◌}
+use Rattle.std.proofs.Common.{◌≡◌, Bool, List, [], ◌∷◌, is_some, refl, ap, ◌∙◌}
 use Rattle.rolls.specs.declared.entries.Supervisor.{Supervisor}
+use Rattle.rolls.specs.declared.row.Row.TheVariants as row
 use Rattle.rolls.specs.declared.request.Plain.TheVariants.{PutSupervisor}
 use Rattle.rolls.specs.Roll.{put}
-use Rattle.rolls.specs.State.{State, supervisor_key}
+use Rattle.rolls.specs.State.{State, supervisor_key, has_supervisor}
+use Rattle.row_changes.specs.Changes.{put_or_added}
 use Rattle.rolls.specs.Stepping.{after_plain}
 use Rattle.office.specs.View.{state_of}
+use Rattle.office.proofs.Known.{lent_is_there}
 use Rattle.office.proofs.Made.{made_fit, made_done}
 use Rattle.office.proofs.office.Office.put_supervisor.Goals as goal
 
@@ -16,5 +19,14 @@ after c =
 pub invariant_of-self-2 : goal.invariant_of-self-2
 invariant_of-self-2 c = made_fit (PutSupervisor c.args.code c.args.label c.args.quota) (state_of c.self.inside) c.args.self.now c.self.view_is c.requires.allowed c.self.invariant _ (after c)
 
+-- whether the code is known
+known_is : (c : goal.In_ok-put) → c.is_some-known.result ≡ has_supervisor c.args.self.now c.args.code
+known_is c =
+    c.is_some-known.ensures ∙ lent_is_there c.by_code.result ∙ ap is_some c.by_code.ensures
+    ∙ (λ i. let o : State = c.self.view_is i in has_supervisor o (c.as_str.ensures i))
+
+pub returns-clause-changes : goal.returns-clause-changes
+returns-clause-changes c = c.in_ok-supervisor.ensures.changes ∙ ap (λ (b : Bool). put_or_added b (row.Supervisor c.args.code c.args.label c.args.quota) ∷ []) (known_is c)
+
 pub returns-clause-ok : goal.returns-clause-ok
-returns-clause-ok c = made_done (PutSupervisor c.args.code c.args.label c.args.quota) (state_of c.self.inside) c.args.self.now c.self.view_is c.requires.allowed c.self.invariant _ (after c) _ refl c.in_ok-supervisor.ensures.changes
+returns-clause-ok c = made_done (PutSupervisor c.args.code c.args.label c.args.quota) (state_of c.self.inside) c.args.self.now c.self.view_is c.requires.allowed c.self.invariant _ (after c) _ refl (returns-clause-changes c)
