@@ -1,5 +1,5 @@
 pub mod Windows
-pub mod Window
+pub mod WholeStream
 pub mod Unique
 pub mod Known
 pub mod ReaderEnd

@@ -158,3 +158,14 @@ pub last_written : (r : Result Served StreamFault) (new before old : ℕ) → be
     → new ≡ old + write_failed r
 last_written (Ok s) new before old h e ok err = ok ∙ h ∙ sym (add-zero old)
 last_written (Err f) new before old h e ok err = fault_counts (λ k. write_failed {A = Served} (Err k)) f Write new old e (err ∙ ap (λ (n : ℕ). n + 1) h)
+
+-- a fault is counted the same whatever else the result could be
+pub same_write : (A B : Type 0) (fault : StreamFault) (new old start : ℕ) → new ≡ old + write_failed {A = A} (Err fault) → old ≡ start → new ≡ start + write_failed {A = B} (Err fault)
+same_write A B Memory new old start e h = cc
+same_write A B Read new old start e h = cc
+same_write A B Write new old start e h = cc
+
+pub same_read : (A B : Type 0) (fault : StreamFault) (new old start : ℕ) → new ≡ old + read_failed {A = A} (Err fault) → old ≡ start → new ≡ start + read_failed {A = B} (Err fault)
+same_read A B Memory new old start e h = cc
+same_read A B Read new old start e h = cc
+same_read A B Write new old start e h = cc

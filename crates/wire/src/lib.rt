@@ -10,7 +10,6 @@
 //! `specs/Run.antt` and `specs/Served.antt`.
 #![tactic(auto)]
 
-mod buffer;
 mod ending;
 mod endpoints;
 mod fields;
@@ -19,6 +18,7 @@ mod handling;
 mod laws;
 mod outcome;
 mod service;
+mod window;
 mod writing;
 
 pub use endpoints::{Sink, Source, Watched};

@@ -1,5 +1,5 @@
 //! The service of a stream.
-ghost use Rattle.std.specs.Prelude.{◌≡◌, ◌≢◌, false, ℕ, ◌+◌, ◌-◌, ◌^◌, ◌<◌, ◌≤◌, List, Option, [], ◌++◌, length, take, drop, vec_len, vec_capacity, IfOk, OnOk, OnErr, IfErr, IfSome, IfNone};
+ghost use Rattle.std.specs.Prelude.{◌≡◌, ◌≢◌, false, ℕ, ◌+◌, ◌-◌, ◌^◌, ◌<◌, List, Option, [], ◌++◌, length, take, drop, IfOk, OnOk, OnErr, IfErr, IfSome, IfNone};
 ghost use Rattle.std.specs.Io.KnownBytes.{Appends};
 ghost use Rattle.httparse.specs.Spans.{IsWithin};
 ghost use Rattle.wire.specs.Messages.{Message, Stops};
@@ -10,15 +10,14 @@ ghost use Rattle.wire.specs.Answers.{answer_bytes};
 ghost use Rattle.wire.specs.Inside.Served.{SoFar, GoesOn, BreaksOff};
 ghost use Rattle.wire.specs.Served.{BrokeOff, ServedTo};
 
-use crate::buffer::{Next, drop_front, empty, read_next};
+use crate::MOST_MESSAGES;
 use crate::ending::finish;
 use crate::endpoints::{Sink, Source};
-use crate::front::{FIELDS, Front, Parts};
+use crate::front::{Front, Parts};
 use crate::handling::{Answer, Handler};
 use crate::outcome::{End, Served, StreamFault};
+use crate::window::{Next, Window};
 use crate::writing::write_all;
-use crate::{MOST_MESSAGE_BYTES, MOST_MESSAGES};
-use httparse::spans::{EMPTY_HEADER_SPAN, HeaderSpan};
 use std::alloc::Global;
 
 /// Asks the desk for the answer to the message at the front.
@@ -39,25 +38,22 @@ fn serve_one<D, H: Handler<D>, W: Sink>(
     handler: &H,
     desk: &mut D,
     writer: &mut W,
-    buffer: &mut Vec<u8>,
+    window: &mut Window,
     parts: Parts,
 ) -> Result<(), StreamFault>
     requires failures { W.failures writer.old < 2 ^ 64 - 1 }
-    requires parts { Judges buffer.old.items (Front.Whole parts) }
-    ensures ok { OnOk result ((a : List ℕ) × H.step desk.old (said_at buffer.old.items parts) a desk.new
+    requires parts { Judges window.old (Front.Whole parts) }
+    ensures ok { OnOk result ((a : List ℕ) × H.step desk.old (said_at window.old parts) a desk.new
         × Appends (W.written writer.old) (W.written writer.new) a) }
-    ensures err { OnErr result ((a : List ℕ) × H.step desk.old (said_at buffer.old.items parts) a desk.new
+    ensures err { OnErr result ((a : List ℕ) × H.step desk.old (said_at window.old parts) a desk.new
         × (n : ℕ) × (n < length a) × Appends (W.written writer.old) (W.written writer.new) (take n a)) }
-    ensures taken { OnOk result (buffer.new.items ≡ drop (parts.head + parts.body) buffer.old.items) }
-    ensures capacity { vec_capacity buffer.new ≡ vec_capacity buffer.old }
-    ensures size { vec_len buffer.new ≤ vec_len buffer.old }
+    ensures taken { OnOk result (window.new ≡ drop (parts.head + parts.body) window.old) }
     ensures fault { IfErr result (λ e. e ≡ StreamFault.Write) }
-    ensures count_ok { OnOk result (W.failures writer.new ≡ W.failures writer.old) }
-    ensures count_err { OnErr result (W.failures writer.new ≡ W.failures writer.old + 1) }
+    ensures count { W.failures writer.new ≡ W.failures writer.old + write_failed result }
 {
-    let answer = ask(handler, desk, buffer.as_slice(), parts);
+    let answer = ask(handler, desk, window.bytes(), parts);
     write_all(writer, answer.as_slice())?;
-    drop_front(buffer, parts.head + parts.body);
+    window.drop_front(parts.head + parts.body);
     Ok(())
 }
 
@@ -67,38 +63,30 @@ fn turn<D, H: Handler<D>, R: Source, W: Sink>(
     desk: &mut D,
     reader: &mut R,
     writer: &mut W,
-    buffer: &mut Vec<u8>,
-    headers: &mut [HeaderSpan],
+    window: &mut Window,
 ) -> Result<Option<End>, StreamFault>
     requires read_failures { R.failures reader.old < 2 ^ 64 - 1 }
     requires open { R.ended reader.old ≡ false }
     requires write_failures { W.failures writer.old < 2 ^ 64 - 1 }
-    requires capacity { MOST_MESSAGE_BYTES ≤ vec_capacity buffer.old }
-    requires size { vec_len buffer.old ≤ MOST_MESSAGE_BYTES }
-    requires fields { length headers.old ≡ FIELDS }
-    ensures answers { IfOk result (λ o. IfNone o (GoesOn H.step
-        (R.left reader.old) (W.written writer.old) buffer.old.items desk.old
-        (R.left reader.new) (W.written writer.new) buffer.new.items desk.new 1)) }
-    ensures open { IfOk result (λ o. IfNone o (R.ended reader.new ≡ false)) }
+    ensures answers { IfOk result (λ o. IfNone o ((R.ended reader.new ≡ false) × GoesOn H.step
+        (R.left reader.old) (W.written writer.old) window.old desk.old
+        (R.left reader.new) (W.written writer.new) window.new desk.new 1)) }
     ensures ends { IfOk result (λ o. IfSome o (λ end.
-        Stops (buffer.new.items ++ unread (R.left reader.new)) end
+        Stops (window.new ++ unread (R.left reader.new)) end
         × GoesOn H.step
-        (R.left reader.old) (W.written writer.old) buffer.old.items desk.old
-        (R.left reader.new) (W.written writer.new) buffer.new.items desk.new 0)) }
-    ensures breaks { IfErr result (λ fault. BreaksOff H.step H.refusal
-        (R.left reader.old) (W.written writer.old) buffer.old.items desk.old
+        (R.left reader.old) (W.written writer.old) window.old desk.old
+        (R.left reader.new) (W.written writer.new) window.new desk.new 0)) }
+    ensures breaks { IfErr result (λ fault. (fault ≢ StreamFault.Memory) × BreaksOff H.step H.refusal
+        (R.left reader.old) (W.written writer.old) window.old desk.old
         (R.left reader.new) (W.written writer.new) desk.new fault) }
-    ensures size { OnOk result (vec_len buffer.new ≤ MOST_MESSAGE_BYTES) }
-    ensures capacity { OnOk result (MOST_MESSAGE_BYTES ≤ vec_capacity buffer.new) }
-    ensures fault { IfErr result (λ fault. fault ≢ StreamFault.Memory) }
     ensures read_count { R.failures reader.new ≡ R.failures reader.old + read_failed result }
     ensures write_count { W.failures writer.new ≡ W.failures writer.old + write_failed result }
 {
-    match read_next(reader, buffer, headers) {
+    match window.read_next(reader) {
         Err(fault) => Err(fault),
         Ok(found) => match found {
             Next::Ends(end) => Ok(Some(end)),
-            Next::Message(parts) => match serve_one(handler, desk, writer, buffer, parts) {
+            Next::Message(parts) => match serve_one(handler, desk, writer, window, parts) {
                 Err(fault) => Err(fault),
                 Ok(()) => Ok(None),
             },
@@ -112,25 +100,21 @@ fn serve_hundred<D, H: Handler<D>, R: Source, W: Sink>(
     desk: &mut D,
     reader: &mut R,
     writer: &mut W,
-    buffer: &mut Vec<u8>,
-    headers: &mut [HeaderSpan],
+    window: &mut Window,
 ) -> Result<Served, StreamFault>
     requires read_failures { R.failures reader.old < 2 ^ 64 - 1 }
     requires open { R.ended reader.old ≡ false }
     requires write_failures { W.failures writer.old < 2 ^ 64 - 1 }
-    requires capacity { MOST_MESSAGE_BYTES ≤ vec_capacity buffer.old }
-    requires empty { buffer.old.items ≡ [] }
-    requires fields { length headers.old ≡ FIELDS }
+    requires empty { window.old ≡ [] }
     ensures served { IfOk result (λ served. ServedTo H.step H.refusal desk.old (R.left reader.old) (W.written writer.old)
         (R.left reader.new) (W.written writer.new) served desk.new) }
-    ensures broken { IfErr result (λ fault. BrokeOff H.step H.refusal desk.old (R.left reader.old) (W.written writer.old)
-        (R.left reader.new) (W.written writer.new) desk.new fault) }
-    ensures fault { IfErr result (λ fault. fault ≢ StreamFault.Memory) }
+    ensures broken { IfErr result (λ fault. (fault ≢ StreamFault.Memory) × BrokeOff H.step H.refusal desk.old (R.left reader.old)
+        (W.written writer.old) (R.left reader.new) (W.written writer.new) desk.new fault) }
     ensures read_count { R.failures reader.new ≡ R.failures reader.old + read_failed result }
     ensures write_count { W.failures writer.new ≡ W.failures writer.old + write_failed result }
 {
     for answered in 0..MOST_MESSAGES {
-        match turn(handler, desk, reader, writer, buffer, headers) {
+        match turn(handler, desk, reader, writer, window) {
             Err(fault) => return Err(fault),
             Ok(found) => {
                 if let Some(end) = found {
@@ -169,11 +153,8 @@ pub fn serve_messages<D, H: Handler<D>, R: Source, W: Sink>(
     ensures read_count { R.failures reader.new ≡ R.failures reader.old + read_failed result }
     ensures write_count { W.failures writer.new ≡ W.failures writer.old + write_failed result }
 {
-    let Ok(mut buffer) = empty(alloc) else {
+    let Ok(mut window) = Window::new(alloc) else {
         return Err(StreamFault::Memory);
     };
-    let Ok(mut headers) = Vec::from_elem(alloc, EMPTY_HEADER_SPAN, FIELDS) else {
-        return Err(StreamFault::Memory);
-    };
-    serve_hundred(handler, desk, reader, writer, &mut buffer, &mut headers)
+    serve_hundred(handler, desk, reader, writer, &mut window)
 }

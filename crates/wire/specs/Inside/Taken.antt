@@ -4,8 +4,8 @@ use Rattle.std.specs.Io.KnownBytes.{Consumes, IsAtEnd}
 use Rattle.wire.specs.declared.front.Front.TheVariants.{Whole}
 use Rattle.wire.specs.Messages.{Stops}
 use Rattle.wire.specs.Inside.Judged.{Judges}
-use Rattle.wire.specs.declared.buffer.Next.{Next}
-use Rattle.wire.specs.declared.buffer.Next.TheVariants.{Message, Ends}
+use Rattle.wire.specs.declared.window.Next.{Next}
+use Rattle.wire.specs.declared.window.Next.TheVariants.{Message, Ends}
 use Rattle.wire.specs.Run.{unread}
 
 -- the bytes came from the reader to the end of the buffer

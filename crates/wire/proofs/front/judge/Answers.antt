@@ -11,7 +11,7 @@ use Rattle.wire.specs.declared.front.Head.TheVariants.{Found, Malformed, Missing
 use Rattle.wire.specs.declared.front.Front.TheVariants.{Whole, Open}
 use Rattle.wire.specs.Messages.{window, HeadFramed, framing_of}
 use Rattle.wire.specs.Inside.Judged.{FindsHead, Judges}
-use Rattle.wire.proofs.Window.{framing_read, framed_stays, whole_message, cut_message, open_message, long_message, malformed_message}
+use Rattle.wire.proofs.WholeStream.{framing_read, framed_stays, whole_message, cut_message, open_message, long_message, malformed_message}
 use Rattle.wire.proofs.front.judge.Goals as goal
 
 -- the code's window is the stream's

@@ -1,16 +1,15 @@
-use Rattle.std.proofs.Common.{◌≡◌, ◌<◌, ◌≤◌, ℕ, ◌+◌, ◌-◌, ◌^◌, List, [], Option, Some, IfSome, Err, refl, sym, subst, arith, vec_len, ap, length}
-use Rattle.wire.specs.declared.TheConstants.{MOST_MESSAGE_BYTES, MOST_MESSAGES}
+use Rattle.std.proofs.Common.{◌≡◌, ◌<◌, ℕ, ◌+◌, ◌-◌, ◌^◌, List, [], Option, Some, IfSome, Result, Ok, Err, IfErr, refl, sym, subst, arith}
+use Rattle.wire.specs.declared.TheConstants.{MOST_MESSAGES}
 use Rattle.wire.specs.declared.outcome.End.{End}
 use Rattle.wire.specs.declared.outcome.End.TheVariants.{Hundred}
 use Rattle.wire.specs.declared.outcome.StreamFault.{StreamFault}
-use Rattle.wire.specs.declared.outcome.StreamFault.TheVariants.{Memory, Read, Write}
 use Rattle.wire.specs.declared.outcome.Served.{Served}
-use Rattle.wire.specs.Run.{Said, read_failed, write_failed}
+use Rattle.wire.specs.Run.{Said}
 use Rattle.wire.specs.Inside.Served.{SoFar}
 use Rattle.wire.specs.Served.{ServedTo}
 use Rattle.wire.proofs.Runs.{nothing_yet, hundred_here}
 use Rattle.wire.proofs.ReaderEnd.{at_none}
-use Rattle.wire.proofs.Turns.{last_no_memory, last_read, last_written, finished, unfinished}
+use Rattle.wire.proofs.Turns.{same_read, same_write, last_no_memory, last_read, last_written, finished, unfinished}
 use Rattle.wire.proofs.service.serve_hundred.Goals as goal
 
 -- at first nothing was read, asked or written
@@ -18,15 +17,9 @@ starts : {S : Type 0} (step : S → Said → List ℕ → S → Type 0) (before 
     → SoFar step before left w left w rest 0 before
 starts step before left w rest e = subst (λ (t : List ℕ). SoFar step before left w left w t 0 before) (sym e) (nothing_yet step before left w)
 
--- an empty buffer is within its limit
-short : (xs : List ℕ) (n : ℕ) → length xs ≡ n → xs ≡ [] → n ≤ MOST_MESSAGE_BYTES
-short xs n l e = let z = ap length e in omega arith
-
 pub loop-answered-init : goal.loop-answered-init
 loop-answered-init g c = record {
-  so_far = starts g.H.Handler.step c.args.desk.now (g.R.Source.left c.args.reader.now) (g.W.Sink.written c.args.writer.now) c.args.buffer.now.items c.requires.empty;
-  size = short c.args.buffer.now.items (vec_len c.args.buffer.now) (omega (arith, c.args.buffer.now.ok.0)) c.requires.empty;
-  capacity = c.requires.capacity;
+  so_far = starts g.H.Handler.step c.args.desk.now (g.R.Source.left c.args.reader.now) (g.W.Sink.written c.args.writer.now) c.args.window.now c.requires.empty;
   reads = refl;
   goes_on = c.requires.open;
   writes = refl;
@@ -35,24 +28,15 @@ loop-answered-init g c = record {
 pub turn-requires-clause-write_failures : goal.turn-requires-clause-write_failures
 turn-requires-clause-write_failures g c = subst (λ (n : ℕ). n < 2 ^ 64 - 1) (sym c.loop-answered.invariant.writes) c.requires.write_failures
 
--- a fault is counted the same whatever else the result could be
-counted : (A B : Type 0) (fault : StreamFault) (new old start : ℕ) → new ≡ old + write_failed {A = A} (Err fault) → old ≡ start → new ≡ start + write_failed {A = B} (Err fault)
-counted A B Memory new old start e h = cc
-counted A B Read new old start e h = cc
-counted A B Write new old start e h = cc
-
-counted_read : (A B : Type 0) (fault : StreamFault) (new old start : ℕ) → new ≡ old + read_failed {A = A} (Err fault) → old ≡ start → new ≡ start + read_failed {A = B} (Err fault)
-counted_read A B Memory new old start e h = cc
-counted_read A B Read new old start e h = cc
-counted_read A B Write new old start e h = cc
-
 pub returns-in-Err-clause-write_count : goal.returns-in-Err-clause-write_count
-returns-in-Err-clause-write_count g c = counted (Option End) Served c.in-Err.fault _ _ _ c.in-Err.ensures.write_count c.loop-answered.invariant.writes
+returns-in-Err-clause-write_count g c = same_write (Option End) Served c.in-Err.fault _ _ _ c.in-Err.ensures.write_count c.loop-answered.invariant.writes
 
 pub returns-in-Err-clause-broken : goal.returns-in-Err-clause-broken
-returns-in-Err-clause-broken g c =
-    c.in-Err.ensures.breaks c.args.desk.now (g.R.Source.left c.args.reader.now) (g.W.Sink.written c.args.writer.now) c.loop-answered.answered
-    c.loop-answered.invariant.so_far c.loop-answered-test.true
+returns-in-Err-clause-broken g c = (
+  c.in-Err.ensures.breaks.0,
+  c.in-Err.ensures.breaks.1 c.args.desk.now (g.R.Source.left c.args.reader.now) (g.W.Sink.written c.args.writer.now) c.loop-answered.answered
+      c.loop-answered.invariant.so_far c.loop-answered-test.true,
+)
 
 -- what is said of an end that was found
 at_end : (P : End → Type 0) (found : Option End) (end : End) → found ≡ Some end → IfSome found P → P end
@@ -63,18 +47,24 @@ returns-in-Some-clause-served g c =
     finished g.H.Handler.step g.H.Handler.refusal c.args.desk.now c.turn.new.desk c.loop-answered.desk (g.R.Source.left c.args.reader.now) (g.W.Sink.written c.args.writer.now)
     (g.R.Source.left c.loop-answered.reader) (g.R.Source.left c.turn.new.reader) (g.W.Sink.written c.loop-answered.writer) (g.W.Sink.written c.turn.new.writer)
     (g.W.Sink.written c.finish.new.writer)
-    c.loop-answered.buffer.items c.turn.new.buffer.items c.loop-answered.answered c.in-Some.end c.finish.result
+    c.loop-answered.window c.turn.new.window c.loop-answered.answered c.in-Some.end c.finish.result
     c.loop-answered.invariant.so_far c.loop-answered-test.true
     (at_end _ c.in-Ok.found c.in-Some.end c.in-Some.is c.in-Ok.ensures.ends) c.finish.ensures.ok c.finish.ensures.wrote
 
+-- two things said of a fault
+both : (P Q : StreamFault → Type 0) (r : Result Served StreamFault) → IfErr r P → IfErr r Q → IfErr r (λ f. P f × Q f)
+both P Q (Ok s) p q = tt
+both P Q (Err f) p q = (p, q)
+
 pub returns-in-Some-clause-broken : goal.returns-in-Some-clause-broken
 returns-in-Some-clause-broken g c =
-    unfinished g.H.Handler.step g.H.Handler.refusal c.args.desk.now c.turn.new.desk c.loop-answered.desk (g.R.Source.left c.args.reader.now) (g.W.Sink.written c.args.writer.now)
+    both _ _ c.finish.result (last_no_memory c.finish.result c.finish.ensures.fault)
+    (unfinished g.H.Handler.step g.H.Handler.refusal c.args.desk.now c.turn.new.desk c.loop-answered.desk (g.R.Source.left c.args.reader.now) (g.W.Sink.written c.args.writer.now)
     (g.R.Source.left c.loop-answered.reader) (g.R.Source.left c.turn.new.reader) (g.W.Sink.written c.loop-answered.writer) (g.W.Sink.written c.turn.new.writer)
     (g.W.Sink.written c.finish.new.writer)
-    c.loop-answered.buffer.items c.turn.new.buffer.items c.loop-answered.answered c.in-Some.end c.finish.result
+    c.loop-answered.window c.turn.new.window c.loop-answered.answered c.in-Some.end c.finish.result
     c.loop-answered.invariant.so_far c.loop-answered-test.true
-    (at_end _ c.in-Ok.found c.in-Some.end c.in-Some.is c.in-Ok.ensures.ends) c.finish.ensures.fault c.finish.ensures.err
+    (at_end _ c.in-Ok.found c.in-Some.end c.in-Some.is c.in-Ok.ensures.ends) c.finish.ensures.fault c.finish.ensures.err)
 
 -- a hundred messages were answered
 hundred : {S : Type 0} (step : S → Said → List ℕ → S → Type 0) (refusal : End → List ℕ) (before now : S) (left0 w0 left w : Option (List ℕ)) (rest : List ℕ) (count : ℕ)
@@ -85,7 +75,7 @@ hundred step refusal before now left0 w0 left w rest count so e =
 pub returns-clause-served : goal.returns-clause-served
 returns-clause-served g c =
     hundred g.H.Handler.step g.H.Handler.refusal c.args.desk.now c.loop-answered.desk (g.R.Source.left c.args.reader.now) (g.W.Sink.written c.args.writer.now)
-    (g.R.Source.left c.loop-answered.reader) (g.W.Sink.written c.loop-answered.writer) c.loop-answered.buffer.items c.loop-answered.answered
+    (g.R.Source.left c.loop-answered.reader) (g.W.Sink.written c.loop-answered.writer) c.loop-answered.window c.loop-answered.answered
     c.loop-answered.invariant.so_far (omega (arith, c.loop-answered-test.false))
 
 pub finish-requires-clause-few : goal.finish-requires-clause-few
@@ -97,11 +87,9 @@ stays new old start e h = omega arith
 
 pub loop-answered-preserved : goal.loop-answered-preserved
 loop-answered-preserved g c = record {
-  so_far = at_none _ c.in-Ok.found c.in_default.is c.in-Ok.ensures.answers c.args.desk.now (g.R.Source.left c.args.reader.now) (g.W.Sink.written c.args.writer.now)
+  so_far = (at_none _ c.in-Ok.found c.in_default.is c.in-Ok.ensures.answers).1 c.args.desk.now (g.R.Source.left c.args.reader.now) (g.W.Sink.written c.args.writer.now)
       c.loop-answered.answered c.loop-answered.invariant.so_far;
-  size = c.in-Ok.ensures.size;
-  capacity = c.in-Ok.ensures.capacity;
-  goes_on = at_none _ c.in-Ok.found c.in_default.is c.in-Ok.ensures.open;
+  goes_on = (at_none _ c.in-Ok.found c.in_default.is c.in-Ok.ensures.answers).0;
   reads = stays _ _ _ c.in-Ok.ensures.read_count c.loop-answered.invariant.reads;
   writes = stays _ _ _ c.in-Ok.ensures.write_count c.loop-answered.invariant.writes;
 }
@@ -113,18 +101,12 @@ pub finish-requires-clause-failures : goal.finish-requires-clause-failures
 finish-requires-clause-failures g c =
     subst (λ (n : ℕ). n < 2 ^ 64 - 1) (sym (stays _ _ _ c.in-Ok.ensures.write_count c.loop-answered.invariant.writes)) c.requires.write_failures
 
-pub returns-in-Err-clause-fault : goal.returns-in-Err-clause-fault
-returns-in-Err-clause-fault g c = c.in-Err.ensures.fault
-
 pub returns-in-Some-clause-write_count : goal.returns-in-Some-clause-write_count
 returns-in-Some-clause-write_count g c =
     last_written c.finish.result _ _ _ (stays _ _ _ c.in-Ok.ensures.write_count c.loop-answered.invariant.writes) c.finish.ensures.fault c.finish.ensures.count_ok c.finish.ensures.count_err
 
 pub returns-in-Err-clause-read_count : goal.returns-in-Err-clause-read_count
-returns-in-Err-clause-read_count g c = counted_read (Option End) Served c.in-Err.fault _ _ _ c.in-Err.ensures.read_count c.loop-answered.invariant.reads
-
-pub returns-in-Some-clause-fault : goal.returns-in-Some-clause-fault
-returns-in-Some-clause-fault g c = last_no_memory c.finish.result c.finish.ensures.fault
+returns-in-Err-clause-read_count g c = same_read (Option End) Served c.in-Err.fault _ _ _ c.in-Err.ensures.read_count c.loop-answered.invariant.reads
 
 pub returns-in-Some-clause-read_count : goal.returns-in-Some-clause-read_count
 returns-in-Some-clause-read_count g c = last_read c.finish.result _ _ (stays _ _ _ c.in-Ok.ensures.read_count c.loop-answered.invariant.reads) c.finish.ensures.fault
