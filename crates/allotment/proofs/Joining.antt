@@ -1,6 +1,6 @@
 -- A student who puts a first list is one more in the round's instance: with the student's code and list at its end, an instance by
 -- positions that was of the round before is of the round after.
-use Rattle.std.proofs.Common.{◌≡◌, ◌≢◌, ℕ, zero, suc, ◌+◌, ◌<◌, ◌≤◌, inl, inr, Bool, true, false, cond, List, [], ◌∷◌, ◌++◌, length, map, slice_get, find, Option, Some, None, is_some, option_map, All, AllPairs, refl, sym, ap, subst, ◌∙◌, arith, length-append}
+use Rattle.std.proofs.Common.{◌≡◌, ◌≢◌, ℕ, zero, suc, ◌+◌, ◌<◌, ◌≤◌, inl, inr, Bool, true, false, cond, List, [], ◌∷◌, ◌++◌, length, map, slice_get, find, Option, Some, None, is_some, IsSome, option_map, All, AllPairs, refl, sym, ap, subst, ◌∙◌, arith, length-append}
 use Rattle.std.specs.Option.{option_map_or, option_or}
 use Rattle.std.specs.Str.{bytes_eq}
 use Rattle.std.proofs.lemmas.Bool.{cases_Bool, cases_lt}
@@ -245,6 +245,10 @@ module _ (o n : State) (student : List ℕ) (first : IsFirstList o student n) (o
           ∙ ap (λ (choices : List (List ℕ)). (instance_of i).students ++ record { code = student; list = choices } ∷ []) own_named))
           (joined_round (instance_of i) same);
     }
+
+-- a student who may join the session has a list in the round
+pub joins_listed : (n : State) (sitting : Sitting) (student : List ℕ) → MayJoin n sitting student → IsSome (list_of n (last_round n) student)
+joins_listed n sitting student joins = ap (λ (x : Option Listed). is_some x) (found_own joins.before n student joins.put joins.sat.is_open)
 
 module _ (n : State) (sitting : Sitting) (student : List ℕ) (joins : MayJoin n sitting student) (fit : IsFit n) (few : length (lists_of n (last_round n)) ≤ MOST_STUDENTS) (list : List ℕ) (ranking : IsRanking (project_codes (round_instance n)) (choices_in n (last_round n) student) list) where
   -- the list of a student who may join the session may be admitted

@@ -1,11 +1,11 @@
 //! The session of the open round.
 
-ghost use Rattle.std.specs.Prelude.{◌≡◌, ◌<◌, ◌≤◌, Contains, All, length, map, IfOk, OnOk, OnErr, IsTrue};
+ghost use Rattle.std.specs.Prelude.{◌≡◌, ◌<◌, ◌≤◌, Contains, All, length, map, IsSome, IfOk, OnOk, OnErr, IsTrue};
 ghost use Rattle.spa.specs.Codes.{code_at};
 ghost use Rattle.spa.specs.Named.{IsFit};
 ghost use Rattle.spa.specs.Inside.Made.{IsRanking};
 ghost use Rattle.spa.specs.Instance.{project_codes};
-ghost use Rattle.rolls.specs.State.{State, last_round, round_is_open, choices_in};
+ghost use Rattle.rolls.specs.State.{State, last_round, list_of, round_is_open, choices_in};
 ghost use Rattle.rolls.specs.Instances.{round_instance};
 ghost use Rattle.rolls.specs.Run.{Makes};
 ghost use Rattle.rolls.specs.declared.request.Request.TheVariants as request;
@@ -93,14 +93,15 @@ fn positions_of(
     Ok(positions)
 }
 
-/// The projects, by position, that a student lists in the last round.
+/// The projects, by position, of a student's list in the last round.
 fn list_of(alloc: Global, office: &Office, student: &str) -> Result<Vec<usize>, AllocError>
+    requires listed { IsSome (list_of office.now (last_round office.now) student.now) }
     ensures ranking { IfOk result (λ v. IsRanking (project_codes (round_instance office.now)) (choices_in office.now (last_round office.now) student.now) v.items) }
 {
     office.fit();
     match office.list_of(office.last_round(), student) {
         Some(listed) => positions_of(alloc, office.projects(), listed.choices.as_slice()),
-        None => Ok(Vec::new(alloc)),
+        None => unreachable!(),
     }
 }
 

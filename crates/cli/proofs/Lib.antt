@@ -1,2 +1,3 @@
 mod Anew
+mod Opened
 mod Telling

@@ -29,9 +29,8 @@ abbrev pub TakesTo : Task → State → State → Type 0
 TakesTo (task.Ask asked) before after = (answer : Result Reply Refusal) × Step layers before asked answer after
 TakesTo (task.Serve port count) before after = (came : List (Result Served StreamFault)) × Connect before came after
 
--- the tables stand for what a task makes of a fit office
-pub record StandsAfter (done : Task) (seen : Seen) : Type 0 where
-  pub before : State
+-- the tables stand for what a task makes of this office, which is fit
+pub record StandsAfter (done : Task) (before : State) (seen : Seen) : Type 0 where
   pub fit : IsFit before
   pub after : State
   pub taken : TakesTo done before after
@@ -39,7 +38,7 @@ pub record StandsAfter (done : Task) (seen : Seen) : Type 0 where
 
 -- what a task with this status leaves of a database: where no office was opened, the status is 1
 abbrev pub LeftBy : Task → ℕ → Seen → Type 0
-LeftBy done status seen = StandsAfter done seen ⊎ (status ≡ 1)
+LeftBy done status seen = ((before : State) × StandsAfter done before seen) ⊎ (status ≡ 1)
 
 -- What comes of closing a database file: the last commit is in the file alone, or there was no memory or the disk failed, and the two
 -- files hold it as before.

@@ -1,7 +1,9 @@
 -- What a line of the program comes to: what it prints where, and its status.
-use Rattle.std.specs.Prelude.{◌≡◌, ◌⊎◌, ℕ, ◌+◌, ◌<◌, List, [], ◌∷◌, ◌++◌, length, take, flat_map, codes, decimal, string_bytes, Option, Result, Ok, Err, String}
+use Rattle.std.specs.Prelude.{◌≡◌, ◌≢◌, ◌⊎◌, ℕ, ◌+◌, ◌<◌, ◌≤◌, List, [], ◌∷◌, ◌++◌, length, take, flat_map, codes, decimal, string_bytes, Option, Result, Ok, Err, String}
 use Rattle.std.specs.declared.alloc.Global.{Global}
 use Rattle.std.specs.Io.KnownBytes.{Appends}
+use Rattle.std.specs.declared.io.ErrorKind.{ErrorKind}
+use Rattle.std.specs.declared.io.ErrorKind.TheVariants as kinds
 use Rattle.rolls.specs.declared.import.ImportKind.{ImportKind}
 use Rattle.rolls.specs.declared.refusal.Refusal.{Refusal}
 use Rattle.rolls.specs.declared.refusal.Refusal.TheVariants as no
@@ -105,20 +107,13 @@ OnFile Is o = IsUnread o ⊎ ((bytes : List ℕ) × (came : Result (String Globa
 abbrev pub IsUnopened : Outcome → Type 0
 IsUnopened o = (o ≡ refused no.Memory) ⊎ ((o ≡ refused no.Storage) ⊎ (o ≡ refused no.Damaged))
 
--- A request was asked of an office, which is fit, and this is what comes of the answer. A refusal by name is told as itself, and a fault of
--- the storage only of what changes the office.
-pub record IsAsked (asked : Request) (o : Outcome) : Type 0 where
-  pub office : State
-  pub fit : IsFit office
+-- A request was asked of an office, and this is what comes of the answer. A refusal by name is told as itself, and a fault of the storage only
+-- of what changes the office.
+pub record IsAsked (asked : Request) (before after : State) (o : Outcome) : Type 0 where
   pub answer : Result Reply Refusal
-  pub next : State
-  pub step : Step layers office asked answer next
-  pub told : IsToldRight office asked answer
+  pub step : Step layers before asked answer after
+  pub told : IsToldRight before asked answer
   pub is : o ≡ of_answer answer
-
--- a line that asks this of the office of a database
-abbrev pub Asks : Request → Outcome → Type 0
-Asks asked o = IsUnopened o ⊎ IsAsked asked o
 
 -- the line that is printed once a port is bound
 abbrev pub listening : ℕ → List ℕ
@@ -128,18 +123,21 @@ listening port = codes "listening " ++ decimal port ++ 10 ∷ []
 abbrev pub no_port : ℕ → List ℕ
 no_port port = codes "no port " ++ decimal port ++ 10 ∷ []
 
--- so many connections were served at this office
-pub record IsServed (office : State) (port count : ℕ) (text : List ℕ) : Type 0 where
+-- so many connections were served at an office
+pub record IsServed (port count : ℕ) (before after : State) (o : Outcome) : Type 0 where
   pub came : List (Result Served StreamFault)
   pub counted : length came ≡ count
-  pub next : State
-  pub served : Connect office came next
-  pub is : text ≡ listening port ++ lines_after 0 came
+  pub served : Connect before came after
+  pub is : o ≡ prints (listening port ++ lines_after 0 came)
 
--- so many connections were served at this office and the lines of all were written, or the writer failed
-abbrev pub Serves : State → ℕ → ℕ → Option (List ℕ) → Option (List ℕ) → ℕ → ℕ → ℕ → Type 0
-Serves office port count w0 w failures0 failures status =
-    ((text : List ℕ) × IsServed office port count text × (failures ≡ failures0) × Appends w0 w text × (status ≡ 0))
+-- the port could not be bound, and the office stays
+abbrev pub IsUnbound : ℕ → State → State → Outcome → Type 0
+IsUnbound port before after o = (after ≡ before) × (o ≡ tells 1 (no_port port))
+
+-- so many connections were served at an office and the lines of all were written, or the writer failed
+abbrev pub Serves : ℕ → ℕ → State → State → Option (List ℕ) → Option (List ℕ) → ℕ → ℕ → ℕ → Type 0
+Serves port count before after w0 w failures0 failures status =
+    ((o : Outcome) × IsServed port count before after o × (failures ≡ failures0) × Appends w0 w o.out × (status ≡ 0))
     ⊎ ((failures ≡ failures0 + 1) × (status ≡ 1))
 
 -- The writer failed while it wrote the line of the port, and no connection was served, or after it, while it wrote the line of a connection.
@@ -148,33 +146,33 @@ IsCutOff office port count w0 w after =
     ((n : ℕ) × (n < length (listening port)) × Appends w0 w (take n (listening port)) × (after ≡ office))
     ⊎ ((between : Option (List ℕ)) × Appends w0 between (listening port) × SomeServed office count between w after)
 
--- a line that serves so many connections: the database could not be opened, or the port not bound, or they were served at a fit office
-abbrev pub ServesAt : ℕ → ℕ → Outcome → Type 0
-ServesAt port count o =
-    IsUnopened o ⊎ ((o ≡ tells 1 (no_port port)) ⊎ ((office : State) × IsFit office × (text : List ℕ) × IsServed office port count text × (o ≡ prints text)))
+-- what a task comes to at an office that is open, and the office after it
+abbrev pub ComesOf : Task → State → State → Outcome → Type 0
+ComesOf (task.Ask asked) before after o = IsAsked asked before after o
+ComesOf (task.Serve port count) before after o = IsUnbound port before after o ⊎ IsServed port count before after o
 
--- a line that imports these bytes: there are too many, or what comes of the import
+-- what a task at a database may come to: it could not be opened, or what the task comes to at a fit office
+abbrev pub MayDo : Task → Outcome → Type 0
+MayDo task o = IsUnopened o ⊎ ((before : State) × IsFit before × (after : State) × ComesOf task before after o)
+
+-- a line that imports these bytes: there are too many, or no memory, or what comes of the import
 abbrev pub Imports : List ℕ → ImportKind → List ℕ → Outcome → Type 0
 Imports id kind bytes o =
-    ((MOST_IMPORT_BYTES < length bytes) × (o ≡ refused no.TooLarge)) ⊎ ((o ≡ refused no.Memory) ⊎ Asks (request.Import id kind bytes) o)
+    ((MOST_IMPORT_BYTES < length bytes) × (o ≡ refused no.TooLarge))
+    ⊎ ((length bytes ≤ MOST_IMPORT_BYTES) × ((o ≡ refused no.Memory) ⊎ MayDo (task.Ask (request.Import id kind bytes)) o))
 
 -- a line that imports a file: it could not be read, or what comes of importing its bytes
 abbrev pub ImportsFile : List ℕ → ImportKind → Outcome → Type 0
 ImportsFile id kind o = IsUnread o ⊎ ((bytes : List ℕ) × Imports id kind bytes o)
 
--- what a task at the office of a database may come to
-abbrev pub MayDo : Task → Outcome → Type 0
-MayDo (task.Ask asked) o = Asks asked o
-MayDo (task.Serve port count) o = ServesAt port count o
-
 -- what a line may come to
 abbrev pub MayCome : Line → Outcome → Type 0
-MayCome (line.Serve database port count) o = ServesAt port count o
+MayCome (line.Serve database port count) o = MayDo (task.Serve port count) o
 MayCome (line.Import database kind id file) o = ImportsFile (string_bytes id) kind o
-MayCome (line.OpenRound database) o = Asks (request.Plain plain.OpenRound) o
-MayCome (line.ReopenRound database) o = Asks (request.Plain plain.ReopenRound) o
-MayCome (line.CloseRound database) o = Asks request.Close o
-MayCome (line.Report database kind round) o = Asks (request.Report kind round) o
+MayCome (line.OpenRound database) o = MayDo (task.Ask (request.Plain plain.OpenRound)) o
+MayCome (line.ReopenRound database) o = MayDo (task.Ask (request.Plain plain.ReopenRound)) o
+MayCome (line.CloseRound database) o = MayDo (task.Ask request.Close) o
+MayCome (line.Report database kind round) o = MayDo (task.Ask (request.Report kind round)) o
 MayCome (line.Solve file) o = OnFile IsSolved o
 MayCome (line.Check file) o = OnFile IsChecked o
 
@@ -182,6 +180,10 @@ MayCome (line.Check file) o = OnFile IsChecked o
 abbrev pub of_unread : Unread → Outcome
 of_unread unread.Memory = refused no.Memory
 of_unread unread.NotUtf8 = tells 2 (codes "error: invalid UTF-8 was detected in one or more arguments\n\nUsage: spadesk <COMMAND>\n\nFor more information, try '--help'.\n")
+
+-- what is told of an error of this kind that reading the arguments gave
+abbrev pub OfUnread : ErrorKind → Outcome → Type 0
+OfUnread kind o = (kind ≡ kinds.OutOfMemory → o ≡ of_unread unread.Memory) × (kind ≢ kinds.OutOfMemory → o ≡ of_unread unread.NotUtf8)
 
 -- what words may come to: what their line does, or their fault
 abbrev pub MayComeOf : Result Line LineFault → Outcome → Type 0

@@ -10,10 +10,14 @@
 //! new database, from the empty office on. Begin with `specs/Outcomes.antt`, `specs/Databases.antt` and `specs/Anew.antt`.
 #![tactic(auto)]
 
+mod databases;
 mod files;
+mod importing;
+mod named;
 mod opening;
 mod printing;
 mod program;
+mod rounds;
 mod run;
 mod tasks;
 mod texts;

@@ -31,7 +31,7 @@ fn refusal_of(error: Error) -> Refusal
 
 /// Opens the database file with this name; a file that is not there is made.
 pub(crate) fn open_file(rt: &HostRuntime, database: &str) -> Result<Connection<Kept>, Refusal>
-    ensures { IfErr result (λ r. (r ≡ Refusal.Memory) ⊎ ((r ≡ Refusal.Storage) ⊎ (r ≡ Refusal.Damaged))) }
+    ensures { IfErr result (λ r. (r ≡ Refusal.Memory) ⊎ (r ≡ Refusal.Storage)) }
 {
     match Connection::open_from(rt, database, false, Unknown) {
         Ok(connection) => Ok(connection),

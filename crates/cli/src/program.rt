@@ -1,8 +1,9 @@
 //! The program: a line where there are arguments, or else standard input served over a new database in memory.
 
-ghost use Rattle.std.specs.Prelude.{◌≡◌, ◌-◌, ◌^◌, ◌<◌, ◌+◌, ◌≤◌, IsTrue, false, length, map, string_bytes};
+ghost use Rattle.std.specs.Prelude.{◌≡◌, ◌-◌, ◌^◌, ◌<◌, ◌+◌, ◌≤◌, IsTrue, false, length, map, string_bytes, IfOk, IfErr, MatchResult};
+ghost use Rattle.std.specs.IoError.{error_kind};
 ghost use Rattle.cli.specs.Anew.{ServedAnew, BrokenAnew, StreamsAnew};
-ghost use Rattle.cli.specs.Outcomes.{Tells, ComesTo};
+ghost use Rattle.cli.specs.Outcomes.{Tells, ComesTo, OfUnread};
 
 use crate::run::{tell_line, tell_unread};
 use crate::unread::Unread;
@@ -66,6 +67,34 @@ fn given(rt: &HostRuntime) -> io::Result<Vec<String>> {
     Ok(env::args(rt)?.collect(rt.alloc())?)
 }
 
+/// Does as `begin` does with the words that were given, or tells why they cannot be read, as `tell_unread` does.
+fn begin_given<R: Source, O: Sink, E: Sink>(
+    rt: &HostRuntime,
+    given: io::Result<Vec<String>>,
+    reader: &mut R,
+    out: &mut O,
+    err: &mut E,
+) -> u8
+    requires reader { R.failures reader.old < 2 ^ 64 - 1 }
+    requires open { R.ended reader.old ≡ false }
+    requires out { O.failures out.old < 2 ^ 64 - 1 }
+    requires err { E.failures err.old < 2 ^ 64 - 1 }
+    ensures line { IfOk given (λ words. 1 < length words.items → Tells (ComesTo (map string_bytes words.items)) (O.written out.old) (O.written out.new) (E.written err.old) (E.written err.new) (O.failures out.old + E.failures err.old) (O.failures out.new + E.failures err.new) result) }
+    ensures stream { IfOk given (λ words. length words.items ≤ 1 → StreamsAnew (R.left reader.old) (O.written out.old) (R.left reader.new) (O.written out.new) result) }
+
+    ensures silent { IfOk given (λ words. length words.items ≤ 1 → err.new ≡ err.old) }
+
+    // Why the words cannot be read is told, and then nothing is read.
+    ensures refused { IfErr given (λ error. Tells (OfUnread (error_kind error)) (O.written out.old) (O.written out.new) (E.written err.old) (E.written err.new) (O.failures out.old + E.failures err.old) (O.failures out.new + E.failures err.new) result) }
+    ensures unread { MatchResult given (λ words. 1 < length words.items → reader.new ≡ reader.old) (λ _. reader.new ≡ reader.old) }
+    ensures status { result ≤ 2 }
+{
+    match given {
+        Ok(words) => begin(rt, &words, reader, out, err),
+        Err(error) => tell_unread(Unread::of(&error), err),
+    }
+}
+
 /// Does all that the program does, and gives its status, which is at most 2.
 ///
 /// Its arguments are words for `begin`, which reads standard input and writes to standard output and standard error, or it is told
@@ -73,13 +102,8 @@ fn given(rt: &HostRuntime) -> io::Result<Vec<String>> {
 pub fn start(rt: &HostRuntime) -> u8
     ensures { result ≤ 2 }
 {
+    let mut reader = Watched::new(rt.stdin());
+    let mut out = Watched::new(rt.stdout());
     let mut err = Watched::new(rt.stderr());
-    match given(rt) {
-        Ok(words) => {
-            let mut reader = Watched::new(rt.stdin());
-            let mut out = Watched::new(rt.stdout());
-            begin(rt, &words, &mut reader, &mut out, &mut err)
-        }
-        Err(error) => tell_unread(Unread::of(&error), &mut err),
-    }
+    begin_given(rt, given(rt), &mut reader, &mut out, &mut err)
 }

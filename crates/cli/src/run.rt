@@ -1,105 +1,20 @@
 //! A whole line: its words, what it prints, and its status.
 
-ghost use Rattle.std.specs.Prelude.{◌≡◌, ◌-◌, ◌^◌, ◌<◌, ◌+◌, ◌≤◌, map, string_bytes, IfOk};
-ghost use Rattle.round_files.specs.Rounds.{IsSolved, IsChecked};
-ghost use Rattle.cli.specs.Outcomes.{Printed, Tells, Imports, ImportsFile, OnFile, MayCome, ComesTo, of_unread};
+ghost use Rattle.std.specs.Prelude.{◌≡◌, ◌-◌, ◌^◌, ◌<◌, ◌+◌, ◌≤◌, map, string_bytes};
+ghost use Rattle.cli.specs.Outcomes.{Printed, Tells, MayCome, ComesTo, of_unread};
 
-use crate::files::read_file;
-use crate::printing::{print, refuse, tell_round};
-use crate::tasks::{Task, do_on};
+use crate::importing::import_file;
+use crate::named::do_on;
+use crate::printing::{print, refuse};
+use crate::rounds::{check_file, solve_file};
+use crate::tasks::Task;
 use crate::texts::NOT_UTF8;
 use crate::unread::Unread;
 use commands::{Line, LineFault, command};
-use intake::MOST_BYTES;
-use rolls::{Bytes, ImportKind, MOST_IMPORT_BYTES, Plain, Refusal, Request, Text};
-use round_files::{checked, solved};
-use std::alloc::AllocError;
+use rolls::{Plain, Refusal, Request};
 use std::io::Write;
 use std::rt::HostRuntime;
 use web::{Sink, Watched};
-
-/// The request of an import of a file's bytes.
-fn import_of(
-    rt: &HostRuntime,
-    kind: ImportKind,
-    id: &str,
-    bytes: Vec<u8>,
-) -> Result<Request, AllocError>
-    ensures { IfOk result (λ q. q ≡ Request.Import id.now kind bytes.items) }
-{
-    Ok(Request::Import {
-        id: Text::of(rt.alloc(), id)?,
-        kind,
-        bytes: Bytes::new(rt.alloc(), bytes)?,
-    })
-}
-
-/// Imports a file's bytes into the office of a database.
-fn import<O: Sink, E: Sink>(
-    rt: &HostRuntime,
-    database: &str,
-    kind: ImportKind,
-    id: &str,
-    bytes: Vec<u8>,
-    out: &mut O,
-    err: &mut E,
-) -> u8
-    requires out { O.failures out.old < 2 ^ 64 - 1 }
-    requires err { E.failures err.old < 2 ^ 64 - 1 }
-    ensures { Tells (Imports id.now kind bytes.items) (O.written out.old) (O.written out.new) (E.written err.old) (E.written err.new) (O.failures out.old + E.failures err.old) (O.failures out.new + E.failures err.new) result }
-{
-    if bytes.len() > MOST_IMPORT_BYTES {
-        return refuse(err, Refusal::TooLarge);
-    }
-    match import_of(rt, kind, id, bytes) {
-        Ok(asked) => do_on(rt, database, Task::Ask(asked), out, err),
-        Err(_) => refuse(err, Refusal::Memory),
-    }
-}
-
-/// Solves the round of a file.
-fn solve_file<O: Sink, E: Sink>(rt: &HostRuntime, file: &str, out: &mut O, err: &mut E) -> u8
-    requires out { O.failures out.old < 2 ^ 64 - 1 }
-    requires err { E.failures err.old < 2 ^ 64 - 1 }
-    ensures { Tells (OnFile IsSolved) (O.written out.old) (O.written out.new) (E.written err.old) (E.written err.new) (O.failures out.old + E.failures err.old) (O.failures out.new + E.failures err.new) result }
-{
-    match read_file(rt, file, MOST_BYTES) {
-        Ok(bytes) => tell_round(solved(rt.alloc(), &bytes), out, err),
-        Err(refusal) => refuse(err, refusal),
-    }
-}
-
-/// Checks the matching and the prices of the round of a file.
-fn check_file<O: Sink, E: Sink>(rt: &HostRuntime, file: &str, out: &mut O, err: &mut E) -> u8
-    requires out { O.failures out.old < 2 ^ 64 - 1 }
-    requires err { E.failures err.old < 2 ^ 64 - 1 }
-    ensures { Tells (OnFile IsChecked) (O.written out.old) (O.written out.new) (E.written err.old) (E.written err.new) (O.failures out.old + E.failures err.old) (O.failures out.new + E.failures err.new) result }
-{
-    match read_file(rt, file, MOST_BYTES) {
-        Ok(bytes) => tell_round(checked(rt.alloc(), &bytes), out, err),
-        Err(refusal) => refuse(err, refusal),
-    }
-}
-
-/// Imports a file into the office of a database.
-fn import_file<O: Sink, E: Sink>(
-    rt: &HostRuntime,
-    database: &str,
-    kind: ImportKind,
-    id: &str,
-    file: &str,
-    out: &mut O,
-    err: &mut E,
-) -> u8
-    requires out { O.failures out.old < 2 ^ 64 - 1 }
-    requires err { E.failures err.old < 2 ^ 64 - 1 }
-    ensures { Tells (ImportsFile id.now kind) (O.written out.old) (O.written out.new) (E.written err.old) (E.written err.new) (O.failures out.old + E.failures err.old) (O.failures out.new + E.failures err.new) result }
-{
-    match read_file(rt, file, MOST_IMPORT_BYTES) {
-        Ok(bytes) => import(rt, database, kind, id, bytes, out, err),
-        Err(refusal) => refuse(err, refusal),
-    }
-}
 
 /// Does a line, and tells what comes of it. A file is read first, then a database is opened, then a port is bound, and then the
 /// request is judged.

@@ -1,24 +1,21 @@
-//! What a line does at the office of a database file, which is opened for it and closed behind it.
+//! What a line does at a desk.
 
-ghost use Rattle.std.specs.Prelude.{◌≡◌, ◌-◌, ◌^◌, ◌<◌, ◌+◌, [], ◌∷◌};
+ghost use Rattle.std.specs.Prelude.{◌≡◌, ◌-◌, ◌^◌, ◌<◌, ◌+◌, [], ◌∷◌, IfErr, MatchResult};
 ghost use Rattle.std.specs.Net.Addr.{ipv4_octets};
 ghost use Rattle.std.specs.Net.Socket.{v4_ip, v4_port};
-ghost use Rattle.sqlite.specs.Held.{state};
-ghost use Rattle.sqlite.specs.Files.{file_state};
 ghost use Rattle.rolls.specs.Run.{Step};
 ghost use Rattle.allotment.specs.Layers.{layers};
 ghost use Rattle.web.specs.Connections.{Connect};
-ghost use Rattle.cli.specs.Outcomes.{Tells, Asks, IsCutOff, Serves, ServesAt, MayDo};
-ghost use Rattle.cli.specs.Databases.{TakesTo, LeftBy, IsClosing};
+ghost use Rattle.cli.specs.Outcomes.{Tells, IsAsked, IsCutOff, IsServed, IsUnbound, Serves, ComesOf};
+ghost use Rattle.cli.specs.Databases.{TakesTo};
 
-use crate::opening::{Closing, close_file, open_file};
 use crate::printing::{print, print_reply, refuse};
 use crate::texts::labelled;
 use desk::Desk;
 use rolls::Request;
-use sqlite::{Alter, Connection, FileStore};
-use sqlite_disk::Disk;
+use sqlite::Alter;
 use std::alloc::Global;
+use std::io;
 use std::net::{Ipv4Addr, SocketAddrV4, TcpListener};
 use std::rt::HostRuntime;
 use web::{Sink, serve_on, write_all};
@@ -46,10 +43,9 @@ fn ask_at<S: Alter, O: Sink, E: Sink>(
 ) -> u8
     requires out { O.failures out.old < 2 ^ 64 - 1 }
     requires err { E.failures err.old < 2 ^ 64 - 1 }
-    ensures told { Tells (Asks asked) (O.written out.old) (O.written out.new) (E.written err.old) (E.written err.new) (O.failures out.old + E.failures err.old) (O.failures out.new + E.failures err.new) result }
+    ensures told { Tells (IsAsked asked desk.old.office desk.new.office) (O.written out.old) (O.written out.new) (E.written err.old) (E.written err.new) (O.failures out.old + E.failures err.old) (O.failures out.new + E.failures err.new) result }
     ensures step { (answer : _) × Step layers desk.old.office asked answer desk.new.office }
 {
-    desk.keeps();
     match desk.ask(asked) {
         Ok(reply) => print_reply(out, &reply),
         Err(refusal) => refuse(err, refusal),
@@ -66,7 +62,7 @@ fn serve_at<S: Alter, O: Sink>(
     out: &mut O,
 ) -> u8
     requires { O.failures out.old < 2 ^ 64 - 1 }
-    ensures told { Serves desk.old.office port count (O.written out.old) (O.written out.new) (O.failures out.old) (O.failures out.new) result }
+    ensures told { Serves port count desk.old.office desk.new.office (O.written out.old) (O.written out.new) (O.failures out.old) (O.failures out.new) result }
 
     // Nothing is served before the line of the port is out.
     ensures cut { result ≡ 1 → IsCutOff desk.old.office port count (O.written out.old) (O.written out.new) desk.new.office }
@@ -89,6 +85,30 @@ fn loopback(port: u16) -> SocketAddrV4
     SocketAddrV4::new(Ipv4Addr::LOCALHOST, port)
 }
 
+/// Serves so many connections of a listener that was bound to a port, at a desk, or tells that it could not be bound.
+fn serve_bound<S: Alter, O: Sink, E: Sink>(
+    alloc: Global,
+    desk: &mut Desk<S>,
+    bound: io::Result<TcpListener>,
+    port: u16,
+    count: u32,
+    out: &mut O,
+    err: &mut E,
+) -> u8
+    requires out { O.failures out.old < 2 ^ 64 - 1 }
+    requires err { E.failures err.old < 2 ^ 64 - 1 }
+    ensures told { Tells (λ o. MatchResult bound (λ _. IsServed port count desk.old.office desk.new.office o) (λ _. IsUnbound port desk.old.office desk.new.office o)) (O.written out.old) (O.written out.new) (E.written err.old) (E.written err.new) (O.failures out.old + E.failures err.old) (O.failures out.new + E.failures err.new) result }
+    ensures served { (came : _) × Connect desk.old.office came desk.new.office }
+
+    // Where no port is bound nothing is done at the desk.
+    ensures unbound { IfErr bound (λ _. desk.new ≡ desk.old) }
+{
+    match bound {
+        Ok(listener) => serve_at(alloc, desk, &listener, port, count, out),
+        Err(_) => print(err, labelled(b"no port ", u32::from(port)).as_slice(), 1),
+    }
+}
+
 /// Serves so many connections to a port of the loopback address at a desk.
 fn serve_from<S: Alter, O: Sink, E: Sink>(
     rt: &HostRuntime,
@@ -100,18 +120,15 @@ fn serve_from<S: Alter, O: Sink, E: Sink>(
 ) -> u8
     requires out { O.failures out.old < 2 ^ 64 - 1 }
     requires err { E.failures err.old < 2 ^ 64 - 1 }
-    ensures told { Tells (ServesAt port count) (O.written out.old) (O.written out.new) (E.written err.old) (E.written err.new) (O.failures out.old + E.failures err.old) (O.failures out.new + E.failures err.new) result }
+    ensures told { Tells (ComesOf (Task.Serve port count) desk.old.office desk.new.office) (O.written out.old) (O.written out.new) (E.written err.old) (E.written err.new) (O.failures out.old + E.failures err.old) (O.failures out.new + E.failures err.new) result }
     ensures served { (came : _) × Connect desk.old.office came desk.new.office }
 {
-    desk.keeps();
-    match TcpListener::bind(rt, loopback(port)) {
-        Ok(listener) => serve_at(rt.alloc(), desk, &listener, port, count, out),
-        Err(_) => print(err, labelled(b"no port ", u32::from(port)).as_slice(), 1),
-    }
+    let bound = TcpListener::bind(rt, loopback(port));
+    serve_bound(rt.alloc(), desk, bound, port, count, out, err)
 }
 
 /// Does a task at a desk, and tells what comes of it.
-fn do_at<S: Alter, O: Sink, E: Sink>(
+pub(crate) fn do_at<S: Alter, O: Sink, E: Sink>(
     rt: &HostRuntime,
     desk: &mut Desk<S>,
     task: Task,
@@ -120,85 +137,11 @@ fn do_at<S: Alter, O: Sink, E: Sink>(
 ) -> u8
     requires out { O.failures out.old < 2 ^ 64 - 1 }
     requires err { E.failures err.old < 2 ^ 64 - 1 }
-    ensures told { Tells (MayDo task) (O.written out.old) (O.written out.new) (E.written err.old) (E.written err.new) (O.failures out.old + E.failures err.old) (O.failures out.new + E.failures err.new) result }
+    ensures told { Tells (ComesOf task desk.old.office desk.new.office) (O.written out.old) (O.written out.new) (E.written err.old) (E.written err.new) (O.failures out.old + E.failures err.old) (O.failures out.new + E.failures err.new) result }
     ensures taken { TakesTo task desk.old.office desk.new.office }
 {
     match task {
         Task::Ask(asked) => ask_at(desk, asked, out, err),
         Task::Serve { port, count } => serve_from(rt, desk, port, count, out, err),
-    }
-}
-
-/// Does a task at the office of a database, tells what comes of it, and gives the connection back.
-///
-/// It takes any store, and so do those who hold the desk: a desk over a store of files by name takes the prover a minute in each function
-/// that holds one. A task that is not done is handed to `drop`, since each kind of request would else be a path here.
-fn do_over<S: Alter + Drop, O: Sink, E: Sink>(
-    rt: &HostRuntime,
-    connection: Connection<S>,
-    task: Task,
-    out: &mut O,
-    err: &mut E,
-) -> (u8, Connection<S>)
-    requires out { O.failures out.old < 2 ^ 64 - 1 }
-    requires err { E.failures err.old < 2 ^ 64 - 1 }
-    ensures told { Tells (MayDo task) (O.written out.old) (O.written out.new) (E.written err.old) (E.written err.new) (O.failures out.old + E.failures err.old) (O.failures out.new + E.failures err.new) result.0 }
-    ensures left { LeftBy task result.0 (state S.Store result.1) }
-{
-    match Desk::open(rt.alloc(), connection) {
-        Ok(mut desk) => {
-            desk.keeps();
-            let status = do_at(rt, &mut desk, task, out, err);
-            desk.keeps();
-            (status, desk.into_connection())
-        }
-        Err((refusal, connection)) => {
-            drop(task);
-            (refuse(err, refusal), connection)
-        }
-    }
-}
-
-/// The same of the office of a database file, which is closed then: its log is copied into it.
-fn do_and_close<D: Disk + Drop, O: Sink, E: Sink>(
-    rt: &HostRuntime,
-    connection: Connection<FileStore<D>>,
-    task: Task,
-    out: &mut O,
-    err: &mut E,
-) -> (u8, Closing<D>)
-    requires out { O.failures out.old < 2 ^ 64 - 1 }
-    requires err { E.failures err.old < 2 ^ 64 - 1 }
-    ensures told { Tells (MayDo task) (O.written out.old) (O.written out.new) (E.written err.old) (E.written err.new) (O.failures out.old + E.failures err.old) (O.failures out.new + E.failures err.new) result.0 }
-    ensures closing { (last : _) × LeftBy task result.0 (file_state last) × IsClosing last result.1 }
-{
-    let (status, connection) = do_over(rt, connection, task, out, err);
-    (status, close_file(connection))
-}
-
-/// Does a task at the office of the database file with this name, tells what comes of it, and closes the file then.
-///
-/// A closing that fails changes neither what was told nor the status: what was changed is in the log beside the file, where
-/// the next opening finds it.
-pub(crate) fn do_on<O: Sink, E: Sink>(
-    rt: &HostRuntime,
-    database: &str,
-    task: Task,
-    out: &mut O,
-    err: &mut E,
-) -> u8
-    requires out { O.failures out.old < 2 ^ 64 - 1 }
-    requires err { E.failures err.old < 2 ^ 64 - 1 }
-    ensures { Tells (MayDo task) (O.written out.old) (O.written out.new) (E.written err.old) (E.written err.new) (O.failures out.old + E.failures err.old) (O.failures out.new + E.failures err.new) result }
-{
-    match open_file(rt, database) {
-        Ok(connection) => {
-            let (status, _closing) = do_and_close(rt, connection, task, out, err);
-            status
-        }
-        Err(refusal) => {
-            drop(task);
-            refuse(err, refusal)
-        }
     }
 }

@@ -1,5 +1,5 @@
 -- The instance of the last round of a fit office has no fault, and it is what its rolls give.
-use Rattle.std.proofs.Common.{◌≡◌, ℕ, zero, suc, ◌+◌, ◌-◌, ◌<◌, ◌≤◌, true, List, [], ◌∷◌, ◌++◌, length, map, drop, get_or, Contains, refl, sym, ap, ◌∙◌, append_assoc, arith}
+use Rattle.std.proofs.Common.{◌≡◌, ℕ, zero, suc, ◌+◌, ◌-◌, ◌<◌, ◌≤◌, true, List, [], ◌∷◌, ◌++◌, length, map, drop, get_or, Contains, refl, sym, ap, ◌∙◌, subst, append_assoc, arith}
 use Rattle.std.specs.List.{AllByRecursion}
 use Rattle.std.proofs.lemmas.Option.{slice_get_within}
 use Rattle.std.proofs.lemmas.List.{length-map, drop_more}
@@ -19,9 +19,11 @@ use Rattle.rolls.specs.declared.rounds.Placement.{Placement}
 use Rattle.rolls.specs.State.{State, supervisor_key, project_key, list_key, last_round, lists_of, has_project, placed_in_project, placed_with_supervisor}
 use Rattle.rolls.specs.Instances.{round_instance}
 use Rattle.rolls.specs.Fit.{IsFit, SupervisorFits, ProjectFits, ListFits}
+use Rattle.rolls.specs.Counted.{AreRolls}
 use Rattle.rolls.proofs.Finding.{all_weaker}
+use Rattle.rolls.proofs.Positions.{fit_rolls}
 use Rattle.closing.specs.Handed as handed
-use Rattle.closing.specs.Handed.{AreParts}
+use Rattle.closing.specs.Handed.{AreParts, ArePartsOfFit}
 use Rattle.closing.proofs.Entries.{all_made, rises_made}
 use Rattle.closing.proofs.Opened.{few_lists}
 use Rattle.closing.proofs.Listing.{code_key, apart_since_rise, apart_since_distinct, contains_found, all_at}
@@ -129,6 +131,12 @@ handed_rolls o supervisors projects placements lists are ss ps ls s p l =
     let c : students_of ls ≡ (round_instance o).students =
     ap students_of (l ∙ ap (map handed.student_listed) are.all_lists) ∙ map_map handed.student_listed (λ e. record { code = e.0; list = e.1 }) (lists_of o (last_round o)) in
     λ i. record { supervisors = a i; projects = b i; students = c i }
+
+-- the rolls of a fit office, as they are handed in
+pub parts_rolls : (supervisors : List Supervisor) (projects roll : List Project) (placements : List Placement) (lists : List Listed) → ArePartsOfFit supervisors projects placements lists → roll ≡ projects → AreRolls supervisors roll
+parts_rolls supervisors projects roll placements lists are same =
+    let o : State = are.office in
+    subst (λ (ps : List Project). AreRolls supervisors ps) (sym (same ∙ are.parts.all_projects)) (subst (λ (ss : List Supervisor). AreRolls ss o.projects) (sym are.parts.all_supervisors) (fit_rolls o are.fit))
 
 -- the entries from a place on
 from_here : {E : Type 0} (es : List E) (i : ℕ) (e : E) → i < length es → e ≡ get_or es i e → drop i es ≡ e ∷ drop (i + 1) es

@@ -1,18 +1,13 @@
 -- The parts of an office that the instance of its last round is made of, and the rolls that they give.
-use Rattle.std.specs.Prelude.{◌≡◌, ℕ, ◌-◌, false, Bool, List, count_by}
-use Rattle.std.specs.Option.{option_map_or}
+use Rattle.std.specs.Prelude.{◌≡◌, ℕ, ◌-◌, List, count_by}
 use Rattle.std.specs.Str.{bytes_eq}
 use Rattle.rolls.specs.declared.entries.Supervisor.{Supervisor}
 use Rattle.rolls.specs.declared.entries.Project.{Project}
 use Rattle.rolls.specs.declared.rounds.Listed.{Listed}
 use Rattle.rolls.specs.declared.rounds.Placement.{Placement}
-use Rattle.rolls.specs.Roll.{of_code, find}
-use Rattle.rolls.specs.State.{State, project_key, last_round, lists_of}
+use Rattle.rolls.specs.State.{State, last_round, lists_of}
 use Rattle.rolls.specs.Fit.{IsFit}
-
--- whether a supervisor offers one of these projects
-abbrev pub offers : List Project → List ℕ → List ℕ → Bool
-offers projects supervisor project = option_map_or (λ p. bytes_eq supervisor p.supervisor) (find project_key (of_code project) projects) false
+use Rattle.rolls.specs.Counted.{offers}
 
 -- how many of these placements are in a project
 abbrev pub count_in : List Placement → List ℕ → ℕ

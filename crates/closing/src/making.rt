@@ -1,13 +1,15 @@
-//! The instance of the open round.
+//! The instance of the open round, and what is counted of placements.
 
-ghost use Rattle.std.specs.Prelude.{◌≡◌, map, IfOk};
+ghost use Rattle.std.specs.Prelude.{◌≡◌, ◌≤◌, List, map, length, None, IfOk};
+ghost use Rattle.spa.specs.declared.TheConstants.{MOST_PROJECTS, MOST_SUPERVISORS};
 ghost use Rattle.spa.specs.Named.{instance_of};
 ghost use Rattle.rolls.specs.State.{State};
 ghost use Rattle.rolls.specs.Instances.{round_instance};
-ghost use Rattle.closing.specs.Handed.{offers, count_in, count_with, supervisor_left, project_left, student_listed, AreParts, ArePartsOfFit};
+ghost use Rattle.rolls.specs.Counted.{offers, AreCounted};
+ghost use Rattle.closing.specs.Handed.{count_in, count_with, supervisor_left, project_left, student_listed, AreParts, ArePartsOfFit};
 
-use rolls::{Choices, Listed, Placement, Project, Supervisor, Table};
-use spa::{Code, Instance, InstanceFault};
+use rolls::{Choices, Listed, Placement, Project, Supervisor, Table, counted};
+use spa::{Code, Counts, Instance, InstanceFault};
 use std::alloc::{AllocError, Global};
 
 /// Whether a supervisor offers a project.
@@ -44,37 +46,38 @@ pub fn placed_with_supervisor(
         .count()
 }
 
-/// The supervisors, with the quotas less what is placed.
+/// The supervisors, with the quotas less what is counted.
 fn supervisors_left(
     alloc: Global,
     supervisors: &[Supervisor],
-    projects: &Table<Project>,
-    placements: &[Placement],
+    counts: &Counts,
 ) -> Result<Vec<(Code, u32)>, AllocError>
-    ensures { IfOk result (λ roll. roll.items ≡ map (supervisor_left projects.now placements.now) supervisors.now) }
+    requires { length supervisors.now ≤ MOST_SUPERVISORS }
+    ensures { IfOk result (λ roll. (projects : List Project) (placements : List Placement) → AreCounted None supervisors.now projects placements counts.now → roll.items ≡ map (supervisor_left projects placements) supervisors.now) }
 {
     let mut roll = Vec::new(alloc);
-    for entry in supervisors {
-        let placed = placed_with_supervisor(projects, placements, entry.code.as_str());
-        let left = (entry.quota as usize).saturating_sub(placed);
-        roll.push((entry.code.copy(), left as u32))?;
+    for position in 0..supervisors.len() {
+        let entry = &supervisors[position];
+        let left = entry.quota.saturating_sub(counts.with_supervisor(position));
+        roll.push((entry.code.copy(), left))?;
     }
     Ok(roll)
 }
 
-/// The projects, with the quotas less what is placed.
+/// The projects, with the quotas less what is counted.
 fn projects_left(
     alloc: Global,
     projects: &[Project],
-    placements: &[Placement],
+    counts: &Counts,
 ) -> Result<Vec<(Code, Code, u32)>, AllocError>
-    ensures { IfOk result (λ roll. roll.items ≡ map (project_left placements.now) projects.now) }
+    requires { length projects.now ≤ MOST_PROJECTS }
+    ensures { IfOk result (λ roll. (supervisors : List Supervisor) (placements : List Placement) → AreCounted None supervisors projects.now placements counts.now → roll.items ≡ map (project_left placements) projects.now) }
 {
     let mut roll = Vec::new(alloc);
-    for entry in projects {
-        let placed = placed_in_project(placements, entry.code.as_str());
-        let left = (entry.quota as usize).saturating_sub(placed);
-        roll.push((entry.code.copy(), entry.supervisor.copy(), left as u32))?;
+    for position in 0..projects.len() {
+        let entry = &projects[position];
+        let left = entry.quota.saturating_sub(counts.in_project(position));
+        roll.push((entry.code.copy(), entry.supervisor.copy(), left))?;
     }
     Ok(roll)
 }
@@ -113,9 +116,11 @@ pub fn round_instance(
     requires { ArePartsOfFit supervisors.now projects.now placements.now lists.now }
     ensures { IfOk result (λ i. (o : State) → AreParts o supervisors.now projects.now placements.now lists.now → instance_of i ≡ round_instance o) }
 {
-    let supervisors = supervisors_left(alloc, supervisors, projects, placements)?;
+    let roll = projects.entries();
+    let counts = counted(None, supervisors, roll, placements);
+    let supervisors = supervisors_left(alloc, supervisors, &counts)?;
     let students = students_listed(alloc, lists)?;
-    let projects = projects_left(alloc, projects.entries(), placements)?;
+    let projects = projects_left(alloc, roll, &counts)?;
     match Instance::new(alloc, supervisors, projects, students) {
         Ok(instance) => Ok(instance),
         Err(fault) => {

@@ -39,7 +39,7 @@ hold_same db rows others same h = record {
 -- what is saved stands for the next office
 pub stands_after : (changes : List Change) (office next : State) (old new : Database) → Turns changes office next → Saves changes old new → StandsFor old office → StandsFor new next
 unfolding Saves
-stands_after changes office next old new turns saves stands = hold_same new (after_changes changes (row_of office)) (row_of next) turns (saves (row_of office) stands)
+stands_after changes office next old new turns saves stands = hold_same new (after_changes changes (row_of office)) (row_of next) turns.rows (saves (row_of office) stands)
 
 -- a disk that is clean was clean before
 pub was_clean : (old new : Seen) (P : Trees → Type 0) → Survives old new P → HasCleanDisk new → HasCleanDisk old

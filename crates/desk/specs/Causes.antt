@@ -8,7 +8,7 @@ use Rattle.rolls.specs.Rows.{Turns}
 use Rattle.store.specs.Causes.{IsHinderedToSave}
 use Rattle.desk.specs.Keeping.{CarriesOut}
 
--- changes that turn the office into one that the request makes of it can't be saved
+-- changes that turn the office into one that the request makes of it, and add rows of new keys alone, can't be saved
 pub record IsHinderedToAsk (office : State) (request : Request) (limit : Option ℕ) (db : Database) : Type 0 where
   pub next : State
   pub carried : CarriesOut office request next

@@ -1,18 +1,10 @@
 //! Look-ups by key among the entries that an office lends.
 
 ghost use Rattle.std.specs.Prelude.{◌≡◌, option_copied};
-ghost use Rattle.rolls.specs.State.{project_of, round_of, placement_of};
+ghost use Rattle.rolls.specs.State.{round_of, placement_of};
 
 use office::Office;
-use rolls::{Placement, Project, Round, find};
-
-/// Lends the project with this code.
-pub fn project_of<'a>(office: &'a Office, code: &str) -> Option<&'a Project>
-    ensures { option_copied result ≡ project_of office.now code.now }
-{
-    office.fit();
-    find(office.projects(), 0, code)
-}
+use rolls::{Placement, Round, find};
 
 /// Lends the round with this number.
 pub fn round_of(office: &Office, round: u32) -> Option<&Round>

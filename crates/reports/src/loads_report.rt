@@ -1,48 +1,16 @@
 //! The report `loads`.
 
-ghost use Rattle.std.specs.Prelude.{◌≡◌, ◌++◌, ◌∷◌, [], IfOk, OnOk, string_bytes, flat_map, filter};
+ghost use Rattle.std.specs.Prelude.{◌≡◌, ◌<◌, ◌++◌, ◌∷◌, [], ℕ, Some, IfOk, OnOk, slice_get, string_bytes, flat_map, filter};
 ghost use Rattle.std.specs.Str.{bytes_eq};
-ghost use Rattle.rolls.specs.State.{is_offered_by};
-ghost use Rattle.reports.specs.Texts.{placed_with_supervisor_by, placed_in_project_by, load_row, project_row, offered_rows, supervisor_rows, loads_text};
+ghost use Rattle.spa.specs.declared.TheConstants.{MOST_PROJECTS, MOST_SUPERVISORS};
+ghost use Rattle.rolls.specs.State.{State};
+ghost use Rattle.reports.specs.Texts.{AreLoads, load_row, project_row, offered_rows, supervisor_rows, loads_text};
 
-use crate::find::project_of;
 use office::Office;
-use rolls::{Project, Supervisor};
-use spa::Code;
+use rolls::{Project, Supervisor, counted};
+use spa::{Code, Counts};
 use std::alloc::{AllocError, Global};
 use std::fmt::Write;
-
-/// Whether a supervisor offers a project.
-fn is_offered_by(office: &Office, supervisor: &str, project: &str) -> bool
-    ensures { result ≡ is_offered_by office.now supervisor.now project.now }
-{
-    match project_of(office, project) {
-        Some(entry) => supervisor == entry.supervisor.as_str(),
-        None => false,
-    }
-}
-
-/// How many students the rounds up to this one placed with a supervisor.
-fn placed_with_supervisor_by(office: &Office, round: u32, code: &str) -> usize
-    ensures { result ≡ placed_with_supervisor_by office.now round code.now }
-{
-    office
-        .placements()
-        .iter()
-        .filter(|p| p.round <= round && is_offered_by(office, code, p.project.as_str()))
-        .count()
-}
-
-/// How many students the rounds up to this one placed in a project.
-fn placed_in_project_by(office: &Office, round: u32, code: &str) -> usize
-    ensures { result ≡ placed_in_project_by office.now round code.now }
-{
-    office
-        .placements()
-        .iter()
-        .filter(|p| p.round <= round && code == p.project.as_str())
-        .count()
-}
 
 /// Appends a line of loads.
 fn push_load(
@@ -62,15 +30,16 @@ fn push_load(
 /// Appends the load of a project, if the supervisor offers it.
 fn push_project(
     out: &mut String,
-    office: &Office,
-    round: u32,
+    counts: &Counts,
+    position: usize,
     supervisor: &str,
     project: &Project,
 ) -> Result<(), AllocError>
-    ensures { OnOk result (string_bytes out.new ≡ string_bytes out.old ++ flat_map (project_row office.now round) (filter (λ p. bytes_eq supervisor.now p.supervisor) (project.now ∷ []))) }
+    requires { position < MOST_PROJECTS }
+    ensures { OnOk result ((o : State) (n : ℕ) → slice_get o.projects position ≡ Some project.now → AreLoads o n counts.now → string_bytes out.new ≡ string_bytes out.old ++ flat_map (project_row o n) (filter (λ p. bytes_eq supervisor.now p.supervisor) (project.now ∷ []))) }
 {
     if supervisor == project.supervisor.as_str() {
-        let placed = placed_in_project_by(office, round, project.code.as_str());
+        let placed = counts.in_project(position) as usize;
         out.push_str("  ")?;
         push_load(out, 16, &project.code, placed, project.quota)?;
     }
@@ -81,13 +50,15 @@ fn push_project(
 fn push_offered(
     out: &mut String,
     office: &Office,
-    round: u32,
+    counts: &Counts,
     supervisor: &str,
 ) -> Result<(), AllocError>
-    ensures { OnOk result (string_bytes out.new ≡ string_bytes out.old ++ offered_rows office.now round supervisor.now) }
+    ensures { OnOk result ((n : ℕ) → AreLoads office.now n counts.now → string_bytes out.new ≡ string_bytes out.old ++ offered_rows office.now n supervisor.now) }
 {
-    for project in office.projects() {
-        push_project(out, office, round, supervisor, project)?;
+    office.fit();
+    let projects = office.projects();
+    for position in 0..projects.len() {
+        push_project(out, counts, position, supervisor, &projects[position])?;
     }
     Ok(())
 }
@@ -96,24 +67,35 @@ fn push_offered(
 fn push_supervisor(
     out: &mut String,
     office: &Office,
-    round: u32,
+    counts: &Counts,
+    position: usize,
     supervisor: &Supervisor,
 ) -> Result<(), AllocError>
-    ensures { OnOk result (string_bytes out.new ≡ string_bytes out.old ++ supervisor_rows office.now round supervisor.now) }
+    requires { position < MOST_SUPERVISORS }
+    ensures { OnOk result ((n : ℕ) → slice_get (let o = office.now in o.supervisors) position ≡ Some supervisor.now → AreLoads office.now n counts.now → string_bytes out.new ≡ string_bytes out.old ++ supervisor_rows office.now n supervisor.now) }
 {
-    let code = supervisor.code.as_str();
-    let placed = placed_with_supervisor_by(office, round, code);
+    let placed = counts.with_supervisor(position) as usize;
     push_load(out, 18, &supervisor.code, placed, supervisor.quota)?;
-    push_offered(out, office, round, code)
+    push_offered(out, office, counts, supervisor.code.as_str())?;
+    Ok(())
 }
 
-/// What the rounds up to this one placed with each supervisor and in each project, beside the quotas.
+/// What the rounds up to this one placed with each supervisor and in each project, beside the quotas. The placements are
+/// counted in one pass.
 pub fn loads(alloc: Global, office: &Office, round: u32) -> Result<String, AllocError>
     ensures { IfOk result (λ text. string_bytes text ≡ loads_text office.now round) }
 {
+    office.fit();
+    let supervisors = office.supervisors();
+    let counts = counted(
+        Some(round),
+        supervisors,
+        office.projects(),
+        office.placements(),
+    );
     let mut out = String::new(alloc);
-    for supervisor in office.supervisors() {
-        push_supervisor(&mut out, office, round, supervisor)?;
+    for position in 0..supervisors.len() {
+        push_supervisor(&mut out, office, &counts, position, &supervisors[position])?;
     }
     Ok(out)
 }

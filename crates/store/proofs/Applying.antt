@@ -6,7 +6,7 @@ use Rattle.sqlite.specs.State.{State}
 use Rattle.rolls.specs.declared.row.Row.{Row}
 use Rattle.rolls.specs.declared.row.RowKey.{RowKey}
 use Rattle.rolls.specs.declared.row.Change.{Change}
-use Rattle.rolls.specs.Rows.{after_change, after_changes}
+use Rattle.rolls.specs.Rows.{AreFresh, IsFresh, after_change, after_changes}
 use Rattle.sqlite.specs.Tree.{Trees}
 use Rattle.tables.specs.Steps.{HasStepped, HasSaved, IsLeft, Stays}
 use Rattle.tables.proofs.Runs.{stays_none, stays_then}
@@ -14,16 +14,21 @@ use Rattle.store.specs.Tables.{TablesHold}
 use Rattle.sqlite.specs.Schema.{Schema}
 use Rattle.sqlite_rules.specs.Lists.{Has}
 use Rattle.tables.specs.Table.{Lists, table_at}
-use Rattle.store.specs.Saving.{AreInert, Applies, AppliesOne, LeavesOthers, Saves, Spares}
+use Rattle.store.specs.Saving.{AddsNew, AreInert, Applies, AppliesOne, LeavesOthers, Saves, Spares}
 
 -- no change applies nothing
 pub applies_none : (db : Database) → Applies [] db db
 unfolding Applies
-applies_none db inert rows t = (t, record { schema = refl; others = λ any h apart. refl })
+applies_none db inert rows t = (t, record { schema = refl; others = λ any h apart. refl }, tt)
 
 after_more : (cs : List Change) (c : Change) (rows : RowKey → Option Row) → after_changes (cs ++ c ∷ []) rows ≡ after_change c (after_changes cs rows)
 after_more [] c rows = refl
 after_more (d ∷ cs) c rows = after_more cs c (after_change d rows)
+
+-- a row that is added after others at a free key is one of those that are
+fresh_more : (cs : List Change) (c : Change) (rows : RowKey → Option Row) → AreFresh cs rows → IsFresh c (after_changes cs rows) → AreFresh (cs ++ c ∷ []) rows
+fresh_more [] c rows all one = (one, tt)
+fresh_more (d ∷ cs) c rows all one = (all.0, fresh_more cs c (after_change d rows) all.1 one)
 
 -- what spares the other tables twice spares them
 spares_then : (x y z : Database) → Spares x y → Spares y z → Spares x z
@@ -39,7 +44,7 @@ unfolding Applies AppliesOne
 applies_then cs c x y z p q inert rows t =
     let first = p inert rows t in
     let then = q (subst AreInert (sym first.1.schema) inert) (after_changes cs rows) first.0 in
-    (subst (TablesHold z) (sym (after_more cs c rows)) then.0, spares_then x y z first.1 then.1)
+    (subst (TablesHold z) (sym (after_more cs c rows)) then.0, spares_then x y z first.1 then.1, fresh_more cs c rows first.2 then.2)
 
 -- nothing was changed yet
 pub changes_none : (s : State) → Stays (Applies []) s s
@@ -75,3 +80,13 @@ leaves_others changes old new inert p rows t = (p inert rows t).1
 pub others_call : {E : Type 0} (changes : List Change) (a b : State) (r : Result (Unit {0}) E) → AreInert a.now.schema → OnOk r (HasSaved (Applies changes) a b) → OnOk r (LeavesOthers a.now b.now)
 others_call changes a b (Ok u) inert h = leaves_others changes a.now b.now inert h.step
 others_call changes a b (Err e) inert h = h
+
+-- changes that were applied added rows of new keys
+pub adds_new : (changes : List Change) (old new : Database) → AreInert old.schema → Applies changes old new → AddsNew changes old
+unfolding Applies AddsNew
+adds_new changes old new inert p rows t = (p inert rows t).2
+
+-- the same of a transaction
+pub new_call : {E : Type 0} (changes : List Change) (a b : State) (r : Result (Unit {0}) E) → AreInert a.now.schema → OnOk r (HasSaved (Applies changes) a b) → OnOk r (AddsNew changes a.now)
+new_call changes a b (Ok u) inert h = adds_new changes a.now b.now inert h.step
+new_call changes a b (Err e) inert h = h

@@ -1,5 +1,5 @@
 -- Why a call of the store failed, from why the statement did on which it ended.
-use Rattle.std.proofs.Common.{◌≡◌, ◌≤◌, ◌<◌, inl, inr, ℕ, true, false, List, [], take, get_or, length, Option, Some, Err, refl, sym, ap, subst, ◌∙◌, arith}
+use Rattle.std.proofs.Common.{◌≡◌, ◌≤◌, ◌<◌, inl, inr, ℕ, true, false, List, [], take, get_or, length, Option, Some, Result, Err, refl, sym, ap, subst, ◌∙◌, arith}
 use Rattle.std.proofs.lemmas.Option.{slice_get_read, slice_get-get_or}
 use Rattle.sqlite.specs.declared.error.Error.{Error}
 use Rattle.sqlite.specs.Effect.{Database}
@@ -13,18 +13,20 @@ use Rattle.tables.specs.Faults.{fault_of}
 use Rattle.std.proofs.lemmas.Bool.{cases_Bool}
 use Rattle.sqlite_rules.specs.Lists.{Has}
 use Rattle.rolls.specs.declared.row.Row.{Row}
-use Rattle.tables.specs.Causes.{IsHindered, IsStopped, IsUnread}
+use Rattle.tables.specs.Causes.{IsCausedInside, IsHindered, IsStopped, IsUnread}
 use Rattle.store.specs.Reading.{ReadsSome}
-use Rattle.store.specs.Rows.{kept, rolls}
+use Rattle.store.specs.Rows.{columns, kept, rolls, table_of}
 use Rattle.store.proofs.Judging.{is_next}
 use Rattle.tables.specs.Steps.{Stays}
 use Rattle.tables.specs.Table.{sql_of}
 use Rattle.tables.proofs.Causes.{stopped_after, stopped_as, stopped_before, uncommitted}
 use Rattle.store.specs.declared.fault.StoreFault.TheVariants.{Storage}
 use Rattle.store.specs.Faults.{of_table}
-use Rattle.store.specs.Saving.{Applies}
+use Rattle.store.specs.Saving.{Applies, entering}
+use Rattle.store.specs.declared.saving.Way.{Way}
+use Rattle.store.specs.declared.saving.Way.TheVariants.{InPlace, New}
 use Rattle.store.specs.Tables.{MakesTables}
-use Rattle.store.specs.Causes.{IsHinderedAmong, IsHinderedChange, IsHinderedMaking, IsHinderedReading, IsHinderedToSave}
+use Rattle.store.specs.Causes.{IsHinderedAmong, IsHinderedChange, IsHinderedMaking, IsHinderedReading, IsHinderedToEnter, IsHinderedToSave}
 
 -- a fault of the storage is one of a statement
 pub of_storage : (f : TableFault) → of_table f ≡ Storage → f ≡ fault.Storage
@@ -72,3 +74,8 @@ table_unread i rows a b c d low some survives clean up stops = elim (cases_Bool 
       (λ h. record { table = get_or rolls i d; kept = inr (is_next rolls i d low); hindered = subst (IsUnread (sql_of (get_or rolls i d)).select a.step_limit) (some.same open_before).0.now_is h }) stops
   | inr shut ↦ record { why = inl shut }
 ]
+
+-- a row that is refused as it is brought into its table is a change that is refused
+pub refused_entering : {A : Type 0} (way : Way) (r : Row) (result : Result A TableFault) (a b : Seen) → IsCausedInside (IsHinderedToEnter way (table_of r) (columns r)) result a b → IsCausedInside (IsHinderedChange (entering way r)) result a b
+refused_entering InPlace r result a b h = h
+refused_entering New r result a b h = h

@@ -1,7 +1,8 @@
 -- The columns of the rows of one table, once a row is put or taken away.
-use Rattle.std.proofs.Common.{◌≡◌, ◌≢◌, inl, inr, ℕ, zero, suc, ◌<◌, List, [], ◌∷◌, length, get_or, take, Bool, true, false, not, ◌&&◌, cond, Some, is_eq, filter, map, ℤ, pos, negsuc, refl, sym, ap, subst, ◌∙◌, arith, true≢false}
+use Rattle.std.proofs.Common.{◌≡◌, ◌≢◌, inl, inr, ℕ, zero, suc, ◌<◌, List, [], ◌∷◌, length, get_or, take, Bool, true, false, not, ◌&&◌, ◌==◌, cond, Some, None, is_eq, filter, map, ℤ, pos, negsuc, refl, sym, ap, subst, ◌∙◌, arith, true≢false}
 use Rattle.std.specs.List.{list_any}
 use Rattle.std.proofs.lemmas.Bool.{and_parts, or_parts, not-true, false_from_ne_true}
+use Rattle.std.proofs.lemmas.Bool.Decides.{Decides-eqb}
 use Rattle.std.proofs.lemmas.Slice.Eq.{bytes_eq-Decides}
 use Rattle.std.proofs.lemmas.List.{get_or_default}
 use Rattle.sqlite_rules.specs.Lists.{Has}
@@ -22,15 +23,16 @@ use Rattle.rolls.specs.declared.row.Row.{Row}
 use Rattle.rolls.specs.declared.row.Row.TheVariants as row
 use Rattle.rolls.specs.declared.row.RowKey.{RowKey}
 use Rattle.rolls.specs.declared.row.RowKey.TheVariants as key
-use Rattle.rolls.specs.Rows.{key_of, same_row}
+use Rattle.rolls.specs.From.{row_in}
+use Rattle.rolls.specs.Rows.{key_of, is_in_list, same_row}
 use Rattle.tables.specs.declared.table.Table.{Table}
-use Rattle.tables.specs.declared.table.Table.TheVariants.{Edition}
+use Rattle.tables.specs.declared.table.Table.TheVariants.{Choice, Edition}
 use Rattle.tables.specs.Table.{same_table}
 use Rattle.tables.proofs.Runs.{same_table_is, same_table_self}
 use Rattle.tables.proofs.Testing.{equal_int}
-use Rattle.rolls.proofs.RowKeys.{same_row_is}
-use Rattle.store.specs.Rows.{IsRoll, columns, is_in, columns_of, key_columns, rolls, table_at_key, table_of}
-use Rattle.store.proofs.Keys.{dropped}
+use Rattle.rolls.proofs.RowKeys.{apart_back, same_row_is}
+use Rattle.store.specs.Rows.{IsRoll, columns, is_in, columns_of, key_columns, list_columns, rolls, table_at_key, table_of}
+use Rattle.store.proofs.Keys.{dropped, dropped_by}
 
 natural : ℤ → ℕ
 natural (pos n) = n
@@ -123,17 +125,17 @@ other_key k s apart = false_from_ne_true _ (λ h. apart (ap table_at_key (same_r
 keeps_other : (table : Table) (k : RowKey) (s : Row) → table ≢ table_at_key k → is_in table s ≡ true → not (same_row (key_of s) k) ≡ true
 keeps_other table k s apart h = ap not (other_key k s (λ e. apart (is_of table s h ∙ e)))
 
-module _ (table : Table) (key : RowKey) (g : Cells → Bool) (same : (s : Row) → is_in table s ≡ true → not (same_row (key_of s) key) ≡ g (columns s)) where
-  dropped_go : (s : Row) (rest : List Row) (a b : Bool) → is_in table s ≡ a → not (same_row (key_of s) key) ≡ b → columns_of table (dropped key rest) ≡ filter g (columns_of table rest)
-      → columns_of table (cond b (s ∷ dropped key rest) (dropped key rest)) ≡ filter g (map columns (cond a (s ∷ filter (is_in table) rest) (filter (is_in table) rest)))
+module _ (table : Table) (p : RowKey → Bool) (g : Cells → Bool) (same : (s : Row) → is_in table s ≡ true → not (p (key_of s)) ≡ g (columns s)) where
+  dropped_go : (s : Row) (rest : List Row) (a b : Bool) → is_in table s ≡ a → not (p (key_of s)) ≡ b → columns_of table (dropped_by p rest) ≡ filter g (columns_of table rest)
+      → columns_of table (cond b (s ∷ dropped_by p rest) (dropped_by p rest)) ≡ filter g (map columns (cond a (s ∷ filter (is_in table) rest) (filter (is_in table) rest)))
   dropped_go s rest true true kind is later = rw (kind, sym (same s kind) ∙ is) (ap (λ more. columns s ∷ more) later)
   dropped_go s rest true false kind is later = rw (sym (same s kind) ∙ is) later
   dropped_go s rest false true kind is later = rw kind later
   dropped_go s rest false false kind is later = later
 
-  columns_dropped : (list : List Row) → columns_of table (dropped key list) ≡ filter g (columns_of table list)
+  columns_dropped : (list : List Row) → columns_of table (dropped_by p list) ≡ filter g (columns_of table list)
   columns_dropped [] = refl
-  columns_dropped (s ∷ rest) = dropped_go s rest (is_in table s) (not (same_row (key_of s) key)) refl refl (columns_dropped rest)
+  columns_dropped (s ∷ rest) = dropped_go s rest (is_in table s) (not (p (key_of s))) refl refl (columns_dropped rest)
 
 all_kept : {X : Type 0} (xs : List X) → filter (λ (_ : X). true) xs ≡ xs
 all_kept [] = refl
@@ -141,11 +143,75 @@ all_kept (x ∷ xs) = ap (λ ys. x ∷ ys) (all_kept xs)
 
 -- the columns of the table that lost the rows with a key
 pub columns_without : (k : RowKey) (list : List Row) → columns_of (table_at_key k) (dropped k list) ≡ without (key_columns k) (columns_of (table_at_key k) list)
-columns_without k list = columns_dropped (table_at_key k) k (λ v. not (begins_with (key_columns k) v)) (drops_own k) list
+columns_without k list = columns_dropped (table_at_key k) (λ l. same_row l k) (λ v. not (begins_with (key_columns k) v)) (drops_own k) list
 
 -- those of another table
 pub columns_beside : (table : Table) (k : RowKey) (list : List Row) → table ≢ table_at_key k → columns_of table (dropped k list) ≡ columns_of table list
-columns_beside table k list apart = columns_dropped table k (λ _. true) (λ s. keeps_other table k s apart) list ∙ all_kept (columns_of table list)
+columns_beside table k list apart = columns_dropped table (λ l. same_row l k) (λ _. true) (λ s. keeps_other table k s apart) list ∙ all_kept (columns_of table list)
+
+and_true : (b : Bool) → (b && true) ≡ b
+and_true true = refl
+and_true false = refl
+
+equal_place : (a b : ℕ) → equal Binary (Int (pos a)) (Int (pos b)) ≡ (a == b)
+unfolding natural
+equal_place a b = same_tests _ _
+    (λ h. (Decides-eqb a b).1 (ap natural (equal_int (pos a) (pos b) h)))
+    (λ h. subst (λ (m : ℕ). equal Binary (Int (pos a)) (Int (pos m)) ≡ true) ((Decides-eqb a b).0 h) (int_self (pos a)))
+
+-- in the table of choices SQL drops those of the list
+drops_list : (round : ℕ) (student : List ℕ) (s : Row) → is_in Choice s ≡ true → not (is_in_list round student (key_of s)) ≡ not (begins_with (list_columns round student) (columns s))
+drops_list round student (row.Choice n s k p) h = λ i. not (sym (equal_place n round) i && sym (ap (λ t. t && true) (equal_text s student) ∙ and_true (bytes_eq s student)) i)
+drops_list _ _ _ h = absurd (cc)
+
+-- a row of another table is of no list
+keeps_beside : (table : Table) (round : ℕ) (student : List ℕ) (s : Row) → table ≢ Choice → is_in table s ≡ true → not (is_in_list round student (key_of s)) ≡ true
+keeps_beside table round student (row.Choice n s k p) apart h = absurd (apart (is_of table (row.Choice n s k p) h))
+keeps_beside table round student (row.Supervisor c l n) apart h = refl
+keeps_beside table round student (row.Project c l s n) apart h = refl
+keeps_beside table round student (row.Student c l) apart h = refl
+keeps_beside table round student (row.Round n o) apart h = refl
+keeps_beside table round student (row.Placement s n p k) apart h = refl
+keeps_beside table round student (row.Import i w b n) apart h = refl
+
+-- the columns of the choices, once a list is taken away
+pub list_without : (round : ℕ) (student : List ℕ) (list : List Row) → columns_of Choice (dropped_by (is_in_list round student) list) ≡ without (list_columns round student) (columns_of Choice list)
+list_without round student list = columns_dropped Choice (is_in_list round student) (λ v. not (begins_with (list_columns round student) v)) (drops_list round student) list
+
+-- those of another table
+pub list_beside : (table : Table) (round : ℕ) (student : List ℕ) (list : List Row) → table ≢ Choice → columns_of table (dropped_by (is_in_list round student) list) ≡ columns_of table list
+list_beside table round student list apart = columns_dropped table (is_in_list round student) (λ _. true) (λ s. keeps_beside table round student s apart) list ∙ all_kept (columns_of table list)
+
+none_left : {X : Type 0} (g : X → Bool) (xs : List X) → filter g xs ≡ [] → filter (λ x. not (g x)) xs ≡ xs
+none_left g [] none = refl
+none_left g (x ∷ xs) none = go (g x) none (none_left g xs)
+  where
+    go : (b : Bool) → cond b (x ∷ filter g xs) (filter g xs) ≡ [] → (filter g xs ≡ [] → filter (λ y. not (g y)) xs ≡ xs) → cond (not b) (x ∷ filter (λ y. not (g y)) xs) (filter (λ y. not (g y)) xs) ≡ x ∷ xs
+    go true empty later = absurd (cc)
+    go false empty later = ap (λ ys. x ∷ ys) (later empty)
+
+-- where no row of the table has the key, none is dropped from its columns
+pub columns_kept : (k : RowKey) (list : List Row) → filter (begins_with (key_columns k)) (columns_of (table_at_key k) list) ≡ [] → columns_of (table_at_key k) (dropped k list) ≡ columns_of (table_at_key k) list
+columns_kept k list none = columns_without k list ∙ none_left (begins_with (key_columns k)) (columns_of (table_at_key k) list) none
+
+module _ (k : RowKey) where
+  none_go : (s : Row) (rest : List Row) (b : Bool) → is_in (table_at_key k) s ≡ b → (filter (begins_with (key_columns k)) (columns_of (table_at_key k) rest) ≡ [] → row_in rest k ≡ None)
+      → filter (begins_with (key_columns k)) (map columns (cond b (s ∷ filter (is_in (table_at_key k)) rest) (filter (is_in (table_at_key k)) rest))) ≡ [] → row_in (s ∷ rest) k ≡ None
+  none_go s rest false kind later none =
+      let apart : same_row (key_of s) k ≡ false = other_key k s (λ e. true≢false (sym (ap (same_table (table_at_key k)) e ∙ same_table_self (table_at_key k)) ∙ kind)) in
+      ap (λ t. cond t (Some s) (row_in rest k)) (apart_back (key_of s) k apart) ∙ later none
+  none_go s rest true kind later none = by_test (begins_with (key_columns k) (columns s)) refl none
+    where
+      by_test : (b : Bool) → begins_with (key_columns k) (columns s) ≡ b → cond b (columns s ∷ filter (begins_with (key_columns k)) (columns_of (table_at_key k) rest)) (filter (begins_with (key_columns k)) (columns_of (table_at_key k) rest)) ≡ [] → row_in (s ∷ rest) k ≡ None
+      by_test true is empty = absurd (cc)
+      by_test false is empty =
+          let apart : same_row (key_of s) k ≡ false = not-true _ (drops_own k s kind ∙ ap not is) in
+          ap (λ t. cond t (Some s) (row_in rest k)) (apart_back (key_of s) k apart) ∙ later empty
+
+  -- where SQL finds no row with the key there is none
+  pub none_there : (list : List Row) → filter (begins_with (key_columns k)) (columns_of (table_at_key k) list) ≡ [] → row_in list k ≡ None
+  none_there [] none = refl
+  none_there (s ∷ rest) none = none_go s rest (is_in (table_at_key k) s) refl (none_there rest) none
 
 -- a row more in its table
 pub columns_more : (r : Row) (list : List Row) → columns_of (table_of r) (r ∷ list) ≡ columns r ∷ columns_of (table_of r) list

@@ -1,5 +1,5 @@
 -- The rows of the tables as SQL has them.
-use Rattle.std.specs.Prelude.{◌≡◌, pos, cond, Bool, IsTrue, List, [], ◌∷◌, drop, map, filter, Option}
+use Rattle.std.specs.Prelude.{◌≡◌, ℕ, pos, cond, Bool, IsTrue, List, [], ◌∷◌, drop, map, filter, Option}
 use Rattle.sqlite.specs.declared.types.Value.TheVariants.{Int, Text, Blob}
 use Rattle.sqlite.specs.Order.{Row as Cells}
 use Rattle.sqlite_rules.specs.Lists.{Has}
@@ -41,6 +41,10 @@ table_at_key k = (at_key k).0
 
 abbrev pub key_columns : RowKey → Cells
 key_columns k = (at_key k).1
+
+-- the columns that name a list: its round and its student
+abbrev pub list_columns : ℕ → List ℕ → Cells
+list_columns round student = Int (pos round) ∷ Text student ∷ []
 
 -- the table of a row
 abbrev pub table_of : Row → Table

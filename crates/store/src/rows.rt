@@ -1,6 +1,6 @@
 //! Rows as they are read.
 
-ghost use Rattle.std.specs.Prelude.{◌≡◌, ◌≢◌, ◌<◌, ◌^◌, ℕ, pos, Bool, IsTrue, true, false, cond, List, IsUtf8, IfOk, drop, length, ◌+◌};
+ghost use Rattle.std.specs.Prelude.{◌≡◌, ◌≢◌, ◌<◌, ◌^◌, ℕ, pos, Bool, IsTrue, true, false, cond, List, IsUtf8, IfOk, IfErr, drop, length, ◌+◌};
 ghost use Rattle.sqlite.specs.declared.types.Value.TheVariants.{Int, Blob, Text as Words};
 ghost use Rattle.sqlite.specs.Order.{Row as AnyCells, column};
 ghost use Rattle.sqlite_rules.specs.Lists.{Has};
@@ -19,6 +19,7 @@ use tables::Table;
 fn text_at(alloc: Global, cells: &Cells, at: usize) -> Result<Text, StoreFault>
     ensures text { IfOk result (λ text. column cells.now at ≡ Words text) }
     ensures damaged { result ≡ Err StoreFault.Damaged → (text : List ℕ) → IsUtf8 text → column cells.now at ≢ Words text }
+    ensures wrong { ((text : List ℕ) → IsUtf8 text → column cells.now at ≢ Words text) → result ≡ Err StoreFault.Damaged }
     ensures faults { result ≢ Err StoreFault.Storage }
 {
     let Ok(value) = cells.get_ref(at) else {
@@ -37,7 +38,7 @@ fn text_at(alloc: Global, cells: &Cells, at: usize) -> Result<Text, StoreFault>
 fn number_at(cells: &Cells, at: usize) -> Result<u32, StoreFault>
     ensures number { IfOk result (λ n. column cells.now at ≡ Int (pos n)) }
     ensures damaged { result ≡ Err StoreFault.Damaged → (n : ℕ) → n < 2 ^ 32 → column cells.now at ≢ Int (pos n) }
-    ensures faults { result ≢ Err StoreFault.Storage }
+    ensures alone { IfErr result (λ fault. fault ≡ StoreFault.Damaged) }
 {
     let Ok(value) = cells.get_ref(at) else {
         return Err(StoreFault::Damaged);
@@ -55,7 +56,7 @@ fn number_at(cells: &Cells, at: usize) -> Result<u32, StoreFault>
 fn flag_at(cells: &Cells, at: usize) -> Result<bool, StoreFault>
     ensures flag { IfOk result (λ b. column cells.now at ≡ Int (pos (cond b 1 0))) }
     ensures damaged { result ≡ Err StoreFault.Damaged → (b : Bool) → column cells.now at ≢ Int (pos (cond b 1 0)) }
-    ensures faults { result ≢ Err StoreFault.Storage }
+    ensures alone { IfErr result (λ fault. fault ≡ StoreFault.Damaged) }
 {
     match number_at(cells, at)? {
         0 => Ok(false),
@@ -68,6 +69,7 @@ fn flag_at(cells: &Cells, at: usize) -> Result<bool, StoreFault>
 fn blob_at(alloc: Global, cells: &Cells, at: usize) -> Result<Bytes, StoreFault>
     ensures blob { IfOk result (λ bytes. column cells.now at ≡ Blob bytes) }
     ensures damaged { result ≡ Err StoreFault.Damaged → (bytes : List ℕ) → column cells.now at ≢ Blob bytes }
+    ensures wrong { ((bytes : List ℕ) → column cells.now at ≢ Blob bytes) → result ≡ Err StoreFault.Damaged }
     ensures faults { result ≢ Err StoreFault.Storage }
 {
     let Ok(value) = cells.get_ref(at) else {
@@ -92,7 +94,7 @@ fn names(bytes: &[u8], kind: ImportKind) -> bool
 fn kind_at(cells: &Cells, at: usize) -> Result<ImportKind, StoreFault>
     ensures kind { IfOk result (λ kind. column cells.now at ≡ Words (word_of kind)) }
     ensures damaged { result ≡ Err StoreFault.Damaged → (kind : ImportKind) → column cells.now at ≢ Words (word_of kind) }
-    ensures faults { result ≢ Err StoreFault.Storage }
+    ensures alone { IfErr result (λ fault. fault ≡ StoreFault.Damaged) }
 {
     let Ok(value) = cells.get_ref(at) else {
         return Err(StoreFault::Damaged);

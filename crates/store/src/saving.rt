@@ -4,18 +4,21 @@ ghost use Rattle.std.specs.Prelude.{◌≡◌, ◌≢◌, cond, IsTrue, false, O
 ghost use Rattle.sqlite.specs.Effect.{IsDatabase};
 ghost use Rattle.sqlite.specs.State.{HasCleanDisk, Survives};
 ghost use Rattle.sqlite.specs.Held.{state};
+ghost use Rattle.sqlite.specs.Values.{bound};
+ghost use Rattle.tables.specs.Table.{IsRowOf, key_in, table_at};
 ghost use Rattle.tables.specs.Causes.{IsCaused, IsCausedInside};
 ghost use Rattle.tables.specs.Steps.{Does, HasSaved, HasStepped, IsKept, IsLeft, Stays};
-ghost use Rattle.store.specs.Causes.{IsHinderedAmong, IsHinderedChange, IsHinderedToSave};
-ghost use Rattle.store.specs.Saving.{Applies, AppliesOne, AreActedOn, LeavesOthers, Saves};
+ghost use Rattle.store.specs.Causes.{IsHinderedAmong, IsHinderedChange, IsHinderedToEnter, IsHinderedToSave};
+ghost use Rattle.store.specs.Saving.{Applies, AppliesOne, AreActedOn, Enters, LeavesOthers, Saves, entering};
 
 use crate::fault::StoreFault;
 use rolls::{Change, Row, RowKey};
 use sqlite::{Alter, Connection, Transaction, params};
+use sqlite_value::value::ValueRef;
 use tables::Table;
 use tables::fault::TableFault;
 use tables::ready::need_open;
-use tables::statements::{delete, put};
+use tables::statements::{delete, delete_list, insert, put};
 
 /// The number that stands for a truth value.
 fn flag(value: bool) -> u32
@@ -24,15 +27,44 @@ fn flag(value: bool) -> u32
     if value { 1 } else { 0 }
 }
 
-/// Puts a row in its table.
-fn put_row<S: Alter>(tx: &mut Transaction<'_, S>, row: &Row) -> Result<(), TableFault>
+/// How a row comes into its table.
+#[derive(Clone, Copy)]
+pub(crate) enum Way {
+    /// In the place of the one with its key, or as one more.
+    InPlace,
+    /// As a row of a new key.
+    New,
+}
+
+/// Brings a row into a table.
+fn enter<S: Alter>(
+    tx: &mut Transaction<'_, S>,
+    way: Way,
+    table: Table,
+    row: &[ValueRef<'_>],
+) -> Result<(), TableFault>
+    requires { IsRowOf table (bound row.now) }
+
     ensures same_reference { tx.new.conn.ghost_name ≡ tx.old.conn.ghost_name }
-    ensures step { Does (HasStepped (AppliesOne (Change.Put row.now))) result (state S.Store tx.old.conn.now) (state S.Store tx.new.conn.now) }
-    ensures cause { IsCausedInside (IsHinderedChange (Change.Put row.now)) result (state S.Store tx.old.conn.now) (state S.Store tx.new.conn.now) }
+    ensures step { Does (HasStepped (Enters way (table_at table) (key_in table (bound row.now)) (bound row.now))) result (state S.Store tx.old.conn.now) (state S.Store tx.new.conn.now) }
+    ensures cause { IsCausedInside (IsHinderedToEnter way table (bound row.now)) result (state S.Store tx.old.conn.now) (state S.Store tx.new.conn.now) }
+{
+    match way {
+        Way::InPlace => put(tx, table, row),
+        Way::New => insert(tx, table, row),
+    }
+}
+
+/// Brings a row into its table.
+fn write_row<S: Alter>(tx: &mut Transaction<'_, S>, way: Way, row: &Row) -> Result<(), TableFault>
+    ensures same_reference { tx.new.conn.ghost_name ≡ tx.old.conn.ghost_name }
+    ensures step { Does (HasStepped (AppliesOne (entering way row.now))) result (state S.Store tx.old.conn.now) (state S.Store tx.new.conn.now) }
+    ensures cause { IsCausedInside (IsHinderedChange (entering way row.now)) result (state S.Store tx.old.conn.now) (state S.Store tx.new.conn.now) }
 {
     match row {
-        Row::Supervisor { code, label, quota } => put(
+        Row::Supervisor { code, label, quota } => enter(
             tx,
+            way,
             Table::Supervisor,
             params![code.as_str(), label.as_str(), *quota],
         ),
@@ -41,24 +73,31 @@ fn put_row<S: Alter>(tx: &mut Transaction<'_, S>, row: &Row) -> Result<(), Table
             label,
             supervisor,
             quota,
-        } => put(
+        } => enter(
             tx,
+            way,
             Table::Project,
             params![code.as_str(), label.as_str(), supervisor.as_str(), *quota],
         ),
         Row::Student { code, label } => {
-            put(tx, Table::Student, params![code.as_str(), label.as_str()])
+            enter(
+                tx,
+                way,
+                Table::Student,
+                params![code.as_str(), label.as_str()],
+            )
         }
         Row::Round { number, is_open } => {
-            put(tx, Table::Round, params![*number, flag(*is_open)])
+            enter(tx, way, Table::Round, params![*number, flag(*is_open)])
         }
         Row::Choice {
             round,
             student,
             place,
             project,
-        } => put(
+        } => enter(
             tx,
+            way,
             Table::Choice,
             params![*round, student.as_str(), *place, project.as_str()],
         ),
@@ -67,8 +106,9 @@ fn put_row<S: Alter>(tx: &mut Transaction<'_, S>, row: &Row) -> Result<(), Table
             round,
             project,
             rank,
-        } => put(
+        } => enter(
             tx,
+            way,
             Table::Placement,
             params![student.as_str(), *round, project.as_str(), *rank],
         ),
@@ -77,8 +117,9 @@ fn put_row<S: Alter>(tx: &mut Transaction<'_, S>, row: &Row) -> Result<(), Table
             kind,
             bytes,
             rows,
-        } => put(
+        } => enter(
             tx,
+            way,
             Table::Import,
             params![id.as_str(), kind.word(), bytes.as_slice(), *rows],
         ),
@@ -111,8 +152,10 @@ fn apply<S: Alter>(tx: &mut Transaction<'_, S>, change: &Change) -> Result<(), T
     ensures cause { IsCausedInside (IsHinderedChange change.now) result (state S.Store tx.old.conn.now) (state S.Store tx.new.conn.now) }
 {
     match change {
-        Change::Put(row) => put_row(tx, row),
+        Change::Put(row) => write_row(tx, Way::InPlace, row),
+        Change::Add(row) => write_row(tx, Way::New, row),
         Change::Take(key) => take_row(tx, key),
+        Change::TakeList(round, student) => delete_list(tx, params![*round, student.as_str()]),
     }
 }
 

@@ -8,7 +8,7 @@ ghost use Rattle.tables.specs.Causes.{IsCaused, IsStopped};
 ghost use Rattle.store.specs.Causes.{IsHinderedOpening, IsHinderedReading, IsHinderedToSave};
 ghost use Rattle.store.specs.Tables.{Founds, HasNone, LeavesAlone, Opens, StandsFor};
 ghost use Rattle.store.specs.Reading.{AreListed, IsDamaged};
-ghost use Rattle.store.specs.Saving.{AreActedOn, LeavesOthers, Saves};
+ghost use Rattle.store.specs.Saving.{AddsNew, AreActedOn, LeavesOthers, Saves};
 
 use crate::fault::StoreFault;
 use crate::founding::{found, has_none};
@@ -130,6 +130,9 @@ impl<S: Alter> Store<S> {
         ensures ok { HasCleanDisk (state S.Store self.new) → OnOk result (HasSaved (Saves changes.now) (state S.Store self.old) (state S.Store self.new)) }
         ensures others { HasCleanDisk (state S.Store self.new) → OnOk result (LeavesOthers (state S.Store self.old).now (state S.Store self.new).now) }
         ensures alone { HasCleanDisk (state S.Store self.new) → OnOk result (LeavesAlone (state S.Store self.new)) }
+
+        // No row is added at a key that has one.
+        ensures fresh { HasCleanDisk (state S.Store self.new) → OnOk result (AddsNew changes.now (state S.Store self.old).now) }
         ensures err { HasCleanDisk (state S.Store self.new) → OnErr result (IsKept (state S.Store self.old) (state S.Store self.new)) }
         ensures faults { result ≢ Err StoreFault.Damaged }
 

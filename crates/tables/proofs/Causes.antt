@@ -11,13 +11,13 @@ use Rattle.tables.proofs.Selecting.{IsSelect, no_returning}
 use Rattle.sqlite.specs.Clock.{timed}
 use Rattle.sqlite.specs.Effect.{Database}
 use Rattle.sqlite.specs.Steps.{FailsToCommit}
-use Rattle.sqlite.specs.State.{State, HasCleanDisk, Survives, Fails, HasCause as HasReason, IsStatement, IsUnchanged, IsNotRun, RunsAlone, RunsCommand, ExecutesIn, ExecutesInside, EndsScope, FailsToQuery, FailsToShow, Shown, ShowsRows, shows_rows, store_error}
+use Rattle.sqlite.specs.State.{State, HasCleanDisk, Survives, Fails, HasCause as HasReason, IsStatement, IsUnchanged, IsRolledBack, IsNotRun, RunsAlone, RunsCommand, ExecutesIn, ExecutesInside, EndsScope, FailsToQuery, FailsToShow, Shown, ShowsRows, shows_rows, store_error}
 use Rattle.tables.specs.declared.fault.TableFault.TheVariants.{Storage}
 use Rattle.tables.specs.Faults.{fault_of}
 use Rattle.std.proofs.lemmas.Bool.{cases_Bool}
 use Rattle.tables.specs.Table.{Sql}
 use Rattle.tables.specs.Keyed.{have_ids, rises}
-use Rattle.tables.specs.Causes.{IsHindered, IsRefused, IsStopped, IsTooLarge, IsUnread, showing}
+use Rattle.tables.specs.Causes.{Moment, at_moment, IsHindered, IsRefused, IsStopped, IsTooLarge, IsUnread, showing}
 
 -- the connection was shut, or the disk failed once more, or this
 abbrev Ended : State → State → Type 0 → Type 0
@@ -155,3 +155,69 @@ stopped_before H old mid new up stops = record { why = go stops.why }
 pub uncommitted : (old new : State) (e : Error) → fault_of e ≡ Storage → old.in_transaction ≡ true → FailsToCommit old new e → IsStopped (λ _ _. ⊥) old new
 uncommitted old new e other inside (inl fails) = record { why = failed old new ⊥ e fails other }
 uncommitted old new e other inside (inr out) = absurd (let bad = sym out.1 ∙ inside in cc)
+
+both_tests : (b : Bool) (A B C D : Type 0) → (A → C) → (B → D) → MatchBool b A B → MatchBool b C D
+both_tests true A B C D f g h = f h
+both_tests false A B C D f g h = g h
+
+-- what a connection shows now
+abbrev pub moment_of : State → Moment
+moment_of s = record { now = s.now; committed = s.committed; in_transaction = s.in_transaction; marks = s.marks; is_open = s.is_open; faults = s.faults; changes = s.changes; last_rowid = s.last_rowid; step_limit = s.step_limit }
+
+-- a statement that fails looks at nothing else
+module _ (old new : State) where
+  abbrev same : State
+  same = at_moment (moment_of old)
+
+  unchanged : IsUnchanged old new → IsUnchanged same new
+  unchanged it = (
+    record { was_open = it.0.was_open; is_open = it.0.is_open; now_is = it.0.now_is; committed_is = it.0.committed_is; mode = it.0.mode },
+    record { changes = it.1.changes; last_rowid = it.1.last_rowid },
+    it.2,
+  )
+
+  undone : IsRolledBack old new → IsRolledBack same new
+  undone it = record {
+    was_open = it.was_open;
+    undone = it.undone;
+    autocommit = it.autocommit;
+    unmarked = it.unmarked;
+    counts = record { changes = it.counts.changes; last_rowid = it.counts.last_rowid };
+  }
+
+  for_reason : (U : Type 0) (cause : StoreError) → HasReason old new U cause → HasReason same new U cause
+  for_reason U OutOfMemory h = h
+  for_reason U Io h = h
+  for_reason U Corrupt h = h
+  for_reason U Full h = h
+  for_reason U Broken h = h
+  for_reason U Unstorable h = h
+
+  fails_so : (U : Type 0) (e : Error) → Fails old new U e → Fails same new U e
+  fails_so U e it = (it.0, it.1, for_reason U it.0 it.2, undone it.3, it.4)
+
+  said : (sql : List ℕ) (params : Row) (c : Compiled) → IsStatement old sql params c → IsStatement same sql params c
+  said sql params c it = record { is = it.is; whole = it.whole; given = it.given; now = it.now }
+
+  unrun : (sql : List ℕ) (params : Row) (e : Error) → IsNotRun old new sql params e → IsNotRun same new sql params e
+  unfolding IsNotRun
+  unrun sql params e (inl none) = inl (none.0, unchanged none.1)
+  unrun sql params e (inr fails) = inr (fails_so ⊥ e fails)
+
+  commands_so : (sql : List ℕ) (c : Compiled) (params : Row) (e : Error) → RunsCommand old new sql c params (Err e) → RunsCommand same new sql c params (Err e)
+  commands_so sql c params e (inl refuses) = inl (refuses.0, unchanged refuses.1)
+  commands_so sql c params e (inr fails) = inr (fails_so _ e fails)
+
+  executes_so : (sql : List ℕ) (params : Row) (e : Error) → ExecutesIn false sql params old new (Err e) → ExecutesIn false sql params same new (Err e)
+  unfolding ExecutesIn said
+  executes_so sql params e (inl none) = inl (unrun sql params e none)
+  executes_so sql params e (inr it) = inr (it.0, said sql params it.0 it.1, both_tests (shows_rows false it.0) _ _ _ _ (λ shows. (shows.0, unchanged shows.1)) (commands_so sql it.0 _ e) it.2)
+
+  pub inside_so : (sql : List ℕ) (params : Row) (e : Error) → ExecutesInside 0 sql params old new (Err e) → ExecutesInside 0 sql params same new (Err e)
+  unfolding EndsScope said
+  inside_so sql params e (inl ran) = inl (executes_so sql params e ran.0, either_way ran.1)
+    where
+      either_way : IsUnchanged old new ⊎ IsRolledBack old new → IsUnchanged same new ⊎ IsRolledBack same new
+      either_way (inl kept) = inl (unchanged kept)
+      either_way (inr back) = inr (undone back)
+  inside_so sql params e (inr out) = inr ((out.0.0, said sql params out.0.0 out.0.1, out.0.2), out.1, unchanged out.2)

@@ -1,4 +1,4 @@
--- The five texts of a table as statements, and what they are resolved to, by the table's shape alone.
+-- The texts of a table as statements, and what they are resolved to, by the table's shape alone.
 use Rattle.std.proofs.Common.{ℕ, zero, suc, ◌-◌, List, [], ◌∷◌, codes, length, map, take, drop, Option, Some, None, false, true}
 use Rattle.sqlite.specs.declared.types.Value.TheVariants.{Null}
 use Rattle.sqlite.specs.Kind.{Kind}
@@ -117,8 +117,9 @@ module _ (shape : Shape) where
   abbrev pub finds_of : ℕ → List Term
   finds_of count = equals_from 0 (take count shape.primary)
 
-  abbrev pub delete_of : Statement
-  delete_of = written.Delete shape.name (Some (test_of shape.named)) []
+  -- DELETE of the rows that these columns begin
+  abbrev pub delete_of : ℕ → Statement
+  delete_of count = written.Delete shape.name (Some (test_of count)) []
 
   -- UPDATE of each column but the rowid
   abbrev pub sets_of : List (List ℕ × Expr)

@@ -6,7 +6,8 @@ use Rattle.sqlite.specs.Listing.{listing_schema}
 use Rattle.sqlite_value.specs.Keys.{first_key}
 use Rattle.tables.specs.declared.table.Table.{Table}
 use Rattle.tables.specs.declared.table.Table.TheVariants.{Edition, Supervisor, Project, Student, Round, Choice, Placement, Import}
-use Rattle.tables.proofs.Texts.{Texts}
+use Rattle.tables.specs.Table.{list_removal}
+use Rattle.tables.proofs.Texts.{Removal, Texts}
 use Rattle.tables.proofs.Adding.{cast_null, cast_int}
 use Rattle.tables.proofs.Testing.{rowid_is}
 
@@ -69,3 +70,8 @@ texts Import = record {
   rows = λ id kind bytes rows. record { one = refl; added = λ here. rw (cast_null, cast_int rows) refl; shares = λ here r. rw cast_null refl; finds = λ r. refl; set = λ r int same. rw (cast_int rows) refl };
   keyed = inr (0, refl, refl);
 }
+
+-- and what the text gives that takes a list away
+pub list_text : Removal Choice list_removal 2
+unfolding everything listing_schema first_key
+list_text = record { read = refl; resolved = λ schema at place there. rw there (rw there (rw there refl)); keys = λ round student r. refl }

@@ -96,7 +96,7 @@ module _ (table : Table) where
     pub create : first said.create ≡ Ok (read_as said.create (written.CreateTable (create_of shape body)) 0)
     pub insert : first said.insert ≡ Ok (read_as said.insert (insert_of shape) (width shape))
     pub update : first said.update ≡ Ok (read_as said.update (update_of shape) (width shape))
-    pub delete : first said.delete ≡ Ok (read_as said.delete (delete_of shape) shape.named)
+    pub delete : first said.delete ≡ Ok (read_as said.delete (delete_of shape shape.named) shape.named)
     pub select : first said.select ≡ Ok (read_as said.select (written.Select (select_of shape)) 0)
     pub defined : define.table [] (create_of shape body) ≡ Ok (table_at table (record { tree = 0; checks = checks_of table }))
     pub unlisted : table_named listing_schema shape.name ≡ None
@@ -117,6 +117,13 @@ module _ (table : Table) where
     pub keys : Each (take shape.named (kinds_of table)) (λ key. (r : Row) → hit (finds_of shape shape.named) (col 1 0 ∷ []) key r ≡ begins_with key (cells plain r))
     pub rows : Each (kinds_of table) Gives
     pub keyed : HasKey plain
+
+  -- What a text gives that takes rows away by so many of the first columns: how it is read and resolved, and which rows a key finds.
+  pub record Removal (sql : List ℕ) (count : ℕ) : Type 0 where
+    pub read : first sql ≡ Ok (read_as sql (delete_of shape count) count)
+    pub resolved : (schema : Schema) (at : ℕ) (place : Place) → slice_get schema.tables at ≡ Some (table_at table place)
+        → deleted schema at (table_at table place) (Some (test_of shape count)) ≡ Ok (finding place.tree (finds_of shape count) (col 1 0 ∷ []))
+    pub keys : Each (take count (kinds_of table)) (λ key. (r : Row) → hit (finds_of shape count) (col 1 0 ∷ []) key r ≡ begins_with key (cells plain r))
 
 read_whole : (sql : List ℕ) → slice_range sql 0 (length sql) ≡ sql
 read_whole sql = take_all _ sql (omega arith)
@@ -176,21 +183,25 @@ module _ (table : Table) (it : Texts table) where
     keyed = it.keyed;
   }
 
-  -- the text that takes rows away
-  pub delete_is : IsDelete (said table).delete made_plain (take told.named (kinds_of table))
+  -- a text that takes rows away
+  pub removal_is : (sql : List ℕ) (count : ℕ) → Removal table sql count → IsDelete sql made_plain (take count (kinds_of table))
   unfolding compiled planned meaning timed returning shows command delete
-  delete_is = record {
-    p = read_as (said table).delete (delete_of told) told.named;
-    test = test_of told told.named;
-    tests = finds_of told told.named;
-    parsed = it.read.delete;
+  removal_is sql count removal = record {
+    p = read_as sql (delete_of told count) count;
+    test = test_of told count;
+    tests = finds_of told count;
+    parsed = removal.read;
     statement = refl;
     plain = refl;
-    whole = read_whole (said table).delete;
-    unlisted = rw (it.read.delete, it.read.unlisted) refl;
-    draft = λ schema at place has. (it.resolved schema at place has.there).removal;
-    hits = by_kinds (take told.named (kinds_of table)) _ it.keys;
+    whole = read_whole sql;
+    unlisted = rw (removal.read, it.read.unlisted) refl;
+    draft = λ schema at place has. removal.resolved schema at place has.there;
+    hits = by_kinds (take count (kinds_of table)) _ removal.keys;
   }
+
+  -- the text of the table that does
+  pub delete_is : IsDelete (said table).delete made_plain (take told.named (kinds_of table))
+  delete_is = removal_is (said table).delete told.named (record { read = it.read.delete; resolved = λ schema at place there. (it.resolved schema at place there).removal; keys = it.keys })
 
   -- the text that sets a row by its key
   pub update_is : IsUpdate (said table).update made_plain (kinds_of table) (length told.primary)

@@ -1,5 +1,5 @@
 -- What the statements of each table do.
-use Rattle.std.proofs.Common.{◌≡◌, ◌<◌, ◌≤◌, inl, inr, sym, ◌∙◌, ℕ, [], subst, length, take, Result, IfOk, Vec}
+use Rattle.std.proofs.Common.{◌≡◌, ◌<◌, ◌≤◌, inl, inr, sym, ◌∙◌, ℕ, [], refl, subst, length, take, Result, Ok, Err, IfOk, IfErr, Vec}
 use Rattle.std.specs.declared.alloc.Global.{Global}
 use Rattle.sqlite.specs.Order.{Row}
 use Rattle.sqlite.specs.State.{State, HasCleanDisk, Survives, Shown, CommitsShowing}
@@ -7,7 +7,8 @@ use Rattle.sqlite.specs.Tree.{Trees}
 use Rattle.tables.specs.declared.fault.TableFault.{TableFault}
 use Rattle.tables.specs.Keyed.{IsKeyed}
 use Rattle.tables.specs.declared.table.Table.{Table}
-use Rattle.tables.specs.Table.{Sql, checks_of, shape_of, sql_of, table_at, kinds_of, key_in, IsRowOf, IsKeyOf}
+use Rattle.tables.specs.declared.table.Table.TheVariants.{Choice}
+use Rattle.tables.specs.Table.{Sql, checks_of, shape_of, sql_of, table_at, kinds_of, key_in, IsRowOf, IsKeyOf, IsListKey, list_removal}
 use Rattle.tables.specs.Writes.{Makes, Adds, Removes, Replaces}
 use Rattle.tables.specs.Steps.{HasRun, HasStepped, Shows, RanQuery, Rests}
 use Rattle.tables.proofs.Places.{nowhere}
@@ -17,11 +18,11 @@ use Rattle.tables.proofs.Updating.{update_replaces, update_writes}
 use Rattle.tables.proofs.Deleting.{delete_removes, delete_writes}
 use Rattle.tables.proofs.Selecting.{read_shows, select_commits, select_rests}
 use Rattle.tables.proofs.Runs.{stepped_by}
-use Rattle.tables.proofs.Texts.{create_is, insert_is, update_is, delete_is, select_is}
-use Rattle.tables.proofs.Tables.{texts}
+use Rattle.tables.proofs.Texts.{create_is, insert_is, update_is, delete_is, select_is, removal_is}
+use Rattle.tables.proofs.Tables.{list_text, texts}
 use Rattle.tables.proofs.Putting.{finds_none}
-use Rattle.tables.proofs.Causes.{stopped_after, stopped_as, unordered, unread}
-use Rattle.tables.specs.Causes.{FailsToRead, IsHindered, IsHinderedToPut, IsStopped, IsUnread}
+use Rattle.tables.proofs.Causes.{inside_so, moment_of, stopped_after, stopped_as, unordered, unread}
+use Rattle.tables.specs.Causes.{FailsToPut, FailsToRead, FailsToWrite, IsHindered, IsHinderedToPut, IsStopped, IsUnread}
 use Rattle.tables.specs.declared.fault.TableFault.TheVariants.{Storage}
 
 module _ (table : Table) (told : Sql) (is : told ≡ sql_of table) (old new : State) (count : ℕ) where
@@ -44,6 +45,12 @@ module _ (table : Table) (told : Sql) (is : told ≡ sql_of table) (old new : St
   removed key fits run =
       stepped_by _ _ _ _ _ _ (delete_writes (sql_of table).delete (table_at table nowhere) (take (shape_of table).named (kinds_of table)) (delete_is table (texts table))) (delete_removes (sql_of table).delete (table_at table nowhere) (take (shape_of table).named (kinds_of table)) (delete_is table (texts table)) old new key count fits)
       (subst (λ (sql : Sql). HasRun sql.delete key count old new) is run)
+
+-- a list was taken away
+pub list_removed : (old new : State) (count : ℕ) (key : Row) → IsListKey key → HasRun list_removal key count old new → HasStepped (Removes (table_at Choice) key) old new
+list_removed old new count key fits run =
+    let it = removal_is Choice (texts Choice) list_removal 2 list_text in
+    stepped_by _ _ _ _ _ _ (delete_writes list_removal (table_at Choice nowhere) (take 2 (kinds_of Choice)) it) (delete_removes list_removal (table_at Choice nowhere) (take 2 (kinds_of Choice)) it old new key count fits) run
 
 module _ (table : Table) (told : Sql) (is : told ≡ sql_of table) (old new : State) where
   -- what a reading shows of the table
@@ -82,3 +89,19 @@ module _ (table : Table) (row : Row) (old new : State) where
 
   pub several : (count : ℕ) → 1 < count → HasStepped (Replaces (table_at table) (key_in table row) row count) old new → Unput
   several count many did = record { why = inr (inr (inr (inr (record { count = count; several = many; after = new.now; replaced = did.step })))) }
+
+  -- which fault is told of the row that is added, where there was none with its key
+  pub told_adding : {A : Type 0} (mid : State) (count : ℕ) (r : Result A TableFault) → count ≡ 0 → HasStepped (Replaces (table_at table) (key_in table row) row count) old mid
+      → IfErr r (λ fault. FailsToWrite (sql_of table).insert row fault mid new) → IfErr r (λ fault. FailsToPut table row fault old new)
+  told_adding mid count (Ok a) zero did told = told
+  told_adding mid count (Err fault) zero did told =
+      inr (inl (record {
+        between = moment_of mid;
+        none = subst (λ n. Replaces (table_at table) (key_in table row) row n old.now mid.now) zero did.step;
+        kept = did.shown.committed_is;
+        fails = (told.0, inside_so mid new _ _ told.0 told.1, told.2);
+      }))
+
+  -- and where several had it
+  pub told_several : (count : ℕ) → 1 < count → HasStepped (Replaces (table_at table) (key_in table row) row count) old new → FailsToPut table row Storage old new
+  told_several count many did = inr (inr (record { count = count; several = many; after = new.now; replaced = did.step }, refl))

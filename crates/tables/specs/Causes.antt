@@ -1,5 +1,5 @@
 -- Why a statement is not carried out, for another cause than want of memory.
-use Rattle.std.specs.Prelude.{◌≡◌, ◌⊎◌, ◌<◌, ◌&&◌, ℕ, pos, Bool, true, false, codes, List, [], Option, None, Result, Err}
+use Rattle.std.specs.Prelude.{◌≡◌, ◌⊎◌, ◌<◌, ◌&&◌, ℕ, ℤ, pos, Bool, true, false, codes, List, [], Option, None, Result, Err, IfErr}
 use Rattle.sqlite_disk.specs.Disk.{MoreFaults}
 use Rattle.sqlite_resolve.specs.declared.compiled.Compiled.{Compiled}
 use Rattle.sqlite.specs.declared.error.Error.{Error}
@@ -72,6 +72,47 @@ abbrev pub FailsToRead : List ℕ → TableFault → State → State → Type 0
 FailsToRead sql fault old new =
     ((e : Error) × FailsToQuery sql [] old new e × (fault ≡ fault_of e)) ⊎ ((rows : List Row) × Shown sql [] old new rows × (have_ids rows && rises rows ≡ false) × (fault ≡ Storage))
 
+-- a statement of this text failed with an error that is this fault
+abbrev pub FailsToWrite : List ℕ → Row → TableFault → State → State → Type 0
+FailsToWrite sql params fault old new = (e : Error) × ExecutesInside 0 sql params old new (Err e) × (fault ≡ fault_of e)
+
+-- what a connection shows at a moment, and what it counts
+pub record Moment : Type 0 where
+  pub now : Database
+  pub committed : Database
+  pub in_transaction : Bool
+  pub marks : List Savepoint
+  pub is_open : Bool
+  pub faults : ℕ
+  pub changes : ℕ
+  pub last_rowid : ℤ
+  pub step_limit : Option ℕ
+
+-- a connection that shows this
+abbrev pub at_moment : Moment → State
+at_moment m = record {
+  now = m.now;
+  committed = m.committed;
+  in_transaction = m.in_transaction;
+  marks = m.marks;
+  is_open = m.is_open;
+  is_clean = true;
+  faults = m.faults;
+  blamed = None;
+  changes = m.changes;
+  last_rowid = m.last_rowid;
+  step_limit = m.step_limit;
+  may_leave = λ _. ⊥;
+  IsShielded = ⊥;
+}
+
+-- an update by the row's key went through and found no row, and then the row was added with an error that is this fault
+pub record FailsToAdd (table : Table) (row : Row) (fault : TableFault) (old new : State) : Type 0 where
+  pub between : Moment
+  pub none : Replaces (table_at table) (key_in table row) row 0 old.now between.now
+  pub kept : between.committed ≡ old.committed
+  pub fails : FailsToWrite (sql_of table).insert row fault (at_moment between) new
+
 -- the plainest query is refused
 abbrev pub IsUnready : Option ℕ → Database → Type 0
 IsUnready = IsRefused (λ s e. IsNotRun s s (codes "SELECT 1") [] e)
@@ -82,6 +123,10 @@ pub record ReplacesSeveral (table : Table) (row : Row) (db : Database) : Type 0 
   pub several : 1 < count
   pub after : Database
   pub replaced : Replaces (table_at table) (key_in table row) row count db after
+
+-- a put failed with an error that is this fault: as it replaces the row with its key, or as it is added, or since several rows have its key
+abbrev pub FailsToPut : Table → Row → TableFault → State → State → Type 0
+FailsToPut table row fault old new = FailsToWrite (sql_of table).update row fault old new ⊎ (FailsToAdd table row fault old new ⊎ (ReplacesSeveral table row old.now × (fault ≡ Storage)))
 
 -- the row can't be added, where there is none with its key
 pub record IsHinderedToAdd (table : Table) (row : Row) (limit : Option ℕ) (db : Database) : Type 0 where
@@ -105,3 +150,7 @@ IsCaused storage Hinders result old new = HasCleanDisk new → result ≡ Err st
 -- the same of a call in a transaction
 abbrev pub IsCausedInside : {A : Type 0} → (Option ℕ → Database → Type 0) → Result A TableFault → State → State → Type 0
 IsCausedInside Hinders result old new = old.in_transaction ≡ true → IsCaused Storage Hinders result old new
+
+-- where a call in a transaction fails, it tells a fault of this kind, unless the disk gave back other bytes than it was given
+abbrev pub IsToldInside : {A : Type 0} → (TableFault → State → State → Type 0) → Result A TableFault → State → State → Type 0
+IsToldInside Fails result old new = HasCleanDisk new → old.in_transaction ≡ true → IfErr result (λ fault. Fails fault old new)

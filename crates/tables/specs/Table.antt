@@ -300,6 +300,14 @@ IsRowOf table row = IsTrue (are_of (kinds_of table) row)
 abbrev pub IsKeyOf : Table → Row → Type 0
 IsKeyOf table key = IsTrue (are_of (take (shape_of table).named (kinds_of table)) key)
 
+-- the text that takes a list out of its table: all choices of a round and a student
+abbrev pub list_removal : List ℕ
+list_removal = codes "DELETE FROM choice WHERE round = ?1 AND student = ?2"
+
+-- the values may be the round and the student that a removal of a list names
+abbrev pub IsListKey : Row → Type 0
+IsListKey key = IsTrue (are_of (take 2 (kinds_of Choice)) key)
+
 -- the key of a row
 abbrev pub key_in : Table → Row → Row
 key_in table row = take (length (shape_of table).primary) row

@@ -1,4 +1,4 @@
-//! The SQL of the product: each table told once, and a function for each statement over any of them.
+//! The SQL of the product: each table told once, a function for each statement over any of them, and one that takes a list away.
 //!
 //! Nothing here knows an office. `store`, one crate above, says what the rows mean, and puts the
 //! statements together into transactions. Each function here makes one call of the database, or two,

@@ -1,18 +1,18 @@
 //! The statements, each over any table.
 
-ghost use Rattle.std.specs.Prelude.{◌≡◌, [], IfOk, false};
+ghost use Rattle.std.specs.Prelude.{◌≡◌, [], IfOk, IfErr, false};
 ghost use Rattle.sqlite.specs.State.{HasCleanDisk, Survives};
 ghost use Rattle.sqlite.specs.Values.{bound};
 ghost use Rattle.sqlite.specs.Held.{state};
 ghost use Rattle.tables.specs.declared.fault.TableFault.TheVariants.{Storage};
-ghost use Rattle.tables.specs.Causes.{IsCaused, IsCausedInside, IsHindered, IsHinderedToPut, IsUnread};
-ghost use Rattle.tables.specs.Table.{IsRowOf, IsKeyOf, checks_of, key_in, sql_of, table_at};
+ghost use Rattle.tables.specs.Causes.{FailsToPut, FailsToRead, FailsToWrite, IsCaused, IsCausedInside, IsHindered, IsHinderedToPut, IsToldInside, IsUnread};
+ghost use Rattle.tables.specs.Table.{IsRowOf, IsKeyOf, IsListKey, checks_of, key_in, list_removal, sql_of, table_at};
 ghost use Rattle.tables.specs.Writes.{Adds, Makes, Puts, Removes};
 ghost use Rattle.tables.specs.Steps.{Does, HasStepped, Rests, Shows};
 
 use crate::fault::{TableFault, Wrote};
 use crate::read::read_text;
-use crate::table::Table;
+use crate::table::{LIST_REMOVAL, Table};
 use crate::write::write;
 use sqlite::{Alter, Connection, Row, Transaction};
 use sqlite_value::value::ValueRef;
@@ -21,6 +21,7 @@ use sqlite_value::value::ValueRef;
 pub fn make<S: Alter>(tx: &mut Transaction<'_, S>, table: Table) -> Wrote
     ensures same_reference { tx.new.conn.ghost_name ≡ tx.old.conn.ghost_name }
     ensures step { Does (HasStepped (Makes (table_at table) (checks_of table) [])) result (state S.Store tx.old.conn.now) (state S.Store tx.new.conn.now) }
+    ensures told { IsToldInside (FailsToWrite (sql_of table).create []) result (state S.Store tx.old.conn.now) (state S.Store tx.new.conn.now) }
     ensures cause { IsCausedInside (IsHindered (sql_of table).create []) result (state S.Store tx.old.conn.now) (state S.Store tx.new.conn.now) }
 {
     write(tx, table.shape().create, &[])?;
@@ -33,6 +34,7 @@ pub fn insert<S: Alter>(tx: &mut Transaction<'_, S>, table: Table, row: &[ValueR
 
     ensures same_reference { tx.new.conn.ghost_name ≡ tx.old.conn.ghost_name }
     ensures step { Does (HasStepped (Adds (table_at table) (key_in table (bound row.now)) (bound row.now))) result (state S.Store tx.old.conn.now) (state S.Store tx.new.conn.now) }
+    ensures told { IsToldInside (FailsToWrite (sql_of table).insert (bound row.now)) result (state S.Store tx.old.conn.now) (state S.Store tx.new.conn.now) }
     ensures cause { IsCausedInside (IsHindered (sql_of table).insert (bound row.now)) result (state S.Store tx.old.conn.now) (state S.Store tx.new.conn.now) }
 {
     write(tx, table.shape().insert, row)?;
@@ -45,6 +47,7 @@ pub fn put<S: Alter>(tx: &mut Transaction<'_, S>, table: Table, row: &[ValueRef<
 
     ensures same_reference { tx.new.conn.ghost_name ≡ tx.old.conn.ghost_name }
     ensures step { Does (HasStepped (Puts (table_at table) (key_in table (bound row.now)) (bound row.now))) result (state S.Store tx.old.conn.now) (state S.Store tx.new.conn.now) }
+    ensures told { IsToldInside (FailsToPut table (bound row.now)) result (state S.Store tx.old.conn.now) (state S.Store tx.new.conn.now) }
     ensures cause { IsCausedInside (IsHinderedToPut table (bound row.now)) result (state S.Store tx.old.conn.now) (state S.Store tx.new.conn.now) }
 {
     match write(tx, table.shape().update, row)? {
@@ -60,9 +63,23 @@ pub fn delete<S: Alter>(tx: &mut Transaction<'_, S>, table: Table, key: &[ValueR
 
     ensures same_reference { tx.new.conn.ghost_name ≡ tx.old.conn.ghost_name }
     ensures step { Does (HasStepped (Removes (table_at table) (bound key.now))) result (state S.Store tx.old.conn.now) (state S.Store tx.new.conn.now) }
+    ensures told { IsToldInside (FailsToWrite (sql_of table).delete (bound key.now)) result (state S.Store tx.old.conn.now) (state S.Store tx.new.conn.now) }
     ensures cause { IsCausedInside (IsHindered (sql_of table).delete (bound key.now)) result (state S.Store tx.old.conn.now) (state S.Store tx.new.conn.now) }
 {
     write(tx, table.shape().delete, key)?;
+    Ok(())
+}
+
+/// Takes a list away: all choices of this round and this student.
+pub fn delete_list<S: Alter>(tx: &mut Transaction<'_, S>, key: &[ValueRef<'_>]) -> Wrote
+    requires { IsListKey (bound key.now) }
+
+    ensures same_reference { tx.new.conn.ghost_name ≡ tx.old.conn.ghost_name }
+    ensures step { Does (HasStepped (Removes (table_at Table.Choice) (bound key.now))) result (state S.Store tx.old.conn.now) (state S.Store tx.new.conn.now) }
+    ensures told { IsToldInside (FailsToWrite list_removal (bound key.now)) result (state S.Store tx.old.conn.now) (state S.Store tx.new.conn.now) }
+    ensures cause { IsCausedInside (IsHindered list_removal (bound key.now)) result (state S.Store tx.old.conn.now) (state S.Store tx.new.conn.now) }
+{
+    write(tx, LIST_REMOVAL, key)?;
     Ok(())
 }
 
@@ -70,6 +87,7 @@ pub fn delete<S: Alter>(tx: &mut Transaction<'_, S>, table: Table, key: &[ValueR
 pub fn read<S: Alter>(conn: &mut Connection<S>, table: Table) -> Result<Vec<Row>, TableFault>
     ensures rows { HasCleanDisk (state S.Store conn.new) → IfOk result (λ rows. Shows (table_at table) rows.items (state S.Store conn.old) (state S.Store conn.new)) }
     ensures rests { HasCleanDisk (state S.Store conn.new) → Rests (state S.Store conn.old) (state S.Store conn.new) }
+    ensures told { HasCleanDisk (state S.Store conn.new) → IfErr result (λ fault. FailsToRead (sql_of table).select fault (state S.Store conn.old) (state S.Store conn.new)) }
     ensures cause { IsCaused Storage (IsUnread (sql_of table).select) result (state S.Store conn.old) (state S.Store conn.new) }
     ensures mode { conn.old.in_transaction ≡ false → conn.new.in_transaction ≡ false }
     ensures survives { Survives (state S.Store conn.old) (state S.Store conn.new) (λ _. ⊥) }

@@ -169,6 +169,9 @@ mod rows {
         delete: "DELETE FROM import WHERE id = ?1", select: "SELECT rowid, * FROM import" };
 }
 
+/// The text that takes a list out of `choice`: all choices of a round and a student.
+pub(crate) const LIST_REMOVAL: &str = "DELETE FROM choice WHERE round = ?1 AND student = ?2";
+
 impl Table {
     /// How many columns the table has.
     pub fn width(self) -> usize

@@ -1,15 +1,13 @@
 //! One statement in a transaction.
 
-ghost use Rattle.std.specs.Prelude.{◌≡◌, true, Err, IfErr};
-ghost use Rattle.sqlite.specs.State.{HasCleanDisk, ExecutesInside};
+ghost use Rattle.std.specs.Prelude.{◌≡◌};
 ghost use Rattle.sqlite.specs.Values.{bound};
 ghost use Rattle.sqlite.specs.Held.{state};
-ghost use Rattle.tables.specs.Causes.{IsCausedInside, IsHindered};
-ghost use Rattle.tables.specs.Faults.{fault_of};
+ghost use Rattle.tables.specs.Causes.{FailsToWrite, IsCausedInside, IsHindered, IsToldInside};
 ghost use Rattle.tables.specs.Steps.{HasRun, IsPart};
 
 use crate::fault::TableFault;
-use sqlite::{Alter, Error, Transaction};
+use sqlite::{Alter, Transaction};
 use sqlite_value::value::ValueRef;
 
 /// Runs a statement with these parameters, and tells how many rows it wrote.
@@ -22,7 +20,7 @@ pub(crate) fn write<S: Alter>(
     ensures step { IsPart (λ count. HasRun sql.now (bound params.now) count) result (state S.Store tx.old.conn.now) (state S.Store tx.new.conn.now) }
 
     // The fault is that of the statement's error.
-    ensures told { HasCleanDisk (state S.Store tx.new.conn.now) → (state S.Store tx.old.conn.now).in_transaction ≡ true → IfErr result (λ fault. (e : Error) × ExecutesInside 0 sql.now (bound params.now) (state S.Store tx.old.conn.now) (state S.Store tx.new.conn.now) (Err e) × (fault ≡ fault_of e)) }
+    ensures told { IsToldInside (FailsToWrite sql.now (bound params.now)) result (state S.Store tx.old.conn.now) (state S.Store tx.new.conn.now) }
     ensures cause { IsCausedInside (IsHindered sql.now (bound params.now)) result (state S.Store tx.old.conn.now) (state S.Store tx.new.conn.now) }
 {
     match tx.execute(sql, params) {

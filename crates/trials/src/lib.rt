@@ -27,6 +27,8 @@ mod disks;
 #[cfg(test)]
 mod exchanges;
 #[cfg(test)]
+mod failing;
+#[cfg(test)]
 mod import_texts;
 #[cfg(test)]
 mod instances;

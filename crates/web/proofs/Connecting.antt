@@ -1,13 +1,13 @@
 -- One more connection is served, and its line written.
-use Rattle.std.proofs.Common.{◌≡◌, ◌<◌, ◌≤◌, ◌+◌, ◌∙◌, ℕ, suc, List, [], ◌∷◌, ◌++◌, length, take, Option, Result, Ok, Err, OnErr, refl, sym, ap, subst, arith, append-nil}
+use Rattle.std.proofs.Common.{◌≡◌, ◌<◌, ◌+◌, ◌∙◌, ℕ, List, [], ◌∷◌, ◌++◌, length, take, Option, Result, Ok, Err, IfOk, IfErr, OnErr, inl, inr, refl, sym, ap, subst, arith, append-nil}
 use Rattle.std.specs.Io.KnownBytes.{Appends}
-use Rattle.std.proofs.Math.Seq.{take-append-add}
 use Rattle.std.proofs.lemmas.List.{append_assoc, length-append}
 use Rattle.rolls.specs.State.{State}
 use Rattle.wire.proofs.Known.{appends_compose, appends_none}
 use Rattle.wire.specs.declared.outcome.Served.{Served}
 use Rattle.wire.specs.declared.outcome.StreamFault.{StreamFault}
-use Rattle.web.specs.Connections.{Connects, Connect, connection_line, lines_after, AllServed, SomeServed}
+use Rattle.wire.specs.declared.outcome.StreamFault.TheVariants.{Read}
+use Rattle.web.specs.Connections.{IsStreamed, Connects, Connect, connection_line, lines_after, AllServed, SomeServed}
 
 abbrev Came : Type 0
 Came = Result Served StreamFault
@@ -66,3 +66,11 @@ one_cut before mid after n count w0 w w' one few so_far last wrote =
 pub at_fault : {A E P : Type 0} (r : Result A E) → P → OnErr r P
 at_fault (Ok a) p = tt
 at_fault (Err e) p = p
+
+-- what became of the next connection, whether it was accepted or not
+pub came_next : {A E D : Type 0} (office_of : D → State) (before after : D) (accepted : Result A E) (came : Came) → IfOk accepted (λ _. IsStreamed (office_of before) came (office_of after))
+    → IfErr accepted (λ _. (came ≡ Err Read) × (after ≡ before)) → Connects (office_of before) came (office_of after)
+came_next office_of before after (Ok a) (Ok served) streamed failed = streamed
+came_next office_of before after (Ok a) (Err fault) streamed failed = inl streamed
+came_next office_of before after (Err e) came streamed failed =
+    subst (λ (r : Came). Connects (office_of before) r (office_of after)) (sym failed.0) (inr (refl, ap office_of failed.1))

@@ -1,9 +1,9 @@
 //! Connections of a listener, served at a desk one after another.
 ghost use Rattle.std.specs.Io.KnownBytes.{Appends};
-ghost use Rattle.std.specs.Prelude.{◌≡◌, ℕ, ◌+◌, ◌≤◌, ◌<◌, ◌-◌, ◌^◌, ◌++◌, length, take, OnOk, OnErr};
+ghost use Rattle.std.specs.Prelude.{◌≡◌, ℕ, ◌+◌, ◌≤◌, ◌<◌, ◌-◌, ◌^◌, ◌++◌, length, take, Err, IfOk, IfErr, OnOk, OnErr};
 ghost use Rattle.wire.specs.declared.TheConstants.{MOST_SHORT_BODY};
 ghost use Rattle.arrayvec.specs.ArrayVec.{array_vec_len};
-ghost use Rattle.web.specs.Connections.{Connects, AllServed, SomeServed, end_word, fault_word, told_of, connection_line};
+ghost use Rattle.web.specs.Connections.{IsStreamed, Connects, AllServed, SomeServed, end_word, fault_word, told_of, connection_line};
 
 use crate::service::serve_stream;
 use api::{push, push_labelled};
@@ -11,7 +11,8 @@ use arrayvec::ArrayVec;
 use desk::Desk;
 use sqlite::Alter;
 use std::alloc::Global;
-use std::net::TcpListener;
+use std::io;
+use std::net::{SocketAddr, TcpListener, TcpStream};
 use wire::{End, Served, ShortText, Sink, StreamFault, Watched, write_all};
 
 /// The writer that lines go to failed: its count of failures grew by one.
@@ -95,6 +96,23 @@ fn write_line<O: Sink>(
     }
 }
 
+/// Serves the stream of a connection that was accepted, or could not be, and tells what became of it.
+fn serve_accepted<S: Alter>(
+    alloc: Global,
+    desk: &mut Desk<S>,
+    accepted: io::Result<(TcpStream, SocketAddr)>,
+) -> Result<Served, StreamFault>
+    ensures served { IfOk accepted (λ _. IsStreamed desk.old.office result desk.new.office) }
+    ensures unaccepted { IfErr accepted (λ _. (result ≡ Err StreamFault.Read) × (desk.new ≡ desk.old)) }
+{
+    let Ok((stream, _)) = accepted else {
+        return Err(StreamFault::Read);
+    };
+    let mut reader = Watched::new(&stream);
+    let mut writer = Watched::new(&stream);
+    serve_stream(alloc, desk, &mut reader, &mut writer)
+}
+
 /// Serves the stream of the next connection, and tells what became of it.
 fn serve_next<S: Alter>(
     alloc: Global,
@@ -103,12 +121,7 @@ fn serve_next<S: Alter>(
 ) -> Result<Served, StreamFault>
     ensures { Connects desk.old.office result desk.new.office }
 {
-    let Ok((stream, _)) = listener.accept() else {
-        return Err(StreamFault::Read);
-    };
-    let mut reader = Watched::new(&stream);
-    let mut writer = Watched::new(&stream);
-    serve_stream(alloc, desk, &mut reader, &mut writer)
+    serve_accepted(alloc, desk, listener.accept())
 }
 
 /// Serves so many connections, one after another, each to the end of its stream or until it breaks off, and writes a line of

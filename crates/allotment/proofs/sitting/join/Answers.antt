@@ -1,8 +1,11 @@
 use Rattle.std.proofs.Common.{◌≡◌, ℕ, List, length, sym, ap, subst, ◌∙◌, arith}
 use Rattle.solver.specs.Sitting.{with_list, IsAdmitted}
 use Rattle.rolls.specs.State.{State, last_round}
-use Rattle.allotment.proofs.Joining.{MayAdmit, joins_admitted, joins_sits}
+use Rattle.allotment.proofs.Joining.{MayAdmit, joins_admitted, joins_listed, joins_sits}
 use Rattle.allotment.proofs.sitting.join.Goals as goal
+
+pub list_of-requires : goal.list_of-requires
+list_of-requires c = record { listed = joins_listed c.args.office.now c.args.session.now c.args.student.now c.requires.joins }
 
 pub admit-requires : goal.admit-requires
 admit-requires c =

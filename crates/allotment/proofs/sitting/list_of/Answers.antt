@@ -15,8 +15,8 @@ positions_of-requires c =
           (subst (λ (cs : List (List ℕ)). All (Contains (map (λ (p : Project). p.code) o.projects)) cs) (sym c.as_slice.ensures) (listed_known o c.fit.ensures.fit c.args.student.now c.in-Some.listed.now found));
     }
 
-pub returns-in-Some : goal.returns-in-Some
-returns-in-Some c =
+pub returns : goal.returns
+returns c =
     let o : State = c.args.office.now in
     let found : list_of o (last_round o) c.args.student.now ≡ Some c.in-Some.listed.now = ap (λ (n : ℕ). list_of o n c.args.student.now) (sym c.last_round.ensures) ∙ sym c.list_of.ensures ∙ ap option_copied c.in-Some.is in
     record {

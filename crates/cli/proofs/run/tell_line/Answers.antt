@@ -1,4 +1,4 @@
-use Rattle.std.proofs.Common.{inl, inr, refl, ap, subst, rules, Ok, Err, map, string_bytes}
+use Rattle.std.proofs.Common.{refl, ap, subst, rules, Ok, Err, map, string_bytes}
 use Rattle.commands.specs.Reading.{IsAnswer}
 use Rattle.commands.specs.declared.line.LineFault.{LineFault}
 use Rattle.cli.specs.Outcomes.{MayCome, ComesTo, prints, tells, refusal_line}

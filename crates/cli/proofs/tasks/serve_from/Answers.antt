@@ -1,10 +1,11 @@
-use Rattle.std.proofs.Common.{inl, inr, ap, rules}
-use Rattle.cli.proofs.Telling.{on_err, served_told}
-use Rattle.cli.specs.Outcomes.{ServesAt, tells}
+use Rattle.std.proofs.Common.{◌⊎◌, inl, inr, Result, Ok, Err, MatchResult}
+use Rattle.cli.proofs.Telling.{tells_more}
 use Rattle.cli.proofs.tasks.serve_from.Goals as goal
 
-pub returns-in-Ok-clause-told : goal.returns-in-Ok-clause-told
-returns-in-Ok-clause-told g c = served_told _ c.args.port c.args.count _ _ _ _ _ _ _ c.keeps.ensures.fit c.serve_at.ensures.told
+-- whether the port was bound or not
+either : {A E : Type 0} (bound : Result A E) (P Q : Type 0) → MatchResult bound (λ _. P) (λ _. Q) → Q ⊎ P
+either (Ok a) P Q p = inr p
+either (Err e) P Q q = inl q
 
-pub returns-in-Err-clause-told : goal.returns-in-Err-clause-told
-returns-in-Err-clause-told g c = on_err (ServesAt c.args.port c.args.count) _ 1 _ _ _ _ _ _ _ (inr (inl (ap (tells 1) (search rules)))) c.print.ensures
+pub returns-clause-told : goal.returns-clause-told
+returns-clause-told g c = tells_more _ _ (λ o is. either c.bind-bound.result _ _ is) _ _ _ _ _ _ _ c.serve_bound.ensures.told

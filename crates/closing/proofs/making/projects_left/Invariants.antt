@@ -1,6 +1,10 @@
-use Rattle.std.proofs.Common.{◌≡◌, ◌++◌, map, drop}
+use Rattle.std.proofs.Common.{◌≡◌, ◌++◌, List, None, map, drop}
+use Rattle.rolls.specs.declared.entries.Supervisor.{Supervisor}
+use Rattle.rolls.specs.declared.rounds.Placement.{Placement}
+use Rattle.rolls.specs.Counted.{AreCounted}
 use Rattle.closing.specs.Handed.{project_left}
 use Rattle.closing.proofs.making.projects_left.Given as goal
 
-abbrev pub invariant-loop-entry : goal.invariant-loop-entry
-invariant-loop-entry l = l.roll.items ++ map (project_left l.placements) (drop l.entry-index l.projects) ≡ map (project_left l.placements) l.projects
+abbrev pub invariant-loop-position : goal.invariant-loop-position
+invariant-loop-position l = (supervisors : List Supervisor) (placements : List Placement) → AreCounted None supervisors l.projects placements l.counts
+    → l.roll.items ++ map (project_left placements) (drop l.position l.projects) ≡ map (project_left placements) l.projects

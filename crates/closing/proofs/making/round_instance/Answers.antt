@@ -1,16 +1,42 @@
-use Rattle.std.proofs.Common.{map, true≢false, sym, ap, ◌∙◌, subst}
+use Rattle.std.proofs.Common.{List, map, length, arith, true≢false, sym, ap, ◌∙◌, subst}
 use Rattle.spa.specs.Instance.{Instance}
 use Rattle.spa.specs.Made.{IsFirstInstanceFault}
-use Rattle.closing.specs.Handed.{project_left}
-use Rattle.closing.proofs.Instanced.{instance_accepted, handed_rolls}
+use Rattle.rolls.specs.declared.entries.Project.{Project}
+use Rattle.rolls.specs.declared.rounds.Placement.{Placement}
+use Rattle.closing.specs.Handed.{supervisor_left, project_left}
+use Rattle.closing.proofs.Opened.{few_placed}
+use Rattle.closing.proofs.Instanced.{instance_accepted, handed_rolls, parts_rolls}
 use Rattle.closing.proofs.making.round_instance.Goals as goal
 use Rattle.closing.proofs.making.round_instance.Goals.{in-Memory, in_default}
+
+pub counted-counts-requires-clause-rolls : goal.counted-counts-requires-clause-rolls
+counted-counts-requires-clause-rolls c = parts_rolls c.args.supervisors.now c.args.projects.now c.entries-roll.result.now c.args.placements.now c.args.lists.now c.requires c.entries-roll.ensures.all
+
+pub counted-counts-requires-clause-few : goal.counted-counts-requires-clause-few
+counted-counts-requires-clause-few c =
+    let are = c.requires in
+    let few = few_placed are.office are.fit in
+    let same = ap (λ (ps : List Placement). length ps) are.parts.all_placements in
+    omega (arith, few, are.fit.students.few, same)
+
+pub supervisors_left-requires : goal.supervisors_left-requires
+supervisors_left-requires c =
+    let rolls = parts_rolls c.args.supervisors.now c.args.projects.now c.entries-roll.result.now c.args.placements.now c.args.lists.now c.requires c.entries-roll.ensures.all in
+    rolls.few_supervisors
+
+pub projects_left-requires : goal.projects_left-requires
+projects_left-requires c =
+    let rolls = parts_rolls c.args.supervisors.now c.args.projects.now c.entries-roll.result.now c.args.placements.now c.args.lists.now c.requires c.entries-roll.ensures.all in
+    rolls.few_projects
 
 pub prove-unreachable-requires : goal.prove-unreachable-requires
 prove-unreachable-requires c =
     let are = c.requires in
-    let projects = c.in_ok-projects.ensures ∙ ap (map (project_left c.args.placements.now)) c.entries.ensures.all in
-    let same = handed_rolls are.office _ _ _ _ are.parts _ _ _ c.in_ok-supervisors.ensures projects c.in_ok-students.ensures in
+    let projects = c.in_ok-projects.ensures c.args.supervisors.now c.args.placements.now c.counted-counts.ensures ∙ ap (map (project_left c.args.placements.now)) c.entries-roll.ensures.all in
+    let supervisors =
+    c.in_ok-supervisors.ensures c.entries-roll.result.now c.args.placements.now c.counted-counts.ensures
+    ∙ ap (λ (ps : List Project). map (supervisor_left ps c.args.placements.now) c.args.supervisors.now) c.entries-roll.ensures.all in
+    let same = handed_rolls are.office _ _ _ _ are.parts _ _ _ supervisors projects c.in_ok-students.ensures in
     let fault = subst (λ (l : Instance). IsFirstInstanceFault l c.in-Err.fault) same c.in-Err.ensures.fault in
     let memory = instance_accepted are.office are.fit c.in-Err.fault fault in
     elim c.match-matches.branch [
@@ -20,5 +46,8 @@ prove-unreachable-requires c =
 
 pub returns-in-Ok : goal.returns-in-Ok
 returns-in-Ok c o are =
-    let projects = c.in_ok-projects.ensures ∙ ap (map (project_left c.args.placements.now)) c.entries.ensures.all in
-    c.in-Ok.ensures.made ∙ handed_rolls o _ _ _ _ are _ _ _ c.in_ok-supervisors.ensures projects c.in_ok-students.ensures
+    let projects = c.in_ok-projects.ensures c.args.supervisors.now c.args.placements.now c.counted-counts.ensures ∙ ap (map (project_left c.args.placements.now)) c.entries-roll.ensures.all in
+    let supervisors =
+    c.in_ok-supervisors.ensures c.entries-roll.result.now c.args.placements.now c.counted-counts.ensures
+    ∙ ap (λ (ps : List Project). map (supervisor_left ps c.args.placements.now) c.args.supervisors.now) c.entries-roll.ensures.all in
+    c.in-Ok.ensures.made ∙ handed_rolls o _ _ _ _ are _ _ _ supervisors projects c.in_ok-students.ensures

@@ -1,10 +1,13 @@
-use Rattle.std.proofs.Common.{ap, ◌∙◌, ◌-◌}
-use Rattle.closing.specs.Handed.{count_with, supervisor_left}
+use Rattle.std.proofs.Common.{length, refl, ap, ◌∙◌, ◌-◌}
+use Rattle.std.proofs.lemmas.Option.{slice_get_read}
+use Rattle.closing.specs.Handed.{supervisor_left}
 use Rattle.closing.proofs.Instanced.{handed_step}
 use Rattle.closing.proofs.making.supervisors_left.Goals as goal
 
-pub loop-entry-preserved : goal.loop-entry-preserved
-loop-entry-preserved c =
-    let left = c.saturating_sub-left.ensures ∙ ap (λ n. c.entry-item.result.quota - n) (c.placed_with_supervisor-placed.ensures ∙ ap (count_with c.args.projects.now c.args.placements.now) c.as_str.ensures.value) in
-    handed_step (supervisor_left c.args.projects.now c.args.placements.now) c.args.supervisors.now c.loop-entry.entry-index c.entry-item.result _ _ _ _ c.loop-entry-test.true c.entry-item.is
-    (λ i. (c.copy.ensures i, left i)) c.in_ok-push.ensures.items c.loop-entry.invariant
+pub loop-position-preserved : goal.loop-position-preserved
+loop-position-preserved c projects placements are =
+    let all = c.args.supervisors.now in
+    let at = slice_get_read all (length all) c.loop-position.position c.index-supervisors-position.result refl c.loop-position-test.true c.index-supervisors-position.is in
+    let left = c.saturating_sub-left.ensures ∙ ap (λ n. c.index-supervisors-position.result.quota - n) (c.with_supervisor.ensures ∙ are.with_supervisor c.loop-position.position c.index-supervisors-position.result at) in
+    handed_step (supervisor_left projects placements) all c.loop-position.position c.index-supervisors-position.result _ _ _ _ c.loop-position-test.true c.index-supervisors-position.is
+    (λ i. (c.copy.ensures i, left i)) c.in_ok-push.ensures.items (c.loop-position.invariant projects placements are)

@@ -1,8 +1,35 @@
+use Rattle.std.proofs.Common.{◌≡◌, ℕ, List, length, Some, slice_get, refl, sym, ap, subst, ◌∙◌, arith}
+use Rattle.std.proofs.lemmas.Option.{slice_get_read}
+use Rattle.spa.specs.Counted.{Counted}
+use Rattle.rolls.specs.declared.entries.Supervisor.{Supervisor}
+use Rattle.rolls.specs.declared.entries.Project.{Project}
+use Rattle.rolls.specs.declared.rounds.Placement.{Placement}
+use Rattle.rolls.specs.State.{State}
+use Rattle.rolls.specs.Counted.{AreCounted}
+use Rattle.office.proofs.Few.{placements_few}
 use Rattle.reports.proofs.Lines.{next, appended}
-use Rattle.reports.specs.Texts.{supervisor_rows}
+use Rattle.reports.specs.Texts.{AreLoads, supervisor_rows}
 use Rattle.reports.proofs.loads_report.loads.Goals as goal
 
-pub loop-supervisor-preserved : goal.loop-supervisor-preserved
-loop-supervisor-preserved c =
-    let left = next c.supervisors-supervisor-items.result.now c.loop-supervisor.supervisor-index c.supervisor-item.result c.loop-supervisor-test.true c.supervisor-item.is in
-    appended (supervisor_rows c.args.office.now c.args.round) _ _ _ _ _ _ left c.in_ok-push_supervisor.ensures c.loop-supervisor.invariant
+pub counted-counts-requires-clause-few : goal.counted-counts-requires-clause-few
+counted-counts-requires-clause-few c =
+    let few = placements_few c.args.office.now c.fit.ensures.fit in
+    let same = ap (λ (ps : List Placement). length ps) c.placements.ensures.all in
+    omega (arith, few, same)
+
+-- the counts are those of the office
+counts_of : (o : State) (n : ℕ) (supervisors : List Supervisor) (projects : List Project) (placements : List Placement) (counts : Counted)
+    → supervisors ≡ o.supervisors → projects ≡ o.projects → placements ≡ o.placements → AreCounted (Some n) supervisors projects placements counts → AreLoads o n counts
+counts_of o n supervisors projects placements counts s p q are =
+    subst (λ (ss : List Supervisor). AreCounted (Some n) ss o.projects o.placements counts) s
+    (subst (λ (ps : List Project). AreCounted (Some n) supervisors ps o.placements counts) p
+    (subst (λ (qs : List Placement). AreCounted (Some n) supervisors projects qs counts) q are))
+
+pub loop-position-preserved : goal.loop-position-preserved
+loop-position-preserved c =
+    let all = c.supervisors-supervisors.result.now in
+    let k = c.loop-position.position in
+    let left = next all k c.index-supervisors-position.result c.loop-position-test.true c.index-supervisors-position.is in
+    let at = ap (λ (ss : List Supervisor). slice_get ss k) (sym c.supervisors-supervisors.ensures.all) ∙ slice_get_read all (length all) k c.index-supervisors-position.result refl c.loop-position-test.true c.index-supervisors-position.is in
+    let are = counts_of c.args.office.now c.args.round all c.projects.result.now c.placements.result.now c.counted-counts.result c.supervisors-supervisors.ensures.all c.projects.ensures.all c.placements.ensures.all c.counted-counts.ensures in
+    appended (supervisor_rows c.args.office.now c.args.round) _ _ _ _ _ _ left (c.in_ok-push_supervisor.ensures c.args.round at are) c.loop-position.invariant

@@ -5,11 +5,11 @@ use Rattle.reports.specs.Texts.{load_row, project_row, placed_in_project_by}
 use Rattle.reports.proofs.loads_report.push_project.Goals as goal
 
 pub returns-in_ok-push_load : goal.returns-in_ok-push_load
-returns-in_ok-push_load c =
+returns-in_ok-push_load c o n at are =
     let p = c.args.project.now in
     let old = string_bytes c.args.out.now in
-    let placed = c.placed_in_project_by-placed.ensures ∙ ap (placed_in_project_by c.args.office.now c.args.round) c.as_str-then-eq.ensures.value in
+    let placed = c.in_project-placed.ensures ∙ are.in_project c.args.position p at in
     let offered = sym (c.eq.ensures ∙ ap (bytes_eq c.args.supervisor.now) c.as_str.ensures.value) ∙ c.if-eq.true in
     c.in_ok-push_load.ensures ∙ (λ i. c.in_ok-push_str.ensures.bytes i ++ load_row 16 p.code (placed i) p.quota)
-    ∙ append_assoc old (32 ∷ 32 ∷ []) (load_row 16 p.code (placed_in_project_by c.args.office.now c.args.round p.code) p.quota)
-    ∙ ap (λ l. old ++ l) (chosen (project_row c.args.office.now c.args.round) (λ p. bytes_eq c.args.supervisor.now p.supervisor) p offered)
+    ∙ append_assoc old (32 ∷ 32 ∷ []) (load_row 16 p.code (placed_in_project_by o n p.code) p.quota)
+    ∙ ap (λ l. old ++ l) (chosen (project_row o n) (λ p. bytes_eq c.args.supervisor.now p.supervisor) p offered)

@@ -1,5 +1,6 @@
-use Rattle.std.proofs.Common.{subst}
+use Rattle.std.proofs.Common.{Err, sym, ap, subst, ◌∙◌}
 use Rattle.sqlite_rules.specs.Lists.{Has}
+use Rattle.store.proofs.Causes.{of_storage}
 use Rattle.store.proofs.Judging.{holds_none}
 use Rattle.store.proofs.reading.read_table.Goals as goal
 
@@ -11,3 +12,8 @@ returns-clause-damaged g c clean h =
 
 pub returns-clause-cause : goal.returns-clause-cause
 returns-clause-cause g c clean h = absurd (c.rows_with.ensures.faults h)
+
+pub returns-in_err-cells-clause-cause : goal.returns-in_err-cells-clause-cause
+returns-in_err-cells-clause-cause g c clean h =
+    let gives = rw h at c.from_residual.ensures.1 in
+    c.read.ensures.cause clean (c.in_err-cells.was ∙ ap Err (of_storage _ (sym gives)))

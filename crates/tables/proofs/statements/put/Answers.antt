@@ -1,7 +1,7 @@
 use Rattle.tables.specs.Table.{table_at}
 use Rattle.tables.proofs.Runs.{part_ok, part_then}
 use Rattle.tables.proofs.Putting.{puts_once, puts_more}
-use Rattle.tables.proofs.Told.{replaced, several, unadded, unreplaced}
+use Rattle.tables.proofs.Told.{replaced, several, told_adding, told_several, unadded, unreplaced}
 use Rattle.std.proofs.Common.{◌<◌, arith, rules}
 use Rattle.sqlite.specs.State.{HasCleanDisk}
 use Rattle.sqlite.specs.Held.{state}
@@ -30,3 +30,15 @@ pub returns-in_default-clause-cause : goal.returns-in_default-clause-cause
 returns-in_default-clause-cause g c inside clean h =
     let many : 1 < c.in_ok-write.field-0 = grind (arith, c.in_default) in
     several c.args.table _ _ _ _ many (replaced c.args.table _ c.shape.ensures.texts _ _ _ _ c.requires (c.in_ok-write.ensures.step.did clean))
+
+pub returns-in-0-clause-told : goal.returns-in-0-clause-told
+returns-in-0-clause-told g c clean inside =
+    let step = c.in_ok-write.ensures.step in
+    let early : HasCleanDisk (state g.S.Store c.write.new.tx.conn.now) = omega (arith, c.insert.ensures.step.survives.clean) in
+    let ran = step.did early in
+    told_adding c.args.table _ _ _ _ _ c.insert.result c.in-0.is (replaced c.args.table _ c.shape.ensures.texts _ _ _ _ c.requires ran) (c.insert.ensures.told clean ran.shown.mode)
+
+pub returns-in_default-clause-told : goal.returns-in_default-clause-told
+returns-in_default-clause-told g c clean inside =
+    let many : 1 < c.in_ok-write.field-0 = grind (arith, c.in_default) in
+    told_several c.args.table _ _ _ _ many (replaced c.args.table _ c.shape.ensures.texts _ _ _ _ c.requires (c.in_ok-write.ensures.step.did clean))

@@ -3,8 +3,8 @@ use Rattle.sqlite.proofs.StateLemmas.{survives_weaker}
 use Rattle.sqlite.specs.State.{HasCleanDisk, Survives}
 use Rattle.sqlite.specs.Held.{state}
 use Rattle.tables.specs.Steps.{HasSaved, IsLeft}
-use Rattle.store.specs.Saving.{AreInert, LeavesOthers, Saves}
-use Rattle.store.proofs.Applying.{others_call, saves_call, saves_left}
+use Rattle.store.specs.Saving.{AddsNew, AreInert, LeavesOthers, Saves}
+use Rattle.store.proofs.Applying.{new_call, others_call, saves_call, saves_left}
 use Rattle.store.proofs.store.Store.save.Goals as goal
 
 pub returns-clause-ok : goal.returns-clause-ok
@@ -24,3 +24,9 @@ returns-clause-crash g c =
     let inert = subst AreInert c.schema.ensures.value (c.are_left.ensures.sound c.if-not-are_left.false) in
     subst (λ k. Survives (state g.S.Store k) (state g.S.Store c.save_all.new.conn) (IsLeft (Saves c.args.changes.now) (state g.S.Store k))) c.self.view_is
     (survives_weaker _ _ _ _ (λ clean trees h. saves_left _ _ trees inert h) c.save_all.ensures.crash)
+
+pub returns-clause-fresh : goal.returns-clause-fresh
+returns-clause-fresh g c =
+    let inert = subst AreInert c.schema.ensures.value (c.are_left.ensures.sound c.if-not-are_left.false) in
+    subst (λ k. HasCleanDisk (state g.S.Store c.save_all.new.conn) → OnOk c.save_all.result (AddsNew c.args.changes.now (state g.S.Store k).now)) c.self.view_is
+    (λ clean. new_call _ _ _ _ inert (c.save_all.ensures.ok clean))

@@ -1,0 +1,61 @@
+-- How many placements each project and each supervisor has, by position in the rolls.
+use Rattle.std.specs.Prelude.{◌≡◌, ℕ, ◌+◌, ◌<◌, ◌≤◌, ◌==◌, ◌&&◌, nat_le, cond, Bool, true, false, IsTrue, List, length, count_by, slice_get, slice_index, Option, Some, None}
+use Rattle.std.specs.Option.{option_map_or}
+use Rattle.std.specs.List.{AllByRecursion}
+use Rattle.std.specs.Str.{bytes_eq}
+use Rattle.spa.specs.declared.TheConstants.{MOST_SUPERVISORS, MOST_PROJECTS}
+use Rattle.spa.specs.Counted.{Counted}
+use Rattle.rolls.specs.declared.entries.Supervisor.{Supervisor}
+use Rattle.rolls.specs.declared.entries.Project.{Project}
+use Rattle.rolls.specs.declared.rounds.Placement.{Placement}
+use Rattle.rolls.specs.Roll.{of_code, find, has, rises}
+use Rattle.rolls.specs.State.{supervisor_key, project_key}
+
+-- whether a round up to this one made the placement; where none is named, any round did
+abbrev pub is_made_by : Option ℕ → Placement → Bool
+is_made_by None q = true
+is_made_by (Some n) q = nat_le q.round n
+
+-- whether a supervisor offers one of these projects
+abbrev pub offers : List Project → List ℕ → List ℕ → Bool
+offers projects supervisor project = option_map_or (λ p. bytes_eq supervisor p.supervisor) (find project_key (of_code project) projects) false
+
+-- rolls in the order of codes, no longer than they may be, with the supervisor of each project
+pub record AreRolls (supervisors : List Supervisor) (projects : List Project) : Type 0 where
+  pub supervisors_rise : IsTrue (rises supervisor_key supervisors)
+  pub projects_rise : IsTrue (rises project_key projects)
+  pub few_supervisors : length supervisors ≤ MOST_SUPERVISORS
+  pub few_projects : length projects ≤ MOST_PROJECTS
+  pub offered : AllByRecursion (λ p. IsTrue (has supervisor_key (of_code p.supervisor) supervisors)) projects
+
+-- a project stands at a position of its roll, and its supervisor at one of the other, and nowhere else
+pub record ArePositions (supervisors : List Supervisor) (projects : List Project) (project : List ℕ) (p l : ℕ) : Type 0 where
+  pub project_within : p < MOST_PROJECTS
+  pub supervisor_within : l < MOST_SUPERVISORS
+  pub project_there : (k : ℕ) (e : Project) → slice_get projects k ≡ Some e → bytes_eq e.code project ≡ (p == k)
+  pub supervisor_there : (k : ℕ) (s : Supervisor) → slice_get supervisors k ≡ Some s → offers projects s.code project ≡ (l == k)
+
+-- a project stands nowhere on its roll, so no supervisor offers it
+pub record IsNowhere (supervisors : List Supervisor) (projects : List Project) (project : List ℕ) : Type 0 where
+  pub no_project : (k : ℕ) (e : Project) → slice_get projects k ≡ Some e → bytes_eq e.code project ≡ false
+  pub no_supervisor : (s : List ℕ) → offers projects s project ≡ false
+
+-- one more placement is counted, if such a round made it, for its project and the project's supervisor
+pub record IsOneMore (up_to : Option ℕ) (supervisors : List Supervisor) (projects : List Project) (q : Placement) (old new : Counted) : Type 0 where
+  pub in_project : (k : ℕ) (e : Project) → slice_get projects k ≡ Some e → slice_index new.projects k ≡ slice_index old.projects k + cond (is_made_by up_to q && bytes_eq e.code q.project) 1 0
+  pub with_supervisor : (k : ℕ) (s : Supervisor) → slice_get supervisors k ≡ Some s → slice_index new.supervisors k ≡ slice_index old.supervisors k + cond (is_made_by up_to q && offers projects s.code q.project) 1 0
+  pub few_in_project : (k : ℕ) → slice_index new.projects k ≤ slice_index old.projects k + 1
+  pub few_with_supervisor : (k : ℕ) → slice_index new.supervisors k ≤ slice_index old.supervisors k + 1
+
+-- how many of the placements that such rounds made are in a project
+abbrev pub count_in : Option ℕ → List Placement → List ℕ → ℕ
+count_in up_to placements project = count_by (λ q. is_made_by up_to q && bytes_eq project q.project) placements
+
+-- how many of them are with a supervisor of these projects
+abbrev pub count_with : Option ℕ → List Project → List Placement → List ℕ → ℕ
+count_with up_to projects placements supervisor = count_by (λ q. is_made_by up_to q && offers projects supervisor q.project) placements
+
+-- the placements that such rounds made are counted, for each project and each supervisor of the rolls
+pub record AreCounted (up_to : Option ℕ) (supervisors : List Supervisor) (projects : List Project) (placements : List Placement) (counts : Counted) : Type 0 where
+  pub in_project : (k : ℕ) (e : Project) → slice_get projects k ≡ Some e → slice_index counts.projects k ≡ count_in up_to placements e.code
+  pub with_supervisor : (k : ℕ) (s : Supervisor) → slice_get supervisors k ≡ Some s → slice_index counts.supervisors k ≡ count_with up_to projects placements s.code

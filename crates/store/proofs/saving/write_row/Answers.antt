@@ -1,0 +1,60 @@
+use Rattle.tables.proofs.Runs.{part_as, stepped_as}
+use Rattle.store.proofs.Causes.{refused_entering}
+use Rattle.store.proofs.Holding.{hold_enter}
+use Rattle.store.proofs.saving.write_row.Goals as goal
+
+pub returns-in-Supervisor-clause-step : goal.returns-in-Supervisor-clause-step
+returns-in-Supervisor-clause-step g c =
+    rw c.in-Supervisor.is (part_as _ _ _ _ _ (λ _ p. stepped_as _ _ _ _ (hold_enter c.args.way _ _ _) p)
+    (rw (c.params-to_sql.ensures, c.params-to_sql-in-Supervisor.ensures, c.params-to_sql-in-Supervisor-2.ensures, c.as_str.ensures, c.as_str-in-Supervisor.ensures) at c.enter.ensures.step))
+
+pub returns-in-Project-clause-step : goal.returns-in-Project-clause-step
+returns-in-Project-clause-step g c =
+    rw c.in-Project.is (part_as _ _ _ _ _ (λ _ p. stepped_as _ _ _ _ (hold_enter c.args.way _ _ _) p)
+    (rw (c.params-to_sql-in-Project.ensures, c.params-to_sql-in-Project-2.ensures, c.params-to_sql-in-Project-3.ensures, c.params-to_sql-in-Project-4.ensures, c.as_str-in-Project.ensures, c.as_str-in-Project-2.ensures, c.as_str-in-Project-3.ensures) at c.enter-in-Project.ensures.step))
+
+pub returns-in-Student-clause-step : goal.returns-in-Student-clause-step
+returns-in-Student-clause-step g c =
+    rw c.in-Student.is (part_as _ _ _ _ _ (λ _ p. stepped_as _ _ _ _ (hold_enter c.args.way _ _ _) p)
+    (rw (c.params-to_sql-in-Student.ensures, c.params-to_sql-in-Student-2.ensures, c.as_str-in-Student.ensures, c.as_str-in-Student-2.ensures) at c.enter-in-Student.ensures.step))
+
+pub returns-in-Round-clause-step : goal.returns-in-Round-clause-step
+returns-in-Round-clause-step g c =
+    rw c.in-Round.is (part_as _ _ _ _ _ (λ _ p. stepped_as _ _ _ _ (hold_enter c.args.way _ _ _) p)
+    (rw (c.params-to_sql-in-Round.ensures, c.params-to_sql-in-Round-2.ensures, c.flag.ensures) at c.enter-in-Round.ensures.step))
+
+pub returns-in-Choice-clause-step : goal.returns-in-Choice-clause-step
+returns-in-Choice-clause-step g c =
+    rw c.in-Choice.is (part_as _ _ _ _ _ (λ _ p. stepped_as _ _ _ _ (hold_enter c.args.way _ _ _) p)
+    (rw (c.params-to_sql-in-Choice.ensures, c.params-to_sql-in-Choice-2.ensures, c.params-to_sql-in-Choice-3.ensures, c.params-to_sql-in-Choice-4.ensures, c.as_str-in-Choice.ensures, c.as_str-in-Choice-2.ensures) at c.enter-in-Choice.ensures.step))
+
+pub returns-in-Placement-clause-step : goal.returns-in-Placement-clause-step
+returns-in-Placement-clause-step g c =
+    rw c.in-Placement.is (part_as _ _ _ _ _ (λ _ p. stepped_as _ _ _ _ (hold_enter c.args.way _ _ _) p)
+    (rw (c.params-to_sql-in-Placement.ensures, c.params-to_sql-in-Placement-2.ensures, c.params-to_sql-in-Placement-3.ensures, c.params-to_sql-in-Placement-4.ensures, c.as_str-in-Placement.ensures, c.as_str-in-Placement-2.ensures) at c.enter-in-Placement.ensures.step))
+
+pub returns-in-Import-clause-step : goal.returns-in-Import-clause-step
+returns-in-Import-clause-step g c =
+    rw c.in-Import.is (part_as _ _ _ _ _ (λ _ p. stepped_as _ _ _ _ (hold_enter c.args.way _ _ _) p)
+    (rw (c.params-to_sql-in-Import.ensures, c.params-to_sql-in-Import-2.ensures, c.params-to_sql-in-Import-3.ensures, c.params-to_sql-in-Import-4.ensures, c.as_str-in-Import.ensures, c.word.ensures, c.as_slice.ensures) at c.enter-in-Import.ensures.step))
+
+pub returns-in-Supervisor-clause-cause : goal.returns-in-Supervisor-clause-cause
+returns-in-Supervisor-clause-cause g c = rw c.in-Supervisor.is (refused_entering c.args.way _ _ _ _ (rw (c.params-to_sql.ensures, c.params-to_sql-in-Supervisor.ensures, c.params-to_sql-in-Supervisor-2.ensures, c.as_str.ensures, c.as_str-in-Supervisor.ensures) at c.enter.ensures.cause))
+
+pub returns-in-Project-clause-cause : goal.returns-in-Project-clause-cause
+returns-in-Project-clause-cause g c = rw c.in-Project.is (refused_entering c.args.way _ _ _ _ (rw (c.params-to_sql-in-Project.ensures, c.params-to_sql-in-Project-2.ensures, c.params-to_sql-in-Project-3.ensures, c.params-to_sql-in-Project-4.ensures, c.as_str-in-Project.ensures, c.as_str-in-Project-2.ensures, c.as_str-in-Project-3.ensures) at c.enter-in-Project.ensures.cause))
+
+pub returns-in-Student-clause-cause : goal.returns-in-Student-clause-cause
+returns-in-Student-clause-cause g c = rw c.in-Student.is (refused_entering c.args.way _ _ _ _ (rw (c.params-to_sql-in-Student.ensures, c.params-to_sql-in-Student-2.ensures, c.as_str-in-Student.ensures, c.as_str-in-Student-2.ensures) at c.enter-in-Student.ensures.cause))
+
+pub returns-in-Round-clause-cause : goal.returns-in-Round-clause-cause
+returns-in-Round-clause-cause g c = rw c.in-Round.is (refused_entering c.args.way _ _ _ _ (rw (c.params-to_sql-in-Round.ensures, c.params-to_sql-in-Round-2.ensures, c.flag.ensures) at c.enter-in-Round.ensures.cause))
+
+pub returns-in-Choice-clause-cause : goal.returns-in-Choice-clause-cause
+returns-in-Choice-clause-cause g c = rw c.in-Choice.is (refused_entering c.args.way _ _ _ _ (rw (c.params-to_sql-in-Choice.ensures, c.params-to_sql-in-Choice-2.ensures, c.params-to_sql-in-Choice-3.ensures, c.params-to_sql-in-Choice-4.ensures, c.as_str-in-Choice.ensures, c.as_str-in-Choice-2.ensures) at c.enter-in-Choice.ensures.cause))
+
+pub returns-in-Placement-clause-cause : goal.returns-in-Placement-clause-cause
+returns-in-Placement-clause-cause g c = rw c.in-Placement.is (refused_entering c.args.way _ _ _ _ (rw (c.params-to_sql-in-Placement.ensures, c.params-to_sql-in-Placement-2.ensures, c.params-to_sql-in-Placement-3.ensures, c.params-to_sql-in-Placement-4.ensures, c.as_str-in-Placement.ensures, c.as_str-in-Placement-2.ensures) at c.enter-in-Placement.ensures.cause))
+
+pub returns-in-Import-clause-cause : goal.returns-in-Import-clause-cause
+returns-in-Import-clause-cause g c = rw c.in-Import.is (refused_entering c.args.way _ _ _ _ (rw (c.params-to_sql-in-Import.ensures, c.params-to_sql-in-Import-2.ensures, c.params-to_sql-in-Import-3.ensures, c.params-to_sql-in-Import-4.ensures, c.as_str-in-Import.ensures, c.word.ensures, c.as_slice.ensures) at c.enter-in-Import.ensures.cause))

@@ -1,0 +1,327 @@
+//! A database over files of which one fails from some call on: what is answered, and what is found in the files afterwards.
+
+ghost use Rattle.std.specs.Prelude.{IfOk, IsTrue};
+ghost use Rattle.sqlite_disk.specs.Memory.{memory_is_usable};
+
+use crate::judged::holds;
+use crate::kept::kept_by;
+use crate::played::{answer_of, asked, play_lines};
+use crate::school::{LISTED, SCHOOL};
+use desk::Desk;
+use rolls::Refusal;
+use sqlite::{Alter, Connection, FileStore, Files, Options};
+use sqlite_disk::{Crash, Disk, Fuse, Memory};
+use std::alloc::Global;
+use std::process::Abort;
+use std::rt::HostRuntime;
+use std::test::Fail;
+
+/// After how many pages of the log these are copied into the database file; what is played before; a request, or none where the
+/// database is only opened, as it stands in its log; and a read as it is answered before the request. Where nothing is played the files
+/// hold nothing, and the tables are made.
+type Row = (usize, &'static [&'static str], &'static str, &'static str);
+
+#[rattlefmt::skip]
+static ROWS: [Row; 9] = [
+    (1_000, &[SCHOOL, LISTED], "", ""),
+    (1_000, &[], "", ""),
+    (1_000, &[SCHOOL, LISTED],
+     r#"POST /rounds/close || 200 OK | {"profile":[0,2,0,0^,],"round":1,"size":2}"#,
+     r#"GET /rounds/1 || 200 OK | {"open":true,"placed":0,"profile":[0,0,0,0^,],"round":1,"students":2}"#),
+    (1_000, &[SCHOOL, LISTED],
+     r#"POST /imports/students/I1 | code,name^nS1,Ann^nS2,Bob^n | 200 OK | {"rows":2}"#,
+     r#"GET /students/S2 || 404 Not Found | {"fault":"UnknownStudent","number":15}"#),
+    (1_000, &[SCHOOL, LISTED],
+     r#"PUT /lists/A | {"choices":["Q","P"]} | 200 OK | {"ok":true}"#,
+     r#"GET /students/A || 200 OK | {"list":["P","Q"],"name":"Ann","placed":null}"#),
+    (1_000, &[SCHOOL, LISTED],
+     r#"PUT /students/S1 | {"name":"Dan"} | 200 OK | {"ok":true}"#,
+     r#"GET /students/S1 || 404 Not Found | {"fault":"UnknownStudent","number":15}"#),
+    (1_000, &[],
+     r#"PUT /students/S1 | {"name":"Dan"} | 200 OK | {"ok":true}"#,
+     r#"GET /students/S1 || 404 Not Found | {"fault":"UnknownStudent","number":15}"#),
+    (1, &[SCHOOL, LISTED],
+     r#"POST /rounds/close || 200 OK | {"profile":[0,2,0,0^,],"round":1,"size":2}"#,
+     r#"GET /rounds/1 || 200 OK | {"open":true,"placed":0,"profile":[0,0,0,0^,],"round":1,"students":2}"#),
+    (1, &[],
+     r#"PUT /students/S1 | {"name":"Dan"} | 200 OK | {"ok":true}"#,
+     r#"GET /students/S1 || 404 Not Found | {"fault":"UnknownStudent","number":15}"#),
+];
+
+/// How a database that fails refuses a request.
+const REFUSED: &str = r#"||503 Service Unavailable | {"fault":"Storage","number":2}"#;
+
+/// The bytes of a database file and of its log.
+#[derive(Drop)]
+struct Bytes {
+    log: Vec<u8>,
+    db: Vec<u8>,
+}
+
+/// Whether these are the same bytes.
+fn are_same(bytes: &Bytes, other: &Bytes) -> bool {
+    bytes.log.as_slice() == other.log.as_slice() && bytes.db.as_slice() == other.db.as_slice()
+}
+
+/// A database before a request, what its tables keep then, and what they keep after the request.
+#[derive(Drop)]
+struct Start {
+    bytes: Bytes,
+    old: String,
+    new: String,
+}
+
+/// The calls that pass of a log and of a database file that do not fail.
+const ALL: (u64, u64) = (u64::MAX, u64::MAX);
+
+/// A file in memory that holds these bytes.
+fn file_of(alloc: Global, bytes: &[u8]) -> Result<Memory, Fail>
+    ensures { IfOk result (λ file. IsTrue (memory_is_usable file)) }
+{
+    let mut file = Memory::new(alloc);
+    file.write_at(0, bytes)?;
+    file.sync()?;
+    Ok(file)
+}
+
+/// The database of these bytes, whose log and whose file pass so many calls and then fail each; or the files, where it is not opened.
+fn opened(
+    alloc: Global,
+    bytes: &Bytes,
+    (log, db): (u64, u64),
+    frames: usize,
+) -> Result<Result<Connection<FileStore<Fuse<Memory>>>, Files<Fuse<Memory>>>, Fail> {
+    let files = Files {
+        log: Fuse::new(file_of(alloc, &bytes.log)?, log),
+        db: Fuse::new(file_of(alloc, &bytes.db)?, db),
+    };
+    let mut options = Options::new(1);
+    options.checkpoint_frames = frames;
+    match Connection::open_files(alloc, files, options) {
+        Ok(connection) => Ok(Ok(connection)),
+        Err((_error, left)) => Ok(Err(left.into_files())),
+    }
+}
+
+/// The bytes that stand in the files.
+fn bytes_of(alloc: Global, files: &Files<Fuse<Memory>>) -> Result<Bytes, Fail> {
+    let log = Vec::from_slice(alloc, files.log.inner().bytes())?;
+    let db = Vec::from_slice(alloc, files.db.inner().bytes())?;
+    Ok(Bytes { log, db })
+}
+
+/// Whether calls of a file are left.
+fn has_calls(file: &mut Fuse<Memory>) -> bool {
+    file.may_be_used() && file.len().is_ok()
+}
+
+/// Asks the request of a row once. Whether it was made; else it was refused.
+fn is_made_once<S: Alter>(
+    alloc: Global,
+    rt: &impl Abort,
+    desk: &mut Desk<S>,
+    line: &str,
+) -> Result<bool, Fail> {
+    let answered = asked(alloc, desk, line)?;
+    let is_made = answered.as_slice() == answer_of(alloc, line)?.as_slice();
+    let is_refused = answered.as_slice() == answer_of(alloc, REFUSED)?.as_slice();
+    holds(rt, is_made || is_refused, line);
+    Ok(is_made)
+}
+
+/// Asks the request of a row, if it has one, and once more where it was refused, which changed nothing. Whether it was made.
+fn is_made<S: Alter>(
+    alloc: Global,
+    rt: &impl Abort,
+    desk: &mut Desk<S>,
+    row: Row,
+) -> Result<bool, Fail> {
+    if row.2.is_empty() || is_made_once(alloc, rt, desk, row.2)? {
+        return Ok(true);
+    }
+    play_lines(alloc, rt, desk, row.3)?;
+    is_made_once(alloc, rt, desk, row.2)
+}
+
+/// The same at the desk over a database, which is handed back.
+fn is_made_over<S: Alter + Drop>(
+    alloc: Global,
+    rt: &impl Abort,
+    connection: Connection<S>,
+    row: Row,
+) -> Result<(bool, Connection<S>), Fail> {
+    match Desk::open(alloc, connection) {
+        Ok(mut desk) => {
+            let is_made = is_made(alloc, rt, &mut desk, row)?;
+            Ok((is_made, desk.into_connection()))
+        }
+        Err((refusal, connection)) => {
+            holds(rt, refusal == Refusal::Storage, row.2);
+            Ok((false, connection))
+        }
+    }
+}
+
+/// Plays lines at the desk over a database. What its tables then keep.
+fn kept_after<S: Alter + Drop>(
+    alloc: Global,
+    rt: &impl Abort,
+    connection: Connection<S>,
+    lines: &[&'static str],
+) -> Result<(String, Connection<S>), Fail> {
+    match Desk::open(alloc, connection) {
+        Ok(mut desk) => {
+            for line in lines {
+                play_lines(alloc, rt, &mut desk, line)?;
+            }
+            let mut connection = desk.into_connection();
+            Ok((kept_by(alloc, &mut connection)?, connection))
+        }
+        Err(_) => Err(Fail::new("the files are no office")),
+    }
+}
+
+/// The same of the files that hold these bytes.
+fn kept_in(
+    alloc: Global,
+    rt: &impl Abort,
+    bytes: &Bytes,
+    lines: &[&'static str],
+) -> Result<String, Fail> {
+    match opened(alloc, bytes, ALL, 1_000)? {
+        Ok(connection) => Ok(kept_after(alloc, rt, connection, lines)?.0),
+        Err(_files) => Err(Fail::new("the files are no database")),
+    }
+}
+
+/// The files of a database at whose desk these lines were played: closed, so that the database file alone has all, or as they stand.
+fn left_after(
+    alloc: Global,
+    rt: &impl Abort,
+    connection: Connection<FileStore<Fuse<Memory>>>,
+    lines: &[&'static str],
+    is_closed: bool,
+) -> Result<Bytes, Fail> {
+    let (_kept, connection) = kept_after(alloc, rt, connection, lines)?;
+    if !is_closed {
+        return bytes_of(alloc, &connection.into_store().close());
+    }
+    match connection.close_files() {
+        Ok(files) => Ok(Bytes {
+            log: Vec::new(alloc),
+            db: Vec::from_slice(alloc, files.db.inner().bytes())?,
+        }),
+        Err(_) => Err(Fail::new("the files are not closed")),
+    }
+}
+
+/// The files of a new database at whose desk these lines were played.
+fn filled(
+    alloc: Global,
+    rt: &impl Abort,
+    lines: &[&'static str],
+    is_closed: bool,
+) -> Result<Bytes, Fail> {
+    match opened(alloc, &empty(alloc), ALL, 1_000)? {
+        Ok(connection) => left_after(alloc, rt, connection, lines, is_closed),
+        Err(_files) => Err(Fail::new("no new database")),
+    }
+}
+
+/// Files that hold nothing.
+fn empty(alloc: Global) -> Bytes {
+    Bytes {
+        log: Vec::new(alloc),
+        db: Vec::new(alloc),
+    }
+}
+
+/// The files with these bytes are those of the office after the request, or, where it was not made, of that before.
+fn find(
+    alloc: Global,
+    rt: &impl Abort,
+    bytes: &Bytes,
+    start: &Start,
+    is_made: bool,
+) -> Result<(), Fail> {
+    let is_found = if are_same(bytes, &start.bytes) {
+        // These were opened at the start.
+        !is_made || start.old == start.new
+    } else {
+        let found = kept_in(alloc, rt, bytes, &[])?;
+        found == start.new || (!is_made && found == start.old)
+    };
+    holds(rt, is_found, "the office of the files");
+    Ok(())
+}
+
+/// Asks the request of a row where the files pass so many calls; what came of it is found in them as they stand, and as a crash leaves
+/// them. Whether calls are left. Files that are not opened are looked at in the rows without a request.
+fn run(
+    alloc: Global,
+    rt: &impl Abort,
+    start: &Start,
+    row: Row,
+    calls: (u64, u64),
+) -> Result<bool, Fail> {
+    let (is_made, mut files) = match opened(alloc, &start.bytes, calls, row.0)? {
+        Ok(connection) => {
+            let (is_made, connection) = is_made_over(alloc, rt, connection, row)?;
+            (is_made, connection.into_store().close())
+        }
+        Err(_files) if !row.2.is_empty() => return Ok(false),
+        Err(files) => (false, files),
+    };
+    let are_left = has_calls(&mut files.log) && has_calls(&mut files.db);
+    holds(rt, is_made || !are_left, row.2);
+    find(alloc, rt, &bytes_of(alloc, &files)?, start, is_made)?;
+    files.log.crash();
+    files.db.crash();
+    find(alloc, rt, &bytes_of(alloc, &files)?, start, is_made)?;
+    Ok(are_left)
+}
+
+/// Runs a row for each number of calls of the log, or of the database file, until calls are left.
+fn sweep(
+    alloc: Global,
+    rt: &impl Abort,
+    start: &Start,
+    row: Row,
+    is_log: bool,
+) -> Result<(), Fail> {
+    for calls in 0..10_000 {
+        let calls = if is_log {
+            (calls, u64::MAX)
+        } else {
+            (u64::MAX, calls)
+        };
+        if run(alloc, rt, start, row, calls)? {
+            return Ok(());
+        }
+    }
+    holds(rt, false, "the calls have no end");
+    Ok(())
+}
+
+/// Runs a row with a log that fails, and with a database file that fails.
+fn sweep_both(alloc: Global, rt: &impl Abort, row: Row) -> Result<(), Fail> {
+    let bytes = if row.1.is_empty() {
+        empty(alloc)
+    } else {
+        filled(alloc, rt, row.1, !row.2.is_empty())?
+    };
+    let old = kept_in(alloc, rt, &bytes, &[])?;
+    let new = kept_in(alloc, rt, &bytes, &[row.2])?;
+    holds(rt, (old == new) == row.2.is_empty(), row.2);
+    let start = Start { bytes, old, new };
+    sweep(alloc, rt, &start, row, true)?;
+    sweep(alloc, rt, &start, row, false)
+}
+
+#[test]
+fn what_is_asked_while_a_file_fails_is_made_or_refused(rt: HostRuntime) -> Result<(), Fail> {
+    for row in ROWS {
+        sweep_both(rt.alloc(), &rt, row)?;
+    }
+    Ok(())
+}
