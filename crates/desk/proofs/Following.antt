@@ -92,7 +92,3 @@ goes_still o q (Err refusal) old new fate same = same
 pub read_goes : (o : State) (q : Request) (p : Plain) (answer : Result Reply Refusal) (old new : Option Sitting) → q ≡ request.Plain p → is_read p ≡ true → new ≡ old → GoesOn o q answer old new
 read_goes o q p answer old new is read same =
     goes_still o q answer old new (subst (λ (x : Request). fate_of o x ≡ Stays) (sym is) (read_stays o p read)) same
-
--- and over an import that is kept
-pub kept_stays : (o : State) (id : List ℕ) → has_import o id ≡ true → (if has_import o id then Stays else Ends) ≡ Stays
-kept_stays o id is = subst (λ (b : Bool). (if b then Stays else Ends) ≡ Stays) (sym is) refl

@@ -28,10 +28,6 @@ run_more o [] (b ∷ given) m n q a run step = absurd run
 run_more o (p ∷ first) [] m n q a run step = absurd run
 run_more o (p ∷ first) (b ∷ given) m n q a run step = (run.0, run.1, run_more run.0 first given m n q a run.2 step)
 
--- nothing is answered yet
-pub run_none : (o : State) (all : List Request) → HasRun o all all [] o
-run_none o all = record { done = []; split = refl; run = refl }
-
 -- all are answered
 pub run_all : (o n : State) (all rest : List Request) (answers : List (Result Reply Refusal)) → rest ≡ [] → HasRun o all rest answers n → Run layers o all answers n
 run_all o n all rest answers none h =
@@ -111,10 +107,6 @@ runs_on_more o s [] [] m u n t q a run step goes told =
 runs_on_more o s [] (b ∷ given) m u n t q a run step goes told = absurd run
 runs_on_more o s (p ∷ first) [] m u n t q a run step goes told = absurd run
 runs_on_more o s (p ∷ first) (b ∷ given) m u n t q a run step goes told = (run.0, run.1, run.2, run.3, run.4, runs_on_more run.0 run.1 first given m u n t q a run.5 step goes told)
-
--- nothing is answered yet
-pub run_on_none : (o : State) (s : Option Sitting) (all : List Request) → HasRunOn o s all all [] o s
-run_on_none o s all = record { done = []; split = refl; run = (refl, refl) }
 
 -- one more is answered
 pub one_more_on : (o : State) (s : Option Sitting) (m : State) (u : Option Sitting) (n : State) (t : Option Sitting) (all left rest : List Request) (q : Request) (a : Result Reply Refusal) (given answers : List (Result Reply Refusal))

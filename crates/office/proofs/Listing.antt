@@ -35,21 +35,11 @@ module _ (o : State) (student : List ℕ) (choices : List (List ℕ)) (none : pl
   passed : AllByRecursion (λ t. t.0 ≡ false) (list_tests o student choices)
   passed = allowed (list_tests o student choices) none
 
-  pub list_open : is_some (round_of o (last_round o)) ≡ true
-  list_open = open_round o (not_false (round_is_open o) passed.0)
-
-  pub list_student : has_student o student ≡ true
-  list_student = not_false (has_student o student) passed.1.0
-
   pub list_few : length choices ≤ RANKS
   list_few = few (length choices) (not_false (nat_le 1 (length choices) && nat_le (length choices) RANKS) passed.1.1.1.0)
 
   pub list_known : AllByRecursion (λ p. has_project o p ≡ true) choices
   list_known = choices_known o [] choices passed.1.1.1.1
-
-module _ (o : State) (student : List ℕ) (none : plain_refusal o (DropList student) ≡ None) where
-  pub drop_open : is_some (round_of o (last_round o)) ≡ true
-  drop_open = open_round o (not_false (round_is_open o) (allowed (drop_tests o student) none).0)
 
 -- a last round that is closed is there
 pub reopening_found : (o : State) → IsFit o → plain_refusal o ReopenRound ≡ None → is_some (round_of o (last_round o)) ≡ true

@@ -39,14 +39,6 @@ module _ (first begun : Seen) (begins : begun ≡ record first { in_transaction 
   begun_first : (K : Option ℕ → Database → Type 0) (c : Seen) → IsStopped K begun c → IsStopped K first c
   begun_first K c stops = record { why = (subst (λ (s : Seen). IsStopped K s c) begins stops).why }
 
-  -- a statement of the transaction failed, which was dropped then
-  pub broken_off : (K : Option ℕ → Database → Type 0) (b c : Seen) → b.faults ≤ c.faults → IsStopped K begun b → IsStopped K first c
-  broken_off K b c up stops = begun_first K c (stopped_before K begun b c up stops)
-
-  -- the commit failed
-  pub not_committed : (K : Option ℕ → Database → Type 0) (b c : Seen) (e : Error) → Survives begun b (λ _. ⊥) → HasCleanDisk b → b.faults ≤ c.faults → b.in_transaction ≡ true → fault_of e ≡ fault.Storage → FailsToCommit b c e → IsStopped K first c
-  not_committed K b c e survives clean up inside other fails = begun_first K c (stopped_after (λ _ _. ⊥) K begun b c survives clean up (λ none. absurd none) (uncommitted b c e other inside fails))
-
 -- one of the changes was refused
 pub change_refused : (i : ℕ) (changes : List Change) (change : Change) (a b c : Seen) → i < length changes → change ≡ get_or changes i change → Survives a b (λ _. ⊥) → HasCleanDisk b → b.faults ≤ c.faults → Stays (Applies (take i changes)) a b
     → IsStopped (IsHinderedChange change) b c → IsStopped (IsHinderedAmong changes) a c

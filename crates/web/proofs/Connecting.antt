@@ -27,10 +27,6 @@ lines_more n (c ∷ came) one =
     ap (λ ls. connection_line (n + 1) c ++ ls) (lines_more (n + 1) came one ∙ ap (λ k. lines_after (n + 1) came ++ connection_line k one) at)
     ∙ sym (append_assoc (connection_line (n + 1) c) (lines_after (n + 1) came) (connection_line (n + length (c ∷ came) + 1) one))
 
--- nothing is served yet
-pub none_served : (before : State) (w : Option (List ℕ)) → AllServed before 0 w w before
-none_served before w = record { came = []; counted = refl; served = refl; wrote = appends_none w }
-
 -- the line of the connection that is served now is the next one
 next_line : (n : ℕ) (came : List Came) (one : Came) → length came ≡ n → lines_after 0 (came ++ one ∷ []) ≡ lines_after 0 came ++ connection_line (n + 1) one
 next_line n came one counted =
