@@ -21,10 +21,10 @@ use Rattle.rolls.specs.Roll.{Key, key_cmp, same_key, find, is_below, rises}
 use Rattle.rolls.specs.State.{State, supervisor_key, project_key, round_key, supervisor_of, project_of, round_of, lists_of, has_supervisor, has_project, has_student, is_placed_before, is_closed, choices_in, quota_in, quota_with, is_offered_by, placed_in_project, placed_with_supervisor}
 use Rattle.rolls.specs.Fit.{IsFit, ProjectFits, ListFits, PlacementFits, are_numbered, only_last_open, is_distinct}
 use Rattle.rolls.proofs.Places.{keys_total}
-use Rattle.rolls.proofs.Finding.{all_weaker}
+use Rattle.rolls.proofs.EntryChange.{all_weaker}
 use Rattle.rolls.proofs.Found.{found_key, holds_of_found}
 use Rattle.rolls.proofs.RowKeys.{same_bytes, bytes_self}
-use Rattle.rolls.proofs.Determined.{numbered_rise}
+use Rattle.rolls.proofs.RowsDetermine.{numbered_rise}
 use Rattle.loading.specs.Whole.{is_whole, are_few, are_offered, are_rounds, is_list, is_placement, are_within}
 use Rattle.loading.proofs.Staged.{not_true}
 use Rattle.loading.proofs.Taken.{IsDrafted, ProjectForm, HasChoices, at_most}

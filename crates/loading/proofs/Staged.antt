@@ -12,7 +12,7 @@ use Rattle.rolls.specs.declared.row.RowKey.TheVariants as key
 use Rattle.rolls.specs.Rows.{key_of, same_row}
 use Rattle.rolls.specs.From.{row_in, are_apart, AreRowsOf}
 use Rattle.rolls.specs.State.{State}
-use Rattle.rolls.proofs.Finding.{all_weaker}
+use Rattle.rolls.proofs.EntryChange.{all_weaker}
 use Rattle.rolls.proofs.RowKeys.{same_row_is, same_row_self}
 use Rattle.loading.specs.Gathering.{stage_of, at_stage, stages, staged}
 

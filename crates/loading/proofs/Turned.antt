@@ -16,11 +16,11 @@ use Rattle.rolls.specs.declared.row.RowKey.TheVariants as key
 use Rattle.rolls.specs.Roll.{Key, key_cmp, find, put, same_key}
 use Rattle.rolls.specs.State.{State, supervisor_key, project_key, student_key, round_key, list_key, placement_key, import_key, round_of, has_round, lists_of, choices_in}
 use Rattle.rolls.specs.Rows.{row_of, key_of, same_row, same_parts, supervisor_row, project_row, student_row, round_row, placement_row, import_row, choice_in}
-use Rattle.rolls.proofs.Finding.{find-put, same_code, is_equal}
+use Rattle.rolls.proofs.EntryChange.{find-put, same_code, is_equal}
 use Rattle.rolls.proofs.Found.{found_key}
 use Rattle.rolls.proofs.Same.{keys_exact}
 use Rattle.rolls.proofs.RowKeys.{same_bytes, bytes_self}
-use Rattle.rolls.proofs.Determined.{choice_at}
+use Rattle.rolls.proofs.RowsDetermine.{choice_at}
 use Rattle.loading.specs.Gathering.{with_row, has_form, with_choice, choices_among}
 
 mapped : {E : Type 0} (to_row : E → Row) (b : Bool) (e : E) (o : Option E) → cond b (Some (to_row e)) (option_map to_row o) ≡ option_map to_row (cond b (Some e) o)

@@ -15,7 +15,7 @@ use Rattle.rolls.specs.Roll.{key_cmp, same_key, by_order, find, put, is_below, r
 use Rattle.rolls.specs.State.{State, round_key, list_key, round_of, last_round, is_open, is_closed, lists_of, choices_in}
 use Rattle.rolls.specs.Fit.{are_numbered, only_last_open}
 use Rattle.rolls.specs.Stepping.{with_last, after_opening}
-use Rattle.rolls.proofs.Finding.{find-put}
+use Rattle.rolls.proofs.EntryChange.{find-put}
 
 -- ---- keys of rounds
 

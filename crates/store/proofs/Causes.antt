@@ -14,19 +14,21 @@ use Rattle.std.proofs.lemmas.Bool.{cases_Bool}
 use Rattle.sqlite_rules.specs.Lists.{Has}
 use Rattle.rolls.specs.declared.row.Row.{Row}
 use Rattle.tables.specs.Causes.{IsCausedInside, IsHindered, IsStopped, IsUnread}
-use Rattle.store.specs.Reading.{ReadsSome}
+use Rattle.store.specs.Inside.Reading.{ReadsSome}
 use Rattle.store.specs.Rows.{columns, kept, rolls, table_of}
-use Rattle.store.proofs.Judging.{is_next}
-use Rattle.tables.specs.Steps.{Stays}
+use Rattle.store.proofs.ListedTables.{is_next}
+use Rattle.tables.specs.Inside.Steps.{Stays}
 use Rattle.tables.specs.Table.{sql_of}
 use Rattle.tables.proofs.Causes.{stopped_after, stopped_as, stopped_before, uncommitted}
 use Rattle.store.specs.declared.fault.StoreFault.TheVariants.{Storage}
-use Rattle.store.specs.Faults.{of_table}
-use Rattle.store.specs.Saving.{Applies, entering}
+use Rattle.store.specs.Inside.Faults.{of_table}
+use Rattle.store.specs.Saving.{Applies}
+use Rattle.store.specs.Inside.Saving.{entering}
 use Rattle.store.specs.declared.saving.Way.{Way}
 use Rattle.store.specs.declared.saving.Way.TheVariants.{InPlace, New}
 use Rattle.store.specs.Tables.{MakesTables}
-use Rattle.store.specs.Causes.{IsHinderedAmong, IsHinderedChange, IsHinderedMaking, IsHinderedReading, IsHinderedToEnter, IsHinderedToSave}
+use Rattle.store.specs.Causes.{IsHinderedAmong, IsHinderedChange, IsHinderedMaking, IsHinderedReading, IsHinderedToSave}
+use Rattle.store.specs.Inside.Causes.{IsHinderedToEnter}
 
 -- a fault of the storage is one of a statement
 pub of_storage : (f : TableFault) → of_table f ≡ Storage → f ≡ fault.Storage

@@ -9,7 +9,7 @@ use Rattle.sqlite_rules.specs.Lists.{Has}
 use Rattle.rolls.specs.declared.row.Row.{Row}
 use Rattle.tables.specs.declared.table.Table.{Table}
 use Rattle.store.specs.Rows.{columns, is_in}
-use Rattle.store.specs.Reading.{AreRowsOf}
+use Rattle.store.specs.Inside.Reading.{AreRowsOf}
 
 -- three columns, of which the first is the rowid
 pub two_after : (cells : Cells) (a b : Value) → length cells ≡ 3 → column cells 1 ≡ a → column cells 2 ≡ b → ◌≡◌ {A = Cells} (a ∷ b ∷ []) (drop 1 cells)

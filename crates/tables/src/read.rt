@@ -7,7 +7,7 @@ ghost use Rattle.sqlite_value.specs.Value.{owned};
 ghost use Rattle.sqlite_trees.specs.Tree.{rowid};
 ghost use Rattle.sqlite_trees.specs.View.{is_int};
 ghost use Rattle.tables.specs.Causes.{FailsToRead};
-ghost use Rattle.tables.specs.Steps.{RanQuery};
+ghost use Rattle.tables.specs.Inside.Steps.{RanQuery};
 ghost use Rattle.tables.specs.Keyed.{IsKeyed, comes_first, rises, have_ids};
 
 use crate::fault::TableFault;
