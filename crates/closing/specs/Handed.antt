@@ -1,5 +1,5 @@
 -- The parts of an office that the instance of its last round is made of, and the rolls that they give.
-use Rattle.std.specs.Prelude.{◌≡◌, ℕ, ◌-◌, List, count_by}
+use Rattle.std.specs.Prelude.{◌≡◌, ℕ, List, count_by}
 use Rattle.std.specs.Str.{bytes_eq}
 use Rattle.rolls.specs.declared.entries.Supervisor.{Supervisor}
 use Rattle.rolls.specs.declared.entries.Project.{Project}
