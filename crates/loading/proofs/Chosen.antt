@@ -16,7 +16,7 @@ use Rattle.rolls.proofs.EntryChange.{find-put, find-take_out}
 use Rattle.rolls.proofs.Found.{found_key}
 use Rattle.rolls.proofs.Same.{same_found}
 use Rattle.rolls.proofs.RowsDetermine.{choice_at}
-use Rattle.loading.specs.Gathering.{taken_in, has_form, with_choice, choices_among}
+use Rattle.loading.specs.Inside.Gathering.{taken_in, has_form, with_choice, choices_among}
 use Rattle.loading.proofs.Taken.{takes_form}
 use Rattle.loading.proofs.Takes.{both_so}
 

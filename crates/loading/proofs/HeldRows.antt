@@ -16,8 +16,8 @@ use Rattle.rolls.specs.From.{row_in, are_apart, AreRowsOf}
 use Rattle.rolls.proofs.RowKeys.{same_row_is, same_row_self, apart_back}
 use Rattle.rolls.specs.declared.row.Row.TheVariants as row
 use Rattle.rolls.proofs.RowsDetermine.{choice_at, shaped_determined, fit_shaped}
-use Rattle.loading.specs.Gathering.{taken_in, gathered, with_row, stage_of, at_stage, stages, staged}
-use Rattle.loading.proofs.Staged.{AreInStages, in_stages, later_elsewhere, none_in, not_true, rows_from_staged, rows_to_staged}
+use Rattle.loading.specs.Inside.Gathering.{taken_in, gathered, with_row, stage_of, at_stage, stages, staged}
+use Rattle.loading.proofs.Stages.{AreInStages, in_stages, later_elsewhere, none_in, not_true, rows_from_staged, rows_to_staged}
 use Rattle.loading.proofs.Taken.{IsDrafted, IsTaken, taken, takes_form, empty_drafted, drafted_shaped}
 use Rattle.loading.proofs.Takes.{form_of, IsBehind}
 

@@ -25,8 +25,8 @@ use Rattle.rolls.proofs.EntryChange.{all_weaker}
 use Rattle.rolls.proofs.Found.{found_key, holds_of_found}
 use Rattle.rolls.proofs.RowKeys.{same_bytes, bytes_self}
 use Rattle.rolls.proofs.RowsDetermine.{numbered_rise}
-use Rattle.loading.specs.Whole.{is_whole, are_few, are_offered, are_rounds, is_list, is_placement, are_within}
-use Rattle.loading.proofs.Staged.{not_true}
+use Rattle.loading.specs.Inside.Whole.{is_whole, are_few, are_offered, are_rounds, is_list, is_placement, are_within}
+use Rattle.loading.proofs.Stages.{not_true}
 use Rattle.loading.proofs.Taken.{IsDrafted, ProjectForm, HasChoices, at_most}
 use Rattle.loading.proofs.Takes.{both_so, within, listed}
 

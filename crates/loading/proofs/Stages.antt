@@ -14,7 +14,7 @@ use Rattle.rolls.specs.From.{row_in, are_apart, AreRowsOf}
 use Rattle.rolls.specs.State.{State}
 use Rattle.rolls.proofs.EntryChange.{all_weaker}
 use Rattle.rolls.proofs.RowKeys.{same_row_is, same_row_self}
-use Rattle.loading.specs.Gathering.{stage_of, at_stage, stages, staged}
+use Rattle.loading.specs.Inside.Gathering.{stage_of, at_stage, stages, staged}
 
 -- ---- what is seen at a key
 

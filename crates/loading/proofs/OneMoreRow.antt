@@ -21,7 +21,7 @@ use Rattle.rolls.proofs.Found.{found_key}
 use Rattle.rolls.proofs.Same.{keys_exact}
 use Rattle.rolls.proofs.RowKeys.{same_bytes, bytes_self}
 use Rattle.rolls.proofs.RowsDetermine.{choice_at}
-use Rattle.loading.specs.Gathering.{with_row, has_form, with_choice, choices_among}
+use Rattle.loading.specs.Inside.Gathering.{with_row, has_form, with_choice, choices_among}
 
 mapped : {E : Type 0} (to_row : E → Row) (b : Bool) (e : E) (o : Option E) → cond b (Some (to_row e)) (option_map to_row o) ≡ option_map to_row (cond b (Some e) o)
 mapped to_row true e o = refl
