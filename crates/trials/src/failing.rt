@@ -194,36 +194,32 @@ fn kept_in(
     }
 }
 
-/// The files of a database at whose desk these lines were played: closed, so that the database file alone has all, or as they stand.
-fn left_after(
-    alloc: Global,
-    rt: &impl Abort,
-    connection: Connection<FileStore<Fuse<Memory>>>,
-    lines: &[&'static str],
-    is_closed: bool,
-) -> Result<Bytes, Fail> {
-    let (_kept, connection) = kept_after(alloc, rt, connection, lines)?;
-    if !is_closed {
-        return bytes_of(alloc, &connection.into_store().close());
+/// The bytes of these files; the log is left out where all of it was copied into the database file.
+fn left_in(alloc: Global, files: &Files<Fuse<Memory>>, is_copied: bool) -> Result<Bytes, Fail> {
+    let bytes = bytes_of(alloc, files)?;
+    if !is_copied {
+        return Ok(bytes);
     }
-    match connection.close_files() {
-        Ok(files) => Ok(Bytes {
-            log: Vec::new(alloc),
-            db: Vec::from_slice(alloc, files.db.inner().bytes())?,
-        }),
-        Err(_) => Err(Fail::new("the files are not closed")),
-    }
+    Ok(Bytes {
+        log: Vec::new(alloc),
+        db: bytes.db,
+    })
 }
 
-/// The files of a new database at whose desk these lines were played.
+/// The files of a new database at whose desk these lines were played, where each change is copied into the database file at once, or
+/// all stand in the log.
 fn filled(
     alloc: Global,
     rt: &impl Abort,
     lines: &[&'static str],
-    is_closed: bool,
+    is_copied: bool,
 ) -> Result<Bytes, Fail> {
-    match opened(alloc, &empty(alloc), ALL, 1_000)? {
-        Ok(connection) => left_after(alloc, rt, connection, lines, is_closed),
+    let frames = if is_copied { 1 } else { 1_000 };
+    match opened(alloc, &empty(alloc), ALL, frames)? {
+        Ok(connection) => {
+            let (_kept, connection) = kept_after(alloc, rt, connection, lines)?;
+            left_in(alloc, &connection.into_store().close(), is_copied)
+        }
         Err(_files) => Err(Fail::new("no new database")),
     }
 }
