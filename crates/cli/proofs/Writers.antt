@@ -11,7 +11,8 @@ use Rattle.web.specs.Connections.{AllServed, lines_after}
 use Rattle.round_files.specs.declared.rounds.Trouble.{Trouble}
 use Rattle.round_files.specs.declared.rounds.Trouble.TheVariants.{Refused}
 use Rattle.cli.specs.declared.tasks.Task.{Task}
-use Rattle.cli.specs.Outcomes.{MayDo, OnFile, Outcome, of_round, prints, refused, refusal_line, named_line, listening, Printed, Tells, IsUnread, IsUnopened, IsServed, Serves}
+use Rattle.cli.specs.Outcomes.{MayDo, OnFile, Outcome, of_round, prints, refused, refusal_line, named_line, listening, Printed, Tells, IsUnread, IsUnopened, IsServed}
+use Rattle.cli.specs.Inside.Outcomes.{Serves}
 
 -- a text on standard output, with this status
 pub on_out : (Is : Outcome → Type 0) (text : List ℕ) (status : ℕ) (w0 w other : Option (List ℕ)) (f0 f g ends : ℕ) → Is (record { out = text; err = []; status = status })
