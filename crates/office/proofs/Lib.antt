@@ -2,6 +2,6 @@ pub mod RankCounts
 pub mod Made
 pub mod ListPuts
 pub mod Few
-pub mod Reads
+pub mod ReadAnswers
 pub mod ImportRows
 pub mod Known
