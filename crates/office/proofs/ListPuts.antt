@@ -7,9 +7,9 @@ use Rattle.std.specs.List.{AllByRecursion}
 use Rattle.std.proofs.lemmas.Bool.Decides.{nat_tests}
 use Rattle.spa.specs.declared.TheConstants.{RANKS}
 use Rattle.rolls.specs.declared.rounds.Round.{Round}
-use Rattle.rolls.specs.declared.request.Plain.TheVariants.{PutList, DropList, ReopenRound}
-use Rattle.rolls.specs.State.{State, has_project, has_student, round_of, last_round, round_is_open}
-use Rattle.rolls.specs.Refusing.{plain_refusal, list_tests, drop_tests, reopening_tests}
+use Rattle.rolls.specs.declared.request.Plain.TheVariants.{PutList, ReopenRound}
+use Rattle.rolls.specs.State.{State, has_project, round_of, last_round, round_is_open}
+use Rattle.rolls.specs.Refusing.{plain_refusal, list_tests, reopening_tests}
 use Rattle.rolls.proofs.NoRefusal.{allowed}
 use Rattle.rolls.proofs.LastRound.{some_round}
 use Rattle.rolls.specs.Fit.{IsFit}

@@ -1,5 +1,5 @@
 -- Why a call of the store failed, from why the statement did on which it ended.
-use Rattle.std.proofs.Common.{◌≡◌, ◌≤◌, ◌<◌, inl, inr, ℕ, true, false, List, [], take, get_or, length, Option, Some, Result, Err, refl, sym, ap, subst, ◌∙◌, arith}
+use Rattle.std.proofs.Common.{◌≡◌, ◌≤◌, ◌<◌, inl, inr, ℕ, true, List, [], take, get_or, length, Option, Result, refl, subst}
 use Rattle.std.proofs.lemmas.Option.{slice_get_read, slice_get-get_or}
 use Rattle.sqlite.specs.declared.error.Error.{Error}
 use Rattle.sqlite.specs.Effect.{Database}
@@ -27,7 +27,7 @@ use Rattle.store.specs.Inside.Saving.{entering}
 use Rattle.store.specs.declared.saving.Way.{Way}
 use Rattle.store.specs.declared.saving.Way.TheVariants.{InPlace, New}
 use Rattle.store.specs.Tables.{MakesTables}
-use Rattle.store.specs.Causes.{IsHinderedAmong, IsHinderedChange, IsHinderedMaking, IsHinderedReading, IsHinderedToSave}
+use Rattle.store.specs.Causes.{IsHinderedAmong, IsHinderedChange, IsHinderedMaking, IsHinderedReading}
 use Rattle.store.specs.Inside.Causes.{IsHinderedToEnter}
 
 -- a fault of the storage is one of a statement

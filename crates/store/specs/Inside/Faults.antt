@@ -2,7 +2,7 @@
 use Rattle.tables.specs.declared.fault.TableFault.{TableFault}
 use Rattle.tables.specs.declared.fault.TableFault.TheVariants as table
 use Rattle.store.specs.declared.fault.StoreFault.{StoreFault}
-use Rattle.store.specs.declared.fault.StoreFault.TheVariants.{Memory, Storage, Damaged}
+use Rattle.store.specs.declared.fault.StoreFault.TheVariants.{Memory, Storage}
 
 -- a statement's fault
 abbrev pub of_table : TableFault → StoreFault
