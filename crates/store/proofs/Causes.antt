@@ -35,12 +35,6 @@ pub of_storage : (f : TableFault) → of_table f ≡ Storage → f ≡ fault.Sto
 of_storage fault.Memory h = cc
 of_storage fault.Storage h = refl
 
--- a call of nothing but what it is hindered by
-module _ (first begun : Seen) (begins : begun ≡ record first { in_transaction = true }) where
-  -- a transaction that has begun has changed nothing
-  begun_first : (K : Option ℕ → Database → Type 0) (c : Seen) → IsStopped K begun c → IsStopped K first c
-  begun_first K c stops = record { why = (subst (λ (s : Seen). IsStopped K s c) begins stops).why }
-
 -- one of the changes was refused
 pub change_refused : (i : ℕ) (changes : List Change) (change : Change) (a b c : Seen) → i < length changes → change ≡ get_or changes i change → Survives a b (λ _. ⊥) → HasCleanDisk b → b.faults ≤ c.faults → Stays (Applies (take i changes)) a b
     → IsStopped (IsHinderedChange change) b c → IsStopped (IsHinderedAmong changes) a c

@@ -17,11 +17,6 @@ use Rattle.wire.specs.Inside.Taken.{AtEndIfNone}
 pub at_none : {A : Type 0} (P : Type 0) (found : Option A) → found ≡ None → IfNone found P → P
 at_none {A} P found e h = subst (λ (o : Option A). IfNone o P) e h
 
--- at its end a reader has nothing left
-pub nothing_unread : (left : Option (List ℕ)) → IsAtEnd left → unread left ≡ []
-nothing_unread None h = refl
-nothing_unread (Some bytes) h = h
-
 -- where nothing came, the front stays as it was
 pub still_open : (old buffer : List ℕ) → buffer ≡ old → Judges old Open → Judges buffer Open
 still_open old buffer same judged = subst (λ (t : List ℕ). Judges t Open) (sym same) judged
