@@ -1,4 +1,4 @@
 pub mod Risen
 pub mod SameRound
-pub mod Listings
-pub mod Joining
+pub mod Positions
+pub mod OneMoreStudent

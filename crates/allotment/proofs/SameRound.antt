@@ -22,15 +22,6 @@ turned_round l m same = record {
   as_many = sym same.as_many;
 }
 
--- equal instances are of one round
-pub equal_round : (l m : Instance) → l ≡ m → IsSameRound l m
-equal_round l m e = record {
-  supervisors = ap (λ (x : Instance). x.supervisors) e;
-  projects = ap (λ (x : Instance). x.projects) e;
-  found = λ code. ap (λ (x : Instance). find (λ e. bytes_eq code e.code) x.students) e;
-  as_many = ap (λ (x : Instance). length x.students) e;
-}
-
 -- the profile where students list these projects
 abbrev pub profile_by : (List ℕ → List (List ℕ)) → List CodePair → ℕ → ℕ
 profile_by choices M k = count_by (λ e. 1 + prefix_len (λ q. not (bytes_eq q e.project)) (choices e.student) == k + 1) M

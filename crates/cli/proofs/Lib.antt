@@ -1,3 +1,3 @@
 mod Anew
 mod Opened
-mod Telling
+mod Writers

@@ -7,8 +7,8 @@ use Rattle.rolls.specs.State.{State}
 use Rattle.desk.specs.Keeping.{Keeps}
 use Rattle.cli.specs.declared.tasks.Task.{Task}
 use Rattle.cli.specs.Outcomes.{ComesOf, IsUnopened, MayDo, Outcome, Tells, refused}
-use Rattle.cli.specs.Databases.{LeftBy, StandsAfter}
-use Rattle.cli.proofs.Telling.{unopened, refused_ends}
+use Rattle.cli.specs.Inside.Databases.{LeftBy, StandsAfter}
+use Rattle.cli.proofs.Writers.{unopened, refused_ends}
 
 -- what is told is an outcome of the task
 pub told_of : {D C : Type 0} (office_of : D → State) (done : Task) (opened : Result D (Refusal × C)) (seen : Seen) (Q : (Refusal × C) → Type 0) (o : Outcome)

@@ -1,3 +1,3 @@
 pub mod Anew
-pub mod Databases
 pub mod Outcomes
+pub mod Inside

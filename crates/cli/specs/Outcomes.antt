@@ -1,9 +1,7 @@
 -- What a line of the program comes to: what it prints where, and its status.
-use Rattle.std.specs.Prelude.{◌≡◌, ◌≢◌, ◌⊎◌, ℕ, ◌+◌, ◌<◌, ◌≤◌, List, [], ◌∷◌, ◌++◌, length, take, flat_map, codes, decimal, string_bytes, Option, Result, Ok, Err, String}
+use Rattle.std.specs.Prelude.{◌≡◌, ◌⊎◌, ℕ, ◌+◌, ◌<◌, ◌≤◌, List, [], ◌∷◌, ◌++◌, length, flat_map, codes, decimal, string_bytes, Option, Result, Ok, Err, String}
 use Rattle.std.specs.declared.alloc.Global.{Global}
 use Rattle.std.specs.Io.KnownBytes.{Appends}
-use Rattle.std.specs.declared.io.ErrorKind.{ErrorKind}
-use Rattle.std.specs.declared.io.ErrorKind.TheVariants as kinds
 use Rattle.rolls.specs.declared.import.ImportKind.{ImportKind}
 use Rattle.rolls.specs.declared.refusal.Refusal.{Refusal}
 use Rattle.rolls.specs.declared.refusal.Refusal.TheVariants as no
@@ -19,7 +17,7 @@ use Rattle.rolls.specs.Run.{Step}
 use Rattle.rolls.specs.Told.{number_of, name_of}
 use Rattle.allotment.specs.Layers.{layers}
 use Rattle.desk.specs.Sessions.{IsToldRight}
-use Rattle.web.specs.Connections.{Connect, SomeServed, lines_after}
+use Rattle.web.specs.Connections.{Connect, lines_after}
 use Rattle.round_files.specs.Rounds.{IsSolved, IsChecked}
 use Rattle.round_files.specs.declared.rounds.Trouble.{Trouble}
 use Rattle.round_files.specs.declared.rounds.Trouble.TheVariants.{Refused, BadLine, Failed}
@@ -134,18 +132,6 @@ pub record IsServed (port count : ℕ) (before after : State) (o : Outcome) : Ty
 abbrev pub IsUnbound : ℕ → State → State → Outcome → Type 0
 IsUnbound port before after o = (after ≡ before) × (o ≡ tells 1 (no_port port))
 
--- so many connections were served at an office and the lines of all were written, or the writer failed
-abbrev pub Serves : ℕ → ℕ → State → State → Option (List ℕ) → Option (List ℕ) → ℕ → ℕ → ℕ → Type 0
-Serves port count before after w0 w failures0 failures status =
-    ((o : Outcome) × IsServed port count before after o × (failures ≡ failures0) × Appends w0 w o.out × (status ≡ 0))
-    ⊎ ((failures ≡ failures0 + 1) × (status ≡ 1))
-
--- The writer failed while it wrote the line of the port, and no connection was served, or after it, while it wrote the line of a connection.
-abbrev pub IsCutOff : State → ℕ → ℕ → Option (List ℕ) → Option (List ℕ) → State → Type 0
-IsCutOff office port count w0 w after =
-    ((n : ℕ) × (n < length (listening port)) × Appends w0 w (take n (listening port)) × (after ≡ office))
-    ⊎ ((between : Option (List ℕ)) × Appends w0 between (listening port) × SomeServed office count between w after)
-
 -- what a task comes to at an office that is open, and the office after it
 abbrev pub ComesOf : Task → State → State → Outcome → Type 0
 ComesOf (task.Ask asked) before after o = IsAsked asked before after o
@@ -180,10 +166,6 @@ MayCome (line.Check file) o = OnFile IsChecked o
 abbrev pub of_unread : Unread → Outcome
 of_unread unread.Memory = refused no.Memory
 of_unread unread.NotUtf8 = tells 2 (codes "error: invalid UTF-8 was detected in one or more arguments\n\nUsage: spadesk <COMMAND>\n\nFor more information, try '--help'.\n")
-
--- what is told of an error of this kind that reading the arguments gave
-abbrev pub OfUnread : ErrorKind → Outcome → Type 0
-OfUnread kind o = (kind ≡ kinds.OutOfMemory → o ≡ of_unread unread.Memory) × (kind ≢ kinds.OutOfMemory → o ≡ of_unread unread.NotUtf8)
 
 -- what words may come to: what their line does, or their fault
 abbrev pub MayComeOf : Result Line LineFault → Outcome → Type 0

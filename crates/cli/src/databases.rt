@@ -5,7 +5,7 @@ ghost use Rattle.sqlite.specs.Held.{state};
 ghost use Rattle.sqlite.specs.Files.{file_state};
 ghost use Rattle.desk.specs.Keeping.{Keeps};
 ghost use Rattle.cli.specs.Outcomes.{Tells, ComesOf, MayDo, refused};
-ghost use Rattle.cli.specs.Databases.{StandsAfter, LeftBy, IsClosing};
+ghost use Rattle.cli.specs.Inside.Databases.{StandsAfter, LeftBy, IsClosing};
 
 use crate::opening::{Closing, close_file};
 use crate::printing::refuse;

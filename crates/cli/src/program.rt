@@ -3,7 +3,8 @@
 ghost use Rattle.std.specs.Prelude.{◌≡◌, ◌-◌, ◌^◌, ◌<◌, ◌+◌, ◌≤◌, IsTrue, false, length, map, string_bytes, IfOk, IfErr, MatchResult};
 ghost use Rattle.std.specs.IoError.{error_kind};
 ghost use Rattle.cli.specs.Anew.{ServedAnew, BrokenAnew, StreamsAnew};
-ghost use Rattle.cli.specs.Outcomes.{Tells, ComesTo, OfUnread};
+ghost use Rattle.cli.specs.Outcomes.{Tells, ComesTo};
+ghost use Rattle.cli.specs.Inside.Outcomes.{OfUnread};
 
 use crate::run::{tell_line, tell_unread};
 use crate::unread::Unread;

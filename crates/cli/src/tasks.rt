@@ -6,8 +6,9 @@ ghost use Rattle.std.specs.Net.Socket.{v4_ip, v4_port};
 ghost use Rattle.rolls.specs.Run.{Step};
 ghost use Rattle.allotment.specs.Layers.{layers};
 ghost use Rattle.web.specs.Connections.{Connect};
-ghost use Rattle.cli.specs.Outcomes.{Tells, IsAsked, IsCutOff, IsServed, IsUnbound, Serves, ComesOf};
-ghost use Rattle.cli.specs.Databases.{TakesTo};
+ghost use Rattle.cli.specs.Outcomes.{Tells, IsAsked, IsServed, IsUnbound, ComesOf};
+ghost use Rattle.cli.specs.Inside.Outcomes.{IsCutOff, Serves};
+ghost use Rattle.cli.specs.Inside.Databases.{TakesTo};
 
 use crate::printing::{print, print_reply, refuse};
 use crate::texts::labelled;

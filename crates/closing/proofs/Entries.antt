@@ -9,7 +9,7 @@ use Rattle.std.specs.declared.cmp.Ordering.TheVariants.{Less, Equal, Greater}
 use Rattle.std.proofs.lemmas.Bool.{cases_Bool}
 use Rattle.std.proofs.lemmas.List.Sums.{sum_by-cons}
 use Rattle.rolls.specs.Roll.{Key, key_cmp, same_key, has, find as entry, is_below, rises}
-use Rattle.rolls.proofs.Finding.{same_code}
+use Rattle.rolls.proofs.EntryChange.{same_code}
 use Rattle.rolls.proofs.Places.{keys_total, find_below, below_all}
 
 -- ---- what holds of each

@@ -17,11 +17,11 @@ use Rattle.rolls.specs.State.{State, list_key, placement_key, last_round, round_
 use Rattle.rolls.specs.Instances.{round_instance}
 use Rattle.rolls.specs.Fit.{IsFit, ListFits, PlacementFits}
 use Rattle.rolls.specs.Closing.{MayClose, kept, after_close}
-use Rattle.rolls.proofs.Finding.{all_weaker}
+use Rattle.rolls.proofs.EntryChange.{all_weaker}
 use Rattle.rolls.proofs.LastRound.{has_reading, closed_before, round_within, last_kept, numbered_kept, last_open_kept, other_kept, reading_kept, reading_changed, same_lists}
 use Rattle.closing.proofs.Entries.{all_made, all_always, count_made, count_fewer}
-use Rattle.closing.proofs.Putting.{rises_put_all, all_put_all, found_put_all, count_put_all}
-use Rattle.closing.proofs.Opened.{places_left, places_with_left, same_offerer, same_choices}
+use Rattle.closing.proofs.ManyPuts.{rises_put_all, all_put_all, found_put_all, count_put_all}
+use Rattle.closing.proofs.OpenRound.{places_left, places_with_left, same_offerer, same_choices}
 
 -- a round that is closed
 abbrev pub closed_round : Round → Round

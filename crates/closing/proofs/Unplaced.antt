@@ -20,7 +20,7 @@ use Rattle.rolls.specs.State.{State, list_key, placement_key, last_round, list_o
 use Rattle.rolls.specs.Fit.{IsFit, ListFits, PlacementFits}
 use Rattle.rolls.specs.Closing.{MayClose, kept}
 use Rattle.rolls.specs.Rows.{placement_row, row_of, after_change, AreFresh}
-use Rattle.rolls.proofs.Finding.{all_weaker}
+use Rattle.rolls.proofs.EntryChange.{all_weaker}
 use Rattle.rolls.proofs.Found.{found_key, holds_of_found}
 use Rattle.rolls.proofs.LastRound.{closed_before}
 use Rattle.rolls.proofs.RowKeys.{apart_back}

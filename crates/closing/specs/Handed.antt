@@ -1,5 +1,5 @@
 -- The parts of an office that the instance of its last round is made of, and the rolls that they give.
-use Rattle.std.specs.Prelude.{◌≡◌, ℕ, ◌-◌, List, count_by}
+use Rattle.std.specs.Prelude.{◌≡◌, ℕ, List, count_by}
 use Rattle.std.specs.Str.{bytes_eq}
 use Rattle.rolls.specs.declared.entries.Supervisor.{Supervisor}
 use Rattle.rolls.specs.declared.entries.Project.{Project}
@@ -16,18 +16,6 @@ count_in placements project = count_by (λ p. bytes_eq project p.project) placem
 -- how many of them are with a supervisor of these projects
 abbrev pub count_with : List Project → List Placement → List ℕ → ℕ
 count_with projects placements supervisor = count_by (λ p. offers projects supervisor p.project) placements
-
--- a supervisor with the quota less what is placed
-abbrev pub supervisor_left : List Project → List Placement → Supervisor → List ℕ × ℕ
-supervisor_left projects placements s = (s.code, s.quota - count_with projects placements s.code)
-
--- a project with the quota less what is placed
-abbrev pub project_left : List Placement → Project → List ℕ × List ℕ × ℕ
-project_left placements p = (p.code, p.supervisor, p.quota - count_in placements p.code)
-
--- a student with the choices of the list
-abbrev pub student_listed : Listed → List ℕ × List (List ℕ)
-student_listed l = (l.student, l.choices)
 
 -- these are the parts of the office, with the lists of its last round
 pub record AreParts (o : State) (supervisors : List Supervisor) (projects : List Project) (placements : List Placement) (lists : List Listed) : Type 0 where

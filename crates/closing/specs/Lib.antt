@@ -2,3 +2,4 @@ pub mod Handed
 pub mod Places
 pub mod Changes
 pub mod Laws
+pub mod Inside

@@ -6,7 +6,8 @@ ghost use Rattle.spa.specs.Named.{instance_of};
 ghost use Rattle.rolls.specs.State.{State};
 ghost use Rattle.rolls.specs.Instances.{round_instance};
 ghost use Rattle.rolls.specs.Counted.{offers, AreCounted};
-ghost use Rattle.closing.specs.Handed.{count_in, count_with, supervisor_left, project_left, student_listed, AreParts, ArePartsOfFit};
+ghost use Rattle.closing.specs.Handed.{count_in, count_with, AreParts, ArePartsOfFit};
+ghost use Rattle.closing.specs.Inside.Handed.{supervisor_left, project_left, student_listed};
 
 use rolls::{Choices, Listed, Placement, Project, Supervisor, Table, counted};
 use spa::{Code, Counts, Instance, InstanceFault};

@@ -1,6 +1,6 @@
-pub mod Refused
-mod Named
-pub mod Settling
-mod Running
-mod Reopening
-mod Following
+pub mod Refusals
+mod NoStorage
+pub mod SavedRows
+mod Runs
+mod AfterCrash
+mod SessionAfter

@@ -1,9 +1,7 @@
 -- What a desk keeps between requests, and what a crash leaves of one.
-use Rattle.std.specs.Prelude.{◌≡◌, ℕ, ◌||◌, ◌++◌, ◌∷◌, IsTrue, Bool, false, is_some, List, Result, Ok, Option, None, IfSome}
+use Rattle.std.specs.Prelude.{◌≡◌, ℕ, ◌||◌, ◌++◌, ◌∷◌, IsTrue, Bool, is_some, List, Result, Ok, Option, None, IfSome}
 use Rattle.sqlite.specs.Effect.{Database}
 use Rattle.sqlite.specs.State.{State as Seen, HasCleanDisk}
-use Rattle.sqlite.specs.Held.{state}
-use Rattle.sqlite_trees.specs.declared.store.Store.{Ghosts}
 use Rattle.rolls.specs.declared.request.Reply.{Reply}
 use Rattle.rolls.specs.declared.request.Reply.TheVariants as reply
 use Rattle.rolls.specs.State.{State, kept_rows}
@@ -15,20 +13,12 @@ use Rattle.rolls.specs.Refusing.{refusal_of}
 use Rattle.rolls.specs.Fit.{IsFit}
 use Rattle.rolls.specs.Run.{Run, Step, refusal}
 use Rattle.allotment.specs.Layers.{layers}
-use Rattle.desk.specs.Kept.{Kept}
-use Rattle.desk.specs.Sessions.{SitsAt}
 use Rattle.store.specs.Tables.{StandsFor}
 
 -- The tables stand for the office. Where a fault of the disk has shut the connection it shows no tables, and
 -- only what a crash leaves is known.
 abbrev pub Keeps : Seen → State → Type 0
 Keeps seen office = HasCleanDisk seen → IsTrue seen.is_open → StandsFor seen.now office
-
--- the tables stand for the office, no transaction is open, and a session that is kept sits in the office
-pub record IsKeeping {S : Type 0} (ghosts : Ghosts S) (kept : Kept S) : Type 0 where
-  pub stands : Keeps (state ghosts kept.store) kept.office
-  pub ended : kept.store.in_transaction ≡ false
-  pub sits : SitsAt kept.office kept.session
 
 -- the request, carried out, makes of the office the next one
 abbrev pub CarriesOut : State → Request → State → Type 0

@@ -1,20 +1,11 @@
 -- What a caller sees of a desk: the office, what the connection to its tables holds, and the session that is kept, if any.
-use Rattle.std.specs.Prelude.{Option, refl}
-use Rattle.std.specs.Coded.{Coded, code_by, coded×, coded_option}
-use Rattle.sqlite.specs.Held.{Held, held_code}
+use Rattle.std.specs.Prelude.{Option}
+use Rattle.sqlite.specs.Held.{Held}
 use Rattle.rolls.specs.State.{State}
-use Rattle.office.specs.contracts.office.Office.{the_row as office_row}
 use Rattle.solver.specs.Sitting.{Sitting}
-use Rattle.solver.specs.contracts.session.Session.{the_row as session_row}
 
 -- an office and its tables, and a session of its open round
 pub record Kept (S : Type 0) : Type 0 where
   pub office : State
   pub store : Held S
   pub session : Option Sitting
-
--- the code of these, made of those of their parts
-abbrev pub kept_code : {S : Type 0} → Coded S → Coded (Kept S)
-kept_code {S} code =
-    code_by (State × (Held S × Option Sitting)) (coded× office_row.coded (coded× (held_code code) (coded_option session_row.coded)))
-    (λ k. (k.office, (k.store, k.session))) (λ p. record { office = p.0; store = p.1.0; session = p.1.1 }) (λ _. refl)

@@ -3,3 +3,4 @@ pub mod Keeping
 pub mod Causes
 pub mod Sessions
 pub mod Laws
+pub mod Inside

@@ -1,5 +1,5 @@
 -- What becomes of the session that a desk keeps.
-use Rattle.std.specs.Prelude.{◌≡◌, ℕ, false, List, [], ◌∷◌, IsTrue, ⊤, Option, Some, None, is_some, IfSome, Result, Ok, Err, if◌then◌else◌}
+use Rattle.std.specs.Prelude.{◌≡◌, ℕ, false, List, [], ◌∷◌, IsTrue, Option, Some, None, is_some, IfSome, Result, Ok, Err, if◌then◌else◌}
 use Rattle.rolls.specs.State.{State, last_round, has_list, has_import}
 use Rattle.rolls.specs.declared.refusal.Refusal.{Refusal}
 use Rattle.rolls.specs.declared.refusal.Refusal.TheVariants.{Storage}
@@ -13,7 +13,7 @@ use Rattle.rolls.specs.declared.request.Request.TheVariants as request
 use Rattle.rolls.specs.Run.{Step}
 use Rattle.solver.specs.Sitting.{Sitting}
 use Rattle.allotment.specs.Layers.{layers}
-use Rattle.allotment.specs.Sittings.{SitsIn, MayJoin, IsOneMore}
+use Rattle.allotment.specs.Sittings.{SitsIn, IsOneMore}
 use Rattle.desk.specs.declared.sessions.Fate.{Fate}
 use Rattle.desk.specs.declared.sessions.Fate.TheVariants.{Stays, Starts, Joins, Ends}
 
@@ -80,10 +80,3 @@ RunsOn o old (q ∷ qs) [] n new = ⊥
 -- a session that is kept sits in the office
 abbrev pub SitsAt : State → Option Sitting → Type 0
 SitsAt o kept = IfSome kept (λ s. SitsIn o s)
-
--- a session that is kept may meet this fate in an office that was just changed
-abbrev pub MayMeet : Fate → State → Option Sitting → Type 0
-MayMeet Stays o kept = SitsAt o kept
-MayMeet Starts o kept = ⊥
-MayMeet (Joins student) o kept = IfSome kept (λ s. MayJoin o s student)
-MayMeet Ends o kept = ⊤

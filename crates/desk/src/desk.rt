@@ -39,8 +39,9 @@ pub struct Desk<S: Alter> {
 }
 
 impl<S: Alter> Model for Desk<S> {
-    ghost use Rattle.desk.specs.Kept.{Kept, kept_code};
-    ghost use Rattle.desk.specs.Keeping.{IsKeeping};
+    ghost use Rattle.desk.specs.Kept.{Kept};
+    ghost use Rattle.desk.specs.Inside.Kept.{kept_code};
+    ghost use Rattle.desk.specs.Inside.Keeping.{IsKeeping};
 
     ghost Value = { Kept S };
 

@@ -2,7 +2,8 @@
 
 ghost use Rattle.std.specs.Prelude.{◌≡◌, IfOk, IfSome};
 ghost use Rattle.allotment.specs.Sittings.{MayJoin};
-ghost use Rattle.desk.specs.Sessions.{list_fate, plain_fate, fate_of, Goes, IsJoined, MayMeet, SitsAt};
+ghost use Rattle.desk.specs.Sessions.{list_fate, plain_fate, fate_of, Goes, IsJoined, SitsAt};
+ghost use Rattle.desk.specs.Inside.Sessions.{MayMeet};
 
 use office::Office;
 use rolls::{Plain, Request, Text};

@@ -12,11 +12,11 @@ use Rattle.rolls.specs.Roll.{Key, find, put, take_out, rises, same_key}
 use Rattle.rolls.specs.State.{State, round_key, has_round, choices_in}
 use Rattle.rolls.specs.Rows.{row_of, choice_in}
 use Rattle.rolls.proofs.Places.{rises-put, rises-filter}
-use Rattle.rolls.proofs.Finding.{find-put, find-take_out}
+use Rattle.rolls.proofs.EntryChange.{find-put, find-take_out}
 use Rattle.rolls.proofs.Found.{found_key}
 use Rattle.rolls.proofs.Same.{same_found}
-use Rattle.rolls.proofs.Determined.{choice_at}
-use Rattle.loading.specs.Gathering.{taken_in, has_form, with_choice, choices_among}
+use Rattle.rolls.proofs.RowsDetermine.{choice_at}
+use Rattle.loading.specs.Inside.Gathering.{taken_in, has_form, with_choice, choices_among}
 use Rattle.loading.proofs.Taken.{takes_form}
 use Rattle.loading.proofs.Takes.{both_so}
 

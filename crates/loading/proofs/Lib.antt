@@ -1,9 +1,9 @@
-pub mod Staged
-pub mod Turned
+pub mod Stages
+pub mod OneMoreRow
 pub mod Taken
 pub mod Takes
-pub mod Gathered
-pub mod Joined
+pub mod HeldRows
+pub mod DraftIsFit
 pub mod Chosen
 pub mod GoesOn
 pub mod Faults

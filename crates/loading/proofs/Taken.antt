@@ -22,10 +22,10 @@ use Rattle.rolls.specs.State.{State, empty, supervisor_key, project_key, student
 use Rattle.rolls.specs.Fit.{SupervisorFits, StudentFits, ImportFits}
 use Rattle.rolls.specs.Rows.{row_of, key_of, same_row}
 use Rattle.rolls.proofs.Places.{rises-put}
-use Rattle.rolls.proofs.Finding.{all-put}
-use Rattle.rolls.proofs.Determined.{IsShaped}
-use Rattle.loading.specs.Gathering.{taken_in, with_row, has_form, is_new, with_choice, choices_among}
-use Rattle.loading.proofs.Turned.{turns_with, lists_kept, absent, is_next, chosen_with, chosen_is, lists_chosen}
+use Rattle.rolls.proofs.EntryChange.{all-put}
+use Rattle.rolls.proofs.RowsDetermine.{IsShaped}
+use Rattle.loading.specs.Inside.Gathering.{taken_in, with_row, has_form, is_new, with_choice, choices_among}
+use Rattle.loading.proofs.OneMoreRow.{turns_with, lists_kept, absent, is_next, chosen_with, chosen_is, lists_chosen}
 
 -- ---- what is known of entries that were taken in, whether or not they go together
 

@@ -26,8 +26,8 @@ use Rattle.rolls.specs.State.{State, supervisor_key, project_key, student_key, l
 use Rattle.rolls.specs.Fit.{IsFit, SupervisorFits, ProjectFits, StudentFits, ListFits, PlacementFits, ImportFits}
 use Rattle.rolls.specs.Rows.{row_of, key_of, supervisor_row, project_row, student_row, round_row, placement_row, import_row, choice_in}
 use Rattle.rolls.proofs.Found.{found_key, holds_of_found}
-use Rattle.rolls.proofs.Determined.{entry_back, same_entry, choice_at, supervisor_in, project_in, student_in, placement_in, import_in, project_chosen}
-use Rattle.loading.specs.Gathering.{stage_of, has_form}
+use Rattle.rolls.proofs.RowsDetermine.{entry_back, same_entry, choice_at, supervisor_in, project_in, student_in, placement_in, import_in, project_chosen}
+use Rattle.loading.specs.Inside.Gathering.{stage_of, has_form}
 
 pub both_so : (a b : Bool) → a ≡ true → b ≡ true → (a && b) ≡ true
 both_so true b ha hb = hb

@@ -1,3 +1,2 @@
 pub mod View
-pub mod Gathering
-pub mod Whole
+pub mod Inside

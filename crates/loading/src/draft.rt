@@ -3,7 +3,7 @@
 ghost use Rattle.std.specs.Prelude.{◌≡◌, ◌+◌, ◌==◌, ◌++◌, ◌∷◌, [], false, length, IfOk, OnOk, Some, None, Err};
 ghost use Rattle.rolls.specs.State.{empty};
 ghost use Rattle.loading.specs.View.{drafted};
-ghost use Rattle.loading.specs.Gathering.{taken_in, choices_among, with_choice};
+ghost use Rattle.loading.specs.Inside.Gathering.{taken_in, choices_among, with_choice};
 
 use crate::fault::RowsFault;
 use rolls::{

@@ -2,7 +2,7 @@
 
 ghost use Rattle.std.specs.Prelude.{◌≡◌};
 ghost use Rattle.loading.specs.declared.fault.RowsFault.TheVariants.{Memory};
-ghost use Rattle.loading.specs.Gathering.{fault_of_text};
+ghost use Rattle.loading.specs.Inside.Gathering.{fault_of_text};
 
 use spa::TextFault;
 use std::alloc::AllocError;

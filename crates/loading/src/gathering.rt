@@ -6,7 +6,7 @@ ghost use Rattle.rolls.specs.Fit.{IsFit};
 ghost use Rattle.rolls.specs.Rows.{key_of};
 ghost use Rattle.rolls.specs.From.{AreRowsOf};
 ghost use Rattle.loading.specs.View.{drafted};
-ghost use Rattle.loading.specs.Gathering.{stage_of, at_stage, staged, gathered};
+ghost use Rattle.loading.specs.Inside.Gathering.{stage_of, at_stage, staged, gathered};
 
 use crate::draft::Draft;
 use crate::fault::RowsFault;

@@ -4,7 +4,7 @@ ghost use Rattle.std.specs.Prelude.{◌≡◌, nat_le, count_by};
 ghost use Rattle.std.specs.List.{list_all};
 ghost use Rattle.rolls.specs.State.{is_offered_by, placed_in_project, placed_with_supervisor};
 ghost use Rattle.loading.specs.View.{drafted};
-ghost use Rattle.loading.specs.Whole.{are_within};
+ghost use Rattle.loading.specs.Inside.Whole.{are_within};
 
 use crate::draft::Draft;
 use rolls::{Project, Supervisor};

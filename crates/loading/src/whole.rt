@@ -7,8 +7,8 @@ ghost use Rattle.std.specs.Str.{bytes_eq};
 ghost use Rattle.rolls.specs.State.{has_supervisor, has_project, is_placed_before};
 ghost use Rattle.rolls.specs.Fit.{are_numbered, only_last_open, is_distinct};
 ghost use Rattle.loading.specs.View.{drafted};
-ghost use Rattle.loading.specs.Gathering.{choices_among};
-ghost use Rattle.loading.specs.Whole.{is_whole, are_few, are_offered, are_rounds, is_list, is_placement};
+ghost use Rattle.loading.specs.Inside.Gathering.{choices_among};
+ghost use Rattle.loading.specs.Inside.Whole.{is_whole, are_few, are_offered, are_rounds, is_list, is_placement};
 
 use crate::draft::Draft;
 use rolls::{Listed, MOST_IMPORTS, MOST_ROUNDS, Placement, Round, Table};

@@ -1,7 +1,7 @@
-pub mod Counted
+pub mod RankCounts
 pub mod Made
-pub mod Listing
+pub mod ListPuts
 pub mod Few
-pub mod Reading
-pub mod Importing
+pub mod ReadAnswers
+pub mod ImportRows
 pub mod Known

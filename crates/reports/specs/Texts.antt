@@ -1,5 +1,5 @@
 -- The texts of the reports on a round: lines of bytes, each ended by 10.
-use Rattle.std.specs.Prelude.{ℕ, ◌-◌, ◌==◌, Bool, ◌&&◌, not, false, nat_le, List, [], ◌∷◌, ◌++◌, length, Some, filter, flat_map, replicate, count_by, codes, decimal, if◌then◌else◌}
+use Rattle.std.specs.Prelude.{ℕ, ◌-◌, ◌==◌, Bool, ◌&&◌, not, false, nat_le, List, [], ◌∷◌, ◌++◌, length, filter, flat_map, replicate, count_by, codes, decimal, if◌then◌else◌}
 use Rattle.std.specs.Option.{option_map_or}
 use Rattle.std.specs.List.{range_with_len}
 use Rattle.std.specs.Str.{bytes_eq}
@@ -10,8 +10,6 @@ use Rattle.rolls.specs.declared.entries.Student.{Student}
 use Rattle.rolls.specs.declared.rounds.Placement.{Placement}
 use Rattle.rolls.specs.declared.report.ReportKind.{ReportKind}
 use Rattle.rolls.specs.declared.report.ReportKind.TheVariants.{Profile, Loads, Unplaced, Placements}
-use Rattle.spa.specs.Counted.{Counted}
-use Rattle.rolls.specs.Counted.{AreCounted}
 use Rattle.rolls.specs.State.{State, placement_of, is_open, lists_of, has_list, is_offered_by, placed_in_round, placed_at_rank}
 
 -- a text, and spaces after it up to a width; a longer text stays as it is
@@ -52,10 +50,6 @@ placed_with_supervisor_by o n code = count_by (λ p. nat_le p.round n && is_offe
 -- how many students the rounds 1 to n placed in a project
 abbrev pub placed_in_project_by : State → ℕ → List ℕ → ℕ
 placed_in_project_by o n code = count_by (λ p. nat_le p.round n && bytes_eq code p.project) o.placements
-
--- what is counted, by position, of the placements of the rounds 1 to n
-abbrev pub AreLoads : State → ℕ → Counted → Type 0
-AreLoads o n counts = AreCounted (Some n) o.supervisors o.projects o.placements counts
 
 -- the load of a project, indented
 abbrev pub project_row : State → ℕ → Project → List ℕ

@@ -4,7 +4,8 @@ ghost use Rattle.std.specs.Prelude.{◌≡◌, ◌<◌, ◌++◌, ◌∷◌, [],
 ghost use Rattle.std.specs.Str.{bytes_eq};
 ghost use Rattle.spa.specs.declared.TheConstants.{MOST_PROJECTS, MOST_SUPERVISORS};
 ghost use Rattle.rolls.specs.State.{State};
-ghost use Rattle.reports.specs.Texts.{AreLoads, load_row, project_row, offered_rows, supervisor_rows, loads_text};
+ghost use Rattle.reports.specs.Inside.Texts.{AreLoads};
+ghost use Rattle.reports.specs.Texts.{load_row, project_row, offered_rows, supervisor_rows, loads_text};
 
 use office::Office;
 use rolls::{Project, Supervisor, counted};

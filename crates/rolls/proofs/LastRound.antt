@@ -15,7 +15,7 @@ use Rattle.rolls.specs.Roll.{key_cmp, same_key, by_order, find, put, is_below, r
 use Rattle.rolls.specs.State.{State, round_key, list_key, round_of, last_round, is_open, is_closed, lists_of, choices_in}
 use Rattle.rolls.specs.Fit.{are_numbered, only_last_open}
 use Rattle.rolls.specs.Stepping.{with_last, after_opening}
-use Rattle.rolls.proofs.Finding.{find-put}
+use Rattle.rolls.proofs.EntryChange.{find-put}
 
 -- ---- keys of rounds
 
@@ -197,10 +197,6 @@ closed_not_open (Some r) h = elim (cases_Bool r.is_open) [
 pub closed_is_not_open : (o : State) (n : ℕ) → is_closed o n ≡ true → is_open o n ≡ false
 closed_is_not_open o n h = closed_not_open (round_of o n) h
 
--- and a round that is not open is closed
-pub not_open_is_closed : (o : State) (n : ℕ) (r : Round) → round_of o n ≡ Some r → is_open o n ≡ false → is_closed o n ≡ true
-not_open_is_closed o n r is h = let k = rw is at h in rw is (ap not k)
-
 module _ (o : State) (numbered : are_numbered 1 o.rounds ≡ true) where
   -- an open round is there
   pub open_within : (n : ℕ) → is_open o n ≡ true → record { positive : 1 ≤ n; within : n ≤ last_round o }
@@ -226,14 +222,6 @@ closed_ahead (x ∷ y ∷ rs) zero r h l is = ap (λ o. option_map_or (λ r. r.i
     was_not true h = sym h
     was_not false h = refl
 closed_ahead (x ∷ y ∷ rs) (suc k) r h l is = closed_ahead (y ∷ rs) k r (second_so (not x.is_open) (only_last_open (y ∷ rs)) h) (omega (arith, l)) is
-
--- a round before the last is closed
-pub earlier_closed : (o : State) → are_numbered 1 o.rounds ≡ true → only_last_open o.rounds ≡ true → (n : ℕ) → 1 ≤ n → n < last_round o → is_closed o n ≡ true
-earlier_closed o numbered h zero s l = absurd (omega (arith, s))
-earlier_closed o numbered h (suc k) s l =
-    let r = some_round o numbered (suc k) s (omega (arith, l)) in
-    let c = closed_ahead o.rounds k r.0 h l (sym (round_at o numbered k) ∙ r.1) in
-    ap (λ x. option_map_or (λ r. not r.is_open) x false) r.1 ∙ ap not c
 
 -- ---- the last round changed, its number kept
 

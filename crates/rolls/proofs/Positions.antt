@@ -13,9 +13,10 @@ use Rattle.rolls.specs.declared.entries.Project.{Project}
 use Rattle.rolls.specs.Roll.{Key, same_key, find, has, is_below, rises}
 use Rattle.rolls.specs.State.{State, supervisor_key, project_key}
 use Rattle.rolls.specs.Fit.{IsFit, ProjectFits}
-use Rattle.rolls.specs.Place.{IsAt}
-use Rattle.rolls.specs.Counted.{AreRolls, ArePositions, IsNowhere}
-use Rattle.rolls.proofs.Finding.{same_code, all_weaker}
+use Rattle.rolls.specs.Inside.Place.{IsAt}
+use Rattle.rolls.specs.Counted.{AreRolls}
+use Rattle.rolls.specs.Inside.Counted.{ArePositions, IsNowhere}
+use Rattle.rolls.proofs.EntryChange.{same_code, all_weaker}
 use Rattle.rolls.proofs.Found.{found_key}
 use Rattle.rolls.proofs.Places.{find_below}
 use Rattle.rolls.proofs.RowKeys.{same_bytes, bytes_self}

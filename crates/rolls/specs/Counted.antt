@@ -1,5 +1,5 @@
 -- How many placements each project and each supervisor has, by position in the rolls.
-use Rattle.std.specs.Prelude.{◌≡◌, ℕ, ◌+◌, ◌<◌, ◌≤◌, ◌==◌, ◌&&◌, nat_le, cond, Bool, true, false, IsTrue, List, length, count_by, slice_get, slice_index, Option, Some, None}
+use Rattle.std.specs.Prelude.{◌≡◌, ℕ, ◌≤◌, ◌&&◌, nat_le, Bool, true, false, IsTrue, List, length, count_by, slice_get, slice_index, Option, Some, None}
 use Rattle.std.specs.Option.{option_map_or}
 use Rattle.std.specs.List.{AllByRecursion}
 use Rattle.std.specs.Str.{bytes_eq}
@@ -27,25 +27,6 @@ pub record AreRolls (supervisors : List Supervisor) (projects : List Project) : 
   pub few_supervisors : length supervisors ≤ MOST_SUPERVISORS
   pub few_projects : length projects ≤ MOST_PROJECTS
   pub offered : AllByRecursion (λ p. IsTrue (has supervisor_key (of_code p.supervisor) supervisors)) projects
-
--- a project stands at a position of its roll, and its supervisor at one of the other, and nowhere else
-pub record ArePositions (supervisors : List Supervisor) (projects : List Project) (project : List ℕ) (p l : ℕ) : Type 0 where
-  pub project_within : p < MOST_PROJECTS
-  pub supervisor_within : l < MOST_SUPERVISORS
-  pub project_there : (k : ℕ) (e : Project) → slice_get projects k ≡ Some e → bytes_eq e.code project ≡ (p == k)
-  pub supervisor_there : (k : ℕ) (s : Supervisor) → slice_get supervisors k ≡ Some s → offers projects s.code project ≡ (l == k)
-
--- a project stands nowhere on its roll, so no supervisor offers it
-pub record IsNowhere (supervisors : List Supervisor) (projects : List Project) (project : List ℕ) : Type 0 where
-  pub no_project : (k : ℕ) (e : Project) → slice_get projects k ≡ Some e → bytes_eq e.code project ≡ false
-  pub no_supervisor : (s : List ℕ) → offers projects s project ≡ false
-
--- one more placement is counted, if such a round made it, for its project and the project's supervisor
-pub record IsOneMore (up_to : Option ℕ) (supervisors : List Supervisor) (projects : List Project) (q : Placement) (old new : Counted) : Type 0 where
-  pub in_project : (k : ℕ) (e : Project) → slice_get projects k ≡ Some e → slice_index new.projects k ≡ slice_index old.projects k + cond (is_made_by up_to q && bytes_eq e.code q.project) 1 0
-  pub with_supervisor : (k : ℕ) (s : Supervisor) → slice_get supervisors k ≡ Some s → slice_index new.supervisors k ≡ slice_index old.supervisors k + cond (is_made_by up_to q && offers projects s.code q.project) 1 0
-  pub few_in_project : (k : ℕ) → slice_index new.projects k ≤ slice_index old.projects k + 1
-  pub few_with_supervisor : (k : ℕ) → slice_index new.supervisors k ≤ slice_index old.supervisors k + 1
 
 -- how many of the placements that such rounds made are in a project
 abbrev pub count_in : Option ℕ → List Placement → List ℕ → ℕ

@@ -58,10 +58,7 @@ student_tests o code label =
 
 -- what an opening of a round is judged by
 abbrev pub opening_tests : State → List (Bool × Refusal)
-opening_tests o =
-    (round_is_open o, no.RoundIsOpen)
-    ∷ (nat_le MOST_ROUNDS (last_round o), no.RoundsFull)
-    ∷ []
+opening_tests o = (round_is_open o, no.RoundIsOpen) ∷ (nat_le MOST_ROUNDS (last_round o), no.RoundsFull) ∷ []
 
 -- what the choices of a list are judged by, each in turn, after those that stand before them
 abbrev pub choice_tests : State → List (List ℕ) → List (List ℕ) → List (Bool × Refusal)
@@ -90,10 +87,7 @@ drop_tests o student =
 
 -- what a reopening is judged by
 abbrev pub reopening_tests : State → List (Bool × Refusal)
-reopening_tests o =
-    (round_is_open o, no.RoundIsOpen)
-    ∷ (last_round o == 0, no.NoRoundClosed)
-    ∷ []
+reopening_tests o = (round_is_open o, no.RoundIsOpen) ∷ (last_round o == 0, no.NoRoundClosed) ∷ []
 
 -- what a request for the open round is judged by
 abbrev pub open_tests : State → List (Bool × Refusal)

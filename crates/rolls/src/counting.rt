@@ -1,7 +1,8 @@
 //! Placements, counted for all projects and supervisors in one pass.
 
 ghost use Rattle.std.specs.Prelude.{◌≡◌, ℕ, ◌+◌, ◌<◌, ◌^◌, IfSome, None, length, slice_index};
-ghost use Rattle.rolls.specs.Counted.{is_made_by, AreRolls, ArePositions, IsNowhere, IsOneMore, AreCounted};
+ghost use Rattle.rolls.specs.Counted.{is_made_by, AreRolls, AreCounted};
+ghost use Rattle.rolls.specs.Inside.Counted.{ArePositions, IsNowhere, IsOneMore};
 
 use crate::entries::{Project, Supervisor};
 use crate::rounds::Placement;

@@ -8,7 +8,7 @@ use Rattle.std.proofs.lemmas.Bool.Decides.{nat_tests}
 use Rattle.std.proofs.lemmas.List.Sums.{sum_by-cons}
 use Rattle.std.proofs.lemmas.Map.Entries.{option_filter}
 use Rattle.rolls.specs.Roll.{Key, key_cmp, same_key, find, has, put, is_below, rises}
-use Rattle.rolls.proofs.Finding.{find-put, is_equal}
+use Rattle.rolls.proofs.EntryChange.{find-put, is_equal}
 use Rattle.rolls.proofs.Places.{find_below}
 use Rattle.rolls.proofs.Same.{keys_exact}
 

@@ -1,10 +1,10 @@
 pub mod Entries
-pub mod Staying
+pub mod FitAfterPut
 pub mod StayingRounds
-pub mod Judged
+pub mod KnownChoices
 pub mod StaysFit
-pub mod Changed
-pub mod Turning
-pub mod Turned
+pub mod RowsLeft
+pub mod OneRowTurns
+pub mod PlainTurns
 pub mod OneMore
-pub mod Imported
+pub mod ImportChanges

@@ -15,10 +15,10 @@ use Rattle.rolls.specs.State.{State, list_key, placement_key, placement_of, list
 use Rattle.rolls.specs.Fit.{IsFit, ListFits, PlacementFits}
 use Rattle.rolls.specs.Stepping.{with_last, after_opening, after_reopening}
 use Rattle.rolls.proofs.Places.{rises-filter}
-use Rattle.rolls.proofs.Finding.{all_weaker}
+use Rattle.rolls.proofs.EntryChange.{all_weaker}
 use Rattle.rolls.proofs.LastRound.{closed_before, last_kept, numbered_kept, last_open_kept, other_kept, reading_kept, reading_changed, last_after_opening, numbered_after_opening, last_open_after_opening, reading_after_opening, other_after_opening, closed_within, same_lists, has_reading}
 use Rattle.row_changes.proofs.Entries.{all_kept, count_kept, find-filter}
-use Rattle.row_changes.proofs.Staying.{fit_with_rounds}
+use Rattle.row_changes.proofs.FitAfterPut.{fit_with_rounds}
 
 -- what a placement needs of the office, where its round stays closed and its student's choices stay
 placement_fits_still : (o new : State) (p : Placement) → PlacementFits o p → is_closed new p.round ≡ is_closed o p.round → lists_of new p.round ≡ lists_of o p.round → PlacementFits new p

@@ -14,13 +14,13 @@ use Rattle.rolls.specs.Fit.{IsFit, ListFits}
 use Rattle.rolls.specs.declared.request.Plain.TheVariants.{PutSupervisor, PutProject, PutStudent, OpenRound, PutList, DropList, ReopenRound, GetSupervisor, GetProject, GetStudent, GetRound}
 use Rattle.rolls.specs.Refusing.{plain_refusal, supervisor_tests, project_tests, student_tests, opening_tests, list_tests, drop_tests}
 use Rattle.rolls.specs.Stepping.{after_plain}
-use Rattle.rolls.proofs.Allowed.{allowed}
+use Rattle.rolls.proofs.NoRefusal.{allowed}
 use Rattle.rolls.proofs.Places.{rises-put, rises-filter}
-use Rattle.rolls.proofs.Finding.{all-put}
+use Rattle.rolls.proofs.EntryChange.{all-put}
 use Rattle.row_changes.specs.Laws.{StaysFit}
 use Rattle.row_changes.proofs.Entries.{not_false, not_above, all_kept}
-use Rattle.row_changes.proofs.Judged.{choices_known, choices_distinct}
-use Rattle.row_changes.proofs.Staying.{fit_with_supervisor, fit_with_project, fit_with_student}
+use Rattle.row_changes.proofs.KnownChoices.{choices_known, choices_distinct}
+use Rattle.row_changes.proofs.FitAfterPut.{fit_with_supervisor, fit_with_project, fit_with_student}
 use Rattle.row_changes.proofs.StayingRounds.{fit_opened, fit_with_lists, fit_reopened}
 
 supervisor_fit : (code label : List ℕ) (quota : ℕ) (o : State) → IsFit o → plain_refusal o (PutSupervisor code label quota) ≡ None → IsFit (after_plain (PutSupervisor code label quota) o)

@@ -1,5 +1,5 @@
 -- Why a call of the store failed, from why the statement did on which it ended.
-use Rattle.std.proofs.Common.{◌≡◌, ◌≤◌, ◌<◌, inl, inr, ℕ, true, false, List, [], take, get_or, length, Option, Some, Result, Err, refl, sym, ap, subst, ◌∙◌, arith}
+use Rattle.std.proofs.Common.{◌≡◌, ◌≤◌, ◌<◌, inl, inr, ℕ, true, List, [], take, get_or, length, Option, Result, refl, subst}
 use Rattle.std.proofs.lemmas.Option.{slice_get_read, slice_get-get_or}
 use Rattle.sqlite.specs.declared.error.Error.{Error}
 use Rattle.sqlite.specs.Effect.{Database}
@@ -14,38 +14,26 @@ use Rattle.std.proofs.lemmas.Bool.{cases_Bool}
 use Rattle.sqlite_rules.specs.Lists.{Has}
 use Rattle.rolls.specs.declared.row.Row.{Row}
 use Rattle.tables.specs.Causes.{IsCausedInside, IsHindered, IsStopped, IsUnread}
-use Rattle.store.specs.Reading.{ReadsSome}
+use Rattle.store.specs.Inside.Reading.{ReadsSome}
 use Rattle.store.specs.Rows.{columns, kept, rolls, table_of}
-use Rattle.store.proofs.Judging.{is_next}
-use Rattle.tables.specs.Steps.{Stays}
+use Rattle.store.proofs.ListedTables.{is_next}
+use Rattle.tables.specs.Inside.Steps.{Stays}
 use Rattle.tables.specs.Table.{sql_of}
 use Rattle.tables.proofs.Causes.{stopped_after, stopped_as, stopped_before, uncommitted}
 use Rattle.store.specs.declared.fault.StoreFault.TheVariants.{Storage}
-use Rattle.store.specs.Faults.{of_table}
-use Rattle.store.specs.Saving.{Applies, entering}
+use Rattle.store.specs.Inside.Faults.{of_table}
+use Rattle.store.specs.Saving.{Applies}
+use Rattle.store.specs.Inside.Saving.{entering}
 use Rattle.store.specs.declared.saving.Way.{Way}
 use Rattle.store.specs.declared.saving.Way.TheVariants.{InPlace, New}
 use Rattle.store.specs.Tables.{MakesTables}
-use Rattle.store.specs.Causes.{IsHinderedAmong, IsHinderedChange, IsHinderedMaking, IsHinderedReading, IsHinderedToEnter, IsHinderedToSave}
+use Rattle.store.specs.Causes.{IsHinderedAmong, IsHinderedChange, IsHinderedMaking, IsHinderedReading}
+use Rattle.store.specs.Inside.Causes.{IsHinderedToEnter}
 
 -- a fault of the storage is one of a statement
 pub of_storage : (f : TableFault) → of_table f ≡ Storage → f ≡ fault.Storage
 of_storage fault.Memory h = cc
 of_storage fault.Storage h = refl
-
--- a call of nothing but what it is hindered by
-module _ (first begun : Seen) (begins : begun ≡ record first { in_transaction = true }) where
-  -- a transaction that has begun has changed nothing
-  begun_first : (K : Option ℕ → Database → Type 0) (c : Seen) → IsStopped K begun c → IsStopped K first c
-  begun_first K c stops = record { why = (subst (λ (s : Seen). IsStopped K s c) begins stops).why }
-
-  -- a statement of the transaction failed, which was dropped then
-  pub broken_off : (K : Option ℕ → Database → Type 0) (b c : Seen) → b.faults ≤ c.faults → IsStopped K begun b → IsStopped K first c
-  broken_off K b c up stops = begun_first K c (stopped_before K begun b c up stops)
-
-  -- the commit failed
-  pub not_committed : (K : Option ℕ → Database → Type 0) (b c : Seen) (e : Error) → Survives begun b (λ _. ⊥) → HasCleanDisk b → b.faults ≤ c.faults → b.in_transaction ≡ true → fault_of e ≡ fault.Storage → FailsToCommit b c e → IsStopped K first c
-  not_committed K b c e survives clean up inside other fails = begun_first K c (stopped_after (λ _ _. ⊥) K begun b c survives clean up (λ none. absurd none) (uncommitted b c e other inside fails))
 
 -- one of the changes was refused
 pub change_refused : (i : ℕ) (changes : List Change) (change : Change) (a b c : Seen) → i < length changes → change ≡ get_or changes i change → Survives a b (λ _. ⊥) → HasCleanDisk b → b.faults ≤ c.faults → Stays (Applies (take i changes)) a b

@@ -9,7 +9,7 @@ use Rattle.sqlite_rules.specs.Lists.{Has}
 use Rattle.rolls.specs.declared.row.Row.{Row}
 use Rattle.tables.specs.declared.table.Table.{Table}
 use Rattle.store.specs.Rows.{columns, is_in}
-use Rattle.store.specs.Reading.{AreRowsOf}
+use Rattle.store.specs.Inside.Reading.{AreRowsOf}
 
 -- three columns, of which the first is the rowid
 pub two_after : (cells : Cells) (a b : Value) → length cells ≡ 3 → column cells 1 ≡ a → column cells 2 ≡ b → ◌≡◌ {A = Cells} (a ∷ b ∷ []) (drop 1 cells)
@@ -18,15 +18,6 @@ two_after (w ∷ []) a b h p q = absurd (omega (arith, h))
 two_after (w ∷ x ∷ []) a b h p q = absurd (omega (arith, h))
 two_after (w ∷ x ∷ y ∷ []) a b h p q = λ i. sym p i ∷ sym q i ∷ []
 two_after (w ∷ x ∷ y ∷ z ∷ more) a b h p q = absurd (omega (arith, h))
-
--- four
-pub three_after : (cells : Cells) (a b c : Value) → length cells ≡ 4 → column cells 1 ≡ a → column cells 2 ≡ b → column cells 3 ≡ c → ◌≡◌ {A = Cells} (a ∷ b ∷ c ∷ []) (drop 1 cells)
-three_after [] a b c h p q r = absurd (omega (arith, h))
-three_after (v ∷ []) a b c h p q r = absurd (omega (arith, h))
-three_after (v ∷ w ∷ []) a b c h p q r = absurd (omega (arith, h))
-three_after (v ∷ w ∷ x ∷ []) a b c h p q r = absurd (omega (arith, h))
-three_after (v ∷ w ∷ x ∷ y ∷ []) a b c h p q r = λ i. sym p i ∷ sym q i ∷ sym r i ∷ []
-three_after (v ∷ w ∷ x ∷ y ∷ z ∷ more) a b c h p q r = absurd (omega (arith, h))
 
 -- five
 pub four_after : (cells : Cells) (a b c d : Value) → length cells ≡ 5 → column cells 1 ≡ a → column cells 2 ≡ b → column cells 3 ≡ c → column cells 4 ≡ d
@@ -48,10 +39,6 @@ has_at (y ∷ xs) (suc i) x low is = inr (has_at xs i x (omega (arith, low)) is)
 all_push : (p : Row → Bool) (xs : List Row) (x : Row) → list_all p xs ≡ true → p x ≡ true → list_all p (xs ++ x ∷ []) ≡ true
 all_push p [] x h is = and_from _ _ is refl
 all_push p (y ∷ xs) x h is = let parts = and_parts _ _ h in and_from _ _ parts.0 (all_push p xs x parts.1 is)
-
--- nothing was read
-pub rows_none : (table : Table) → AreRowsOf table [] []
-rows_none table = record { columns = refl; kind = refl }
 
 -- one row more was read
 pub rows_more : (table : Table) (all : List Cells) (i : ℕ) (cells : Cells) (rows : List Row) (row : Row) → i < length all → cells ≡ get_or all i cells → AreRowsOf table (take i all) rows

@@ -29,7 +29,7 @@ use Rattle.tables.specs.declared.table.Table.{Table}
 use Rattle.tables.specs.declared.table.Table.TheVariants.{Choice, Edition}
 use Rattle.tables.specs.Table.{same_table}
 use Rattle.tables.proofs.Runs.{same_table_is, same_table_self}
-use Rattle.tables.proofs.Testing.{equal_int}
+use Rattle.tables.proofs.KeyTests.{equal_int}
 use Rattle.rolls.proofs.RowKeys.{apart_back, same_row_is}
 use Rattle.store.specs.Rows.{IsRoll, columns, is_in, columns_of, key_columns, list_columns, rolls, table_at_key, table_of}
 use Rattle.store.proofs.Keys.{dropped, dropped_by}

@@ -7,7 +7,7 @@ use Rattle.spa.specs.declared.TheConstants.{RANKS}
 use Rattle.rolls.specs.declared.TheConstants.{MOST_ROUNDS}
 use Rattle.rolls.specs.declared.rounds.Listed.{Listed}
 use Rattle.rolls.specs.declared.rounds.Round.{Round}
-use Rattle.rolls.proofs.Determined.{choice_at}
+use Rattle.rolls.proofs.RowsDetermine.{choice_at}
 use Rattle.std.proofs.lemmas.Bool.{and_parts, or_parts, not-true, cases_Bool}
 use Rattle.sqlite.specs.Order.{Row as Cells}
 use Rattle.sqlite_rules.specs.Lists.{Has}
@@ -24,7 +24,7 @@ use Rattle.rolls.specs.Rows.{key_of, same_row, row_of, supervisor_row, project_r
 use Rattle.rolls.specs.From.{row_in, are_apart}
 use Rattle.tables.specs.declared.table.Table.{Table}
 use Rattle.store.specs.Rows.{columns, is_in, columns_of, AreRowsAt}
-use Rattle.store.specs.Reading.{IsTyped}
+use Rattle.store.specs.Inside.Reading.{IsTyped}
 use Rattle.rolls.proofs.RowKeys.{same_row_is, same_row_self}
 use Rattle.std.specs.List.{list_any}
 

@@ -2,7 +2,6 @@
 use Rattle.std.specs.Prelude.{◌≡◌, ◌⊎◌, pos, ℕ, List, [], ◌∷◌, Option, Some, take, slice_get}
 use Rattle.sqlite.specs.declared.types.Value.TheVariants.{Int}
 use Rattle.sqlite.specs.Effect.{Database}
-use Rattle.sqlite.specs.Order.{Row as Cells}
 use Rattle.sqlite_rules.specs.Lists.{Has}
 use Rattle.rolls.specs.declared.row.Change.{Change}
 use Rattle.rolls.specs.declared.row.Change.TheVariants.{Add, Put, Take, TakeList}
@@ -12,14 +11,7 @@ use Rattle.tables.specs.Table.{list_removal, sql_of}
 use Rattle.tables.specs.Causes.{IsHindered, IsHinderedToPut, IsUnread, IsUnready}
 use Rattle.store.specs.Rows.{columns, kept, key_columns, list_columns, table_at_key, table_of}
 use Rattle.store.specs.Saving.{Applies}
-use Rattle.store.specs.declared.saving.Way.{Way}
-use Rattle.store.specs.declared.saving.Way.TheVariants.{InPlace, New}
 use Rattle.store.specs.Tables.{HasNone, MakesTables}
-
--- a row is refused that is brought into its table so
-abbrev pub IsHinderedToEnter : Way → Table → Cells → Option ℕ → Database → Type 0
-IsHinderedToEnter InPlace table row = IsHinderedToPut table row
-IsHinderedToEnter New table row = IsHindered (sql_of table).insert row
 
 -- a change is refused
 abbrev pub IsHinderedChange : Change → Option ℕ → Database → Type 0

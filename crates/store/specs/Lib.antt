@@ -1,7 +1,7 @@
-pub mod Faults
 pub mod Rows
 pub mod Tables
 pub mod Saving
 pub mod Reading
 pub mod Laws
 pub mod Causes
+pub mod Inside

@@ -5,19 +5,15 @@ use Rattle.sqlite.specs.Table.{Table as AnyTable}
 use Rattle.sqlite_rules.specs.Lists.{Has}
 use Rattle.tables.specs.declared.table.Table.{Table}
 use Rattle.sqlite.specs.Effect.{Database}
-use Rattle.sqlite.specs.Order.{Row as Cells}
 use Rattle.rolls.specs.declared.row.Row.{Row}
 use Rattle.rolls.specs.declared.row.RowKey.{RowKey}
 use Rattle.rolls.specs.declared.row.Change.{Change}
-use Rattle.rolls.specs.declared.row.Change.TheVariants.{Add, Put}
-use Rattle.rolls.specs.Rows.{AreFresh, IsFresh, after_change, after_changes}
+use Rattle.rolls.specs.Rows.{AreFresh, after_changes}
 use Rattle.tables.specs.Table.{Place, Lists, table_at}
 use Rattle.store.specs.Rows.{IsRoll}
-use Rattle.tables.specs.Writes.{Adds, IsInert, Puts}
+use Rattle.tables.specs.Writes.{IsInert}
 use Rattle.tables.specs.Inert.{IsActedOn}
 use Rattle.store.specs.Tables.{TablesHold}
-use Rattle.store.specs.declared.saving.Way.{Way}
-use Rattle.store.specs.declared.saving.Way.TheVariants.{InPlace, New}
 
 -- no foreign key acts on this table, wherever it is listed
 abbrev pub IsLeftAlone : Table → Schema → Type 0
@@ -54,21 +50,6 @@ unfoldable pub Applies : List Change → Database → Database → Type 0
 Applies changes old new =
     AreInert old.schema → (rows : RowKey → Option Row) → TablesHold old rows → TablesHold new (after_changes changes rows) × Spares old new × AreFresh changes rows
 
--- the same, of one change
-unfoldable pub AppliesOne : Change → Database → Database → Type 0
-AppliesOne change old new =
-    AreInert old.schema → (rows : RowKey → Option Row) → TablesHold old rows → TablesHold new (after_change change rows) × Spares old new × IsFresh change rows
-
 -- where the tables held rows, nothing stood at the key of a row when its turn to be added came
 unfoldable pub AddsNew : List Change → Database → Type 0
 AddsNew changes old = (rows : RowKey → Option Row) → TablesHold old rows → AreFresh changes rows
-
--- the change that brings a row into its table so
-abbrev pub entering : Way → Row → Change
-entering InPlace row = Put row
-entering New row = Add row
-
--- what a statement does that brings a row into its table so
-abbrev pub Enters : Way → (Place → AnyTable) → Cells → Cells → Database → Database → Type 0
-Enters InPlace = Puts
-Enters New = Adds

@@ -62,10 +62,6 @@ pub record Founds (old new : Database) : Type 0 where
   pub stands : StandsFor new empty
   pub ruled : AreRuled new.schema
 
--- a database comes to stand for the empty office, in tables with the CHECK rules that are made here
-unfoldable pub Empties : Database → Database → Type 0
-Empties old new = StandsFor new empty × AreRuled new.schema
-
 -- what was opened: the empty office where none of the tables was there, and else the office that they stand for
 abbrev pub Opens : Database → Database → State → Type 0
 Opens old new office = (HasNone old.schema × (office ≡ empty) × StandsFor new empty × AreRuled new.schema) ⊎ ((new ≡ old) × StandsFor old office)

@@ -2,7 +2,7 @@
 
 ghost use Rattle.std.specs.Prelude.{◌≡◌};
 ghost use Rattle.store.specs.declared.fault.StoreFault.TheVariants.{Memory};
-ghost use Rattle.store.specs.Faults.{of_table};
+ghost use Rattle.store.specs.Inside.Faults.{of_table};
 
 use std::alloc::{AllocError, AllocFailed};
 use tables::fault::TableFault;

@@ -3,10 +3,12 @@
 ghost use Rattle.std.specs.Prelude.{◌≡◌, ◌≢◌, IsTrue, false, OnOk, OnErr};
 ghost use Rattle.sqlite.specs.State.{HasCleanDisk, Survives};
 ghost use Rattle.sqlite.specs.Held.{state};
-ghost use Rattle.tables.specs.Steps.{Does, HasSaved, HasStepped, IsKept, IsLeft, Stays};
+ghost use Rattle.tables.specs.Steps.{Does, HasSaved, HasStepped, IsKept, IsLeft};
+ghost use Rattle.tables.specs.Inside.Steps.{Stays};
 ghost use Rattle.tables.specs.Causes.{IsCaused, IsCausedInside};
 ghost use Rattle.store.specs.Causes.{IsHinderedFounding, IsHinderedMaking};
-ghost use Rattle.store.specs.Tables.{Empties, HasNone, MakesTables};
+ghost use Rattle.store.specs.Inside.Tables.{Empties};
+ghost use Rattle.store.specs.Tables.{HasNone, MakesTables};
 
 use crate::fault::StoreFault;
 use crate::kept::TABLES;

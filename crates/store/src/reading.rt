@@ -14,7 +14,8 @@ ghost use Rattle.rolls.specs.Fit.{IsFit};
 ghost use Rattle.rolls.specs.From.{AreRowsOf};
 ghost use Rattle.store.specs.Tables.{StandsFor, first_edition};
 ghost use Rattle.tables.specs.Layout.{IsListed};
-ghost use Rattle.store.specs.Reading.{AreListed, IsAlone, IsElsewhere, IsListedAlone, ReadsTable, HoldsNoRow, ReadsAll, HoldsUnread, IsDamaged};
+ghost use Rattle.store.specs.Reading.{AreListed, IsDamaged};
+ghost use Rattle.store.specs.Inside.Reading.{IsAlone, IsElsewhere, IsListedAlone, ReadsTable, HoldsNoRow, ReadsAll, HoldsUnread};
 
 use crate::fault::StoreFault;
 use crate::kept::ROLLS;

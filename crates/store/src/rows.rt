@@ -6,7 +6,7 @@ ghost use Rattle.sqlite.specs.Order.{Row as AnyCells, column};
 ghost use Rattle.sqlite_rules.specs.Lists.{Has};
 ghost use Rattle.rolls.specs.Kinds.{word_of};
 ghost use Rattle.tables.specs.Table.{kinds_of};
-ghost use Rattle.store.specs.Reading.{IsNoRow, IsRowWith, AreRowsOf, is_of_rolls, is_of_rounds};
+ghost use Rattle.store.specs.Inside.Reading.{IsNoRow, IsRowWith, AreRowsOf, is_of_rolls, is_of_rounds};
 
 use crate::fault::StoreFault;
 use rolls::{Bytes, ImportKind, Row, Text};

@@ -7,9 +7,12 @@ ghost use Rattle.sqlite.specs.Held.{state};
 ghost use Rattle.sqlite.specs.Values.{bound};
 ghost use Rattle.tables.specs.Table.{IsRowOf, key_in, table_at};
 ghost use Rattle.tables.specs.Causes.{IsCaused, IsCausedInside};
-ghost use Rattle.tables.specs.Steps.{Does, HasSaved, HasStepped, IsKept, IsLeft, Stays};
-ghost use Rattle.store.specs.Causes.{IsHinderedAmong, IsHinderedChange, IsHinderedToEnter, IsHinderedToSave};
-ghost use Rattle.store.specs.Saving.{Applies, AppliesOne, AreActedOn, Enters, LeavesOthers, Saves, entering};
+ghost use Rattle.tables.specs.Steps.{Does, HasSaved, HasStepped, IsKept, IsLeft};
+ghost use Rattle.tables.specs.Inside.Steps.{Stays};
+ghost use Rattle.store.specs.Causes.{IsHinderedAmong, IsHinderedChange, IsHinderedToSave};
+ghost use Rattle.store.specs.Inside.Causes.{IsHinderedToEnter};
+ghost use Rattle.store.specs.Saving.{Applies, AreActedOn, LeavesOthers, Saves};
+ghost use Rattle.store.specs.Inside.Saving.{AppliesOne, Enters, entering};
 
 use crate::fault::StoreFault;
 use rolls::{Change, Row, RowKey};

@@ -27,7 +27,7 @@ use Rattle.sqlite_rules.specs.Lists.{Has}
 use Rattle.sqlite_rules.proofs.ListLemmas.{all_has, test_has, some_from}
 use Rattle.sqlite_rules.proofs.TableLemmas.{int_is, put_all_adds, put_all_keeps}
 use Rattle.tables.proofs.Rowids.{none_has}
-use Rattle.tables.proofs.Testing.{rowid_is}
+use Rattle.tables.proofs.KeyTests.{rowid_is}
 
 -- the key is the rowid, or columns that are listed as unique, each in ascending order
 abbrev pub HasKey : Table → Type 0

@@ -21,8 +21,8 @@ use Rattle.sqlite_ast.specs.declared.Core.{Core, roll-Core}
 use Rattle.sqlite_ast.specs.declared.Select.{Select, roll-Select}
 use Rattle.sqlite_resolve.specs.declared.scope.Output.{Output}
 use Rattle.tables.specs.Table.{Shape}
-use Rattle.tables.proofs.Testing.{equals, is_parameter}
-use Rattle.tables.proofs.Selecting.{id_out, key_out, column_out}
+use Rattle.tables.proofs.KeyTests.{equals, is_parameter}
+use Rattle.tables.proofs.SelectAll.{id_out, key_out, column_out}
 
 -- a text that was read to its end, and has so many parameters, eight at most
 abbrev pub read_as : List ℕ → Statement → ℕ → Parsed

@@ -24,8 +24,9 @@ use Rattle.sqlite_schema.specs.declared.schema.Action.TheVariants as action
 use Rattle.sqlite_schema.specs.Rules.{kind_code}
 use Rattle.tables.specs.declared.table.Table.{Table as Ours}
 use Rattle.tables.specs.Table.{Shape, shape_of, table_at, Place, required, referring, ascending, made_at}
-use Rattle.tables.specs.Inert.{is_passive}
-use Rattle.tables.specs.Layout.{is_nothing, is_binary, same_key, is_required, is_referring, are_told, are_plain, is_untimed, has_shape, IsNamed, IsListed, place_of}
+use Rattle.tables.specs.Inside.Inert.{is_passive}
+use Rattle.tables.specs.Inside.Layout.{is_nothing, is_binary, same_key, is_required, is_referring, are_told, are_plain, is_untimed, has_shape, IsNamed, place_of}
+use Rattle.tables.specs.Layout.{IsListed}
 
 same_bytes : (a b : List ℕ) → bytes_eq a b ≡ true → a ≡ b
 same_bytes a b h = (bytes_eq-Decides a b).0 h

@@ -1,27 +1,27 @@
 mod Places
 mod Understood
-mod Inserting
+mod InsertKeyed
 mod Puts
 mod Rowids
-pub mod Testing
-mod Keyed
+pub mod KeyTests
+mod RowidsOut
 mod Apart
-mod Adding
+mod InsertRow
 mod Alike
-mod Appending
-mod Creating
-mod Selecting
-mod Finding
-mod Deleting
-mod Updating
+mod MoreTables
+mod CreateTable
+mod SelectAll
+mod QueryRows
+mod DeleteRows
+mod UpdateRow
 pub mod Runs
-mod Putting
+mod PutRow
 mod Quiet
 mod Layouts
-mod Rising
+mod RowidsRise
 mod Forms
 mod Texts
 mod Tables
 mod Told
-pub mod Relisting
+pub mod SameTrees
 pub mod Causes

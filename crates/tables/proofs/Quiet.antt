@@ -17,7 +17,8 @@ use Rattle.sqlite_value.specs.declared.keys.Order.{Order}
 use Rattle.sqlite_rules.specs.declared.action.Deed.{Deed}
 use Rattle.sqlite_rules.specs.Action.{work_by, work_for, deed_for, pairs}
 use Rattle.tables.specs.Writes.{IsInert}
-use Rattle.tables.specs.Inert.{is_passive, refers_to, is_quiet, is_inert, IsActedOn}
+use Rattle.tables.specs.Inside.Inert.{is_passive, refers_to, is_quiet, is_inert}
+use Rattle.tables.specs.Inert.{IsActedOn}
 
 passive_is : (a : Action) → is_passive a ≡ true → a ≡ NoAction
 passive_is NoAction h = refl

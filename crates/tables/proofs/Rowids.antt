@@ -16,7 +16,8 @@ use Rattle.sqlite_rules.specs.Lists.{Has}
 use Rattle.sqlite_rules.proofs.ListLemmas.{all_has, all_from}
 use Rattle.sqlite_rules.proofs.TableLemmas.{int_is}
 use Rattle.sqlite_keyed.proofs.ListLemmas.{along_permutation}
-use Rattle.tables.specs.Keyed.{id_of, IsKeyed}
+use Rattle.tables.specs.Inside.Keyed.{id_of}
+use Rattle.tables.specs.Keyed.{IsKeyed}
 use Rattle.tables.proofs.Puts.{put_row_permutes}
 
 -- values that differ differ the other way round

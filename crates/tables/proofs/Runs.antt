@@ -22,7 +22,8 @@ use Rattle.std.proofs.lemmas.Bool.{cases_Bool}
 use Rattle.std.proofs.lemmas.Bool.Decides.{Decides-eqb}
 use Rattle.tables.specs.Keyed.{IsKeyed, Stands}
 use Rattle.tables.specs.Writes.{WritesOnly, Makes}
-use Rattle.tables.specs.Steps.{Does, HasRun, HasStepped, IsPart, Stays, Rests}
+use Rattle.tables.specs.Steps.{Does, HasStepped, IsPart, Rests}
+use Rattle.tables.specs.Inside.Steps.{HasRun, Stays}
 use Rattle.tables.proofs.Places.{listed_along}
 use Rattle.tables.proofs.Understood.{IsWriteText, written_sound}
 

@@ -8,8 +8,8 @@ use Rattle.tables.specs.declared.table.Table.{Table}
 use Rattle.tables.specs.declared.table.Table.TheVariants.{Edition, Supervisor, Project, Student, Round, Choice, Placement, Import}
 use Rattle.tables.specs.Table.{list_removal}
 use Rattle.tables.proofs.Texts.{Removal, Texts}
-use Rattle.tables.proofs.Adding.{cast_null, cast_int}
-use Rattle.tables.proofs.Testing.{rowid_is}
+use Rattle.tables.proofs.InsertRow.{cast_null, cast_int}
+use Rattle.tables.proofs.KeyTests.{rowid_is}
 
 -- what every table gives
 pub texts : (table : Table) → Texts table

@@ -42,14 +42,14 @@ use Rattle.tables.specs.declared.table.Table.{Table}
 use Rattle.tables.specs.Table.{Shape, Sql, Place, Lists, checks_of, shape_of, sql_of, table_at, kinds_of, are_of, cells}
 use Rattle.tables.specs.Writes.{begins_with}
 use Rattle.tables.proofs.Places.{nowhere}
-use Rattle.tables.proofs.Creating.{IsCreate, made_command}
-use Rattle.tables.proofs.Adding.{IsInsert}
+use Rattle.tables.proofs.CreateTable.{IsCreate, made_command}
+use Rattle.tables.proofs.InsertRow.{IsInsert}
 use Rattle.tables.proofs.Apart.{HasKey}
-use Rattle.tables.proofs.Finding.{hit}
-use Rattle.tables.proofs.Selecting.{finding}
-use Rattle.tables.proofs.Deleting.{IsDelete}
-use Rattle.tables.proofs.Updating.{IsUpdate, showing}
-use Rattle.tables.proofs.Selecting.{IsPlainSelect, IsResolved, IsSelect, bounds_at, started, spent}
+use Rattle.tables.proofs.QueryRows.{hit}
+use Rattle.tables.proofs.SelectAll.{finding}
+use Rattle.tables.proofs.DeleteRows.{IsDelete}
+use Rattle.tables.proofs.UpdateRow.{IsUpdate, showing}
+use Rattle.tables.proofs.SelectAll.{IsPlainSelect, IsResolved, IsSelect, bounds_at, started, spent}
 use Rattle.tables.proofs.Forms.{read_as, laid_out, width, create_of, names_of, given_rows, insert_of, terms_of, test_of, finds_of, delete_of, sets_of, values_of, update_of, core_of, select_of, outs_of}
 
 -- this holds of each row of these kinds

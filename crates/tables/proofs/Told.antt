@@ -10,17 +10,18 @@ use Rattle.tables.specs.declared.table.Table.{Table}
 use Rattle.tables.specs.declared.table.Table.TheVariants.{Choice}
 use Rattle.tables.specs.Table.{Sql, checks_of, shape_of, sql_of, table_at, kinds_of, key_in, IsRowOf, IsKeyOf, IsListKey, list_removal}
 use Rattle.tables.specs.Writes.{Makes, Adds, Removes, Replaces}
-use Rattle.tables.specs.Steps.{HasRun, HasStepped, Shows, RanQuery, Rests}
+use Rattle.tables.specs.Inside.Steps.{HasRun, RanQuery}
+use Rattle.tables.specs.Steps.{HasStepped, Shows, Rests}
 use Rattle.tables.proofs.Places.{nowhere}
-use Rattle.tables.proofs.Creating.{create_makes, create_writes}
-use Rattle.tables.proofs.Adding.{inserts, insert_writes}
-use Rattle.tables.proofs.Updating.{update_replaces, update_writes}
-use Rattle.tables.proofs.Deleting.{delete_removes, delete_writes}
-use Rattle.tables.proofs.Selecting.{read_shows, select_commits, select_rests}
+use Rattle.tables.proofs.CreateTable.{create_makes, create_writes}
+use Rattle.tables.proofs.InsertRow.{inserts, insert_writes}
+use Rattle.tables.proofs.UpdateRow.{update_replaces, update_writes}
+use Rattle.tables.proofs.DeleteRows.{delete_removes, delete_writes}
+use Rattle.tables.proofs.SelectAll.{read_shows, select_commits, select_rests}
 use Rattle.tables.proofs.Runs.{stepped_by}
 use Rattle.tables.proofs.Texts.{create_is, insert_is, update_is, delete_is, select_is, removal_is}
 use Rattle.tables.proofs.Tables.{list_text, texts}
-use Rattle.tables.proofs.Putting.{finds_none}
+use Rattle.tables.proofs.PutRow.{finds_none}
 use Rattle.tables.proofs.Causes.{inside_so, moment_of, stopped_after, stopped_as, unordered, unread}
 use Rattle.tables.specs.Causes.{FailsToPut, FailsToRead, FailsToWrite, IsHindered, IsHinderedToPut, IsStopped, IsUnread}
 use Rattle.tables.specs.declared.fault.TableFault.TheVariants.{Storage}

@@ -1,18 +1,13 @@
 -- Rows that are told apart by their rowids, and a table that holds them.
-use Rattle.std.specs.Prelude.{◌≡◌, ℤ, Bool, true, false, ◌&&◌, List, [], ◌∷◌}
+use Rattle.std.specs.Prelude.{◌≡◌, Bool, true, false, ◌&&◌, List, [], ◌∷◌}
 use Rattle.std.specs.List.{AllByRecursion, list_all}
 use Rattle.std.specs.Ordering.{is_eq, is_lt}
 use Rattle.sqlite.specs.Order.{Row, value_cmp}
 use Rattle.sqlite.specs.Table.{Table}
 use Rattle.sqlite.specs.Tree.{rowid, IsAscending}
 use Rattle.sqlite.specs.Effect.{Database}
-use Rattle.sqlite.specs.Edit.{id_in}
 use Rattle.sqlite_trees.specs.View.{is_int}
 use Rattle.tables.specs.Table.{Place, Lists, Holds}
-
--- the rowid as a number
-abbrev pub id_of : Row → ℤ
-id_of r = id_in (rowid r)
 
 -- each rowid is an integer, and no two are one
 pub record IsKeyed (rows : List Row) : Type 0 where

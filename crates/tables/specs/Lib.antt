@@ -6,3 +6,4 @@ pub mod Layout
 pub mod Steps
 pub mod Faults
 pub mod Causes
+pub mod Inside

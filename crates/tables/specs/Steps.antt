@@ -1,33 +1,18 @@
 -- What a statement, a transaction and a crash do, under a relation P between the database before and after.
-use Rattle.std.specs.Prelude.{◌≡◌, ◌⊎◌, ◌^◌, ℕ, IsTrue, true, false, List, [], map, drop, nat_lt, Result, Ok, IfOk}
+use Rattle.std.specs.Prelude.{◌≡◌, ◌^◌, IsTrue, true, false, List, map, drop, nat_lt, Result, IfOk}
 use Rattle.sqlite.specs.Effect.{Database, IsDatabase}
-use Rattle.sqlite.specs.State.{State, HasCleanDisk, KeepsCommit, Survives, Executes, IsUnchanged, Shown, FailsToQuery, Shows as Sees}
-use Rattle.sqlite.specs.declared.error.Error.{Error}
+use Rattle.sqlite.specs.State.{State, HasCleanDisk, KeepsCommit, Survives, IsUnchanged, Shows as Sees}
 use Rattle.sqlite.specs.Order.{Row}
 use Rattle.sqlite.specs.Table.{Table}
 use Rattle.tables.specs.Table.{Place, Lists}
 use Rattle.tables.specs.Keyed.{Stands}
 use Rattle.sqlite.specs.Tree.{Trees}
 
--- the statement of this text went through in a transaction, over so many rows: nothing is committed
-pub record HasRun (sql : List ℕ) (params : Row) (count : ℕ) (old new : State) : Type 0 where
-  pub inside : old.in_transaction ≡ true
-  pub shown : Sees old new new.now old.committed true
-  pub ran : Executes sql params old new (Ok count)
-
 -- a statement in a transaction went through: nothing is committed, and what the transaction sees changed by P, and is a database
 pub record HasStepped (P : Database → Database → Type 0) (old new : State) : Type 0 where
   pub inside : old.in_transaction ≡ true
   pub shown : Sees old new new.now old.committed true
   pub sound : IsDatabase new.now
-  pub step : P old.now new.now
-
--- the same of a run of statements, which may be none
-pub record Stays (P : Database → Database → Type 0) (old new : State) : Type 0 where
-  pub shut : new.is_open ≡ old.is_open
-  pub committed : new.committed ≡ old.committed
-  pub mode : new.in_transaction ≡ old.in_transaction
-  pub sound : IsDatabase old.now → IsDatabase new.now
   pub step : P old.now new.now
 
 -- a transaction was made and committed, and changed the database by P
@@ -51,10 +36,6 @@ pub record IsLeft (P : Database → Database → Type 0) (old : State) (trees : 
 pub record Shows (table : Place → Table) (rows : List Row) (old new : State) : Type 0 where
   pub same : IsUnchanged old new
   pub stands : (place : Place) → Lists old.now.schema (table place) → nat_lt place.tree (2 ^ 31) ≡ true → Stands table place (map (drop 1) rows) old.now
-
--- a query was run, or failed
-abbrev pub RanQuery : List ℕ → State → State → Type 0
-RanQuery sql old new = ((rows : List Row) × Shown sql [] old new rows) ⊎ ((e : Error) × FailsToQuery sql [] old new e)
 
 -- where no transaction was open nothing has changed, unless a fault of the disk has shut the connection
 abbrev pub Rests : State → State → Type 0

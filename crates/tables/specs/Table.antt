@@ -1,6 +1,5 @@
 -- The tables of the product, as a schema lists them, and the rows that they hold.
 use Rattle.std.specs.Prelude.{◌≡◌, ◌&&◌, ◌==◌, ℕ, zero, suc, Bool, true, false, IsTrue, None, Some, Option, [], ◌∷◌, codes, List, map, drop, take, length, slice_get, pos}
-use Rattle.std.specs.Borrow.{Bor}
 use Rattle.std.specs.List.Sorted.{IsPermutation}
 use Rattle.sqlite.specs.declared.types.Value.{Value}
 use Rattle.sqlite.specs.declared.types.Value.TheVariants.{Null, Int, Text as Words}
@@ -25,9 +24,6 @@ use Rattle.sqlite_value.specs.Keys.{plain}
 use Rattle.sqlite_value.specs.declared.keys.Order.{Order}
 use Rattle.tables.specs.declared.table.Table.{Table}
 use Rattle.tables.specs.declared.table.Table.TheVariants.{Edition, Supervisor, Project, Student, Round, Choice, Placement, Import}
-use Rattle.tables.specs.declared.table.Shape.{Shape as Given}
-use Rattle.tables.specs.declared.table.Told.{Told}
-use Rattle.tables.specs.declared.table.Link.{Link}
 
 -- A table as it is told: its name and its columns; the position of the column that is the rowid, if one is; its key,
 -- columns that no two rows share, and references, all by columns counted from 1, with 0 for the rowid; and how many of
@@ -48,34 +44,6 @@ pub record Sql : Type 0 where
   pub update : List ℕ
   pub delete : List ℕ
   pub select : List ℕ
-
--- what the program tells of a column
-abbrev pub column_by : Told → List ℕ × Kind
-column_by told = (told.0.now, told.1)
-
--- of a reference
-abbrev pub link_by : Link → ℕ × List ℕ × List ℕ
-link_by link = (link.0, link.1.table.now, link.1.column.now)
-
--- of columns that no two rows share
-abbrev pub places_by : Bor (List ℕ) → List ℕ
-places_by places = places.now
-
--- of a table
-abbrev pub told_by : Given → Shape
-told_by given = record {
-  name = given.name.now;
-  columns = map column_by given.columns.now;
-  key = given.keys.rowid;
-  primary = given.keys.primary.now;
-  uniques = map places_by given.keys.uniques.now;
-  links = map link_by given.links.now;
-  named = given.keys.named;
-}
-
--- and of its statements
-abbrev pub texts_by : Given → Sql
-texts_by given = record { create = given.create.now; insert = given.insert.now; update = given.update.now; delete = given.delete.now; select = given.select.now }
 
 -- a table whose key is its first column, a text
 abbrev pub by_text : List ℕ → List (List ℕ × Kind) → List (ℕ × List ℕ × List ℕ) → Shape

@@ -3,7 +3,8 @@
 ghost use Rattle.std.specs.Prelude.{◌≡◌, ◌↔◌, IsTrue, false};
 ghost use Rattle.std.specs.List.{list_all};
 ghost use Rattle.tables.specs.Writes.{IsInert};
-ghost use Rattle.tables.specs.Inert.{is_passive, refers_to, is_quiet, is_inert, IsActedOn};
+ghost use Rattle.tables.specs.Inside.Inert.{is_passive, refers_to, is_quiet, is_inert};
+ghost use Rattle.tables.specs.Inert.{IsActedOn};
 
 use sqlite_schema::names::same_name;
 use sqlite_schema::schema::{Action, Reference, Schema, Table};

@@ -5,8 +5,10 @@ ghost use Rattle.std.specs.Str.{bytes_eq};
 ghost use Rattle.std.specs.Option.{option_map_or};
 ghost use Rattle.std.specs.List.{list_all};
 ghost use Rattle.sqlite_schema.specs.Names.{table_named};
-ghost use Rattle.tables.specs.Table.{column_by, link_by, places_by, shape_of, table_at, told_by};
-ghost use Rattle.tables.specs.Layout.{is_required, are_told, is_referring, are_plain, is_untimed, has_keys, has_shape, IsNamed, IsListed, IsUnlisted};
+ghost use Rattle.tables.specs.Inside.Table.{column_by, link_by, places_by, told_by};
+ghost use Rattle.tables.specs.Table.{shape_of, table_at};
+ghost use Rattle.tables.specs.Inside.Layout.{is_required, are_told, is_referring, are_plain, is_untimed, has_keys, has_shape, IsNamed};
+ghost use Rattle.tables.specs.Layout.{IsListed, IsUnlisted};
 ghost use Rattle.sqlite.specs.Table.{Table as AnyTable};
 
 use crate::inert::is_passive;

@@ -7,7 +7,7 @@ ghost use Rattle.sqlite_value.specs.Value.{owned};
 ghost use Rattle.sqlite_trees.specs.Tree.{rowid};
 ghost use Rattle.sqlite_trees.specs.View.{is_int};
 ghost use Rattle.tables.specs.Causes.{FailsToRead};
-ghost use Rattle.tables.specs.Steps.{RanQuery};
+ghost use Rattle.tables.specs.Inside.Steps.{RanQuery};
 ghost use Rattle.tables.specs.Keyed.{IsKeyed, comes_first, rises, have_ids};
 
 use crate::fault::TableFault;
@@ -61,7 +61,7 @@ fn have_ids(rows: &[Row]) -> bool
 }
 
 /// Whether the rowids are integers, and no two are one.
-#[tactic(auto, using(crate::proofs::Rising::keyed_if_rising))]
+#[tactic(auto, using(crate::proofs::RowidsRise::keyed_if_rising))]
 fn are_keyed(rows: &[Row]) -> bool
     ensures right { IsTrue result → IsKeyed rows.now }
     ensures exact { result ≡ (have_ids rows.now && rises rows.now) }

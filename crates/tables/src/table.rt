@@ -1,7 +1,8 @@
 //! The tables, each told once.
 
 ghost use Rattle.std.specs.Prelude.{◌≡◌, length};
-ghost use Rattle.tables.specs.Table.{kinds_of, shape_of, sql_of, texts_by, told_by};
+ghost use Rattle.tables.specs.Table.{kinds_of, shape_of, sql_of};
+ghost use Rattle.tables.specs.Inside.Table.{texts_by, told_by};
 
 use sqlite_schema::schema::Kind;
 

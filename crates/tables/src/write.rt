@@ -4,7 +4,8 @@ ghost use Rattle.std.specs.Prelude.{◌≡◌};
 ghost use Rattle.sqlite.specs.Values.{bound};
 ghost use Rattle.sqlite.specs.Held.{state};
 ghost use Rattle.tables.specs.Causes.{FailsToWrite, IsCausedInside, IsHindered, IsToldInside};
-ghost use Rattle.tables.specs.Steps.{HasRun, IsPart};
+ghost use Rattle.tables.specs.Inside.Steps.{HasRun};
+ghost use Rattle.tables.specs.Steps.{IsPart};
 
 use crate::fault::TableFault;
 use sqlite::{Alter, Transaction};

@@ -1,3 +1,3 @@
-mod Connecting
+mod OneConnection
 pub mod Seen
-pub mod Stepping
+pub mod OneMessage

@@ -20,11 +20,6 @@ abbrev pub Ends : State → Served → State → Type 0
 Ends before served after =
     (left0 w0 left w : Option (List ℕ)) × ServedTo AnswersMessage end_text before left0 w0 left w served after
 
--- a stream was served at an office, to its end or until a fault
-abbrev pub IsStreamed : State → Result Served StreamFault → State → Type 0
-IsStreamed before (Ok served) after = Ends before served after
-IsStreamed before (Err fault) after = Breaks before fault after
-
 -- the stream of a connection was served, to its end or until a fault; one that could not be accepted is a fault of reading, and the
 -- office stays
 abbrev pub Connects : State → Result Served StreamFault → State → Type 0

@@ -3,7 +3,8 @@ ghost use Rattle.std.specs.Io.KnownBytes.{Appends};
 ghost use Rattle.std.specs.Prelude.{◌≡◌, ℕ, ◌+◌, ◌≤◌, ◌<◌, ◌-◌, ◌^◌, ◌++◌, length, take, Err, IfOk, IfErr, OnOk, OnErr};
 ghost use Rattle.wire.specs.declared.TheConstants.{MOST_SHORT_BODY};
 ghost use Rattle.arrayvec.specs.ArrayVec.{array_vec_len};
-ghost use Rattle.web.specs.Connections.{IsStreamed, Connects, AllServed, SomeServed, end_word, fault_word, told_of, connection_line};
+ghost use Rattle.web.specs.Inside.Connections.{IsStreamed};
+ghost use Rattle.web.specs.Connections.{Connects, AllServed, SomeServed, end_word, fault_word, told_of, connection_line};
 
 use crate::service::serve_stream;
 use api::{push, push_labelled};

@@ -36,21 +36,3 @@ consumes_compose (Some u) (Some v) (Some w) x y p q = p ∙ ap (λ (t : List ℕ
 pub consumes_none : (a : Option (List ℕ)) → Consumes a a []
 consumes_none None = tt
 consumes_none (Some u) = refl
-
--- no byte came, and none was taken
-pub grows_none : (buffer : List ℕ) (a b : Option (List ℕ)) → Keeps a b → Grows buffer buffer a b
-grows_none buffer None b keeps = record { chunk = []; read = tt; grown = sym (append-nil buffer) }
-grows_none buffer (Some u) None keeps = absurd keeps
-grows_none buffer (Some u) (Some v) keeps = record { chunk = []; read = sym keeps; grown = sym (append-nil buffer) }
-
--- at first no byte has come
-pub grows_first : (buffer : List ℕ) (a : Option (List ℕ)) → Grows buffer buffer a a
-grows_first buffer a = record { chunk = []; read = consumes_none a; grown = sym (append-nil buffer) }
-
--- bytes came, and more bytes came after them
-pub grows_on : (x y z : List ℕ) (a b c : Option (List ℕ)) → Grows x y a b → Grows y z b c → Grows x z a c
-grows_on x y z a b c g h = record {
-  chunk = g.chunk ++ h.chunk;
-  read = consumes_compose a b c g.chunk h.chunk g.read h.read;
-  grown = h.grown ∙ ap (λ (t : List ℕ). t ++ h.chunk) g.grown ∙ append_assoc x g.chunk h.chunk;
-}

@@ -8,7 +8,7 @@ ghost use Rattle.rolls.specs.Refusing.{first, import_tests, is_other_import};
 ghost use Rattle.rolls.specs.Importing.{rows_refusal, with_import};
 ghost use Rattle.rolls.specs.Answers.{Imports};
 ghost use Rattle.row_changes.specs.Changes.{import_changes};
-ghost use Rattle.office.specs.Importing.{AreMade};
+ghost use Rattle.office.specs.Inside.Importing.{AreMade};
 
 use super::Office;
 use crate::making::code_of;

@@ -1,7 +1,7 @@
 use Rattle.std.proofs.Common.{◌≡◌, ℕ, List, length, sym, ap, subst, ◌∙◌, arith}
 use Rattle.solver.specs.Sitting.{with_list, IsAdmitted}
 use Rattle.rolls.specs.State.{State, last_round}
-use Rattle.allotment.proofs.Joining.{MayAdmit, joins_admitted, joins_listed, joins_sits}
+use Rattle.allotment.proofs.OneMoreStudent.{MayAdmit, joins_admitted, joins_listed, joins_sits}
 use Rattle.allotment.proofs.sitting.join.Goals as goal
 
 pub list_of-requires : goal.list_of-requires

@@ -3,7 +3,7 @@ use Rattle.std.specs.Prelude.{option_copied}
 use Rattle.spa.specs.Codes.{code_at}
 use Rattle.rolls.specs.declared.entries.Project.{Project}
 use Rattle.rolls.specs.State.{State, last_round, list_of}
-use Rattle.allotment.proofs.Listings.{listed_known, ranked}
+use Rattle.allotment.proofs.Positions.{listed_known, ranked}
 use Rattle.allotment.proofs.sitting.list_of.Goals as goal
 
 pub positions_of-requires : goal.positions_of-requires

@@ -11,7 +11,7 @@ use Rattle.rolls.specs.Instances.{round_instance}
 use Rattle.rolls.specs.Closing.{profile_of}
 use Rattle.rolls.specs.declared.request.Reply.TheVariants as reply
 use Rattle.allotment.proofs.SameRound.{choices_same, best_same, profile_by}
-use Rattle.office.proofs.Counted.{counted_is}
+use Rattle.office.proofs.RankCounts.{counted_is}
 use Rattle.allotment.proofs.sitting.read_preview.Goals as goal
 
 pub returns : goal.returns

@@ -5,7 +5,7 @@ use Rattle.rolls.specs.State.{State}
 use Rattle.desk.specs.Kept.{Kept}
 use Rattle.desk.specs.Keeping.{Keeps}
 use Rattle.cli.specs.Outcomes.{ComesOf, refused, refusal_line}
-use Rattle.cli.proofs.Telling.{at_ok, err_told, ok_told, tells_more}
+use Rattle.cli.proofs.Writers.{at_ok, err_told, ok_told, tells_more}
 use Rattle.cli.proofs.databases.do_opened.Goals as goal
 
 pub returns-in-Ok-clause-told : goal.returns-in-Ok-clause-told

@@ -1,6 +1,6 @@
 use Rattle.desk.specs.Kept.{Kept}
 use Rattle.cli.specs.Outcomes.{MayDo}
-use Rattle.cli.proofs.Telling.{tells_more}
+use Rattle.cli.proofs.Writers.{tells_more}
 use Rattle.cli.proofs.Opened.{told_of, left_by}
 use Rattle.cli.proofs.databases.do_over.Goals as goal
 

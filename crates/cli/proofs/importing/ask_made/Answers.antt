@@ -2,7 +2,7 @@ use Rattle.std.proofs.Common.{◌≡◌, refl}
 use Rattle.rolls.specs.declared.refusal.Refusal.TheVariants as no
 use Rattle.cli.specs.declared.tasks.Task.TheVariants as task
 use Rattle.cli.specs.Outcomes.{MayDo, refused, refusal_line}
-use Rattle.cli.proofs.Telling.{err_told}
+use Rattle.cli.proofs.Writers.{err_told}
 use Rattle.cli.proofs.importing.ask_made.Goals as goal
 
 pub returns-in-Err : goal.returns-in-Err

@@ -2,7 +2,7 @@ use Rattle.std.proofs.Common.{inl, inr, refl, subst, rules, ◌≡◌, Result, O
 use Rattle.rolls.specs.declared.request.Request.{Request}
 use Rattle.cli.specs.Outcomes.{Outcome, Imports, MayDo, refused, refusal_line}
 use Rattle.cli.specs.declared.tasks.Task.TheVariants as task
-use Rattle.cli.proofs.Telling.{on_err, tells_more}
+use Rattle.cli.proofs.Writers.{on_err, tells_more}
 use Rattle.rolls.specs.declared.refusal.Refusal.TheVariants as no
 use Rattle.cli.proofs.importing.import.Goals as goal
 

@@ -4,7 +4,7 @@ use Rattle.rolls.specs.declared.import.ImportKind.{ImportKind}
 use Rattle.rolls.specs.declared.refusal.Refusal.{Refusal}
 use Rattle.rolls.specs.declared.refusal.Refusal.TheVariants as no
 use Rattle.cli.specs.Outcomes.{Imports, ImportsFile, Outcome, refused}
-use Rattle.cli.proofs.Telling.{tells_more}
+use Rattle.cli.proofs.Writers.{tells_more}
 use Rattle.cli.proofs.importing.import_file.Goals as goal
 
 -- what came of an import file is an outcome of its line, where the reading may be refused so

@@ -1,6 +1,6 @@
 use Rattle.std.proofs.Common.{◌≡◌, refl}
 use Rattle.cli.specs.Outcomes.{Imports, refused, refusal_line}
-use Rattle.cli.proofs.Telling.{err_told}
+use Rattle.cli.proofs.Writers.{err_told}
 use Rattle.cli.proofs.importing.import_read.Goals as goal
 
 pub returns-in-Err : goal.returns-in-Err

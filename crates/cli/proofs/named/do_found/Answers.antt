@@ -1,6 +1,6 @@
 use Rattle.std.proofs.Common.{◌≡◌, refl}
 use Rattle.cli.specs.Outcomes.{MayDo, refused, refusal_line}
-use Rattle.cli.proofs.Telling.{err_told}
+use Rattle.cli.proofs.Writers.{err_told}
 use Rattle.cli.proofs.named.do_found.Goals as goal
 
 pub returns-in-Err : goal.returns-in-Err

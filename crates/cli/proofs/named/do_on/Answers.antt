@@ -1,4 +1,4 @@
-use Rattle.cli.proofs.Telling.{of_connection, tells_more}
+use Rattle.cli.proofs.Writers.{of_connection, tells_more}
 use Rattle.cli.proofs.named.do_on.Goals as goal
 
 pub returns : goal.returns

@@ -1,7 +1,7 @@
 use Rattle.std.proofs.Common.{◌<◌, List, String, length, map, string_bytes, sym, subst}
 use Rattle.std.specs.declared.alloc.Global.{Global}
 use Rattle.cli.specs.Outcomes.{ComesTo}
-use Rattle.cli.proofs.Telling.{at_ok, tells_more}
+use Rattle.cli.proofs.Writers.{at_ok, tells_more}
 use Rattle.cli.proofs.program.begin_given.Goals as goal
 
 pub returns-in-Ok-clause-line : goal.returns-in-Ok-clause-line

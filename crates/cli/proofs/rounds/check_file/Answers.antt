@@ -1,6 +1,6 @@
 use Rattle.round_files.specs.Rounds.{IsChecked}
 use Rattle.cli.specs.Outcomes.{OnFile}
-use Rattle.cli.proofs.Telling.{of_file, tells_more}
+use Rattle.cli.proofs.Writers.{of_file, tells_more}
 use Rattle.cli.proofs.rounds.check_file.Goals as goal
 
 pub returns : goal.returns

@@ -1,6 +1,6 @@
 use Rattle.round_files.specs.Rounds.{IsSolved}
 use Rattle.cli.specs.Outcomes.{OnFile}
-use Rattle.cli.proofs.Telling.{of_file, tells_more}
+use Rattle.cli.proofs.Writers.{of_file, tells_more}
 use Rattle.cli.proofs.rounds.solve_file.Goals as goal
 
 pub returns : goal.returns

@@ -1,7 +1,7 @@
 use Rattle.std.proofs.Common.{ℕ, List, sym, subst}
 use Rattle.commands.specs.declared.line.Line.{Line}
 use Rattle.cli.specs.Outcomes.{ImportsFile, MayCome}
-use Rattle.cli.proofs.Telling.{tells_more}
+use Rattle.cli.proofs.Writers.{tells_more}
 use Rattle.cli.proofs.run.do_line.Goals as goal
 
 pub returns-in-Import : goal.returns-in-Import

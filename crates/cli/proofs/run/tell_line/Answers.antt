@@ -2,7 +2,7 @@ use Rattle.std.proofs.Common.{refl, ap, subst, rules, Ok, Err, map, string_bytes
 use Rattle.commands.specs.Reading.{IsAnswer}
 use Rattle.commands.specs.declared.line.LineFault.{LineFault}
 use Rattle.cli.specs.Outcomes.{MayCome, ComesTo, prints, tells, refusal_line}
-use Rattle.cli.proofs.Telling.{on_out, on_err, tells_more}
+use Rattle.cli.proofs.Writers.{on_out, on_err, tells_more}
 use Rattle.rolls.specs.declared.refusal.Refusal.TheVariants as no
 use Rattle.commands.specs.declared.line.LineFault.TheVariants.{Memory, Help, Fault}
 use Rattle.cli.proofs.run.tell_line.Goals as goal

@@ -1,6 +1,6 @@
 use Rattle.std.proofs.Common.{refl, Ok, Err}
 use Rattle.cli.specs.Outcomes.{IsAsked, reply_text, refusal_line}
-use Rattle.cli.proofs.Telling.{on_out, on_err}
+use Rattle.cli.proofs.Writers.{on_out, on_err}
 use Rattle.cli.proofs.tasks.ask_at.Goals as goal
 
 pub returns-in-Ok-clause-told : goal.returns-in-Ok-clause-told

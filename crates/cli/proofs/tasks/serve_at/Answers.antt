@@ -1,6 +1,6 @@
 use Rattle.std.proofs.Common.{ℕ, List, subst, rules}
 use Rattle.std.specs.Io.KnownBytes.{Appends}
-use Rattle.cli.proofs.Telling.{all_served}
+use Rattle.cli.proofs.Writers.{all_served}
 use Rattle.cli.proofs.tasks.serve_at.Goals as goal
 
 pub returns-in-Ok-serve_on-clause-told : goal.returns-in-Ok-serve_on-clause-told

@@ -1,5 +1,5 @@
 use Rattle.std.proofs.Common.{ap, rules, refl}
-use Rattle.cli.proofs.Telling.{err_told, ok_told, served_told}
+use Rattle.cli.proofs.Writers.{err_told, ok_told, served_told}
 use Rattle.cli.specs.Outcomes.{IsServed, IsUnbound, tells}
 use Rattle.cli.proofs.tasks.serve_bound.Goals as goal
 

@@ -1,5 +1,5 @@
 use Rattle.std.proofs.Common.{◌⊎◌, inl, inr, Result, Ok, Err, MatchResult}
-use Rattle.cli.proofs.Telling.{tells_more}
+use Rattle.cli.proofs.Writers.{tells_more}
 use Rattle.cli.proofs.tasks.serve_from.Goals as goal
 
 -- whether the port was bound or not

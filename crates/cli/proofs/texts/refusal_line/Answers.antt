@@ -1,6 +1,6 @@
 use Rattle.std.proofs.Common.{sym, ◌∙◌}
 use Rattle.cli.specs.Outcomes.{named_line}
-use Rattle.cli.proofs.Telling.{named_alone}
+use Rattle.cli.proofs.Writers.{named_alone}
 use Rattle.cli.proofs.texts.refusal_line.Goals as goal
 
 pub returns-in_default : goal.returns-in_default

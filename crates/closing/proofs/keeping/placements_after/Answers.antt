@@ -1,7 +1,7 @@
 use Rattle.std.proofs.Common.{sym, ap, ◌∙◌}
 use Rattle.rolls.specs.Roll.{put}
 use Rattle.rolls.specs.State.{placement_key}
-use Rattle.closing.proofs.Putting.{put_all_more}
+use Rattle.closing.proofs.ManyPuts.{put_all_more}
 use Rattle.closing.proofs.keeping.placements_after.Goals as goal
 
 pub loop-placement-preserved : goal.loop-placement-preserved

@@ -1,4 +1,4 @@
-use Rattle.closing.proofs.Placing.{placed_step, no_step, few_so_far}
+use Rattle.closing.proofs.PlacesAreRanks.{placed_step, no_step, few_so_far}
 use Rattle.closing.proofs.keeping.placements_of.Goals as goal
 use Rattle.closing.proofs.keeping.placements_of.Goals.{in-Some+in_ok-push, in_default}
 

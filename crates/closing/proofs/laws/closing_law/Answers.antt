@@ -1,6 +1,6 @@
 use Rattle.closing.proofs.Kept.{close_keeps_fit}
-use Rattle.closing.proofs.Turned.{close_turns}
-use Rattle.closing.proofs.Answered.{kept_is_counted}
+use Rattle.closing.proofs.ClosingRows.{close_turns}
+use Rattle.closing.proofs.SizeAndProfile.{kept_is_counted}
 use Rattle.closing.proofs.laws.closing_law.Goals as goal
 
 pub returns-clause-fit : goal.returns-clause-fit

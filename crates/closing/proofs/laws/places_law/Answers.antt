@@ -1,6 +1,6 @@
-use Rattle.closing.proofs.Matched.{places_taken}
-use Rattle.closing.proofs.Placing.{within_lists, placed_is_kept}
-use Rattle.closing.proofs.Closed.{places_close}
+use Rattle.closing.proofs.PairsByCode.{places_taken}
+use Rattle.closing.proofs.PlacesAreRanks.{within_lists, placed_is_kept}
+use Rattle.closing.proofs.TakenPairs.{places_close}
 use Rattle.closing.proofs.laws.places_law.Goals as goal
 
 pub returns-clause-taken : goal.returns-clause-taken

@@ -2,8 +2,8 @@ use Rattle.std.proofs.Common.{IfErr, sym, subst}
 use Rattle.rolls.specs.declared.request.Request.{Request}
 use Rattle.rolls.specs.Run.{MayRefuse, refusal}
 use Rattle.allotment.specs.Layers.{layers}
-use Rattle.desk.proofs.Refused.{may_refuse}
-use Rattle.desk.proofs.Named.{import_named, unstored}
+use Rattle.desk.proofs.Refusals.{may_refuse}
+use Rattle.desk.proofs.NoStorage.{import_named, unstored}
 use Rattle.desk.proofs.desk.made.Goals as goal
 
 pub returns-in-Import-clause-refused : goal.returns-in-Import-clause-refused

@@ -1,5 +1,5 @@
 use Rattle.desk.specs.Keeping.{Begins}
-use Rattle.desk.proofs.Reopening.{rest_kept, call_whole, ask_whole}
+use Rattle.desk.proofs.AfterCrash.{rest_kept, call_whole, ask_whole}
 use Rattle.desk.proofs.laws.crash_law.Goals as goal
 
 pub returns-clause-rest : goal.returns-clause-rest

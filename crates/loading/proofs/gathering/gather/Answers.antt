@@ -1,9 +1,9 @@
 use Rattle.std.proofs.Common.{◌≡◌, sym, ap, true, ◌∙◌}
-use Rattle.loading.specs.Whole.{is_whole}
+use Rattle.loading.specs.Inside.Whole.{is_whole}
 use Rattle.loading.specs.View.{drafted}
-use Rattle.loading.proofs.Gathered.{unread_unfit, gathered_rows, gathered_forms, gathered_is}
+use Rattle.loading.proofs.HeldRows.{unread_unfit, gathered_rows, gathered_forms, gathered_is}
 use Rattle.loading.proofs.Faults.{handed_on}
-use Rattle.loading.proofs.Joined.{whole_fit, fit_whole}
+use Rattle.loading.proofs.DraftIsFit.{whole_fit, fit_whole}
 use Rattle.loading.proofs.gathering.gather.Goals as goal
 
 pub returns-in_err-draft-clause-unfit : goal.returns-in_err-draft-clause-unfit

@@ -2,7 +2,7 @@ use Rattle.std.proofs.Common.{◌≡◌, suc, ◌+◌, ◌-◌, ◌∙◌, arith
 use Rattle.spa.specs.declared.TheConstants.{RANKS}
 use Rattle.loading.specs.View.{drafted}
 use Rattle.loading.proofs.Faults.{handed_on}
-use Rattle.loading.proofs.Gathered.{gathered_on, gathered_off}
+use Rattle.loading.proofs.HeldRows.{gathered_on, gathered_off}
 use Rattle.loading.proofs.gathering.take_all.Goals as goal
 
 pub returns-in_err-take_stage-clause-unfit : goal.returns-in_err-take_stage-clause-unfit

@@ -1,7 +1,7 @@
 use Rattle.std.proofs.Common.{◌≡◌, ℕ, ◌+◌}
 use Rattle.spa.specs.declared.TheConstants.{RANKS}
 use Rattle.rolls.specs.State.{empty}
-use Rattle.loading.specs.Gathering.{stages, staged, gathered}
+use Rattle.loading.specs.Inside.Gathering.{stages, staged, gathered}
 use Rattle.loading.specs.View.{drafted}
 use Rattle.loading.proofs.gathering.take_all.Given as goal
 

@@ -1,5 +1,5 @@
 use Rattle.std.proofs.Common.{◌≡◌, drop}
-use Rattle.loading.specs.Gathering.{at_stage, gathered}
+use Rattle.loading.specs.Inside.Gathering.{at_stage, gathered}
 use Rattle.loading.specs.View.{drafted}
 use Rattle.loading.proofs.gathering.take_stage.Given as goal
 

@@ -8,7 +8,8 @@ use Rattle.rolls.specs.State.{State}
 use Rattle.rolls.specs.Counted.{AreCounted}
 use Rattle.office.proofs.Few.{placements_few}
 use Rattle.reports.proofs.Lines.{next, appended}
-use Rattle.reports.specs.Texts.{AreLoads, supervisor_rows}
+use Rattle.reports.specs.Inside.Texts.{AreLoads}
+use Rattle.reports.specs.Texts.{supervisor_rows}
 use Rattle.reports.proofs.loads_report.loads.Goals as goal
 
 pub counted-counts-requires-clause-few : goal.counted-counts-requires-clause-few

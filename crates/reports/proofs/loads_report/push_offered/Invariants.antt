@@ -1,6 +1,7 @@
 use Rattle.std.proofs.Common.{◌≡◌, ◌++◌, ℕ, drop, flat_map, filter, string_bytes}
 use Rattle.std.specs.Str.{bytes_eq}
-use Rattle.reports.specs.Texts.{AreLoads, project_row, offered_rows}
+use Rattle.reports.specs.Inside.Texts.{AreLoads}
+use Rattle.reports.specs.Texts.{project_row, offered_rows}
 use Rattle.reports.proofs.loads_report.push_offered.Given as goal
 
 abbrev pub invariant-loop-position : goal.invariant-loop-position

@@ -1,6 +1,6 @@
-use Rattle.row_changes.proofs.Staying.{fit_with_import}
-use Rattle.row_changes.proofs.Turning.{turns_import}
-use Rattle.row_changes.proofs.Imported.{keep_none}
+use Rattle.row_changes.proofs.FitAfterPut.{fit_with_import}
+use Rattle.row_changes.proofs.OneRowTurns.{turns_import}
+use Rattle.row_changes.proofs.ImportChanges.{keep_none}
 use Rattle.row_changes.proofs.laws.keeping_law.Goals as goal
 
 pub returns : goal.returns

@@ -1,4 +1,4 @@
-use Rattle.row_changes.proofs.Turned.{changes_turn}
+use Rattle.row_changes.proofs.PlainTurns.{changes_turn}
 use Rattle.row_changes.proofs.laws.turns_law.Goals as goal
 
 pub returns : goal.returns

@@ -1,7 +1,7 @@
 use Rattle.std.proofs.Common.{ap, rules}
 use Rattle.sqlite.specs.Held.{state}
-use Rattle.store.specs.Tables.{Empties}
-use Rattle.store.proofs.Committing.{made_one, sound_one, saved_by, left_by, dropped_by}
+use Rattle.store.specs.Inside.Tables.{Empties}
+use Rattle.store.proofs.Commit.{made_one, sound_one, saved_by, left_by, dropped_by}
 use Rattle.store.proofs.founding.found.Goals as goal
 
 pub returns-in_err-make_tables-clause-crash : goal.returns-in_err-make_tables-clause-crash

@@ -1,6 +1,6 @@
 use Rattle.std.proofs.Common.{◌≤◌, length, refl, arith, ◌∙◌}
 use Rattle.tables.proofs.Runs.{part_none, part_ok, part_then}
-use Rattle.store.proofs.Making.{made_all, made_more, made_none}
+use Rattle.store.proofs.NewTables.{made_all, made_more, made_none}
 use Rattle.std.proofs.Common.{rules}
 use Rattle.sqlite.specs.State.{HasCleanDisk}
 use Rattle.sqlite.specs.Held.{state}

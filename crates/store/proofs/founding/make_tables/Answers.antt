@@ -1,6 +1,6 @@
 use Rattle.std.proofs.Common.{refl}
 use Rattle.tables.proofs.Runs.{part_then}
-use Rattle.store.proofs.Making.{founded}
+use Rattle.store.proofs.NewTables.{founded}
 use Rattle.store.proofs.founding.make_tables.Goals as goal
 
 pub returns-clause-step : goal.returns-clause-step

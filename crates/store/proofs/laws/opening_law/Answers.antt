@@ -1,4 +1,4 @@
-use Rattle.store.proofs.Reopening.{opens_again}
+use Rattle.store.proofs.SameTrees.{opens_again}
 use Rattle.store.proofs.laws.opening_law.Goals as goal
 
 pub returns : goal.returns

@@ -1,7 +1,7 @@
 use Rattle.std.proofs.Common.{◌≡◌, length, true≢false, refl, sym, ◌∙◌, arith}
 use Rattle.store.specs.Rows.{rolls}
 use Rattle.store.specs.Saving.{IsLeftAlone, IsActedOnAt}
-use Rattle.store.proofs.Judging.{so_far, of_each, is_next}
+use Rattle.store.proofs.ListedTables.{so_far, of_each, is_next}
 use Rattle.store.proofs.Columns.{among_rolls, is_roll}
 use Rattle.store.proofs.quiet.are_left.Goals as goal
 

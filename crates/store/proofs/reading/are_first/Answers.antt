@@ -2,7 +2,7 @@ use Rattle.std.proofs.Common.{◌≡◌, ◌∙◌, pos, sym, arith}
 use Rattle.std.proofs.lemmas.Bool.Decides.{nat_tests}
 use Rattle.sqlite.specs.declared.types.Value.TheVariants.{Int}
 use Rattle.sqlite.specs.Order.{column}
-use Rattle.store.proofs.Judged.{is_first}
+use Rattle.store.proofs.ReadRows.{is_first}
 use Rattle.store.proofs.reading.are_first.Goals.{then-column_count-eq3, else-column_count-eq3}
 use Rattle.store.proofs.reading.are_first.Goals as goal
 

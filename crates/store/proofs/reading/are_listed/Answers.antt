@@ -1,7 +1,7 @@
 use Rattle.std.proofs.Common.{◌≡◌, length, refl, arith}
 use Rattle.store.specs.Rows.{rolls}
-use Rattle.store.specs.Reading.{IsListedAlone}
-use Rattle.store.proofs.Judging.{no_edition, so_far, of_each, is_next, listed_right, listed_each}
+use Rattle.store.specs.Inside.Reading.{IsListedAlone}
+use Rattle.store.proofs.ListedTables.{no_edition, so_far, of_each, is_next, listed_right, listed_each}
 use Rattle.store.proofs.Columns.{among_rolls, is_roll}
 use Rattle.store.proofs.reading.are_listed.Goals as goal
 

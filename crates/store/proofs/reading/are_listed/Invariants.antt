@@ -2,7 +2,7 @@ use Rattle.std.proofs.Common.{take}
 use Rattle.sqlite_rules.specs.Lists.{Has}
 use Rattle.tables.specs.declared.table.Table.{Table}
 use Rattle.store.specs.Rows.{rolls}
-use Rattle.store.specs.Reading.{IsListedAlone}
+use Rattle.store.specs.Inside.Reading.{IsListedAlone}
 use Rattle.store.proofs.reading.are_listed.Given as goal
 
 abbrev pub invariant-loop-table : goal.invariant-loop-table

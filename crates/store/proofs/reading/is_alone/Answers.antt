@@ -1,7 +1,7 @@
 use Rattle.std.proofs.Common.{◌≡◌, ◌≢◌, length, arith}
 use Rattle.store.specs.Rows.{rolls}
-use Rattle.store.specs.Reading.{IsElsewhere}
-use Rattle.store.proofs.Judging.{so_far, of_each, is_next, not_alone}
+use Rattle.store.specs.Inside.Reading.{IsElsewhere}
+use Rattle.store.proofs.ListedTables.{so_far, of_each, is_next, not_alone}
 use Rattle.store.proofs.Columns.{among_rolls, is_roll}
 use Rattle.store.proofs.reading.is_alone.Goals as goal
 

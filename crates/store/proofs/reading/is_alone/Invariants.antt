@@ -2,7 +2,7 @@ use Rattle.std.proofs.Common.{◌≢◌, take}
 use Rattle.sqlite_rules.specs.Lists.{Has}
 use Rattle.tables.specs.declared.table.Table.{Table}
 use Rattle.store.specs.Rows.{rolls}
-use Rattle.store.specs.Reading.{IsElsewhere}
+use Rattle.store.specs.Inside.Reading.{IsElsewhere}
 use Rattle.store.proofs.reading.is_alone.Given as goal
 
 abbrev pub invariant-loop-other : goal.invariant-loop-other

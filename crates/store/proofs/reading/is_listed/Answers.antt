@@ -1,4 +1,4 @@
-use Rattle.store.proofs.Judging.{listed_alone, listed_close}
+use Rattle.store.proofs.ListedTables.{listed_alone, listed_close}
 use Rattle.store.proofs.reading.is_listed.Goals as goal
 
 pub returns-then-tree-edition-clause-right : goal.returns-then-tree-edition-clause-right

@@ -7,8 +7,8 @@ use Rattle.store.specs.Tables.{first_edition}
 use Rattle.store.specs.Reading.{AreListed}
 use Rattle.tables.proofs.Runs.{rests_then}
 use Rattle.tables.proofs.Runs.{survives_both}
-use Rattle.store.proofs.Gathering.{none_back, holds_back, unchanged_then}
-use Rattle.store.proofs.Judged.{other_edition, unread, unfit, stood}
+use Rattle.store.proofs.AllRows.{none_back, holds_back, unchanged_then}
+use Rattle.store.proofs.ReadRows.{other_edition, unread, unfit, stood}
 use Rattle.std.proofs.Common.{inl, refl, sym, ap, ◌∙◌}
 use Rattle.store.specs.declared.fault.StoreFault.TheVariants.{Storage}
 use Rattle.tables.specs.declared.table.Table.TheVariants.{Edition}

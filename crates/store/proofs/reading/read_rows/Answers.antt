@@ -4,8 +4,8 @@ use Rattle.sqlite.specs.Held.{state}
 use Rattle.tables.proofs.Runs.{rests_then, survives_both, survives_none}
 use Rattle.store.specs.declared.fault.StoreFault.TheVariants.{Damaged}
 use Rattle.store.specs.Rows.{rolls}
-use Rattle.store.specs.Reading.{ReadsSome}
-use Rattle.store.proofs.Gathering.{reads_none, reads_more, reads_all, unread_then}
+use Rattle.store.specs.Inside.Reading.{ReadsSome}
+use Rattle.store.proofs.AllRows.{reads_none, reads_more, reads_all, unread_then}
 use Rattle.store.specs.declared.fault.StoreFault.TheVariants.{Storage}
 use Rattle.store.proofs.Causes.{table_unread}
 use Rattle.store.proofs.reading.read_rows.Goals as goal

@@ -1,7 +1,7 @@
 use Rattle.std.proofs.Common.{Err, sym, ap, subst, ◌∙◌}
 use Rattle.sqlite_rules.specs.Lists.{Has}
 use Rattle.store.proofs.Causes.{of_storage}
-use Rattle.store.proofs.Judging.{holds_none}
+use Rattle.store.proofs.ListedTables.{holds_none}
 use Rattle.store.proofs.reading.read_table.Goals as goal
 
 pub returns-clause-damaged : goal.returns-clause-damaged

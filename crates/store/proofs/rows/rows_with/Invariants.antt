@@ -1,5 +1,5 @@
 use Rattle.std.proofs.Common.{take}
-use Rattle.store.specs.Reading.{AreRowsOf}
+use Rattle.store.specs.Inside.Reading.{AreRowsOf}
 use Rattle.store.proofs.rows.rows_with.Given as goal
 
 abbrev pub invariant-loop-cells : goal.invariant-loop-cells

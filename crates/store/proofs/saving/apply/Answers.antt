@@ -1,5 +1,5 @@
 use Rattle.tables.proofs.Runs.{part_as, stepped_as}
-use Rattle.store.proofs.Holding.{hold_list}
+use Rattle.store.proofs.OneStatement.{hold_list}
 use Rattle.store.proofs.saving.apply.Goals as goal
 
 pub returns-in-TakeList-clause-step : goal.returns-in-TakeList-clause-step

@@ -1,6 +1,6 @@
 use Rattle.std.proofs.Common.{refl, ◌∙◌}
 use Rattle.tables.proofs.Runs.{part_none, part_then}
-use Rattle.store.proofs.Applying.{changes_more, changes_none}
+use Rattle.store.proofs.ChangesInTurn.{changes_more, changes_none}
 use Rattle.std.proofs.Common.{arith, rules}
 use Rattle.sqlite.specs.State.{HasCleanDisk}
 use Rattle.sqlite.specs.Held.{state}

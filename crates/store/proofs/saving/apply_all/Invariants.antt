@@ -1,6 +1,7 @@
 use Rattle.std.proofs.Common.{◌≡◌, take, Ok}
 use Rattle.sqlite.specs.Held.{state}
-use Rattle.tables.specs.Steps.{Does, Stays}
+use Rattle.tables.specs.Steps.{Does}
+use Rattle.tables.specs.Inside.Steps.{Stays}
 use Rattle.tables.specs.declared.fault.TableFault.{TableFault}
 use Rattle.store.specs.Saving.{Applies}
 use Rattle.store.proofs.saving.apply_all.Given as goal

@@ -1,7 +1,7 @@
 use Rattle.std.proofs.Common.{ap, rules}
 use Rattle.sqlite.specs.Held.{state}
 use Rattle.store.specs.Saving.{Applies}
-use Rattle.store.proofs.Committing.{made_run, sound_run, saved_by, left_by, dropped_by}
+use Rattle.store.proofs.Commit.{made_run, sound_run, saved_by, left_by, dropped_by}
 use Rattle.store.proofs.saving.commit_all.Goals as goal
 
 -- How the transaction ended is searched for, so that a body that ends it otherwise is refused at it.

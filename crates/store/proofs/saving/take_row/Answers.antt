@@ -1,5 +1,5 @@
 use Rattle.tables.proofs.Runs.{part_as, stepped_as}
-use Rattle.store.proofs.Holding.{hold_take}
+use Rattle.store.proofs.OneStatement.{hold_take}
 use Rattle.store.proofs.saving.take_row.Goals as goal
 
 pub returns-in-Supervisor-clause-step : goal.returns-in-Supervisor-clause-step

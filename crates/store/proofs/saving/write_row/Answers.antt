@@ -1,6 +1,6 @@
 use Rattle.tables.proofs.Runs.{part_as, stepped_as}
 use Rattle.store.proofs.Causes.{refused_entering}
-use Rattle.store.proofs.Holding.{hold_enter}
+use Rattle.store.proofs.OneStatement.{hold_enter}
 use Rattle.store.proofs.saving.write_row.Goals as goal
 
 pub returns-in-Supervisor-clause-step : goal.returns-in-Supervisor-clause-step

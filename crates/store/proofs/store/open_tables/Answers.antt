@@ -1,7 +1,7 @@
 use Rattle.std.proofs.Common.{subst, rules}
 use Rattle.sqlite.proofs.StateLemmas.{survives_weaker}
 use Rattle.store.specs.Tables.{HasNone}
-use Rattle.store.proofs.Making.{opens_new, founds_left}
+use Rattle.store.proofs.NewTables.{opens_new, founds_left}
 use Rattle.store.proofs.store.open_tables.Goals as goal
 
 pub returns-in_err-found-clause-crash : goal.returns-in_err-found-clause-crash

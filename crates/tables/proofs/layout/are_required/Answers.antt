@@ -1,7 +1,7 @@
 use Rattle.std.proofs.Common.{◌≡◌, true, false, rules}
 use Rattle.std.proofs.lemmas.Iterator.{cases_from_all, YieldsList-from_zip, YieldsList-from_slice}
-use Rattle.tables.specs.Table.{column_by}
-use Rattle.tables.specs.Layout.{is_required}
+use Rattle.tables.specs.Inside.Table.{column_by}
+use Rattle.tables.specs.Inside.Layout.{is_required}
 use Rattle.tables.proofs.Alike.{alike}
 use Rattle.tables.proofs.layout.are_required.Goals as goal
 

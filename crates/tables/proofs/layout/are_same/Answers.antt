@@ -1,6 +1,6 @@
 use Rattle.std.proofs.Common.{◌≡◌, ℕ, List, true, false, rules}
 use Rattle.std.proofs.lemmas.Iterator.{cases_from_all, YieldsList-from_zip, YieldsList-from_slice}
-use Rattle.tables.specs.Table.{places_by}
+use Rattle.tables.specs.Inside.Table.{places_by}
 use Rattle.std.specs.Str.{bytes_eq}
 use Rattle.tables.proofs.Alike.{alike}
 use Rattle.tables.proofs.layout.are_same.Goals as goal

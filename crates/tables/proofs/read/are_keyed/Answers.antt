@@ -1,5 +1,5 @@
 use Rattle.std.proofs.Common.{sym, ◌∙◌}
-use Rattle.tables.proofs.Rising.{keyed_if_rising}
+use Rattle.tables.proofs.RowidsRise.{keyed_if_rising}
 use Rattle.tables.proofs.read.are_keyed.Goals as goal
 
 pub returns-then-have_ids-clause-right : goal.returns-then-have_ids-clause-right

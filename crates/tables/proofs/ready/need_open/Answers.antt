@@ -1,6 +1,6 @@
 use Rattle.std.proofs.Common.{[], sym}
 use Rattle.tables.proofs.Causes.{unprepared}
-use Rattle.tables.proofs.Selecting.{not_run_rests}
+use Rattle.tables.proofs.SelectAll.{not_run_rests}
 use Rattle.tables.proofs.ready.need_open.Goals as goal
 
 pub returns-in_err-prepare-clause-rests : goal.returns-in_err-prepare-clause-rests

@@ -1,6 +1,6 @@
 use Rattle.tables.specs.Table.{table_at}
 use Rattle.tables.proofs.Runs.{part_ok, part_then}
-use Rattle.tables.proofs.Putting.{puts_once, puts_more}
+use Rattle.tables.proofs.PutRow.{puts_once, puts_more}
 use Rattle.tables.proofs.Told.{replaced, several, told_adding, told_several, unadded, unreplaced}
 use Rattle.std.proofs.Common.{◌<◌, arith, rules}
 use Rattle.sqlite.specs.State.{HasCleanDisk}

@@ -1,5 +1,5 @@
 use Rattle.desk.specs.Kept.{Kept}
-use Rattle.web.proofs.Connecting.{came_next}
+use Rattle.web.proofs.OneConnection.{came_next}
 use Rattle.web.proofs.connections.serve_next.Goals as goal
 
 pub returns : goal.returns

@@ -1,5 +1,5 @@
 use Rattle.std.proofs.Common.{◌∙◌}
-use Rattle.web.proofs.Connecting.{one_more, one_cut, at_fault}
+use Rattle.web.proofs.OneConnection.{one_more, one_cut, at_fault}
 use Rattle.web.proofs.connections.serve_on.Goals as goal
 
 pub loop-before-preserved : goal.loop-before-preserved

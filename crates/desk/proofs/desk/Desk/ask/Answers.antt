@@ -17,9 +17,9 @@ use Rattle.solver.specs.Sitting.{Sitting}
 use Rattle.desk.specs.Sessions.{GoesOn}
 use Rattle.rolls.specs.Refusing.{refusal_of}
 use Rattle.rolls.specs.declared.refusal.Refusal.TheVariants.{Storage}
-use Rattle.desk.proofs.Following.{read_goes}
-use Rattle.desk.proofs.Named.{unread_named}
-use Rattle.desk.proofs.Running.{crash_none}
+use Rattle.desk.proofs.SessionAfter.{read_goes}
+use Rattle.desk.proofs.NoStorage.{unread_named}
+use Rattle.desk.proofs.Runs.{crash_none}
 use Rattle.desk.proofs.desk.Desk.ask.Goals as goal
 
 -- the refusal that was found is the one that is due

@@ -13,11 +13,12 @@ use Rattle.solver.specs.Sitting.{Sitting}
 use Rattle.allotment.specs.Layers.{layers}
 use Rattle.desk.specs.declared.sessions.Fate.{Fate}
 use Rattle.desk.specs.Keeping.{CarriesOut, StandsForOne}
-use Rattle.desk.specs.Sessions.{fate_of, Goes, MayMeet}
+use Rattle.desk.specs.Sessions.{fate_of, Goes}
+use Rattle.desk.specs.Inside.Sessions.{MayMeet}
 use Rattle.rolls.specs.declared.refusal.Refusal.TheVariants.{Storage}
 use Rattle.tables.specs.Causes.{IsCaused}
 use Rattle.desk.specs.Causes.{IsHinderedToAsk}
-use Rattle.desk.proofs.Following.{meets}
+use Rattle.desk.proofs.SessionAfter.{meets}
 use Rattle.desk.proofs.desk.Desk.change.Goals as goal
 
 -- a session and its fate, taken for equal ones

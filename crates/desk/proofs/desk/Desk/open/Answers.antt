@@ -3,8 +3,8 @@ use Rattle.store.specs.declared.fault.StoreFault.{StoreFault}
 use Rattle.store.specs.declared.fault.StoreFault.TheVariants.{Memory, Storage, Damaged}
 use Rattle.rolls.specs.declared.refusal.Refusal.{Refusal}
 use Rattle.rolls.specs.declared.refusal.Refusal.TheVariants.{Memory as TheMemory, Storage as TheStorage, Damaged as TheDamaged}
-use Rattle.desk.proofs.Settling.{opened_stands}
-use Rattle.desk.proofs.Settling.{was_storage}
+use Rattle.desk.proofs.SavedRows.{opened_stands}
+use Rattle.desk.proofs.SavedRows.{was_storage}
 use Rattle.desk.proofs.desk.Desk.open.Goals as goal
 
 pub invariant_of-result : goal.invariant_of-result

@@ -1,7 +1,7 @@
 use Rattle.std.proofs.Common.{◌≡◌, sym, subst, ◌∙◌}
 use Rattle.rolls.specs.State.{State}
-use Rattle.desk.specs.Keeping.{IsKeeping}
-use Rattle.desk.proofs.Following.{read_same}
+use Rattle.desk.specs.Inside.Keeping.{IsKeeping}
+use Rattle.desk.proofs.SessionAfter.{read_same}
 use Rattle.desk.proofs.desk.Desk.read.Goals as goal
 
 pub invariant_of-self-2 : goal.invariant_of-self-2

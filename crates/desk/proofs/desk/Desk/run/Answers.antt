@@ -1,7 +1,7 @@
 use Rattle.std.proofs.Common.{rules, ◌≡◌, ℕ, ◌+◌, ◌≤◌, List, [], ◌∷◌, length, arith, refl, ap}
 use Rattle.sqlite.specs.Held.{state}
 use Rattle.rolls.specs.declared.request.Request.{Request}
-use Rattle.desk.proofs.Running.{run_all, run_on_all, one_more, one_more_on, crash_more, still_shut}
+use Rattle.desk.proofs.Runs.{run_all, run_on_all, one_more, one_more_on, crash_more, still_shut}
 use Rattle.desk.proofs.desk.Desk.run.Goals as goal
 
 no_items : (requests : List Request) → length requests ≡ 0 → requests ≡ []

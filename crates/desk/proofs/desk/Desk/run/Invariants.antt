@@ -4,7 +4,7 @@ use Rattle.sqlite.specs.State.{HasCleanDisk, Survives}
 use Rattle.sqlite.specs.Held.{state}
 use Rattle.tables.specs.Steps.{IsLeft}
 use Rattle.desk.specs.Keeping.{Begins, Keeps, StandsForOne}
-use Rattle.desk.proofs.Running.{HasRun, HasRunOn}
+use Rattle.desk.proofs.Runs.{HasRun, HasRunOn}
 use Rattle.desk.proofs.desk.Desk.run.Given as goal
 
 -- what was asked is answered by a run, over which the session goes on and of which a crash leaves some beginning, and each answer

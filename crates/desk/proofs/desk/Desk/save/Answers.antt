@@ -12,7 +12,7 @@ use Rattle.rolls.specs.declared.request.Done.{Done}
 use Rattle.rolls.specs.declared.refusal.Refusal.TheVariants.{Storage}
 use Rattle.desk.specs.Keeping.{CarriesOut}
 use Rattle.desk.specs.Causes.{IsHinderedToAsk}
-use Rattle.desk.proofs.Settling.{call_carried}
+use Rattle.desk.proofs.SavedRows.{call_carried}
 use Rattle.desk.proofs.desk.Desk.save.Goals as goal
 
 pub returns-clause-crash : goal.returns-clause-crash

@@ -13,13 +13,13 @@ use Rattle.store.specs.declared.fault.StoreFault.TheVariants.{Storage}
 use Rattle.store.specs.Saving.{AreActedOn, Saves}
 use Rattle.solver.specs.Sitting.{Sitting}
 use Rattle.desk.specs.Sessions.{SitsAt}
-use Rattle.desk.proofs.Settling.{saved_keeps, kept_keeps}
+use Rattle.desk.proofs.SavedRows.{saved_keeps, kept_keeps}
 use Rattle.sqlite.specs.State.{HasCleanDisk}
 use Rattle.rolls.specs.declared.refusal.Refusal.TheVariants.{Damaged as TheDamaged, Memory as TheMemory}
 use Rattle.store.specs.declared.fault.StoreFault.TheVariants.{Damaged, Memory}
 use Rattle.store.specs.Causes.{IsHinderedToSave}
 use Rattle.tables.specs.Causes.{IsStopped}
-use Rattle.desk.proofs.Settling.{was_storage}
+use Rattle.desk.proofs.SavedRows.{was_storage}
 use Rattle.desk.proofs.desk.Desk.settle.Goals as goal
 
 -- changes that turn an office into the next one turn it into what the next one is exchanged for

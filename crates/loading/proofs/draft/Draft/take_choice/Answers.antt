@@ -3,7 +3,7 @@ use Rattle.spa.specs.Text.{is_code}
 use Rattle.rolls.specs.Roll.{put}
 use Rattle.rolls.specs.State.{round_key}
 use Rattle.loading.specs.View.{drafted}
-use Rattle.loading.specs.Gathering.{with_choice, choices_among}
+use Rattle.loading.specs.Inside.Gathering.{with_choice, choices_among}
 use Rattle.loading.proofs.Chosen.{chosen_taken}
 use Rattle.loading.proofs.draft.Draft.take_choice.Goals as goal
 

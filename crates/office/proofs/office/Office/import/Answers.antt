@@ -5,7 +5,7 @@ use Rattle.rolls.specs.Refusing.{first, import_tests}
 use Rattle.rolls.specs.Importing.{rows_refusal}
 use Rattle.rolls.specs.Answers.{Imports}
 use Rattle.row_changes.specs.Changes.{import_changes}
-use Rattle.office.proofs.Importing.{kept_answered, kept_unchanged, rows_decide}
+use Rattle.office.proofs.ImportRows.{kept_answered, kept_unchanged, rows_decide}
 use Rattle.office.proofs.office.Office.import.Goals as goal
 
 pub returns-in-Some-kept_rows : goal.returns-in-Some-kept_rows

@@ -6,7 +6,7 @@ use Rattle.rolls.specs.declared.row.Row.TheVariants as row
 use Rattle.rolls.specs.declared.row.Change.TheVariants as change
 use Rattle.rolls.specs.State.{State, has_import}
 use Rattle.rolls.specs.Importing.{with_import}
-use Rattle.office.proofs.Importing.{still_room, import_made, new_changes}
+use Rattle.office.proofs.ImportRows.{still_room, import_made, new_changes}
 use Rattle.office.proofs.office.Office.import_new.Goals as goal
 
 pub keep-requires-clause-room : goal.keep-requires-clause-room

@@ -2,7 +2,7 @@ use Rattle.std.proofs.Common.{◌≡◌, None, refl, sym, ap, subst, ◌∙◌}
 use Rattle.rolls.specs.declared.request.Plain.{Plain}
 use Rattle.rolls.specs.Refusing.{plain_refusal}
 use Rattle.rolls.specs.declared.request.Plain.TheVariants.{GetSupervisor, GetProject, GetStudent, GetRound}
-use Rattle.office.proofs.Reading.{read_named}
+use Rattle.office.proofs.ReadAnswers.{read_named}
 use Rattle.office.proofs.office.Office.make.Goals as goal
 
 pub returns-in_ok-get_supervisor-in-GetSupervisor-clause-done : goal.returns-in_ok-get_supervisor-in-GetSupervisor-clause-done

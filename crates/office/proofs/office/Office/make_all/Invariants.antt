@@ -1,4 +1,4 @@
-use Rattle.office.proofs.Importing.{IsUnderWay}
+use Rattle.office.proofs.ImportRows.{IsUnderWay}
 use Rattle.office.proofs.office.Office.make_all.Given as goal
 
 -- the rows before the rest were made

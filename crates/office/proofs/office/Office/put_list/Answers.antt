@@ -12,7 +12,7 @@ use Rattle.office.specs.View.{state_of}
 use Rattle.office.proofs.Known.{lent_is_there}
 use Rattle.office.proofs.Made.{made_fit, made_done, last_put}
 use Rattle.rolls.specs.declared.request.Plain.TheVariants.{PutList}
-use Rattle.office.proofs.Listing.{list_few, list_known}
+use Rattle.office.proofs.ListPuts.{list_few, list_known}
 use Rattle.office.proofs.office.Office.put_list.Goals as goal
 use Rattle.office.proofs.office.Office.put_list.Goals.{After-drop-student-inside-2}
 

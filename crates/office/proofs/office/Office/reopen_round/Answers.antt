@@ -11,7 +11,7 @@ use Rattle.rolls.proofs.Places.{rises-filter}
 use Rattle.row_changes.specs.Changes.{reopening_changes, kept_placements}
 use Rattle.office.specs.View.{state_of}
 use Rattle.office.proofs.Made.{made_fit, made_done, last_put}
-use Rattle.office.proofs.Listing.{reopening_found}
+use Rattle.office.proofs.ListPuts.{reopening_found}
 use Rattle.office.proofs.office.Office.reopen_round.Goals as goal
 use Rattle.office.proofs.office.Office.reopen_round.Goals.{Joined-self-kept}
 

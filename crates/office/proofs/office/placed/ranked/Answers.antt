@@ -1,6 +1,6 @@
 use Rattle.std.proofs.Common.{ℕ, ◌+◌, count_by, ◌==◌, ◌&&◌, ap, ◌∙◌, arith}
 use Rattle.spa.specs.declared.TheConstants.{RANKS}
-use Rattle.office.proofs.Counted.{counted_is}
+use Rattle.office.proofs.RankCounts.{counted_is}
 use Rattle.office.proofs.office.placed.ranked.Goals as goal
 
 pub returns : goal.returns

@@ -1,5 +1,5 @@
 use Rattle.std.proofs.Common.{sym, ap}
-use Rattle.store.specs.Faults.{of_table}
+use Rattle.store.specs.Inside.Faults.{of_table}
 use Rattle.store.proofs.fault.StoreFaultFromTableFault.from.Goals as goal
 
 pub returns-in-Storage : goal.returns-in-Storage

@@ -4,7 +4,7 @@ use Rattle.sqlite.specs.State.{HasCleanDisk, Survives}
 use Rattle.sqlite.specs.Held.{state}
 use Rattle.tables.specs.Steps.{HasSaved, IsLeft}
 use Rattle.store.specs.Saving.{AddsNew, AreInert, LeavesOthers, Saves}
-use Rattle.store.proofs.Applying.{new_call, others_call, saves_call, saves_left}
+use Rattle.store.proofs.ChangesInTurn.{new_call, others_call, saves_call, saves_left}
 use Rattle.store.proofs.store.Store.save.Goals as goal
 
 pub returns-clause-ok : goal.returns-clause-ok

@@ -1,5 +1,5 @@
 use Rattle.wire.specs.Answers.{answer_bytes}
-use Rattle.web.proofs.Stepping.{answered_here, refused_here}
+use Rattle.web.proofs.OneMessage.{answered_here, refused_here}
 use Rattle.web.proofs.service.ClerkHandlerDesk.answer.Goals as goal
 
 pub returns-in-Err : goal.returns-in-Err

@@ -1,0 +1,3 @@
+-- What proofs need and no public clause says.
+pub mod Databases
+pub mod Outcomes

@@ -1,0 +1,86 @@
+-- An office with an open round: what its instance has, and that each placement is by a round before it.
+use Rattle.std.proofs.Common.{◌≡◌, ℕ, ◌-◌, ◌≤◌, true, false, List, [], length, Option, Some, None, slice_get, option_map, refl, sym, ap, ◌∙◌, arith}
+use Rattle.std.specs.Option.{option_map_or}
+use Rattle.std.specs.Str.{bytes_eq}
+use Rattle.spa.specs.Instance as spa
+use Rattle.spa.specs.Coded.{choices_of, offerer_of, places_in, places_with}
+use Rattle.rolls.specs.declared.entries.Supervisor.{Supervisor}
+use Rattle.rolls.specs.declared.entries.Project.{Project}
+use Rattle.rolls.specs.declared.rounds.Listed.{Listed}
+use Rattle.rolls.specs.declared.rounds.Placement.{Placement}
+use Rattle.rolls.specs.Roll.{Key, find}
+use Rattle.rolls.specs.State.{State, supervisor_key, project_key, student_key, list_key, placement_key, supervisor_of, project_of, list_of, lists_of, last_round, choices_in, has_student, is_offered_by, quota_in, quota_with, placed_in_project, placed_with_supervisor}
+use Rattle.rolls.specs.Instances.{round_instance}
+use Rattle.rolls.specs.Fit.{IsFit, ListFits, PlacementFits}
+use Rattle.rolls.proofs.EntryChange.{all_weaker}
+use Rattle.rolls.proofs.Found.{found_key, holds_of_found}
+use Rattle.closing.proofs.Entries.{find_made, fewer}
+
+-- ---- the instance of the last round
+
+-- a quota of a roll less what f counts at the code
+left : {E D : Type 0} (key : E → Key) (code : E → List ℕ) → ((e : E) → key e ≡ (0, code e)) → (quota : E → ℕ) (made : E → D) (less : D → ℕ) (f : List ℕ → ℕ) → ((e : E) → less (made e) ≡ quota e - f (code e)) → (c : List ℕ) (es : List E) (x : Option E)
+    → find key (0, c) es ≡ x → option_map_or less (option_map made x) 0 ≡ option_map_or quota x 0 - f c
+left key code coded quota made less f is c es None h = omega arith
+left key code coded quota made less f is c es (Some e) h =
+    let same : c ≡ code e = ap (λ (k : Key). k.1) (found_key key (0, c) es e h ∙ coded e) in
+    is e ∙ ap (λ d. quota e - f d) (sym same)
+
+module _ (o : State) where
+  -- a project has the places that it has left
+  pub places_left : (p : List ℕ) → places_in (round_instance o) p ≡ quota_in o p - placed_in_project o p
+  places_left p =
+      let made : Project → spa.Project = λ e. record { code = e.code; supervisor = e.supervisor; quota = e.quota - placed_in_project o e.code } in
+      ap (λ (x : Option spa.Project). option_map_or (λ e. e.quota) x 0) (find_made project_key made (λ e. e.code) (λ e. refl) p o.projects)
+      ∙ left project_key (λ (e : Project). e.code) (λ e. refl) (λ e. e.quota) made (λ e. e.quota) (placed_in_project o) (λ e. refl) p o.projects (project_of o p) refl
+
+  -- so has a supervisor
+  pub places_with_left : (s : List ℕ) → places_with (round_instance o) s ≡ quota_with o s - placed_with_supervisor o s
+  places_with_left s =
+      let made : Supervisor → spa.Supervisor = λ e. record { code = e.code; quota = e.quota - placed_with_supervisor o e.code } in
+      ap (λ (x : Option spa.Supervisor). option_map_or (λ e. e.quota) x 0) (find_made supervisor_key made (λ e. e.code) (λ e. refl) s o.supervisors)
+      ∙ left supervisor_key (λ (e : Supervisor). e.code) (λ e. refl) (λ e. e.quota) made (λ e. e.quota) (placed_with_supervisor o) (λ e. refl) s o.supervisors (supervisor_of o s) refl
+
+  -- who offers a project stays
+  pub same_offerer : (s p : List ℕ) → is_offered_by o s p ≡ true → bytes_eq s (offerer_of (round_instance o) p) ≡ true
+  same_offerer s p offered =
+      let made : Project → spa.Project = λ e. record { code = e.code; supervisor = e.supervisor; quota = e.quota - placed_in_project o e.code } in
+      ap (λ (x : Option spa.Project). bytes_eq s (option_map_or (λ e. e.supervisor) x [])) (find_made project_key made (λ e. e.code) (λ e. refl) p o.projects)
+      ∙ inside made (project_of o p) (λ e. refl) offered
+    where
+      inside : (made : Project → spa.Project) (x : Option Project) → ((e : Project) → (made e).supervisor ≡ e.supervisor) → option_map_or (λ e. bytes_eq s e.supervisor) x false ≡ true → bytes_eq s (option_map_or (λ e. e.supervisor) (option_map made x) []) ≡ true
+      inside made None is h = absurd (cc)
+      inside made (Some e) is h = ap (bytes_eq s) (is e) ∙ h
+
+  -- a student lists what the list of the last round has
+  pub same_choices : (s : List ℕ) → choices_of (round_instance o) s ≡ choices_in o (last_round o) s
+  same_choices s =
+      let made : Listed → spa.Student = λ l. record { code = l.student; list = l.choices } in
+      ap (λ (x : Option spa.Student). option_map_or (λ e. e.list) x []) (find_made list_key made (λ e. e.code) (λ e. refl) s (lists_of o (last_round o)))
+      ∙ inside made (list_of o (last_round o) s) (λ e. refl)
+    where
+      inside : (made : Listed → spa.Student) (x : Option Listed) → ((e : Listed) → (made e).list ≡ e.choices) → option_map_or (λ e. e.list) (option_map made x) [] ≡ option_map_or (λ e. e.choices) x []
+      inside made None is = refl
+      inside made (Some e) is = is e
+
+  -- ---- who is placed
+
+  module _ (fit : IsFit o) where
+    -- who is placed is a student
+    placed_student : (p : Placement) → PlacementFits o p → has_student o p.student ≡ true
+    placed_student p fits = by_list (list_of o p.round p.student) refl fits.listed
+      where
+        by_list : (x : Option Listed) → list_of o p.round p.student ≡ x → slice_get (option_map_or (λ l. l.choices) x []) (p.rank - 1) ≡ Some p.project → has_student o p.student ≡ true
+        by_list None is at = absurd (cc)
+        by_list (Some l) is at =
+            let f : ListFits o p.round l = holds_of_found list_key (ListFits o p.round) (0, p.student) (lists_of o p.round) l (fit.lists_fit p.round) is in
+            let same : p.student ≡ l.student = ap (λ (k : Key). k.1) (found_key list_key (0, p.student) (lists_of o p.round) l is) in
+            ap (has_student o) same ∙ f.student
+
+    -- there are no more placements than students
+    pub few_placed : length o.placements ≤ length o.students
+    few_placed = fewer placement_key student_key o.placements o.students fit.placements_rise fit.students.rise (all_weaker (PlacementFits o) (λ p. has_student o p.student ≡ true) placed_student o.placements fit.placements_fit)
+
+    -- and no more lists in a round
+    pub few_lists : (n : ℕ) → length (lists_of o n) ≤ length o.students
+    few_lists n = fewer list_key student_key (lists_of o n) o.students (fit.lists_rise n) fit.students.rise (all_weaker (ListFits o n) (λ l. has_student o l.student ≡ true) (λ l f. f.student) (lists_of o n) (fit.lists_fit n))

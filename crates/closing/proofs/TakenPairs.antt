@@ -1,0 +1,35 @@
+-- Places of a matching close the open round: the placements that they make are the pairs taken, kept, so what is made of them is
+-- what closing makes of the pairs.
+use Rattle.std.proofs.Common.{List, map, ◌≡◌, sym, ap, ◌∙◌, subst}
+use Rattle.spa.specs.Coded.{CodePair, taken, CodesSayTheSame}
+use Rattle.rolls.specs.declared.rounds.Placement.{Placement}
+use Rattle.rolls.specs.declared.row.Change.{Change}
+use Rattle.rolls.specs.State.{last_round}
+use Rattle.rolls.specs.Instances.{round_instance}
+use Rattle.rolls.specs.Fit.{IsFit}
+use Rattle.rolls.specs.Closing.{MayClose, kept, after_close}
+use Rattle.rolls.specs.Rows.{Turns}
+use Rattle.closing.specs.Changes.{after_placing, placed_reply, closing_changes, close_changes}
+use Rattle.closing.specs.Laws.{PlacesClose}
+use Rattle.closing.proofs.Kept.{close_keeps_fit}
+use Rattle.closing.proofs.ClosingRows.{close_turns}
+use Rattle.closing.proofs.PairsByCode.{places_taken}
+use Rattle.closing.proofs.PlacesAreRanks.{within_lists, placed_is_kept}
+use Rattle.closing.proofs.SizeAndProfile.{kept_is_counted}
+
+pub places_close : CodesSayTheSame → PlacesClose
+places_close law o ks fit opened are placed made =
+    let M : List CodePair = taken (round_instance o).students ks in
+    let may : MayClose o M = record { is_open = opened; matching = (places_taken law (round_instance o) ks are).matching } in
+    let all : placed ≡ map (kept o) M = made ∙ placed_is_kept o ks fit (within_lists o ks are) in
+    let after : after_placing placed o ≡ after_close M o = ap (λ (ps : List Placement). after_placing ps o) all in
+    record {
+      may = may;
+      fit = subst IsFit (sym after) (close_keeps_fit M o fit may);
+      closed = λ done answered changed. record {
+        after = after;
+        reply = answered ∙ ap (placed_reply (last_round o)) all ∙ kept_is_counted M o;
+        changes = subst (λ (cs : List Change). Turns cs o (after_placing placed o)) (sym (changed ∙ ap (closing_changes (last_round o)) all))
+            (subst (Turns (close_changes M o) o) (sym after) (close_turns M o fit may));
+      };
+    }

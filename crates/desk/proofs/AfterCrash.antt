@@ -1,0 +1,51 @@
+-- What a crash leaves is opened as one of the offices that its tables may stand for.
+use Rattle.std.proofs.Common.{◌≡◌, ◌⊎◌, inl, inr, List, ◌∷◌, sym, subst}
+use Rattle.sqlite.specs.State.{Survives}
+use Rattle.sqlite.specs.Held.{state}
+use Rattle.sqlite_trees.specs.declared.store.Store.{Ghosts}
+use Rattle.rolls.specs.declared.request.Request.{Request}
+use Rattle.rolls.specs.State.{State}
+use Rattle.tables.specs.Steps.{IsLeft}
+use Rattle.store.specs.Laws.{OpensAgain}
+use Rattle.desk.specs.Kept.{Kept}
+use Rattle.desk.specs.Keeping.{CarriesOut, StandsForOne}
+use Rattle.desk.specs.Laws.{IsAtRest, IsOneOf, IsOpenedAfter, LeavesOneOf}
+use Rattle.desk.proofs.SavedRows.{was_clean}
+
+module _ {S : Type 0} (ghosts : Ghosts S) (again : OpensAgain) where
+  -- what is left of a desk at rest is its office
+  pub rest_kept : (desk : Kept S) (office : State) → IsAtRest ghosts desk → IsOpenedAfter ghosts desk office → office ≡ desk.office
+  rest_kept desk office rest it =
+      again (state ghosts desk.store).now it.found it.opened desk.office office rest.sound it.sound (rest.alone it.found.trees it.left) rest.stands rest.fit it.fit it.opens
+
+  -- what is left of a call is what could be left before, or an office that it may make
+  pub call_whole : (IsOne : State → Type 0) (old new : Kept S) (refused : List Request) → LeavesOneOf ghosts refused old
+      → Survives (state ghosts old.store) (state ghosts new.store) (IsLeft (λ _. StandsForOne IsOne) (state ghosts old.store))
+      → (office : State) → IsOpenedAfter ghosts new office → IsOneOf old.office refused office ⊎ IsOne office
+  call_whole IsOne old new refused before survives office it = elim (survives.crash it.clean it.found.trees it.left) [
+    | inl left ↦ inl (before office (record {
+      clean = was_clean (state ghosts old.store) (state ghosts new.store) _ survives it.clean;
+      found = it.found;
+      sound = it.sound;
+      left = left;
+      opened = it.opened;
+      opens = it.opens;
+      fit = it.fit;
+    }))
+    | inr left ↦
+        let one = left.step in
+        let same : office ≡ one.office = again left.db it.found it.opened one.office office left.sound it.sound left.same one.stands one.fit it.fit it.opens in
+        inr (subst IsOne (sym same) one.one)
+  ]
+
+  -- of one request that is what the requests since may make
+  pub ask_whole : (old new : Kept S) (refused : List Request) (request : Request) → LeavesOneOf ghosts refused old
+      → Survives (state ghosts old.store) (state ghosts new.store) (IsLeft (λ _. StandsForOne (CarriesOut old.office request)) (state ghosts old.store))
+      → (office : State) → IsOpenedAfter ghosts new office → IsOneOf old.office (request ∷ refused) office
+  ask_whole old new refused request before survives office it = elim (call_whole (CarriesOut old.office request) old new refused before survives office it) [
+    | inl left ↦ elim left [
+      | inl same ↦ inl same
+      | inr made ↦ inr (inr made)
+    ]
+    | inr carried ↦ inr (inl carried)
+  ]

@@ -1,0 +1,95 @@
+-- What a request that was carried out makes of the session.
+use Rattle.std.proofs.Common.{◌≡◌, ℕ, List, Bool, true, false, Option, Some, None, Result, Ok, Err, IfSome, refl, sym, subst}
+use Rattle.std.specs.Prelude.{if◌then◌else◌}
+use Rattle.rolls.specs.State.{State, last_round, has_list, has_import}
+use Rattle.rolls.specs.Fit.{IsFit}
+use Rattle.rolls.specs.declared.refusal.Refusal.{Refusal}
+use Rattle.rolls.specs.declared.request.Plain.{Plain}
+use Rattle.rolls.specs.declared.request.Plain.TheVariants.{PutSupervisor, PutProject, PutStudent, OpenRound, PutList, DropList, ReopenRound, GetSupervisor, GetProject, GetStudent, GetRound}
+use Rattle.rolls.specs.declared.request.Reply.{Reply}
+use Rattle.rolls.specs.declared.request.Request.{Request}
+use Rattle.rolls.specs.declared.request.Request.TheVariants as request
+use Rattle.rolls.specs.Reads.{is_read, changes_nothing}
+use Rattle.rolls.specs.Refusing.{plain_refusal, refusal_of}
+use Rattle.rolls.specs.Stepping.{after_plain}
+use Rattle.rolls.specs.Run.{Makes}
+use Rattle.solver.specs.Sitting.{Sitting}
+use Rattle.allotment.specs.Layers.{layers}
+use Rattle.allotment.specs.Sittings.{MayJoin}
+use Rattle.desk.specs.declared.sessions.Fate.{Fate}
+use Rattle.desk.specs.declared.sessions.Fate.TheVariants.{Stays, Joins, Ends}
+use Rattle.desk.specs.Sessions.{plain_fate, fate_of, Goes, GoesOn, SitsAt}
+use Rattle.desk.specs.Inside.Sessions.{MayMeet}
+
+-- ---- a change
+
+-- a student who is put is in no list, so the session sits as before
+put_stays : (o : State) (code label : List ℕ) (kept : Option Sitting) → SitsAt o kept → SitsAt (after_plain (PutStudent code label) o) kept
+put_stays o code label None sits = sits
+put_stays o code label (Some s) sits = record { is_open = sits.is_open; greedy = sits.greedy; named = sits.named; fit = sits.fit; here = sits.here; same = sits.same }
+
+-- who puts a first list may join
+put_joins : (o n : State) (student : List ℕ) (choices : List (List ℕ)) (kept : Option Sitting) → IsFit o → plain_refusal o (PutList student choices) ≡ None → has_list o (last_round o) student ≡ false → n ≡ after_plain (PutList student choices) o
+    → SitsAt o kept → IfSome kept (λ s. MayJoin n s student)
+put_joins o n student choices None fit allowed none after sits = sits
+put_joins o n student choices (Some s) fit allowed none after sits =
+    record { before = o; sat = sits; put = record { fit = fit; none_yet = none; choices = choices; allowed = allowed; after = after } }
+
+list_meets : (o n : State) (student : List ℕ) (choices : List (List ℕ)) (kept : Option Sitting) → IsFit o → plain_refusal o (PutList student choices) ≡ None → n ≡ after_plain (PutList student choices) o → SitsAt o kept
+    → (has : Bool) → has_list o (last_round o) student ≡ has → MayMeet (if has then Ends else Joins student) n kept
+list_meets o n student choices kept fit allowed after sits true is = tt
+list_meets o n student choices kept fit allowed after sits false is = put_joins o n student choices kept fit allowed is after sits
+
+plain_meets : (o n : State) (p : Plain) (kept : Option Sitting) → IsFit o → plain_refusal o p ≡ None → is_read p ≡ false → n ≡ after_plain p o → SitsAt o kept → MayMeet (plain_fate o p) n kept
+plain_meets o n (PutSupervisor code label quota) kept fit allowed change after sits = tt
+plain_meets o n (PutProject code label supervisor quota) kept fit allowed change after sits = tt
+plain_meets o n (PutStudent code label) kept fit allowed change after sits = subst (λ (x : State). SitsAt x kept) (sym after) (put_stays o code label kept sits)
+plain_meets o n OpenRound kept fit allowed change after sits = tt
+plain_meets o n (PutList student choices) kept fit allowed change after sits = list_meets o n student choices kept fit allowed after sits (has_list o (last_round o) student) refl
+plain_meets o n (DropList student) kept fit allowed change after sits = tt
+plain_meets o n ReopenRound kept fit allowed change after sits = tt
+plain_meets o n (GetSupervisor code) kept fit allowed change after sits = absurd (cc)
+plain_meets o n (GetProject code) kept fit allowed change after sits = absurd (cc)
+plain_meets o n (GetStudent code) kept fit allowed change after sits = absurd (cc)
+plain_meets o n (GetRound round) kept fit allowed change after sits = absurd (cc)
+
+-- a session that sits in an office may meet its fate in the office that a change makes
+pub meets : (o n : State) (q : Request) (reply : Reply) (kept : Option Sitting) → IsFit o → refusal_of o q ≡ None → changes_nothing o q ≡ false → Makes layers o q reply n → SitsAt o kept → MayMeet (fate_of o q) n kept
+meets o n (request.Plain p) reply kept fit allowed change made sits = plain_meets o n p kept fit allowed change made.1 sits
+meets o n request.Close reply kept fit allowed change made sits = tt
+meets o n request.Preview reply kept fit allowed change made sits = absurd (cc)
+meets o n request.RoundText reply kept fit allowed change made sits = absurd (cc)
+meets o n (request.Report kind round) reply kept fit allowed change made sits = absurd (cc)
+meets o n (request.Import id kind bytes) reply kept fit allowed change made sits = subst (λ (b : Bool). MayMeet (if b then Stays else Ends) n kept) (sym change) tt
+
+-- ---- what changes nothing
+
+-- a read leaves the session and the office
+read_leaves : (o : State) (p : Plain) → is_read p ≡ true → (plain_fate o p ≡ Stays) × (after_plain p o ≡ o)
+read_leaves o (PutSupervisor code label quota) read = cc
+read_leaves o (PutProject code label supervisor quota) read = cc
+read_leaves o (PutStudent code label) read = cc
+read_leaves o OpenRound read = cc
+read_leaves o (PutList student choices) read = cc
+read_leaves o (DropList student) read = cc
+read_leaves o ReopenRound read = cc
+read_leaves o (GetSupervisor code) read = (refl, refl)
+read_leaves o (GetProject code) read = (refl, refl)
+read_leaves o (GetStudent code) read = (refl, refl)
+read_leaves o (GetRound round) read = (refl, refl)
+
+read_stays : (o : State) (p : Plain) → is_read p ≡ true → plain_fate o p ≡ Stays
+read_stays o p read = (read_leaves o p read).0
+
+pub read_same : (o : State) (p : Plain) → is_read p ≡ true → after_plain p o ≡ o
+read_same o p read = (read_leaves o p read).1
+
+-- where the fate is to stay, the session that stays has gone on
+pub goes_still : (o : State) (q : Request) (answer : Result Reply Refusal) (old new : Option Sitting) → fate_of o q ≡ Stays → new ≡ old → GoesOn o q answer old new
+goes_still o q (Ok reply) old new fate same = subst (λ (f : Fate). Goes f old new) (sym fate) same
+goes_still o q (Err refusal) old new fate same = same
+
+-- so it is over a read
+pub read_goes : (o : State) (q : Request) (p : Plain) (answer : Result Reply Refusal) (old new : Option Sitting) → q ≡ request.Plain p → is_read p ≡ true → new ≡ old → GoesOn o q answer old new
+read_goes o q p answer old new is read same =
+    goes_still o q answer old new (subst (λ (x : Request). fate_of o x ≡ Stays) (sym is) (read_stays o p read)) same

@@ -1,0 +1,4 @@
+-- What proofs need and no public clause says.
+pub mod Keeping
+pub mod Kept
+pub mod Sessions

@@ -1,0 +1,3 @@
+-- What proofs need and no public clause says.
+pub mod Gathering
+pub mod Whole

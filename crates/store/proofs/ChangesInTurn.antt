@@ -1,0 +1,94 @@
+-- Changes one after another.
+use Rattle.std.proofs.Common.{◌≡◌, ℕ, ◌+◌, ◌<◌, List, [], ◌∷◌, ◌++◌, length, get_or, take, refl, sym, ap, subst, ◌∙◌, Result, Ok, Err, OnOk, Option}
+use Rattle.std.proofs.lemmas.List.{take_more}
+use Rattle.sqlite.specs.Effect.{Database}
+use Rattle.sqlite.specs.State.{State}
+use Rattle.rolls.specs.declared.row.Row.{Row}
+use Rattle.rolls.specs.declared.row.RowKey.{RowKey}
+use Rattle.rolls.specs.declared.row.Change.{Change}
+use Rattle.rolls.specs.Rows.{AreFresh, IsFresh, after_change, after_changes}
+use Rattle.sqlite.specs.Tree.{Trees}
+use Rattle.tables.specs.Steps.{HasStepped, HasSaved, IsLeft}
+use Rattle.tables.specs.Inside.Steps.{Stays}
+use Rattle.tables.proofs.Runs.{stays_none, stays_then}
+use Rattle.store.specs.Tables.{TablesHold}
+use Rattle.sqlite.specs.Schema.{Schema}
+use Rattle.sqlite_rules.specs.Lists.{Has}
+use Rattle.tables.specs.Table.{Lists, table_at}
+use Rattle.store.specs.Saving.{AddsNew, AreInert, Applies, LeavesOthers, Saves, Spares}
+use Rattle.store.specs.Inside.Saving.{AppliesOne}
+
+-- no change applies nothing
+pub applies_none : (db : Database) → Applies [] db db
+unfolding Applies
+applies_none db inert rows t = (t, record { schema = refl; others = λ any h apart. refl }, tt)
+
+after_more : (cs : List Change) (c : Change) (rows : RowKey → Option Row) → after_changes (cs ++ c ∷ []) rows ≡ after_change c (after_changes cs rows)
+after_more [] c rows = refl
+after_more (d ∷ cs) c rows = after_more cs c (after_change d rows)
+
+-- a row that is added after others at a free key is one of those that are
+fresh_more : (cs : List Change) (c : Change) (rows : RowKey → Option Row) → AreFresh cs rows → IsFresh c (after_changes cs rows) → AreFresh (cs ++ c ∷ []) rows
+fresh_more [] c rows all one = (one, tt)
+fresh_more (d ∷ cs) c rows all one = (all.0, fresh_more cs c (after_change d rows) all.1 one)
+
+-- what spares the other tables twice spares them
+spares_then : (x y z : Database) → Spares x y → Spares y z → Spares x z
+spares_then x y z p q = record {
+  schema = q.schema ∙ p.schema;
+  others = λ any h apart.
+      q.others any (subst (λ (s : Schema). Has s.tables any) (sym p.schema) h) (λ table among place listed. apart table among place (subst (λ (s : Schema). Lists s (table_at table place)) p.schema listed))
+      ∙ p.others any h apart;
+}
+
+applies_then : (cs : List Change) (c : Change) (x y z : Database) → Applies cs x y → AppliesOne c y z → Applies (cs ++ c ∷ []) x z
+unfolding Applies AppliesOne
+applies_then cs c x y z p q inert rows t =
+    let first = p inert rows t in
+    let then = q (subst AreInert (sym first.1.schema) inert) (after_changes cs rows) first.0 in
+    (subst (TablesHold z) (sym (after_more cs c rows)) then.0, spares_then x y z first.1 then.1, fresh_more cs c rows first.2 then.2)
+
+-- nothing was changed yet
+pub changes_none : (s : State) → Stays (Applies []) s s
+changes_none s = stays_none (Applies []) s (applies_none s.now)
+
+-- one change more
+pub changes_more : (i : ℕ) (changes : List Change) (change : Change) (a b c : State) → i < length changes → change ≡ get_or changes i change → Stays (Applies (take i changes)) a b
+    → HasStepped (AppliesOne change) b c → Stays (Applies (take (i + 1) changes)) a c
+changes_more i changes change a b c low is p q =
+    let all : take i changes ++ change ∷ [] ≡ take (i + 1) changes = ap (λ x. take i changes ++ x ∷ []) is ∙ sym (take_more changes i change low) in
+    subst (λ cs. Stays (Applies cs) a c) all (stays_then (Applies (take i changes)) (AppliesOne change) (Applies (take i changes ++ change ∷ [])) a b c (applies_then (take i changes) change a.now b.now c.now) p q)
+
+-- changes that were applied are saved, where nothing acts on the tables
+pub saves : (changes : List Change) (old new : Database) → AreInert old.schema → Applies changes old new → Saves changes old new
+unfolding Applies Saves
+saves changes old new inert p rows t = (p inert rows t).0
+
+-- the same of a transaction
+pub saves_call : {E : Type 0} (changes : List Change) (a b : State) (r : Result (Unit {0}) E) → AreInert a.now.schema → OnOk r (HasSaved (Applies changes) a b) → OnOk r (HasSaved (Saves changes) a b)
+saves_call changes a b (Ok u) inert h = record { shown = h.shown; step = saves changes a.now b.now inert h.step }
+saves_call changes a b (Err e) inert h = h
+
+-- and of what a crash leaves
+pub saves_left : (changes : List Change) (old : State) (trees : Trees) → AreInert old.now.schema → IsLeft (Applies changes) old trees → IsLeft (Saves changes) old trees
+saves_left changes old trees inert h = record { was_open = h.was_open; db = h.db; sound = h.sound; step = saves changes old.now h.db inert h.step; same = h.same }
+
+-- changes that were applied left the other tables alone
+pub leaves_others : (changes : List Change) (old new : Database) → AreInert old.schema → Applies changes old new → LeavesOthers old new
+unfolding Applies LeavesOthers
+leaves_others changes old new inert p rows t = (p inert rows t).1
+
+-- the same of a transaction
+pub others_call : {E : Type 0} (changes : List Change) (a b : State) (r : Result (Unit {0}) E) → AreInert a.now.schema → OnOk r (HasSaved (Applies changes) a b) → OnOk r (LeavesOthers a.now b.now)
+others_call changes a b (Ok u) inert h = leaves_others changes a.now b.now inert h.step
+others_call changes a b (Err e) inert h = h
+
+-- changes that were applied added rows of new keys
+pub adds_new : (changes : List Change) (old new : Database) → AreInert old.schema → Applies changes old new → AddsNew changes old
+unfolding Applies AddsNew
+adds_new changes old new inert p rows t = (p inert rows t).2
+
+-- the same of a transaction
+pub new_call : {E : Type 0} (changes : List Change) (a b : State) (r : Result (Unit {0}) E) → AreInert a.now.schema → OnOk r (HasSaved (Applies changes) a b) → OnOk r (AddsNew changes a.now)
+new_call changes a b (Ok u) inert h = adds_new changes a.now b.now inert h.step
+new_call changes a b (Err e) inert h = h

@@ -1,0 +1,129 @@
+-- What is listed, and what one row says of the edition.
+use Rattle.std.proofs.Common.{◌≡◌, ◌≢◌, ◌⊎◌, inl, inr, ℕ, ◌+◌, ◌<◌, List, [], ◌∷◌, length, get_or, take, map, drop, refl, sym, ap, subst, ◌∙◌, pos, arith}
+use Rattle.std.proofs.lemmas.List.{take_more, take_all, get_or_default}
+use Rattle.sqlite_rules.proofs.ListLemmas.{has_either, has_at}
+use Rattle.sqlite.specs.declared.types.Value.TheVariants.{Int}
+use Rattle.sqlite.specs.Order.{Row as Cells, column}
+use Rattle.sqlite.specs.Schema.{Schema}
+use Rattle.sqlite.specs.State.{State as Seen}
+use Rattle.sqlite_rules.specs.Lists.{Has}
+use Rattle.tables.specs.declared.table.Table.{Table}
+use Rattle.tables.specs.declared.table.Table.TheVariants.{Edition}
+use Rattle.tables.specs.Table.{Place, Lists, table_at}
+use Rattle.tables.specs.Layout.{IsListed, IsUnlisted}
+use Rattle.tables.specs.Steps.{Shows}
+use Rattle.tables.proofs.Runs.{listed_at_one, decide_table}
+use Rattle.store.specs.Rows.{IsRoll, rolls}
+use Rattle.store.specs.Tables.{first_edition}
+use Rattle.store.specs.Reading.{AreListed}
+use Rattle.store.specs.Inside.Reading.{IsAlone, IsElsewhere, IsListedAlone, IsNoRow, HoldsNoRow}
+
+-- what holds of so many tables, and of the next, holds of one more
+pub so_far : (P : Table → Type 0) (all : List Table) (i : ℕ) (d : Table) → i < length all → ((table : Table) → Has (take i all) table → P table) → P (get_or all i d) → (table : Table) → Has (take (i + 1) all) table → P table
+so_far P all i d low early here table h = elim (has_either (take i all) (get_or all i d ∷ []) table (subst (λ rs. Has rs table) (take_more all i d low) h)) [
+  | inl before ↦ early table before
+  | inr (inl same) ↦ subst P (sym same) here
+  | inr (inr none) ↦ absurd none
+]
+
+-- what holds of as many as there are holds of each
+pub of_each : (P : Table → Type 0) (all : List Table) (i : ℕ) → i ≡ length all → ((table : Table) → Has (take i all) table → P table) → (table : Table) → Has all table → P table
+of_each P all i end each table among = each table (subst (λ rs. Has rs table) (sym (ap (λ n. take n all) end ∙ take_all (length all) all (omega arith))) among)
+
+-- the next of the tables is one of them
+pub is_next : (all : List Table) (i : ℕ) (d : Table) → i < length all → Has all (get_or all i d)
+is_next all i d low = has_at all i (get_or all i d) low (get_or_default all i d (get_or all i d) low)
+
+-- a table that is listed in another tree is not listed in this one
+pub elsewhere : (table : Table) (schema : Schema) (there tree : ℕ) → IsListed (table_at table) schema there → there ≢ tree → IsElsewhere table tree schema
+elsewhere table schema there tree at other place listed same = other (listed_at_one table schema (record { tree = there; checks = at.0 }) place at.1 listed ∙ same)
+
+-- where another table is listed in the tree, the table is not alone in it
+pub not_alone : (other table : Table) (schema : Schema) (tree : ℕ) → IsRoll other → other ≢ table → IsListed (table_at other) schema tree → IsAlone table tree schema → ⊥
+not_alone other table schema tree among apart at alone = alone other among apart (record { tree = tree; checks = at.0 }) at.1 refl
+
+-- a table that is listed in this tree is listed alone where the tree is its own
+pub listed_alone : (edition : ℕ) (schema : Schema) (table : Table) (tree : ℕ) → IsListed (table_at table) schema tree → tree ≢ edition → IsAlone table tree schema → IsListedAlone edition schema table
+listed_alone edition schema table tree at apart alone = record { place = record { tree = tree; checks = at.0 }; listed = at.1; from_edition = apart; alone = alone }
+
+-- and only there
+pub listed_close : (edition : ℕ) (schema : Schema) (table : Table) (tree : ℕ) → IsListed (table_at table) schema tree → (tree ≢ edition → IsAlone table tree schema → ⊥) → IsListedAlone edition schema table → ⊥
+listed_close edition schema table tree at close l =
+    let same = listed_at_one table schema l.place (record { tree = tree; checks = at.0 }) l.listed at.1 in
+    close (subst (λ n. n ≢ edition) same l.from_edition) (subst (λ n. IsAlone table n schema) same l.alone)
+
+-- a table is one of these, or it isn't
+has_or_not : (all : List Table) (table : Table) → Has all table ⊎ (Has all table → ⊥)
+has_or_not [] table = inr (λ h. h)
+has_or_not (q ∷ qs) table = elim (decide_table table q) [
+  | inl same ↦ inl (inl same)
+  | inr other ↦ elim (has_or_not qs table) [ inl among ↦ inl (inr among) | inr none ↦ inr (λ h. elim h [ inl same ↦ other same | inr later ↦ none later ]) ]
+]
+
+roll_or_not : (table : Table) → IsRoll table ⊎ (IsRoll table → ⊥)
+unfolding IsRoll
+roll_or_not table = has_or_not rolls table
+
+module _ (schema : Schema) (edition : ℕ) (e : IsListed (table_at Edition) schema edition) (each : (table : Table) → IsRoll table → IsListedAlone edition schema table) where
+  place_by : (table : Table) → IsRoll table ⊎ (IsRoll table → ⊥) → Place
+  place_by table (inl among) = (each table among).place
+  place_by table (inr none) = record { tree = 0; checks = [] }
+
+  apart_from_edition : (table : Table) (d : IsRoll table ⊎ (IsRoll table → ⊥)) → IsRoll table → (place_by table d).tree ≢ edition
+  unfolding place_by
+  apart_from_edition table (inl among) h = (each table among).from_edition
+  apart_from_edition table (inr none) h = absurd (none h)
+
+  listed_by : (table : Table) (d : IsRoll table ⊎ (IsRoll table → ⊥)) → IsRoll table → Lists schema (table_at table (place_by table d))
+  unfolding place_by
+  listed_by table (inl among) h = (each table among).listed
+  listed_by table (inr none) h = absurd (none h)
+
+  apart_by : (a b : Table) (d : IsRoll a ⊎ (IsRoll a → ⊥)) (f : IsRoll b ⊎ (IsRoll b → ⊥)) → IsRoll a → IsRoll b → a ≢ b → (place_by a d).tree ≢ (place_by b f).tree
+  unfolding place_by
+  apart_by a b (inl p) (inl q) h k other = (each b q).alone a p other (each a p).place (each a p).listed
+  apart_by a b (inr none) f h k other = absurd (none h)
+  apart_by a b (inl p) (inr none) h k other = absurd (none k)
+
+  -- tables that are each listed alone are listed
+  pub listed_right : AreListed schema
+  listed_right = record {
+    edition = record { tree = edition; checks = e.0 };
+    places = λ table. place_by table (roll_or_not table);
+    edition_apart = λ table. apart_from_edition table (roll_or_not table);
+    apart = λ a b. apart_by a b (roll_or_not a) (roll_or_not b);
+    edition_listed = e.1;
+    rolls_listed = λ table. listed_by table (roll_or_not table);
+  }
+
+-- tables that are listed are each listed alone
+pub listed_each : (schema : Schema) (edition : ℕ) → IsListed (table_at Edition) schema edition → AreListed schema → (table : Table) → IsRoll table → IsListedAlone edition schema table
+listed_each schema edition e l table among =
+    let there : l.edition.tree ≡ edition = listed_at_one Edition schema l.edition (record { tree = edition; checks = e.0 }) l.edition_listed e.1 in
+    record {
+      place = l.places table;
+      listed = l.rolls_listed table among;
+      from_edition = subst (λ n. (l.places table).tree ≢ n) there (l.edition_apart table among);
+      alone = λ other beside apart place listed same. l.apart other table beside among apart (sym (listed_at_one other schema place (l.places other) listed (l.rolls_listed other beside)) ∙ same);
+    }
+
+-- where one of the tables isn't listed, they aren't
+pub no_edition : (schema : Schema) → IsUnlisted (table_at Edition) schema → AreListed schema → ⊥
+no_edition schema none l = none l.edition l.edition_listed
+
+-- two columns after the rowid
+pub is_first : (cells : Cells) → length cells ≡ 3 → column cells 1 ≡ Int (pos 1) → column cells 2 ≡ Int (pos 1) → map (drop 1) (cells ∷ []) ≡ first_edition
+is_first [] h p q = absurd (omega (arith, h))
+is_first (x ∷ []) h p q = absurd (omega (arith, h))
+is_first (x ∷ y ∷ []) h p q = absurd (omega (arith, h))
+is_first (x ∷ y ∷ z ∷ []) h p q = λ i. (p i ∷ q i ∷ []) ∷ []
+is_first (w ∷ x ∷ y ∷ z ∷ more) h p q = absurd (omega (arith, h))
+
+has_mapped : {X Y : Type 0} (f : X → Y) (xs : List X) (x : X) → Has xs x → Has (map f xs) (f x)
+has_mapped f [] x h = h
+has_mapped f (y ∷ xs) x (inl same) = inl (ap f same)
+has_mapped f (y ∷ xs) x (inr h) = inr (has_mapped f xs x h)
+
+-- a table with columns that no row has
+pub holds_none : (table : Table) (cells : List Cells) (one : Cells) (old new : Seen) → Shows (table_at table) cells old new → Has cells one → IsNoRow table (drop 1 one) → HoldsNoRow table old.now
+holds_none table cells one old new shows among none = record { all = map (drop 1) cells; cells = drop 1 one; among = has_mapped (drop 1) cells one among; none = none; holds = shows.stands }

@@ -1,0 +1,146 @@
+-- The tables that were made stand for the empty office.
+use Rattle.std.proofs.Common.{◌≡◌, ◌≢◌, ◌⊎◌, ◌+◌, ◌<◌, ◌≤◌, ◌++◌, ℕ, List, [], ◌∷◌, length, get_or, take, inl, inr, ◌-◌, true, false, cond, Option, None, refl, sym, ap, subst, ◌∙◌}
+use Rattle.std.proofs.lemmas.List.{take_more, take_all}
+use Rattle.sqlite.specs.Effect.{Database}
+use Rattle.sqlite.specs.Schema.{Schema}
+use Rattle.sqlite.specs.Table.{Table as AnyTable}
+use Rattle.sqlite.specs.State.{State as Seen}
+use Rattle.sqlite.specs.Tree.{Trees}
+use Rattle.sqlite.specs.declared.types.Value.{Value}
+use Rattle.sqlite_rules.specs.Lists.{Has}
+use Rattle.sqlite_rules.proofs.ListLemmas.{has_either}
+use Rattle.rolls.specs.declared.row.RowKey.{RowKey}
+use Rattle.rolls.specs.declared.row.RowKey.TheVariants as key
+use Rattle.rolls.specs.declared.row.Row.TheVariants as row
+use Rattle.rolls.specs.Rows.{row_of, choice_in}
+use Rattle.std.specs.Prelude.{nat_le, slice_get}
+use Rattle.std.specs.Option.{option_map}
+use Rattle.rolls.specs.From.{row_in}
+use Rattle.rolls.specs.State.{State, empty}
+use Rattle.tables.specs.declared.table.Table.{Table}
+use Rattle.tables.specs.declared.table.Table.TheVariants.{Edition}
+use Rattle.tables.specs.Table.{Place, Lists, checks_of, key_in, table_at}
+use Rattle.tables.specs.Keyed.{Stands}
+use Rattle.tables.specs.Writes.{Makes, Adds}
+use Rattle.tables.specs.Steps.{HasStepped, IsLeft}
+use Rattle.tables.specs.Inside.Steps.{Stays}
+use Rattle.tables.proofs.Runs.{listed_once, stands_apart, stands_beside, stays_none, stays_then, stays_stepped, decide_table}
+use Rattle.store.specs.Rows.{kept, AreRowsAt}
+use Rattle.store.specs.Tables.{AreRuled, MakesTables, StandsFor, Founds, HasNone, Opens, first_edition}
+use Rattle.store.specs.Inside.Tables.{Empties}
+use Rattle.store.proofs.Columns.{apart_edition, among_rolls}
+
+nothing_at : (place : ℕ) → ◌≡◌ {A = Option (List ℕ)} None (choice_in [] place)
+nothing_at place = elim (nat_le 1 place) as (λ t. ◌≡◌ {A = Option (List ℕ)} None (cond t (slice_get [] (place - 1)) None)) [ true ↦ refl | false ↦ refl ]
+
+no_row : (k : RowKey) → row_in [] k ≡ row_of empty k
+no_row (key.Choice round student place) = ap (option_map (row.Choice round student place)) (nothing_at place)
+no_row _ = refl
+
+no_rows : AreRowsAt [] (row_of empty)
+no_rows = record { apart = refl; each = no_row }
+
+-- no table was made yet
+pub made_none : (s : Seen) → Stays (MakesTables []) s s
+made_none s = stays_none (MakesTables []) s (record { places = λ table. record { tree = 0; checks = [] }; ruled = λ table h. absurd h; stand = λ table h. absurd h; apart = λ a b h. absurd h; others = λ t listed. (listed, refl, λ table h. absurd h) })
+
+module _ (done : List Table) (q : Table) (a b c : Database) (m : MakesTables done a b) (n : Makes (table_at q) (checks_of q) [] b c) where
+  -- where a table stands: the last one at its new place
+  at : (table : Table) → (table ≡ q) ⊎ (table ≢ q) → Place
+  at table (inl same) = n.place
+  at table (inr other) = m.places table
+
+  before : (table : Table) → table ≢ q → Has (done ++ q ∷ []) table → Has done table
+  before table other h = elim (has_either done (q ∷ []) table h) [ inl early ↦ early | inr (inl same) ↦ absurd (other same) | inr (inr none) ↦ absurd none ]
+
+  beside : (table : Table) → Has done table → Stands (table_at table) (m.places table) [] c × ((m.places table).tree ≢ n.place.tree)
+  beside table early = stands_beside (table_at table) (m.places table) refl [] (table_at q) (checks_of q) [] b c n (m.stand table early)
+
+  ruled_at : (table : Table) (d : (table ≡ q) ⊎ (table ≢ q)) → Has (done ++ q ∷ []) table → (at table d).checks ≡ checks_of table
+  unfolding at
+  ruled_at table (inl same) h = n.ruled ∙ sym (ap checks_of same)
+  ruled_at table (inr other) h = m.ruled table (before table other h)
+
+  stand_at : (table : Table) (d : (table ≡ q) ⊎ (table ≢ q)) → Has (done ++ q ∷ []) table → Stands (table_at table) (at table d) [] c
+  unfolding at
+  stand_at table (inl same) h = subst (λ r. Stands (table_at r) n.place [] c) (sym same) n.stands
+  stand_at table (inr other) h = (beside table (before table other h)).0
+
+  apart_at : (x y : Table) (d : (x ≡ q) ⊎ (x ≢ q)) (e : (y ≡ q) ⊎ (y ≢ q)) → Has (done ++ q ∷ []) x → Has (done ++ q ∷ []) y → x ≢ y → (at x d).tree ≢ (at y e).tree
+  unfolding at
+  apart_at x y (inl s) (inl t) h k apart same = absurd (apart (s ∙ sym t))
+  apart_at x y (inl s) (inr o) h k apart same = (beside y (before y o k)).1 (sym same)
+  apart_at x y (inr o) (inl t) h k apart same = (beside x (before x o h)).1 same
+  apart_at x y (inr o) (inr p) h k apart same = m.apart x y (before x o h) (before y p k) apart same
+
+  other_at : (t : AnyTable) → t.tree ≢ n.place.tree → ((table : Table) → Has done table → t.tree ≢ (m.places table).tree) → (table : Table) (d : (table ≡ q) ⊎ (table ≢ q)) → Has (done ++ q ∷ []) table
+      → t.tree ≢ (at table d).tree
+  unfolding at
+  other_at t last early table (inl same) h = last
+  other_at t last early table (inr other) h = early table (before table other h)
+
+  -- one table more
+  made_then : MakesTables (done ++ q ∷ []) a c
+  made_then = record {
+    places = λ table. at table (decide_table table q);
+    ruled = λ table. ruled_at table (decide_table table q);
+    stand = λ table. stand_at table (decide_table table q);
+    apart = λ x y. apart_at x y (decide_table x q) (decide_table y q);
+    others = λ t listed.
+        let was = m.others t listed in
+        let is = n.others t was.0 in
+        (is.0, is.1 ∙ was.1, λ table. other_at t is.2 was.2 table (decide_table table q));
+  }
+
+-- the same of the statements that make them
+pub made_more : (i : ℕ) (all : List Table) (d : Table) (a b c : Seen) → i < length all → Stays (MakesTables (take i all)) a b → HasStepped (Makes (table_at (get_or all i d)) (checks_of (get_or all i d)) []) b c
+    → Stays (MakesTables (take (i + 1) all)) a c
+made_more i all d a b c low p n =
+    let q = get_or all i d in
+    subst (λ rs. Stays (MakesTables rs) a c) (sym (take_more all i d low))
+    (stays_then (MakesTables (take i all)) (Makes (table_at q) (checks_of q) []) (MakesTables (take i all ++ q ∷ [])) a b c (made_then (take i all) q a.now b.now c.now) p n)
+
+-- each of them was made
+pub made_all : (i : ℕ) (all : List Table) (a b : Seen) → length all ≤ i → Stays (MakesTables (take i all)) a b → Stays (MakesTables all) a b
+made_all i all a b end = subst (λ rs. Stays (MakesTables rs) a b) (take_all i all end)
+
+-- the tables, once that of the edition has its row
+empty_stands : (row : List Value) → row ∷ [] ≡ first_edition → (a b c : Database) → MakesTables kept a b → Adds (table_at Edition) (key_in Edition row) row b c → StandsFor c empty
+empty_stands row is a b c m n =
+    let first : Has kept Edition = inl refl in
+    let done = n (m.places Edition) [] (m.stand Edition first) in
+    record {
+      edition = m.places Edition;
+      places = m.places;
+      edition_apart = λ table among. m.apart table Edition (inr (among_rolls table among)) first (apart_edition table among);
+      apart = λ x y p q. m.apart x y (inr (among_rolls x p)) (inr (among_rolls y q));
+      list = [];
+      at = no_rows;
+      editions = subst (λ all. Stands (table_at Edition) (m.places Edition) all c) is done.0;
+      rolls = λ table among.
+          stands_apart (table_at table) (m.places table) refl [] (m.places Edition).tree b c (m.apart table Edition (inr (among_rolls table among)) first (apart_edition table among)) done.1 (m.stand table (inr (among_rolls table among)));
+    }
+
+-- and that they have the rules
+ruled_so : (row : List Value) (a b c : Database) → MakesTables kept a b → Adds (table_at Edition) (key_in Edition row) row b c → AreRuled c.schema
+unfolding AreRuled
+ruled_so row a b c m n table among place listed =
+    let first : Has kept Edition = inl refl in
+    let done = n (m.places Edition) [] (m.stand Edition first) in
+    let here = subst (λ (s : Schema). Lists s (table_at table (m.places table))) (sym done.1.schema) (m.stand table among).listed in
+    ap (λ (t : AnyTable). t.checks) (listed_once c.schema (table_at table) place (m.places table) refl listed here) ∙ m.ruled table among
+
+-- the tables were made one after the other, and then the edition was written
+pub founded : (row : List Value) → row ∷ [] ≡ first_edition → (a b c : Seen) → Stays (MakesTables kept) a b → HasStepped (Adds (table_at Edition) (key_in Edition row) row) b c → HasStepped Empties a c
+unfolding Empties
+founded row is a b c m n = stays_stepped (MakesTables kept) (Adds (table_at Edition) (key_in Edition row) row) Empties a b c (λ p q. (empty_stands row is a.now b.now c.now p q, ruled_so row a.now b.now c.now p q)) m n
+
+-- the tables were made where there were none
+pub opens_new : (old new : Database) (office : State) → HasNone old.schema → office ≡ empty → Empties old new → Opens old new office
+unfolding Empties
+opens_new old new office none is made = inl (none, is, made.0, made.1)
+
+-- what a crash leaves of the making
+pub founds_left : (old : Seen) (trees : Trees) → HasNone old.now.schema → IsLeft Empties old trees → IsLeft Founds old trees
+unfolding Empties
+founds_left old trees none h = record { was_open = h.was_open; db = h.db; sound = h.sound; step = record { none = none; stands = h.step.0; ruled = h.step.1 }; same = h.same }

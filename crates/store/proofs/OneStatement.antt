@@ -1,0 +1,124 @@
+-- What one statement makes of the tables.
+use Rattle.std.proofs.Common.{◌≡◌, ◌≢◌, inl, inr, ℕ, List, ◌∷◌, Option, refl, sym, ap, subst, ◌∙◌}
+use Rattle.std.proofs.lemmas.Bool.{false_from_ne_true}
+use Rattle.sqlite.specs.Effect.{Database}
+use Rattle.sqlite.specs.Order.{Row as Cells}
+use Rattle.rolls.specs.declared.row.Row.{Row}
+use Rattle.rolls.specs.declared.row.RowKey.{RowKey}
+use Rattle.rolls.specs.declared.row.RowKey.TheVariants as key
+use Rattle.rolls.specs.declared.row.Change.TheVariants.{Add, Put, Take, TakeList}
+use Rattle.rolls.specs.Rows.{key_of, is_in_list, same_row}
+use Rattle.tables.specs.declared.table.Table.{Table}
+use Rattle.tables.specs.declared.table.Table.TheVariants.{Choice, Edition}
+use Rattle.tables.specs.Table.{table_at}
+use Rattle.tables.specs.Keyed.{Stands}
+use Rattle.tables.specs.Writes.{Adds, Puts, Removes, WritesOnly, with_row, without}
+use Rattle.tables.proofs.Runs.{stands_apart, decide_table}
+use Rattle.store.specs.Rows.{AreRowsAt, IsRoll, columns, columns_of, key_columns, list_columns, table_at_key, table_of}
+use Rattle.store.specs.Tables.{TablesHold, first_edition}
+use Rattle.sqlite_rules.proofs.ListLemmas.{all_has}
+use Rattle.store.specs.Inside.Saving.{AppliesOne, Enters, entering}
+use Rattle.store.specs.Saving.{Spares}
+use Rattle.store.specs.declared.saving.Way.{Way}
+use Rattle.store.specs.declared.saving.Way.TheVariants.{InPlace, New}
+use Rattle.store.proofs.Keys.{dropped, dropped_by, rows_put, rows_taken}
+use Rattle.store.proofs.Columns.{in_rolls, is_of, columns_without, columns_beside, columns_kept, columns_more, columns_same, list_beside, list_without, none_there}
+
+module _ (old new : Database) (rows : RowKey → Option Row) (t : TablesHold old rows) (q : Table) (kept : IsRoll q) (only : WritesOnly (t.places q).tree old new) where
+  edition_stays : Stands (table_at Edition) t.edition first_edition new
+  edition_stays = stands_apart (table_at Edition) t.edition refl first_edition (t.places q).tree old new (λ e. t.edition_apart q kept (sym e)) only t.editions
+
+  -- the rolls, of which the one that is written holds these
+  rolls_are : (list : List Row) (written : List Cells) → Stands (table_at q) (t.places q) written new → columns_of q list ≡ written
+      → ((table : Table) → table ≢ q → columns_of table list ≡ columns_of table t.list) → (table : Table) → IsRoll table → Stands (table_at table) (t.places table) (columns_of table list) new
+  rolls_are list written stands own others table among = elim (decide_table table q) [
+    | inl same ↦
+        let here = subst (λ all. Stands (table_at q) (t.places q) all new) (sym own) stands in
+        subst (λ x. Stands (table_at x) (t.places x) (columns_of x list) new) (sym same) here
+    | inr other ↦
+        let there = stands_apart (table_at table) (t.places table) refl (columns_of table t.list) (t.places q).tree old new (t.apart table q among kept other) only (t.rolls table among) in
+        subst (λ all. Stands (table_at table) (t.places table) all new) (sym (others table other)) there
+  ]
+
+  -- so the tables hold these rows
+  held_by : (list : List Row) (written : List Cells) (others : RowKey → Option Row) → AreRowsAt list others → Stands (table_at q) (t.places q) written new → columns_of q list ≡ written
+      → ((table : Table) → table ≢ q → columns_of table list ≡ columns_of table t.list) → TablesHold new others
+  held_by list written rows' at stands own others = record {
+    edition = t.edition;
+    places = t.places;
+    edition_apart = t.edition_apart;
+    apart = t.apart;
+    list = list;
+    at = at;
+    editions = edition_stays;
+    rolls = rolls_are list written stands own others;
+  }
+
+  -- what is written spares the other tables
+  spared : Spares old new
+  spared = record { schema = only.schema; others = λ any h apart. all_has _ old.schema.tables any only.others h (apart q kept (t.places q) (t.rolls q kept).listed) }
+
+-- a row that was put in its table
+pub hold_put : (r : Row) (old new : Database) → Puts (table_at (table_of r)) (key_columns (key_of r)) (columns r) old new → AppliesOne (Put r) old new
+unfolding AppliesOne Puts
+hold_put r old new puts inert rows t =
+    let q = table_of r in
+    let k = key_of r in
+    let kept : IsRoll q = in_rolls k in
+    let done = puts (t.places q) (columns_of q t.list) (inert q kept (t.places q) (t.rolls q kept).listed) (t.rolls q kept) in
+    let list : List Row = r ∷ dropped k t.list in
+    let own : columns_of q list ≡ with_row (key_columns k) (columns r) (columns_of q t.list) =
+    columns_more r (dropped k t.list) ∙ ap (λ more. columns r ∷ more) (columns_without k t.list) in
+    let others : (table : Table) → table ≢ q → columns_of table list ≡ columns_of table t.list = λ table other.
+    columns_same table r (dropped k t.list) (false_from_ne_true _ (λ h. other (is_of table r h))) ∙ columns_beside table k t.list other in (
+      held_by old new rows t q kept done.1 list (with_row (key_columns k) (columns r) (columns_of q t.list)) _ (rows_put t.list rows r t.at) done.0 own others,
+      spared old new rows t q kept done.1,
+      tt,
+    )
+
+-- a row that was added to its table
+pub hold_add : (r : Row) (old new : Database) → Adds (table_at (table_of r)) (key_columns (key_of r)) (columns r) old new → AppliesOne (Add r) old new
+unfolding AppliesOne
+hold_add r old new adds inert rows t =
+    let q = table_of r in
+    let k = key_of r in
+    let kept : IsRoll q = in_rolls k in
+    let done = adds (t.places q) (columns_of q t.list) (t.rolls q kept) in
+    let list : List Row = r ∷ dropped k t.list in
+    let own : columns_of q list ≡ columns r ∷ columns_of q t.list = columns_more r (dropped k t.list) ∙ ap (λ more. columns r ∷ more) (columns_kept k t.list done.2) in
+    let others : (table : Table) → table ≢ q → columns_of table list ≡ columns_of table t.list = λ table other.
+    columns_same table r (dropped k t.list) (false_from_ne_true _ (λ h. other (is_of table r h))) ∙ columns_beside table k t.list other in (
+      held_by old new rows t q kept done.1 list (columns r ∷ columns_of q t.list) _ (rows_put t.list rows r t.at) done.0 own others,
+      spared old new rows t q kept done.1,
+      sym (t.at.each k) ∙ none_there k t.list done.2,
+    )
+
+-- either way
+pub hold_enter : (way : Way) (r : Row) (old new : Database) → Enters way (table_at (table_of r)) (key_columns (key_of r)) (columns r) old new → AppliesOne (entering way r) old new
+hold_enter InPlace r old new = hold_put r old new
+hold_enter New r old new = hold_add r old new
+
+-- a row that was taken out of its table
+pub hold_take : (k : RowKey) (old new : Database) → Removes (table_at (table_at_key k)) (key_columns k) old new → AppliesOne (Take k) old new
+unfolding AppliesOne Removes
+hold_take k old new removes inert rows t =
+    let q = table_at_key k in
+    let kept = in_rolls k in
+    let done = removes (t.places q) (columns_of q t.list) (inert q kept (t.places q) (t.rolls q kept).listed) (t.rolls q kept) in
+    let list : List Row = dropped k t.list in (
+      held_by old new rows t q kept done.1 list (without (key_columns k) (columns_of q t.list)) _ (rows_taken (λ l. same_row l k) t.list rows t.at) done.0 (columns_without k t.list) (λ table other. columns_beside table k t.list other),
+      spared old new rows t q kept done.1,
+      tt,
+    )
+
+-- a list that was taken out of the table of choices
+pub hold_list : (round : ℕ) (student : List ℕ) (old new : Database) → Removes (table_at Choice) (list_columns round student) old new → AppliesOne (TakeList round student) old new
+unfolding AppliesOne Removes
+hold_list round student old new removes inert rows t =
+    let kept : IsRoll Choice = in_rolls (key.Choice round student 0) in
+    let done = removes (t.places Choice) (columns_of Choice t.list) (inert Choice kept (t.places Choice) (t.rolls Choice kept).listed) (t.rolls Choice kept) in
+    let list : List Row = dropped_by (is_in_list round student) t.list in (
+      held_by old new rows t Choice kept done.1 list (without (list_columns round student) (columns_of Choice t.list)) _ (rows_taken (is_in_list round student) t.list rows t.at) done.0 (list_without round student t.list) (λ table other. list_beside table round student t.list other),
+      spared old new rows t Choice kept done.1,
+      tt,
+    )

@@ -1,0 +1,8 @@
+-- For proofs alone. When the tables of a database hold the rows of an office.
+use Rattle.sqlite.specs.Effect.{Database}
+use Rattle.rolls.specs.State.{empty}
+use Rattle.store.specs.Tables.{StandsFor, AreRuled}
+
+-- a database comes to stand for the empty office, in tables with the CHECK rules that are made here
+unfoldable pub Empties : Database → Database → Type 0
+Empties old new = StandsFor new empty × AreRuled new.schema

@@ -1,0 +1,181 @@
+-- CREATE TABLE under any schema.
+use Rattle.std.proofs.Common.{◌≡◌, inl, inr, ℕ, ◌+◌, List, [], length, map, ◌≢◌, slice_get, slice_range, arith, ◌||◌, Option, Some, None, is_some, Ok, Err, Bool, true, false, refl, sym, ap, subst, ◌∙◌, if◌then◌else◌}
+use Rattle.std.proofs.lemmas.Bool.{cases_Bool}
+use Rattle.sqlite.specs.Schema.{Schema}
+use Rattle.sqlite.specs.Compile.{table_defined_by, compiled, first, timed, returning, command, small, creates, is_reserved, is_attached, with_command}
+use Rattle.sqlite.specs.Calls.{IsWrite}
+use Rattle.sqlite.specs.Command.{Command}
+use Rattle.sqlite.specs.Command.TheVariants.{CreateTable, Nothing}
+use Rattle.sqlite.specs.Listing.{listing_schema, if_select}
+use Rattle.sqlite_resolve.specs.declared.error.CompileError.TheVariants.{NoSuchTable, Misuse, Exists, Unsupported}
+use Rattle.sqlite_resolve.specs.Lowering.{Checked, and_then}
+use Rattle.sqlite_syntax.specs.declared.statement.Parsed.{Parsed}
+use Rattle.std.specs.Option.{option_or}
+use Rattle.sqlite_schema.specs.Names.{same_name, table_named, view_named, index_named}
+use Rattle.sqlite.specs.State.{State, Executes, text_of}
+use Rattle.sqlite.specs.Table.{Table}
+use Rattle.sqlite.specs.Term.{Term}
+use Rattle.std.proofs.lemmas.List.Sorted.{IsPermutation-refl}
+use Rattle.std.specs.List.Sorted.{IsPermutation}
+use Rattle.tables.specs.Table.{cells}
+use Rattle.tables.specs.Keyed.{IsKeyed}
+use Rattle.sqlite.specs.Tree.{Trees}
+use Rattle.sqlite.specs.Change.{created, next_tree, is_used}
+use Rattle.sqlite.specs.Effect.{Database}
+use Rattle.sqlite.specs.Rows.{Outcome}
+use Rattle.sqlite.specs.Does.{Tally, lacks_sequence, MakesSequence, sequence_text}
+use Rattle.sqlite_catalog.specs.Calls.{CreatesTable}
+use Rattle.sqlite_catalog.proofs.StepLemmas.{table_below}
+use Rattle.sqlite_rules.specs.Lists.{Has}
+use Rattle.sqlite_rules.proofs.ListLemmas.{has_got, all_has}
+use Rattle.sqlite_resolve.specs.declared.compiled.Compiled.{Compiled}
+use Rattle.tables.specs.Table.{Place, Lists}
+use Rattle.tables.specs.Writes.{Makes}
+use Rattle.tables.proofs.Places.{placed}
+use Rattle.tables.proofs.MoreTables.{still_found, new_found, got_front, got_next}
+use Rattle.tables.proofs.InsertKeyed.{went, same_value}
+use Rattle.tables.proofs.Understood.{planned_of, Means, IsWriteText, runs_by}
+
+fresh : (a b c : Bool) (is_new : Bool) → ◌≡◌ {A = Checked Bool} (if a then Err Misuse else (if b then Err Exists else (if c then (if false then Ok false else Err Exists) else Ok true))) (Ok is_new) → is_new ≡ true
+fresh true b c is_new h = absurd (cc)
+fresh false true c is_new h = absurd (cc)
+fresh false false true is_new h = absurd (cc)
+fresh false false false is_new h = cc
+
+only_new : (name : List ℕ) (same other : Option ℕ) (is_new : Bool) → creates false name same other ≡ Ok is_new → is_new ≡ true
+unfolding creates
+only_new name same other = fresh (is_reserved name) (is_some other) (is_some same)
+
+makes : (a : Bool) (c : Checked Bool) (t : Checked Command) (k : Command) → ((is_new : Bool) → c ≡ Ok is_new → is_new ≡ true)
+    → ◌≡◌ {A = Checked Command} (if a then Err Unsupported else and_then c (λ is_new. if is_new then t else Ok Nothing)) (Ok k) → t ≡ Ok k
+makes true c t k only h = absurd (cc)
+makes false (Err e) t k only h = absurd (cc)
+makes false (Ok true) t k only h = h
+makes false (Ok false) t k only h = absurd (let e = only false refl in cc)
+
+has_listed : (schema : Schema) (t : Table) → Lists schema t → Has schema.tables t
+has_listed schema t listed = has_got schema.tables listed.at t listed.there
+
+-- what another CREATE TABLE leaves of the tables that are there
+kept_by : (schema : Schema) (sql : List ℕ) (old : Trees) (after : Schema) (new : Trees) → CreatesTable schema sql old after new → (t : Table) → Lists schema t
+    → Lists after t × (new t.tree ≡ old t.tree)
+kept_by schema sql old after new made t listed = (
+  record {
+    at = listed.at;
+    named = subst (λ (s : Schema). table_named s t.name ≡ Some listed.at) (sym made.is) (still_found _ 0 schema.tables _ listed.at listed.named);
+    there = subst (λ (s : Schema). slice_get s.tables listed.at ≡ Some t) (sym made.is) (got_front schema.tables _ listed.at t listed.there);
+  },
+  all_has _ schema.tables t made.others (has_listed schema t listed),
+)
+
+or_false : (a b : Bool) → (a || b) ≡ false → a ≡ false
+or_false true b h = absurd (cc)
+or_false false b h = refl
+
+-- a text that makes a table with these CHECK rules, under any schema
+pub record IsCreate (sql : List ℕ) (t0 : Table) (checks : List Term) : Type 0 where
+  pub p : Parsed
+  pub parsed : first sql ≡ Ok p
+  pub unlisted : if_select (compiled listing_schema sql) ≡ Err NoSuchTable
+  pub untimed : (schema : Schema) → timed schema p.formats p.statement ≡ []
+  pub shows : (schema : Schema) → returning schema (small p.names + small []) p.statement ≡ Ok None
+  pub commands : (schema : Schema) (k : Command) → command schema p.formats (small p.names + small []) p.statement ≡ Ok k → k ≡ CreateTable
+  pub whole : slice_range sql p.start p.end ≡ sql
+  pub defined : table_defined_by sql ≡ Ok (placed t0 (record { tree = 0; checks = checks }))
+  pub named : same_name t0.name t0.name ≡ true
+
+-- what is left of a CREATE whose name is free
+pub made_command : (schema : Schema) (name : List ℕ) (k : Command) → ◌≡◌ {A = Checked Command} (if is_attached schema name then Err Unsupported else and_then (creates false name (option_or (table_named schema name) (view_named schema name)) (index_named schema name)) (λ is_new. if is_new then Ok CreateTable else Ok Nothing)) (Ok k) → k ≡ CreateTable
+made_command schema name k h =
+    let same = option_or (table_named schema name) (view_named schema name) in
+    let other = index_named schema name in
+    let t = makes (is_attached schema name) (creates false name same other) (Ok CreateTable) k (only_new name same other) h in
+    cc
+
+module _ (sql : List ℕ) (t0 : Table) (checks : List Term) (it : IsCreate sql t0 checks) where
+  abbrev first_made : Table
+  first_made = placed t0 (record { tree = 0; checks = checks })
+
+  abbrev here : Schema → Place
+  here schema = record { tree = next_tree schema; checks = checks }
+
+  create_means : (schema : Schema) → Means schema sql CreateTable sql
+  create_means schema c h =
+      let p = planned_of schema sql it.p c it.unlisted it.parsed h in
+      let q = rw (it.untimed schema) at p in
+      let k : q.1 ≡ CreateTable = it.commands schema q.1 q.3 in
+      let none : q.0 ≡ None = let e : Ok q.0 ≡ Ok None = sym q.2 ∙ it.shows schema in cc in
+      let is : c ≡ with_command it.p ([], (CreateTable, None)) = q.4 ∙ (λ i. with_command it.p ([], (k i, none i))) in
+      (ap (λ (it : Compiled). it.command) is, ap (λ (it : Compiled). it.returning) is, ap (λ (it : Compiled). it.formats) is, ap (text_of sql) is ∙ it.whole)
+
+  -- the text is that of a write
+  pub create_writes : IsWriteText sql
+  create_writes schema c h = subst IsWrite (sym (create_means schema c h).0) tt
+
+  -- the same, of the schema and the trees alone
+  record IsMade (old new : Database) : Type 0 where
+    place : Place
+    ruled : place.checks ≡ checks
+    listed : Lists new.schema (placed t0 place)
+    empty : new.trees place.tree ≡ []
+    others : (t : Table) → Lists old.schema t → Lists new.schema t × (new.trees t.tree ≡ old.trees t.tree) × (t.tree ≢ place.tree)
+
+  made_first : (db mid : Database) → CreatesTable db.schema sql db.trees mid.schema mid.trees → IsMade db mid
+  made_first db mid made =
+      let same : made.table ≡ first_made = let both : Ok made.table ≡ Ok (first_made) = sym made.defined ∙ it.defined in cc in
+      let tree = next_tree db.schema in
+      let is : mid.schema ≡ created db.schema (first_made) = made.is ∙ ap (created db.schema) same in
+      let free : is_some (table_named db.schema t0.name) ≡ false =
+      or_false _ _ (or_false _ _ (subst (λ (t : Table). is_used db.schema t.name ≡ false) same made.free)) in
+      record {
+        place = here db.schema;
+        ruled = refl;
+        listed = record {
+          at = length db.schema.tables;
+          named = subst (λ (s : Schema). table_named s t0.name ≡ Some (length db.schema.tables)) (sym is)
+              (new_found (λ (t : Table). same_name t.name t0.name) 0 db.schema.tables (placed t0 (here db.schema)) [] it.named free ∙ ap Some (omega arith));
+          there = subst (λ (s : Schema). slice_get s.tables (length db.schema.tables) ≡ Some (placed t0 (here db.schema))) (sym is) (got_next db.schema.tables [] (placed t0 (here db.schema)));
+        };
+        empty = made.empty;
+        others = λ t listed.
+            let kept = kept_by db.schema sql db.trees mid.schema mid.trees made t listed in
+            (kept.0, kept.1, λ e. let low = table_below db.schema t (has_listed db.schema t listed) in omega (arith, e));
+      }
+
+  went_on : (db mid after : Database) → IsMade db mid → MakesSequence mid (Ok after) → IsMade db after
+  went_on db mid after made next = elim (cases_Bool (lacks_sequence mid.schema)) [
+    | inl lacks ↦
+        let more : CreatesTable mid.schema sequence_text mid.trees after.schema after.trees = rw lacks at next in
+        record {
+          place = made.place;
+          ruled = made.ruled;
+          listed = (kept_by mid.schema sequence_text mid.trees after.schema after.trees more _ made.listed).0;
+          empty = (kept_by mid.schema sequence_text mid.trees after.schema after.trees more _ made.listed).1 ∙ made.empty;
+          others = λ t listed.
+              let was = made.others t listed in
+              let kept = kept_by mid.schema sequence_text mid.trees after.schema after.trees more t was.0 in
+              (kept.0, kept.1 ∙ was.1, was.2);
+        }
+    | inr none ↦
+        let same : after ≡ mid = let e : ◌≡◌ {A = Outcome Database} (Ok after) (Ok mid) = rw none at next in cc in
+        subst (IsMade db) (sym same) made
+  ]
+
+  -- a CREATE that went through made the table, which is empty
+  pub create_makes : (old new : State) (count : ℕ) → Executes sql [] old new (Ok count) → Makes (placed t0) checks [] old.now new.now
+  create_makes old new count ran =
+      let w = runs_by sql [] old new count CreateTable sql (create_means old.now.schema) ran in
+      let all = went w.changed in
+      let first = went all.1 in
+      let now : new.now ≡ all.0 = ap (λ (p : Tally × Database). p.1) (same_value all.2) in
+      let made : IsMade old.now new.now = subst (IsMade old.now) (sym now) (went_on old.now first.0 all.0 (made_first old.now first.0 first.1) first.2) in
+      record {
+        place = made.place;
+        ruled = made.ruled;
+        stands = record {
+          listed = made.listed;
+          keyed = subst IsKeyed (sym made.empty) (record { ids = tt; apart = tt });
+          holds = subst (λ all. IsPermutation [] (map (cells (placed t0 made.place)) all)) (sym made.empty) (IsPermutation-refl _);
+        };
+        others = made.others;
+      }

@@ -1,0 +1,129 @@
+-- DELETE of the rows that begin with the given values.
+use Rattle.std.proofs.Common.{◌≡◌, ℕ, ◌+◌, List, [], ◌∷◌, slice_get, slice_range, Option, Some, None, Ok, Err, sym, ap, subst, ◌∙◌, true, not, map, filter}
+use Rattle.std.specs.List.Sorted.{IsPermutation}
+use Rattle.std.proofs.lemmas.List.Sorted.{IsPermutation-map}
+use Rattle.sqlite_keyed.proofs.ListLemmas.{IsPermutation-filter, map-map}
+use Rattle.sqlite.specs.Schema.{Schema}
+use Rattle.sqlite.specs.Table.{Table}
+use Rattle.sqlite.specs.Kind.{Kind}
+use Rattle.sqlite.specs.Order.{Row}
+use Rattle.sqlite.specs.Compile.{compiled, first, timed, returning, command, delete, shows, small}
+use Rattle.sqlite_syntax.specs.declared.statement.Parsed.{Parsed}
+use Rattle.sqlite_ast.specs.declared.Statement.TheVariants as written
+use Rattle.sqlite_ast.specs.declared.Expr.{Expr}
+use Rattle.sqlite_resolve.specs.Write.{deleted}
+use Rattle.sqlite_resolve.specs.Program.{program}
+use Rattle.sqlite_resolve.specs.declared.error.CompileError.TheVariants.{NoSuchTable}
+use Rattle.sqlite_resolve.specs.declared.compiled.Compiled.{Compiled}
+use Rattle.sqlite_sql.specs.Term.{Term, col}
+use Rattle.sqlite_schema.specs.declared.program.Program.{Program}
+use Rattle.sqlite.specs.Listing.{listing_schema, if_select}
+use Rattle.sqlite.specs.Calls.{IsWrite}
+use Rattle.sqlite.specs.Command.{Command}
+use Rattle.sqlite.specs.Command.TheVariants.{Delete}
+use Rattle.sqlite.specs.State.{State, Executes, mode_of, text_of}
+use Rattle.sqlite.specs.Tree.{rowid}
+use Rattle.sqlite.specs.Effect.{Database, Answers}
+use Rattle.sqlite.specs.Rows.{Written}
+use Rattle.sqlite.specs.Does.{Tally, Does}
+use Rattle.sqlite.specs.declared.run.Mode.{Mode}
+use Rattle.sqlite.specs.Edit.{edit_of, Applies, id_in}
+use Rattle.sqlite.specs.Rowids.TheVariants.{Given}
+use Rattle.sqlite_rules.specs.Calls.{ids_of}
+use Rattle.sqlite_rules.specs.Action.{works}
+use Rattle.sqlite.proofs.Callers.{one_step}
+use Rattle.tables.specs.Table.{Place, Lists, cells, are_of}
+use Rattle.tables.specs.Inside.Keyed.{id_of}
+use Rattle.tables.specs.Keyed.{IsKeyed}
+use Rattle.tables.specs.Writes.{Removes, begins_with}
+use Rattle.tables.proofs.Places.{placed, listed_along}
+use Rattle.tables.proofs.InsertKeyed.{went, same_value}
+use Rattle.tables.proofs.Understood.{planned_of, Means, IsWriteText, runs_by, and_then_ok, ends_in_write, on_table_writes, compiles_to_write}
+use Rattle.tables.proofs.RowidsOut.{taken_out, still_keyed, map_filter}
+use Rattle.tables.proofs.InsertRow.{Has, has_listed, on_table_is}
+use Rattle.tables.proofs.QueryRows.{found_program, accepted, hit, found}
+use Rattle.tables.proofs.SelectAll.{finding}
+
+-- A text that deletes, read under any schema that lists the table, and what its test finds: the rows that begin with
+-- its parameters, where those are of these kinds.
+pub record IsDelete (sql : List ℕ) (t0 : Table) (kinds : List Kind) : Type 0 where
+  pub p : Parsed
+  pub test : Expr
+  pub tests : List Term
+  pub parsed : first sql ≡ Ok p
+  pub statement : p.statement ≡ written.Delete t0.name (Some test) []
+  pub plain : p.formats ≡ []
+  pub whole : slice_range sql p.start p.end ≡ sql
+  pub unlisted : if_select (compiled listing_schema sql) ≡ Err NoSuchTable
+  pub draft : (schema : Schema) (at : ℕ) (place : Place) → Has schema t0.name at (placed t0 place) → deleted schema at (placed t0 place) (Some test) ≡ Ok (finding place.tree tests (col 1 0 ∷ []))
+  pub hits : (key : Row) → are_of kinds key ≡ true → (r : Row) → hit tests (col 1 0 ∷ []) key r ≡ begins_with key (cells t0 r)
+
+module _ (sql : List ℕ) (t0 : Table) (kinds : List Kind) (it : IsDelete sql t0 kinds) (schema : Schema) (place : Place) (listed : Lists schema (placed t0 place)) where
+  abbrev found_by : Program
+  found_by = found_program place.tree it.tests (col 1 0 ∷ [])
+
+  delete_command : (k : Command) → command schema [] (small it.p.names + small []) (written.Delete t0.name (Some it.test) []) ≡ Ok k → k ≡ Delete listed.at found_by
+  unfolding command delete program
+  delete_command k h =
+      let has = has_listed schema (placed t0 place) listed in
+      accepted _ found_by (λ p. Delete listed.at p) k (rw (it.draft schema listed.at place has) at (sym (on_table_is schema t0.name listed.at (placed t0 place) _ has) ∙ h))
+
+  delete_means : Means schema sql (Delete listed.at found_by) sql
+  unfolding returning shows timed
+  delete_means c h =
+      let p = planned_of schema sql it.p c it.unlisted it.parsed h in
+      let q = rw (it.plain, it.statement) at p in
+      let k = delete_command q.1 q.3 in
+      let none : q.0 ≡ None = let e = q.2 in cc in
+      (ap (λ (it : Compiled). it.command) q.4 ∙ k, ap (λ (it : Compiled). it.returning) q.4 ∙ none, ap (λ (it : Compiled). it.formats) q.4, ap (text_of sql) q.4 ∙ it.whole)
+
+-- what a DELETE does where no foreign key acts
+pub delete_does : (limit : Option ℕ) (mode : Mode) (params : Row) (db after : Database) (text : List ℕ) (at : ℕ) (table : Table) (q : Program) (tally : Tally)
+    → slice_get db.schema.tables at ≡ Some table → ((olds : List Row) → works db.schema mode.keys 0 table.tree olds [] ≡ [])
+    → Does limit mode params db text None (Delete at q) (Ok (tally, after))
+    → (after.schema ≡ db.schema) × (rows : List Row) × Answers db q params rows × Applies db.schema mode.keys db.trees (edit_of db.trees table (ids_of rows) Given 0 []) after.trees
+delete_does limit mode params db after text at table q tally there inert h =
+    let done = went (rw there at h) in
+    let now = ap (λ (p : Tally × Database). p.1) (same_value (went (went done.2).2).2) in
+    let given = went done.1 in
+    let edited = went given.2 in
+    let edit = edit_of db.trees table (ids_of given.0) Given 0 [] in
+    let trees : done.0.trees ≡ edited.0 = ap (λ (it : Written). it.trees) (same_value edited.2) in
+    let made : Applies db.schema mode.keys db.trees edit edited.0 = one_step db.schema mode.keys db.trees edited.0 edit (inert _) edited.1 in
+    (ap (λ (d : Database). d.schema) now, given.0, given.1, subst (Applies db.schema mode.keys db.trees edit) (sym (ap (λ (d : Database). d.trees) now ∙ trees)) made)
+
+module _ (sql : List ℕ) (t0 : Table) (kinds : List Kind) (it : IsDelete sql t0 kinds) where
+  some_delete : (schema : Schema) (base : ℕ) (k : Command) → command schema [] base (written.Delete t0.name (Some it.test) []) ≡ Ok k → IsWrite k
+  unfolding command delete
+  some_delete schema base k = on_table_writes schema t0.name _ k (λ at table h.
+      let planned = and_then_ok (deleted schema at table (Some it.test)) _ k h in
+      ends_in_write (program schema [] planned.0) (λ p. Delete at p) k (λ p. tt) planned.2)
+
+  -- the text is that of a write
+  pub delete_writes : IsWriteText sql
+  delete_writes = compiles_to_write sql it.p it.parsed (λ schema base k h. some_delete schema base k (rw (it.plain, it.statement) at h))
+
+  -- a DELETE that went through took out the rows that begin with its parameters, and nothing else
+  pub delete_removes : (old new : State) (key : Row) (count : ℕ) → are_of kinds key ≡ true → Executes sql key old new (Ok count) → Removes (placed t0) key old.now new.now
+  unfolding Removes
+  delete_removes old new key count is ran place rows inert stands =
+      let t = placed t0 place in
+      let listed = stands.listed in
+      let here = old.now.trees place.tree in
+      let finds = hit it.tests (col 1 0 ∷ []) key in
+      let q = found_program place.tree it.tests (col 1 0 ∷ []) in
+      let w = runs_by sql key old new count (Delete listed.at q) sql (delete_means sql t0 kinds it old.now.schema place listed) ran in
+      let done = delete_does old.step_limit (mode_of old) key old.now new.now sql listed.at t q w.tally listed.there (λ olds. inert olds []) w.changed in
+      let got = found it.tests (col 1 0 ∷ []) key old.now place.tree done.1 done.2 in
+      let ids : IsPermutation (map id_of (filter finds here)) (ids_of done.1) =
+      subst (λ all. IsPermutation all (ids_of done.1)) (map-map (λ (r : Row). id_in (rowid r)) (λ (r : Row). rowid r ∷ []) (filter finds here)) (IsPermutation-map (λ (r : Row). id_in (rowid r)) _ _ got) in
+      let left : new.now.trees place.tree ≡ filter (λ r. not (finds r)) here = done.3.rows ∙ taken_out finds here (ids_of done.1) stands.keyed ids in
+      let shown : map (cells t) (filter (λ r. not (finds r)) here) ≡ filter (λ v. not (begins_with key v)) (map (cells t) here) =
+      map_filter (cells t) (λ r. not (finds r)) (λ v. not (begins_with key v)) (λ r. ap not (it.hits key is r)) here in (
+        record {
+          listed = listed_along old.now.schema new.now.schema t done.0 listed;
+          keyed = subst IsKeyed (sym left) (still_keyed (λ r. not (finds r)) here stands.keyed);
+          holds = subst (λ all. IsPermutation (filter (λ v. not (begins_with key v)) rows) all) (sym (ap (map (cells t)) left ∙ shown)) (IsPermutation-filter (λ v. not (begins_with key v)) _ _ stands.holds);
+        },
+        record { schema = done.0; others = done.3.tables },
+      )

@@ -1,0 +1,173 @@
+-- What an INSERT of one row does to the rows of a table, and what its text means under any schema.
+use Rattle.std.proofs.Common.{◌≡◌, ℕ, ℤ, ◌+◌, ◌/◌, length, List, [], ◌∷◌, map, take, slice_get, slice_range, Option, Some, None, Ok, refl, sym, ap, subst, ◌∙◌, false, true, Bool, cond, not, ◌&&◌}
+use Rattle.std.specs.List.Sorted.{IsPermutation}
+use Rattle.std.proofs.lemmas.Bool.{and_parts}
+use Rattle.std.proofs.lemmas.List.Sorted.{IsPermutation-trans, IsPermutation-cons, IsPermutation-map}
+use Rattle.sqlite.specs.declared.types.Value.{Value}
+use Rattle.sqlite.specs.declared.types.Value.TheVariants.{Null, Int}
+use Rattle.sqlite.specs.Order.{Row}
+use Rattle.sqlite.specs.Schema.{Schema}
+use Rattle.sqlite.specs.Table.{Table}
+use Rattle.sqlite.specs.Term.{Term}
+use Rattle.sqlite.specs.Kind.{Kind}
+use Rattle.sqlite.specs.Kind.TheVariants.{Integer}
+use Rattle.sqlite.specs.Cast.{cast, cast_row}
+use Rattle.sqlite.specs.Ops.{unary}
+use Rattle.sqlite.specs.Tree.{put_row}
+use Rattle.sqlite.specs.Edit.{is_taken, Applies, with_rowid}
+use Rattle.sqlite.specs.Effect.{value_rows}
+use Rattle.sqlite.specs.Command.TheVariants.{Insert}
+use Rattle.sqlite.specs.Source.TheVariants.{Values}
+use Rattle.sqlite.specs.State.{State, mode_of, Executes, text_of}
+use Rattle.sqlite.specs.Rowids.TheVariants.{Chosen}
+use Rattle.sqlite_value.specs.Keys.{plain}
+use Rattle.sqlite_schema.specs.Rules.{agree}
+use Rattle.sqlite_rules.proofs.ListLemmas.{has_got}
+use Rattle.sqlite.specs.Compile.{compiled, first, timed, returning, command, small, with_command, on_table, planned, meaning, insert, insert_or_abort, new_rows, shows}
+use Rattle.sqlite.specs.Listing.{understood}
+use Rattle.sqlite_schema.specs.Names.{table_named}
+use Rattle.sqlite_schema.specs.declared.command.Returning.{Returning}
+use Rattle.sqlite_schema.specs.declared.schema.Keys.TheVariants.{Enforced}
+use Rattle.sqlite_syntax.specs.declared.statement.Parsed.{Parsed}
+use Rattle.sqlite_ast.specs.declared.Statement.{Statement}
+use Rattle.sqlite_ast.specs.declared.Statement.TheVariants as written
+use Rattle.sqlite_ast.specs.declared.Conflict.TheVariants as conflict
+use Rattle.sqlite_ast.specs.declared.Rows.{Rows}
+use Rattle.sqlite_resolve.specs.Lowering.{Checked}
+use Rattle.sqlite_resolve.specs.declared.compiled.Compiled.{Compiled}
+use Rattle.sqlite.specs.Calls.{IsWrite}
+use Rattle.sqlite.specs.Command.{Command}
+use Rattle.tables.specs.Table.{Place, Lists, cells, are_of}
+use Rattle.tables.specs.Keyed.{IsKeyed}
+use Rattle.tables.specs.Writes.{Adds, begins_with}
+use Rattle.tables.proofs.Places.{placed, listed_along}
+use Rattle.tables.proofs.Understood.{Means, IsWriteText, runs_by, ends_in_write, on_table_writes, compiles_to_write, written_sound}
+use Rattle.tables.proofs.Apart.{HasKey, has_own_key, none_shown}
+use Rattle.tables.proofs.InsertKeyed.{insert_does, insert_edit}
+use Rattle.tables.proofs.Puts.{put_row_permutes}
+use Rattle.tables.proofs.Rowids.{keyed_put}
+
+not_true : (b : Bool) → (not b && true) ≡ true → b ≡ false
+not_true true e = absurd (cc)
+not_true false e = refl
+
+either : (b : Bool) (x : Value) → cond b x x ≡ x
+either true x = refl
+either false x = refl
+
+-- NULL stays what it is under the affinity of an integer column
+pub cast_null : cast Integer Null ≡ Null
+unfolding unary
+cast_null = either _ Null
+
+-- so does an integer
+pub cast_int : (n : ℤ) → cast Integer (Int n) ≡ Int n
+unfolding unary
+cast_int n = either _ (Int n)
+
+-- a name that finds a table at a position of the schema
+pub record Has (schema : Schema) (name : List ℕ) (at : ℕ) (table : Table) : Type 0 where
+  pub named : table_named schema name ≡ Some at
+  pub there : slice_get schema.tables at ≡ Some table
+
+-- a table that is listed is found by its name
+pub has_listed : (schema : Schema) (table : Table) (listed : Lists schema table) → Has schema table.name listed.at table
+has_listed schema table listed = record { named = listed.named; there = listed.there }
+
+-- what is compiled over a table that is found is compiled over it
+pub on_table_is : (schema : Schema) (name : List ℕ) (at : ℕ) (table : Table) (f : ℕ → Table → Checked Command) → Has schema name at table → on_table schema name f ≡ f at table
+on_table_is schema name at table f has = rw (has.named, has.there) refl
+
+understood_is : (schema : Schema) (sql : List ℕ) (c : Compiled) → compiled schema sql ≡ Ok c → understood schema sql ≡ Ok c
+unfolding understood
+understood_is schema sql c h = rw h refl
+
+compiled_is : (schema : Schema) (sql : List ℕ) (p : Parsed) (formats : List (List ℕ)) (shown : Option Returning) (c : Command) → first sql ≡ Ok p → timed schema p.formats p.statement ≡ formats
+    → returning schema (small p.names + small formats) p.statement ≡ Ok shown → command schema p.formats (small p.names + small formats) p.statement ≡ Ok c → compiled schema sql ≡ Ok (with_command p (formats, (c, shown)))
+unfolding compiled planned meaning
+compiled_is schema sql p formats shown c parsed is_timed shows commands = rw (parsed, is_timed, shows, commands) refl
+
+-- with these parameters the terms are one row, whose columns are given, and so is its key
+pub record IsGiven (made : Table) (params : Row) (terms : List Term) (width : ℕ) (given : Row) : Type 0 where
+  pub source : Row
+  pub one : value_rows params width (length terms / width) terms ≡ source ∷ []
+  pub shown : (here : List Row) → cells made (with_rowid Chosen here (cast_row made source)) ≡ given
+  pub shares : (here : List Row) (r : Row) → agree plain made.primary r made.primary (with_rowid Chosen here (cast_row made source)) ≡ begins_with (take (length made.primary) given) (cells made r)
+
+-- The text of an INSERT of one row of terms, read under the table alone, and the row that it adds: that of its
+-- parameters, where those are of these kinds.
+pub record IsInsert (sql : List ℕ) (made : Table) (kinds : List Kind) : Type 0 where
+  pub p : Parsed
+  pub columns : List (List ℕ)
+  pub values : Rows
+  pub terms : List Term
+  pub width : ℕ
+  pub parsed : first sql ≡ Ok p
+  pub statement : p.statement ≡ written.Insert conflict.Abort made.name columns values [] []
+  pub plain : p.formats ≡ []
+  pub laid : (schema : Schema) (place : Place) → new_rows schema (placed made place) (small p.names + small []) columns values ≡ Ok (Values terms width)
+  pub whole : slice_range sql p.start p.end ≡ sql
+  pub given : (row : Row) → are_of kinds row ≡ true → IsGiven made row terms width row
+  pub keyed : HasKey made
+
+module _ (sql : List ℕ) (t0 : Table) (kinds : List Kind) (it : IsInsert sql t0 kinds) (schema : Schema) (at : ℕ) (place : Place)
+    (has : Has schema t0.name at (placed t0 place)) where
+  abbrev statement : Statement
+  statement = written.Insert conflict.Abort t0.name it.columns it.values [] []
+
+  commands : command schema [] (small it.p.names + small []) statement ≡ Ok (Insert at (Values it.terms it.width))
+  unfolding command insert insert_or_abort
+  commands = on_table_is schema t0.name at (placed t0 place) _ has ∙ rw (it.laid schema place) refl
+
+  no_time : timed schema [] statement ≡ []
+  unfolding timed
+  no_time = rw (has.named, has.there) refl
+
+  shows_none : (base : ℕ) → returning schema base statement ≡ Ok None
+  unfolding returning shows
+  shows_none base = refl
+
+  compiles : understood schema sql ≡ Ok (with_command it.p ([], (Insert at (Values it.terms it.width), None)))
+  compiles = understood_is schema sql _ (compiled_is schema sql it.p [] None _ it.parsed (rw (it.plain, it.statement) no_time) (rw it.statement (shows_none _)) (rw (it.plain, it.statement) commands))
+
+  -- the text means the INSERT at the table's position
+  pub insert_means : Means schema sql (Insert at (Values it.terms it.width)) sql
+  insert_means c h =
+      let is : Ok (with_command it.p ([], (Insert at (Values it.terms it.width), None))) ≡ Ok c = sym compiles ∙ h in
+      let same : with_command it.p ([], (Insert at (Values it.terms it.width), None)) ≡ c = cc in
+      (sym (ap (λ (it : Compiled). it.command) same), sym (ap (λ (it : Compiled). it.returning) same), sym (ap (λ (it : Compiled). it.formats) same), sym (ap (text_of sql) same) ∙ it.whole)
+
+module _ (sql : List ℕ) (t0 : Table) (kinds : List Kind) (it : IsInsert sql t0 kinds) where
+  insert_command : (schema : Schema) (base : ℕ) (k : Command) → command schema [] base (written.Insert conflict.Abort t0.name it.columns it.values [] []) ≡ Ok k → IsWrite k
+  unfolding command insert insert_or_abort
+  insert_command schema base k = on_table_writes schema t0.name _ k (λ at table. ends_in_write (new_rows schema table base it.columns it.values) (λ s. Insert at s) k (λ s. tt))
+
+  -- the text is that of a write
+  pub insert_writes : IsWriteText sql
+  insert_writes = compiles_to_write sql it.p it.parsed (λ schema base k h. insert_command schema base k (rw (it.plain, it.statement) at h))
+
+  -- an INSERT that went through added the row of its parameters, where none had its key, and nothing else
+  pub inserts : (old new : State) (given : Row) (count : ℕ) → are_of kinds given ≡ true → Executes sql given old new (Ok count) → Adds (placed t0) (take (length t0.primary) given) given old.now new.now
+  inserts old new given count fits ran place rows stands =
+      let is = it.given given fits in
+      let t : Table = placed t0 place in
+      let w = runs_by sql given old new count (Insert stands.listed.at (Values it.terms it.width)) sql
+      (insert_means sql t0 kinds it old.now.schema stands.listed.at place (has_listed old.now.schema t stands.listed)) ran in
+      let done = insert_does old.step_limit (mode_of old) given old.now new.now sql stands.listed.at t it.terms it.width w.tally stands.listed.there w.changed in
+      let applies : Applies old.now.schema Enforced old.now.trees (insert_edit old.now t (is.source ∷ [])) new.now.trees =
+      subst (λ all. Applies old.now.schema Enforced old.now.trees (insert_edit old.now t all) new.now.trees) is.one done.1 in
+      let here = old.now.trees place.tree in
+      let row = with_rowid Chosen here (cast_row t is.source) in
+      let free : is_taken here row ≡ false = not_true _ applies.fresh in
+      let grown = IsPermutation-trans _ _ _ (IsPermutation-cons given rows _ stands.holds)
+      (subst (λ first. IsPermutation (first ∷ map (cells t) here) (map (cells t) (put_row row here))) (is.shown here) (IsPermutation-map (cells t) _ _ (put_row_permutes row here free))) in (
+        record {
+          listed = listed_along old.now.schema new.now.schema t done.0 stands.listed;
+          keyed = subst IsKeyed (sym applies.rows) (keyed_put row here (and_parts _ _ applies.keyed).0 free stands.keyed);
+          holds = subst (λ all. IsPermutation (given ∷ rows) (map (cells t) all)) (sym applies.rows) grown;
+        },
+        record { schema = done.0; others = applies.tables },
+        none_shown (cells t) (begins_with (take (length t0.primary) given)) here rows stands.holds (λ r h. sym (is.shares here r)
+            ∙ has_own_key new.now.schema new.now.trees t (written_sound sql given old new count insert_writes ran) (has_got new.now.schema.tables stands.listed.at t (subst (λ (s : Schema). slice_get s.tables stands.listed.at ≡ Some t) (sym done.0) stands.listed.there))
+            here row applies.rows free stands.keyed.ids (and_parts _ _ applies.keyed).0 it.keyed r h),
+      )

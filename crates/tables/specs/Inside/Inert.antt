@@ -1,0 +1,28 @@
+-- For proofs alone. Which foreign keys act where rows of a table are taken out or replaced.
+use Rattle.std.specs.Prelude.{ℕ, Bool, true, false, not, ◌&&◌, ◌||◌, ◌==◌, List}
+use Rattle.std.specs.List.{list_all, list_any}
+use Rattle.sqlite.specs.Table.{Table}
+use Rattle.sqlite_schema.specs.declared.schema.Action.{Action}
+use Rattle.sqlite_schema.specs.declared.schema.Action.TheVariants.{NoAction, Restrict, Cascade, SetNull, SetDefault}
+use Rattle.sqlite_schema.specs.declared.schema.Reference.{Reference}
+use Rattle.sqlite_schema.specs.Names.{same_name}
+
+-- a foreign key with NO ACTION, which is tested and writes nothing
+abbrev pub is_passive : Action → Bool
+is_passive NoAction = true
+is_passive Restrict = false
+is_passive Cascade = false
+is_passive SetNull = false
+is_passive SetDefault = false
+
+-- the reference is to a table of this name, and this tree is one such
+abbrev pub refers_to : List Table → ℕ → Reference → Bool
+refers_to tables tree ref = list_any (λ t. same_name t.name ref.parent && (t.tree == tree)) tables
+
+-- the reference does not act on the table of this tree
+abbrev pub is_quiet : List Table → ℕ → Reference → Bool
+is_quiet tables tree ref = (is_passive ref.on_delete && is_passive ref.on_update) || not (refers_to tables tree ref)
+
+-- no reference of any table acts on the table of this tree
+abbrev pub is_inert : List Table → ℕ → Bool
+is_inert tables tree = list_all (λ t. list_all (is_quiet tables tree) t.references) tables

@@ -1,0 +1,83 @@
+-- For proofs alone. Whether a table has the columns and the rules of one that is made here, but for its tree and its CHECK rules.
+use Rattle.std.specs.Prelude.{◌≡◌, ℕ, Bool, true, false, not, ◌&&◌, ◌==◌, List, [], ◌∷◌, length, slice_get, Option, None, Some}
+use Rattle.std.specs.List.{list_all}
+use Rattle.std.specs.Option.{option_map_or}
+use Rattle.std.specs.Str.{bytes_eq}
+use Rattle.sqlite.specs.Kind.{Kind}
+use Rattle.sqlite.specs.Table.{Table as AnyTable}
+use Rattle.sqlite.specs.Schema.{Schema}
+use Rattle.sqlite_value.specs.declared.value.Value.{Value}
+use Rattle.sqlite_value.specs.declared.value.Value.TheVariants.{Null, Int, Real, Text as Words, Blob}
+use Rattle.sqlite_value.specs.declared.keys.Collation.{Collation}
+use Rattle.sqlite_value.specs.declared.keys.Collation.TheVariants.{Binary, NoCase, RTrim}
+use Rattle.sqlite_value.specs.declared.keys.Order.{Order}
+use Rattle.sqlite_schema.specs.declared.schema.Column.{Column}
+use Rattle.sqlite_schema.specs.declared.schema.Reference.{Reference}
+use Rattle.sqlite_schema.specs.Names.{table_named}
+use Rattle.sqlite_schema.specs.Rules.{kind_code}
+use Rattle.tables.specs.Table.{Shape, Place}
+use Rattle.tables.specs.Inside.Inert.{is_passive}
+
+-- no value
+abbrev pub is_nothing : Value → Bool
+is_nothing Null = true
+is_nothing (Int n) = false
+is_nothing (Real x) = false
+is_nothing (Words t) = false
+is_nothing (Blob b) = false
+
+-- texts compare by their bytes
+abbrev pub is_binary : Collation → Bool
+is_binary Binary = true
+is_binary NoCase = false
+is_binary RTrim = false
+
+-- the same position of a column, or none
+abbrev pub same_key : Option ℕ → Option ℕ → Bool
+same_key None None = true
+same_key (Some a) (Some b) = a == b
+same_key None (Some b) = false
+same_key (Some a) None = false
+
+-- as a column of this name and kind is made: of a STRICT table, NOT NULL, with no default
+abbrev pub is_required : List ℕ × Kind → Column → Bool
+is_required told c = bytes_eq c.name told.0 && (kind_code c.kind == kind_code told.1) && c.is_strict && c.not_null && is_nothing c.default && is_binary c.collation
+
+-- as this reference is made: of one column to one, with NO ACTION
+abbrev pub is_referring : ℕ × List ℕ × List ℕ → Reference → Bool
+is_referring link r =
+    bytes_eq r.columns (link.0 ∷ []) && bytes_eq r.parent link.1 && ((length r.parent_columns == 1) && option_map_or (λ c. bytes_eq c link.2) (slice_get r.parent_columns 0) false)
+    && is_passive r.on_delete && is_passive r.on_update && not r.is_deferred
+
+-- there are as many as are told, each as the one that is told at its place
+abbrev pub are_told : {A B : Type 0} → (A → B → Bool) → List A → List B → Bool
+are_told is [] [] = true
+are_told is (a ∷ more) (b ∷ rest) = is a b && are_told is more rest
+are_told is [] (b ∷ rest) = false
+are_told is (a ∷ more) [] = false
+
+-- so many orders, each ascending
+abbrev pub are_plain : ℕ → List Order → Bool
+are_plain count orders = (length orders == count) && list_all (λ o. o.digits == 0) orders
+
+-- no default that is computed, and no AUTOINCREMENT
+abbrev pub is_untimed : AnyTable → Bool
+is_untimed t = (length t.computed == 0) && (length t.stamps.places == 0) && (length t.stamps.terms == 0) && (length t.stamps.formats == 0) && not t.is_counted
+
+-- the keys of the table are those that are told
+abbrev pub has_keys : Shape → AnyTable → Bool
+has_keys shape t = same_key t.key shape.key && bytes_eq t.primary shape.primary && are_told (λ places list. bytes_eq list places) shape.uniques t.uniques && are_plain (length shape.uniques) t.orders
+
+-- the table is as one of this shape is made
+abbrev pub has_shape : Shape → AnyTable → Bool
+has_shape shape t = bytes_eq t.name shape.name && has_keys shape t && are_told is_required shape.columns t.columns && are_told is_referring shape.links t.references && is_untimed t
+
+-- the schema's first table of this name is this one
+pub record IsNamed (schema : Schema) (name : List ℕ) (table : AnyTable) : Type 0 where
+  pub at : ℕ
+  pub named : table_named schema name ≡ Some at
+  pub there : slice_get schema.tables at ≡ Some table
+
+-- where a table stands
+abbrev pub place_of : AnyTable → Place
+place_of t = record { tree = t.tree; checks = t.checks }

@@ -1,0 +1,24 @@
+-- For proofs alone. What a statement, a transaction and a crash do, under a relation P between the database before and after.
+use Rattle.std.specs.Prelude.{◌≡◌, ◌⊎◌, ℕ, true, List, [], Ok}
+use Rattle.sqlite.specs.Effect.{Database, IsDatabase}
+use Rattle.sqlite.specs.State.{State, Executes, Shown, FailsToQuery, Shows as Sees}
+use Rattle.sqlite.specs.declared.error.Error.{Error}
+use Rattle.sqlite.specs.Order.{Row}
+
+-- the statement of this text went through in a transaction, over so many rows: nothing is committed
+pub record HasRun (sql : List ℕ) (params : Row) (count : ℕ) (old new : State) : Type 0 where
+  pub inside : old.in_transaction ≡ true
+  pub shown : Sees old new new.now old.committed true
+  pub ran : Executes sql params old new (Ok count)
+
+-- the same of a run of statements, which may be none
+pub record Stays (P : Database → Database → Type 0) (old new : State) : Type 0 where
+  pub shut : new.is_open ≡ old.is_open
+  pub committed : new.committed ≡ old.committed
+  pub mode : new.in_transaction ≡ old.in_transaction
+  pub sound : IsDatabase old.now → IsDatabase new.now
+  pub step : P old.now new.now
+
+-- a query was run, or failed
+abbrev pub RanQuery : List ℕ → State → State → Type 0
+RanQuery sql old new = ((rows : List Row) × Shown sql [] old new rows) ⊎ ((e : Error) × FailsToQuery sql [] old new e)

@@ -1,0 +1,36 @@
+-- For proofs alone. The tables of the product, as a schema lists them, and the rows that they hold.
+use Rattle.std.specs.Prelude.{ℕ, List, map}
+use Rattle.std.specs.Borrow.{Bor}
+use Rattle.sqlite.specs.Kind.{Kind}
+use Rattle.tables.specs.declared.table.Shape.{Shape as Given}
+use Rattle.tables.specs.declared.table.Told.{Told}
+use Rattle.tables.specs.declared.table.Link.{Link}
+use Rattle.tables.specs.Table.{Shape, Sql}
+
+-- what the program tells of a column
+abbrev pub column_by : Told → List ℕ × Kind
+column_by told = (told.0.now, told.1)
+
+-- of a reference
+abbrev pub link_by : Link → ℕ × List ℕ × List ℕ
+link_by link = (link.0, link.1.table.now, link.1.column.now)
+
+-- of columns that no two rows share
+abbrev pub places_by : Bor (List ℕ) → List ℕ
+places_by places = places.now
+
+-- of a table
+abbrev pub told_by : Given → Shape
+told_by given = record {
+  name = given.name.now;
+  columns = map column_by given.columns.now;
+  key = given.keys.rowid;
+  primary = given.keys.primary.now;
+  uniques = map places_by given.keys.uniques.now;
+  links = map link_by given.links.now;
+  named = given.keys.named;
+}
+
+-- and of its statements
+abbrev pub texts_by : Given → Sql
+texts_by given = record { create = given.create.now; insert = given.insert.now; update = given.update.now; delete = given.delete.now; select = given.select.now }

@@ -1,0 +1,73 @@
+-- One more connection is served, and its line written.
+use Rattle.std.proofs.Common.{◌≡◌, ◌<◌, ◌+◌, ◌∙◌, ℕ, List, [], ◌∷◌, ◌++◌, length, take, Option, Result, Ok, Err, IfOk, IfErr, OnErr, inl, inr, refl, sym, ap, subst, arith, append-nil}
+use Rattle.std.specs.Io.KnownBytes.{Appends}
+use Rattle.std.proofs.lemmas.List.{append_assoc, length-append}
+use Rattle.rolls.specs.State.{State}
+use Rattle.wire.proofs.Known.{appends_compose, appends_none}
+use Rattle.wire.specs.declared.outcome.Served.{Served}
+use Rattle.wire.specs.declared.outcome.StreamFault.{StreamFault}
+use Rattle.wire.specs.declared.outcome.StreamFault.TheVariants.{Read}
+use Rattle.web.specs.Inside.Connections.{IsStreamed}
+use Rattle.web.specs.Connections.{Connects, Connect, connection_line, lines_after, AllServed, SomeServed}
+
+abbrev Came : Type 0
+Came = Result Served StreamFault
+
+-- one connection more
+connect_more : (before mid after : State) (came : List Came) (one : Came) → Connect before came mid → Connects mid one after → Connect before (came ++ one ∷ []) after
+connect_more before mid after [] one so_far last = (after, subst (λ (s : State). Connects s one after) so_far last, refl)
+connect_more before mid after (c ∷ came) one so_far last = (so_far.0, so_far.1, connect_more so_far.0 mid after came one so_far.2 last)
+
+-- its line comes after the others
+lines_more : (n : ℕ) (came : List Came) (one : Came) → lines_after n (came ++ one ∷ []) ≡ lines_after n came ++ connection_line (n + length came + 1) one
+lines_more n [] one =
+    let at : n + 1 ≡ n + 0 + 1 = omega arith in
+    append-nil (connection_line (n + 1) one) ∙ ap (λ k. connection_line k one) at
+lines_more n (c ∷ came) one =
+    let at : n + 1 + length came + 1 ≡ n + length (c ∷ came) + 1 = omega arith in
+    ap (λ ls. connection_line (n + 1) c ++ ls) (lines_more (n + 1) came one ∙ ap (λ k. lines_after (n + 1) came ++ connection_line k one) at)
+    ∙ sym (append_assoc (connection_line (n + 1) c) (lines_after (n + 1) came) (connection_line (n + length (c ∷ came) + 1) one))
+
+-- the line of the connection that is served now is the next one
+next_line : (n : ℕ) (came : List Came) (one : Came) → length came ≡ n → lines_after 0 (came ++ one ∷ []) ≡ lines_after 0 came ++ connection_line (n + 1) one
+next_line n came one counted =
+    let at : 0 + length came + 1 ≡ n + 1 = omega (arith, counted) in
+    lines_more 0 came one ∙ ap (λ k. lines_after 0 came ++ connection_line k one) at
+
+-- one more is served and told
+pub one_more : (before mid after : State) (n : ℕ) (w0 w w' : Option (List ℕ)) (one : Came) → AllServed before n w0 w mid → Connects mid one after
+    → Appends w w' (connection_line (n + 1) one) → AllServed before (n + 1) w0 w' after
+one_more before mid after n w0 w w' one so_far last wrote = record {
+  came = so_far.came ++ one ∷ [];
+  counted = length-append so_far.came (one ∷ []) ∙ ap (λ k. k + 1) so_far.counted;
+  served = connect_more before mid after so_far.came one so_far.served last;
+  wrote = subst (λ ls. Appends w0 w' ls) (sym (next_line n so_far.came one so_far.counted)) (appends_compose w0 w w' _ _ so_far.wrote wrote);
+}
+
+-- one more is served, and its line is cut
+pub one_cut : (before mid after : State) (n count : ℕ) (w0 w w' : Option (List ℕ)) (one : Came) → n < count → AllServed before n w0 w mid → Connects mid one after
+    → ((k : ℕ) × (k < length (connection_line (n + 1) one)) × Appends w w' (take k (connection_line (n + 1) one))) → SomeServed before count w0 w' after
+one_cut before mid after n count w0 w w' one few so_far last wrote =
+    let counted : length so_far.came ≡ n = so_far.counted in
+    record {
+      told = so_far.came;
+      last = one;
+      few = omega (arith, counted, few);
+      served = connect_more before mid after so_far.came one so_far.served last;
+      kept = wrote.0;
+      cut = rw counted wrote.1;
+      wrote = rw counted (appends_compose w0 w w' _ _ so_far.wrote wrote.2);
+    }
+
+-- what holds is said of a fault
+pub at_fault : {A E P : Type 0} (r : Result A E) → P → OnErr r P
+at_fault (Ok a) p = tt
+at_fault (Err e) p = p
+
+-- what became of the next connection, whether it was accepted or not
+pub came_next : {A E D : Type 0} (office_of : D → State) (before after : D) (accepted : Result A E) (came : Came) → IfOk accepted (λ _. IsStreamed (office_of before) came (office_of after))
+    → IfErr accepted (λ _. (came ≡ Err Read) × (after ≡ before)) → Connects (office_of before) came (office_of after)
+came_next office_of before after (Ok a) (Ok served) streamed failed = streamed
+came_next office_of before after (Ok a) (Err fault) streamed failed = inl streamed
+came_next office_of before after (Err e) came streamed failed =
+    subst (λ (r : Came). Connects (office_of before) r (office_of after)) (sym failed.0) (inr (refl, ap office_of failed.1))
