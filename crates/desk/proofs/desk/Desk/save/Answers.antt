@@ -6,7 +6,7 @@ use Rattle.allotment.specs.Layers.{layers}
 use Rattle.allotment.specs.Changes.{MayChange}
 use Rattle.sqlite.specs.Held.{state}
 use Rattle.sqlite.specs.State.{State as Seen}
-use Rattle.tables.specs.Causes.{IsCaused, IsStopped}
+use Rattle.tables.specs.Causes.{IsCaused}
 use Rattle.store.specs.Causes.{IsHinderedToSave}
 use Rattle.rolls.specs.declared.request.Request.{Request}
 use Rattle.rolls.specs.declared.request.Done.{Done}
