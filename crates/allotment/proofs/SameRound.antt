@@ -1,6 +1,6 @@
 -- Two instances of one round. What is said of matchings by codes reads an instance by what is found at a code, so the same
 -- matchings are best in both.
-use Rattle.std.proofs.Common.{◌≡◌, ℕ, suc, zero, ◌+◌, ◌<◌, ◌≤◌, List, [], ◌∷◌, length, count_by, find, All, Contains, slice_index, refl, sym, ap, subst, ◌∙◌, arith}
+use Rattle.std.proofs.Common.{◌≡◌, ℕ, ◌+◌, ◌≤◌, List, [], count_by, find, All, Contains, sym, subst}
 use Rattle.std.specs.Prelude.{◌==◌, not, pos}
 use Rattle.std.specs.List.{prefix_len}
 use Rattle.std.specs.Option.{option_map_or}
@@ -10,7 +10,6 @@ use Rattle.spa.specs.declared.aim.Aim.{Aim}
 use Rattle.spa.specs.Order.{Precedes, ranks_read}
 use Rattle.spa.specs.Instance.{Instance, Supervisor, Project, Student}
 use Rattle.spa.specs.Coded.{CodePair, choices_of, IsMatchingByCodes, IsBestByCodes}
-use Rattle.rolls.specs.Stepping.{counted}
 use Rattle.allotment.specs.Sittings.{IsSameRound}
 
 -- the other way round

@@ -19,6 +19,7 @@ ghost use Rattle.rolls.specs.Run.{Makes, refusal};
 ghost use Rattle.rolls.specs.declared.request.Request.TheVariants as request;
 ghost use Rattle.imports.specs.Requests.{IsWithin};
 ghost use Rattle.allotment.specs.Layers.{layers, refused_as};
+ghost use Rattle.allotment.specs.Changes.{MayChange};
 
 use closing::places_law;
 use intake::{ImportFault, read_import, write_round};
@@ -34,6 +35,7 @@ pub fn close(alloc: Global, office: &mut Office) -> Result<Done, AllocError>
     requires open { IsTrue (round_is_open office.old) }
     ensures made { IfOk result (λ done. Makes layers office.old request.Close done.reply office.new) }
     ensures turns { IfOk result (λ done. Turns done.changes.items office.old office.new) }
+    ensures changes { IfOk result (λ done. MayChange office.old request.Close done.changes.items) }
     ensures memory { OnErr result (office.new ≡ office.old) }
 {
     places_law();
@@ -101,6 +103,7 @@ pub fn import(
     ensures made { IfOk result (λ done. Makes layers office.old (request.Import id kind bytes) done.reply office.new) }
     ensures named { IfOk result (λ _. refusal layers office.old (request.Import id kind bytes) ≡ None) }
     ensures turns { IfOk result (λ done. Turns done.changes.items office.old office.new) }
+    ensures changes { IfOk result (λ done. MayChange office.old (request.Import id kind bytes) done.changes.items) }
     ensures refused { IfErr result (λ r. (r ≡ Refusal.Memory) ⊎ (refusal layers office.old (request.Import id kind bytes) ≡ Some r)) }
     ensures same { OnErr result (office.new ≡ office.old) }
 {

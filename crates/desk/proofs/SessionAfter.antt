@@ -1,7 +1,7 @@
 -- What a request that was carried out makes of the session.
 use Rattle.std.proofs.Common.{◌≡◌, ℕ, List, Bool, true, false, Option, Some, None, Result, Ok, Err, IfSome, refl, sym, subst}
 use Rattle.std.specs.Prelude.{if◌then◌else◌}
-use Rattle.rolls.specs.State.{State, last_round, has_list, has_import}
+use Rattle.rolls.specs.State.{State, last_round, has_list}
 use Rattle.rolls.specs.Fit.{IsFit}
 use Rattle.rolls.specs.declared.refusal.Refusal.{Refusal}
 use Rattle.rolls.specs.declared.request.Plain.{Plain}

@@ -5,13 +5,15 @@ use Rattle.rolls.specs.declared.row.Change.{Change}
 use Rattle.rolls.specs.declared.request.Request.{Request}
 use Rattle.rolls.specs.State.{State}
 use Rattle.rolls.specs.Rows.{Turns}
+use Rattle.allotment.specs.Changes.{MayChange}
 use Rattle.store.specs.Causes.{IsHinderedToSave}
 use Rattle.desk.specs.Keeping.{CarriesOut}
 
--- changes that turn the office into one that the request makes of it, and add rows of new keys alone, can't be saved
+-- changes that the request may make, which turn the office into one that it makes of it and add rows of new keys alone, can't be saved
 pub record IsHinderedToAsk (office : State) (request : Request) (limit : Option ℕ) (db : Database) : Type 0 where
   pub next : State
   pub carried : CarriesOut office request next
   pub changes : List Change
+  pub may : MayChange office request changes
   pub turns : Turns changes office next
   pub hindered : IsHinderedToSave changes limit db

@@ -11,6 +11,7 @@ ghost use Rattle.rolls.specs.Reads.{is_read, changes_nothing};
 ghost use Rattle.rolls.specs.Refusing.{plain_refusal, refusal_of};
 ghost use Rattle.rolls.specs.Run.{Makes, MayRefuse, Step, Run, refusal};
 ghost use Rattle.allotment.specs.Layers.{layers};
+ghost use Rattle.allotment.specs.Changes.{MayChange};
 ghost use Rattle.store.specs.Tables.{Opens, Founds, HasNone, LeavesAlone};
 ghost use Rattle.store.specs.Reading.{AreListed, IsDamaged};
 ghost use Rattle.tables.specs.Causes.{IsCaused, IsStopped};
@@ -71,6 +72,7 @@ fn made(alloc: Global, office: &mut Office, request: Request) -> Result<Done, Re
     requires allowed { refusal_of office.old request ≡ None }
     ensures made { IfOk result (λ done. (refusal layers office.old request ≡ None) × Makes layers office.old request done.reply office.new) }
     ensures turns { IfOk result (λ done. let changes = done.changes in Turns changes.items office.old office.new) }
+    ensures changes { IfOk result (λ done. let changes = done.changes in MayChange office.old request changes.items) }
     ensures refused { IfErr result (MayRefuse (refusal layers office.old request)) }
     ensures unstored { result ≢ Err Refusal.Storage }
 {

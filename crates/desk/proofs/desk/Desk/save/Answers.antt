@@ -3,9 +3,10 @@ use Rattle.rolls.specs.State.{State}
 use Rattle.rolls.specs.Rows.{Turns}
 use Rattle.rolls.specs.Run.{Makes, refusal}
 use Rattle.allotment.specs.Layers.{layers}
+use Rattle.allotment.specs.Changes.{MayChange}
 use Rattle.sqlite.specs.Held.{state}
 use Rattle.sqlite.specs.State.{State as Seen}
-use Rattle.tables.specs.Causes.{IsCaused, IsStopped}
+use Rattle.tables.specs.Causes.{IsCaused}
 use Rattle.store.specs.Causes.{IsHinderedToSave}
 use Rattle.rolls.specs.declared.request.Request.{Request}
 use Rattle.rolls.specs.declared.request.Done.{Done}
@@ -27,16 +28,16 @@ returns-clause-crash g c =
     call_carried q old c.made.new.office done (state g.S.Store c.args.self.now.store) (state g.S.Store c.settle.new.self.store) none made c.fit.ensures.fit turns c.keeps.ensures.tables c.settle.ensures.crash
 
 -- changes of a request that can't be saved hinder it
-hindered_by : {A E : Type 0} (storage : E) (result : Result A E) (office next : State) (q : Request) (done : Done) (old new : Seen) → CarriesOut office q next → Turns done.changes.items office next
+hindered_by : {A E : Type 0} (storage : E) (result : Result A E) (office next : State) (q : Request) (done : Done) (old new : Seen) → CarriesOut office q next → MayChange office q done.changes.items → Turns done.changes.items office next
     → IsCaused storage (IsHinderedToSave done.changes.items) result old new → IsCaused storage (IsHinderedToAsk office q) result old new
-hindered_by storage result office next q done old new carried turns caused clean told =
+hindered_by storage result office next q done old new carried may turns caused clean told =
     let stopped = caused clean told in
     record {
       why = elim stopped.why [
         | inl shut ↦ inl shut
         | inr more ↦ inr (elim more [
           | inl faults ↦ inl faults
-          | inr hindered ↦ inr (record { next = next; carried = carried; changes = done.changes.items; turns = turns; hindered = hindered })
+          | inr hindered ↦ inr (record { next = next; carried = carried; changes = done.changes.items; may = may; turns = turns; hindered = hindered })
         ])
       ];
     }
@@ -50,4 +51,5 @@ returns-clause-cause g c =
     let made = subst (λ (o : State). Makes layers o q done.reply c.made.new.office) same c.in-Ok.ensures.made.1 in
     let none = subst (λ (o : State). refusal layers o q ≡ None) same c.in-Ok.ensures.made.0 in
     let turns = subst (λ (o : State). Turns done.changes.items o c.made.new.office) same c.in-Ok.ensures.turns in
-    λ quiet. hindered_by Storage c.settle.result old c.made.new.office q done (state g.S.Store c.args.self.now.store) (state g.S.Store c.settle.new.self.store) (done.reply, (none, made)) turns (c.settle.ensures.cause quiet)
+    let may = subst (λ (o : State). MayChange o q done.changes.items) same c.in-Ok.ensures.changes in
+    λ quiet. hindered_by Storage c.settle.result old c.made.new.office q done (state g.S.Store c.args.self.now.store) (state g.S.Store c.settle.new.self.store) (done.reply, (none, made)) may turns (c.settle.ensures.cause quiet)
