@@ -22,10 +22,6 @@ pub all_always : {E : Type 0} (P : E → Type 0) → ((e : E) → P e) → (es :
 all_always P h [] = tt
 all_always P h (e ∷ es) = (h e, all_always P h es)
 
-pub all_two : {E : Type 0} (P Q R : E → Type 0) → ((e : E) → P e → Q e → R e) → (es : List E) → AllByRecursion P es → AllByRecursion Q es → AllByRecursion R es
-all_two P Q R f [] a b = tt
-all_two P Q R f (e ∷ es) a b = (f e a.0 b.0, all_two P Q R f es a.1 b.1)
-
 -- ---- what is found
 
 map_cond : {E D : Type 0} (f : E → D) (b : Bool) (e : E) (x : Option E) → cond b (Some (f e)) (option_map f x) ≡ option_map f (cond b (Some e) x)
@@ -80,55 +76,3 @@ module _ {E D : Type 0} (key : E → Key) (keyed : D → Key) (made : E → D) (
       let b = below_made e es in
       let r = rises_made es in
       rw (b, r) refl
-
-ordered : (r : Ordering) → (r ≡ Less) ⊎ ((r ≡ Equal) ⊎ (r ≡ Greater))
-ordered Less = inl refl
-ordered Equal = inr (inl refl)
-ordered Greater = inr (inr refl)
-
-is_less : (r : Ordering) → is_lt r ≡ true → r ≡ Less
-is_less Less h = refl
-is_less Equal h = absurd (cc)
-is_less Greater h = absurd (cc)
-
-module _ {A B : Type 0} (f : A → Key) (g : B → Key) where
-  -- the entries after one have greater keys
-  pub all_above : (q : Key) (es : List A) → is_below f q es ≡ true → AllByRecursion (λ e. key_cmp q (f e) ≡ Less) es
-  all_above q [] b = tt
-  all_above q (e ∷ es) b = (is_less _ (first_so (is_lt (key_cmp q (f e))) (is_below f q es) b), all_above q es (second_so (is_lt (key_cmp q (f e))) (is_below f q es) b))
-
-  -- what is above the first entry is found behind it
-  found_behind : (k : Key) (x : B) (fs : List B) → key_cmp (g x) k ≡ Less → has g k (x ∷ fs) ≡ true → has g k fs ≡ true
-  found_behind k x fs l h =
-      let r : key_cmp k (g x) ≡ Greater = keys_total.antisymm k (g x) ∙ ap ordering_reverse l in
-      sym (ap (λ o. is_some (cond (is_eq o) (Some x) (entry g k fs))) r) ∙ h
-
-  -- entries that are all found among others are no more than these
-  pub fewer : (es : List A) (fs : List B) → rises f es ≡ true → rises g fs ≡ true → AllByRecursion (λ e. has g (f e) fs ≡ true) es → length es ≤ length fs
-  fewer [] fs r s h = omega arith
-  fewer (e ∷ es) [] r s h = absurd (let k = h.0 in cc)
-  fewer (e ∷ es) (x ∷ fs) r s h =
-      let above = all_above (f e) es (first_so (is_below f (f e) es) (rises f es) r) in
-      let rest = second_so (is_below f (f e) es) (rises f es) r in
-      let below = first_so (is_below g (g x) fs) (rises g fs) s in
-      let behind = second_so (is_below g (g x) fs) (rises g fs) s in
-      elim (ordered (key_cmp (f e) (g x))) [
-        | inl less ↦
-            let none = find_below g (f e) fs (below_all g (f e) (g x) fs less below) in
-            let nowhere : has g (f e) (x ∷ fs) ≡ false = ap (λ o. is_some (cond (is_eq o) (Some x) (entry g (f e) fs))) less ∙ ap is_some none in
-            absurd (let k = sym nowhere ∙ h.0 in cc)
-        | inr other ↦ elim other [
-          | inl tied ↦
-              let n = fewer es fs rest behind (all_two (λ d. key_cmp (f e) (f d) ≡ Less) (λ d. has g (f d) (x ∷ fs) ≡ true) (λ d. has g (f d) fs ≡ true)
-              (λ d l t. found_behind (f d) x fs (sym (keys_total.congr (f e) (g x) (f d) tied) ∙ l) t) es above h.1) in
-              omega (arith, n)
-          | inr greater ↦
-              let first : key_cmp (g x) (f e) ≡ Less = keys_total.antisymm (g x) (f e) ∙ ap ordering_reverse greater in
-              let n = fewer (e ∷ es) fs r behind (
-                found_behind (f e) x fs first h.0,
-                all_two (λ d. key_cmp (f e) (f d) ≡ Less) (λ d. has g (f d) (x ∷ fs) ≡ true) (λ d. has g (f d) fs ≡ true)
-                    (λ d l t. found_behind (f d) x fs (keys_total.trans (g x) (f e) (f d) first l) t) es above h.1,
-              ) in
-              omega (arith, n)
-        ]
-      ]

@@ -1,4 +1,4 @@
--- An office with an open round: what its instance has, and that each placement is by a round before it.
+-- An office with an open round: what its instance has.
 use Rattle.std.proofs.Common.{◌≡◌, ℕ, ◌-◌, ◌≤◌, true, false, List, [], length, Option, Some, None, slice_get, option_map, refl, sym, ap, ◌∙◌, arith}
 use Rattle.std.specs.Option.{option_map_or}
 use Rattle.std.specs.Str.{bytes_eq}
@@ -11,10 +11,8 @@ use Rattle.rolls.specs.declared.rounds.Placement.{Placement}
 use Rattle.rolls.specs.Roll.{Key, find}
 use Rattle.rolls.specs.State.{State, supervisor_key, project_key, student_key, list_key, placement_key, supervisor_of, project_of, list_of, lists_of, last_round, choices_in, has_student, is_offered_by, quota_in, quota_with, placed_in_project, placed_with_supervisor}
 use Rattle.rolls.specs.Instances.{round_instance}
-use Rattle.rolls.specs.Fit.{IsFit, ListFits, PlacementFits}
-use Rattle.rolls.proofs.EntryChange.{all_weaker}
 use Rattle.rolls.proofs.Found.{found_key, holds_of_found}
-use Rattle.closing.proofs.Entries.{find_made, fewer}
+use Rattle.closing.proofs.Entries.{find_made}
 
 -- ---- the instance of the last round
 
@@ -62,25 +60,3 @@ module _ (o : State) where
       inside : (made : Listed → spa.Student) (x : Option Listed) → ((e : Listed) → (made e).list ≡ e.choices) → option_map_or (λ e. e.list) (option_map made x) [] ≡ option_map_or (λ e. e.choices) x []
       inside made None is = refl
       inside made (Some e) is = is e
-
-  -- ---- who is placed
-
-  module _ (fit : IsFit o) where
-    -- who is placed is a student
-    placed_student : (p : Placement) → PlacementFits o p → has_student o p.student ≡ true
-    placed_student p fits = by_list (list_of o p.round p.student) refl fits.listed
-      where
-        by_list : (x : Option Listed) → list_of o p.round p.student ≡ x → slice_get (option_map_or (λ l. l.choices) x []) (p.rank - 1) ≡ Some p.project → has_student o p.student ≡ true
-        by_list None is at = absurd (cc)
-        by_list (Some l) is at =
-            let f : ListFits o p.round l = holds_of_found list_key (ListFits o p.round) (0, p.student) (lists_of o p.round) l (fit.lists_fit p.round) is in
-            let same : p.student ≡ l.student = ap (λ (k : Key). k.1) (found_key list_key (0, p.student) (lists_of o p.round) l is) in
-            ap (has_student o) same ∙ f.student
-
-    -- there are no more placements than students
-    pub few_placed : length o.placements ≤ length o.students
-    few_placed = fewer placement_key student_key o.placements o.students fit.placements_rise fit.students.rise (all_weaker (PlacementFits o) (λ p. has_student o p.student ≡ true) placed_student o.placements fit.placements_fit)
-
-    -- and no more lists in a round
-    pub few_lists : (n : ℕ) → length (lists_of o n) ≤ length o.students
-    few_lists n = fewer list_key student_key (lists_of o n) o.students (fit.lists_rise n) fit.students.rise (all_weaker (ListFits o n) (λ l. has_student o l.student ≡ true) (λ l f. f.student) (lists_of o n) (fit.lists_fit n))

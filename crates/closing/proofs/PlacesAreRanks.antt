@@ -19,7 +19,8 @@ use Rattle.rolls.specs.Fit.{IsFit, ListFits}
 use Rattle.rolls.specs.Closing.{kept}
 use Rattle.closing.specs.Places.{placed_at, placed_by}
 use Rattle.closing.specs.Laws.{PlacedIsKept, PlacesAreInLists}
-use Rattle.closing.proofs.Entries.{all_two, find_made}
+use Rattle.closing.proofs.Entries.{find_made}
+use Rattle.rolls.proofs.NoMoreThanFound.{all_two}
 use Rattle.closing.proofs.UniqueCodes.{same_as_itself, place_of_code, each_found}
 
 abbrev listed : Listed → spa.Student

@@ -16,7 +16,7 @@ use Rattle.rolls.specs.Roll.{Key, key_cmp, same_key, find as entry, is_below, ri
 use Rattle.rolls.specs.Fit.{is_distinct}
 use Rattle.rolls.proofs.EntryChange.{same_code}
 use Rattle.rolls.proofs.Places.{keys_total}
-use Rattle.closing.proofs.Entries.{all_above, all_two}
+use Rattle.rolls.proofs.NoMoreThanFound.{all_above, all_two}
 
 -- ---- codes that rise are apart
 

@@ -24,7 +24,7 @@ use Rattle.rolls.proofs.EntryChange.{all_weaker}
 use Rattle.rolls.proofs.Found.{found_key, holds_of_found}
 use Rattle.rolls.proofs.LastRound.{closed_before}
 use Rattle.rolls.proofs.RowKeys.{apart_back}
-use Rattle.closing.proofs.Entries.{all_two}
+use Rattle.rolls.proofs.NoMoreThanFound.{all_two}
 use Rattle.closing.proofs.Kept.{pairs_listed}
 
 -- ---- no student twice

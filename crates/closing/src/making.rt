@@ -5,8 +5,8 @@ ghost use Rattle.spa.specs.declared.TheConstants.{MOST_PROJECTS, MOST_SUPERVISOR
 ghost use Rattle.spa.specs.Named.{instance_of};
 ghost use Rattle.rolls.specs.State.{State};
 ghost use Rattle.rolls.specs.Instances.{round_instance};
-ghost use Rattle.rolls.specs.Counted.{offers, AreCounted};
-ghost use Rattle.closing.specs.Handed.{count_in, count_with, AreParts, ArePartsOfFit};
+ghost use Rattle.rolls.specs.Counted.{count_in, count_with, offers, AreCounted};
+ghost use Rattle.closing.specs.Handed.{AreParts, ArePartsOfFit};
 ghost use Rattle.closing.specs.Inside.Handed.{supervisor_left, project_left, student_listed};
 
 use rolls::{Choices, Listed, Placement, Project, Supervisor, Table, counted};
@@ -25,7 +25,7 @@ pub fn is_offered_by(projects: &Table<Project>, supervisor: &str, project: &str)
 
 /// How many of the placements are in a project.
 pub fn placed_in_project(placements: &[Placement], project: &str) -> usize
-    ensures { result ≡ count_in placements.now project.now }
+    ensures { result ≡ count_in None placements.now project.now }
 {
     placements
         .iter()
@@ -39,7 +39,7 @@ pub fn placed_with_supervisor(
     placements: &[Placement],
     supervisor: &str,
 ) -> usize
-    ensures { result ≡ count_with projects.now placements.now supervisor.now }
+    ensures { result ≡ count_with None projects.now placements.now supervisor.now }
 {
     placements
         .iter()

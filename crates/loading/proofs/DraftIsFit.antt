@@ -23,6 +23,7 @@ use Rattle.rolls.specs.Fit.{IsFit, ProjectFits, ListFits, PlacementFits, are_num
 use Rattle.rolls.proofs.Places.{keys_total}
 use Rattle.rolls.proofs.EntryChange.{all_weaker}
 use Rattle.rolls.proofs.Found.{found_key, holds_of_found}
+use Rattle.rolls.proofs.NoMoreThanFound.{few_placed}
 use Rattle.rolls.proofs.RowKeys.{same_bytes, bytes_self}
 use Rattle.rolls.proofs.RowsDetermine.{numbered_rise}
 use Rattle.loading.specs.Inside.Whole.{is_whole, are_few, are_offered, are_rounds, is_list, is_placement, are_within}
@@ -32,7 +33,7 @@ use Rattle.loading.proofs.Takes.{both_so, within, listed}
 
 -- ---- tests of each
 
-tested : {E : Type 0} (test : E → Bool) (es : List E) → list_all test es ≡ true → AllByRecursion (λ e. test e ≡ true) es
+pub tested : {E : Type 0} (test : E → Bool) (es : List E) → list_all test es ≡ true → AllByRecursion (λ e. test e ≡ true) es
 tested test [] h = tt
 tested test (e ∷ es) h = (first_so (test e) (list_all test es) h, tested test es (second_so (test e) (list_all test es) h))
 
@@ -235,7 +236,7 @@ whole_fit o d whole =
     let projects = nat_le (length o.projects) MOST_PROJECTS in
     let students = nat_le (length o.students) MOST_STUDENTS in
     let rounds = nat_le (length o.rounds) MOST_ROUNDS in
-    let imports = nat_le (length o.imports) MOST_IMPORTS in
+    let imports = nat_le (length o.placements) MOST_STUDENTS && nat_le (length o.imports) MOST_IMPORTS in
     let few1 = second_so supervisors (projects && (students && (rounds && imports))) j.few in
     let few2 = second_so projects (students && (rounds && imports)) few1 in
     let few3 = second_so students (rounds && imports) few2 in
@@ -256,7 +257,7 @@ whole_fit o d whole =
       lists_fit = lists;
       placements_rise = d.placements;
       placements_fit = placements;
-      imports = record { rise = d.imports.rise; few = at_most _ _ (second_so rounds imports few3); each = d.imports.each };
+      imports = record { rise = d.imports.rise; few = at_most _ _ (second_so (nat_le (length o.placements) MOST_STUDENTS) (nat_le (length o.imports) MOST_IMPORTS) (second_so rounds imports few3)); each = d.imports.each };
       projects_within = projects_within o known j.projects;
       supervisors_within = supervisors_within o offered j.supervisors;
     }
@@ -267,7 +268,8 @@ fit_whole o fit =
     let few = both_so (nat_le (length o.supervisors) MOST_SUPERVISORS) _ (within _ _ fit.supervisors.few)
     (both_so (nat_le (length o.projects) MOST_PROJECTS) _ (within _ _ fit.projects.few)
     (both_so (nat_le (length o.students) MOST_STUDENTS) _ (within _ _ fit.students.few)
-    (both_so (nat_le (length o.rounds) MOST_ROUNDS) _ (within _ _ fit.few_rounds) (within _ _ fit.imports.few)))) in
+    (both_so (nat_le (length o.rounds) MOST_ROUNDS) _ (within _ _ fit.few_rounds)
+    (both_so (nat_le (length o.placements) MOST_STUDENTS) _ (within _ _ (omega (arith, few_placed o fit, fit.students.few))) (within _ _ fit.imports.few))))) in
     both_so (are_few o) _ few
     (both_so (are_offered o) _ (all_pass (ProjectFits o) (λ p. has_supervisor o p.supervisor) (λ p fits. fits.supervisor) o.projects fit.projects.each)
     (both_so (are_rounds o) _ (both_so (are_numbered 1 o.rounds) _ fit.numbered (both_so (only_last_open o.rounds) _ fit.last_open (fit_lists o fit)))

@@ -4,6 +4,7 @@ pub mod Taken
 pub mod Takes
 pub mod HeldRows
 pub mod DraftIsFit
+pub mod EachWithin
 pub mod Chosen
 pub mod GoesOn
 pub mod Faults

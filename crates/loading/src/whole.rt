@@ -82,6 +82,7 @@ impl Draft {
             && self.projects.entries().len() <= MOST_PROJECTS
             && self.students.entries().len() <= MOST_STUDENTS
             && self.rounds.entries().len() <= MOST_ROUNDS as usize
+            && self.placements.entries().len() <= MOST_STUDENTS
             && self.imports.entries().len() <= MOST_IMPORTS
     }
 

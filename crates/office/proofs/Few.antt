@@ -5,7 +5,7 @@ use Rattle.spa.specs.declared.TheConstants.{MOST_STUDENTS}
 use Rattle.rolls.specs.declared.rounds.Placement.{Placement}
 use Rattle.rolls.specs.State.{State, lists_of}
 use Rattle.rolls.specs.Fit.{IsFit}
-use Rattle.closing.proofs.OpenRound.{few_placed, few_lists}
+use Rattle.rolls.proofs.NoMoreThanFound.{few_placed, few_lists}
 
 pub placements_few : (o : State) → IsFit o → length o.placements ≤ MOST_STUDENTS
 placements_few o fit = let few = few_placed o fit in omega (arith, few, fit.students.few)

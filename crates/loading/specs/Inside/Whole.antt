@@ -14,7 +14,7 @@ use Rattle.rolls.specs.Fit.{are_numbered, only_last_open, is_distinct}
 abbrev pub are_few : State → Bool
 are_few o =
     nat_le (length o.supervisors) MOST_SUPERVISORS && (nat_le (length o.projects) MOST_PROJECTS && (nat_le (length o.students) MOST_STUDENTS
-    && (nat_le (length o.rounds) MOST_ROUNDS && nat_le (length o.imports) MOST_IMPORTS)))
+    && (nat_le (length o.rounds) MOST_ROUNDS && (nat_le (length o.placements) MOST_STUDENTS && nat_le (length o.imports) MOST_IMPORTS))))
 
 -- the supervisor of each project is on the roll
 abbrev pub are_offered : State → Bool

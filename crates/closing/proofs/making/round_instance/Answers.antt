@@ -4,7 +4,7 @@ use Rattle.spa.specs.Made.{IsFirstInstanceFault}
 use Rattle.rolls.specs.declared.entries.Project.{Project}
 use Rattle.rolls.specs.declared.rounds.Placement.{Placement}
 use Rattle.closing.specs.Inside.Handed.{supervisor_left, project_left}
-use Rattle.closing.proofs.OpenRound.{few_placed}
+use Rattle.rolls.proofs.NoMoreThanFound.{few_placed}
 use Rattle.closing.proofs.RoundInstance.{instance_accepted, handed_rolls, parts_rolls}
 use Rattle.closing.proofs.making.round_instance.Goals as goal
 use Rattle.closing.proofs.making.round_instance.Goals.{in-Memory, in_default}
