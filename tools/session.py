@@ -1,10 +1,11 @@
 #!/usr/bin/env python3
-"""Counted instructions of a preview and of a list, with a kept session and without.
+"""Counted instructions of a preview and of a list, with a kept session and without, and how the instance of a round grows.
 
 tools/session.py SPADESK     needs valgrind
 
 The program serves streams at the limits: 100 supervisors, 300 projects and 500 students, of whom 498 have a list. Each figure is
-the difference of two streams that differ in their last message; of lists it is the second that is put.
+the difference of two streams that differ in their last message; of lists it is the second that is put. A round text is the instance
+of the open round, written; at 250 students there are half as many supervisors, projects and lists.
 """
 import random
 import re
@@ -16,14 +17,15 @@ def message(method, path, body=""):
     return f"{method} {path} HTTP/1.1\r\nContent-Length: {len(body)}\r\n\r\n{body}"
 
 
-def school():
-    """The messages up to the round with 498 lists."""
+def school(size=500):
+    """The messages up to the round in which all of so many students but two have a list."""
     draw = random.Random(1)
-    supervisors = "code,name,quota\n" + "".join(f"L{n},Lee,6\n" for n in range(100))
-    projects = "code,name,supervisor,quota\n" + "".join(f"P{n},Pumps,L{n % 100},2\n" for n in range(300))
-    students = "code,name\n" + "".join(f"S{n},Ann\n" for n in range(500))
+    offerers, offered = size // 5, size * 3 // 5
+    supervisors = "code,name,quota\n" + "".join(f"L{n},Lee,6\n" for n in range(offerers))
+    projects = "code,name,supervisor,quota\n" + "".join(f"P{n},Pumps,L{n % offerers},2\n" for n in range(offered))
+    students = "code,name\n" + "".join(f"S{n},Ann\n" for n in range(size))
     lists = "student,choices\n" + "".join(
-        f"S{n},{' '.join(f'P{p}' for p in draw.sample(range(300), 8))}\n" for n in range(498)
+        f"S{n},{' '.join(f'P{p}' for p in draw.sample(range(offered), 8))}\n" for n in range(size - 2)
     )
     return [
         message("POST", "/imports/supervisors/I1", supervisors),
@@ -53,10 +55,13 @@ def main(program):
     second = counted(program, [*base, preview, preview])
     alone = counted(program, [*base, *puts]) - counted(program, [*base, puts[0]])
     joined = counted(program, [*base, preview, *puts]) - counted(program, [*base, preview, puts[0]])
+    text = message("GET", "/roundtext")
+    half, whole = (counted(program, [*school(size), text, text]) - counted(program, [*school(size), text]) for size in (250, 500))
     print(f"preview without a session {first - start}")
     print(f"preview with a session    {second - first}  {(second - first) / (first - start):.4f}")
     print(f"list without a session    {alone}")
     print(f"list with a session       {joined}  {joined / alone:.2f}")
+    print(f"round text at 250, 500 {half} {whole}  {whole / half:.2f}")
 
 
 if __name__ == "__main__":

@@ -89,12 +89,23 @@ abbrev pub is_in_list : ℕ → List ℕ → RowKey → Bool
 is_in_list round student (key.Choice n s place) = (n == round) && bytes_eq s student
 is_in_list round student _ = false
 
+-- whether a row is a placement of this round
+abbrev pub is_placement_in : ℕ → Row → Bool
+is_placement_in round (row.Placement student n project rank) = n == round
+is_placement_in round _ = false
+
+-- a row stays unless it passes a test
+abbrev pub unless : (Row → Bool) → Option Row → Option Row
+unless goes None = None
+unless goes (Some r) = if goes r then None else Some r
+
 -- what the tables have at each key after a change
 abbrev pub after_change : Change → (RowKey → Option Row) → RowKey → Option Row
 after_change (change.Put r) rows k = if same_row k (key_of r) then Some r else rows k
 after_change (change.Add r) rows k = if same_row k (key_of r) then Some r else rows k
 after_change (change.Take at) rows k = if same_row k at then None else rows k
 after_change (change.TakeList round student) rows k = if is_in_list round student k then None else rows k
+after_change (change.TakePlacements round) rows k = unless (is_placement_in round) (rows k)
 
 -- after changes, the first of them first
 abbrev pub after_changes : List Change → (RowKey → Option Row) → RowKey → Option Row
@@ -107,6 +118,7 @@ IsFresh (change.Put r) rows = Unit
 IsFresh (change.Add r) rows = rows (key_of r) ≡ None
 IsFresh (change.Take at) rows = Unit
 IsFresh (change.TakeList round student) rows = Unit
+IsFresh (change.TakePlacements round) rows = Unit
 
 -- so is each row that is added, when its turn comes
 abbrev pub AreFresh : List Change → (RowKey → Option Row) → Type 0

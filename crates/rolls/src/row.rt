@@ -82,4 +82,6 @@ pub enum Change {
     Take(RowKey),
     /// No choice stands in this student's list in this round.
     TakeList(u32, Text),
+    /// No placement of this round stands.
+    TakePlacements(u32),
 }

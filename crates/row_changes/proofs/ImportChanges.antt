@@ -1,5 +1,5 @@
 -- Changes one after another, and requests that keep no import.
-use Rattle.std.proofs.Common.{◌≡◌, List, [], ◌∷◌, Option, refl, ◌∙◌}
+use Rattle.std.proofs.Common.{◌≡◌, List, [], ◌∷◌, Option, refl, ap, ◌∙◌}
 use Rattle.rolls.specs.declared.row.Row.{Row}
 use Rattle.rolls.specs.declared.row.RowKey.{RowKey}
 use Rattle.rolls.specs.declared.row.Change.{Change}
@@ -7,7 +7,7 @@ use Rattle.rolls.specs.declared.row.Change.TheVariants as change
 use Rattle.rolls.specs.declared.request.Plain.{Plain}
 use Rattle.rolls.specs.declared.request.Plain.TheVariants.{PutSupervisor, PutProject, PutStudent, OpenRound, PutList, DropList, ReopenRound, GetSupervisor, GetProject, GetStudent, GetRound}
 use Rattle.rolls.specs.State.{State}
-use Rattle.rolls.specs.Rows.{key_of, row_of, after_change, after_changes, IsFresh, AreFresh}
+use Rattle.rolls.specs.Rows.{key_of, row_of, is_placement_in, unless, after_change, after_changes, IsFresh, AreFresh}
 use Rattle.rolls.specs.Stepping.{after_plain}
 use Rattle.row_changes.specs.Laws.{TurnsFollow, ImportsStay}
 use Rattle.row_changes.proofs.RowsLeft.{after_both, fresh_both}
@@ -18,6 +18,7 @@ same_change (change.Put r) rows others same k = rw (same k) refl
 same_change (change.Add r) rows others same k = rw (same k) refl
 same_change (change.Take at) rows others same k = rw (same k) refl
 same_change (change.TakeList n s) rows others same k = rw (same k) refl
+same_change (change.TakePlacements n) rows others same k = ap (unless (is_placement_in n)) (same k)
 
 same_changes : (cs : List Change) (rows others : RowKey → Option Row) → ((k : RowKey) → rows k ≡ others k) → (k : RowKey) → after_changes cs rows k ≡ after_changes cs others k
 same_changes [] rows others same k = same k
@@ -29,6 +30,7 @@ one_fresh (change.Put r) rows others same fresh = tt
 one_fresh (change.Add r) rows others same fresh = same (key_of r) ∙ fresh
 one_fresh (change.Take at) rows others same fresh = tt
 one_fresh (change.TakeList n s) rows others same fresh = tt
+one_fresh (change.TakePlacements n) rows others same fresh = tt
 
 all_fresh : (cs : List Change) (rows others : RowKey → Option Row) → ((k : RowKey) → rows k ≡ others k) → AreFresh cs others → AreFresh cs rows
 all_fresh [] rows others same fresh = tt

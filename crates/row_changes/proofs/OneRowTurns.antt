@@ -1,10 +1,8 @@
 -- The changes of a request turn the rows of an office into those of the office after it. A put is one row in one table. A list
--- changes the rows of its student in the last round. A reopening takes out the placements of the last round, which are those that
--- the office after it has not.
+-- changes the rows of its student in the last round. A reopening takes out the placements of the last round, and no other row.
 use Rattle.std.proofs.Common.{◌≡◌, ℕ, ◌+◌, ◌≤◌, inl, inr, Bool, true, false, not, cond, List, [], ◌∷◌, map, Option, Some, None, is_some, refl, sym, ap, subst, ◌∙◌, arith}
-use Rattle.std.specs.Prelude.{◌==◌, filter}
+use Rattle.std.specs.Prelude.{◌==◌}
 use Rattle.std.specs.Option.{option_map, option_map_or}
-use Rattle.std.specs.List.{AllByRecursion}
 use Rattle.std.specs.Str.{bytes_eq}
 use Rattle.std.proofs.lemmas.Bool.{cases_Bool, cases_eq}
 use Rattle.std.proofs.lemmas.Slice.Eq.{bytes_eq-Decides}
@@ -25,7 +23,7 @@ use Rattle.rolls.specs.declared.row.Change.TheVariants as change
 use Rattle.rolls.specs.Roll.{Key, find, has, put, same_key}
 use Rattle.rolls.specs.State.{State, supervisor_key, project_key, student_key, round_key, list_key, placement_key, import_key, supervisor_of, project_of, student_of, round_of, placement_of, import_of, has_supervisor, has_project, has_student, has_import, lists_of, list_of, last_round, is_open, choices_in}
 use Rattle.rolls.specs.Fit.{IsFit, are_numbered}
-use Rattle.rolls.specs.Rows.{Turns, AreFresh, key_of, row_of, same_row, is_in_list, after_change, after_changes, supervisor_row, project_row, student_row, round_row, placement_row, import_row, choice_in}
+use Rattle.rolls.specs.Rows.{Turns, AreFresh, key_of, row_of, same_row, is_in_list, is_placement_in, unless, after_change, after_changes, supervisor_row, project_row, student_row, round_row, placement_row, import_row, choice_in}
 use Rattle.rolls.specs.Stepping.{after_opening, after_reopening}
 use Rattle.rolls.specs.Importing.{with_import}
 use Rattle.rolls.proofs.EntryChange.{find-put}
@@ -33,7 +31,7 @@ use Rattle.rolls.proofs.LastRound.{last_changed, other_kept, reading_kept, readi
 use Rattle.row_changes.specs.Changes.{put_or_added, list_changes, reopening_changes}
 use Rattle.row_changes.specs.Laws.{KeepingTurns}
 use Rattle.row_changes.proofs.Entries.{find-filter}
-use Rattle.row_changes.proofs.RowsLeft.{round_test, code_test, list_apart, list_there, list_fresh, from_none, choice_of_other_round, choice_of_other_student, untouched, is_at, put_or_added_at, put_or_added_fresh}
+use Rattle.row_changes.proofs.RowsLeft.{round_test, code_test, list_apart, list_there, list_fresh, from_none, choice_of_other_round, choice_of_other_student, put_or_added_at, put_or_added_fresh}
 use Rattle.row_changes.proofs.FitAfterPut.{with_supervisor, with_project, with_student}
 use Rattle.row_changes.proofs.StayingRounds.{with_lists, lists_changed, lists_elsewhere}
 
@@ -207,54 +205,26 @@ module _ (g : List Listed → List Listed) (student : List ℕ) (has : Bool) (ne
 
 -- ---- the last round again
 
--- placements are taken out
-abbrev taken_out : List Placement → List Change
-taken_out ps = map (λ p. change.Take (key.Placement p.student)) ps
+-- a row that is no placement stays
+stays : {E : Type 0} (round : ℕ) (to_row : E → Row) → ((e : E) → is_placement_in round (to_row e) ≡ false) → (x : Option E) → unless (is_placement_in round) (option_map to_row x) ≡ option_map to_row x
+stays round to_row other None = refl
+stays round to_row other (Some e) = ap (λ b. cond b None (Some (to_row e))) (other e)
 
-all_taken_out : (P : Change → Type 0) → ((s : List ℕ) → P (change.Take (key.Placement s))) → (ps : List Placement) → AllByRecursion P (taken_out ps)
-all_taken_out P h [] = tt
-all_taken_out P h (p ∷ ps) = (h p.student, all_taken_out P h ps)
-
--- which adds no row
-takes_fresh : (ps : List Placement) (rows : RowKey → Option Row) → AreFresh (taken_out ps) rows
-takes_fresh [] rows = tt
-takes_fresh (p ∷ ps) rows = (tt, takes_fresh ps (after_change (change.Take (key.Placement p.student)) rows))
-
-gone : (found taken : Bool) (x : Option Placement) (p : Placement) (r : Option Row) → taken ≡ found → cond (is_some x) None (cond taken None r) ≡ cond (is_some (cond found (Some p) x)) None r
-gone true taken x p r is = ap (λ b. cond (is_some x) None (cond b None r)) is ∙ nothing (is_some x)
+-- a placement stays unless it is of the round
+left_out : (round : ℕ) (x : Option Placement) → unless (is_placement_in round) (option_map placement_row x) ≡ option_map placement_row (option_filter (λ p. not (p.round == round)) x)
+left_out round None = refl
+left_out round (Some p) = by (p.round == round)
   where
-    nothing : (b : Bool) → ◌≡◌ {A = Option Row} (cond b None None) None
-    nothing true = refl
-    nothing false = refl
-gone false taken x p r is = ap (λ b. cond (is_some x) None (cond b None r)) is
-
-taken_out_at : (ps : List Placement) (rows : RowKey → Option Row) (s : List ℕ) → after_changes (taken_out ps) rows (key.Placement s) ≡ cond (has placement_key (0, s) ps) None (rows (key.Placement s))
-taken_out_at [] rows s = refl
-taken_out_at (p ∷ ps) rows s =
-    taken_out_at ps (after_change (change.Take (key.Placement p.student)) rows) s
-    ∙ gone (same_key (0, s) (0, p.student)) _ (find placement_key (0, s) ps) p (rows (key.Placement s)) (code_test s p.student)
-
--- what passes a test goes, and what does not stays
-left_out : (t : Placement → Bool) (x : Option Placement) → cond (is_some (option_filter t x)) None (option_map placement_row x) ≡ option_map placement_row (option_filter (λ p. not (t p)) x)
-left_out t None = refl
-left_out t (Some p) = by (t p)
-  where
-    by : (b : Bool) → cond (is_some (cond b (Some p) None)) None (Some (placement_row p)) ≡ option_map placement_row (cond (not b) (Some p) None)
+    by : (b : Bool) → cond b None (Some (placement_row p)) ≡ option_map placement_row (cond (not b) (Some p) None)
     by true = refl
     by false = refl
 
 module _ (o : State) (fit : IsFit o) (some : 1 ≤ last_round o) where
   abbrev reopening : List Change
-  reopening = reopening_changes (last_round o) o.placements
+  reopening = reopening_changes (last_round o)
 
   abbrev with_round : RowKey → Option Row
   with_round = after_change (change.Put (row.Round (last_round o) true)) (row_of o)
-
-  -- at a key of another table
-  beside : (k : RowKey) → ((s : List ℕ) → same_row k (key.Placement s) ≡ false) → after_changes reopening (row_of o) k ≡ with_round k
-  beside k apart =
-      let ps : List Placement = filter (λ p. p.round == last_round o) o.placements in
-      untouched (taken_out ps) with_round k (all_taken_out (λ c. is_at c k ≡ false) apart ps)
 
   round_there : (n : ℕ) → with_round (key.Round n) ≡ row_of (after_reopening o) (key.Round n)
   round_there n = elim (cases_eq n (last_round o)) [
@@ -272,19 +242,17 @@ module _ (o : State) (fit : IsFit o) (some : 1 ≤ last_round o) where
           ∙ sym (ap (option_map round_row) (last_changed (λ r. record r { is_open = true }) (λ r. refl) o fit.numbered ∙ ap (option_map (λ (r : Round). record r { is_open = true })) r.1))
 
   reopened : (k : RowKey) → after_changes reopening (row_of o) k ≡ row_of (after_reopening o) k
-  reopened (key.Supervisor code) = beside (key.Supervisor code) (λ s. refl)
-  reopened (key.Project code) = beside (key.Project code) (λ s. refl)
-  reopened (key.Student code) = beside (key.Student code) (λ s. refl)
-  reopened (key.Import id) = beside (key.Import id) (λ s. refl)
-  reopened (key.Round n) = beside (key.Round n) (λ s. refl) ∙ round_there n
+  reopened (key.Supervisor code) = stays (last_round o) supervisor_row (λ e. refl) (supervisor_of o code)
+  reopened (key.Project code) = stays (last_round o) project_row (λ e. refl) (project_of o code)
+  reopened (key.Student code) = stays (last_round o) student_row (λ e. refl) (student_of o code)
+  reopened (key.Import id) = stays (last_round o) import_row (λ e. refl) (import_of o id)
+  reopened (key.Round n) = ap (unless (is_placement_in (last_round o))) (round_there n) ∙ stays (last_round o) round_row (λ e. refl) (round_of (after_reopening o) n)
   reopened (key.Choice n s place) =
-      beside (key.Choice n s place) (λ t. refl)
+      stays (last_round o) (row.Choice n s place) (λ e. refl) (choice_in (choices_in o n s) place)
       ∙ same_choice o (after_reopening o) n s place (reading_kept (λ r. record r { is_open = true }) (λ r. refl) o fit.numbered (λ (r : Round). r.lists) [] (λ r. refl) n)
   reopened (key.Placement s) =
-      taken_out_at (filter (λ p. p.round == last_round o) o.placements) with_round s
-      ∙ ap (λ (x : Option Placement). cond (is_some x) None (option_map placement_row (placement_of o s))) (find-filter placement_key (λ p. p.round == last_round o) (0, s) o.placements fit.placements_rise)
-      ∙ left_out (λ p. p.round == last_round o) (placement_of o s)
+      left_out (last_round o) (placement_of o s)
       ∙ ap (option_map placement_row) (sym (find-filter placement_key (λ p. not (p.round == last_round o)) (0, s) o.placements fit.placements_rise))
 
   pub turns_reopened : Turns reopening o (after_reopening o)
-  turns_reopened = record { fresh = (tt, takes_fresh (filter (λ p. p.round == last_round o) o.placements) with_round); rows = reopened }
+  turns_reopened = record { fresh = (tt, (tt, tt)); rows = reopened }

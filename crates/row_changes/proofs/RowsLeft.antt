@@ -69,23 +69,14 @@ apart_from_places n s k p apart = false_from_ne_true (same_row k (key.Choice n s
 
 -- ---- changes at other keys
 
--- whether a change is at a key
-abbrev pub is_at : Change → RowKey → Bool
-is_at (change.Put r) k = same_row k (key_of r)
-is_at (change.Add r) k = same_row k (key_of r)
-is_at (change.Take q) k = same_row k q
-is_at (change.TakeList n s) k = is_in_list n s k
+-- a change leaves what stands at this key
+abbrev SparesKey : RowKey → Change → Type 0
+SparesKey k c = (rows : RowKey → Option Row) → after_change c rows k ≡ rows k
 
-one_apart : (c : Change) (rows : RowKey → Option Row) (k : RowKey) → is_at c k ≡ false → after_change c rows k ≡ rows k
-one_apart (change.Put r) rows k h = ap (λ b. cond b (Some r) (rows k)) h
-one_apart (change.Add r) rows k h = ap (λ b. cond b (Some r) (rows k)) h
-one_apart (change.Take q) rows k h = ap (λ b. cond b None (rows k)) h
-one_apart (change.TakeList n s) rows k h = ap (λ b. cond b None (rows k)) h
-
--- leave what was there
-pub untouched : (cs : List Change) (rows : RowKey → Option Row) (k : RowKey) → AllByRecursion (λ c. is_at c k ≡ false) cs → after_changes cs rows k ≡ rows k
+-- so do several of them
+untouched : (cs : List Change) (rows : RowKey → Option Row) (k : RowKey) → AllByRecursion (SparesKey k) cs → after_changes cs rows k ≡ rows k
 untouched [] rows k a = refl
-untouched (c ∷ cs) rows k a = untouched cs (after_change c rows) k a.1 ∙ one_apart c rows k a.0
+untouched (c ∷ cs) rows k a = untouched cs (after_change c rows) k a.1 ∙ a.0 rows
 
 -- ---- changes one after another
 
@@ -167,7 +158,8 @@ module _ (n : ℕ) (s : List ℕ) where
   -- at a key of something else
   pub list_apart : (has : Bool) (new : List (List ℕ)) (rows : RowKey → Option Row) (k : RowKey) → is_in_list n s k ≡ false → after_changes (list_changes n s has new) rows k ≡ rows k
   list_apart has new rows k h =
-      untouched (list_changes n s has new) rows k (all_of_list (λ c. is_at c k ≡ false) h (λ p c. apart_from_places n s k p h) has new)
+      untouched (list_changes n s has new) rows k
+      (all_of_list (SparesKey k) (λ rows. ap (λ b. cond b None (rows k)) h) (λ p c rows. ap (λ b. cond b (Some (row.Choice n s p c)) (rows k)) (apart_from_places n s k p h)) has new)
 
   -- no choice of the list stands where it was taken, or never was
   taken : (has : Bool) (rows : RowKey → Option Row) → (has ≡ false → (p : ℕ) → rows (key.Choice n s p) ≡ None) → (p : ℕ) → after_changes (list_taken n s has) rows (key.Choice n s p) ≡ None

@@ -1,9 +1,8 @@
 -- The changes of the tables that a plain request makes, the first of them first.
-use Rattle.std.specs.Prelude.{ℕ, suc, ◌+◌, ◌==◌, Bool, not, true, List, [], ◌∷◌, ◌++◌, length, map, filter, if◌then◌else◌}
+use Rattle.std.specs.Prelude.{ℕ, suc, ◌+◌, ◌==◌, Bool, not, true, List, [], ◌∷◌, ◌++◌, length, filter, if◌then◌else◌}
 use Rattle.rolls.specs.declared.rounds.Placement.{Placement}
 use Rattle.rolls.specs.declared.row.Row.{Row}
 use Rattle.rolls.specs.declared.row.Row.TheVariants as row
-use Rattle.rolls.specs.declared.row.RowKey.TheVariants as key
 use Rattle.rolls.specs.declared.row.Change.{Change}
 use Rattle.rolls.specs.declared.row.Change.TheVariants as change
 use Rattle.rolls.specs.declared.import.ImportKind.{ImportKind}
@@ -30,9 +29,9 @@ choices_added round student place (c ∷ cs) = change.Add (row.Choice round stud
 abbrev pub list_changes : ℕ → List ℕ → Bool → List (List ℕ) → List Change
 list_changes round student has new = list_taken round student has ++ choices_added round student 1 new
 
--- a round opens again, and those of these placements that it made go
-abbrev pub reopening_changes : ℕ → List Placement → List Change
-reopening_changes round placements = change.Put (row.Round round true) ∷ map (λ p. change.Take (key.Placement p.student)) (filter (λ p. p.round == round) placements)
+-- a round opens again, and its placements go
+abbrev pub reopening_changes : ℕ → List Change
+reopening_changes round = change.Put (row.Round round true) ∷ change.TakePlacements round ∷ []
 
 -- the placements of other rounds
 abbrev pub kept_placements : ℕ → List Placement → List Placement
@@ -46,7 +45,7 @@ changes_of (PutStudent code label) o = put_or_added (has_student o code) (row.St
 changes_of OpenRound o = change.Add (row.Round (last_round o + 1) true) ∷ []
 changes_of (PutList student choices) o = list_changes (last_round o) student (has_list o (last_round o) student) choices
 changes_of (DropList student) o = change.TakeList (last_round o) student ∷ []
-changes_of ReopenRound o = reopening_changes (last_round o) o.placements
+changes_of ReopenRound o = reopening_changes (last_round o)
 changes_of (GetSupervisor code) o = []
 changes_of (GetProject code) o = []
 changes_of (GetStudent code) o = []

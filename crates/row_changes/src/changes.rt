@@ -4,7 +4,7 @@ ghost use Rattle.std.specs.Prelude.{◌≡◌, ◌≤◌, IfOk, length};
 ghost use Rattle.spa.specs.declared.TheConstants.{RANKS};
 ghost use Rattle.row_changes.specs.Changes as says;
 
-use rolls::{Change, Placement, Row, RowKey, Text};
+use rolls::{Change, Placement, Row, Text};
 use spa::Code;
 use std::alloc::{AllocError, Global};
 
@@ -48,25 +48,16 @@ pub fn list_changes(
     Ok(changes)
 }
 
-/// A round opens again, and those of the placements that it made go.
-pub fn reopening_changes(
-    alloc: Global,
-    round: u32,
-    placements: &[Placement],
-) -> Result<Vec<Change>, AllocError>
-    ensures { IfOk result (λ changes. changes.items ≡ says.reopening_changes round placements.now) }
+/// A round opens again, and its placements go.
+pub fn reopening_changes(alloc: Global, round: u32) -> Result<Vec<Change>, AllocError>
+    ensures { IfOk result (λ changes. changes.items ≡ says.reopening_changes round) }
 {
     let mut changes = Vec::new(alloc);
     changes.push(Change::Put(Row::Round {
         number: round,
         is_open: true,
     }))?;
-    for placement in placements {
-        if placement.round == round {
-            let student = Text::of(alloc, placement.student.as_str())?;
-            changes.push(Change::Take(RowKey::Placement(student)))?;
-        }
-    }
+    changes.push(Change::TakePlacements(round))?;
     Ok(changes)
 }
 

@@ -18,21 +18,21 @@ use Rattle.sqlite.specs.Order.{Row as Cells, value_cmp}
 use Rattle.sqlite.specs.Collation.TheVariants.{Binary}
 use Rattle.sqlite_sql.specs.Ops.{binary, is_true, from_truth}
 use Rattle.sqlite_schema.specs.Rules.{equal}
-use Rattle.tables.specs.Writes.{begins_with, without}
+use Rattle.tables.specs.Writes.{begins_with, goes_on, without}
 use Rattle.rolls.specs.declared.row.Row.{Row}
 use Rattle.rolls.specs.declared.row.Row.TheVariants as row
 use Rattle.rolls.specs.declared.row.RowKey.{RowKey}
 use Rattle.rolls.specs.declared.row.RowKey.TheVariants as key
 use Rattle.rolls.specs.From.{row_in}
-use Rattle.rolls.specs.Rows.{key_of, is_in_list, same_row}
+use Rattle.rolls.specs.Rows.{key_of, is_in_list, is_placement_in, same_row}
 use Rattle.tables.specs.declared.table.Table.{Table}
-use Rattle.tables.specs.declared.table.Table.TheVariants.{Choice, Edition}
+use Rattle.tables.specs.declared.table.Table.TheVariants.{Choice, Edition, Placement}
 use Rattle.tables.specs.Table.{same_table}
 use Rattle.tables.proofs.Runs.{same_table_is, same_table_self}
 use Rattle.tables.proofs.KeyTests.{equal_int}
 use Rattle.rolls.proofs.RowKeys.{apart_back, same_row_is}
-use Rattle.store.specs.Rows.{IsRoll, columns, is_in, columns_of, key_columns, list_columns, rolls, table_at_key, table_of}
-use Rattle.store.proofs.Keys.{dropped, dropped_by}
+use Rattle.store.specs.Rows.{IsRoll, columns, is_in, columns_of, key_columns, list_columns, rolls, round_columns, table_at_key, table_of}
+use Rattle.store.proofs.Keys.{dropped, left}
 
 natural : ℤ → ℕ
 natural (pos n) = n
@@ -121,33 +121,35 @@ drops_own _ _ h = absurd (cc)
 other_key : (k : RowKey) (s : Row) → table_of s ≢ table_at_key k → same_row (key_of s) k ≡ false
 other_key k s apart = false_from_ne_true _ (λ h. apart (ap table_at_key (same_row_is (key_of s) k h)))
 
--- the key of one table is that of no row of another
-keeps_other : (table : Table) (k : RowKey) (s : Row) → table ≢ table_at_key k → is_in table s ≡ true → not (same_row (key_of s) k) ≡ true
-keeps_other table k s apart h = ap not (other_key k s (λ e. apart (is_of table s h ∙ e)))
+module _ (table : Table) (goes : Row → Bool) (g : Cells → Bool) (same : (s : Row) → is_in table s ≡ true → not (goes s) ≡ g (columns s)) where
+  left_go : (s : Row) (rest : List Row) (a b : Bool) → is_in table s ≡ a → not (goes s) ≡ b → columns_of table (left goes rest) ≡ filter g (columns_of table rest)
+      → columns_of table (cond b (s ∷ left goes rest) (left goes rest)) ≡ filter g (map columns (cond a (s ∷ filter (is_in table) rest) (filter (is_in table) rest)))
+  left_go s rest true true kind is later = rw (kind, sym (same s kind) ∙ is) (ap (λ more. columns s ∷ more) later)
+  left_go s rest true false kind is later = rw (sym (same s kind) ∙ is) later
+  left_go s rest false true kind is later = rw kind later
+  left_go s rest false false kind is later = later
 
-module _ (table : Table) (p : RowKey → Bool) (g : Cells → Bool) (same : (s : Row) → is_in table s ≡ true → not (p (key_of s)) ≡ g (columns s)) where
-  dropped_go : (s : Row) (rest : List Row) (a b : Bool) → is_in table s ≡ a → not (p (key_of s)) ≡ b → columns_of table (dropped_by p rest) ≡ filter g (columns_of table rest)
-      → columns_of table (cond b (s ∷ dropped_by p rest) (dropped_by p rest)) ≡ filter g (map columns (cond a (s ∷ filter (is_in table) rest) (filter (is_in table) rest)))
-  dropped_go s rest true true kind is later = rw (kind, sym (same s kind) ∙ is) (ap (λ more. columns s ∷ more) later)
-  dropped_go s rest true false kind is later = rw (sym (same s kind) ∙ is) later
-  dropped_go s rest false true kind is later = rw kind later
-  dropped_go s rest false false kind is later = later
-
-  columns_dropped : (list : List Row) → columns_of table (dropped_by p list) ≡ filter g (columns_of table list)
-  columns_dropped [] = refl
-  columns_dropped (s ∷ rest) = dropped_go s rest (is_in table s) (not (p (key_of s))) refl refl (columns_dropped rest)
+  columns_left : (list : List Row) → columns_of table (left goes list) ≡ filter g (columns_of table list)
+  columns_left [] = refl
+  columns_left (s ∷ rest) = left_go s rest (is_in table s) (not (goes s)) refl refl (columns_left rest)
 
 all_kept : {X : Type 0} (xs : List X) → filter (λ (_ : X). true) xs ≡ xs
 all_kept [] = refl
 all_kept (x ∷ xs) = ap (λ ys. x ∷ ys) (all_kept xs)
 
--- the columns of the table that lost the rows with a key
-pub columns_without : (k : RowKey) (list : List Row) → columns_of (table_at_key k) (dropped k list) ≡ without (key_columns k) (columns_of (table_at_key k) list)
-columns_without k list = columns_dropped (table_at_key k) (λ l. same_row l k) (λ v. not (begins_with (key_columns k) v)) (drops_own k) list
+-- Which rows leave one table: a test finds rows of this table alone, and there SQL finds the same ones.
+pub record Leave (table : Table) (goes : Row → Bool) (found : Cells → Bool) : Type 0 where
+  pub only : (s : Row) → goes s ≡ true → table_of s ≡ table
+  pub same : (s : Row) → is_in table s ≡ true → not (goes s) ≡ not (found (columns s))
 
--- those of another table
-pub columns_beside : (table : Table) (k : RowKey) (list : List Row) → table ≢ table_at_key k → columns_of table (dropped k list) ≡ columns_of table list
-columns_beside table k list apart = columns_dropped table (λ l. same_row l k) (λ _. true) (λ s. keeps_other table k s apart) list ∙ all_kept (columns_of table list)
+module _ (at : Table) (goes : Row → Bool) (found : Cells → Bool) (leave : Leave at goes found) (list : List Row) where
+  -- the columns of the table, once they have left
+  pub columns_there : columns_of at (left goes list) ≡ filter (λ v. not (found v)) (columns_of at list)
+  columns_there = columns_left at goes (λ v. not (found v)) leave.same list
+
+  -- those of another table
+  pub columns_elsewhere : (table : Table) → table ≢ at → columns_of table (left goes list) ≡ columns_of table list
+  columns_elsewhere table apart = columns_left table goes (λ _. true) (λ s h. ap not (false_from_ne_true (goes s) (λ t. apart (is_of table s h ∙ leave.only s t)))) list ∙ all_kept (columns_of table list)
 
 and_true : (b : Bool) → (b && true) ≡ b
 and_true true = refl
@@ -159,28 +161,39 @@ equal_place a b = same_tests _ _
     (λ h. (Decides-eqb a b).1 (ap natural (equal_int (pos a) (pos b) h)))
     (λ h. subst (λ (m : ℕ). equal Binary (Int (pos a)) (Int (pos m)) ≡ true) ((Decides-eqb a b).0 h) (int_self (pos a)))
 
--- in the table of choices SQL drops those of the list
-drops_list : (round : ℕ) (student : List ℕ) (s : Row) → is_in Choice s ≡ true → not (is_in_list round student (key_of s)) ≡ not (begins_with (list_columns round student) (columns s))
-drops_list round student (row.Choice n s k p) h = λ i. not (sym (equal_place n round) i && sym (ap (λ t. t && true) (equal_text s student) ∙ and_true (bytes_eq s student)) i)
-drops_list _ _ _ h = absurd (cc)
+-- the row with a key leaves
+pub key_leaves : (k : RowKey) → Leave (table_at_key k) (λ s. same_row (key_of s) k) (begins_with (key_columns k))
+key_leaves k = record { only = λ s h. ap table_at_key (same_row_is (key_of s) k h); same = drops_own k }
 
--- a row of another table is of no list
-keeps_beside : (table : Table) (round : ℕ) (student : List ℕ) (s : Row) → table ≢ Choice → is_in table s ≡ true → not (is_in_list round student (key_of s)) ≡ true
-keeps_beside table round student (row.Choice n s k p) apart h = absurd (apart (is_of table (row.Choice n s k p) h))
-keeps_beside table round student (row.Supervisor c l n) apart h = refl
-keeps_beside table round student (row.Project c l s n) apart h = refl
-keeps_beside table round student (row.Student c l) apart h = refl
-keeps_beside table round student (row.Round n o) apart h = refl
-keeps_beside table round student (row.Placement s n p k) apart h = refl
-keeps_beside table round student (row.Import i w b n) apart h = refl
-
--- the columns of the choices, once a list is taken away
-pub list_without : (round : ℕ) (student : List ℕ) (list : List Row) → columns_of Choice (dropped_by (is_in_list round student) list) ≡ without (list_columns round student) (columns_of Choice list)
-list_without round student list = columns_dropped Choice (is_in_list round student) (λ v. not (begins_with (list_columns round student) v)) (drops_list round student) list
+-- the columns of its table
+pub columns_without : (k : RowKey) (list : List Row) → columns_of (table_at_key k) (dropped k list) ≡ without (key_columns k) (columns_of (table_at_key k) list)
+columns_without k = columns_there _ _ _ (key_leaves k)
 
 -- those of another table
-pub list_beside : (table : Table) (round : ℕ) (student : List ℕ) (list : List Row) → table ≢ Choice → columns_of table (dropped_by (is_in_list round student) list) ≡ columns_of table list
-list_beside table round student list apart = columns_dropped table (is_in_list round student) (λ _. true) (λ s. keeps_beside table round student s apart) list ∙ all_kept (columns_of table list)
+pub columns_beside : (table : Table) (k : RowKey) (list : List Row) → table ≢ table_at_key k → columns_of table (dropped k list) ≡ columns_of table list
+columns_beside table k list = columns_elsewhere _ _ _ (key_leaves k) list table
+
+-- the choices of a list leave
+pub list_leaves : (round : ℕ) (student : List ℕ) → Leave Choice (λ s. is_in_list round student (key_of s)) (begins_with (list_columns round student))
+list_leaves round student = record { only = only; same = same }
+  where
+    only : (s : Row) → is_in_list round student (key_of s) ≡ true → table_of s ≡ Choice
+    only (row.Choice n s k p) h = refl
+    only _ h = absurd (cc)
+    same : (s : Row) → is_in Choice s ≡ true → not (is_in_list round student (key_of s)) ≡ not (begins_with (list_columns round student) (columns s))
+    same (row.Choice n s k p) h = λ i. not (sym (equal_place n round) i && sym (ap (λ t. t && true) (equal_text s student) ∙ and_true (bytes_eq s student)) i)
+    same _ h = absurd (cc)
+
+-- the placements of a round leave
+pub placements_leave : (round : ℕ) → Leave Placement (is_placement_in round) (goes_on 1 (round_columns round))
+placements_leave round = record { only = only; same = same }
+  where
+    only : (s : Row) → is_placement_in round s ≡ true → table_of s ≡ Placement
+    only (row.Placement s n p k) h = refl
+    only _ h = absurd (cc)
+    same : (s : Row) → is_in Placement s ≡ true → not (is_placement_in round s) ≡ not (goes_on 1 (round_columns round) (columns s))
+    same (row.Placement s n p k) h = ap not (sym (ap (λ t. t && true) (equal_place n round) ∙ and_true (n == round)))
+    same _ h = absurd (cc)
 
 none_left : {X : Type 0} (g : X → Bool) (xs : List X) → filter g xs ≡ [] → filter (λ x. not (g x)) xs ≡ xs
 none_left g [] none = refl

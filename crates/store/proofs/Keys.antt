@@ -5,7 +5,7 @@ use Rattle.std.proofs.lemmas.Bool.{and_parts, and_from, or_parts, not-true, fals
 use Rattle.rolls.specs.declared.row.Row.{Row}
 use Rattle.rolls.specs.declared.row.RowKey.{RowKey}
 use Rattle.rolls.specs.declared.row.Change.TheVariants.{Put}
-use Rattle.rolls.specs.Rows.{key_of, same_row, after_change}
+use Rattle.rolls.specs.Rows.{key_of, same_row, unless, after_change}
 use Rattle.rolls.specs.From.{row_in, are_apart}
 use Rattle.rolls.proofs.RowKeys.{same_row_is, same_row_self, apart_back}
 use Rattle.store.specs.Rows.{AreRowsAt}
@@ -14,13 +14,22 @@ use Rattle.store.specs.Rows.{AreRowsAt}
 pub same_row_by : (a b : RowKey) → a ≡ b → same_row a b ≡ true
 same_row_by a b e = subst (λ k. same_row a k ≡ true) e (same_row_self a)
 
--- the rows but for those with such keys
+-- the rows but for those that pass a test
+abbrev pub left : (Row → Bool) → List Row → List Row
+left goes = filter (λ s. not (goes s))
+
+-- but for those with such keys
 abbrev pub dropped_by : (RowKey → Bool) → List Row → List Row
-dropped_by p = filter (λ s. not (p (key_of s)))
+dropped_by p = left (λ s. p (key_of s))
 
 -- but for those with this key
 abbrev pub dropped : RowKey → List Row → List Row
 dropped key = dropped_by (λ k. same_row k key)
+
+-- a key that no row has has no row
+no_other : (k : RowKey) (list : List Row) → list_any (λ t. same_row k (key_of t)) list ≡ false → row_in list k ≡ None
+no_other k [] none = refl
+no_other k (t ∷ rest) none = let parts = or_parts _ _ none in ap (λ b. cond b (Some t) (row_in rest k)) parts.0 ∙ no_other k rest parts.1
 
 any_kept_go : {X : Type 0} (q p : X → Bool) (x : X) (xs : List X) (b : Bool) → (q x || list_any q xs) ≡ false → list_any q (filter p xs) ≡ false → list_any q (cond b (x ∷ filter p xs) (filter p xs)) ≡ false
 any_kept_go q p x xs true none later = λ i. (or_parts (q x) (list_any q xs) none).0 i || later i
@@ -29,6 +38,38 @@ any_kept_go q p x xs false none later = later
 any_kept : {X : Type 0} (q p : X → Bool) (xs : List X) → list_any q xs ≡ false → list_any q (filter p xs) ≡ false
 any_kept q p [] none = refl
 any_kept q p (x ∷ xs) none = any_kept_go q p x xs (p x) none (any_kept q p xs (or_parts _ _ none).1)
+
+module _ (goes : Row → Bool) where
+  apart_go : (s : Row) (rest : List Row) (b : Bool) → are_apart (s ∷ rest) ≡ true → are_apart (left goes rest) ≡ true → are_apart (cond b (s ∷ left goes rest) (left goes rest)) ≡ true
+  apart_go s rest true apart later = let parts = and_parts _ _ apart in
+      and_from _ _ (ap not (any_kept (λ t. same_row (key_of s) (key_of t)) (λ t. not (goes t)) rest (not-true _ parts.0))) later
+  apart_go s rest false apart later = later
+
+  -- rows stay apart
+  pub apart_left : (list : List Row) → are_apart list ≡ true → are_apart (left goes list) ≡ true
+  apart_left [] apart = refl
+  apart_left (s ∷ rest) apart = apart_go s rest (not (goes s)) apart (apart_left rest (and_parts _ _ apart).1)
+
+  in_left_go : (k : RowKey) (s : Row) (rest : List Row) (g b : Bool) → goes s ≡ g → same_row k (key_of s) ≡ b → list_any (λ t. same_row (key_of s) (key_of t)) rest ≡ false
+      → row_in (left goes rest) k ≡ unless goes (row_in rest k) → row_in (cond (not g) (s ∷ left goes rest) (left goes rest)) k ≡ unless goes (cond b (Some s) (row_in rest k))
+  in_left_go k s rest true true went same alone later =
+      let none : row_in rest k ≡ None = no_other k rest (ap (λ l. list_any (λ t. same_row l (key_of t)) rest) (same_row_is k (key_of s) same) ∙ alone) in
+      later ∙ ap (unless goes) none ∙ sym (ap (λ b. cond b None (Some s)) went)
+  in_left_go k s rest true false went other alone later = later
+  in_left_go k s rest false true stayed same alone later = ap (λ b. cond b (Some s) (row_in (left goes rest) k)) same ∙ sym (ap (λ b. cond b None (Some s)) stayed)
+  in_left_go k s rest false false stayed other alone later = ap (λ b. cond b (Some s) (row_in (left goes rest) k)) other ∙ later
+
+  -- the row at a key stays unless it passes the test: no other row has its key
+  in_left : (k : RowKey) (list : List Row) → are_apart list ≡ true → row_in (left goes list) k ≡ unless goes (row_in list k)
+  in_left k [] apart = refl
+  in_left k (s ∷ rest) apart = let parts = and_parts _ _ apart in in_left_go k s rest (goes s) (same_row k (key_of s)) refl refl (not-true _ parts.0) (in_left k rest parts.1)
+
+  -- the rows once those that pass the test are taken away
+  pub rows_left : (list : List Row) (rows : RowKey → Option Row) → AreRowsAt list rows → AreRowsAt (left goes list) (λ k. unless goes (rows k))
+  rows_left list rows at = record {
+    apart = apart_left list at.apart;
+    each = λ k. in_left k list at.apart ∙ ap (unless goes) (at.each k);
+  }
 
 module _ (p : RowKey → Bool) where
   -- a key that is not such is another than one that is
@@ -55,16 +96,6 @@ module _ (p : RowKey → Bool) where
   in_gone k [] gone = refl
   in_gone k (s ∷ rest) gone = in_gone_go k s rest (p (key_of s)) refl gone (in_gone k rest gone)
 
-  apart_go : (s : Row) (rest : List Row) (b : Bool) → are_apart (s ∷ rest) ≡ true → are_apart (dropped_by p rest) ≡ true → are_apart (cond b (s ∷ dropped_by p rest) (dropped_by p rest)) ≡ true
-  apart_go s rest true apart later = let parts = and_parts _ _ apart in
-      and_from _ _ (ap not (any_kept (λ t. same_row (key_of s) (key_of t)) (λ t. not (p (key_of t))) rest (not-true _ parts.0))) later
-  apart_go s rest false apart later = later
-
-  -- rows stay apart
-  pub apart_dropped : (list : List Row) → are_apart list ≡ true → are_apart (dropped_by p list) ≡ true
-  apart_dropped [] apart = refl
-  apart_dropped (s ∷ rest) apart = apart_go s rest (not (p (key_of s))) apart (apart_dropped rest (and_parts _ _ apart).1)
-
   taken_go : (list : List Row) (rows : RowKey → Option Row) (k : RowKey) (b : Bool) → p k ≡ b → row_in list k ≡ rows k → row_in (dropped_by p list) k ≡ cond b None (rows k)
   taken_go list rows k true is each = in_gone k list is
   taken_go list rows k false is each = in_other k list is ∙ each
@@ -72,7 +103,7 @@ module _ (p : RowKey → Bool) where
   -- the rows once those with such keys are taken away
   pub rows_taken : (list : List Row) (rows : RowKey → Option Row) → AreRowsAt list rows → AreRowsAt (dropped_by p list) (λ k. cond (p k) None (rows k))
   rows_taken list rows at = record {
-    apart = apart_dropped list at.apart;
+    apart = apart_left (λ s. p (key_of s)) list at.apart;
     each = λ k. taken_go list rows k (p k) refl (at.each k);
   }
 
@@ -94,6 +125,6 @@ put_go r list rows k false is each = in_other (λ l. same_row l (key_of r)) k li
 -- the rows once one is put
 pub rows_put : (list : List Row) (rows : RowKey → Option Row) (r : Row) → AreRowsAt list rows → AreRowsAt (r ∷ dropped (key_of r) list) (after_change (Put r) rows)
 rows_put list rows r at = record {
-  apart = and_from _ _ (ap not (none_dropped (key_of r) list)) (apart_dropped (λ l. same_row l (key_of r)) list at.apart);
+  apart = and_from _ _ (ap not (none_dropped (key_of r) list)) (apart_left (λ s. same_row (key_of s) (key_of r)) list at.apart);
   each = λ k. put_go r list rows k (same_row k (key_of r)) refl (at.each k);
 }

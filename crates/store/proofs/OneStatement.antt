@@ -1,28 +1,29 @@
 -- What one statement makes of the tables.
-use Rattle.std.proofs.Common.{◌≡◌, ◌≢◌, inl, inr, ℕ, List, ◌∷◌, Option, refl, sym, ap, subst, ◌∙◌}
+use Rattle.std.proofs.Common.{◌≡◌, ◌≢◌, inl, inr, ℕ, Bool, not, List, [], ◌∷◌, filter, Option, refl, sym, ap, subst, ◌∙◌}
 use Rattle.std.proofs.lemmas.Bool.{false_from_ne_true}
 use Rattle.sqlite.specs.Effect.{Database}
 use Rattle.sqlite.specs.Order.{Row as Cells}
 use Rattle.rolls.specs.declared.row.Row.{Row}
 use Rattle.rolls.specs.declared.row.RowKey.{RowKey}
 use Rattle.rolls.specs.declared.row.RowKey.TheVariants as key
-use Rattle.rolls.specs.declared.row.Change.TheVariants.{Add, Put, Take, TakeList}
-use Rattle.rolls.specs.Rows.{key_of, is_in_list, same_row}
+use Rattle.rolls.specs.declared.row.Change.{Change}
+use Rattle.rolls.specs.declared.row.Change.TheVariants.{Add, Put, Take, TakeList, TakePlacements}
+use Rattle.rolls.specs.Rows.{IsFresh, key_of, is_in_list, is_placement_in, same_row, after_change}
 use Rattle.tables.specs.declared.table.Table.{Table}
-use Rattle.tables.specs.declared.table.Table.TheVariants.{Choice, Edition}
+use Rattle.tables.specs.declared.table.Table.TheVariants.{Choice, Edition, Placement}
 use Rattle.tables.specs.Table.{table_at}
 use Rattle.tables.specs.Keyed.{Stands}
-use Rattle.tables.specs.Writes.{Adds, Puts, Removes, WritesOnly, with_row, without}
+use Rattle.tables.specs.Writes.{Adds, Puts, Removes, WritesOnly, begins_with, goes_on, with_row}
 use Rattle.tables.proofs.Runs.{stands_apart, decide_table}
-use Rattle.store.specs.Rows.{AreRowsAt, IsRoll, columns, columns_of, key_columns, list_columns, table_at_key, table_of}
+use Rattle.store.specs.Rows.{AreRowsAt, IsRoll, columns, columns_of, key_columns, list_columns, round_columns, table_at_key, table_of}
 use Rattle.store.specs.Tables.{TablesHold, first_edition}
 use Rattle.sqlite_rules.proofs.ListLemmas.{all_has}
 use Rattle.store.specs.Inside.Saving.{AppliesOne, Enters, entering}
 use Rattle.store.specs.Saving.{Spares}
 use Rattle.store.specs.declared.saving.Way.{Way}
 use Rattle.store.specs.declared.saving.Way.TheVariants.{InPlace, New}
-use Rattle.store.proofs.Keys.{dropped, dropped_by, rows_put, rows_taken}
-use Rattle.store.proofs.Columns.{in_rolls, is_of, columns_without, columns_beside, columns_kept, columns_more, columns_same, list_beside, list_without, none_there}
+use Rattle.store.proofs.Keys.{dropped, left, rows_left, rows_put, rows_taken}
+use Rattle.store.proofs.Columns.{Leave, in_rolls, is_of, columns_there, columns_elsewhere, columns_without, columns_beside, columns_kept, columns_more, columns_same, key_leaves, list_leaves, placements_leave, none_there}
 
 module _ (old new : Database) (rows : RowKey → Option Row) (t : TablesHold old rows) (q : Table) (kept : IsRoll q) (only : WritesOnly (t.places q).tree old new) where
   edition_stays : Stands (table_at Edition) t.edition first_edition new
@@ -98,27 +99,26 @@ pub hold_enter : (way : Way) (r : Row) (old new : Database) → Enters way (tabl
 hold_enter InPlace r old new = hold_put r old new
 hold_enter New r old new = hold_add r old new
 
--- a row that was taken out of its table
-pub hold_take : (k : RowKey) (old new : Database) → Removes (table_at (table_at_key k)) (key_columns k) old new → AppliesOne (Take k) old new
-unfolding AppliesOne Removes
-hold_take k old new removes inert rows t =
-    let q = table_at_key k in
-    let kept = in_rolls k in
-    let done = removes (t.places q) (columns_of q t.list) (inert q kept (t.places q) (t.rolls q kept).listed) (t.rolls q kept) in
-    let list : List Row = dropped k t.list in (
-      held_by old new rows t q kept done.1 list (without (key_columns k) (columns_of q t.list)) _ (rows_taken (λ l. same_row l k) t.list rows t.at) done.0 (columns_without k t.list) (λ table other. columns_beside table k t.list other),
-      spared old new rows t q kept done.1,
-      tt,
-    )
+-- rows that were taken out of one table
+module _ (c : Change) (q : Table) (kept : IsRoll q) (goes : Row → Bool) (found : Cells → Bool) (leave : Leave q goes found)
+    (rows_after : (list : List Row) (rows : RowKey → Option Row) → AreRowsAt list rows → AreRowsAt (left goes list) (after_change c rows)) (fresh : (rows : RowKey → Option Row) → IsFresh c rows) where
+  hold_left : (old new : Database) → Removes (table_at q) found old new → AppliesOne c old new
+  unfolding AppliesOne Removes
+  hold_left old new removes inert rows t =
+      let done = removes (t.places q) (columns_of q t.list) (inert q kept (t.places q) (t.rolls q kept).listed) (t.rolls q kept) in (
+        held_by old new rows t q kept done.1 (left goes t.list) (filter (λ v. not (found v)) (columns_of q t.list)) _ (rows_after t.list rows t.at) done.0 (columns_there q goes found leave t.list) (columns_elsewhere q goes found leave t.list),
+        spared old new rows t q kept done.1,
+        fresh rows,
+      )
 
--- a list that was taken out of the table of choices
-pub hold_list : (round : ℕ) (student : List ℕ) (old new : Database) → Removes (table_at Choice) (list_columns round student) old new → AppliesOne (TakeList round student) old new
-unfolding AppliesOne Removes
-hold_list round student old new removes inert rows t =
-    let kept : IsRoll Choice = in_rolls (key.Choice round student 0) in
-    let done = removes (t.places Choice) (columns_of Choice t.list) (inert Choice kept (t.places Choice) (t.rolls Choice kept).listed) (t.rolls Choice kept) in
-    let list : List Row = dropped_by (is_in_list round student) t.list in (
-      held_by old new rows t Choice kept done.1 list (without (list_columns round student) (columns_of Choice t.list)) _ (rows_taken (is_in_list round student) t.list rows t.at) done.0 (list_without round student t.list) (λ table other. list_beside table round student t.list other),
-      spared old new rows t Choice kept done.1,
-      tt,
-    )
+-- the row with a key
+pub hold_take : (k : RowKey) (old new : Database) → Removes (table_at (table_at_key k)) (begins_with (key_columns k)) old new → AppliesOne (Take k) old new
+hold_take k = hold_left (Take k) (table_at_key k) (in_rolls k) _ _ (key_leaves k) (rows_taken (λ l. same_row l k)) (λ rows. tt)
+
+-- a list
+pub hold_list : (round : ℕ) (student : List ℕ) (old new : Database) → Removes (table_at Choice) (begins_with (list_columns round student)) old new → AppliesOne (TakeList round student) old new
+hold_list round student = hold_left (TakeList round student) Choice (in_rolls (key.Choice round student 0)) _ _ (list_leaves round student) (rows_taken (is_in_list round student)) (λ rows. tt)
+
+-- the placements of a round
+pub hold_placed : (round : ℕ) (old new : Database) → Removes (table_at Placement) (goes_on 1 (round_columns round)) old new → AppliesOne (TakePlacements round) old new
+hold_placed round = hold_left (TakePlacements round) Placement (in_rolls (key.Placement [])) _ _ (placements_leave round) (rows_left (is_placement_in round)) (λ rows. tt)

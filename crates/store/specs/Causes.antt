@@ -4,12 +4,13 @@ use Rattle.sqlite.specs.declared.types.Value.TheVariants.{Int}
 use Rattle.sqlite.specs.Effect.{Database}
 use Rattle.sqlite_rules.specs.Lists.{Has}
 use Rattle.rolls.specs.declared.row.Change.{Change}
-use Rattle.rolls.specs.declared.row.Change.TheVariants.{Add, Put, Take, TakeList}
+use Rattle.rolls.specs.declared.row.Change.TheVariants.{Add, Put, Take, TakeList, TakePlacements}
 use Rattle.tables.specs.declared.table.Table.{Table}
 use Rattle.tables.specs.declared.table.Table.TheVariants.{Edition}
-use Rattle.tables.specs.Table.{list_removal, sql_of}
+use Rattle.tables.specs.declared.table.Group.TheVariants as group
+use Rattle.tables.specs.Table.{Sharing, sharing, sql_of}
 use Rattle.tables.specs.Causes.{IsHindered, IsHinderedToPut, IsUnread, IsUnready}
-use Rattle.store.specs.Rows.{columns, kept, key_columns, list_columns, table_at_key, table_of}
+use Rattle.store.specs.Rows.{columns, kept, key_columns, list_columns, round_columns, table_at_key, table_of}
 use Rattle.store.specs.Saving.{Applies}
 use Rattle.store.specs.Tables.{HasNone, MakesTables}
 
@@ -18,7 +19,8 @@ abbrev pub IsHinderedChange : Change → Option ℕ → Database → Type 0
 IsHinderedChange (Put row) = IsHinderedToPut (table_of row) (columns row)
 IsHinderedChange (Add row) = IsHindered (sql_of (table_of row)).insert (columns row)
 IsHinderedChange (Take key) = IsHindered (sql_of (table_at_key key)).delete (key_columns key)
-IsHinderedChange (TakeList round student) = IsHindered list_removal (list_columns round student)
+IsHinderedChange (TakeList round student) = IsHindered (sharing group.List).removal (list_columns round student)
+IsHinderedChange (TakePlacements round) = IsHindered (sharing group.Placed).removal (round_columns round)
 
 -- one of the changes is refused, once those before it are made
 pub record IsHinderedAmong (changes : List Change) (limit : Option ℕ) (db : Database) : Type 0 where

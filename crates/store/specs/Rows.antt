@@ -46,6 +46,10 @@ key_columns k = (at_key k).1
 abbrev pub list_columns : ℕ → List ℕ → Cells
 list_columns round student = Int (pos round) ∷ Text student ∷ []
 
+-- the column that names the placements of a round
+abbrev pub round_columns : ℕ → Cells
+round_columns round = Int (pos round) ∷ []
+
 -- the table of a row
 abbrev pub table_of : Row → Table
 table_of r = table_at_key (key_of r)

@@ -18,10 +18,10 @@ use crate::fault::StoreFault;
 use rolls::{Change, Row, RowKey};
 use sqlite::{Alter, Connection, Transaction, params};
 use sqlite_value::value::ValueRef;
-use tables::Table;
+use tables::{Group, Table};
 use tables::fault::TableFault;
 use tables::ready::need_open;
-use tables::statements::{delete, delete_list, insert, put};
+use tables::statements::{delete, delete_group, insert, put};
 
 /// The number that stands for a truth value.
 fn flag(value: bool) -> u32
@@ -158,7 +158,10 @@ fn apply<S: Alter>(tx: &mut Transaction<'_, S>, change: &Change) -> Result<(), T
         Change::Put(row) => write_row(tx, Way::InPlace, row),
         Change::Add(row) => write_row(tx, Way::New, row),
         Change::Take(key) => take_row(tx, key),
-        Change::TakeList(round, student) => delete_list(tx, params![*round, student.as_str()]),
+        Change::TakeList(round, student) => {
+            delete_group(tx, Group::List, params![*round, student.as_str()])
+        }
+        Change::TakePlacements(round) => delete_group(tx, Group::Placed, params![*round]),
     }
 }
 

@@ -124,7 +124,7 @@ pub stopped_as : (H K : Option ℕ → Database → Type 0) (old new : State) �
 stopped_as H K old new f it = record { why = either old new (H old.step_limit old.now) (K old.step_limit old.now) f it.why }
 
 -- a statement whose text is told of the table
-pub stopped_by : (told mine : Sql) (text : Sql → List ℕ) (row : Row) (old new : State) → told ≡ mine → IsStopped (IsHindered (text told) row) old new → IsStopped (IsHindered (text mine) row) old new
+pub stopped_by : {T : Type 0} (told mine : T) (text : T → List ℕ) (row : Row) (old new : State) → told ≡ mine → IsStopped (IsHindered (text told) row) old new → IsStopped (IsHindered (text mine) row) old new
 stopped_by told mine text row old new is it = subst (λ sql. IsStopped (IsHindered (text sql) row) old new) is it
 
 -- a call after one that went through

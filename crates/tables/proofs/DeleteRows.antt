@@ -1,5 +1,5 @@
--- DELETE of the rows that begin with the given values.
-use Rattle.std.proofs.Common.{◌≡◌, ℕ, ◌+◌, List, [], ◌∷◌, slice_get, slice_range, Option, Some, None, Ok, Err, sym, ap, subst, ◌∙◌, true, not, map, filter}
+-- DELETE of the rows that the given values find.
+use Rattle.std.proofs.Common.{◌≡◌, ℕ, ◌+◌, List, [], ◌∷◌, slice_get, slice_range, Option, Some, None, Ok, Err, sym, ap, subst, ◌∙◌, Bool, true, not, map, filter}
 use Rattle.std.specs.List.Sorted.{IsPermutation}
 use Rattle.std.proofs.lemmas.List.Sorted.{IsPermutation-map}
 use Rattle.sqlite_keyed.proofs.ListLemmas.{IsPermutation-filter, map-map}
@@ -35,7 +35,7 @@ use Rattle.sqlite.proofs.Callers.{one_step}
 use Rattle.tables.specs.Table.{Place, Lists, cells, are_of}
 use Rattle.tables.specs.Inside.Keyed.{id_of}
 use Rattle.tables.specs.Keyed.{IsKeyed}
-use Rattle.tables.specs.Writes.{Removes, begins_with}
+use Rattle.tables.specs.Writes.{Removes}
 use Rattle.tables.proofs.Places.{placed, listed_along}
 use Rattle.tables.proofs.InsertKeyed.{went, same_value}
 use Rattle.tables.proofs.Understood.{planned_of, Means, IsWriteText, runs_by, and_then_ok, ends_in_write, on_table_writes, compiles_to_write}
@@ -44,9 +44,8 @@ use Rattle.tables.proofs.InsertRow.{Has, has_listed, on_table_is}
 use Rattle.tables.proofs.QueryRows.{found_program, accepted, hit, found}
 use Rattle.tables.proofs.SelectAll.{finding}
 
--- A text that deletes, read under any schema that lists the table, and what its test finds: the rows that begin with
--- its parameters, where those are of these kinds.
-pub record IsDelete (sql : List ℕ) (t0 : Table) (kinds : List Kind) : Type 0 where
+-- A text that deletes, read under any schema that lists the table, and what its test finds by parameters of these kinds.
+pub record IsDelete (sql : List ℕ) (t0 : Table) (kinds : List Kind) (goes : Row → Row → Bool) : Type 0 where
   pub p : Parsed
   pub test : Expr
   pub tests : List Term
@@ -56,9 +55,9 @@ pub record IsDelete (sql : List ℕ) (t0 : Table) (kinds : List Kind) : Type 0 w
   pub whole : slice_range sql p.start p.end ≡ sql
   pub unlisted : if_select (compiled listing_schema sql) ≡ Err NoSuchTable
   pub draft : (schema : Schema) (at : ℕ) (place : Place) → Has schema t0.name at (placed t0 place) → deleted schema at (placed t0 place) (Some test) ≡ Ok (finding place.tree tests (col 1 0 ∷ []))
-  pub hits : (key : Row) → are_of kinds key ≡ true → (r : Row) → hit tests (col 1 0 ∷ []) key r ≡ begins_with key (cells t0 r)
+  pub hits : (key : Row) → are_of kinds key ≡ true → (r : Row) → hit tests (col 1 0 ∷ []) key r ≡ goes key (cells t0 r)
 
-module _ (sql : List ℕ) (t0 : Table) (kinds : List Kind) (it : IsDelete sql t0 kinds) (schema : Schema) (place : Place) (listed : Lists schema (placed t0 place)) where
+module _ (sql : List ℕ) (t0 : Table) (kinds : List Kind) (goes : Row → Row → Bool) (it : IsDelete sql t0 kinds goes) (schema : Schema) (place : Place) (listed : Lists schema (placed t0 place)) where
   abbrev found_by : Program
   found_by = found_program place.tree it.tests (col 1 0 ∷ [])
 
@@ -92,7 +91,7 @@ delete_does limit mode params db after text at table q tally there inert h =
     let made : Applies db.schema mode.keys db.trees edit edited.0 = one_step db.schema mode.keys db.trees edited.0 edit (inert _) edited.1 in
     (ap (λ (d : Database). d.schema) now, given.0, given.1, subst (Applies db.schema mode.keys db.trees edit) (sym (ap (λ (d : Database). d.trees) now ∙ trees)) made)
 
-module _ (sql : List ℕ) (t0 : Table) (kinds : List Kind) (it : IsDelete sql t0 kinds) where
+module _ (sql : List ℕ) (t0 : Table) (kinds : List Kind) (goes : Row → Row → Bool) (it : IsDelete sql t0 kinds goes) where
   some_delete : (schema : Schema) (base : ℕ) (k : Command) → command schema [] base (written.Delete t0.name (Some it.test) []) ≡ Ok k → IsWrite k
   unfolding command delete
   some_delete schema base k = on_table_writes schema t0.name _ k (λ at table h.
@@ -103,8 +102,8 @@ module _ (sql : List ℕ) (t0 : Table) (kinds : List Kind) (it : IsDelete sql t0
   pub delete_writes : IsWriteText sql
   delete_writes = compiles_to_write sql it.p it.parsed (λ schema base k h. some_delete schema base k (rw (it.plain, it.statement) at h))
 
-  -- a DELETE that went through took out the rows that begin with its parameters, and nothing else
-  pub delete_removes : (old new : State) (key : Row) (count : ℕ) → are_of kinds key ≡ true → Executes sql key old new (Ok count) → Removes (placed t0) key old.now new.now
+  -- a DELETE that went through took out the rows that its parameters find, and nothing else
+  pub delete_removes : (old new : State) (key : Row) (count : ℕ) → are_of kinds key ≡ true → Executes sql key old new (Ok count) → Removes (placed t0) (goes key) old.now new.now
   unfolding Removes
   delete_removes old new key count is ran place rows inert stands =
       let t = placed t0 place in
@@ -112,18 +111,18 @@ module _ (sql : List ℕ) (t0 : Table) (kinds : List Kind) (it : IsDelete sql t0
       let here = old.now.trees place.tree in
       let finds = hit it.tests (col 1 0 ∷ []) key in
       let q = found_program place.tree it.tests (col 1 0 ∷ []) in
-      let w = runs_by sql key old new count (Delete listed.at q) sql (delete_means sql t0 kinds it old.now.schema place listed) ran in
+      let w = runs_by sql key old new count (Delete listed.at q) sql (delete_means sql t0 kinds goes it old.now.schema place listed) ran in
       let done = delete_does old.step_limit (mode_of old) key old.now new.now sql listed.at t q w.tally listed.there (λ olds. inert olds []) w.changed in
       let got = found it.tests (col 1 0 ∷ []) key old.now place.tree done.1 done.2 in
       let ids : IsPermutation (map id_of (filter finds here)) (ids_of done.1) =
       subst (λ all. IsPermutation all (ids_of done.1)) (map-map (λ (r : Row). id_in (rowid r)) (λ (r : Row). rowid r ∷ []) (filter finds here)) (IsPermutation-map (λ (r : Row). id_in (rowid r)) _ _ got) in
       let left : new.now.trees place.tree ≡ filter (λ r. not (finds r)) here = done.3.rows ∙ taken_out finds here (ids_of done.1) stands.keyed ids in
-      let shown : map (cells t) (filter (λ r. not (finds r)) here) ≡ filter (λ v. not (begins_with key v)) (map (cells t) here) =
-      map_filter (cells t) (λ r. not (finds r)) (λ v. not (begins_with key v)) (λ r. ap not (it.hits key is r)) here in (
+      let shown : map (cells t) (filter (λ r. not (finds r)) here) ≡ filter (λ v. not (goes key v)) (map (cells t) here) =
+      map_filter (cells t) (λ r. not (finds r)) (λ v. not (goes key v)) (λ r. ap not (it.hits key is r)) here in (
         record {
           listed = listed_along old.now.schema new.now.schema t done.0 listed;
           keyed = subst IsKeyed (sym left) (still_keyed (λ r. not (finds r)) here stands.keyed);
-          holds = subst (λ all. IsPermutation (filter (λ v. not (begins_with key v)) rows) all) (sym (ap (map (cells t)) left ∙ shown)) (IsPermutation-filter (λ v. not (begins_with key v)) _ _ stands.holds);
+          holds = subst (λ all. IsPermutation (filter (λ v. not (goes key v)) rows) all) (sym (ap (map (cells t)) left ∙ shown)) (IsPermutation-filter (λ v. not (goes key v)) _ _ stands.holds);
         },
         record { schema = done.0; others = done.3.tables },
       )

@@ -63,6 +63,11 @@ abbrev pub equals_from : ℕ → List ℕ → List Term
 equals_from at [] = []
 equals_from at (place ∷ places) = equals place at ∷ equals_from (suc at) places
 
+-- so many numbers from one on
+abbrev counted : ℕ → ℕ → List ℕ
+counted from zero = []
+counted from (suc count) = from ∷ counted (suc from) count
+
 -- the columns from a place on are shown
 abbrev pub columns_out : ℕ → List (List ℕ) → List Output
 columns_out at [] = []
@@ -110,16 +115,21 @@ module _ (shape : Shape) where
   abbrev pub terms_of : List Term
   terms_of = laid_out (lit Null) shape.key (given_terms 0 width)
 
-  -- the test of so many columns, which are the key or begin it
-  abbrev pub test_of : ℕ → Expr
-  test_of count = tests_of (take count names_of)
+  -- the test of so many columns after so many others
+  abbrev pub test_of : ℕ → ℕ → Expr
+  test_of before count = tests_of (take count (drop before names_of))
 
-  abbrev pub finds_of : ℕ → List Term
-  finds_of count = equals_from 0 (take count shape.primary)
+  -- where they are in a row: the first ones are the key or begin it
+  abbrev places_at : ℕ → ℕ → List ℕ
+  places_at zero count = take count shape.primary
+  places_at (suc before) count = counted (suc (suc before)) count
 
-  -- DELETE of the rows that these columns begin
-  abbrev pub delete_of : ℕ → Statement
-  delete_of count = written.Delete shape.name (Some (test_of count)) []
+  abbrev pub finds_of : ℕ → ℕ → List Term
+  finds_of before count = equals_from 0 (places_at before count)
+
+  -- DELETE of the rows by these columns
+  abbrev pub delete_of : ℕ → ℕ → Statement
+  delete_of before count = written.Delete shape.name (Some (test_of before count)) []
 
   -- UPDATE of each column but the rowid
   abbrev pub sets_of : List (List ℕ × Expr)
@@ -129,7 +139,7 @@ module _ (shape : Shape) where
   values_of = values_by shape.key width
 
   abbrev pub update_of : Statement
-  update_of = written.Update shape.name sets_of (Some (test_of (length shape.primary))) []
+  update_of = written.Update shape.name sets_of (Some (test_of 0 (length shape.primary))) []
 
   -- SELECT of the rowid and of each column
   abbrev pub core_of : Core

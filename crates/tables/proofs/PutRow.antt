@@ -54,7 +54,7 @@ module _ (table : Place → Table) (key : Row) (given : Row) where
   }
 
 -- where there was none it is as if those with the key had been taken out
-pub finds_none : (table : Place → Table) (key given : Row) (count : ℕ) (a b : Database) → count ≡ 0 → Replaces table key given count a b → Removes table key a b
+pub finds_none : (table : Place → Table) (key given : Row) (count : ℕ) (a b : Database) → count ≡ 0 → Replaces table key given count a b → Removes table (begins_with key) a b
 unfolding Removes
 finds_none table key given count a b zero p place rows inert stands =
     let it = p place rows inert stands in

@@ -6,7 +6,9 @@ use Rattle.sqlite.specs.Listing.{listing_schema}
 use Rattle.sqlite_value.specs.Keys.{first_key}
 use Rattle.tables.specs.declared.table.Table.{Table}
 use Rattle.tables.specs.declared.table.Table.TheVariants.{Edition, Supervisor, Project, Student, Round, Choice, Placement, Import}
-use Rattle.tables.specs.Table.{list_removal}
+use Rattle.tables.specs.Table.{Sharing, sharing}
+use Rattle.tables.specs.declared.table.Group.{Group}
+use Rattle.tables.specs.declared.table.Group.TheVariants as group
 use Rattle.tables.proofs.Texts.{Removal, Texts}
 use Rattle.tables.proofs.InsertRow.{cast_null, cast_int}
 use Rattle.tables.proofs.KeyTests.{rowid_is}
@@ -71,7 +73,8 @@ texts Import = record {
   keyed = inr (0, refl, refl);
 }
 
--- and what the text gives that takes a list away
-pub list_text : Removal Choice list_removal 2
+-- and what the text gives that takes a group of rows away
+pub group_text : (rows : Group) → let s = sharing rows in Removal s.table s.removal s.before s.shared
 unfolding everything listing_schema first_key
-list_text = record { read = refl; resolved = λ schema at place there. rw there (rw there (rw there refl)); keys = λ round student r. refl }
+group_text group.List = record { read = refl; resolved = λ schema at place there. rw there (rw there (rw there refl)); keys = λ round student r. refl }
+group_text group.Placed = record { read = refl; resolved = λ schema at place there. rw there (rw there (rw there refl)); keys = λ round r. refl }

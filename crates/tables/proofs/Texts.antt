@@ -1,6 +1,6 @@
 -- The texts of a table mean what its row tells. A table gives `Texts`: that its texts are read as the forms of its shape, and what
 -- these are resolved to over the table, which the resolver computes of the literal texts. The rest is here, once for all tables.
-use Rattle.std.proofs.Common.{◌≡◌, ℕ, ℤ, suc, ◌/◌, slice_get, ◌^◌, List, [], ◌∷◌, length, map, take, slice_range, arith, nat_lt, true, false, None, Some, Ok, Err, refl, ap}
+use Rattle.std.proofs.Common.{◌≡◌, ℕ, ℤ, suc, ◌/◌, slice_get, ◌^◌, List, [], ◌∷◌, length, map, take, drop, slice_range, arith, nat_lt, true, false, None, Some, Ok, Err, refl, ap}
 use Rattle.std.proofs.lemmas.List.{take_all}
 use Rattle.sqlite.specs.declared.types.Value.TheVariants.{Null, Int, Text as Words, Blob as Bytes}
 use Rattle.sqlite.specs.Order.{Row}
@@ -40,7 +40,7 @@ use Rattle.sqlite_resolve.specs.declared.error.CompileError.TheVariants.{NoSuchT
 use Rattle.sqlite_tied.specs.Compute.{everything}
 use Rattle.tables.specs.declared.table.Table.{Table}
 use Rattle.tables.specs.Table.{Shape, Sql, Place, Lists, checks_of, shape_of, sql_of, table_at, kinds_of, are_of, cells}
-use Rattle.tables.specs.Writes.{begins_with}
+use Rattle.tables.specs.Writes.{begins_with, goes_on}
 use Rattle.tables.proofs.Places.{nowhere}
 use Rattle.tables.proofs.CreateTable.{IsCreate, made_command}
 use Rattle.tables.proofs.InsertRow.{IsInsert}
@@ -86,8 +86,8 @@ module _ (table : Table) where
     pub one : value_rows row (suc (width shape)) (length (terms_of shape) / suc (width shape)) (terms_of shape) ≡ laid_out Null shape.key row ∷ []
     pub added : (here : List Row) → cells plain (with_rowid Chosen here (cast_row plain (laid_out Null shape.key row))) ≡ row
     pub shares : (here : List Row) (r : Row) → agree in_order shape.primary r shape.primary (with_rowid Chosen here (cast_row plain (laid_out Null shape.key row))) ≡ begins_with (take (length shape.primary) row) (cells plain r)
-    pub finds : (r : Row) → hit (finds_of shape (length shape.primary)) (showing (values_of shape)) row r ≡ begins_with (take (length shape.primary) row) (cells plain r)
-    pub set : (r : Row) → is_int (rowid r) ≡ true → hit (finds_of shape (length shape.primary)) (showing (values_of shape)) row r ≡ true
+    pub finds : (r : Row) → hit (finds_of shape 0 (length shape.primary)) (showing (values_of shape)) row r ≡ begins_with (take (length shape.primary) row) (cells plain r)
+    pub set : (r : Row) → is_int (rowid r) ≡ true → hit (finds_of shape 0 (length shape.primary)) (showing (values_of shape)) row r ≡ true
         → cells plain (cast_row plain (rowid r ∷ eval_all (values_of shape) (row ∷ r ∷ []))) ≡ row
 
   -- the texts are read as the forms of the shape: CREATE makes the table, INSERT lays a row out, and SELECT shows it
@@ -96,7 +96,7 @@ module _ (table : Table) where
     pub create : first said.create ≡ Ok (read_as said.create (written.CreateTable (create_of shape body)) 0)
     pub insert : first said.insert ≡ Ok (read_as said.insert (insert_of shape) (width shape))
     pub update : first said.update ≡ Ok (read_as said.update (update_of shape) (width shape))
-    pub delete : first said.delete ≡ Ok (read_as said.delete (delete_of shape shape.named) shape.named)
+    pub delete : first said.delete ≡ Ok (read_as said.delete (delete_of shape 0 shape.named) shape.named)
     pub select : first said.select ≡ Ok (read_as said.select (written.Select (select_of shape)) 0)
     pub defined : define.table [] (create_of shape body) ≡ Ok (table_at table (record { tree = 0; checks = checks_of table }))
     pub unlisted : table_named listing_schema shape.name ≡ None
@@ -105,8 +105,8 @@ module _ (table : Table) where
 
   -- the forms are resolved over the table, where a schema has it at this position
   pub record AreResolved (schema : Schema) (at : ℕ) (place : Place) : Type 0 where
-    pub removal : deleted schema at (table_at table place) (Some (test_of shape shape.named)) ≡ Ok (finding place.tree (finds_of shape shape.named) (col 1 0 ∷ []))
-    pub change : updated schema at (table_at table place) (sets_of shape) (Some (test_of shape (length shape.primary))) ≡ Ok (finding place.tree (finds_of shape (length shape.primary)) (showing (values_of shape)))
+    pub removal : deleted schema at (table_at table place) (Some (test_of shape 0 shape.named)) ≡ Ok (finding place.tree (finds_of shape 0 shape.named) (col 1 0 ∷ []))
+    pub change : updated schema at (table_at table place) (sets_of shape) (Some (test_of shape 0 (length shape.primary))) ≡ Ok (finding place.tree (finds_of shape 0 (length shape.primary)) (showing (values_of shape)))
     pub all : nat_lt place.tree (2 ^ 31) ≡ true
         → result lower (outermost schema) (record { tables = bounds_at shape.name at; shown = [] }) (core_of shape) started ≡ Ok (outs_of shape, spent 99999)
 
@@ -114,16 +114,17 @@ module _ (table : Table) where
   pub record Texts : Type 0 where
     pub read : AreRead
     pub resolved : (schema : Schema) (at : ℕ) (place : Place) → slice_get schema.tables at ≡ Some (table_at table place) → AreResolved schema at place
-    pub keys : Each (take shape.named (kinds_of table)) (λ key. (r : Row) → hit (finds_of shape shape.named) (col 1 0 ∷ []) key r ≡ begins_with key (cells plain r))
+    pub keys : Each (take shape.named (kinds_of table)) (λ key. (r : Row) → hit (finds_of shape 0 shape.named) (col 1 0 ∷ []) key r ≡ begins_with key (cells plain r))
     pub rows : Each (kinds_of table) Gives
     pub keyed : HasKey plain
 
-  -- What a text gives that takes rows away by so many of the first columns: how it is read and resolved, and which rows a key finds.
-  pub record Removal (sql : List ℕ) (count : ℕ) : Type 0 where
-    pub read : first sql ≡ Ok (read_as sql (delete_of shape count) count)
+  -- What a text gives that takes rows away by so many columns after so many others: how it is read and resolved, and which rows a
+  -- key finds.
+  pub record Removal (sql : List ℕ) (before count : ℕ) : Type 0 where
+    pub read : first sql ≡ Ok (read_as sql (delete_of shape before count) count)
     pub resolved : (schema : Schema) (at : ℕ) (place : Place) → slice_get schema.tables at ≡ Some (table_at table place)
-        → deleted schema at (table_at table place) (Some (test_of shape count)) ≡ Ok (finding place.tree (finds_of shape count) (col 1 0 ∷ []))
-    pub keys : Each (take count (kinds_of table)) (λ key. (r : Row) → hit (finds_of shape count) (col 1 0 ∷ []) key r ≡ begins_with key (cells plain r))
+        → deleted schema at (table_at table place) (Some (test_of shape before count)) ≡ Ok (finding place.tree (finds_of shape before count) (col 1 0 ∷ []))
+    pub keys : Each (take count (drop before (kinds_of table))) (λ key. (r : Row) → hit (finds_of shape before count) (col 1 0 ∷ []) key r ≡ goes_on before key (cells plain r))
 
 read_whole : (sql : List ℕ) → slice_range sql 0 (length sql) ≡ sql
 read_whole sql = take_all _ sql (omega arith)
@@ -184,24 +185,24 @@ module _ (table : Table) (it : Texts table) where
   }
 
   -- a text that takes rows away
-  pub removal_is : (sql : List ℕ) (count : ℕ) → Removal table sql count → IsDelete sql made_plain (take count (kinds_of table))
+  pub removal_is : (sql : List ℕ) (before count : ℕ) → Removal table sql before count → IsDelete sql made_plain (take count (drop before (kinds_of table))) (goes_on before)
   unfolding compiled planned meaning timed returning shows command delete
-  removal_is sql count removal = record {
-    p = read_as sql (delete_of told count) count;
-    test = test_of told count;
-    tests = finds_of told count;
+  removal_is sql before count removal = record {
+    p = read_as sql (delete_of told before count) count;
+    test = test_of told before count;
+    tests = finds_of told before count;
     parsed = removal.read;
     statement = refl;
     plain = refl;
     whole = read_whole sql;
     unlisted = rw (removal.read, it.read.unlisted) refl;
     draft = λ schema at place has. removal.resolved schema at place has.there;
-    hits = by_kinds (take count (kinds_of table)) _ removal.keys;
+    hits = by_kinds (take count (drop before (kinds_of table))) _ removal.keys;
   }
 
   -- the text of the table that does
-  pub delete_is : IsDelete (said table).delete made_plain (take told.named (kinds_of table))
-  delete_is = removal_is (said table).delete told.named (record { read = it.read.delete; resolved = λ schema at place there. (it.resolved schema at place there).removal; keys = it.keys })
+  pub delete_is : IsDelete (said table).delete made_plain (take told.named (kinds_of table)) begins_with
+  delete_is = removal_is (said table).delete 0 told.named (record { read = it.read.delete; resolved = λ schema at place there. (it.resolved schema at place there).removal; keys = it.keys })
 
   -- the text that sets a row by its key
   pub update_is : IsUpdate (said table).update made_plain (kinds_of table) (length told.primary)
@@ -209,8 +210,8 @@ module _ (table : Table) (it : Texts table) where
   update_is = record {
     p = read_as (said table).update (update_of told) (width told);
     sets = sets_of told;
-    test = test_of told (length told.primary);
-    tests = finds_of told (length told.primary);
+    test = test_of told 0 (length told.primary);
+    tests = finds_of told 0 (length told.primary);
     values = values_of told;
     parsed = it.read.update;
     statement = refl;

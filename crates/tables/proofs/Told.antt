@@ -1,5 +1,5 @@
 -- What the statements of each table do.
-use Rattle.std.proofs.Common.{◌≡◌, ◌<◌, ◌≤◌, inl, inr, sym, ◌∙◌, ℕ, [], refl, subst, length, take, Result, Ok, Err, IfOk, IfErr, Vec}
+use Rattle.std.proofs.Common.{◌≡◌, ◌<◌, ◌≤◌, inl, inr, sym, ◌∙◌, ℕ, List, [], refl, subst, length, take, Result, Ok, Err, IfOk, IfErr, Vec}
 use Rattle.std.specs.declared.alloc.Global.{Global}
 use Rattle.sqlite.specs.Order.{Row}
 use Rattle.sqlite.specs.State.{State, HasCleanDisk, Survives, Shown, CommitsShowing}
@@ -7,9 +7,9 @@ use Rattle.sqlite.specs.Tree.{Trees}
 use Rattle.tables.specs.declared.fault.TableFault.{TableFault}
 use Rattle.tables.specs.Keyed.{IsKeyed}
 use Rattle.tables.specs.declared.table.Table.{Table}
-use Rattle.tables.specs.declared.table.Table.TheVariants.{Choice}
-use Rattle.tables.specs.Table.{Sql, checks_of, shape_of, sql_of, table_at, kinds_of, key_in, IsRowOf, IsKeyOf, IsListKey, list_removal}
-use Rattle.tables.specs.Writes.{Makes, Adds, Removes, Replaces}
+use Rattle.tables.specs.Table.{Sharing, Sql, checks_of, shape_of, sharing, sql_of, table_at, kinds_of, kinds_shared, key_in, IsRowOf, IsKeyOf, IsNamed}
+use Rattle.tables.specs.declared.table.Group.{Group}
+use Rattle.tables.specs.Writes.{Makes, Adds, Removes, Replaces, begins_with, goes_on}
 use Rattle.tables.specs.Inside.Steps.{HasRun, RanQuery}
 use Rattle.tables.specs.Steps.{HasStepped, Shows, Rests}
 use Rattle.tables.proofs.Places.{nowhere}
@@ -20,7 +20,7 @@ use Rattle.tables.proofs.DeleteRows.{delete_removes, delete_writes}
 use Rattle.tables.proofs.SelectAll.{read_shows, select_commits, select_rests}
 use Rattle.tables.proofs.Runs.{stepped_by}
 use Rattle.tables.proofs.Texts.{create_is, insert_is, update_is, delete_is, select_is, removal_is}
-use Rattle.tables.proofs.Tables.{list_text, texts}
+use Rattle.tables.proofs.Tables.{group_text, texts}
 use Rattle.tables.proofs.PutRow.{finds_none}
 use Rattle.tables.proofs.Causes.{inside_so, moment_of, stopped_after, stopped_as, unordered, unread}
 use Rattle.tables.specs.Causes.{FailsToPut, FailsToRead, FailsToWrite, IsHindered, IsHinderedToPut, IsStopped, IsUnread}
@@ -42,16 +42,22 @@ module _ (table : Table) (told : Sql) (is : told ≡ sql_of table) (old new : St
       (subst (λ (sql : Sql). HasRun sql.update row count old new) is run)
 
   -- rows were taken away
-  pub removed : (key : Row) → IsKeyOf table key → HasRun told.delete key count old new → HasStepped (Removes (table_at table) key) old new
+  pub removed : (key : Row) → IsKeyOf table key → HasRun told.delete key count old new → HasStepped (Removes (table_at table) (begins_with key)) old new
   removed key fits run =
-      stepped_by _ _ _ _ _ _ (delete_writes (sql_of table).delete (table_at table nowhere) (take (shape_of table).named (kinds_of table)) (delete_is table (texts table))) (delete_removes (sql_of table).delete (table_at table nowhere) (take (shape_of table).named (kinds_of table)) (delete_is table (texts table)) old new key count fits)
+      stepped_by _ _ _ _ _ _ (delete_writes (sql_of table).delete (table_at table nowhere) (take (shape_of table).named (kinds_of table)) begins_with (delete_is table (texts table))) (delete_removes (sql_of table).delete (table_at table nowhere) (take (shape_of table).named (kinds_of table)) begins_with (delete_is table (texts table)) old new key count fits)
       (subst (λ (sql : Sql). HasRun sql.delete key count old new) is run)
 
--- a list was taken away
-pub list_removed : (old new : State) (count : ℕ) (key : Row) → IsListKey key → HasRun list_removal key count old new → HasStepped (Removes (table_at Choice) key) old new
-list_removed old new count key fits run =
-    let it = removal_is Choice (texts Choice) list_removal 2 list_text in
-    stepped_by _ _ _ _ _ _ (delete_writes list_removal (table_at Choice nowhere) (take 2 (kinds_of Choice)) it) (delete_removes list_removal (table_at Choice nowhere) (take 2 (kinds_of Choice)) it old new key count fits) run
+-- a group of rows was taken away
+module _ (rows : Group) (text : List ℕ) (is : text ≡ (sharing rows).removal) (old new : State) (count : ℕ) (key : Row) (fits : IsNamed rows key) where
+  abbrev s : Sharing
+  s = sharing rows
+
+  pub group_removed : HasRun text key count old new → HasStepped (Removes (table_at s.table) (goes_on s.before key)) old new
+  group_removed run =
+      let it = removal_is s.table (texts s.table) s.removal s.before s.shared (group_text rows) in
+      stepped_by _ _ _ _ _ _ (delete_writes s.removal (table_at s.table nowhere) (kinds_shared rows) (goes_on s.before) it)
+      (delete_removes s.removal (table_at s.table nowhere) (kinds_shared rows) (goes_on s.before) it old new key count fits)
+      (subst (λ sql. HasRun sql key count old new) is run)
 
 module _ (table : Table) (told : Sql) (is : told ≡ sql_of table) (old new : State) where
   -- what a reading shows of the table

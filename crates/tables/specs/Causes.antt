@@ -14,7 +14,7 @@ use Rattle.tables.specs.declared.table.Table.{Table}
 use Rattle.tables.specs.Faults.{fault_of}
 use Rattle.tables.specs.Keyed.{have_ids, rises}
 use Rattle.tables.specs.Table.{sql_of, table_at, key_in}
-use Rattle.tables.specs.Writes.{Removes, Replaces}
+use Rattle.tables.specs.Writes.{Removes, Replaces, begins_with}
 
 -- an open connection that shows this database
 abbrev pub showing : Option ℕ → Bool → List Savepoint → Database → State
@@ -131,7 +131,7 @@ FailsToPut table row fault old new = FailsToWrite (sql_of table).update row faul
 -- the row can't be added, where there is none with its key
 pub record IsHinderedToAdd (table : Table) (row : Row) (limit : Option ℕ) (db : Database) : Type 0 where
   pub between : Database
-  pub none : Removes (table_at table) (key_in table row) db between
+  pub none : Removes (table_at table) (begins_with (key_in table row)) db between
   pub hindered : IsHindered (sql_of table).insert row limit between
 
 -- a put of the row is refused: as it replaces the row with its key, or as it is added, or since several rows have its key

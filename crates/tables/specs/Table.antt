@@ -24,6 +24,8 @@ use Rattle.sqlite_value.specs.Keys.{plain}
 use Rattle.sqlite_value.specs.declared.keys.Order.{Order}
 use Rattle.tables.specs.declared.table.Table.{Table}
 use Rattle.tables.specs.declared.table.Table.TheVariants.{Edition, Supervisor, Project, Student, Round, Choice, Placement, Import}
+use Rattle.tables.specs.declared.table.Group.{Group}
+use Rattle.tables.specs.declared.table.Group.TheVariants as group
 
 -- A table as it is told: its name and its columns; the position of the column that is the rowid, if one is; its key,
 -- columns that no two rows share, and references, all by columns counted from 1, with 0 for the rowid; and how many of
@@ -268,13 +270,26 @@ IsRowOf table row = IsTrue (are_of (kinds_of table) row)
 abbrev pub IsKeyOf : Table → Row → Type 0
 IsKeyOf table key = IsTrue (are_of (take (shape_of table).named (kinds_of table)) key)
 
--- the text that takes a list out of its table: all choices of a round and a student
-abbrev pub list_removal : List ℕ
-list_removal = codes "DELETE FROM choice WHERE round = ?1 AND student = ?2"
+-- Rows of a table that go together: those that share some columns, which stand after so many others; and the text that takes
+-- them out.
+pub record Sharing : Type 0 where
+  pub table : Table
+  pub before : ℕ
+  pub shared : ℕ
+  pub removal : List ℕ
 
--- the values may be the round and the student that a removal of a list names
-abbrev pub IsListKey : Row → Type 0
-IsListKey key = IsTrue (are_of (take 2 (kinds_of Choice)) key)
+-- the groups, each told once
+abbrev pub sharing : Group → Sharing
+sharing group.List = record { table = Choice; before = 0; shared = 2; removal = codes "DELETE FROM choice WHERE round = ?1 AND student = ?2" }
+sharing group.Placed = record { table = Placement; before = 1; shared = 1; removal = codes "DELETE FROM placement WHERE round = ?1" }
+
+-- the kinds of the columns that they share
+abbrev pub kinds_shared : Group → List Kind
+kinds_shared rows = let s = sharing rows in take s.shared (drop s.before (kinds_of s.table))
+
+-- the values may be what a removal of such a group names
+abbrev pub IsNamed : Group → Row → Type 0
+IsNamed rows key = IsTrue (are_of (kinds_shared rows) key)
 
 -- the key of a row
 abbrev pub key_in : Table → Row → Row

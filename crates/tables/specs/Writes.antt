@@ -38,6 +38,10 @@ abbrev pub begins_with : Row → Row → Bool
 begins_with [] row = true
 begins_with (value ∷ key) row = equal Binary (column row 0) value && begins_with key (drop 1 row)
 
+-- after so many of its columns the row goes on with these values
+abbrev pub goes_on : ℕ → Row → Row → Bool
+goes_on before key row = begins_with key (drop before row)
+
 -- the rows without those that begin with the key
 abbrev pub without : Row → List Row → List Row
 without key = filter (λ row. not (begins_with key row))
@@ -51,9 +55,9 @@ abbrev pub Adds : (Place → AnyTable) → Row → Row → Database → Database
 Adds table key row old new =
     (place : Place) (rows : List Row) → Stands table place rows old → Stands table place (row ∷ rows) new × WritesOnly place.tree old new × (filter (begins_with key) rows ≡ [])
 
--- the rows that begin with the key are gone
-unfoldable pub Removes : (Place → AnyTable) → Row → Database → Database → Type 0
-Removes table key = Turns table (without key)
+-- the rows that pass this test are gone
+unfoldable pub Removes : (Place → AnyTable) → (Row → Bool) → Database → Database → Type 0
+Removes table goes = Turns table (filter (λ row. not (goes row)))
 
 -- of the rows with this key there is one, the given one
 unfoldable pub Puts : (Place → AnyTable) → Row → Row → Database → Database → Type 0

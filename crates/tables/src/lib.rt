@@ -23,4 +23,4 @@ pub mod statements;
 mod table;
 mod write;
 
-pub use table::Table;
+pub use table::{Group, Table};

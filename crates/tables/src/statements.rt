@@ -6,13 +6,13 @@ ghost use Rattle.sqlite.specs.Values.{bound};
 ghost use Rattle.sqlite.specs.Held.{state};
 ghost use Rattle.tables.specs.declared.fault.TableFault.TheVariants.{Storage};
 ghost use Rattle.tables.specs.Causes.{FailsToPut, FailsToRead, FailsToWrite, IsCaused, IsCausedInside, IsHindered, IsHinderedToPut, IsToldInside, IsUnread};
-ghost use Rattle.tables.specs.Table.{IsRowOf, IsKeyOf, IsListKey, checks_of, key_in, list_removal, sql_of, table_at};
-ghost use Rattle.tables.specs.Writes.{Adds, Makes, Puts, Removes};
+ghost use Rattle.tables.specs.Table.{IsKeyOf, IsNamed, IsRowOf, checks_of, key_in, sharing, sql_of, table_at};
+ghost use Rattle.tables.specs.Writes.{Adds, Makes, Puts, Removes, begins_with, goes_on};
 ghost use Rattle.tables.specs.Steps.{Does, HasStepped, Rests, Shows};
 
 use crate::fault::{TableFault, Wrote};
 use crate::read::read_text;
-use crate::table::{LIST_REMOVAL, Table};
+use crate::table::{Group, Table};
 use crate::write::write;
 use sqlite::{Alter, Connection, Row, Transaction};
 use sqlite_value::value::ValueRef;
@@ -62,7 +62,7 @@ pub fn delete<S: Alter>(tx: &mut Transaction<'_, S>, table: Table, key: &[ValueR
     requires { IsKeyOf table (bound key.now) }
 
     ensures same_reference { tx.new.conn.ghost_name ≡ tx.old.conn.ghost_name }
-    ensures step { Does (HasStepped (Removes (table_at table) (bound key.now))) result (state S.Store tx.old.conn.now) (state S.Store tx.new.conn.now) }
+    ensures step { Does (HasStepped (Removes (table_at table) (begins_with (bound key.now)))) result (state S.Store tx.old.conn.now) (state S.Store tx.new.conn.now) }
     ensures told { IsToldInside (FailsToWrite (sql_of table).delete (bound key.now)) result (state S.Store tx.old.conn.now) (state S.Store tx.new.conn.now) }
     ensures cause { IsCausedInside (IsHindered (sql_of table).delete (bound key.now)) result (state S.Store tx.old.conn.now) (state S.Store tx.new.conn.now) }
 {
@@ -70,16 +70,16 @@ pub fn delete<S: Alter>(tx: &mut Transaction<'_, S>, table: Table, key: &[ValueR
     Ok(())
 }
 
-/// Takes a list away: all choices of this round and this student.
-pub fn delete_list<S: Alter>(tx: &mut Transaction<'_, S>, key: &[ValueRef<'_>]) -> Wrote
-    requires { IsListKey (bound key.now) }
+/// Takes the rows of a group away: those that have these values in the columns that they share.
+pub fn delete_group<S: Alter>(tx: &mut Transaction<'_, S>, group: Group, key: &[ValueRef<'_>]) -> Wrote
+    requires { IsNamed group (bound key.now) }
 
     ensures same_reference { tx.new.conn.ghost_name ≡ tx.old.conn.ghost_name }
-    ensures step { Does (HasStepped (Removes (table_at Table.Choice) (bound key.now))) result (state S.Store tx.old.conn.now) (state S.Store tx.new.conn.now) }
-    ensures told { IsToldInside (FailsToWrite list_removal (bound key.now)) result (state S.Store tx.old.conn.now) (state S.Store tx.new.conn.now) }
-    ensures cause { IsCausedInside (IsHindered list_removal (bound key.now)) result (state S.Store tx.old.conn.now) (state S.Store tx.new.conn.now) }
+    ensures step { Does (HasStepped (let rows = sharing group in Removes (table_at rows.table) (goes_on rows.before (bound key.now)))) result (state S.Store tx.old.conn.now) (state S.Store tx.new.conn.now) }
+    ensures told { IsToldInside (FailsToWrite (sharing group).removal (bound key.now)) result (state S.Store tx.old.conn.now) (state S.Store tx.new.conn.now) }
+    ensures cause { IsCausedInside (IsHindered (sharing group).removal (bound key.now)) result (state S.Store tx.old.conn.now) (state S.Store tx.new.conn.now) }
 {
-    write(tx, LIST_REMOVAL, key)?;
+    write(tx, group.removal(), key)?;
     Ok(())
 }
 

@@ -1,7 +1,7 @@
 //! The tables, each told once.
 
 ghost use Rattle.std.specs.Prelude.{◌≡◌, length};
-ghost use Rattle.tables.specs.Table.{kinds_of, shape_of, sql_of};
+ghost use Rattle.tables.specs.Table.{Sharing, kinds_of, shape_of, sharing, sql_of};
 ghost use Rattle.tables.specs.Inside.Table.{texts_by, told_by};
 
 use sqlite_schema::schema::Kind;
@@ -170,8 +170,26 @@ mod rows {
         delete: "DELETE FROM import WHERE id = ?1", select: "SELECT rowid, * FROM import" };
 }
 
-/// The text that takes a list out of `choice`: all choices of a round and a student.
-pub(crate) const LIST_REMOVAL: &str = "DELETE FROM choice WHERE round = ?1 AND student = ?2";
+/// Rows of a table that go together: those that share some columns.
+#[derive(Clone, Copy)]
+pub enum Group {
+    /// The choices of a round and a student: a list.
+    List,
+    /// The placements of a round.
+    Placed,
+}
+
+impl Group {
+    /// The text that takes such rows out of their table.
+    pub(crate) fn removal(self) -> &'static str
+        ensures { result.now ≡ (sharing self).removal }
+    {
+        match self {
+            Group::List => "DELETE FROM choice WHERE round = ?1 AND student = ?2",
+            Group::Placed => "DELETE FROM placement WHERE round = ?1",
+        }
+    }
+}
 
 impl Table {
     /// How many columns the table has.

@@ -74,8 +74,8 @@ impl Office {
         ensures err { OnErr result (self.new ≡ self.old) }
     {
         let round = self.last_round();
+        let changes = reopening_changes(self.alloc, round)?;
         let placements = self.placements.entries();
-        let changes = reopening_changes(self.alloc, round, placements)?;
         let kept = Table::of(self.alloc, kept_placements(self.alloc, placements, round)?)?;
         let mut last = self.last()?;
         last.is_open = true;

@@ -38,7 +38,7 @@ pub invariant_of-self-2 : goal.invariant_of-self-2
 invariant_of-self-2 c = made_fit ReopenRound (state_of c.self.inside) c.args.self.now c.self.view_is c.requires.allowed c.self.invariant _ (after c)
 
 pub returns-clause-changes : goal.returns-clause-changes
-returns-clause-changes c = c.in_ok-changes.ensures ∙ (λ i. reopening_changes (c.last_round-round.ensures i) (c.entries-placements.ensures.all i)) ∙ (λ i. reopening_changes (last_round c.args.self.now) (let o : State = c.self.view_is i in o.placements))
+returns-clause-changes c = c.in_ok-changes.ensures ∙ ap reopening_changes c.last_round-round.ensures
 
 pub returns-clause-ok : goal.returns-clause-ok
 returns-clause-ok c =
