@@ -1,5 +1,5 @@
 -- What becomes of the session that a desk keeps.
-use Rattle.std.specs.Prelude.{◌≡◌, ℕ, false, List, [], ◌∷◌, IsTrue, Option, Some, None, is_some, IfSome, Result, Ok, Err, if◌then◌else◌}
+use Rattle.std.specs.Prelude.{◌≡◌, ℕ, false, List, [], ◌∷◌, IsTrue, Option, Some, None, is_some, IfSome, IsOk, Result, Ok, Err, if◌then◌else◌}
 use Rattle.rolls.specs.State.{State, last_round, has_list, has_import}
 use Rattle.rolls.specs.declared.refusal.Refusal.{Refusal}
 use Rattle.rolls.specs.declared.refusal.Refusal.TheVariants.{Storage}
@@ -14,6 +14,7 @@ use Rattle.rolls.specs.Run.{Step}
 use Rattle.solver.specs.Sitting.{Sitting}
 use Rattle.allotment.specs.Layers.{layers}
 use Rattle.allotment.specs.Sittings.{SitsIn, IsOneMore}
+use Rattle.desk.specs.Keeping.{AnswersKept}
 use Rattle.desk.specs.declared.sessions.Fate.{Fate}
 use Rattle.desk.specs.declared.sessions.Fate.TheVariants.{Stays, Starts, Joins, Ends}
 
@@ -70,10 +71,17 @@ GoesOn o q (Err refusal) old new = new ≡ old
 abbrev pub IsToldRight : State → Request → Result Reply Refusal → Type 0
 IsToldRight o q a = IfSome (refusal_of o q) (λ r. a ≡ Err r) × (a ≡ Err Storage → changes_nothing o q ≡ false)
 
--- over a run: each request is a step of the office and told right, and the session goes on over each
+-- What takes no memory is answered: a read of a round that is there, a kept import that comes once more, and a preview that is
+-- read from a session.
+pub record AnswersAtOnce (o : State) (kept : Option Sitting) (q : Request) (a : Result Reply Refusal) : Type 0 where
+  pub round : (number : ℕ) → q ≡ request.Plain (GetRound number) → refusal_of o q ≡ None → IsOk a
+  pub repeated : AnswersKept o q a
+  pub preview : q ≡ request.Preview → refusal_of o q ≡ None → IsTrue (is_some kept) → IsOk a
+
+-- over a run: each request is a step of the office and told right, what takes no memory is answered, and the session goes on over each
 abbrev pub RunsOn : State → Option Sitting → List Request → List (Result Reply Refusal) → State → Option Sitting → Type 0
 RunsOn o old [] [] n new = (n ≡ o) × (new ≡ old)
-RunsOn o old (q ∷ qs) (a ∷ answers) n new = (m : State) × (kept : Option Sitting) × Step layers o q a m × GoesOn o q a old kept × IsToldRight o q a × RunsOn m kept qs answers n new
+RunsOn o old (q ∷ qs) (a ∷ answers) n new = (m : State) × (kept : Option Sitting) × Step layers o q a m × GoesOn o q a old kept × IsToldRight o q a × AnswersAtOnce o old q a × RunsOn m kept qs answers n new
 RunsOn o old [] (a ∷ answers) n new = ⊥
 RunsOn o old (q ∷ qs) [] n new = ⊥
 

@@ -18,6 +18,7 @@ ghost use Rattle.tables.specs.Causes.{IsCaused, IsStopped};
 ghost use Rattle.store.specs.Causes.{IsHinderedOpening, IsHinderedToSave};
 ghost use Rattle.desk.specs.Causes.{IsHinderedToAsk};
 ghost use Rattle.desk.specs.Keeping.{AnswersKept, Begins, CarriesOut, Keeps, StandsForOne, needs_no_table};
+ghost use Rattle.desk.specs.Inside.Saved.{IsSaved};
 ghost use Rattle.desk.specs.Sessions.{GoesOn, RunsOn, SitsAt};
 
 use crate::sessions::{fate_of, next_session};
@@ -295,12 +296,7 @@ impl<S: Alter> Desk<S> {
         ensures quiet { IfSome (refusal layers self.old.office request) (λ _. self.new.store ≡ self.old.store) }
         ensures step { Step layers self.old.office request result self.new.office }
         ensures tables { Keeps (state S.Store self.new.store) self.new.office }
-        ensures crash { Survives (state S.Store self.old.store) (state S.Store self.new.store) (IsLeft (λ _. StandsForOne (CarriesOut self.old.office request)) (state S.Store self.old.store)) }
-        ensures alone { HasCleanDisk (state S.Store self.new.store) → OnOk result (LeavesAlone (state S.Store self.new.store)) }
-        ensures stays_open { HasCleanDisk (state S.Store self.new.store) → OnOk result (IsTrue (state S.Store self.new.store).is_open) }
-        ensures stays_shut { HasCleanDisk (state S.Store self.new.store) → IsTrue (state S.Store self.new.store).is_open → IsTrue (state S.Store self.old.store).is_open }
-        ensures acted_on { AreActedOn (state S.Store self.old.store).now.schema → IsErr result }
-        ensures cause { (AreActedOn (state S.Store self.old.store).now.schema → ⊥) → IsCaused Refusal.Storage (IsHinderedToAsk self.old.office request) result (state S.Store self.old.store) (state S.Store self.new.store) }
+        ensures saved { IsSaved (λ _. StandsForOne (CarriesOut self.old.office request)) (IsHinderedToAsk self.old.office request) result (state S.Store self.old.store) (state S.Store self.new.store) }
         ensures session { GoesOn self.old.office request result self.old.session self.new.session }
     {
         self.keeps();
@@ -329,12 +325,7 @@ impl<S: Alter> Desk<S> {
         ensures quiet { IfSome (refusal layers self.old.office request) (λ _. self.new.store ≡ self.old.store) }
         ensures step { Step layers self.old.office request result self.new.office }
         ensures tables { Keeps (state S.Store self.new.store) self.new.office }
-        ensures crash { Survives (state S.Store self.old.store) (state S.Store self.new.store) (IsLeft (λ _. StandsForOne (CarriesOut self.old.office request)) (state S.Store self.old.store)) }
-        ensures alone { HasCleanDisk (state S.Store self.new.store) → OnOk result (LeavesAlone (state S.Store self.new.store)) }
-        ensures stays_open { HasCleanDisk (state S.Store self.new.store) → OnOk result (IsTrue (state S.Store self.new.store).is_open) }
-        ensures stays_shut { HasCleanDisk (state S.Store self.new.store) → IsTrue (state S.Store self.new.store).is_open → IsTrue (state S.Store self.old.store).is_open }
-        ensures acted_on { AreActedOn (state S.Store self.old.store).now.schema → IsErr result }
-        ensures cause { (AreActedOn (state S.Store self.old.store).now.schema → ⊥) → IsCaused Refusal.Storage (IsHinderedToAsk self.old.office request) result (state S.Store self.old.store) (state S.Store self.new.store) }
+        ensures saved { IsSaved (λ _. StandsForOne (CarriesOut self.old.office request)) (IsHinderedToAsk self.old.office request) result (state S.Store self.old.store) (state S.Store self.new.store) }
         ensures no_session { self.new.session ≡ None }
     {
         self.keeps();
@@ -354,12 +345,8 @@ impl<S: Alter> Desk<S> {
         ensures ok { IfOk result (λ reply. (reply ≡ done.reply) × (self.new.office ≡ next.old)) }
         ensures err { IfErr result (λ refusal. ((refusal ≡ Refusal.Memory) ⊎ (refusal ≡ Refusal.Storage)) × (self.new.office ≡ self.old.office)) }
         ensures tables { Keeps (state S.Store self.new.store) self.new.office }
-        ensures crash { let changes = done.changes in Survives (state S.Store self.old.store) (state S.Store self.new.store) (IsLeft (Saves changes.items) (state S.Store self.old.store)) }
-        ensures alone { HasCleanDisk (state S.Store self.new.store) → OnOk result (LeavesAlone (state S.Store self.new.store)) }
-        ensures stays_open { HasCleanDisk (state S.Store self.new.store) → OnOk result (IsTrue (state S.Store self.new.store).is_open) }
-        ensures stays_shut { HasCleanDisk (state S.Store self.new.store) → IsTrue (state S.Store self.new.store).is_open → IsTrue (state S.Store self.old.store).is_open }
+        ensures saved { let changes = done.changes in IsSaved (Saves changes.items) (IsHinderedToSave changes.items) result (state S.Store self.old.store) (state S.Store self.new.store) }
         ensures acted_on { AreActedOn (state S.Store self.old.store).now.schema → result ≡ Err Refusal.Storage }
-        ensures cause { let changes = done.changes in (AreActedOn (state S.Store self.old.store).now.schema → ⊥) → IsCaused Refusal.Storage (IsHinderedToSave changes.items) result (state S.Store self.old.store) (state S.Store self.new.store) }
         ensures no_session { self.new.session ≡ None }
     {
         match self.store.save(&done.changes) {

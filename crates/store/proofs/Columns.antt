@@ -180,6 +180,7 @@ list_leaves round student = record { only = only; same = same }
     only : (s : Row) → is_in_list round student (key_of s) ≡ true → table_of s ≡ Choice
     only (row.Choice n s k p) h = refl
     only _ h = absurd (cc)
+
     same : (s : Row) → is_in Choice s ≡ true → not (is_in_list round student (key_of s)) ≡ not (begins_with (list_columns round student) (columns s))
     same (row.Choice n s k p) h = λ i. not (sym (equal_place n round) i && sym (ap (λ t. t && true) (equal_text s student) ∙ and_true (bytes_eq s student)) i)
     same _ h = absurd (cc)
@@ -191,6 +192,7 @@ placements_leave round = record { only = only; same = same }
     only : (s : Row) → is_placement_in round s ≡ true → table_of s ≡ Placement
     only (row.Placement s n p k) h = refl
     only _ h = absurd (cc)
+
     same : (s : Row) → is_in Placement s ≡ true → not (is_placement_in round s) ≡ not (goes_on 1 (round_columns round) (columns s))
     same (row.Placement s n p k) h = ap not (sym (ap (λ t. t && true) (equal_place n round) ∙ and_true (n == round)))
     same _ h = absurd (cc)

@@ -18,10 +18,10 @@ use crate::fault::StoreFault;
 use rolls::{Change, Row, RowKey};
 use sqlite::{Alter, Connection, Transaction, params};
 use sqlite_value::value::ValueRef;
-use tables::{Group, Table};
 use tables::fault::TableFault;
 use tables::ready::need_open;
 use tables::statements::{delete, delete_group, insert, put};
+use tables::{Group, Table};
 
 /// The number that stands for a truth value.
 fn flag(value: bool) -> u32

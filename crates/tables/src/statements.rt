@@ -71,7 +71,11 @@ pub fn delete<S: Alter>(tx: &mut Transaction<'_, S>, table: Table, key: &[ValueR
 }
 
 /// Takes the rows of a group away: those that have these values in the columns that they share.
-pub fn delete_group<S: Alter>(tx: &mut Transaction<'_, S>, group: Group, key: &[ValueRef<'_>]) -> Wrote
+pub fn delete_group<S: Alter>(
+    tx: &mut Transaction<'_, S>,
+    group: Group,
+    key: &[ValueRef<'_>],
+) -> Wrote
     requires { IsNamed group (bound key.now) }
 
     ensures same_reference { tx.new.conn.ghost_name ≡ tx.old.conn.ghost_name }

@@ -79,7 +79,7 @@ returns-then-is_read-clause-quiet g c = λ _. c.read.ensures.store
 pub returns-in-Close-clause-crash : goal.returns-in-Close-clause-crash
 returns-in-Close-clause-crash g c =
     subst (λ (q : Request). Survives (state g.S.Store c.args.self.now.store) (state g.S.Store c.change-in-Close.new.self.store) (IsLeft (λ _. StandsForOne (CarriesOut c.args.self.now.office q)) (state g.S.Store c.args.self.now.store))) (sym c.in-Close.is)
-    c.change-in-Close.ensures.crash
+    c.change-in-Close.ensures.saved.crash
 
 pub returns-then-is_read-clause-storage : goal.returns-then-is_read-clause-storage
 returns-then-is_read-clause-storage g c = λ is. absurd (c.read.ensures.storage is)
@@ -89,17 +89,17 @@ returns-in-Preview-clause-step g c =
     subst (λ (q : Request). Step layers c.args.self.now.office q c.preview.result c.preview.new.self.office) (sym c.in-Preview.is) c.preview.ensures.step
 
 pub returns-else-is_read-clause-alone : goal.returns-else-is_read-clause-alone
-returns-else-is_read-clause-alone g c = λ _. c.change.ensures.alone
+returns-else-is_read-clause-alone g c = λ _. c.change.ensures.saved.alone
 
 pub returns-else-is_read-clause-acted_on : goal.returns-else-is_read-clause-acted_on
-returns-else-is_read-clause-acted_on g c = λ _. c.change.ensures.acted_on
+returns-else-is_read-clause-acted_on g c = λ _. c.change.ensures.saved.acted_on
 
 pub returns-then-is_read-clause-step : goal.returns-then-is_read-clause-step
 returns-then-is_read-clause-step g c = step_of c.args.self.now.office c.read.new.self.office c.read.result c.args.request (request.Plain c.in-Plain.plain) c.in-Plain.is c.read.ensures.step
 
 pub returns-else-is_read-clause-crash : goal.returns-else-is_read-clause-crash
 returns-else-is_read-clause-crash g c =
-    crash_of c.args.self.now.office (state g.S.Store c.args.self.now.store) (state g.S.Store c.change.new.self.store) c.args.request (request.Plain c.in-Plain.plain) c.in-Plain.is c.change.ensures.crash
+    crash_of c.args.self.now.office (state g.S.Store c.args.self.now.store) (state g.S.Store c.change.new.self.store) c.args.request (request.Plain c.in-Plain.plain) c.in-Plain.is c.change.ensures.saved.crash
 
 pub returns-then-is_read-clause-tables : goal.returns-then-is_read-clause-tables
 returns-then-is_read-clause-tables g c = c.read.ensures.tables
@@ -111,7 +111,7 @@ pub returns-else-is_read-clause-tables : goal.returns-else-is_read-clause-tables
 returns-else-is_read-clause-tables g c = c.change.ensures.tables
 
 pub returns-else-is_read-clause-stays_open : goal.returns-else-is_read-clause-stays_open
-returns-else-is_read-clause-stays_open g c = λ _. c.change.ensures.stays_open
+returns-else-is_read-clause-stays_open g c = λ _. c.change.ensures.saved.stays_open
 
 pub returns-in-Close-clause-quiet : goal.returns-in-Close-clause-quiet
 returns-in-Close-clause-quiet g c =
@@ -119,7 +119,7 @@ returns-in-Close-clause-quiet g c =
     (subst (λ (x : Request). IfSome (refusal layers c.args.self.now.office x) (λ _. c.change-in-Close.new.self.store ≡ c.args.self.now.store)) (sym c.in-Close.is) c.change-in-Close.ensures.quiet)
 
 pub returns-else-is_read-clause-stays_shut : goal.returns-else-is_read-clause-stays_shut
-returns-else-is_read-clause-stays_shut g c = c.change.ensures.stays_shut
+returns-else-is_read-clause-stays_shut g c = c.change.ensures.saved.stays_shut
 
 pub returns-else-is_read-clause-session : goal.returns-else-is_read-clause-session
 returns-else-is_read-clause-session g c = goes_of c.args.self.now.office c.change.result c.args.self.now.session c.change.new.self.session c.args.request (request.Plain c.in-Plain.plain) c.in-Plain.is c.change.ensures.session
@@ -131,16 +131,16 @@ pub returns-in-Close-clause-tables : goal.returns-in-Close-clause-tables
 returns-in-Close-clause-tables g c = c.change-in-Close.ensures.tables
 
 pub returns-in-Close-clause-alone : goal.returns-in-Close-clause-alone
-returns-in-Close-clause-alone g c = λ _. c.change-in-Close.ensures.alone
+returns-in-Close-clause-alone g c = λ _. c.change-in-Close.ensures.saved.alone
 
 pub returns-in-Close-clause-stays_open : goal.returns-in-Close-clause-stays_open
-returns-in-Close-clause-stays_open g c = λ _. c.change-in-Close.ensures.stays_open
+returns-in-Close-clause-stays_open g c = λ _. c.change-in-Close.ensures.saved.stays_open
 
 pub returns-in-Close-clause-stays_shut : goal.returns-in-Close-clause-stays_shut
-returns-in-Close-clause-stays_shut g c = c.change-in-Close.ensures.stays_shut
+returns-in-Close-clause-stays_shut g c = c.change-in-Close.ensures.saved.stays_shut
 
 pub returns-in-Close-clause-acted_on : goal.returns-in-Close-clause-acted_on
-returns-in-Close-clause-acted_on g c = λ _. c.change-in-Close.ensures.acted_on
+returns-in-Close-clause-acted_on g c = λ _. c.change-in-Close.ensures.saved.acted_on
 
 pub returns-in-Close-clause-session : goal.returns-in-Close-clause-session
 returns-in-Close-clause-session g c = goes_of c.args.self.now.office c.change-in-Close.result c.args.self.now.session c.change-in-Close.new.self.session c.args.request request.Close c.in-Close.is c.change-in-Close.ensures.session
@@ -179,10 +179,10 @@ pub returns-in-Close-clause-storage : goal.returns-in-Close-clause-storage
 returns-in-Close-clause-storage g c = λ _. ap (changes_nothing c.args.self.now.office) c.in-Close.is
 
 pub returns-in-None-clause-alone : goal.returns-in-None-clause-alone
-returns-in-None-clause-alone g c = λ _. c.change-in-None.ensures.alone
+returns-in-None-clause-alone g c = λ _. c.change-in-None.ensures.saved.alone
 
 pub returns-in-None-clause-crash : goal.returns-in-None-clause-crash
-returns-in-None-clause-crash g c = crash_of c.args.self.now.office (state g.S.Store c.args.self.now.store) (state g.S.Store c.change-in-None.new.self.store) c.args.request (request.Import c.in-Import.id c.in-Import.kind c.in-Import.bytes) c.in-Import.is c.change-in-None.ensures.crash
+returns-in-None-clause-crash g c = crash_of c.args.self.now.office (state g.S.Store c.args.self.now.store) (state g.S.Store c.change-in-None.new.self.store) c.args.request (request.Import c.in-Import.id c.in-Import.kind c.in-Import.bytes) c.in-Import.is c.change-in-None.ensures.saved.crash
 
 pub returns-in-None-clause-tables : goal.returns-in-None-clause-tables
 returns-in-None-clause-tables g c = c.change-in-None.ensures.tables
@@ -191,19 +191,19 @@ pub returns-in-None-clause-step : goal.returns-in-None-clause-step
 returns-in-None-clause-step g c = step_of c.args.self.now.office c.change-in-None.new.self.office c.change-in-None.result c.args.request (request.Import c.in-Import.id c.in-Import.kind c.in-Import.bytes) c.in-Import.is c.change-in-None.ensures.step
 
 pub returns-in-None-clause-stays_open : goal.returns-in-None-clause-stays_open
-returns-in-None-clause-stays_open g c = λ _. c.change-in-None.ensures.stays_open
+returns-in-None-clause-stays_open g c = λ _. c.change-in-None.ensures.saved.stays_open
 
 pub returns-in-None-clause-session : goal.returns-in-None-clause-session
 returns-in-None-clause-session g c = goes_of c.args.self.now.office c.change-in-None.result c.args.self.now.session c.change-in-None.new.self.session c.args.request (request.Import c.in-Import.id c.in-Import.kind c.in-Import.bytes) c.in-Import.is c.change-in-None.ensures.session
 
 pub returns-in-None-clause-stays_shut : goal.returns-in-None-clause-stays_shut
-returns-in-None-clause-stays_shut g c = c.change-in-None.ensures.stays_shut
+returns-in-None-clause-stays_shut g c = c.change-in-None.ensures.saved.stays_shut
 
 pub returns-in-None-clause-named : goal.returns-in-None-clause-named
 returns-in-None-clause-named g c = none_due (refusal_of c.args.self.now.office c.args.request) c.change-in-None.result (sym (c.refusal_of.ensures.refusal ∙ ap (λ k. refusal_of k.office c.args.request) c.self.view_is) ∙ c.in_default.is)
 
 pub returns-in-None-clause-acted_on : goal.returns-in-None-clause-acted_on
-returns-in-None-clause-acted_on g c = λ _. c.change-in-None.ensures.acted_on
+returns-in-None-clause-acted_on g c = λ _. c.change-in-None.ensures.saved.acted_on
 
 pub returns-in-Some-clause-quiet : goal.returns-in-Some-clause-quiet
 returns-in-Some-clause-quiet g c = λ _. refl

@@ -1,23 +1,19 @@
 use Rattle.std.proofs.Common.{◌≡◌, Option, Result, Ok, Err, IfSome, IsTrue, refl, sym, ap, subst, ◌∙◌}
-use Rattle.sqlite.specs.State.{State as Seen, HasCleanDisk, Survives}
+use Rattle.sqlite.specs.State.{State as Seen}
 use Rattle.sqlite.specs.Held.{state}
-use Rattle.tables.specs.Steps.{IsLeft}
 use Rattle.rolls.specs.State.{State}
 use Rattle.rolls.specs.declared.request.Request.{Request}
 use Rattle.rolls.specs.declared.refusal.Refusal.{Refusal}
 use Rattle.rolls.specs.declared.request.Reply.{Reply}
 use Rattle.rolls.specs.Run.{Makes, Step, refusal}
-use Rattle.store.specs.Saving.{AreActedOn}
-use Rattle.store.specs.Tables.{LeavesAlone}
 use Rattle.solver.specs.Sitting.{Sitting}
 use Rattle.allotment.specs.Layers.{layers}
 use Rattle.desk.specs.declared.sessions.Fate.{Fate}
 use Rattle.desk.specs.Keeping.{CarriesOut, StandsForOne}
 use Rattle.desk.specs.Sessions.{fate_of, Goes}
 use Rattle.desk.specs.Inside.Sessions.{MayMeet}
-use Rattle.rolls.specs.declared.refusal.Refusal.TheVariants.{Storage}
-use Rattle.tables.specs.Causes.{IsCaused}
 use Rattle.desk.specs.Causes.{IsHinderedToAsk}
+use Rattle.desk.specs.Inside.Saved.{IsSaved}
 use Rattle.desk.proofs.SessionAfter.{meets}
 use Rattle.desk.proofs.desk.Desk.change.Goals as goal
 
@@ -51,16 +47,6 @@ returns-in-Ok-clause-session g c =
     (c.in_ok-fate.ensures ∙ ap (λ (x : State). fate_of x q) (ap (λ k. k.office) c.self.view_is))
     (c.take-kept.ensures.value ∙ ap (λ k. k.session) c.self.view_is)
     (ap (λ k. k.session) c.keep_session.ensures.kept) c.next_session-next.ensures.goes
-
--- what a crash leaves, of the same office and tables
-left_so : (q : Request) (p o : State) (before seen new after : Seen) → p ≡ o → before ≡ seen → new ≡ after
-    → Survives before new (IsLeft (λ _. StandsForOne (CarriesOut p q)) before) → Survives seen after (IsLeft (λ _. StandsForOne (CarriesOut o q)) seen)
-left_so q p o before seen new after e f g h = rw (← e, ← f, ← g) h
-
-pub returns-in-Ok-clause-crash : goal.returns-in-Ok-clause-crash
-returns-in-Ok-clause-crash g c =
-    left_so c.args.request c.self.inside.office c.args.self.now.office (state g.S.Store c.self.inside.store) (state g.S.Store c.args.self.now.store) (state g.S.Store c.save.new.self.store) (state g.S.Store c.keep_session.new.self.store)
-    (ap (λ k. k.office) c.self.view_is) (ap (λ k. state g.S.Store k.store) c.self.view_is) (sym (ap (λ k. state g.S.Store k.store) c.keep_session.ensures.kept)) c.save.ensures.crash
 
 pub returns-in-Err-clause-session : goal.returns-in-Err-clause-session
 returns-in-Err-clause-session g c =
@@ -99,49 +85,16 @@ returns-in-Err-clause-step g c =
     step_so c.args.request (Err c.in-Err.refusal) c.self.inside.office c.args.self.now.office c.save.new.self.office c.keep_session-in-Err.new.self.office
     (ap (λ k. k.office) c.self.view_is) (sym (ap (λ k. k.office) c.keep_session-in-Err.ensures.kept)) c.in-Err.ensures.step
 
-pub returns-in-Err-clause-crash : goal.returns-in-Err-clause-crash
-returns-in-Err-clause-crash g c =
-    left_so c.args.request c.self.inside.office c.args.self.now.office (state g.S.Store c.self.inside.store) (state g.S.Store c.args.self.now.store) (state g.S.Store c.save.new.self.store) (state g.S.Store c.keep_session-in-Err.new.self.store)
-    (ap (λ k. k.office) c.self.view_is) (ap (λ k. state g.S.Store k.store) c.self.view_is) (sym (ap (λ k. state g.S.Store k.store) c.keep_session-in-Err.ensures.kept)) c.save.ensures.crash
+saved_so : (q : Request) (a : Result Reply Refusal) (p o : State) (before seen new after : Seen) → p ≡ o → before ≡ seen → new ≡ after
+    → IsSaved (λ _. StandsForOne (CarriesOut p q)) (IsHinderedToAsk p q) a before new → IsSaved (λ _. StandsForOne (CarriesOut o q)) (IsHinderedToAsk o q) a seen after
+saved_so q a p o before seen new after d e f h = rw (← d, ← e, ← f) h
 
-pub returns-in-Err-clause-alone : goal.returns-in-Err-clause-alone
-returns-in-Err-clause-alone g c = λ _. tt
+pub returns-in-Ok-clause-saved : goal.returns-in-Ok-clause-saved
+returns-in-Ok-clause-saved g c =
+    saved_so c.args.request (Ok c.in-Ok.reply) c.self.inside.office c.args.self.now.office (state g.S.Store c.self.inside.store) (state g.S.Store c.args.self.now.store) (state g.S.Store c.save.new.self.store) (state g.S.Store c.keep_session.new.self.store)
+    (ap (λ k. k.office) c.self.view_is) (ap (λ k. state g.S.Store k.store) c.self.view_is) (sym (ap (λ k. state g.S.Store k.store) c.keep_session.ensures.kept)) c.in-Ok.ensures.saved
 
-pub returns-in-Err-clause-stays_open : goal.returns-in-Err-clause-stays_open
-returns-in-Err-clause-stays_open g c = λ _. tt
-
-pub returns-in-Err-clause-acted_on : goal.returns-in-Err-clause-acted_on
-returns-in-Err-clause-acted_on g c = λ _. refl
-
--- a connection that is shut stays shut, of equal ones
-shut_so : (before seen new after : Seen) → before ≡ seen → new ≡ after → (HasCleanDisk new → IsTrue new.is_open → IsTrue before.is_open) → HasCleanDisk after → IsTrue after.is_open → IsTrue seen.is_open
-shut_so before seen new after e f h = rw (← e, ← f) h
-
-pub returns-in-Ok-clause-alone : goal.returns-in-Ok-clause-alone
-returns-in-Ok-clause-alone g c = subst (λ (z : Seen). HasCleanDisk z → LeavesAlone z) (sym (ap (λ k. state g.S.Store k.store) c.keep_session.ensures.kept)) c.in-Ok.ensures.alone
-
-pub returns-in-Ok-clause-stays_open : goal.returns-in-Ok-clause-stays_open
-returns-in-Ok-clause-stays_open g c = subst (λ (z : Seen). HasCleanDisk z → IsTrue z.is_open) (sym (ap (λ k. state g.S.Store k.store) c.keep_session.ensures.kept)) c.in-Ok.ensures.stays_open
-
-pub returns-in-Ok-clause-stays_shut : goal.returns-in-Ok-clause-stays_shut
-returns-in-Ok-clause-stays_shut g c =
-    shut_so (state g.S.Store c.self.inside.store) (state g.S.Store c.args.self.now.store) (state g.S.Store c.save.new.self.store) (state g.S.Store c.keep_session.new.self.store)
-    (ap (λ k. state g.S.Store k.store) c.self.view_is) (sym (ap (λ k. state g.S.Store k.store) c.keep_session.ensures.kept)) c.save.ensures.stays_shut
-
-pub returns-in-Err-clause-stays_shut : goal.returns-in-Err-clause-stays_shut
-returns-in-Err-clause-stays_shut g c =
-    shut_so (state g.S.Store c.self.inside.store) (state g.S.Store c.args.self.now.store) (state g.S.Store c.save.new.self.store) (state g.S.Store c.keep_session-in-Err.new.self.store)
-    (ap (λ k. state g.S.Store k.store) c.self.view_is) (sym (ap (λ k. state g.S.Store k.store) c.keep_session-in-Err.ensures.kept)) c.save.ensures.stays_shut
-
-pub returns-in-Ok-clause-acted_on : goal.returns-in-Ok-clause-acted_on
-returns-in-Ok-clause-acted_on g c = λ acted. c.in-Ok.ensures.acted_on (subst (λ (z : Seen). AreActedOn z.now.schema) (sym (ap (λ k. state g.S.Store k.store) c.self.view_is)) acted)
-
--- why the storage has failed, of the same office and tables
-caused_so : (q : Request) (a : Result Reply Refusal) (p o : State) (before seen new after : Seen) → p ≡ o → before ≡ seen → new ≡ after
-    → ((AreActedOn before.now.schema → ⊥) → IsCaused Storage (IsHinderedToAsk p q) a before new) → (AreActedOn seen.now.schema → ⊥) → IsCaused Storage (IsHinderedToAsk o q) a seen after
-caused_so q a p o before seen new after d e f h = rw (← d, ← e, ← f) h
-
-pub returns-in-Err-clause-cause : goal.returns-in-Err-clause-cause
-returns-in-Err-clause-cause g c =
-    caused_so c.args.request (Err c.in-Err.refusal) c.self.inside.office c.args.self.now.office (state g.S.Store c.self.inside.store) (state g.S.Store c.args.self.now.store) (state g.S.Store c.save.new.self.store) (state g.S.Store c.keep_session-in-Err.new.self.store)
-    (ap (λ k. k.office) c.self.view_is) (ap (λ k. state g.S.Store k.store) c.self.view_is) (sym (ap (λ k. state g.S.Store k.store) c.keep_session-in-Err.ensures.kept)) c.in-Err.ensures.cause
+pub returns-in-Err-clause-saved : goal.returns-in-Err-clause-saved
+returns-in-Err-clause-saved g c =
+    saved_so c.args.request (Err c.in-Err.refusal) c.self.inside.office c.args.self.now.office (state g.S.Store c.self.inside.store) (state g.S.Store c.args.self.now.store) (state g.S.Store c.save.new.self.store) (state g.S.Store c.keep_session-in-Err.new.self.store)
+    (ap (λ k. k.office) c.self.view_is) (ap (λ k. state g.S.Store k.store) c.self.view_is) (sym (ap (λ k. state g.S.Store k.store) c.keep_session-in-Err.ensures.kept)) c.in-Err.ensures.saved

@@ -16,17 +16,6 @@ use Rattle.desk.specs.Causes.{IsHinderedToAsk}
 use Rattle.desk.proofs.SavedRows.{call_carried}
 use Rattle.desk.proofs.desk.Desk.save.Goals as goal
 
-pub returns-clause-crash : goal.returns-clause-crash
-returns-clause-crash g c =
-    let q = c.args.request in
-    let old : State = c.args.self.now.office in
-    let done = c.in-Ok.done in
-    let same = c.in_ok-next.ensures.same ∙ ap (λ k. k.office) c.self.view_is in
-    let made = subst (λ (o : State). Makes layers o q done.reply c.made.new.office) same c.in-Ok.ensures.made.1 in
-    let none = subst (λ (o : State). refusal layers o q ≡ None) same c.in-Ok.ensures.made.0 in
-    let turns = subst (λ (o : State). Turns done.changes.items o c.made.new.office) same c.in-Ok.ensures.turns in
-    call_carried q old c.made.new.office done (state g.S.Store c.args.self.now.store) (state g.S.Store c.settle.new.self.store) none made c.fit.ensures.fit turns c.keeps.ensures.tables c.settle.ensures.crash
-
 -- changes of a request that can't be saved hinder it
 hindered_by : {A E : Type 0} (storage : E) (result : Result A E) (office next : State) (q : Request) (done : Done) (old new : Seen) → CarriesOut office q next → MayChange office q done.changes.items → Turns done.changes.items office next
     → IsCaused storage (IsHinderedToSave done.changes.items) result old new → IsCaused storage (IsHinderedToAsk office q) result old new
@@ -42,14 +31,23 @@ hindered_by storage result office next q done old new carried may turns caused c
       ];
     }
 
-pub returns-clause-cause : goal.returns-clause-cause
-returns-clause-cause g c =
+pub returns-clause-saved : goal.returns-clause-saved
+returns-clause-saved g c =
     let q = c.args.request in
     let old : State = c.args.self.now.office in
+    let next : State = c.made.new.office in
     let done = c.in-Ok.done in
+    let saved = c.settle.ensures.saved in
     let same = c.in_ok-next.ensures.same ∙ ap (λ k. k.office) c.self.view_is in
-    let made = subst (λ (o : State). Makes layers o q done.reply c.made.new.office) same c.in-Ok.ensures.made.1 in
+    let made = subst (λ (o : State). Makes layers o q done.reply next) same c.in-Ok.ensures.made.1 in
     let none = subst (λ (o : State). refusal layers o q ≡ None) same c.in-Ok.ensures.made.0 in
-    let turns = subst (λ (o : State). Turns done.changes.items o c.made.new.office) same c.in-Ok.ensures.turns in
+    let turns = subst (λ (o : State). Turns done.changes.items o next) same c.in-Ok.ensures.turns in
     let may = subst (λ (o : State). MayChange o q done.changes.items) same c.in-Ok.ensures.changes in
-    λ quiet. hindered_by Storage c.settle.result old c.made.new.office q done (state g.S.Store c.args.self.now.store) (state g.S.Store c.settle.new.self.store) (done.reply, (none, made)) may turns (c.settle.ensures.cause quiet)
+    record {
+      crash = call_carried q old next done (state g.S.Store c.args.self.now.store) (state g.S.Store c.settle.new.self.store) none made c.fit.ensures.fit turns c.keeps.ensures.tables saved.crash;
+      alone = saved.alone;
+      stays_open = saved.stays_open;
+      stays_shut = saved.stays_shut;
+      acted_on = saved.acted_on;
+      cause = λ quiet. hindered_by Storage c.settle.result old next q done (state g.S.Store c.args.self.now.store) (state g.S.Store c.settle.new.self.store) (done.reply, (none, made)) may turns (saved.cause quiet);
+    }

@@ -1,4 +1,4 @@
-use Rattle.std.proofs.Common.{◌≡◌, List, Option, Err, Result, refl, sym, ap, subst, ◌∙◌}
+use Rattle.std.proofs.Common.{◌≡◌, List, Option, Err, Result, IsTrue, refl, sym, ap, subst, ◌∙◌}
 use Rattle.sqlite.specs.State.{State as Seen, Survives}
 use Rattle.sqlite.specs.Held.{state}
 use Rattle.tables.specs.Steps.{IsLeft}
@@ -50,22 +50,13 @@ left_of : (given changes : List Change) (before seen : Seen) (new : Seen) → gi
     → Survives before new (IsLeft (Saves given) before) → Survives seen new (IsLeft (Saves changes) seen)
 left_of given changes before seen new e f h = rw (← e, ← f) h
 
-pub returns-in-Ok-clause-crash : goal.returns-in-Ok-clause-crash
-returns-in-Ok-clause-crash g c =
-    left_of c.deref.result.now c.args.done.changes.items (state g.S.Store c.self.inside.store) (state g.S.Store c.args.self.now.store) (state g.S.Store c.save.new.self)
-    c.deref.ensures.value (ap (λ k. state g.S.Store k.store) c.self.view_is) c.save.ensures.crash
-
-pub returns-in-Err-clause-crash : goal.returns-in-Err-clause-crash
-returns-in-Err-clause-crash g c =
-    left_of c.deref.result.now c.args.done.changes.items (state g.S.Store c.self.inside.store) (state g.S.Store c.args.self.now.store) (state g.S.Store c.save.new.self)
-    c.deref.ensures.value (ap (λ k. state g.S.Store k.store) c.self.view_is) c.save.ensures.crash
-
 pub returns-in-Err-clause-tables : goal.returns-in-Err-clause-tables
 returns-in-Err-clause-tables g c =
     kept_keeps c.self.inside.office (state g.S.Store c.self.inside.store) (state g.S.Store c.save.new.self) _ c.save.ensures.crash c.in-Err.ensures.err c.self.invariant.stands
 
-pub returns-in-Ok-clause-alone : goal.returns-in-Ok-clause-alone
-returns-in-Ok-clause-alone g c = c.in-Ok.ensures.alone
+-- a connection that was open was open, of equal ones
+shut_so : (before seen : Seen) → before ≡ seen → IsTrue before.is_open → IsTrue seen.is_open
+shut_so before seen e up = subst (λ (z : Seen). IsTrue z.is_open) e up
 
 -- where a foreign key would write other rows too, what is told is a storage error
 acted_so : (before seen : Seen) (fault : StoreFault) (refusal : Refusal) → before ≡ seen
@@ -87,7 +78,27 @@ caused_so given changes before seen new fault refusal e f memory damaged caused 
     subst (λ (z : Seen). IsStopped (IsHinderedToSave changes) z new) f
     (subst (λ (cs : List Change). IsStopped (IsHinderedToSave cs) before new) e (caused (λ acted. quiet (subst (λ (z : Seen). AreActedOn z.now.schema) f acted)) clean (ap Err (was_storage fault refusal memory damaged is))))
 
-pub returns-in-Err-clause-cause : goal.returns-in-Err-clause-cause
-returns-in-Err-clause-cause g c =
-    caused_so c.deref.result.now c.args.done.changes.items (state g.S.Store c.self.inside.store) (state g.S.Store c.args.self.now.store) (state g.S.Store c.save.new.self) c.in-Err.fault c.refusal_of_fault.result c.deref.ensures.value
-    (ap (λ k. state g.S.Store k.store) c.self.view_is) c.refusal_of_fault.ensures.memory c.refusal_of_fault.ensures.damaged (c.in-Err.ensures.cause c.self.invariant.ended)
+pub returns-in-Ok-clause-saved : goal.returns-in-Ok-clause-saved
+returns-in-Ok-clause-saved g c =
+    let before : state g.S.Store c.self.inside.store ≡ state g.S.Store c.args.self.now.store = ap (λ k. state g.S.Store k.store) c.self.view_is in
+    record {
+      crash = left_of c.deref.result.now c.args.done.changes.items (state g.S.Store c.self.inside.store) (state g.S.Store c.args.self.now.store) (state g.S.Store c.save.new.self) c.deref.ensures.value before c.save.ensures.crash;
+      alone = c.in-Ok.ensures.alone;
+      stays_open = λ clean. (c.in-Ok.ensures.ok clean).shown.is_open;
+      stays_shut = λ clean up. shut_so _ _ before ((c.in-Ok.ensures.ok clean).shown.was_open);
+      acted_on = λ acted. absurd (let failed = c.in-Ok.ensures.acted_on (subst (λ (z : Seen). AreActedOn z.now.schema) (sym before) acted) in cc);
+      cause = λ quiet clean told. absurd (cc);
+    }
+
+pub returns-in-Err-clause-saved : goal.returns-in-Err-clause-saved
+returns-in-Err-clause-saved g c =
+    let before : state g.S.Store c.self.inside.store ≡ state g.S.Store c.args.self.now.store = ap (λ k. state g.S.Store k.store) c.self.view_is in
+    record {
+      crash = left_of c.deref.result.now c.args.done.changes.items (state g.S.Store c.self.inside.store) (state g.S.Store c.args.self.now.store) (state g.S.Store c.save.new.self) c.deref.ensures.value before c.save.ensures.crash;
+      alone = λ _. tt;
+      stays_open = λ _. tt;
+      stays_shut = λ clean up. shut_so _ _ before (c.in-Err.ensures.err clean up).0;
+      acted_on = λ _. refl;
+      cause = caused_so c.deref.result.now c.args.done.changes.items (state g.S.Store c.self.inside.store) (state g.S.Store c.args.self.now.store) (state g.S.Store c.save.new.self) c.in-Err.fault c.refusal_of_fault.result c.deref.ensures.value
+          before c.refusal_of_fault.ensures.memory c.refusal_of_fault.ensures.damaged (c.in-Err.ensures.cause c.self.invariant.ended);
+    }

@@ -1,0 +1,25 @@
+-- For proofs alone. How a change that was answered or refused leaves the tables.
+use Rattle.std.specs.Prelude.{◌≡◌, ℕ, IsTrue, IsErr, OnOk, Option, Result}
+use Rattle.sqlite.specs.Effect.{Database}
+use Rattle.sqlite.specs.State.{State as Seen, HasCleanDisk, Survives}
+use Rattle.tables.specs.Causes.{IsCaused}
+use Rattle.tables.specs.Steps.{IsLeft}
+use Rattle.rolls.specs.declared.refusal.Refusal.{Refusal}
+use Rattle.rolls.specs.declared.refusal.Refusal.TheVariants.{Storage}
+use Rattle.rolls.specs.declared.request.Reply.{Reply}
+use Rattle.store.specs.Saving.{AreActedOn}
+use Rattle.store.specs.Tables.{LeavesAlone}
+
+-- The tables of the one state become those of the other, where that is what the change leaves of the first and hinders it thus.
+pub record IsSaved (Leaves : Database → Database → Type 0) (Hinders : Option ℕ → Database → Type 0) (answer : Result Reply Refusal) (old new : Seen) : Type 0 where
+  -- a crash leaves what it could leave before, or what the change leaves
+  pub crash : Survives old new (IsLeft Leaves old)
+  -- an answered change leaves its own tables alone, over a connection that is open
+  pub alone : HasCleanDisk new → OnOk answer (LeavesAlone new)
+  pub stays_open : HasCleanDisk new → OnOk answer (IsTrue new.is_open)
+  -- one that is shut stays shut
+  pub stays_shut : HasCleanDisk new → IsTrue new.is_open → IsTrue old.is_open
+  -- where a foreign key would write other rows too, no change is made
+  pub acted_on : AreActedOn old.now.schema → IsErr answer
+  -- why else the storage has failed
+  pub cause : (AreActedOn old.now.schema → ⊥) → IsCaused Storage Hinders answer old new
