@@ -6,7 +6,6 @@ use Rattle.sqlite_trees.specs.declared.error.StoreError.TheVariants.{OutOfMemory
 use Rattle.sqlite_resolve.specs.declared.compiled.Compiled.{Compiled}
 use Rattle.sqlite.specs.declared.error.Error.{Error}
 use Rattle.sqlite.specs.Order.{Row}
-use Rattle.sqlite.specs.Table.{Table}
 use Rattle.tables.proofs.SelectAll.{IsSelect, no_returning}
 use Rattle.sqlite.specs.Clock.{timed}
 use Rattle.sqlite.specs.Effect.{Database}
@@ -15,7 +14,7 @@ use Rattle.sqlite.specs.State.{State, HasCleanDisk, Survives, Fails, HasCause as
 use Rattle.tables.specs.declared.fault.TableFault.TheVariants.{Storage}
 use Rattle.tables.specs.Faults.{fault_of}
 use Rattle.std.proofs.lemmas.Bool.{cases_Bool}
-use Rattle.tables.specs.Table.{Sql}
+use Rattle.tables.specs.Table.{Shape}
 use Rattle.tables.specs.Keyed.{have_ids, rises}
 use Rattle.tables.specs.Causes.{Moment, at_moment, IsHindered, IsRefused, IsStopped, IsTooLarge, IsUnread, showing}
 
@@ -97,7 +96,7 @@ module _ (old new : State) (sql : List ℕ) (params : Row) where
   unprepared e other none = record { why = either old new _ _ (refused (λ s e. IsNotRun s s sql params e) e other) (not_run e other none) }
 
 -- a query of a table that failed
-module _ (sql : List ℕ) (t0 : Table) (it : IsSelect sql t0) (old new : State) where
+module _ (sql : List ℕ) (shape : Shape) (it : IsSelect sql shape) (old new : State) where
   abbrev here : State
   here = at old new sql []
 
@@ -105,7 +104,7 @@ module _ (sql : List ℕ) (t0 : Table) (it : IsSelect sql t0) (old new : State) 
   unfolding FailsToQuery meant
   unread e other (inl none) = record { why = either old new _ _ (λ is. inl (refused old new sql [] (λ s e. FailsToQuery sql [] s s e) e other (inl is))) (not_run old new sql [] e other none) }
   unread e other (inr h) =
-      let none = no_returning sql t0 it old.now.schema h.0 h.1.is in
+      let none = no_returning sql shape it old.now.schema h.0 h.1.is in
       let seen = rw none at h.2 in
       let again : FailsToShow here here sql h.0 (timed [] h.0.formats h.1.now) e h.0.returning = rw none (seen.0, seen.1, seen.2, at_rest old new sql []) in
       record { why = inr (inr (inl (refused old new sql [] (λ s e. FailsToQuery sql [] s s e) e other (inr (h.0, meant old new sql [] h.0 h.1, again))))) }
@@ -114,7 +113,7 @@ module _ (sql : List ℕ) (t0 : Table) (it : IsSelect sql t0) (old new : State) 
   pub unordered : (rows : List Row) → have_ids rows && rises rows ≡ false → Shown sql [] old new rows → IsStopped (IsUnread sql) old new
   unfolding Shown meant
   unordered rows mixed h =
-      let none = no_returning sql t0 it old.now.schema h.0 h.1.is in
+      let none = no_returning sql shape it old.now.schema h.0 h.1.is in
       let seen = rw none at h.2 in
       let again : ShowsRows here here sql h.0 (timed [] h.0.formats h.1.now) rows h.0.returning = rw none (seen.0, seen.1, seen.2, at_rest old new sql []) in
       record { why = inr (inr (inr (record { limit = old.step_limit; in_transaction = old.in_transaction; marks = old.marks; rows = rows; shown = (h.0, meant old new sql [] h.0 h.1, again); unordered = mixed }))) }

@@ -14,10 +14,8 @@ use Rattle.std.specs.Option.{option_or}
 use Rattle.sqlite_schema.specs.Names.{same_name, table_named, view_named, index_named}
 use Rattle.sqlite.specs.State.{State, Executes, text_of}
 use Rattle.sqlite.specs.Table.{Table}
-use Rattle.sqlite.specs.Term.{Term}
 use Rattle.std.proofs.lemmas.List.Sorted.{IsPermutation-refl}
 use Rattle.std.specs.List.Sorted.{IsPermutation}
-use Rattle.tables.specs.Table.{cells}
 use Rattle.tables.specs.Keyed.{IsKeyed}
 use Rattle.sqlite.specs.Tree.{Trees}
 use Rattle.sqlite.specs.Change.{created, next_tree, is_used}
@@ -29,9 +27,8 @@ use Rattle.sqlite_catalog.proofs.StepLemmas.{table_below}
 use Rattle.sqlite_rules.specs.Lists.{Has}
 use Rattle.sqlite_rules.proofs.ListLemmas.{has_got, all_has}
 use Rattle.sqlite_resolve.specs.declared.compiled.Compiled.{Compiled}
-use Rattle.tables.specs.Table.{Place, Lists}
+use Rattle.tables.specs.Table.{Place, Rules, Shape, Lists, cells, made_at}
 use Rattle.tables.specs.Writes.{Makes}
-use Rattle.tables.proofs.Places.{placed}
 use Rattle.tables.proofs.MoreTables.{still_found, new_found, got_front, got_next}
 use Rattle.tables.proofs.InsertKeyed.{went, same_value}
 use Rattle.tables.proofs.Understood.{planned_of, Means, IsWriteText, runs_by}
@@ -72,8 +69,8 @@ or_false : (a b : Bool) → (a || b) ≡ false → a ≡ false
 or_false true b h = absurd (cc)
 or_false false b h = refl
 
--- a text that makes a table with these CHECK rules, under any schema
-pub record IsCreate (sql : List ℕ) (t0 : Table) (checks : List Term) : Type 0 where
+-- a text that makes a table of this shape by these rules, under any schema
+pub record IsCreate (sql : List ℕ) (shape : Shape) (rules : Rules) : Type 0 where
   pub p : Parsed
   pub parsed : first sql ≡ Ok p
   pub unlisted : if_select (compiled listing_schema sql) ≡ Err NoSuchTable
@@ -81,8 +78,8 @@ pub record IsCreate (sql : List ℕ) (t0 : Table) (checks : List Term) : Type 0 
   pub shows : (schema : Schema) → returning schema (small p.names + small []) p.statement ≡ Ok None
   pub commands : (schema : Schema) (k : Command) → command schema p.formats (small p.names + small []) p.statement ≡ Ok k → k ≡ CreateTable
   pub whole : slice_range sql p.start p.end ≡ sql
-  pub defined : table_defined_by sql ≡ Ok (placed t0 (record { tree = 0; checks = checks }))
-  pub named : same_name t0.name t0.name ≡ true
+  pub defined : table_defined_by sql ≡ Ok (made_at shape (record { tree = 0; rules = rules }))
+  pub named : same_name shape.name shape.name ≡ true
 
 -- what is left of a CREATE whose name is free
 pub made_command : (schema : Schema) (name : List ℕ) (k : Command) → ◌≡◌ {A = Checked Command} (if is_attached schema name then Err Unsupported else and_then (creates false name (option_or (table_named schema name) (view_named schema name)) (index_named schema name)) (λ is_new. if is_new then Ok CreateTable else Ok Nothing)) (Ok k) → k ≡ CreateTable
@@ -92,12 +89,12 @@ made_command schema name k h =
     let t = makes (is_attached schema name) (creates false name same other) (Ok CreateTable) k (only_new name same other) h in
     cc
 
-module _ (sql : List ℕ) (t0 : Table) (checks : List Term) (it : IsCreate sql t0 checks) where
+module _ (sql : List ℕ) (shape : Shape) (rules : Rules) (it : IsCreate sql shape rules) where
   abbrev first_made : Table
-  first_made = placed t0 (record { tree = 0; checks = checks })
+  first_made = made_at shape (record { tree = 0; rules = rules })
 
   abbrev here : Schema → Place
-  here schema = record { tree = next_tree schema; checks = checks }
+  here schema = record { tree = next_tree schema; rules = rules }
 
   create_means : (schema : Schema) → Means schema sql CreateTable sql
   create_means schema c h =
@@ -115,8 +112,8 @@ module _ (sql : List ℕ) (t0 : Table) (checks : List Term) (it : IsCreate sql t
   -- the same, of the schema and the trees alone
   record IsMade (old new : Database) : Type 0 where
     place : Place
-    ruled : place.checks ≡ checks
-    listed : Lists new.schema (placed t0 place)
+    ruled : place.rules ≡ rules
+    listed : Lists new.schema (made_at shape place)
     empty : new.trees place.tree ≡ []
     others : (t : Table) → Lists old.schema t → Lists new.schema t × (new.trees t.tree ≡ old.trees t.tree) × (t.tree ≢ place.tree)
 
@@ -125,16 +122,16 @@ module _ (sql : List ℕ) (t0 : Table) (checks : List Term) (it : IsCreate sql t
       let same : made.table ≡ first_made = let both : Ok made.table ≡ Ok (first_made) = sym made.defined ∙ it.defined in cc in
       let tree = next_tree db.schema in
       let is : mid.schema ≡ created db.schema (first_made) = made.is ∙ ap (created db.schema) same in
-      let free : is_some (table_named db.schema t0.name) ≡ false =
+      let free : is_some (table_named db.schema shape.name) ≡ false =
       or_false _ _ (or_false _ _ (subst (λ (t : Table). is_used db.schema t.name ≡ false) same made.free)) in
       record {
         place = here db.schema;
         ruled = refl;
         listed = record {
           at = length db.schema.tables;
-          named = subst (λ (s : Schema). table_named s t0.name ≡ Some (length db.schema.tables)) (sym is)
-              (new_found (λ (t : Table). same_name t.name t0.name) 0 db.schema.tables (placed t0 (here db.schema)) [] it.named free ∙ ap Some (omega arith));
-          there = subst (λ (s : Schema). slice_get s.tables (length db.schema.tables) ≡ Some (placed t0 (here db.schema))) (sym is) (got_next db.schema.tables [] (placed t0 (here db.schema)));
+          named = subst (λ (s : Schema). table_named s shape.name ≡ Some (length db.schema.tables)) (sym is)
+              (new_found (λ (t : Table). same_name t.name shape.name) 0 db.schema.tables (made_at shape (here db.schema)) [] it.named free ∙ ap Some (omega arith));
+          there = subst (λ (s : Schema). slice_get s.tables (length db.schema.tables) ≡ Some (made_at shape (here db.schema))) (sym is) (got_next db.schema.tables [] (made_at shape (here db.schema)));
         };
         empty = made.empty;
         others = λ t listed.
@@ -162,7 +159,7 @@ module _ (sql : List ℕ) (t0 : Table) (checks : List Term) (it : IsCreate sql t
   ]
 
   -- a CREATE that went through made the table, which is empty
-  pub create_makes : (old new : State) (count : ℕ) → Executes sql [] old new (Ok count) → Makes (placed t0) checks [] old.now new.now
+  pub create_makes : (old new : State) (count : ℕ) → Executes sql [] old new (Ok count) → Makes (made_at shape) rules [] old.now new.now
   create_makes old new count ran =
       let w = runs_by sql [] old new count CreateTable sql (create_means old.now.schema) ran in
       let all = went w.changed in
@@ -175,7 +172,7 @@ module _ (sql : List ℕ) (t0 : Table) (checks : List Term) (it : IsCreate sql t
         stands = record {
           listed = made.listed;
           keyed = subst IsKeyed (sym made.empty) (record { ids = tt; apart = tt });
-          holds = subst (λ all. IsPermutation [] (map (cells (placed t0 made.place)) all)) (sym made.empty) (IsPermutation-refl _);
+          holds = subst (λ all. IsPermutation [] (map (cells (made_at shape made.place)) all)) (sym made.empty) (IsPermutation-refl _);
         };
         others = made.others;
       }

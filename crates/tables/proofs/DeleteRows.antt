@@ -32,11 +32,11 @@ use Rattle.sqlite.specs.Rowids.TheVariants.{Given}
 use Rattle.sqlite_rules.specs.Calls.{ids_of}
 use Rattle.sqlite_rules.specs.Action.{works}
 use Rattle.sqlite.proofs.Callers.{one_step}
-use Rattle.tables.specs.Table.{Place, Lists, cells, are_of}
+use Rattle.tables.specs.Table.{Place, Shape, Lists, cells, are_of, made_at}
 use Rattle.tables.specs.Inside.Keyed.{id_of}
 use Rattle.tables.specs.Keyed.{IsKeyed}
 use Rattle.tables.specs.Writes.{Removes}
-use Rattle.tables.proofs.Places.{placed, listed_along}
+use Rattle.tables.proofs.Places.{listed_along}
 use Rattle.tables.proofs.InsertKeyed.{went, same_value}
 use Rattle.tables.proofs.Understood.{planned_of, Means, IsWriteText, runs_by, and_then_ok, ends_in_write, on_table_writes, compiles_to_write}
 use Rattle.tables.proofs.RowidsOut.{taken_out, still_keyed, map_filter}
@@ -44,28 +44,28 @@ use Rattle.tables.proofs.InsertRow.{Has, has_listed, on_table_is}
 use Rattle.tables.proofs.QueryRows.{found_program, accepted, hit, found}
 use Rattle.tables.proofs.SelectAll.{finding}
 
--- A text that deletes, read under any schema that lists the table, and what its test finds by parameters of these kinds.
-pub record IsDelete (sql : List ℕ) (t0 : Table) (kinds : List Kind) (goes : Row → Row → Bool) : Type 0 where
+-- A text that deletes, read under any schema that lists a table of this shape, and what its test finds, as the table is STRICT or not, by parameters of these kinds.
+pub record IsDelete (sql : List ℕ) (shape : Shape) (kinds : List Kind) (goes : Row → Row → Bool) : Type 0 where
   pub p : Parsed
   pub test : Expr
-  pub tests : List Term
+  pub tests : Bool → List Term
   pub parsed : first sql ≡ Ok p
-  pub statement : p.statement ≡ written.Delete t0.name (Some test) []
+  pub statement : p.statement ≡ written.Delete shape.name (Some test) []
   pub plain : p.formats ≡ []
   pub whole : slice_range sql p.start p.end ≡ sql
   pub unlisted : if_select (compiled listing_schema sql) ≡ Err NoSuchTable
-  pub draft : (schema : Schema) (at : ℕ) (place : Place) → Has schema t0.name at (placed t0 place) → deleted schema at (placed t0 place) (Some test) ≡ Ok (finding place.tree tests (col 1 0 ∷ []))
-  pub hits : (key : Row) → are_of kinds key ≡ true → (r : Row) → hit tests (col 1 0 ∷ []) key r ≡ goes key (cells t0 r)
+  pub draft : (schema : Schema) (at : ℕ) (place : Place) → Has schema shape.name at (made_at shape place) → deleted schema at (made_at shape place) (Some test) ≡ Ok (finding place.tree (tests place.rules.is_strict) (col 1 0 ∷ []))
+  pub hits : (place : Place) (key : Row) → are_of kinds key ≡ true → (r : Row) → hit (tests place.rules.is_strict) (col 1 0 ∷ []) key r ≡ goes key (cells (made_at shape place) r)
 
-module _ (sql : List ℕ) (t0 : Table) (kinds : List Kind) (goes : Row → Row → Bool) (it : IsDelete sql t0 kinds goes) (schema : Schema) (place : Place) (listed : Lists schema (placed t0 place)) where
+module _ (sql : List ℕ) (shape : Shape) (kinds : List Kind) (goes : Row → Row → Bool) (it : IsDelete sql shape kinds goes) (schema : Schema) (place : Place) (listed : Lists schema (made_at shape place)) where
   abbrev found_by : Program
-  found_by = found_program place.tree it.tests (col 1 0 ∷ [])
+  found_by = found_program place.tree (it.tests place.rules.is_strict) (col 1 0 ∷ [])
 
-  delete_command : (k : Command) → command schema [] (small it.p.names + small []) (written.Delete t0.name (Some it.test) []) ≡ Ok k → k ≡ Delete listed.at found_by
+  delete_command : (k : Command) → command schema [] (small it.p.names + small []) (written.Delete shape.name (Some it.test) []) ≡ Ok k → k ≡ Delete listed.at found_by
   unfolding command delete program
   delete_command k h =
-      let has = has_listed schema (placed t0 place) listed in
-      accepted _ found_by (λ p. Delete listed.at p) k (rw (it.draft schema listed.at place has) at (sym (on_table_is schema t0.name listed.at (placed t0 place) _ has) ∙ h))
+      let has = has_listed schema (made_at shape place) listed in
+      accepted _ found_by (λ p. Delete listed.at p) k (rw (it.draft schema listed.at place has) at (sym (on_table_is schema shape.name listed.at (made_at shape place) _ has) ∙ h))
 
   delete_means : Means schema sql (Delete listed.at found_by) sql
   unfolding returning shows timed
@@ -91,10 +91,10 @@ delete_does limit mode params db after text at table q tally there inert h =
     let made : Applies db.schema mode.keys db.trees edit edited.0 = one_step db.schema mode.keys db.trees edited.0 edit (inert _) edited.1 in
     (ap (λ (d : Database). d.schema) now, given.0, given.1, subst (Applies db.schema mode.keys db.trees edit) (sym (ap (λ (d : Database). d.trees) now ∙ trees)) made)
 
-module _ (sql : List ℕ) (t0 : Table) (kinds : List Kind) (goes : Row → Row → Bool) (it : IsDelete sql t0 kinds goes) where
-  some_delete : (schema : Schema) (base : ℕ) (k : Command) → command schema [] base (written.Delete t0.name (Some it.test) []) ≡ Ok k → IsWrite k
+module _ (sql : List ℕ) (shape : Shape) (kinds : List Kind) (goes : Row → Row → Bool) (it : IsDelete sql shape kinds goes) where
+  some_delete : (schema : Schema) (base : ℕ) (k : Command) → command schema [] base (written.Delete shape.name (Some it.test) []) ≡ Ok k → IsWrite k
   unfolding command delete
-  some_delete schema base k = on_table_writes schema t0.name _ k (λ at table h.
+  some_delete schema base k = on_table_writes schema shape.name _ k (λ at table h.
       let planned = and_then_ok (deleted schema at table (Some it.test)) _ k h in
       ends_in_write (program schema [] planned.0) (λ p. Delete at p) k (λ p. tt) planned.2)
 
@@ -103,22 +103,22 @@ module _ (sql : List ℕ) (t0 : Table) (kinds : List Kind) (goes : Row → Row �
   delete_writes = compiles_to_write sql it.p it.parsed (λ schema base k h. some_delete schema base k (rw (it.plain, it.statement) at h))
 
   -- a DELETE that went through took out the rows that its parameters find, and nothing else
-  pub delete_removes : (old new : State) (key : Row) (count : ℕ) → are_of kinds key ≡ true → Executes sql key old new (Ok count) → Removes (placed t0) (goes key) old.now new.now
+  pub delete_removes : (old new : State) (key : Row) (count : ℕ) → are_of kinds key ≡ true → Executes sql key old new (Ok count) → Removes (made_at shape) (goes key) old.now new.now
   unfolding Removes
   delete_removes old new key count is ran place rows inert stands =
-      let t = placed t0 place in
+      let t = made_at shape place in
       let listed = stands.listed in
       let here = old.now.trees place.tree in
-      let finds = hit it.tests (col 1 0 ∷ []) key in
-      let q = found_program place.tree it.tests (col 1 0 ∷ []) in
-      let w = runs_by sql key old new count (Delete listed.at q) sql (delete_means sql t0 kinds goes it old.now.schema place listed) ran in
+      let finds = hit (it.tests place.rules.is_strict) (col 1 0 ∷ []) key in
+      let q = found_program place.tree (it.tests place.rules.is_strict) (col 1 0 ∷ []) in
+      let w = runs_by sql key old new count (Delete listed.at q) sql (delete_means sql shape kinds goes it old.now.schema place listed) ran in
       let done = delete_does old.step_limit (mode_of old) key old.now new.now sql listed.at t q w.tally listed.there (λ olds. inert olds []) w.changed in
-      let got = found it.tests (col 1 0 ∷ []) key old.now place.tree done.1 done.2 in
+      let got = found (it.tests place.rules.is_strict) (col 1 0 ∷ []) key old.now place.tree done.1 done.2 in
       let ids : IsPermutation (map id_of (filter finds here)) (ids_of done.1) =
       subst (λ all. IsPermutation all (ids_of done.1)) (map-map (λ (r : Row). id_in (rowid r)) (λ (r : Row). rowid r ∷ []) (filter finds here)) (IsPermutation-map (λ (r : Row). id_in (rowid r)) _ _ got) in
       let left : new.now.trees place.tree ≡ filter (λ r. not (finds r)) here = done.3.rows ∙ taken_out finds here (ids_of done.1) stands.keyed ids in
       let shown : map (cells t) (filter (λ r. not (finds r)) here) ≡ filter (λ v. not (goes key v)) (map (cells t) here) =
-      map_filter (cells t) (λ r. not (finds r)) (λ v. not (goes key v)) (λ r. ap not (it.hits key is r)) here in (
+      map_filter (cells t) (λ r. not (finds r)) (λ v. not (goes key v)) (λ r. ap not (it.hits place key is r)) here in (
         record {
           listed = listed_along old.now.schema new.now.schema t done.0 listed;
           keyed = subst IsKeyed (sym left) (still_keyed (λ r. not (finds r)) here stands.keyed);

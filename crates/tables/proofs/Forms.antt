@@ -1,8 +1,11 @@
 -- The texts of a table as statements, and what they are resolved to, by the table's shape alone.
-use Rattle.std.proofs.Common.{ℕ, zero, suc, ◌-◌, List, [], ◌∷◌, codes, length, map, take, drop, Option, Some, None, false, true}
+use Rattle.std.proofs.Common.{ℕ, zero, suc, ◌-◌, Bool, if◌then◌else◌, List, [], ◌∷◌, codes, length, map, take, drop, Option, Some, None, false, true}
 use Rattle.sqlite.specs.declared.types.Value.TheVariants.{Null}
 use Rattle.sqlite.specs.Kind.{Kind}
+use Rattle.sqlite.specs.Kind.TheVariants.{Integer}
 use Rattle.sqlite.specs.Term.{Term, lit, col}
+use Rattle.sqlite_sql.specs.Term.{op1}
+use Rattle.sqlite_sql.specs.declared.ops.UnaryOp.TheVariants.{ToNumeric}
 use Rattle.sqlite_syntax.specs.declared.statement.Parsed.{Parsed}
 use Rattle.sqlite_ast.specs.declared.CreateTable.{CreateTable}
 use Rattle.sqlite_ast.specs.declared.TableBody.{TableBody}
@@ -58,10 +61,22 @@ abbrev pub tests_of : List (List ℕ) → Expr
 tests_of [] = expr.Null
 tests_of (name ∷ names) = and_tests (is_parameter name 1) 2 names
 
--- and as it is resolved
-abbrev pub equals_from : ℕ → List ℕ → List Term
-equals_from at [] = []
-equals_from at (place ∷ places) = equals place at ∷ equals_from (suc at) places
+-- a parameter beside a column of this kind: where a table is not STRICT, a number may be given as a text
+abbrev pub given_in : Kind → Bool → ℕ → Term
+given_in Integer is_strict at = if is_strict then col 0 at else op1 ToNumeric (col 0 at)
+given_in kind is_strict at = col 0 at
+
+-- beside the column at this place of a row, of which the first is the rowid
+abbrev pub given_at : List (List ℕ × Kind) → Bool → ℕ → ℕ → Term
+given_at columns is_strict zero at = col 0 at
+given_at [] is_strict (suc place) at = col 0 at
+given_at (told ∷ columns) is_strict (suc zero) at = given_in told.1 is_strict at
+given_at (told ∷ columns) is_strict (suc (suc place)) at = given_at columns is_strict (suc place) at
+
+-- and as it is resolved, in a table that is STRICT or not
+abbrev pub equals_from : List (List ℕ × Kind) → Bool → ℕ → List ℕ → List Term
+equals_from columns is_strict at [] = []
+equals_from columns is_strict at (place ∷ places) = equals place (given_at columns is_strict place at) ∷ equals_from columns is_strict (suc at) places
 
 -- so many numbers from one on
 abbrev counted : ℕ → ℕ → List ℕ
@@ -124,8 +139,8 @@ module _ (shape : Shape) where
   places_at zero count = take count shape.primary
   places_at (suc before) count = counted (suc (suc before)) count
 
-  abbrev pub finds_of : ℕ → ℕ → List Term
-  finds_of before count = equals_from 0 (places_at before count)
+  abbrev pub finds_of : Bool → ℕ → ℕ → List Term
+  finds_of is_strict before count = equals_from shape.columns is_strict 0 (places_at before count)
 
   -- DELETE of the rows by these columns
   abbrev pub delete_of : ℕ → ℕ → Statement

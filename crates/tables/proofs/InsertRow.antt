@@ -4,13 +4,13 @@ use Rattle.std.specs.List.Sorted.{IsPermutation}
 use Rattle.std.proofs.lemmas.Bool.{and_parts}
 use Rattle.std.proofs.lemmas.List.Sorted.{IsPermutation-trans, IsPermutation-cons, IsPermutation-map}
 use Rattle.sqlite.specs.declared.types.Value.{Value}
-use Rattle.sqlite.specs.declared.types.Value.TheVariants.{Null, Int}
+use Rattle.sqlite.specs.declared.types.Value.TheVariants.{Null, Int, Blob as Bytes}
 use Rattle.sqlite.specs.Order.{Row}
 use Rattle.sqlite.specs.Schema.{Schema}
 use Rattle.sqlite.specs.Table.{Table}
 use Rattle.sqlite.specs.Term.{Term}
 use Rattle.sqlite.specs.Kind.{Kind}
-use Rattle.sqlite.specs.Kind.TheVariants.{Integer}
+use Rattle.sqlite.specs.Kind.TheVariants.{Integer, Blob}
 use Rattle.sqlite.specs.Cast.{cast, cast_row}
 use Rattle.sqlite.specs.Ops.{unary}
 use Rattle.sqlite.specs.Tree.{put_row}
@@ -37,10 +37,10 @@ use Rattle.sqlite_resolve.specs.Lowering.{Checked}
 use Rattle.sqlite_resolve.specs.declared.compiled.Compiled.{Compiled}
 use Rattle.sqlite.specs.Calls.{IsWrite}
 use Rattle.sqlite.specs.Command.{Command}
-use Rattle.tables.specs.Table.{Place, Lists, cells, are_of}
+use Rattle.tables.specs.Table.{Place, Shape, Lists, cells, are_of, kind_in, made_at}
 use Rattle.tables.specs.Keyed.{IsKeyed}
 use Rattle.tables.specs.Writes.{Adds, begins_with}
-use Rattle.tables.proofs.Places.{placed, listed_along}
+use Rattle.tables.proofs.Places.{listed_along}
 use Rattle.tables.proofs.Understood.{Means, IsWriteText, runs_by, ends_in_write, on_table_writes, compiles_to_write, written_sound}
 use Rattle.tables.proofs.Apart.{HasKey, has_own_key, none_shown}
 use Rattle.tables.proofs.InsertKeyed.{insert_does, insert_edit}
@@ -64,6 +64,11 @@ cast_null = either _ Null
 pub cast_int : (n : ℤ) → cast Integer (Int n) ≡ Int n
 unfolding unary
 cast_int n = either _ (Int n)
+
+-- and bytes in a column that was told to be a BLOB
+pub cast_bytes : (is_strict : Bool) (bytes : List ℕ) → cast (kind_in Blob is_strict) (Bytes bytes) ≡ Bytes bytes
+cast_bytes true bytes = refl
+cast_bytes false bytes = refl
 
 -- a name that finds a table at a position of the schema
 pub record Has (schema : Schema) (name : List ℕ) (at : ℕ) (table : Table) : Type 0 where
@@ -94,30 +99,30 @@ pub record IsGiven (made : Table) (params : Row) (terms : List Term) (width : �
   pub shown : (here : List Row) → cells made (with_rowid Chosen here (cast_row made source)) ≡ given
   pub shares : (here : List Row) (r : Row) → agree plain made.primary r made.primary (with_rowid Chosen here (cast_row made source)) ≡ begins_with (take (length made.primary) given) (cells made r)
 
--- The text of an INSERT of one row of terms, read under the table alone, and the row that it adds: that of its
+-- The text of an INSERT of one row of terms, read under a table of this shape alone, and the row that it adds: that of its
 -- parameters, where those are of these kinds.
-pub record IsInsert (sql : List ℕ) (made : Table) (kinds : List Kind) : Type 0 where
+pub record IsInsert (sql : List ℕ) (shape : Shape) (kinds : List Kind) : Type 0 where
   pub p : Parsed
   pub columns : List (List ℕ)
   pub values : Rows
   pub terms : List Term
   pub width : ℕ
   pub parsed : first sql ≡ Ok p
-  pub statement : p.statement ≡ written.Insert conflict.Abort made.name columns values [] []
+  pub statement : p.statement ≡ written.Insert conflict.Abort shape.name columns values [] []
   pub plain : p.formats ≡ []
-  pub laid : (schema : Schema) (place : Place) → new_rows schema (placed made place) (small p.names + small []) columns values ≡ Ok (Values terms width)
+  pub laid : (schema : Schema) (place : Place) → new_rows schema (made_at shape place) (small p.names + small []) columns values ≡ Ok (Values terms width)
   pub whole : slice_range sql p.start p.end ≡ sql
-  pub given : (row : Row) → are_of kinds row ≡ true → IsGiven made row terms width row
-  pub keyed : HasKey made
+  pub given : (place : Place) (row : Row) → are_of kinds row ≡ true → IsGiven (made_at shape place) row terms width row
+  pub keyed : (place : Place) → HasKey (made_at shape place)
 
-module _ (sql : List ℕ) (t0 : Table) (kinds : List Kind) (it : IsInsert sql t0 kinds) (schema : Schema) (at : ℕ) (place : Place)
-    (has : Has schema t0.name at (placed t0 place)) where
+module _ (sql : List ℕ) (shape : Shape) (kinds : List Kind) (it : IsInsert sql shape kinds) (schema : Schema) (at : ℕ) (place : Place)
+    (has : Has schema shape.name at (made_at shape place)) where
   abbrev statement : Statement
-  statement = written.Insert conflict.Abort t0.name it.columns it.values [] []
+  statement = written.Insert conflict.Abort shape.name it.columns it.values [] []
 
   commands : command schema [] (small it.p.names + small []) statement ≡ Ok (Insert at (Values it.terms it.width))
   unfolding command insert insert_or_abort
-  commands = on_table_is schema t0.name at (placed t0 place) _ has ∙ rw (it.laid schema place) refl
+  commands = on_table_is schema shape.name at (made_at shape place) _ has ∙ rw (it.laid schema place) refl
 
   no_time : timed schema [] statement ≡ []
   unfolding timed
@@ -137,22 +142,22 @@ module _ (sql : List ℕ) (t0 : Table) (kinds : List Kind) (it : IsInsert sql t0
       let same : with_command it.p ([], (Insert at (Values it.terms it.width), None)) ≡ c = cc in
       (sym (ap (λ (it : Compiled). it.command) same), sym (ap (λ (it : Compiled). it.returning) same), sym (ap (λ (it : Compiled). it.formats) same), sym (ap (text_of sql) same) ∙ it.whole)
 
-module _ (sql : List ℕ) (t0 : Table) (kinds : List Kind) (it : IsInsert sql t0 kinds) where
-  insert_command : (schema : Schema) (base : ℕ) (k : Command) → command schema [] base (written.Insert conflict.Abort t0.name it.columns it.values [] []) ≡ Ok k → IsWrite k
+module _ (sql : List ℕ) (shape : Shape) (kinds : List Kind) (it : IsInsert sql shape kinds) where
+  insert_command : (schema : Schema) (base : ℕ) (k : Command) → command schema [] base (written.Insert conflict.Abort shape.name it.columns it.values [] []) ≡ Ok k → IsWrite k
   unfolding command insert insert_or_abort
-  insert_command schema base k = on_table_writes schema t0.name _ k (λ at table. ends_in_write (new_rows schema table base it.columns it.values) (λ s. Insert at s) k (λ s. tt))
+  insert_command schema base k = on_table_writes schema shape.name _ k (λ at table. ends_in_write (new_rows schema table base it.columns it.values) (λ s. Insert at s) k (λ s. tt))
 
   -- the text is that of a write
   pub insert_writes : IsWriteText sql
   insert_writes = compiles_to_write sql it.p it.parsed (λ schema base k h. insert_command schema base k (rw (it.plain, it.statement) at h))
 
   -- an INSERT that went through added the row of its parameters, where none had its key, and nothing else
-  pub inserts : (old new : State) (given : Row) (count : ℕ) → are_of kinds given ≡ true → Executes sql given old new (Ok count) → Adds (placed t0) (take (length t0.primary) given) given old.now new.now
+  pub inserts : (old new : State) (given : Row) (count : ℕ) → are_of kinds given ≡ true → Executes sql given old new (Ok count) → Adds (made_at shape) (take (length shape.primary) given) given old.now new.now
   inserts old new given count fits ran place rows stands =
-      let is = it.given given fits in
-      let t : Table = placed t0 place in
+      let is = it.given place given fits in
+      let t : Table = made_at shape place in
       let w = runs_by sql given old new count (Insert stands.listed.at (Values it.terms it.width)) sql
-      (insert_means sql t0 kinds it old.now.schema stands.listed.at place (has_listed old.now.schema t stands.listed)) ran in
+      (insert_means sql shape kinds it old.now.schema stands.listed.at place (has_listed old.now.schema t stands.listed)) ran in
       let done = insert_does old.step_limit (mode_of old) given old.now new.now sql stands.listed.at t it.terms it.width w.tally stands.listed.there w.changed in
       let applies : Applies old.now.schema Enforced old.now.trees (insert_edit old.now t (is.source ∷ [])) new.now.trees =
       subst (λ all. Applies old.now.schema Enforced old.now.trees (insert_edit old.now t all) new.now.trees) is.one done.1 in
@@ -167,7 +172,7 @@ module _ (sql : List ℕ) (t0 : Table) (kinds : List Kind) (it : IsInsert sql t0
           holds = subst (λ all. IsPermutation (given ∷ rows) (map (cells t) all)) (sym applies.rows) grown;
         },
         record { schema = done.0; others = applies.tables },
-        none_shown (cells t) (begins_with (take (length t0.primary) given)) here rows stands.holds (λ r h. sym (is.shares here r)
+        none_shown (cells t) (begins_with (take (length shape.primary) given)) here rows stands.holds (λ r h. sym (is.shares here r)
             ∙ has_own_key new.now.schema new.now.trees t (written_sound sql given old new count insert_writes ran) (has_got new.now.schema.tables stands.listed.at t (subst (λ (s : Schema). slice_get s.tables stands.listed.at ≡ Some t) (sym done.0) stands.listed.there))
-            here row applies.rows free stands.keyed.ids (and_parts _ _ applies.keyed).0 it.keyed r h),
+            here row applies.rows free stands.keyed.ids (and_parts _ _ applies.keyed).0 (it.keyed place) r h),
       )

@@ -23,9 +23,9 @@ use Rattle.sqlite_sql.specs.declared.ops.CompareOp.TheVariants.{Eq}
 abbrev pub is_parameter : List ℕ → ℕ → Expr
 is_parameter name at = expr.Binary binary.Eq (expr.Column None name) (expr.Parameter at)
 
--- the same, as it is resolved
-abbrev pub equals : ℕ → ℕ → Term
-equals place at = op2 (Compare Eq Binary) (col 1 place) (col 0 at)
+-- the same, as it is resolved: what is given may be converted
+abbrev pub equals : ℕ → Term → Term
+equals place given = op2 (Compare Eq Binary) (col 1 place) given
 
 truth_is : (b : Bool) → is_true (from_truth (Some b)) ≡ b
 truth_is true = refl

@@ -1,9 +1,9 @@
--- A table that passes the tests is the one that is made here, and the one that is made here passes them.
-use Rattle.std.proofs.Common.{◌≡◌, ℕ, Bool, true, false, not, ◌==◌, List, [], ◌∷◌, length, slice_get, Option, Some, None, map, refl, ap, subst, ◌∙◌, arith}
+-- A table that passes the tests is one of its shape, at its place.
+use Rattle.std.proofs.Common.{◌≡◌, inl, inr, ℕ, Bool, true, false, not, ◌==◌, ◌||◌, if◌then◌else◌, List, [], ◌∷◌, length, slice_get, Option, Some, None, map, refl, sym, ap, subst, ◌∙◌, arith}
 use Rattle.std.specs.Option.{option_map_or}
 use Rattle.std.specs.List.{list_all}
 use Rattle.std.specs.Str.{bytes_eq}
-use Rattle.std.proofs.lemmas.Bool.{and_parts}
+use Rattle.std.proofs.lemmas.Bool.{and_parts, cases_Bool}
 use Rattle.std.proofs.lemmas.Slice.Eq.{bytes_eq-Decides}
 use Rattle.std.proofs.lemmas.Bool.Decides.{Decides-eqb}
 use Rattle.std.proofs.lemmas.List.{map-id}
@@ -23,9 +23,9 @@ use Rattle.sqlite_schema.specs.declared.schema.Action.{Action}
 use Rattle.sqlite_schema.specs.declared.schema.Action.TheVariants as action
 use Rattle.sqlite_schema.specs.Rules.{kind_code}
 use Rattle.tables.specs.declared.table.Table.{Table as Ours}
-use Rattle.tables.specs.Table.{Shape, shape_of, table_at, Place, required, referring, ascending, made_at}
+use Rattle.tables.specs.Table.{Shape, shape_of, table_at, Place, all_referring, kind_in, required, referring, ascending, made_at}
 use Rattle.tables.specs.Inside.Inert.{is_passive}
-use Rattle.tables.specs.Inside.Layout.{is_nothing, is_binary, same_key, is_required, is_referring, are_told, are_plain, is_untimed, has_shape, IsNamed, place_of}
+use Rattle.tables.specs.Inside.Layout.{is_nothing, is_binary, same_key, are_of_one, are_strict, is_alone, is_bare, is_required, is_referring, are_told, are_plain, is_untimed, has_shape, IsNamed, place_of}
 use Rattle.tables.specs.Layout.{IsListed}
 
 same_bytes : (a b : List ℕ) → bytes_eq a b ≡ true → a ≡ b
@@ -61,17 +61,16 @@ kind_is Blob Blob h = refl
 kind_is Any Any h = refl
 kind_is _ _ h = absurd (cc)
 
-required_is : (told : List ℕ × Kind) (c : Column) → is_required told c ≡ true → c ≡ required told
-required_is told c h =
+required_is : (is_strict : Bool) (told : List ℕ × Kind) (c : Column) → c.is_strict ≡ is_strict → is_required told c ≡ true → c ≡ required is_strict told
+required_is is_strict told c strict h =
     let a = and_parts _ _ h in
     let b = and_parts _ _ a.0 in
     let d = and_parts _ _ b.0 in
     let e = and_parts _ _ d.0 in
-    let f = and_parts _ _ e.0 in
     λ i. record {
-      name = same_bytes c.name told.0 f.0 i;
-      kind = kind_is c.kind told.1 f.1 i;
-      is_strict = e.1 i;
+      name = same_bytes c.name told.0 e.0 i;
+      kind = (kind_is c.kind (kind_in told.1 c.is_strict) e.1 ∙ ap (kind_in told.1) strict) i;
+      is_strict = strict i;
       not_null = d.1 i;
       default = nothing_is c.default b.1 i;
       collation = binary_is c.collation a.1 i;
@@ -83,6 +82,36 @@ told_are is make made [] [] h = refl
 told_are is make made (a ∷ said) (b ∷ bs) h = let p = and_parts _ _ h in λ i. made a b p.0 i ∷ told_are is make made said bs p.1 i
 told_are is make made [] (b ∷ bs) h = absurd (cc)
 told_are is make made (a ∷ said) [] h = absurd (cc)
+
+falls : (b : Bool) → not b ≡ true → b ≡ false
+falls true h = absurd (cc)
+falls false h = refl
+
+-- columns that are told and are each of a table that is STRICT, or each of one that is not
+columns_are : (is_strict : Bool) (said : List (List ℕ × Kind)) (cs : List Column) → list_all (λ (c : Column). if is_strict then c.is_strict else not c.is_strict) cs ≡ true → are_told is_required said cs ≡ true
+    → cs ≡ map (required is_strict) said
+columns_are is_strict [] [] all h = refl
+columns_are is_strict (a ∷ said) (c ∷ cs) all h =
+    let p = and_parts _ _ h in
+    let q = and_parts _ _ all in
+    λ i. required_is is_strict a c (strict_by is_strict c.is_strict q.0) p.0 i ∷ columns_are is_strict said cs q.1 p.1 i
+  where
+    strict_by : (wanted is : Bool) → (if wanted then is else not is) ≡ true → is ≡ wanted
+    strict_by true is h = h
+    strict_by false is h = falls is h
+columns_are is_strict [] (c ∷ cs) all h = absurd (cc)
+columns_are is_strict (a ∷ said) [] all h = absurd (cc)
+
+other_way : (a b : Bool) → (a || b) ≡ true → a ≡ false → b ≡ true
+other_way true b h is = absurd (cc)
+other_way false b h is = h
+
+-- the columns of a table are all of one that is STRICT or not
+one_kind : (said : List (List ℕ × Kind)) (cs : List Column) → are_of_one cs ≡ true → are_told is_required said cs ≡ true → cs ≡ map (required (are_strict cs)) said
+one_kind said cs one h = elim (cases_Bool (are_strict cs)) [
+  | inl strict ↦ columns_are true said cs strict h ∙ ap (λ b. map (required b) said) (sym strict)
+  | inr loose ↦ columns_are false said cs (other_way _ _ one loose) h ∙ ap (λ b. map (required b) said) (sym loose)
+]
 
 at_is : {X : Type 0} (test : X → Bool) (o : Option X) (x : X) → ((y : X) → test y ≡ true → y ≡ x) → option_map_or test o false ≡ true → o ≡ Some x
 at_is test None x is h = absurd (cc)
@@ -103,26 +132,35 @@ pub one_is : {X : Type 0} (xs : List X) (a : X) → length xs ≡ 1 → slice_ge
 one_is [] a h p = absurd (omega (arith, h))
 one_is (x ∷ xs) a h p = λ i. some_is p i ∷ empty_is xs (omega (arith, h)) i
 
-falls : (b : Bool) → not b ≡ true → b ≡ false
-falls true h = absurd (cc)
-falls false h = refl
+-- the columns of the other table are none, or the one that is told
+named_is : (name : List ℕ) (names : List (List ℕ)) (bare : Bool) → (length names == 0) ≡ bare → (bare || is_alone name names) ≡ true → names ≡ (if bare then [] else name ∷ [])
+named_is name names true is h = empty_is names (same_number _ _ is)
+named_is name names false is h =
+    let n = and_parts _ _ h in
+    one_is names name (same_number _ _ n.0) (at_is (λ c. bytes_eq c name) (slice_get names 0) name (λ x. same_bytes x name) n.1)
 
-referring_is : (link : ℕ × List ℕ × List ℕ) (r : Reference) → is_referring link r ≡ true → r ≡ referring link
+referring_is : (link : ℕ × List ℕ × List ℕ) (r : Reference) → is_referring link r ≡ true → r ≡ referring (is_bare r) link
 referring_is link r h =
     let a = and_parts _ _ h in
     let b = and_parts _ _ a.0 in
     let c = and_parts _ _ b.0 in
     let d = and_parts _ _ c.0 in
     let e = and_parts _ _ d.0 in
-    let n = and_parts _ _ d.1 in
     λ i. record {
       columns = same_bytes r.columns (link.0 ∷ []) e.0 i;
       parent = same_bytes r.parent link.1 e.1 i;
-      parent_columns = one_is r.parent_columns link.2 (same_number _ _ n.0) (at_is (λ c. bytes_eq c link.2) (slice_get r.parent_columns 0) link.2 (λ x. same_bytes x link.2) n.1) i;
+      parent_columns = named_is link.2 r.parent_columns (is_bare r) refl d.1 i;
       on_delete = passive_is r.on_delete c.1 i;
       on_update = passive_is r.on_update b.1 i;
       is_deferred = falls r.is_deferred a.1 i;
     }
+
+-- references that are told, some of which may be bare
+all_referring_are : (links : List (ℕ × List ℕ × List ℕ)) (rs : List Reference) → are_told is_referring links rs ≡ true → rs ≡ all_referring (map is_bare rs) links
+all_referring_are [] [] h = refl
+all_referring_are (link ∷ links) (r ∷ rs) h = let p = and_parts _ _ h in λ i. referring_is link r p.0 i ∷ all_referring_are links rs p.1 i
+all_referring_are [] (r ∷ rs) h = absurd (cc)
+all_referring_are (link ∷ links) [] h = absurd (cc)
 
 order_is : (o : Order) → (o.digits == 0) ≡ true → o ≡ plain
 order_is o h = λ i. record { digits = same_number o.digits 0 h i }
@@ -161,7 +199,8 @@ pub shape_is : (shape : Shape) (t : Table) → has_shape shape t ≡ true → t 
 shape_is shape t h =
     let a = and_parts _ _ h in
     let b = and_parts _ _ a.0 in
-    let c = and_parts _ _ b.0 in
+    let o = and_parts _ _ b.0 in
+    let c = and_parts _ _ o.0 in
     let d = and_parts _ _ c.0 in
     let k = and_parts _ _ d.1 in
     let l = and_parts _ _ k.0 in
@@ -170,13 +209,13 @@ shape_is shape t h =
     λ i. record {
       name = same_bytes t.name shape.name d.0 i;
       tree = t.tree;
-      columns = told_are is_required required required_is shape.columns t.columns c.1 i;
+      columns = one_kind shape.columns t.columns o.1 c.1 i;
       key = same_key_is t.key shape.key m.0 i;
       primary = same_bytes t.primary shape.primary m.1 i;
       uniques = (told_are (λ places list. bytes_eq list places) (λ places. places) (λ places list. same_bytes list places) shape.uniques t.uniques l.1 ∙ map-id shape.uniques) i;
       orders = plain_are (length shape.uniques) t.orders k.1 i;
       checks = t.checks;
-      references = told_are is_referring referring referring_is shape.links t.references b.1 i;
+      references = all_referring_are shape.links t.references b.1 i;
       computed = u.computed i;
       stamps = record { places = u.places i; terms = u.terms i; formats = u.formats i };
       is_counted = u.counted i;
@@ -184,7 +223,7 @@ shape_is shape t h =
 
 -- a table that is found by its name and is the one that is made here is listed
 pub listed_as : (schema : Schema) (table : Place → Table) (t : Table) → (named : IsNamed schema (table (place_of t)).name t) → t ≡ table (place_of t) → IsListed table schema t.tree
-listed_as schema table t named is = (t.checks, record { at = named.at; named = named.named; there = named.there ∙ ap Some is })
+listed_as schema table t named is = ((place_of t).rules, record { at = named.at; named = named.named; there = named.there ∙ ap Some is })
 
 module _ (schema : Schema) (table : Ours) (told : Shape) (is : told ≡ shape_of table) where
   -- a table that is found by the told name and passes for the told shape is listed

@@ -1,20 +1,12 @@
--- A table at a place.
+-- A table that is listed.
 use Rattle.std.proofs.Common.{◌≡◌, [], false, sym, subst}
 use Rattle.sqlite.specs.Table.{Table}
 use Rattle.sqlite.specs.Schema.{Schema}
-use Rattle.tables.specs.Table.{Place, Lists}
+use Rattle.tables.specs.Table.{Lists}
 
 -- a table with no AUTOINCREMENT and no default that reads the time
 abbrev pub untimed : Table → Table
 untimed table = record table { stamps = record { places = []; terms = []; formats = [] }; is_counted = false }
-
--- where no table is yet
-abbrev pub nowhere : Place
-nowhere = record { tree = 0; checks = [] }
-
--- the same table at another place
-abbrev pub placed : Table → Place → Table
-placed table place = record (untimed table) { tree = place.tree; checks = place.checks }
 
 -- a table is listed as before where the schema is as before
 pub listed_along : (old new : Schema) (table : Table) → new ≡ old → Lists old table → Lists new table

@@ -9,7 +9,6 @@ use Rattle.std.specs.List.Sorted.{IsPermutation}
 use Rattle.sqlite.specs.Order.{Row}
 use Rattle.sqlite.specs.Schema.{Schema}
 use Rattle.sqlite.specs.Table.{Table}
-use Rattle.sqlite.specs.Term.{Term}
 use Rattle.sqlite.specs.Effect.{Database}
 use Rattle.sqlite.specs.State.{State, HasCleanDisk, KeepsCommit, Executes, Survives}
 use Rattle.sqlite.proofs.StateLemmas.{survives_then}
@@ -17,7 +16,7 @@ use Rattle.sqlite.specs.Tree.{Trees}
 use Rattle.sqlite_rules.proofs.ListLemmas.{all_has, all_from, has_got}
 use Rattle.tables.specs.declared.table.Table.{Table as Ours}
 use Rattle.tables.specs.declared.table.Table.TheVariants.{Edition, Supervisor, Project, Student, Round, Choice, Placement, Import}
-use Rattle.tables.specs.Table.{Place, Lists, all_tables, cells, table_at, number_of, same_table}
+use Rattle.tables.specs.Table.{Place, Rules, Lists, all_tables, cells, table_at, number_of, same_table}
 use Rattle.std.proofs.lemmas.Bool.{cases_Bool}
 use Rattle.std.proofs.lemmas.Bool.Decides.{Decides-eqb}
 use Rattle.tables.specs.Keyed.{IsKeyed, Stands}
@@ -55,9 +54,9 @@ stands_apart table place same rows tree old new apart only stands =
     stands_kept table place same rows old new (listed_along old.schema new.schema t only.schema stands.listed) kept stands
 
 -- so it does where another is made, and is another
-pub stands_beside : (table : Place → Table) (place : Place) (same : (table place).tree ≡ place.tree) (rows : List Row) (other : Place → Table) (checks : List Term) (given : List Row) (old new : Database)
-    → (made : Makes other checks given old new) → Stands table place rows old → Stands table place rows new × (place.tree ≢ made.place.tree)
-stands_beside table place same rows other checks given old new made stands =
+pub stands_beside : (table : Place → Table) (place : Place) (same : (table place).tree ≡ place.tree) (rows : List Row) (other : Place → Table) (rules : Rules) (given : List Row) (old new : Database)
+    → (made : Makes other rules given old new) → Stands table place rows old → Stands table place rows new × (place.tree ≢ made.place.tree)
+stands_beside table place same rows other rules given old new made stands =
     let kept = made.others (table place) stands.listed in
     (stands_kept table place same rows old new kept.0 kept.1 stands, λ e. kept.2 (same ∙ e))
 

@@ -1,7 +1,6 @@
 -- SELECT of the columns of a whole table, under any schema that lists it.
 use Rattle.std.proofs.Common.{◌≡◌, ℕ, List, [], ◌∷◌, codes, slice_get, slice_range, Some, None, Ok, Err, Result, refl, sym, ap, subst, ◌∙◌, false, true, drop, pos, negsuc, Bool, if◌then◌else◌, map, unwrap_or, nat_le, nat_lt, ◌-◌, ◌^◌, subst₂, append-nil}
 use Rattle.sqlite.specs.Schema.{Schema}
-use Rattle.sqlite.specs.Table.{Table}
 use Rattle.sqlite.specs.Compile.{compiled, first, timed, returning, command, read}
 use Rattle.sqlite_syntax.specs.declared.statement.Parsed.{Parsed}
 use Rattle.sqlite_ast.specs.declared.Statement.TheVariants as written
@@ -44,7 +43,7 @@ use Rattle.sqlite.specs.Effect.{Database, Reads}
 use Rattle.sqlite.specs.Program.{overlay}
 use Rattle.sqlite.specs.Rows.{shown}
 use Rattle.sqlite_sql.specs.Term.{eval_all}
-use Rattle.tables.specs.Table.{Place, Lists}
+use Rattle.tables.specs.Table.{Place, Shape, Lists, made_at}
 use Rattle.tables.specs.Keyed.{IsKeyed, Stands}
 use Rattle.tables.specs.Steps.{Shows, Rests}
 use Rattle.tables.specs.Inside.Steps.{RanQuery}
@@ -55,7 +54,6 @@ use Rattle.tables.proofs.Rowids.{keyed_by_ids}
 use Rattle.sqlite_keyed.proofs.ListLemmas.{map-map}
 use Rattle.sqlite.specs.State.{CommitsShowing, IsRolledBack, FailsToQuery, IsNotRun}
 use Rattle.sqlite.specs.declared.error.Error.{Error}
-use Rattle.tables.proofs.Places.{placed}
 
 abbrev pub Page : Type 0
 Page = Term × Term
@@ -213,21 +211,21 @@ module _ (schema : Schema) (core : Core) (name : List ℕ) (at tree budget : ℕ
   unfolding named assembled ungrouped
   named_is = rw (parts_are, no_distinct) refl
 
--- a text that shows the rowid and each column of a table
-pub record IsSelect (sql : List ℕ) (t0 : Table) : Type 0 where
+-- a text that shows the rowid and each column of a table of this shape
+pub record IsSelect (sql : List ℕ) (shape : Shape) : Type 0 where
   pub plain : IsPlainSelect sql
   pub unlisted : if_select (compiled listing_schema sql) ≡ Err NoSuchTable
   pub budget : ℕ
   pub outs : List Output
-  pub resolved : (schema : Schema) (place : Place) (listed : Lists schema (placed t0 place)) → nat_lt place.tree (2 ^ 31) ≡ true → IsResolved schema (out-Select plain.s).first t0.name listed.at place.tree budget outs
-  pub shows : (r : Row) → eval_all (map (λ (o : Output). o.term) outs) ([] ∷ r ∷ []) ≡ shown t0 r
+  pub resolved : (schema : Schema) (place : Place) (listed : Lists schema (made_at shape place)) → nat_lt place.tree (2 ^ 31) ≡ true → IsResolved schema (out-Select plain.s).first shape.name listed.at place.tree budget outs
+  pub shows : (place : Place) (r : Row) → eval_all (map (λ (o : Output). o.term) outs) ([] ∷ r ∷ []) ≡ shown (made_at shape place) r
 
 accepted : (b : Bool) (p : Program) (names : List (List ℕ)) (k : Command)
     → ◌≡◌ {A = Checked Command} (and_then (if b then Ok p else Err Mismatch) (λ p. Ok (command.Select p names))) (Ok k) → k ≡ command.Select p names
 accepted true p names k h = cc
 accepted false p names k h = absurd (cc)
 
-module _ (sql : List ℕ) (t0 : Table) (it : IsSelect sql t0) (schema : Schema) (place : Place) (listed : Lists schema (placed t0 place)) (low : nat_lt place.tree (2 ^ 31) ≡ true) where
+module _ (sql : List ℕ) (shape : Shape) (it : IsSelect sql shape) (schema : Schema) (place : Place) (listed : Lists schema (made_at shape place)) (low : nat_lt place.tree (2 ^ 31) ≡ true) where
   abbrev core : Core
   core = (out-Select it.plain.s).first
 
@@ -236,7 +234,7 @@ module _ (sql : List ℕ) (t0 : Table) (it : IsSelect sql t0) (schema : Schema) 
 
   read_is : (k : Command) → command schema [] 0 (written.Select it.plain.s) ≡ Ok k → k ≡ whole_command
   unfolding command read program
-  read_is k h = accepted _ _ _ k (rw (queried schema sql it.plain _ (named_is schema core t0.name listed.at place.tree it.budget it.outs (it.resolved schema place listed low) it.plain.no_group it.plain.no_having it.plain.no_distinct)) at h)
+  read_is k h = accepted _ _ _ k (rw (queried schema sql it.plain _ (named_is schema core shape.name listed.at place.tree it.budget it.outs (it.resolved schema place listed low) it.plain.no_group it.plain.no_having it.plain.no_distinct)) at h)
 
   -- the text means the query of the whole table
   pub select_means : Means schema sql whole_command sql
@@ -271,32 +269,33 @@ reads_by sql params old new rows k text unlisted means h =
     let db : it.0 ≡ old.now = subst (λ b. IsSourceOf b old.now it.0) plain it.1 in
     (subst₂ (λ c d. Reads c d params rows) is.0 db it.2, it.3)
 
-module _ (sql : List ℕ) (t0 : Table) (it : IsSelect sql t0) where
-  shows_each : (tree : ℕ) (rows : List Row) → map (λ (o : Output'). o.1) (map (output (whole_query tree it.outs)) (map (λ (r : Row). [] ∷ r ∷ []) rows)) ≡ map (shown t0) rows
-  shows_each tree [] = refl
-  shows_each tree (r ∷ rows) = λ i. it.shows r i ∷ shows_each tree rows i
+module _ (sql : List ℕ) (shape : Shape) (it : IsSelect sql shape) where
+  shows_each : (place : Place) (rows : List Row) → map (λ (o : Output'). o.1) (map (output (whole_query place.tree it.outs)) (map (λ (r : Row). [] ∷ r ∷ []) rows)) ≡ map (shown (made_at shape place)) rows
+  shows_each place [] = refl
+  shows_each place (r ∷ rows) = λ i. it.shows place r i ∷ shows_each place rows i
 
-  answers : (db : Database) (tree : ℕ) (rows : List Row) → Reads (command.Select (record { lets = []; body = whole_query tree it.outs }) (names it.outs)) db [] rows
-      → IsPermutation (map (shown t0) (db.trees tree)) rows
-  answers db tree rows reads =
+  answers : (db : Database) (place : Place) (rows : List Row) → Reads (command.Select (record { lets = []; body = whole_query place.tree it.outs }) (names it.outs)) db [] rows
+      → IsPermutation (map (shown (made_at shape place)) (db.trees place.tree)) rows
+  answers db place rows reads =
+      let tree = place.tree in
       let q = whole_query tree it.outs in
       let a : IsAnswer q (overlay db.trees []) [] rows = reads.answer Null in
       let staged : a.staged ≡ map (λ (r : Row). [] ∷ r ∷ []) (db.trees tree) = a.grouped ∙ flat_map_single _ (overlay db.trees [] tree) ∙ ap (map (λ (r : Row). [] ∷ r ∷ [])) (no_overlay db.trees tree) in
-      let kept : map (λ (o : Output'). o.1) a.kept ≡ map (shown t0) (db.trees tree) =
-      ap (map (λ (o : Output'). o.1)) (a.distinct ∙ ap (map (output q)) staged) ∙ shows_each tree (db.trees tree) in
+      let kept : map (λ (o : Output'). o.1) a.kept ≡ map (shown (made_at shape place)) (db.trees tree) =
+      ap (map (λ (o : Output'). o.1)) (a.distinct ∙ ap (map (output q)) staged) ∙ shows_each place (db.trees tree) in
       subst₂ IsPermutation kept (sym a.shown) (IsPermutation-map (λ (o : Output'). o.1) _ _ a.same)
 
   -- what the text shows of a table that is listed
-  pub select_reads : (old new : State) (rows : List Row) (place : Place) → Lists old.now.schema (placed t0 place) → nat_lt place.tree (2 ^ 31) ≡ true → IsKeyed rows → HasShown sql [] old new rows
-      → Stands (placed t0) place (map (drop 1) rows) old.now × IsUnchanged old new
+  pub select_reads : (old new : State) (rows : List Row) (place : Place) → Lists old.now.schema (made_at shape place) → nat_lt place.tree (2 ^ 31) ≡ true → IsKeyed rows → HasShown sql [] old new rows
+      → Stands (made_at shape) place (map (drop 1) rows) old.now × IsUnchanged old new
   select_reads old new rows place listed low keyed h =
-      let both = reads_by sql [] old new rows _ sql it.unlisted (select_means sql t0 it old.now.schema place listed low) h in
+      let both = reads_by sql [] old new rows _ sql it.unlisted (select_means sql shape it old.now.schema place listed low) h in
       let here = old.now.trees place.tree in
-      let same : IsPermutation rows (map (shown t0) here) = IsPermutation-sym _ _ (answers old.now place.tree rows both.0) in (
+      let same : IsPermutation rows (map (shown (made_at shape place)) here) = IsPermutation-sym _ _ (answers old.now place rows both.0) in (
         record {
           listed = listed;
-          keyed = keyed_by_ids (shown t0) (λ r. refl) here rows same keyed;
-          holds = subst (IsPermutation (map (drop 1) rows)) (map-map (drop 1) (shown t0) here) (IsPermutation-map (drop 1) _ _ same);
+          keyed = keyed_by_ids (shown (made_at shape place)) (λ r. refl) here rows same keyed;
+          holds = subst (IsPermutation (map (drop 1) rows)) (map-map (drop 1) (shown (made_at shape place)) here) (IsPermutation-map (drop 1) _ _ same);
         },
         both.1,
       )
@@ -319,7 +318,7 @@ module _ (sql : List ℕ) (t0 : Table) (it : IsSelect sql t0) where
 
   -- the same of a call that answers them
   pub read_shows : (old new : State) (result : Result (Vec Row Global) TableFault) → IfOk result (λ rows. IsKeyed rows.items) → IfOk result (λ rows. HasShown sql [] old new rows.items)
-      → IfOk result (λ rows. Shows (placed t0) rows.items old new)
+      → IfOk result (λ rows. Shows (made_at shape) rows.items old new)
   read_shows old new (Ok rows) keyed seen = record {
     same = select_unchanged old new rows.items seen;
     stands = λ place listed low. (select_reads old new rows.items place listed low keyed seen).0;

@@ -1,80 +1,115 @@
 -- The texts of each table are read and resolved, by computing: the parser and the resolver run on the literal texts here, and nowhere else.
-use Rattle.std.proofs.Common.{inl, inr, refl}
+use Rattle.std.proofs.Common.{◌≡◌, ℕ, ℤ, List, [], ◌∷◌, Bool, true, false, inl, inr, refl}
 use Rattle.std.proofs.lemmas.Bool.{and_parts}
 use Rattle.sqlite_tied.specs.Compute.{everything}
 use Rattle.sqlite.specs.Listing.{listing_schema}
+use Rattle.sqlite.specs.Order.{Row}
+use Rattle.sqlite.specs.Ops.{unary}
+use Rattle.sqlite.specs.Term.{Term, col}
+use Rattle.sqlite.specs.declared.types.Value.TheVariants.{Int, Text as Words}
 use Rattle.sqlite_value.specs.Keys.{first_key}
 use Rattle.tables.specs.declared.table.Table.{Table}
 use Rattle.tables.specs.declared.table.Table.TheVariants.{Edition, Supervisor, Project, Student, Round, Choice, Placement, Import}
-use Rattle.tables.specs.Table.{Sharing, sharing}
+use Rattle.tables.specs.Table.{Place, cells, shape_of, sharing, table_at}
+use Rattle.tables.specs.Writes.{begins_with, goes_on}
 use Rattle.tables.specs.declared.table.Group.{Group}
 use Rattle.tables.specs.declared.table.Group.TheVariants as group
-use Rattle.tables.proofs.Texts.{Removal, Texts}
-use Rattle.tables.proofs.InsertRow.{cast_null, cast_int}
+use Rattle.tables.proofs.Texts.{Anywhere, AreTested, Removal, Removes, Texts, either}
+use Rattle.tables.proofs.Forms.{finds_of, values_of}
+use Rattle.tables.proofs.InsertRow.{cast_bytes, cast_null, cast_int}
+use Rattle.tables.proofs.QueryRows.{hit}
+use Rattle.tables.proofs.UpdateRow.{showing}
 use Rattle.tables.proofs.KeyTests.{rowid_is}
+
+-- the rows of the table of choices that begin with a key are found
+choice_found : (is_strict : Bool) (at : Place) (project : List Term) (round : ℤ) (student : List ℕ) (place : ℤ) (more r : Row)
+    → hit (finds_of (shape_of Choice) is_strict 0 3) project (Int round ∷ Words student ∷ Int place ∷ more) r ≡ begins_with (Int round ∷ Words student ∷ Int place ∷ []) (cells (table_at Choice at) r)
+unfolding unary
+choice_found true at project round student place more r = refl
+choice_found false at project round student place more r = refl
+
+-- and those of a list, and the placements of a round
+list_found : (is_strict : Bool) (at : Place) (round : ℤ) (student : List ℕ) (r : Row)
+    → hit (finds_of (shape_of Choice) is_strict 0 2) (col 1 0 ∷ []) (Int round ∷ Words student ∷ []) r ≡ begins_with (Int round ∷ Words student ∷ []) (cells (table_at Choice at) r)
+unfolding unary
+list_found true at round student r = refl
+list_found false at round student r = refl
+
+placed_found : (is_strict : Bool) (at : Place) (round : ℤ) (r : Row) → hit (finds_of (shape_of Placement) is_strict 1 1) (col 1 0 ∷ []) (Int round ∷ []) r ≡ goes_on 1 (Int round ∷ []) (cells (table_at Placement at) r)
+unfolding unary
+placed_found true at round r = refl
+placed_found false at round r = refl
 
 -- what every table gives
 pub texts : (table : Table) → Texts table
 unfolding everything listing_schema first_key
 texts Edition = record {
-  read = record { body = _; create = refl; insert = refl; update = refl; delete = refl; select = refl; defined = refl; unlisted = refl; laid = λ schema place base. refl; shows = λ r. refl };
-  resolved = λ schema at place there. record { removal = rw there (rw there refl); change = rw there (rw there refl); all = λ low. rw there (rw low (rw there refl)) };
-  keys = λ id r. refl;
-  rows = λ id number. record { one = refl; added = λ here. rw (cast_int id, cast_int number) refl; shares = λ here r. rw (cast_int id) refl; finds = λ r. refl; set = λ r int same. rw (rowid_is r id int (and_parts _ _ same).0, cast_int id, cast_int number) refl };
-  keyed = inl refl;
+  read = record { body = _; create = refl; insert = refl; update = refl; delete = refl; select = refl; defined = refl; unlisted = refl; laid = λ schema place base. refl; shows = λ place r. refl };
+  tested = λ is_strict schema at tree bare checks there. record { removal = rw there (rw there refl); change = rw there (rw there refl) };
+  all = λ schema at place there low. rw there (rw low (rw there refl));
+  keys = λ at id r. refl;
+  rows = λ at id number. record { one = refl; added = λ here. rw (cast_int id, cast_int number) refl; shares = λ here r. rw (cast_int id) refl; finds = λ r. refl; set = λ r int same. rw (rowid_is r id int (and_parts _ _ same).0, cast_int id, cast_int number) refl };
+  keyed = λ at. inl refl;
 }
 texts Supervisor = record {
-  read = record { body = _; create = refl; insert = refl; update = refl; delete = refl; select = refl; defined = refl; unlisted = refl; laid = λ schema place base. refl; shows = λ r. refl };
-  resolved = λ schema at place there. record { removal = rw there (rw there (rw there refl)); change = rw there (rw there (rw there refl)); all = λ low. rw there (rw low (rw there refl)) };
-  keys = λ code r. refl;
-  rows = λ code label quota. record { one = refl; added = λ here. rw (cast_null, cast_int quota) refl; shares = λ here r. rw cast_null refl; finds = λ r. refl; set = λ r int same. rw (cast_int quota) refl };
-  keyed = inr (0, refl, refl);
+  read = record { body = _; create = refl; insert = refl; update = refl; delete = refl; select = refl; defined = refl; unlisted = refl; laid = λ schema place base. refl; shows = λ place r. refl };
+  tested = λ is_strict. either (Anywhere Supervisor (AreTested Supervisor)) is_strict (λ schema at tree bare checks there. record { removal = rw there (rw there (rw there refl)); change = rw there (rw there (rw there refl)) }) (λ schema at tree bare checks there. record { removal = rw there (rw there (rw there refl)); change = rw there (rw there (rw there refl)) });
+  all = λ schema at place there low. rw there (rw low (rw there refl));
+  keys = λ at code r. refl;
+  rows = λ at code label quota. record { one = refl; added = λ here. rw (cast_null, cast_int quota) refl; shares = λ here r. rw cast_null refl; finds = λ r. refl; set = λ r int same. rw (cast_int quota) refl };
+  keyed = λ at. inr (0, refl, refl);
 }
 texts Project = record {
-  read = record { body = _; create = refl; insert = refl; update = refl; delete = refl; select = refl; defined = refl; unlisted = refl; laid = λ schema place base. refl; shows = λ r. refl };
-  resolved = λ schema at place there. record { removal = rw there (rw there (rw there refl)); change = rw there (rw there (rw there refl)); all = λ low. rw there (rw low (rw there refl)) };
-  keys = λ code r. refl;
-  rows = λ code label supervisor quota. record { one = refl; added = λ here. rw (cast_null, cast_int quota) refl; shares = λ here r. rw cast_null refl; finds = λ r. refl; set = λ r int same. rw (cast_int quota) refl };
-  keyed = inr (0, refl, refl);
+  read = record { body = _; create = refl; insert = refl; update = refl; delete = refl; select = refl; defined = refl; unlisted = refl; laid = λ schema place base. refl; shows = λ place r. refl };
+  tested = λ is_strict. either (Anywhere Project (AreTested Project)) is_strict (λ schema at tree bare checks there. record { removal = rw there (rw there (rw there refl)); change = rw there (rw there (rw there refl)) }) (λ schema at tree bare checks there. record { removal = rw there (rw there (rw there refl)); change = rw there (rw there (rw there refl)) });
+  all = λ schema at place there low. rw there (rw low (rw there refl));
+  keys = λ at code r. refl;
+  rows = λ at code label supervisor quota. record { one = refl; added = λ here. rw (cast_null, cast_int quota) refl; shares = λ here r. rw cast_null refl; finds = λ r. refl; set = λ r int same. rw (cast_int quota) refl };
+  keyed = λ at. inr (0, refl, refl);
 }
 texts Student = record {
-  read = record { body = _; create = refl; insert = refl; update = refl; delete = refl; select = refl; defined = refl; unlisted = refl; laid = λ schema place base. refl; shows = λ r. refl };
-  resolved = λ schema at place there. record { removal = rw there (rw there (rw there refl)); change = rw there (rw there (rw there refl)); all = λ low. rw there (rw low (rw there refl)) };
-  keys = λ code r. refl;
-  rows = λ code label. record { one = refl; added = λ here. rw cast_null refl; shares = λ here r. rw cast_null refl; finds = λ r. refl; set = λ r int same. refl };
-  keyed = inr (0, refl, refl);
+  read = record { body = _; create = refl; insert = refl; update = refl; delete = refl; select = refl; defined = refl; unlisted = refl; laid = λ schema place base. refl; shows = λ place r. refl };
+  tested = λ is_strict. either (Anywhere Student (AreTested Student)) is_strict (λ schema at tree bare checks there. record { removal = rw there (rw there (rw there refl)); change = rw there (rw there (rw there refl)) }) (λ schema at tree bare checks there. record { removal = rw there (rw there (rw there refl)); change = rw there (rw there (rw there refl)) });
+  all = λ schema at place there low. rw there (rw low (rw there refl));
+  keys = λ at code r. refl;
+  rows = λ at code label. record { one = refl; added = λ here. rw cast_null refl; shares = λ here r. rw cast_null refl; finds = λ r. refl; set = λ r int same. refl };
+  keyed = λ at. inr (0, refl, refl);
 }
 texts Round = record {
-  read = record { body = _; create = refl; insert = refl; update = refl; delete = refl; select = refl; defined = refl; unlisted = refl; laid = λ schema place base. refl; shows = λ r. refl };
-  resolved = λ schema at place there. record { removal = rw there (rw there refl); change = rw there (rw there refl); all = λ low. rw there (rw low (rw there refl)) };
-  keys = λ number r. refl;
-  rows = λ number is_open. record { one = refl; added = λ here. rw (cast_int number, cast_int is_open) refl; shares = λ here r. rw (cast_int number) refl; finds = λ r. refl; set = λ r int same. rw (rowid_is r number int (and_parts _ _ same).0, cast_int number, cast_int is_open) refl };
-  keyed = inl refl;
+  read = record { body = _; create = refl; insert = refl; update = refl; delete = refl; select = refl; defined = refl; unlisted = refl; laid = λ schema place base. refl; shows = λ place r. refl };
+  tested = λ is_strict schema at tree bare checks there. record { removal = rw there (rw there refl); change = rw there (rw there refl) };
+  all = λ schema at place there low. rw there (rw low (rw there refl));
+  keys = λ at number r. refl;
+  rows = λ at number is_open. record { one = refl; added = λ here. rw (cast_int number, cast_int is_open) refl; shares = λ here r. rw (cast_int number) refl; finds = λ r. refl; set = λ r int same. rw (rowid_is r number int (and_parts _ _ same).0, cast_int number, cast_int is_open) refl };
+  keyed = λ at. inl refl;
 }
 texts Choice = record {
-  read = record { body = _; create = refl; insert = refl; update = refl; delete = refl; select = refl; defined = refl; unlisted = refl; laid = λ schema place base. refl; shows = λ r. refl };
-  resolved = λ schema at place there. record { removal = rw there (rw there (rw there refl)); change = rw there (rw there (rw there refl)); all = λ low. rw there (rw low (rw there refl)) };
-  keys = λ round student place r. refl;
-  rows = λ round student place project. record { one = refl; added = λ here. rw (cast_null, cast_int round, cast_int place) refl; shares = λ here r. rw (cast_null, cast_int round, cast_int place) refl; finds = λ r. refl; set = λ r int same. rw (cast_int round, cast_int place) refl };
-  keyed = inr (0, refl, refl);
+  read = record { body = _; create = refl; insert = refl; update = refl; delete = refl; select = refl; defined = refl; unlisted = refl; laid = λ schema place base. refl; shows = λ place r. refl };
+  tested = λ is_strict. either (Anywhere Choice (AreTested Choice)) is_strict (λ schema at tree bare checks there. record { removal = rw there (rw there (rw there refl)); change = rw there (rw there (rw there refl)) }) (λ schema at tree bare checks there. record { removal = rw there (rw there (rw there refl)); change = rw there (rw there (rw there refl)) });
+  all = λ schema at place there low. rw there (rw low (rw there refl));
+  keys = λ at round student place. choice_found at.rules.is_strict at (col 1 0 ∷ []) round student place [];
+  rows = λ at round student place project. record { one = refl; added = λ here. rw (cast_null, cast_int round, cast_int place) refl; shares = λ here r. rw (cast_null, cast_int round, cast_int place) refl; finds = choice_found at.rules.is_strict at (showing (values_of (shape_of Choice))) round student place (Words project ∷ []); set = λ r int same. rw (cast_int round, cast_int place) refl };
+  keyed = λ at. inr (0, refl, refl);
 }
 texts Placement = record {
-  read = record { body = _; create = refl; insert = refl; update = refl; delete = refl; select = refl; defined = refl; unlisted = refl; laid = λ schema place base. refl; shows = λ r. refl };
-  resolved = λ schema at place there. record { removal = rw there (rw there (rw there refl)); change = rw there (rw there (rw there refl)); all = λ low. rw there (rw low (rw there refl)) };
-  keys = λ student r. refl;
-  rows = λ student round project rank. record { one = refl; added = λ here. rw (cast_null, cast_int round, cast_int rank) refl; shares = λ here r. rw cast_null refl; finds = λ r. refl; set = λ r int same. rw (cast_int round, cast_int rank) refl };
-  keyed = inr (0, refl, refl);
+  read = record { body = _; create = refl; insert = refl; update = refl; delete = refl; select = refl; defined = refl; unlisted = refl; laid = λ schema place base. refl; shows = λ place r. refl };
+  tested = λ is_strict. either (Anywhere Placement (AreTested Placement)) is_strict (λ schema at tree bare checks there. record { removal = rw there (rw there (rw there refl)); change = rw there (rw there (rw there refl)) }) (λ schema at tree bare checks there. record { removal = rw there (rw there (rw there refl)); change = rw there (rw there (rw there refl)) });
+  all = λ schema at place there low. rw there (rw low (rw there refl));
+  keys = λ at student r. refl;
+  rows = λ at student round project rank. record { one = refl; added = λ here. rw (cast_null, cast_int round, cast_int rank) refl; shares = λ here r. rw cast_null refl; finds = λ r. refl; set = λ r int same. rw (cast_int round, cast_int rank) refl };
+  keyed = λ at. inr (0, refl, refl);
 }
 texts Import = record {
-  read = record { body = _; create = refl; insert = refl; update = refl; delete = refl; select = refl; defined = refl; unlisted = refl; laid = λ schema place base. refl; shows = λ r. refl };
-  resolved = λ schema at place there. record { removal = rw there (rw there (rw there refl)); change = rw there (rw there (rw there refl)); all = λ low. rw there (rw low (rw there refl)) };
-  keys = λ id r. refl;
-  rows = λ id kind bytes rows. record { one = refl; added = λ here. rw (cast_null, cast_int rows) refl; shares = λ here r. rw cast_null refl; finds = λ r. refl; set = λ r int same. rw (cast_int rows) refl };
-  keyed = inr (0, refl, refl);
+  read = record { body = _; create = refl; insert = refl; update = refl; delete = refl; select = refl; defined = refl; unlisted = refl; laid = λ schema place base. refl; shows = λ place r. refl };
+  tested = λ is_strict. either (Anywhere Import (AreTested Import)) is_strict (λ schema at tree bare checks there. record { removal = rw there (rw there (rw there refl)); change = rw there (rw there (rw there refl)) }) (λ schema at tree bare checks there. record { removal = rw there (rw there (rw there refl)); change = rw there (rw there (rw there refl)) });
+  all = λ schema at place there low. rw there (rw low (rw there refl));
+  keys = λ at id r. refl;
+  rows = λ at id kind bytes rows. record { one = refl; added = λ here. rw (cast_null, cast_bytes at.rules.is_strict bytes, cast_int rows) refl; shares = λ here r. rw cast_null refl; finds = λ r. refl; set = λ r int same. rw (cast_bytes at.rules.is_strict bytes, cast_int rows) refl };
+  keyed = λ at. inr (0, refl, refl);
 }
 
 -- and what the text gives that takes a group of rows away
 pub group_text : (rows : Group) → let s = sharing rows in Removal s.table s.removal s.before s.shared
 unfolding everything listing_schema first_key
-group_text group.List = record { read = refl; resolved = λ schema at place there. rw there (rw there (rw there refl)); keys = λ round student r. refl }
-group_text group.Placed = record { read = refl; resolved = λ schema at place there. rw there (rw there (rw there refl)); keys = λ round r. refl }
+group_text group.List = record { read = refl; tested = λ is_strict. either (Anywhere Choice (λ schema at place. Removes Choice schema at place 0 2)) is_strict (λ schema at tree bare checks there. rw there (rw there (rw there refl))) (λ schema at tree bare checks there. rw there (rw there (rw there refl))); keys = λ at. list_found at.rules.is_strict at }
+group_text group.Placed = record { read = refl; tested = λ is_strict. either (Anywhere Placement (λ schema at place. Removes Placement schema at place 1 1)) is_strict (λ schema at tree bare checks there. rw there (rw there (rw there refl))) (λ schema at tree bare checks there. rw there (rw there (rw there refl))); keys = λ at. placed_found at.rules.is_strict at }

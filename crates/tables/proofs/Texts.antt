@@ -1,14 +1,13 @@
 -- The texts of a table mean what its row tells. A table gives `Texts`: that its texts are read as the forms of its shape, and what
 -- these are resolved to over the table, which the resolver computes of the literal texts. The rest is here, once for all tables.
-use Rattle.std.proofs.Common.{◌≡◌, ℕ, ℤ, suc, ◌/◌, slice_get, ◌^◌, List, [], ◌∷◌, length, map, take, drop, slice_range, arith, nat_lt, true, false, None, Some, Ok, Err, refl, ap}
+use Rattle.std.proofs.Common.{◌≡◌, ℕ, ℤ, suc, ◌/◌, slice_get, ◌^◌, List, [], ◌∷◌, length, map, take, drop, slice_range, arith, nat_lt, Bool, true, false, None, Some, Ok, Err, refl, ap}
 use Rattle.std.proofs.lemmas.List.{take_all}
 use Rattle.sqlite.specs.declared.types.Value.TheVariants.{Null, Int, Text as Words, Blob as Bytes}
 use Rattle.sqlite.specs.Order.{Row}
 use Rattle.sqlite.specs.Kind.{Kind}
 use Rattle.sqlite.specs.Kind.TheVariants.{Integer, Text, Blob, Real as RealKind, Any}
 use Rattle.sqlite.specs.Schema.{Schema}
-use Rattle.sqlite.specs.Table.{Table as AnyTable}
-use Rattle.sqlite.specs.Term.{col}
+use Rattle.sqlite.specs.Term.{Term, col}
 use Rattle.sqlite.specs.Command.{Command}
 use Rattle.sqlite.specs.Command.TheVariants.{CreateTable as MakesTable}
 use Rattle.sqlite.specs.Compile.{first, compiled, planned, meaning, command, create_table, delete, update, timed, returning, shows, with_command, new_rows, table_defined_by, table_in}
@@ -39,9 +38,8 @@ use Rattle.sqlite_resolve.specs.declared.scope.Output.{Output}
 use Rattle.sqlite_resolve.specs.declared.error.CompileError.TheVariants.{NoSuchTable}
 use Rattle.sqlite_tied.specs.Compute.{everything}
 use Rattle.tables.specs.declared.table.Table.{Table}
-use Rattle.tables.specs.Table.{Shape, Sql, Place, Lists, checks_of, shape_of, sql_of, table_at, kinds_of, are_of, cells}
+use Rattle.tables.specs.Table.{Shape, Sql, Place, Lists, rules_of, shape_of, sql_of, table_at, kinds_of, are_of, cells}
 use Rattle.tables.specs.Writes.{begins_with, goes_on}
-use Rattle.tables.proofs.Places.{nowhere}
 use Rattle.tables.proofs.CreateTable.{IsCreate, made_command}
 use Rattle.tables.proofs.InsertRow.{IsInsert}
 use Rattle.tables.proofs.Apart.{HasKey}
@@ -71,6 +69,11 @@ by_kinds (RealKind ∷ kinds) P each row is = each row
 by_kinds (Any ∷ kinds) P each row is = each row
 by_kinds _ P each _ is = absurd (cc)
 
+-- what holds of true and of false holds of each
+pub either : (P : Bool → Type 0) (b : Bool) → P true → P false → P b
+either P true here there = here
+either P false here there = there
+
 module _ (table : Table) where
   abbrev shape : Shape
   shape = shape_of table
@@ -78,17 +81,15 @@ module _ (table : Table) where
   abbrev said : Sql
   said = sql_of table
 
-  abbrev plain : AnyTable
-  plain = table_at table nowhere
-
   -- a row that is given is added as it is, told apart and found by its key, and shown where it is set
-  pub record Gives (row : Row) : Type 0 where
+  pub record Gives (place : Place) (row : Row) : Type 0 where
     pub one : value_rows row (suc (width shape)) (length (terms_of shape) / suc (width shape)) (terms_of shape) ≡ laid_out Null shape.key row ∷ []
-    pub added : (here : List Row) → cells plain (with_rowid Chosen here (cast_row plain (laid_out Null shape.key row))) ≡ row
-    pub shares : (here : List Row) (r : Row) → agree in_order shape.primary r shape.primary (with_rowid Chosen here (cast_row plain (laid_out Null shape.key row))) ≡ begins_with (take (length shape.primary) row) (cells plain r)
-    pub finds : (r : Row) → hit (finds_of shape 0 (length shape.primary)) (showing (values_of shape)) row r ≡ begins_with (take (length shape.primary) row) (cells plain r)
-    pub set : (r : Row) → is_int (rowid r) ≡ true → hit (finds_of shape 0 (length shape.primary)) (showing (values_of shape)) row r ≡ true
-        → cells plain (cast_row plain (rowid r ∷ eval_all (values_of shape) (row ∷ r ∷ []))) ≡ row
+    pub added : (here : List Row) → cells (table_at table place) (with_rowid Chosen here (cast_row (table_at table place) (laid_out Null shape.key row))) ≡ row
+    pub shares : (here : List Row) (r : Row)
+        → agree in_order shape.primary r shape.primary (with_rowid Chosen here (cast_row (table_at table place) (laid_out Null shape.key row))) ≡ begins_with (take (length shape.primary) row) (cells (table_at table place) r)
+    pub finds : (r : Row) → hit (finds_of shape place.rules.is_strict 0 (length shape.primary)) (showing (values_of shape)) row r ≡ begins_with (take (length shape.primary) row) (cells (table_at table place) r)
+    pub set : (r : Row) → is_int (rowid r) ≡ true → hit (finds_of shape place.rules.is_strict 0 (length shape.primary)) (showing (values_of shape)) row r ≡ true
+        → cells (table_at table place) (cast_row (table_at table place) (rowid r ∷ eval_all (values_of shape) (row ∷ r ∷ []))) ≡ row
 
   -- the texts are read as the forms of the shape: CREATE makes the table, INSERT lays a row out, and SELECT shows it
   pub record AreRead : Type 0 where
@@ -98,33 +99,44 @@ module _ (table : Table) where
     pub update : first said.update ≡ Ok (read_as said.update (update_of shape) (width shape))
     pub delete : first said.delete ≡ Ok (read_as said.delete (delete_of shape 0 shape.named) shape.named)
     pub select : first said.select ≡ Ok (read_as said.select (written.Select (select_of shape)) 0)
-    pub defined : define.table [] (create_of shape body) ≡ Ok (table_at table (record { tree = 0; checks = checks_of table }))
+    pub defined : define.table [] (create_of shape body) ≡ Ok (table_at table (record { tree = 0; rules = rules_of table }))
     pub unlisted : table_named listing_schema shape.name ≡ None
     pub laid : (schema : Schema) (place : Place) (base : ℕ) → new_rows schema (table_at table place) base (names_of shape) (given_rows shape) ≡ Ok (Values (terms_of shape) (suc (width shape)))
-    pub shows : (r : Row) → eval_all (map (λ (o : Output). o.term) (outs_of shape)) ([] ∷ r ∷ []) ≡ shown plain r
+    pub shows : (place : Place) (r : Row) → eval_all (map (λ (o : Output). o.term) (outs_of shape)) ([] ∷ r ∷ []) ≡ shown (table_at table place) r
 
-  -- the forms are resolved over the table, where a schema has it at this position
-  pub record AreResolved (schema : Schema) (at : ℕ) (place : Place) : Type 0 where
-    pub removal : deleted schema at (table_at table place) (Some (test_of shape 0 shape.named)) ≡ Ok (finding place.tree (finds_of shape 0 shape.named) (col 1 0 ∷ []))
-    pub change : updated schema at (table_at table place) (sets_of shape) (Some (test_of shape 0 (length shape.primary))) ≡ Ok (finding place.tree (finds_of shape 0 (length shape.primary)) (showing (values_of shape)))
-    pub all : nat_lt place.tree (2 ^ 31) ≡ true
-        → result lower (outermost schema) (record { tables = bounds_at shape.name at; shown = [] }) (core_of shape) started ≡ Ok (outs_of shape, spent 99999)
+  -- a test of so many columns after so many others finds rows to remove, where a schema has the table at this position
+  abbrev pub Removes : Schema → ℕ → Place → ℕ → ℕ → Type 0
+  Removes schema at place before count =
+      deleted schema at (table_at table place) (Some (test_of shape before count)) ≡ Ok (finding place.tree (finds_of shape place.rules.is_strict before count) (col 1 0 ∷ []))
+
+  -- the tests are resolved over the table
+  pub record AreTested (schema : Schema) (at : ℕ) (place : Place) : Type 0 where
+    pub removal : Removes schema at place 0 shape.named
+    pub change : updated schema at (table_at table place) (sets_of shape) (Some (test_of shape 0 (length shape.primary))) ≡ Ok (finding place.tree (finds_of shape place.rules.is_strict 0 (length shape.primary)) (showing (values_of shape)))
+
+  -- this holds where a schema has the table at a position, which is STRICT or not
+  abbrev pub Anywhere : (Schema → ℕ → Place → Type 0) → Bool → Type 0
+  Anywhere P is_strict =
+      (schema : Schema) (at tree : ℕ) (bare : List Bool) (checks : List Term) → let place : Place = record { tree = tree; rules = record { is_strict = is_strict; bare = bare; checks = checks } } in
+      slice_get schema.tables at ≡ Some (table_at table place) → P schema at place
 
   -- what a table gives: how its texts are read and resolved, and, for each key and each row of its kinds, what is found and set
   pub record Texts : Type 0 where
     pub read : AreRead
-    pub resolved : (schema : Schema) (at : ℕ) (place : Place) → slice_get schema.tables at ≡ Some (table_at table place) → AreResolved schema at place
-    pub keys : Each (take shape.named (kinds_of table)) (λ key. (r : Row) → hit (finds_of shape 0 shape.named) (col 1 0 ∷ []) key r ≡ begins_with key (cells plain r))
-    pub rows : Each (kinds_of table) Gives
-    pub keyed : HasKey plain
+    pub tested : (is_strict : Bool) → Anywhere AreTested is_strict
+    pub all : (schema : Schema) (at : ℕ) (place : Place) → slice_get schema.tables at ≡ Some (table_at table place) → nat_lt place.tree (2 ^ 31) ≡ true
+        → result lower (outermost schema) (record { tables = bounds_at shape.name at; shown = [] }) (core_of shape) started ≡ Ok (outs_of shape, spent 99999)
+    pub keys : (place : Place) → Each (take shape.named (kinds_of table)) (λ key. (r : Row) → hit (finds_of shape place.rules.is_strict 0 shape.named) (col 1 0 ∷ []) key r ≡ begins_with key (cells (table_at table place) r))
+    pub rows : (place : Place) → Each (kinds_of table) (Gives place)
+    pub keyed : (place : Place) → HasKey (table_at table place)
 
   -- What a text gives that takes rows away by so many columns after so many others: how it is read and resolved, and which rows a
   -- key finds.
   pub record Removal (sql : List ℕ) (before count : ℕ) : Type 0 where
     pub read : first sql ≡ Ok (read_as sql (delete_of shape before count) count)
-    pub resolved : (schema : Schema) (at : ℕ) (place : Place) → slice_get schema.tables at ≡ Some (table_at table place)
-        → deleted schema at (table_at table place) (Some (test_of shape before count)) ≡ Ok (finding place.tree (finds_of shape before count) (col 1 0 ∷ []))
-    pub keys : Each (take count (drop before (kinds_of table))) (λ key. (r : Row) → hit (finds_of shape before count) (col 1 0 ∷ []) key r ≡ goes_on before key (cells plain r))
+    pub tested : (is_strict : Bool) → Anywhere (λ schema at place. Removes schema at place before count) is_strict
+    pub keys : (place : Place)
+        → Each (take count (drop before (kinds_of table))) (λ key. (r : Row) → hit (finds_of shape place.rules.is_strict before count) (col 1 0 ∷ []) key r ≡ goes_on before key (cells (table_at table place) r))
 
 read_whole : (sql : List ℕ) → slice_range sql 0 (length sql) ≡ sql
 read_whole sql = take_all _ sql (omega arith)
@@ -139,9 +151,6 @@ module _ (table : Table) (it : Texts table) where
   abbrev told : Shape
   told = shape_of table
 
-  abbrev made_plain : AnyTable
-  made_plain = table_at table nowhere
-
   creates_only : (schema : Schema) (base : ℕ) (k : Command) → command schema [] base (written.CreateTable (create_of told it.read.body)) ≡ Ok k → k ≡ MakesTable
   unfolding command create_table
   creates_only schema base k h = made_command schema told.name k (rw it.read.defined at h)
@@ -151,7 +160,7 @@ module _ (table : Table) (it : Texts table) where
   create_unlisted = rw it.read.create (not_select (read_as (said table).create (written.CreateTable (create_of told it.read.body)) 0) _ (λ k h. ap is_select (creates_only listing_schema _ k h)))
 
   -- the text that makes the table
-  pub create_is : IsCreate (said table).create made_plain (checks_of table)
+  pub create_is : IsCreate (said table).create told (rules_of table)
   unfolding timed returning table_defined_by table_in
   create_is = record {
     p = read_as (said table).create (written.CreateTable (create_of told it.read.body)) 0;
@@ -166,7 +175,7 @@ module _ (table : Table) (it : Texts table) where
   }
 
   -- the text that adds a row
-  pub insert_is : IsInsert (said table).insert made_plain (kinds_of table)
+  pub insert_is : IsInsert (said table).insert told (kinds_of table)
   insert_is = record {
     p = read_as (said table).insert (insert_of told) (width told);
     columns = names_of told;
@@ -178,49 +187,50 @@ module _ (table : Table) (it : Texts table) where
     plain = refl;
     laid = λ schema place. it.read.laid schema place _;
     whole = read_whole (said table).insert;
-    given = λ row is.
-        let gives = by_kinds (kinds_of table) (Gives table) it.rows row is in
+    given = λ place row is.
+        let gives = by_kinds (kinds_of table) (Gives table place) (it.rows place) row is in
         record { source = laid_out Null told.key row; one = gives.one; shown = gives.added; shares = gives.shares };
     keyed = it.keyed;
   }
 
   -- a text that takes rows away
-  pub removal_is : (sql : List ℕ) (before count : ℕ) → Removal table sql before count → IsDelete sql made_plain (take count (drop before (kinds_of table))) (goes_on before)
+  pub removal_is : (sql : List ℕ) (before count : ℕ) → Removal table sql before count → IsDelete sql told (take count (drop before (kinds_of table))) (goes_on before)
   unfolding compiled planned meaning timed returning shows command delete
   removal_is sql before count removal = record {
     p = read_as sql (delete_of told before count) count;
     test = test_of told before count;
-    tests = finds_of told before count;
+    tests = λ is_strict. finds_of told is_strict before count;
     parsed = removal.read;
     statement = refl;
     plain = refl;
     whole = read_whole sql;
     unlisted = rw (removal.read, it.read.unlisted) refl;
-    draft = λ schema at place has. removal.resolved schema at place has.there;
-    hits = by_kinds (take count (drop before (kinds_of table))) _ removal.keys;
+    draft = λ schema at place has. removal.tested place.rules.is_strict schema at place.tree place.rules.bare place.rules.checks has.there;
+    hits = λ place. by_kinds (take count (drop before (kinds_of table))) _ (removal.keys place);
   }
 
   -- the text of the table that does
-  pub delete_is : IsDelete (said table).delete made_plain (take told.named (kinds_of table)) begins_with
-  delete_is = removal_is (said table).delete 0 told.named (record { read = it.read.delete; resolved = λ schema at place there. (it.resolved schema at place there).removal; keys = it.keys })
+  pub delete_is : IsDelete (said table).delete told (take told.named (kinds_of table)) begins_with
+  delete_is = removal_is (said table).delete 0 told.named
+      (record { read = it.read.delete; tested = λ is_strict schema at tree bare checks there. (it.tested is_strict schema at tree bare checks there).removal; keys = it.keys })
 
   -- the text that sets a row by its key
-  pub update_is : IsUpdate (said table).update made_plain (kinds_of table) (length told.primary)
+  pub update_is : IsUpdate (said table).update told (kinds_of table) (length told.primary)
   unfolding compiled planned meaning timed returning shows command update
   update_is = record {
     p = read_as (said table).update (update_of told) (width told);
     sets = sets_of told;
     test = test_of told 0 (length told.primary);
-    tests = finds_of told 0 (length told.primary);
+    tests = λ is_strict. finds_of told is_strict 0 (length told.primary);
     values = values_of told;
     parsed = it.read.update;
     statement = refl;
     plain = refl;
     whole = read_whole (said table).update;
     unlisted = rw (it.read.update, it.read.unlisted) refl;
-    draft = λ schema at place has. (it.resolved schema at place has.there).change;
-    hits = λ row is. (by_kinds (kinds_of table) (Gives table) it.rows row is).finds;
-    set = λ row is. (by_kinds (kinds_of table) (Gives table) it.rows row is).set;
+    draft = λ schema at place has. (it.tested place.rules.is_strict schema at place.tree place.rules.bare place.rules.checks has.there).change;
+    hits = λ place row is. (by_kinds (kinds_of table) (Gives table place) (it.rows place) row is).finds;
+    set = λ place row is. (by_kinds (kinds_of table) (Gives table place) (it.rows place) row is).set;
   }
 
   select_plain : IsPlainSelect (said table).select
@@ -253,12 +263,12 @@ module _ (table : Table) (it : Texts table) where
   unfolding everything
   select_resolved schema place listed low = record {
     bounds = rw listed.named refl;
-    result = (it.resolved schema listed.at place listed.there).all low;
+    result = it.all schema listed.at place listed.there low;
     joined = rw listed.there refl;
   }
 
   -- the text that reads the table
-  pub select_is : IsSelect (said table).select made_plain
+  pub select_is : IsSelect (said table).select told
   unfolding select_plain
   select_is = record {
     plain = select_plain;

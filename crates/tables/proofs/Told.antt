@@ -7,12 +7,11 @@ use Rattle.sqlite.specs.Tree.{Trees}
 use Rattle.tables.specs.declared.fault.TableFault.{TableFault}
 use Rattle.tables.specs.Keyed.{IsKeyed}
 use Rattle.tables.specs.declared.table.Table.{Table}
-use Rattle.tables.specs.Table.{Sharing, Sql, checks_of, shape_of, sharing, sql_of, table_at, kinds_of, kinds_shared, key_in, IsRowOf, IsKeyOf, IsNamed}
+use Rattle.tables.specs.Table.{Sharing, Sql, rules_of, shape_of, sharing, sql_of, table_at, kinds_of, kinds_shared, key_in, IsRowOf, IsKeyOf, IsNamed}
 use Rattle.tables.specs.declared.table.Group.{Group}
 use Rattle.tables.specs.Writes.{Makes, Adds, Removes, Replaces, begins_with, goes_on}
 use Rattle.tables.specs.Inside.Steps.{HasRun, RanQuery}
 use Rattle.tables.specs.Steps.{HasStepped, Shows, Rests}
-use Rattle.tables.proofs.Places.{nowhere}
 use Rattle.tables.proofs.CreateTable.{create_makes, create_writes}
 use Rattle.tables.proofs.InsertRow.{inserts, insert_writes}
 use Rattle.tables.proofs.UpdateRow.{update_replaces, update_writes}
@@ -28,23 +27,23 @@ use Rattle.tables.specs.declared.fault.TableFault.TheVariants.{Storage}
 
 module _ (table : Table) (told : Sql) (is : told ≡ sql_of table) (old new : State) (count : ℕ) where
   -- the table was made
-  pub created : HasRun told.create [] count old new → HasStepped (Makes (table_at table) (checks_of table) []) old new
-  created run = stepped_by _ _ _ _ _ _ (create_writes (sql_of table).create (table_at table nowhere) (checks_of table) (create_is table (texts table))) (create_makes (sql_of table).create (table_at table nowhere) (checks_of table) (create_is table (texts table)) old new count) (subst (λ (sql : Sql). HasRun sql.create [] count old new) is run)
+  pub created : HasRun told.create [] count old new → HasStepped (Makes (table_at table) (rules_of table) []) old new
+  created run = stepped_by _ _ _ _ _ _ (create_writes (sql_of table).create (shape_of table) (rules_of table) (create_is table (texts table))) (create_makes (sql_of table).create (shape_of table) (rules_of table) (create_is table (texts table)) old new count) (subst (λ (sql : Sql). HasRun sql.create [] count old new) is run)
 
   -- a row was added, where none had its key
   pub inserted : (row : Row) → IsRowOf table row → HasRun told.insert row count old new → HasStepped (Adds (table_at table) (key_in table row) row) old new
-  inserted row fits run = stepped_by _ _ _ _ _ _ (insert_writes (sql_of table).insert (table_at table nowhere) (kinds_of table) (insert_is table (texts table))) (inserts (sql_of table).insert (table_at table nowhere) (kinds_of table) (insert_is table (texts table)) old new row count fits) (subst (λ (sql : Sql). HasRun sql.insert row count old new) is run)
+  inserted row fits run = stepped_by _ _ _ _ _ _ (insert_writes (sql_of table).insert (shape_of table) (kinds_of table) (insert_is table (texts table))) (inserts (sql_of table).insert (shape_of table) (kinds_of table) (insert_is table (texts table)) old new row count fits) (subst (λ (sql : Sql). HasRun sql.insert row count old new) is run)
 
   -- rows were replaced
   pub replaced : (row : Row) → IsRowOf table row → HasRun told.update row count old new → HasStepped (Replaces (table_at table) (key_in table row) row count) old new
   replaced row fits run =
-      stepped_by _ _ _ _ _ _ (update_writes (sql_of table).update (table_at table nowhere) (kinds_of table) (length (shape_of table).primary) (update_is table (texts table))) (update_replaces (sql_of table).update (table_at table nowhere) (kinds_of table) (length (shape_of table).primary) (update_is table (texts table)) old new row fits count)
+      stepped_by _ _ _ _ _ _ (update_writes (sql_of table).update (shape_of table) (kinds_of table) (length (shape_of table).primary) (update_is table (texts table))) (update_replaces (sql_of table).update (shape_of table) (kinds_of table) (length (shape_of table).primary) (update_is table (texts table)) old new row fits count)
       (subst (λ (sql : Sql). HasRun sql.update row count old new) is run)
 
   -- rows were taken away
   pub removed : (key : Row) → IsKeyOf table key → HasRun told.delete key count old new → HasStepped (Removes (table_at table) (begins_with key)) old new
   removed key fits run =
-      stepped_by _ _ _ _ _ _ (delete_writes (sql_of table).delete (table_at table nowhere) (take (shape_of table).named (kinds_of table)) begins_with (delete_is table (texts table))) (delete_removes (sql_of table).delete (table_at table nowhere) (take (shape_of table).named (kinds_of table)) begins_with (delete_is table (texts table)) old new key count fits)
+      stepped_by _ _ _ _ _ _ (delete_writes (sql_of table).delete (shape_of table) (take (shape_of table).named (kinds_of table)) begins_with (delete_is table (texts table))) (delete_removes (sql_of table).delete (shape_of table) (take (shape_of table).named (kinds_of table)) begins_with (delete_is table (texts table)) old new key count fits)
       (subst (λ (sql : Sql). HasRun sql.delete key count old new) is run)
 
 -- a group of rows was taken away
@@ -55,8 +54,8 @@ module _ (rows : Group) (text : List ℕ) (is : text ≡ (sharing rows).removal)
   pub group_removed : HasRun text key count old new → HasStepped (Removes (table_at s.table) (goes_on s.before key)) old new
   group_removed run =
       let it = removal_is s.table (texts s.table) s.removal s.before s.shared (group_text rows) in
-      stepped_by _ _ _ _ _ _ (delete_writes s.removal (table_at s.table nowhere) (kinds_shared rows) (goes_on s.before) it)
-      (delete_removes s.removal (table_at s.table nowhere) (kinds_shared rows) (goes_on s.before) it old new key count fits)
+      stepped_by _ _ _ _ _ _ (delete_writes s.removal (shape_of s.table) (kinds_shared rows) (goes_on s.before) it)
+      (delete_removes s.removal (shape_of s.table) (kinds_shared rows) (goes_on s.before) it old new key count fits)
       (subst (λ sql. HasRun sql key count old new) is run)
 
 module _ (table : Table) (told : Sql) (is : told ≡ sql_of table) (old new : State) where
@@ -64,23 +63,23 @@ module _ (table : Table) (told : Sql) (is : told ≡ sql_of table) (old new : St
   pub rows_are : (result : Result (Vec Row Global) TableFault) → IfOk result (λ rows. IsKeyed rows.items) → IfOk result (λ rows. Shown told.select [] old new rows.items)
       → IfOk result (λ rows. Shows (table_at table) rows.items old new)
   rows_are result keyed seen =
-      read_shows (sql_of table).select (table_at table nowhere) (select_is table (texts table)) old new result keyed (subst (λ (sql : Sql). IfOk result (λ rows. Shown sql.select [] old new rows.items)) is seen)
+      read_shows (sql_of table).select (shape_of table) (select_is table (texts table)) old new result keyed (subst (λ (sql : Sql). IfOk result (λ rows. Shown sql.select [] old new rows.items)) is seen)
 
   -- it commits nothing
   pub commits_none : (params : Row) (db : Trees) → CommitsShowing told.select params old db → ⊥
-  commits_none params db h = select_commits (sql_of table).select (table_at table nowhere) (select_is table (texts table)) old params db (subst (λ (sql : Sql). CommitsShowing sql.select params old db) is h)
+  commits_none params db h = select_commits (sql_of table).select (shape_of table) (select_is table (texts table)) old params db (subst (λ (sql : Sql). CommitsShowing sql.select params old db) is h)
 
   -- and changes nothing
   pub rests : RanQuery told.select old new → Rests old new
-  rests ran = select_rests (sql_of table).select (table_at table nowhere) (select_is table (texts table)) old new (subst (λ (sql : Sql). RanQuery sql.select old new) is ran)
+  rests ran = select_rests (sql_of table).select (shape_of table) (select_is table (texts table)) old new (subst (λ (sql : Sql). RanQuery sql.select old new) is ran)
 
   -- why it fails
   pub unread_by : (fault : TableFault) → fault ≡ Storage → FailsToRead told.select fault old new → IsStopped (IsUnread (sql_of table).select) old new
   unread_by fault storage h = go (subst (λ (sql : Sql). FailsToRead sql.select fault old new) is h)
     where
       go : FailsToRead (sql_of table).select fault old new → IsStopped (IsUnread (sql_of table).select) old new
-      go (inl (e, fails, is)) = unread (sql_of table).select (table_at table nowhere) (select_is table (texts table)) old new e (sym is ∙ storage) fails
-      go (inr (rows, shown, mixed, is)) = unordered (sql_of table).select (table_at table nowhere) (select_is table (texts table)) old new rows mixed shown
+      go (inl (e, fails, is)) = unread (sql_of table).select (shape_of table) (select_is table (texts table)) old new e (sym is ∙ storage) fails
+      go (inr (rows, shown, mixed, is)) = unordered (sql_of table).select (shape_of table) (select_is table (texts table)) old new rows mixed shown
 
 -- why a row cannot be put
 module _ (table : Table) (row : Row) (old new : State) where

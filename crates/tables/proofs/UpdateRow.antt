@@ -39,9 +39,9 @@ use Rattle.sqlite_rules.proofs.ListLemmas.{all_has}
 use Rattle.sqlite.proofs.Callers.{one_step}
 use Rattle.tables.specs.Inside.Keyed.{id_of}
 use Rattle.tables.specs.Keyed.{IsKeyed}
-use Rattle.tables.specs.Table.{Place, Lists, cells, are_of}
+use Rattle.tables.specs.Table.{Place, Shape, Lists, cells, are_of, made_at}
 use Rattle.tables.specs.Writes.{begins_with, without, Replaces}
-use Rattle.tables.proofs.Places.{placed, listed_along}
+use Rattle.tables.proofs.Places.{listed_along}
 use Rattle.tables.proofs.InsertKeyed.{went, same_value}
 use Rattle.tables.proofs.Understood.{planned_of, Means, IsWriteText, runs_by, and_then_ok, ends_in_write, on_table_writes, compiles_to_write}
 use Rattle.tables.proofs.RowidsOut.{taken_out, still_keyed, map_filter, kept_has, passes}
@@ -54,33 +54,33 @@ use Rattle.tables.proofs.SelectAll.{finding}
 abbrev pub showing : List Term → List Term
 showing values = col 1 0 ∷ col 1 0 ∷ values
 
--- A text that updates, read under any schema that lists the table, with what its test finds, the rows that have the
+-- A text that updates, read under any schema that lists a table of this shape, with what its test finds, as the table is STRICT or not, the rows that have the
 -- key of its parameters, and what it makes of each: the row that its parameters are, where those are of these kinds.
-pub record IsUpdate (sql : List ℕ) (t0 : Table) (kinds : List Kind) (width : ℕ) : Type 0 where
+pub record IsUpdate (sql : List ℕ) (shape : Shape) (kinds : List Kind) (width : ℕ) : Type 0 where
   pub p : Parsed
   pub sets : List (List ℕ × Expr)
   pub test : Expr
-  pub tests : List Term
+  pub tests : Bool → List Term
   pub values : List Term
   pub parsed : first sql ≡ Ok p
-  pub statement : p.statement ≡ written.Update t0.name sets (Some test) []
+  pub statement : p.statement ≡ written.Update shape.name sets (Some test) []
   pub plain : p.formats ≡ []
   pub whole : slice_range sql p.start p.end ≡ sql
   pub unlisted : if_select (compiled listing_schema sql) ≡ Err NoSuchTable
-  pub draft : (schema : Schema) (at : ℕ) (place : Place) → Finds schema t0.name at (placed t0 place) → updated schema at (placed t0 place) sets (Some test) ≡ Ok (finding place.tree tests (showing values))
-  pub hits : (row : Row) → are_of kinds row ≡ true → (r : Row) → hit tests (showing values) row r ≡ begins_with (take width row) (cells t0 r)
-  pub set : (row : Row) → are_of kinds row ≡ true → (r : Row) → is_int (rowid r) ≡ true → hit tests (showing values) row r ≡ true
-      → cells t0 (cast_row t0 (rowid r ∷ eval_all values (row ∷ r ∷ []))) ≡ row
+  pub draft : (schema : Schema) (at : ℕ) (place : Place) → Finds schema shape.name at (made_at shape place) → updated schema at (made_at shape place) sets (Some test) ≡ Ok (finding place.tree (tests place.rules.is_strict) (showing values))
+  pub hits : (place : Place) (row : Row) → are_of kinds row ≡ true → (r : Row) → hit (tests place.rules.is_strict) (showing values) row r ≡ begins_with (take width row) (cells (made_at shape place) r)
+  pub set : (place : Place) (row : Row) → are_of kinds row ≡ true → (r : Row) → is_int (rowid r) ≡ true → hit (tests place.rules.is_strict) (showing values) row r ≡ true
+      → cells (made_at shape place) (cast_row (made_at shape place) (rowid r ∷ eval_all values (row ∷ r ∷ []))) ≡ row
 
-module _ (sql : List ℕ) (t0 : Table) (kinds : List Kind) (width : ℕ) (it : IsUpdate sql t0 kinds width) (schema : Schema) (place : Place) (listed : Lists schema (placed t0 place)) where
+module _ (sql : List ℕ) (shape : Shape) (kinds : List Kind) (width : ℕ) (it : IsUpdate sql shape kinds width) (schema : Schema) (place : Place) (listed : Lists schema (made_at shape place)) where
   abbrev found_by : Program
-  found_by = found_program place.tree it.tests (showing it.values)
+  found_by = found_program place.tree (it.tests place.rules.is_strict) (showing it.values)
 
-  update_command : (k : Command) → command schema [] (small it.p.names + small []) (written.Update t0.name it.sets (Some it.test) []) ≡ Ok k → k ≡ Update listed.at found_by
+  update_command : (k : Command) → command schema [] (small it.p.names + small []) (written.Update shape.name it.sets (Some it.test) []) ≡ Ok k → k ≡ Update listed.at found_by
   unfolding command update program
   update_command k h =
-      let has = has_listed schema (placed t0 place) listed in
-      accepted _ found_by (λ p. Update listed.at p) k (rw (it.draft schema listed.at place has) at (sym (on_table_is schema t0.name listed.at (placed t0 place) _ has) ∙ h))
+      let has = has_listed schema (made_at shape place) listed in
+      accepted _ found_by (λ p. Update listed.at p) k (rw (it.draft schema listed.at place has) at (sym (on_table_is schema shape.name listed.at (made_at shape place) _ has) ∙ h))
 
   update_means : Means schema sql (Update listed.at found_by) sql
   unfolding returning shows timed
@@ -182,10 +182,10 @@ module _ (t : Table) (find : Row → Bool) (values : List Term) (row key : Row) 
   pub counted : length (map (remade t) answer) ≡ length (filter (begins_with key) rows)
   counted = sym (length-map (map (remade t) answer) (cells t)) ∙ length_permutation _ _ given_are ∙ length-map (filter (begins_with key) rows) (λ (_ : Row). row)
 
-module _ (sql : List ℕ) (t0 : Table) (kinds : List Kind) (width : ℕ) (it : IsUpdate sql t0 kinds width) where
-  some_update : (schema : Schema) (base : ℕ) (k : Command) → command schema [] base (written.Update t0.name it.sets (Some it.test) []) ≡ Ok k → IsWrite k
+module _ (sql : List ℕ) (shape : Shape) (kinds : List Kind) (width : ℕ) (it : IsUpdate sql shape kinds width) where
+  some_update : (schema : Schema) (base : ℕ) (k : Command) → command schema [] base (written.Update shape.name it.sets (Some it.test) []) ≡ Ok k → IsWrite k
   unfolding command update
-  some_update schema base k = on_table_writes schema t0.name _ k (λ at table h.
+  some_update schema base k = on_table_writes schema shape.name _ k (λ at table h.
       let planned = and_then_ok (updated schema at table it.sets (Some it.test)) _ k h in
       ends_in_write (program schema [] planned.0) (λ p. Update at p) k (λ p. tt) planned.2)
 
@@ -194,18 +194,18 @@ module _ (sql : List ℕ) (t0 : Table) (kinds : List Kind) (width : ℕ) (it : I
   update_writes = compiles_to_write sql it.p it.parsed (λ schema base k h. some_update schema base k (rw (it.plain, it.statement) at h))
 
   -- an UPDATE that went through put the given row in the place of each with its key, and told how many there were
-  pub update_replaces : (old new : State) (row : Row) → are_of kinds row ≡ true → (count : ℕ) → Executes sql row old new (Ok count) → Replaces (placed t0) (take width row) row count old.now new.now
+  pub update_replaces : (old new : State) (row : Row) → are_of kinds row ≡ true → (count : ℕ) → Executes sql row old new (Ok count) → Replaces (made_at shape) (take width row) row count old.now new.now
   update_replaces old new row is count ran place rows inert stands =
-      let t = placed t0 place in
+      let t = made_at shape place in
       let key = take width row in
       let listed = stands.listed in
       let here = old.now.trees place.tree in
-      let find = hit it.tests (showing it.values) row in
-      let q = found_program place.tree it.tests (showing it.values) in
-      let w = runs_by sql row old new count (Update listed.at q) sql (update_means sql t0 kinds width it old.now.schema place listed) ran in
+      let find = hit (it.tests place.rules.is_strict) (showing it.values) row in
+      let q = found_program place.tree (it.tests place.rules.is_strict) (showing it.values) in
+      let w = runs_by sql row old new count (Update listed.at q) sql (update_means sql shape kinds width it old.now.schema place listed) ran in
       let done = update_does old.step_limit (mode_of old) row old.now new.now sql listed.at t q w.tally listed.there inert w.changed in
       let answer = done.1 in
-      let got = found it.tests (showing it.values) row old.now place.tree answer done.2 in
+      let got = found (it.tests place.rules.is_strict) (showing it.values) row old.now place.tree answer done.2 in
       let left = without_all here (ids_of answer) in
       let same = numbered_given (map (remade t) answer) left in
       let fresh = subst (λ news. are_fresh left news ≡ true) same done.3.fresh in
@@ -214,10 +214,10 @@ module _ (sql : List ℕ) (t0 : Table) (kinds : List Kind) (width : ℕ) (it : I
         record {
           listed = listed_along old.now.schema new.now.schema t done.0 listed;
           keyed = subst IsKeyed (sym there)
-              (keyed_put_all (map (remade t) answer) left ints fresh (left_keyed t find it.values row key here answer rows stands.keyed (it.hits row is) (it.set row is) got stands.holds));
+              (keyed_put_all (map (remade t) answer) left ints fresh (left_keyed t find it.values row key here answer rows stands.keyed (it.hits place row is) (it.set place row is) got stands.holds));
           holds = subst (λ all. IsPermutation (map (λ (_ : Row). row) (filter (begins_with key) rows) ++ without key rows) (map (cells t) all)) (sym there)
-              (together t find it.values row key here answer rows stands.keyed (it.hits row is) (it.set row is) got stands.holds _ (put_all_permutes (map (remade t) answer) left fresh));
+              (together t find it.values row key here answer rows stands.keyed (it.hits place row is) (it.set place row is) got stands.holds _ (put_all_permutes (map (remade t) answer) left fresh));
         },
         record { schema = done.0; others = done.3.tables },
-        w.counted ∙ ap (λ n. unwrap_or n 0) (done.4 ∙ ap (λ news. Some (length news)) same) ∙ counted t find it.values row key here answer rows stands.keyed (it.hits row is) (it.set row is) got stands.holds,
+        w.counted ∙ ap (λ n. unwrap_or n 0) (done.4 ∙ ap (λ news. Some (length news)) same) ∙ counted t find it.values row key here answer rows stands.keyed (it.hits place row is) (it.set place row is) got stands.holds,
       )

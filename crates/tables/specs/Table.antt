@@ -1,5 +1,5 @@
 -- The tables of the product, as a schema lists them, and the rows that they hold.
-use Rattle.std.specs.Prelude.{◌≡◌, ◌&&◌, ◌==◌, ℕ, zero, suc, Bool, true, false, IsTrue, None, Some, Option, [], ◌∷◌, codes, List, map, drop, take, length, slice_get, pos}
+use Rattle.std.specs.Prelude.{◌≡◌, ◌&&◌, ◌==◌, if◌then◌else◌, ℕ, zero, suc, Bool, true, false, IsTrue, None, Some, Option, [], ◌∷◌, codes, List, map, drop, take, length, slice_get, pos}
 use Rattle.std.specs.List.Sorted.{IsPermutation}
 use Rattle.sqlite.specs.declared.types.Value.{Value}
 use Rattle.sqlite.specs.declared.types.Value.TheVariants.{Null, Int, Text as Words}
@@ -8,7 +8,7 @@ use Rattle.sqlite.specs.Collation.TheVariants.{Binary}
 use Rattle.sqlite.specs.Table.{Table as AnyTable}
 use Rattle.sqlite.specs.Schema.{Schema}
 use Rattle.sqlite.specs.Kind.{Kind}
-use Rattle.sqlite.specs.Kind.TheVariants.{Integer, Text, Blob}
+use Rattle.sqlite.specs.Kind.TheVariants.{Integer, Text, Blob, Any}
 use Rattle.sqlite.specs.Effect.{Database}
 use Rattle.sqlite.specs.Rows.{shown}
 use Rattle.sqlite_sql.specs.Term.{Term, lit, col, op2}
@@ -194,22 +194,46 @@ sql_of table = (telling table).sql
 abbrev pub checks_of : Table → List Term
 checks_of table = (telling table).checks
 
--- what may differ from one database to another: the table's tree, and its CHECK rules, which are taken as they were made
+-- What may differ from one database to another beside the table's tree: whether it is STRICT; which of its references, in turn, name no
+-- column of the other table, so that its key is meant, where those beyond the list name theirs; and its CHECK rules, which are taken as
+-- they were made.
+pub record Rules : Type 0 where
+  pub is_strict : Bool
+  pub bare : List Bool
+  pub checks : List Term
+
+-- where a table stands, and by which rules
 pub record Place : Type 0 where
   pub tree : ℕ
-  pub checks : List Term
+  pub rules : Rules
+
+-- the rules of a table that is made here: it is STRICT, and each reference names its column
+abbrev pub rules_of : Table → Rules
+rules_of table = record { is_strict = true; bare = []; checks = checks_of table }
 
 -- whether two tables are one
 abbrev pub same_table : Table → Table → Bool
 same_table a b = number_of a == number_of b
 
--- a column of a STRICT table that is NOT NULL and has no default
-abbrev pub required : List ℕ × Kind → Column
-required told = record { name = told.0; kind = told.1; is_strict = true; not_null = true; default = Null; collation = Binary }
+-- the kind of a column that is told to have this one: BLOB is a kind in a STRICT table alone, and else converts nothing
+abbrev pub kind_in : Kind → Bool → Kind
+kind_in Blob is_strict = if is_strict then Blob else Any
+kind_in kind is_strict = kind
 
--- a reference from this column to a column of another table, with NO ACTION
-abbrev pub referring : ℕ × List ℕ × List ℕ → Reference
-referring link = record { columns = link.0 ∷ []; parent = link.1; parent_columns = link.2 ∷ []; on_delete = NoAction; on_update = NoAction; is_deferred = false }
+-- a column of a table that is STRICT or not, which is NOT NULL and has no default
+abbrev pub required : Bool → List ℕ × Kind → Column
+required is_strict told = record { name = told.0; kind = kind_in told.1 is_strict; is_strict = is_strict; not_null = true; default = Null; collation = Binary }
+
+-- a reference from this column to a column of another table, with NO ACTION; a bare one does not name that column
+abbrev pub referring : Bool → ℕ × List ℕ × List ℕ → Reference
+referring is_bare link =
+    record { columns = link.0 ∷ []; parent = link.1; parent_columns = if is_bare then [] else link.2 ∷ []; on_delete = NoAction; on_update = NoAction; is_deferred = false }
+
+-- references, each bare or not as the list says, and those beyond it not
+abbrev pub all_referring : List Bool → List (ℕ × List ℕ × List ℕ) → List Reference
+all_referring bare [] = []
+all_referring [] (link ∷ links) = referring false link ∷ all_referring [] links
+all_referring (is_bare ∷ bare) (link ∷ links) = referring is_bare link ∷ all_referring bare links
 
 -- so many ascending orders
 abbrev pub ascending : ℕ → List Order
@@ -221,13 +245,13 @@ abbrev pub made_at : Shape → Place → AnyTable
 made_at shape place = record {
   name = shape.name;
   tree = place.tree;
-  columns = map required shape.columns;
+  columns = map (required place.rules.is_strict) shape.columns;
   key = shape.key;
   primary = shape.primary;
   uniques = shape.uniques;
   orders = ascending (length shape.uniques);
-  checks = place.checks;
-  references = map referring shape.links;
+  checks = place.rules.checks;
+  references = all_referring place.rules.bare shape.links;
   computed = [];
   stamps = record { places = []; terms = []; formats = [] };
   is_counted = false;
@@ -236,6 +260,10 @@ made_at shape place = record {
 -- a table of the product, as a schema lists it
 abbrev pub table_at : Table → Place → AnyTable
 table_at table = made_at (shape_of table)
+
+-- the same, as it is made here, at this tree
+abbrev pub made_here : Table → ℕ → AnyTable
+made_here table tree = table_at table (record { tree = tree; rules = rules_of table })
 
 -- the schema's first table of this name is this one
 pub record Lists (schema : Schema) (table : AnyTable) : Type 0 where

@@ -2,7 +2,6 @@
 use Rattle.std.specs.Prelude.{◌≡◌, ◌≢◌, [], ◌∷◌, ◌++◌, ◌&&◌, List, Bool, true, ℕ, filter, map, length, drop, not}
 use Rattle.std.specs.List.{AllByRecursion}
 use Rattle.sqlite.specs.Order.{Row, column}
-use Rattle.sqlite.specs.Term.{Term}
 use Rattle.sqlite.specs.Collation.TheVariants.{Binary}
 use Rattle.sqlite.specs.Table.{Table as AnyTable}
 use Rattle.sqlite.specs.Schema.{Schema}
@@ -10,7 +9,7 @@ use Rattle.sqlite.specs.Effect.{Database}
 use Rattle.sqlite_rules.specs.Action.{works}
 use Rattle.sqlite_schema.specs.Rules.{equal}
 use Rattle.sqlite_schema.specs.declared.schema.Keys.TheVariants.{Enforced}
-use Rattle.tables.specs.Table.{Place, Lists}
+use Rattle.tables.specs.Table.{Place, Rules, Lists}
 use Rattle.tables.specs.Keyed.{Stands}
 
 -- the schema is as it was, and of its tables at most the one of this tree has changed
@@ -22,10 +21,11 @@ pub record WritesOnly (tree : ℕ) (old new : Database) : Type 0 where
 abbrev pub IsInert : Schema → ℕ → Type 0
 IsInert schema tree = (olds news : List Row) → works schema Enforced 0 tree olds news ≡ []
 
--- a table more, with these CHECK rules, which holds these rows, while the tables that the schema had are listed as before, with their rows
-pub record Makes (table : Place → AnyTable) (checks : List Term) (rows : List Row) (old new : Database) : Type 0 where
+-- A table more, by these rules, which say whether it is STRICT, which references name their columns, and its CHECK rules; it holds these
+-- rows, while the tables that the schema had are listed as before, with their rows.
+pub record Makes (table : Place → AnyTable) (rules : Rules) (rows : List Row) (old new : Database) : Type 0 where
   pub place : Place
-  pub ruled : place.checks ≡ checks
+  pub ruled : place.rules ≡ rules
   pub stands : Stands table place rows new
   pub others : (t : AnyTable) → Lists old.schema t → Lists new.schema t × (new.trees t.tree ≡ old.trees t.tree) × (t.tree ≢ place.tree)
 

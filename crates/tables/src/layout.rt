@@ -1,13 +1,13 @@
-//! Whether a schema lists the tables with the columns and the rules that are made here.
+//! Whether a schema lists the tables with the columns and the keys that are made here, and their references. A table that is found
+//! may be one without STRICT, and its references may name no column, so that a key is meant.
 
-ghost use Rattle.std.specs.Prelude.{◌≡◌, ℕ, ◌==◌, ◌&&◌, length, map, is_some, false, slice_get, None, Some, IfSome};
+ghost use Rattle.std.specs.Prelude.{◌≡◌, ℕ, ◌==◌, map, is_some, false, slice_get, None, Some, IfSome};
 ghost use Rattle.std.specs.Str.{bytes_eq};
-ghost use Rattle.std.specs.Option.{option_map_or};
 ghost use Rattle.std.specs.List.{list_all};
 ghost use Rattle.sqlite_schema.specs.Names.{table_named};
 ghost use Rattle.tables.specs.Inside.Table.{column_by, link_by, places_by, told_by};
-ghost use Rattle.tables.specs.Table.{shape_of, table_at};
-ghost use Rattle.tables.specs.Inside.Layout.{is_required, are_told, is_referring, are_plain, is_untimed, has_keys, has_shape, IsNamed};
+ghost use Rattle.tables.specs.Table.{kind_in, shape_of, table_at};
+ghost use Rattle.tables.specs.Inside.Layout.{is_alone, is_required, are_loose, are_of_one, are_strict, are_told, is_referring, are_plain, is_untimed, has_keys, has_shape, IsNamed};
 ghost use Rattle.tables.specs.Layout.{IsListed, IsUnlisted};
 ghost use Rattle.sqlite.specs.Table.{Table as AnyTable};
 
@@ -15,16 +15,25 @@ use crate::inert::is_passive;
 use crate::table::{Link, Shape, Table, Told};
 use sqlite_items::Items;
 use sqlite_schema::names::same_name;
-use sqlite_schema::schema::{Column, Reference, Schema, Table as Listed};
+use sqlite_schema::schema::{Column, Kind, Reference, Schema, Table as Listed};
 use sqlite_value::keys::{Collation, Order};
 use sqlite_value::value::{Bytes, Value};
+
+/// The kind of a column that is told to have this one. BLOB is a kind in a STRICT table alone.
+fn kind_in(kind: Kind, is_strict: bool) -> Kind
+    ensures { result ≡ kind_in kind is_strict }
+{
+    match kind {
+        Kind::Blob if !is_strict => Kind::Any,
+        _ => kind,
+    }
+}
 
 fn is_required(column: &Column, told: &Told) -> bool
     ensures { result ≡ is_required (column_by told.now) column.now }
 {
     column.name.as_slice() == told.0.as_bytes()
-        && column.kind == told.1
-        && column.is_strict
+        && column.kind == kind_in(told.1, column.is_strict)
         && column.not_null
         && matches!(column.default, Value::Null)
         && matches!(column.collation, Collation::Binary)
@@ -40,8 +49,27 @@ fn are_required(columns: &[Column], told: &[Told]) -> bool
             .all(|(column, told)| is_required(column, told))
 }
 
+fn are_strict(columns: &[Column]) -> bool
+    ensures { result ≡ are_strict columns.now }
+{
+    columns.iter().all(|column| column.is_strict)
+}
+
+fn are_loose(columns: &[Column]) -> bool
+    ensures { result ≡ are_loose columns.now }
+{
+    columns.iter().all(|column| !column.is_strict)
+}
+
+/// Whether the columns are all of a STRICT table, or none is.
+fn are_of_one(columns: &[Column]) -> bool
+    ensures { result ≡ are_of_one columns.now }
+{
+    are_strict(columns) || are_loose(columns)
+}
+
 fn is_alone(names: &Items<Bytes>, name: &str) -> bool
-    ensures { result ≡ ((length names.now == 1) && option_map_or (λ c. bytes_eq c name.now) (slice_get names.now 0) false) }
+    ensures { result ≡ is_alone name.now names.now }
 {
     names.len() == 1
         && match names.get(0) {
@@ -55,7 +83,8 @@ fn is_referring(reference: &Reference, link: &Link) -> bool
 {
     reference.columns.as_slice() == [link.0].as_slice()
         && reference.parent.as_slice() == link.1.table.as_bytes()
-        && is_alone(&reference.parent_columns, link.1.column)
+        && (reference.parent_columns.len() == 0
+            || is_alone(&reference.parent_columns, link.1.column))
         && is_passive(reference.on_delete)
         && is_passive(reference.on_update)
         && !reference.is_deferred
@@ -112,13 +141,14 @@ fn has_keys(table: &Listed, shape: &Shape) -> bool
         && are_plain(table.orders.as_slice(), shape.keys.uniques.len())
 }
 
-/// Whether a table is as one of this shape is made.
+/// Whether a table is as one of this shape is made, STRICT or not, and with references that may name no column.
 fn has_shape(table: &Listed, shape: &Shape) -> bool
     ensures { result ≡ has_shape (told_by shape.now) table.now }
 {
     table.name.as_slice() == shape.name.as_bytes()
         && has_keys(table, shape)
         && are_required(table.columns.as_slice(), shape.columns)
+        && are_of_one(table.columns.as_slice())
         && are_referring(table.references.as_slice(), shape.links)
         && is_untimed(table)
 }
@@ -149,7 +179,7 @@ pub fn has_table(schema: &Schema, table: Table) -> bool
     position_of(schema, table.shape().name).is_some()
 }
 
-/// The tree of the table, where it is listed as it is made here.
+/// The tree of the table, where it is listed as it is made here, STRICT or not, and with references that may name no column.
 pub fn tree_of(schema: &Schema, table: Table) -> Option<u32>
     ensures some { IfSome result (IsListed (table_at table) schema.now) }
     ensures none { result ≡ None → IsUnlisted (table_at table) schema.now }

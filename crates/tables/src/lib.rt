@@ -4,14 +4,16 @@
 //! statements together into transactions. Each function here makes one call of the database, or two,
 //! and changes at most one table by it.
 //!
-//! Promised: under any schema that lists a table as it is made here, whatever else it lists, a statement
-//! that went through did to the rows of its table what its clause says, and left all other tables as they
-//! were; a reading shows the rows, and changes nothing. The words are in `specs/Table.antt` (the tables as
-//! a schema lists them), `specs/Writes.antt` and `specs/Steps.antt`; begin there.
+//! Promised: under any schema that lists a table as it is made here, STRICT or not and with references that
+//! may name no column, whatever else it lists, a statement that went through did to the rows of its table
+//! what its clause says, and left all other tables as they were; a reading shows the rows, and changes
+//! nothing. The words are in `specs/Table.antt` (the tables as a schema lists them), `specs/Writes.antt` and
+//! `specs/Steps.antt`; begin there.
 //!
-//! A table that is made has the CHECK rules that are told; one that is found keeps those that it has. A
-//! further table is a variant of `Table`, its shape and its texts in `table.rt` and in `specs/Table.antt`, and the reading of
-//! its five texts in `proofs/Tables.antt`: what statements do is proved for all.
+//! A table that is made is STRICT, its references name their columns, and it has the CHECK rules that are
+//! told; one that is found keeps its own. A further table is a variant of `Table`, its shape and its texts in
+//! `table.rt` and in `specs/Table.antt`, and the reading of its five texts in `proofs/Tables.antt`: what
+//! statements do is proved for all.
 #![tactic(auto)]
 
 pub mod fault;

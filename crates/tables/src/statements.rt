@@ -6,7 +6,7 @@ ghost use Rattle.sqlite.specs.Values.{bound};
 ghost use Rattle.sqlite.specs.Held.{state};
 ghost use Rattle.tables.specs.declared.fault.TableFault.TheVariants.{Storage};
 ghost use Rattle.tables.specs.Causes.{FailsToPut, FailsToRead, FailsToWrite, IsCaused, IsCausedInside, IsHindered, IsHinderedToPut, IsToldInside, IsUnread};
-ghost use Rattle.tables.specs.Table.{IsKeyOf, IsNamed, IsRowOf, checks_of, key_in, sharing, sql_of, table_at};
+ghost use Rattle.tables.specs.Table.{IsKeyOf, IsNamed, IsRowOf, key_in, rules_of, sharing, sql_of, table_at};
 ghost use Rattle.tables.specs.Writes.{Adds, Makes, Puts, Removes, begins_with, goes_on};
 ghost use Rattle.tables.specs.Steps.{Does, HasStepped, Rests, Shows};
 
@@ -17,10 +17,10 @@ use crate::write::write;
 use sqlite::{Alter, Connection, Row, Transaction};
 use sqlite_value::value::ValueRef;
 
-/// Makes the table.
+/// Makes the table: a STRICT one, whose references name their columns, with its CHECK rules.
 pub fn make<S: Alter>(tx: &mut Transaction<'_, S>, table: Table) -> Wrote
     ensures same_reference { tx.new.conn.ghost_name ≡ tx.old.conn.ghost_name }
-    ensures step { Does (HasStepped (Makes (table_at table) (checks_of table) [])) result (state S.Store tx.old.conn.now) (state S.Store tx.new.conn.now) }
+    ensures step { Does (HasStepped (Makes (table_at table) (rules_of table) [])) result (state S.Store tx.old.conn.now) (state S.Store tx.new.conn.now) }
     ensures told { IsToldInside (FailsToWrite (sql_of table).create []) result (state S.Store tx.old.conn.now) (state S.Store tx.new.conn.now) }
     ensures cause { IsCausedInside (IsHindered (sql_of table).create []) result (state S.Store tx.old.conn.now) (state S.Store tx.new.conn.now) }
 {

@@ -1,5 +1,6 @@
--- For proofs alone. Whether a table has the columns and the rules of one that is made here, but for its tree and its CHECK rules.
-use Rattle.std.specs.Prelude.{◌≡◌, ℕ, Bool, true, false, not, ◌&&◌, ◌==◌, List, [], ◌∷◌, length, slice_get, Option, None, Some}
+-- For proofs alone. Whether a table has the columns and the keys of one that is made here, and its references: it may stand in another
+-- tree, with other CHECK rules, without STRICT, and with references that name no column.
+use Rattle.std.specs.Prelude.{◌≡◌, ℕ, Bool, true, false, not, ◌&&◌, ◌||◌, ◌==◌, map, List, [], ◌∷◌, length, slice_get, Option, None, Some}
 use Rattle.std.specs.List.{list_all}
 use Rattle.std.specs.Option.{option_map_or}
 use Rattle.std.specs.Str.{bytes_eq}
@@ -15,7 +16,7 @@ use Rattle.sqlite_schema.specs.declared.schema.Column.{Column}
 use Rattle.sqlite_schema.specs.declared.schema.Reference.{Reference}
 use Rattle.sqlite_schema.specs.Names.{table_named}
 use Rattle.sqlite_schema.specs.Rules.{kind_code}
-use Rattle.tables.specs.Table.{Shape, Place}
+use Rattle.tables.specs.Table.{Shape, Place, kind_in}
 use Rattle.tables.specs.Inside.Inert.{is_passive}
 
 -- no value
@@ -39,14 +40,34 @@ same_key (Some a) (Some b) = a == b
 same_key None (Some b) = false
 same_key (Some a) None = false
 
--- as a column of this name and kind is made: of a STRICT table, NOT NULL, with no default
+-- as a column of this name and kind is made, in a table that is STRICT or not: NOT NULL, with no default
 abbrev pub is_required : List ℕ × Kind → Column → Bool
-is_required told c = bytes_eq c.name told.0 && (kind_code c.kind == kind_code told.1) && c.is_strict && c.not_null && is_nothing c.default && is_binary c.collation
+is_required told c = bytes_eq c.name told.0 && (kind_code c.kind == kind_code (kind_in told.1 c.is_strict)) && c.not_null && is_nothing c.default && is_binary c.collation
 
--- as this reference is made: of one column to one, with NO ACTION
+-- the columns are those of a STRICT table
+abbrev pub are_strict : List Column → Bool
+are_strict = list_all (λ c. c.is_strict)
+
+-- none of them is
+abbrev pub are_loose : List Column → Bool
+are_loose = list_all (λ c. not c.is_strict)
+
+-- they are those of one table
+abbrev pub are_of_one : List Column → Bool
+are_of_one columns = are_strict columns || are_loose columns
+
+-- no column of the other table is named
+abbrev pub is_bare : Reference → Bool
+is_bare r = length r.parent_columns == 0
+
+-- this column alone is named
+abbrev pub is_alone : List ℕ → List (List ℕ) → Bool
+is_alone name names = (length names == 1) && option_map_or (λ c. bytes_eq c name) (slice_get names 0) false
+
+-- as this reference is made: of one column to one that is named or to the key, with NO ACTION
 abbrev pub is_referring : ℕ × List ℕ × List ℕ → Reference → Bool
 is_referring link r =
-    bytes_eq r.columns (link.0 ∷ []) && bytes_eq r.parent link.1 && ((length r.parent_columns == 1) && option_map_or (λ c. bytes_eq c link.2) (slice_get r.parent_columns 0) false)
+    bytes_eq r.columns (link.0 ∷ []) && bytes_eq r.parent link.1 && (is_bare r || is_alone link.2 r.parent_columns)
     && is_passive r.on_delete && is_passive r.on_update && not r.is_deferred
 
 -- there are as many as are told, each as the one that is told at its place
@@ -70,7 +91,7 @@ has_keys shape t = same_key t.key shape.key && bytes_eq t.primary shape.primary 
 
 -- the table is as one of this shape is made
 abbrev pub has_shape : Shape → AnyTable → Bool
-has_shape shape t = bytes_eq t.name shape.name && has_keys shape t && are_told is_required shape.columns t.columns && are_told is_referring shape.links t.references && is_untimed t
+has_shape shape t = bytes_eq t.name shape.name && has_keys shape t && are_told is_required shape.columns t.columns && are_of_one t.columns && are_told is_referring shape.links t.references && is_untimed t
 
 -- the schema's first table of this name is this one
 pub record IsNamed (schema : Schema) (name : List ℕ) (table : AnyTable) : Type 0 where
@@ -80,4 +101,4 @@ pub record IsNamed (schema : Schema) (name : List ℕ) (table : AnyTable) : Type
 
 -- where a table stands
 abbrev pub place_of : AnyTable → Place
-place_of t = record { tree = t.tree; checks = t.checks }
+place_of t = record { tree = t.tree; rules = record { is_strict = are_strict t.columns; bare = map is_bare t.references; checks = t.checks } }
