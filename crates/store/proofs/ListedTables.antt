@@ -9,7 +9,7 @@ use Rattle.sqlite.specs.State.{State as Seen}
 use Rattle.sqlite_rules.specs.Lists.{Has}
 use Rattle.tables.specs.declared.table.Table.{Table}
 use Rattle.tables.specs.declared.table.Table.TheVariants.{Edition}
-use Rattle.tables.specs.Table.{Place, Lists, table_at}
+use Rattle.tables.specs.Table.{Place, Lists, rules_of, table_at}
 use Rattle.tables.specs.Layout.{IsListed, IsUnlisted}
 use Rattle.tables.specs.Steps.{Shows}
 use Rattle.tables.proofs.Runs.{listed_at_one, decide_table}
@@ -36,20 +36,20 @@ is_next all i d low = has_at all i (get_or all i d) low (get_or_default all i d 
 
 -- a table that is listed in another tree is not listed in this one
 pub elsewhere : (table : Table) (schema : Schema) (there tree : ℕ) → IsListed (table_at table) schema there → there ≢ tree → IsElsewhere table tree schema
-elsewhere table schema there tree at other place listed same = other (listed_at_one table schema (record { tree = there; checks = at.0 }) place at.1 listed ∙ same)
+elsewhere table schema there tree at other place listed same = other (listed_at_one table schema (record { tree = there; rules = at.0 }) place at.1 listed ∙ same)
 
 -- where another table is listed in the tree, the table is not alone in it
 pub not_alone : (other table : Table) (schema : Schema) (tree : ℕ) → IsRoll other → other ≢ table → IsListed (table_at other) schema tree → IsAlone table tree schema → ⊥
-not_alone other table schema tree among apart at alone = alone other among apart (record { tree = tree; checks = at.0 }) at.1 refl
+not_alone other table schema tree among apart at alone = alone other among apart (record { tree = tree; rules = at.0 }) at.1 refl
 
 -- a table that is listed in this tree is listed alone where the tree is its own
 pub listed_alone : (edition : ℕ) (schema : Schema) (table : Table) (tree : ℕ) → IsListed (table_at table) schema tree → tree ≢ edition → IsAlone table tree schema → IsListedAlone edition schema table
-listed_alone edition schema table tree at apart alone = record { place = record { tree = tree; checks = at.0 }; listed = at.1; from_edition = apart; alone = alone }
+listed_alone edition schema table tree at apart alone = record { place = record { tree = tree; rules = at.0 }; listed = at.1; from_edition = apart; alone = alone }
 
 -- and only there
 pub listed_close : (edition : ℕ) (schema : Schema) (table : Table) (tree : ℕ) → IsListed (table_at table) schema tree → (tree ≢ edition → IsAlone table tree schema → ⊥) → IsListedAlone edition schema table → ⊥
 listed_close edition schema table tree at close l =
-    let same = listed_at_one table schema l.place (record { tree = tree; checks = at.0 }) l.listed at.1 in
+    let same = listed_at_one table schema l.place (record { tree = tree; rules = at.0 }) l.listed at.1 in
     close (subst (λ n. n ≢ edition) same l.from_edition) (subst (λ n. IsAlone table n schema) same l.alone)
 
 -- a table is one of these, or it isn't
@@ -67,7 +67,7 @@ roll_or_not table = has_or_not rolls table
 module _ (schema : Schema) (edition : ℕ) (e : IsListed (table_at Edition) schema edition) (each : (table : Table) → IsRoll table → IsListedAlone edition schema table) where
   place_by : (table : Table) → IsRoll table ⊎ (IsRoll table → ⊥) → Place
   place_by table (inl among) = (each table among).place
-  place_by table (inr none) = record { tree = 0; checks = [] }
+  place_by table (inr none) = record { tree = 0; rules = rules_of table }
 
   apart_from_edition : (table : Table) (d : IsRoll table ⊎ (IsRoll table → ⊥)) → IsRoll table → (place_by table d).tree ≢ edition
   unfolding place_by
@@ -88,7 +88,7 @@ module _ (schema : Schema) (edition : ℕ) (e : IsListed (table_at Edition) sche
   -- tables that are each listed alone are listed
   pub listed_right : AreListed schema
   listed_right = record {
-    edition = record { tree = edition; checks = e.0 };
+    edition = record { tree = edition; rules = e.0 };
     places = λ table. place_by table (roll_or_not table);
     edition_apart = λ table. apart_from_edition table (roll_or_not table);
     apart = λ a b. apart_by a b (roll_or_not a) (roll_or_not b);
@@ -99,7 +99,7 @@ module _ (schema : Schema) (edition : ℕ) (e : IsListed (table_at Edition) sche
 -- tables that are listed are each listed alone
 pub listed_each : (schema : Schema) (edition : ℕ) → IsListed (table_at Edition) schema edition → AreListed schema → (table : Table) → IsRoll table → IsListedAlone edition schema table
 listed_each schema edition e l table among =
-    let there : l.edition.tree ≡ edition = listed_at_one Edition schema l.edition (record { tree = edition; checks = e.0 }) l.edition_listed e.1 in
+    let there : l.edition.tree ≡ edition = listed_at_one Edition schema l.edition (record { tree = edition; rules = e.0 }) l.edition_listed e.1 in
     record {
       place = l.places table;
       listed = l.rolls_listed table among;

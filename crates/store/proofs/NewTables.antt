@@ -19,7 +19,7 @@ use Rattle.rolls.specs.From.{row_in}
 use Rattle.rolls.specs.State.{State, empty}
 use Rattle.tables.specs.declared.table.Table.{Table}
 use Rattle.tables.specs.declared.table.Table.TheVariants.{Edition}
-use Rattle.tables.specs.Table.{Place, Lists, checks_of, key_in, table_at}
+use Rattle.tables.specs.Table.{Place, Lists, rules_of, key_in, table_at}
 use Rattle.tables.specs.Keyed.{Stands}
 use Rattle.tables.specs.Writes.{Makes, Adds}
 use Rattle.tables.specs.Steps.{HasStepped, IsLeft}
@@ -42,9 +42,9 @@ no_rows = record { apart = refl; each = no_row }
 
 -- no table was made yet
 pub made_none : (s : Seen) → Stays (MakesTables []) s s
-made_none s = stays_none (MakesTables []) s (record { places = λ table. record { tree = 0; checks = [] }; ruled = λ table h. absurd h; stand = λ table h. absurd h; apart = λ a b h. absurd h; others = λ t listed. (listed, refl, λ table h. absurd h) })
+made_none s = stays_none (MakesTables []) s (record { places = λ table. record { tree = 0; rules = rules_of table }; ruled = λ table h. absurd h; stand = λ table h. absurd h; apart = λ a b h. absurd h; others = λ t listed. (listed, refl, λ table h. absurd h) })
 
-module _ (done : List Table) (q : Table) (a b c : Database) (m : MakesTables done a b) (n : Makes (table_at q) (checks_of q) [] b c) where
+module _ (done : List Table) (q : Table) (a b c : Database) (m : MakesTables done a b) (n : Makes (table_at q) (rules_of q) [] b c) where
   -- where a table stands: the last one at its new place
   at : (table : Table) → (table ≡ q) ⊎ (table ≢ q) → Place
   at table (inl same) = n.place
@@ -54,11 +54,11 @@ module _ (done : List Table) (q : Table) (a b c : Database) (m : MakesTables don
   before table other h = elim (has_either done (q ∷ []) table h) [ inl early ↦ early | inr (inl same) ↦ absurd (other same) | inr (inr none) ↦ absurd none ]
 
   beside : (table : Table) → Has done table → Stands (table_at table) (m.places table) [] c × ((m.places table).tree ≢ n.place.tree)
-  beside table early = stands_beside (table_at table) (m.places table) refl [] (table_at q) (checks_of q) [] b c n (m.stand table early)
+  beside table early = stands_beside (table_at table) (m.places table) refl [] (table_at q) (rules_of q) [] b c n (m.stand table early)
 
-  ruled_at : (table : Table) (d : (table ≡ q) ⊎ (table ≢ q)) → Has (done ++ q ∷ []) table → (at table d).checks ≡ checks_of table
+  ruled_at : (table : Table) (d : (table ≡ q) ⊎ (table ≢ q)) → Has (done ++ q ∷ []) table → (at table d).rules ≡ rules_of table
   unfolding at
-  ruled_at table (inl same) h = n.ruled ∙ sym (ap checks_of same)
+  ruled_at table (inl same) h = n.ruled ∙ sym (ap rules_of same)
   ruled_at table (inr other) h = m.ruled table (before table other h)
 
   stand_at : (table : Table) (d : (table ≡ q) ⊎ (table ≢ q)) → Has (done ++ q ∷ []) table → Stands (table_at table) (at table d) [] c
@@ -93,12 +93,12 @@ module _ (done : List Table) (q : Table) (a b c : Database) (m : MakesTables don
   }
 
 -- the same of the statements that make them
-pub made_more : (i : ℕ) (all : List Table) (d : Table) (a b c : Seen) → i < length all → Stays (MakesTables (take i all)) a b → HasStepped (Makes (table_at (get_or all i d)) (checks_of (get_or all i d)) []) b c
+pub made_more : (i : ℕ) (all : List Table) (d : Table) (a b c : Seen) → i < length all → Stays (MakesTables (take i all)) a b → HasStepped (Makes (table_at (get_or all i d)) (rules_of (get_or all i d)) []) b c
     → Stays (MakesTables (take (i + 1) all)) a c
 made_more i all d a b c low p n =
     let q = get_or all i d in
     subst (λ rs. Stays (MakesTables rs) a c) (sym (take_more all i d low))
-    (stays_then (MakesTables (take i all)) (Makes (table_at q) (checks_of q) []) (MakesTables (take i all ++ q ∷ [])) a b c (made_then (take i all) q a.now b.now c.now) p n)
+    (stays_then (MakesTables (take i all)) (Makes (table_at q) (rules_of q) []) (MakesTables (take i all ++ q ∷ [])) a b c (made_then (take i all) q a.now b.now c.now) p n)
 
 -- each of them was made
 pub made_all : (i : ℕ) (all : List Table) (a b : Seen) → length all ≤ i → Stays (MakesTables (take i all)) a b → Stays (MakesTables all) a b
@@ -121,14 +121,16 @@ empty_stands row is a b c m n =
           stands_apart (table_at table) (m.places table) refl [] (m.places Edition).tree b c (m.apart table Edition (inr (among_rolls table among)) first (apart_edition table among)) done.1 (m.stand table (inr (among_rolls table among)));
     }
 
--- and that they have the rules
+-- and are as they are made here
 ruled_so : (row : List Value) (a b c : Database) → MakesTables kept a b → Adds (table_at Edition) (key_in Edition row) row b c → AreRuled c.schema
 unfolding AreRuled
 ruled_so row a b c m n table among place listed =
     let first : Has kept Edition = inl refl in
     let done = n (m.places Edition) [] (m.stand Edition first) in
     let here = subst (λ (s : Schema). Lists s (table_at table (m.places table))) (sym done.1.schema) (m.stand table among).listed in
-    ap (λ (t : AnyTable). t.checks) (listed_once c.schema (table_at table) place (m.places table) refl listed here) ∙ m.ruled table among
+    let same : table_at table place ≡ table_at table (m.places table) = listed_once c.schema (table_at table) place (m.places table) refl listed here in
+    let tree : (m.places table).tree ≡ place.tree = ap (λ (t : AnyTable). t.tree) (sym same) in
+    same ∙ (λ i. table_at table (record { tree = tree i; rules = m.ruled table among i }))
 
 -- the tables were made one after the other, and then the edition was written
 pub founded : (row : List Value) → row ∷ [] ≡ first_edition → (a b c : Seen) → Stays (MakesTables kept) a b → HasStepped (Adds (table_at Edition) (key_in Edition row) row) b c → HasStepped Empties a c

@@ -15,7 +15,7 @@ use Rattle.rolls.specs.Rows.{row_of}
 use Rattle.rolls.specs.State.{State, empty}
 use Rattle.tables.specs.declared.table.Table.{Table}
 use Rattle.tables.specs.declared.table.Table.TheVariants.{Edition}
-use Rattle.tables.specs.Table.{Place, Lists, checks_of, shape_of, table_at}
+use Rattle.tables.specs.Table.{Place, Lists, made_here, rules_of, shape_of, table_at}
 use Rattle.tables.specs.Keyed.{Stands}
 use Rattle.store.specs.Rows.{AreRowsAt, IsRoll, columns_of, kept}
 
@@ -43,15 +43,15 @@ StandsFor db office = TablesHold db (row_of office)
 abbrev pub HasNone : Schema → Type 0
 HasNone schema = (table : Table) → Has kept table → is_some (table_named schema (shape_of table).name) ≡ false
 
--- the tables of the store have the CHECK rules that are made here
+-- the tables of the store are as they are made here: STRICT, with their CHECK rules, and each reference names its column
 unfoldable pub AreRuled : Schema → Type 0
-AreRuled schema = (table : Table) → Has kept table → (place : Place) → Lists schema (table_at table place) → place.checks ≡ checks_of table
+AreRuled schema = (table : Table) → Has kept table → (place : Place) → Lists schema (table_at table place) → table_at table place ≡ made_here table place.tree
 
--- Each of these tables was made, with its CHECK rules and no rows, in a tree of its own, while the tables that the schema had are
+-- Each of these tables was made, with its rules and no rows, in a tree of its own, while the tables that the schema had are
 -- listed as before, with their rows.
 pub record MakesTables (tables : List Table) (old new : Database) : Type 0 where
   pub places : Table → Place
-  pub ruled : (table : Table) → Has tables table → (places table).checks ≡ checks_of table
+  pub ruled : (table : Table) → Has tables table → (places table).rules ≡ rules_of table
   pub stand : (table : Table) → Has tables table → Stands (table_at table) (places table) [] new
   pub apart : (a b : Table) → Has tables a → Has tables b → a ≢ b → (places a).tree ≢ (places b).tree
   pub others : (t : AnyTable) → Lists old.schema t → Lists new.schema t × (new.trees t.tree ≡ old.trees t.tree) × ((table : Table) → Has tables table → t.tree ≢ (places table).tree)

@@ -3,6 +3,6 @@ use Rattle.sqlite.specs.Effect.{Database}
 use Rattle.rolls.specs.State.{empty}
 use Rattle.store.specs.Tables.{StandsFor, AreRuled}
 
--- a database comes to stand for the empty office, in tables with the CHECK rules that are made here
+-- a database comes to stand for the empty office, in tables as they are made here
 unfoldable pub Empties : Database → Database → Type 0
 Empties old new = StandsFor new empty × AreRuled new.schema
