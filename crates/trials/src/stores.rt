@@ -96,10 +96,68 @@ static OF_IMPORTS: &str =
        rows below 0    | INSERT INTO import VALUES ('I1', 'students', x'', -1)                                  | Damaged
        imports missing | DROP TABLE import                                                                      | Damaged"#;
 
-/// The tables with what is added to them.
+/// The tables of an office, with nobody on its rolls: without STRICT, but for one, and with references that name no column, but for
+/// one. A type is what its affinity says.
+#[rattlefmt::skip]
+static LOOSE: &str =
+    "CREATE TABLE edition (id INTEGER NOT NULL PRIMARY KEY, number INT NOT NULL);
+     CREATE TABLE supervisor (code TEXT NOT NULL PRIMARY KEY, label VARCHAR(80) NOT NULL, quota INTEGER NOT NULL);
+     CREATE TABLE project (code TEXT NOT NULL PRIMARY KEY, label TEXT NOT NULL, supervisor TEXT NOT NULL REFERENCES supervisor, quota INTEGER NOT NULL);
+     CREATE TABLE student (code TEXT NOT NULL PRIMARY KEY, label TEXT NOT NULL);
+     CREATE TABLE round (number INTEGER NOT NULL PRIMARY KEY, open INTEGER NOT NULL);
+     CREATE TABLE choice (round INTEGER NOT NULL REFERENCES round, student TEXT NOT NULL REFERENCES student (code), place INTEGER NOT NULL, project TEXT NOT NULL REFERENCES project, PRIMARY KEY (round, student, place), UNIQUE (round, student, project));
+     CREATE TABLE placement (student TEXT NOT NULL PRIMARY KEY REFERENCES student, round INTEGER NOT NULL REFERENCES round, project TEXT NOT NULL REFERENCES project, rank INTEGER NOT NULL) STRICT;
+     CREATE TABLE import (id TEXT NOT NULL PRIMARY KEY, kind TEXT NOT NULL, bytes BLOB NOT NULL, rows INTEGER NOT NULL);
+     INSERT INTO edition VALUES (1, 1);";
+
+/// What such tables are opened as. A value of another kind than its column's is no row of an office, unless the column makes it one
+/// of its kind.
+#[rattlefmt::skip]
+static OF_LOOSE: &str =
+    r#"nobody there         |                                                        | GET /students/S1 | | 404 Not Found | {"fault":"UnknownStudent","number":15}
+       digits as a quota    | INSERT INTO supervisor VALUES ('L', 'Lee', '5')        | GET /supervisors/L | | 200 OK | {"name":"Lee","placed":0,"quota":5}
+       a number as a label  | INSERT INTO student VALUES ('S1', 7)                   | GET /students/S1 | | 200 OK | {"list":null,"name":"7","placed":null}
+       a word as a quota    | INSERT INTO supervisor VALUES ('L', 'Lee', 'five')     | Damaged
+       a half as a quota    | INSERT INTO supervisor VALUES ('L', 'Lee', 0.5)        | Damaged
+       bytes as a label     | INSERT INTO student VALUES ('S1', x'416E6E')           | Damaged
+       bytes as a code      | INSERT INTO student VALUES (x'5331', 'Ann')            | Damaged
+       a text as bytes      | INSERT INTO import VALUES ('I1', 'students', 'A', 0)   | Damaged
+       a number as bytes    | INSERT INTO import VALUES ('I1', 'students', 7, 0)     | Damaged
+       a label is meant     | DROP TABLE project; CREATE TABLE project (code TEXT NOT NULL PRIMARY KEY, label TEXT NOT NULL, supervisor TEXT NOT NULL REFERENCES supervisor (label), quota INTEGER NOT NULL) | Damaged
+       another reference    | DROP TABLE project; CREATE TABLE project (code TEXT NOT NULL PRIMARY KEY, label TEXT NOT NULL, supervisor TEXT NOT NULL REFERENCES student, quota INTEGER NOT NULL) | Damaged
+       no reference         | DROP TABLE project; CREATE TABLE project (code TEXT NOT NULL PRIMARY KEY, label TEXT NOT NULL, supervisor TEXT NOT NULL, quota INTEGER NOT NULL) | Damaged
+       a key that may lack  | DROP TABLE student; CREATE TABLE student (code TEXT PRIMARY KEY, label TEXT NOT NULL) | Damaged
+       another kind         | DROP TABLE student; CREATE TABLE student (code TEXT NOT NULL PRIMARY KEY, label BLOB NOT NULL) | Damaged"#;
+
+/// A round over such tables: rows are put anew and in place, a list is taken away, and a round is closed twice.
+#[rattlefmt::skip]
+static LOOSE_ROUND: &str =
+    r#"PUT /supervisors/L        | {"name":"Lee","quota":2}                    | 200 OK | {"ok":true}
+       PUT /projects/P           | {"name":"Pumps","quota":1,"supervisor":"L"} | 200 OK | {"ok":true}
+       PUT /projects/Q           | {"name":"Quays","quota":2,"supervisor":"L"} | 200 OK | {"ok":true}
+       PUT /students/A           | {"name":"Ann"}                              | 200 OK | {"ok":true}
+       PUT /students/A           | {"name":"Anna"}                             | 200 OK | {"ok":true}
+       POST /imports/students/I1 | code,name^nB,Bob^n                          | 200 OK | {"rows":1}
+       POST /rounds              |                                             | 200 OK | {"round":1}
+       PUT /lists/A              | {"choices":["P","Q"]}                       | 200 OK | {"ok":true}
+       PUT /lists/A              | {"choices":["Q"]}                           | 200 OK | {"ok":true}
+       DELETE /lists/A           |                                             | 200 OK | {"ok":true}
+       PUT /lists/A              | {"choices":["P"]}                           | 200 OK | {"ok":true}
+       PUT /lists/B              | {"choices":["P","Q"]}                       | 200 OK | {"ok":true}
+       POST /rounds/close        |                                             | 200 OK | {"profile":[1,1,0,0^,],"round":1,"size":2}
+       POST /rounds/reopen       |                                             | 200 OK | {"round":1}
+       POST /rounds/close        |                                             | 200 OK | {"profile":[1,1,0,0^,],"round":1,"size":2}"#;
+
+/// What another desk reads of it.
+#[rattlefmt::skip]
+static LOOSE_READ: &str =
+    r#"GET /students/A | | 200 OK | {"list":null,"name":"Anna","placed":{"project":"P","rank":1,"round":1}}
+       GET /students/B | | 200 OK | {"list":null,"name":"Bob","placed":{"project":"Q","rank":2,"round":1}}
+       GET /rounds/1   | | 200 OK | {"open":false,"placed":2,"profile":[1,1,0,0^,],"round":1,"students":2}"#;
+
+/// The database of these texts, with what is added.
 fn made(alloc: Global, before: &[&str], added: &str) -> Result<Connection<MemStore>, Fail> {
     let mut conn = Connection::open_in_memory(alloc)?;
-    conn.execute_batch(TABLES)?;
     for text in before {
         conn.execute_batch(text)?;
     }
@@ -146,11 +204,26 @@ fn compare_hand_made(
 
 #[test]
 fn hand_made_tables_are_judged(rt: HostRuntime) -> Result<(), Fail> {
-    compare_hand_made(rt.alloc(), &rt, &[], OF_ROLLS)?;
-    compare_hand_made(rt.alloc(), &rt, &[ROLLS], OF_ROUNDS)?;
-    compare_hand_made(rt.alloc(), &rt, &[ROLLS, ROUNDS], OF_FIT_ROUNDS)?;
-    compare_hand_made(rt.alloc(), &rt, &[IMPORTS], OF_KEPT_IMPORTS)?;
-    compare_hand_made(rt.alloc(), &rt, &[], OF_IMPORTS)
+    compare_hand_made(rt.alloc(), &rt, &[TABLES], OF_ROLLS)?;
+    compare_hand_made(rt.alloc(), &rt, &[TABLES, ROLLS], OF_ROUNDS)?;
+    compare_hand_made(rt.alloc(), &rt, &[TABLES, ROLLS, ROUNDS], OF_FIT_ROUNDS)?;
+    compare_hand_made(rt.alloc(), &rt, &[TABLES, IMPORTS], OF_KEPT_IMPORTS)?;
+    compare_hand_made(rt.alloc(), &rt, &[TABLES], OF_IMPORTS)?;
+    compare_hand_made(rt.alloc(), &rt, &[LOOSE], OF_LOOSE)?;
+    compare_hand_made(rt.alloc(), &rt, &[LOOSE, ROLLS, ROUNDS], OF_FIT_ROUNDS)
+}
+
+#[test]
+fn loose_tables_are_written(rt: HostRuntime) -> Result<(), Fail> {
+    let conn = made(rt.alloc(), &[], LOOSE)?;
+    let conn = opened(rt.alloc(), &rt, conn, LOOSE_ROUND)?;
+    let mut conn = opened(rt.alloc(), &rt, conn, LOOSE_READ)?;
+    let sum = count(
+        &mut conn,
+        "SELECT count(*) FROM import WHERE typeof(bytes) = 'blob' AND typeof(rows) = 'integer'",
+    )?;
+    holds(&rt, sum == 1, "the import");
+    Ok(())
 }
 
 /// A table whose rows go with a student's, and Ann.
