@@ -1,3 +1,4 @@
 mod Anew
+mod Imports
 mod Opened
 mod Writers

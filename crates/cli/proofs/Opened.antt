@@ -1,25 +1,91 @@
 -- What comes of a task where its office was opened or the opening refused, and what is left.
-use Rattle.std.proofs.Common.{◌≡◌, ◌⊎◌, inl, inr, ℕ, List, Option, Result, Ok, Err, IfErr, MatchResult, sym, subst}
-use Rattle.sqlite.specs.State.{State as Seen}
+use Rattle.std.proofs.Common.{◌≡◌, ◌⊎◌, inl, inr, ℕ, false, Result, Ok, Err, IfOk, IfErr, MatchResult, sym, subst, ap}
+use Rattle.sqlite.specs.Effect.{Database}
+use Rattle.sqlite.specs.State.{State as Seen, HasCleanDisk}
+use Rattle.sqlite.specs.Held.{Held, state}
+use Rattle.sqlite_trees.specs.declared.store.Store.{Ghosts}
 use Rattle.rolls.specs.declared.refusal.Refusal.{Refusal}
 use Rattle.rolls.specs.declared.refusal.Refusal.TheVariants as no
 use Rattle.rolls.specs.State.{State}
+use Rattle.tables.specs.Causes.{IsStopped}
+use Rattle.store.specs.Causes.{IsHinderedOpening}
+use Rattle.store.specs.Reading.{IsDamaged}
+use Rattle.store.specs.Tables.{HasNone, Opens}
+use Rattle.desk.specs.Kept.{Kept}
 use Rattle.desk.specs.Keeping.{Keeps}
 use Rattle.cli.specs.declared.tasks.Task.{Task}
-use Rattle.cli.specs.Outcomes.{ComesOf, IsUnopened, MayDo, Outcome, Tells, refused}
-use Rattle.cli.specs.Inside.Databases.{LeftBy, StandsAfter}
-use Rattle.cli.proofs.Writers.{unopened, refused_ends}
+use Rattle.cli.specs.declared.tasks.Task.TheVariants as task
+use Rattle.cli.specs.Outcomes.{ComesOf, IsUnopened, MayDo, Outcome, refused}
+use Rattle.cli.specs.Inside.Databases.{DoesOver, IsFoundFor, IsOfficeOf, IsWhyUnopened, LeftBy, StandsAfter, StaysSo, WasClean}
+use Rattle.cli.proofs.Writers.{TellsOf, Took, refused_ends}
 
--- what is told is an outcome of the task
-pub told_of : {D C : Type 0} (office_of : D → State) (done : Task) (opened : Result D (Refusal × C)) (seen : Seen) (Q : (Refusal × C) → Type 0) (o : Outcome)
-    → IfErr opened (λ e. (e.0 ≡ no.Memory) ⊎ ((e.0 ≡ no.Storage) ⊎ (e.0 ≡ no.Damaged))) → MatchResult opened (λ d. StandsAfter done (office_of d) seen) Q
-    → MatchResult opened (λ d. (after : State) × ComesOf done (office_of d) after o × Keeps seen after) (λ e. o ≡ refused e.0) → MayDo done o
-told_of office_of done (Ok d) seen Q o why left is = inr (office_of d, left.fit, is.0, is.1)
-told_of office_of done (Err e) seen Q o why left is = inl (subst IsUnopened (sym is) (unopened e.0 why))
+-- what was opened is the office of the database before
+of_opened : (old new : Database) (office : State) → Opens old new office → IsOfficeOf old office
+of_opened old new office (inl made) = inl (made.0, made.1)
+of_opened old new office (inr found) = inr found.1
 
--- the tables stand for what the task makes of the office, or the status is 1
-pub left_by : {D C : Type 0} (office_of : D → State) (done : Task) (opened : Result D (Refusal × C)) (seen : Seen) (Q : (Refusal × C) → Type 0) (w0 w v0 v : Option (List ℕ)) (f0 f status : ℕ)
-    → MatchResult opened (λ d. StandsAfter done (office_of d) seen) Q
-    → Tells (λ o. MatchResult opened (λ d. (after : State) × ComesOf done (office_of d) after o × Keeps seen after) (λ e. o ≡ refused e.0)) w0 w v0 v f0 f status → LeftBy done status seen
-left_by office_of done (Ok d) seen Q w0 w v0 v f0 f status left told = inl (office_of d, left)
-left_by office_of done (Err e) seen Q w0 w v0 v f0 f status left told = inr (refused_ends e.0 w0 w v0 v f0 f status told)
+-- a disk that is clean behind the task was clean when the office was opened
+found_for : (done : Task) (before opened after : Seen) (office : State) → WasClean done opened after → (HasCleanDisk opened → Opens before.now opened.now office) → IsFoundFor done before after office
+found_for (task.Ask asked) before opened after office was opens = λ clean. of_opened before.now opened.now office (opens (was clean))
+found_for (task.Serve serving) before opened after office was opens = tt
+
+-- why an office was not opened
+pub why_unopened : (refusal : Refusal) (before after : Seen) → ((refusal ≡ no.Memory) ⊎ ((refusal ≡ no.Storage) ⊎ (refusal ≡ no.Damaged)))
+    → (HasCleanDisk after → refusal ≡ no.Damaged → IsDamaged before.now × (HasNone before.now.schema → ⊥))
+    → (before.in_transaction ≡ false → HasCleanDisk after → refusal ≡ no.Storage → IsStopped IsHinderedOpening before after) → IsWhyUnopened refusal before after
+why_unopened refusal before after (inl memory) damaged cause = inl memory
+why_unopened refusal before after (inr (inl storage)) damaged cause = inr (inl (storage, λ ended clean. cause ended clean storage))
+why_unopened refusal before after (inr (inr is)) damaged cause = inr (inr (is, λ clean. damaged clean is))
+
+-- it is one of these refusals
+why_refused : (refusal : Refusal) (before after : Seen) → IsWhyUnopened refusal before after → IsUnopened (refused refusal)
+why_refused refusal before after (inl memory) = inl (ap refused memory)
+why_refused refusal before after (inr (inl storage)) = inr (inl (ap refused storage.0))
+why_refused refusal before after (inr (inr damaged)) = inr (inr (ap refused damaged.0))
+
+-- what a task at a database comes to is an outcome of the task
+pub may_do : (done : Task) (before after : Seen) (o : Outcome) → DoesOver done before after o → MayDo done o
+may_do done before after o (inl not) = inl (subst IsUnopened (sym not.told) (why_refused not.refusal before after not.why))
+may_do done before after o (inr is) = inr (is.office, is.fit, is.next, is.comes)
+
+module _ {S : Type 0} (ghosts : Ghosts S) where
+  -- the office of a connection was opened or not, and a task was done at it, which left the last connection
+  pub record WasOpened (done : Task) (first last : Held S) (opened : Result (Kept S) (Refusal × Held S)) : Type 0 where
+    pub office : IfOk opened (λ desk. HasCleanDisk (state ghosts desk.store) → Opens (state ghosts first).now (state ghosts desk.store).now desk.office)
+    pub refused : IfErr opened (λ e. (e.0 ≡ no.Memory) ⊎ ((e.0 ≡ no.Storage) ⊎ (e.0 ≡ no.Damaged)))
+    pub damaged : IfErr opened (λ e. HasCleanDisk (state ghosts e.1) → e.0 ≡ no.Damaged → IsDamaged (state ghosts first).now × (HasNone (state ghosts first).now.schema → ⊥))
+    pub cause : IfErr opened (λ e. first.in_transaction ≡ false → HasCleanDisk (state ghosts e.1) → e.0 ≡ no.Storage → IsStopped IsHinderedOpening (state ghosts first) (state ghosts e.1))
+    pub kept : IfErr opened (λ e. StaysSo (state ghosts first) (state ghosts e.1))
+    pub left : MatchResult opened (λ desk. StandsAfter done desk.office (state ghosts last)) (λ e. last ≡ e.1)
+    pub clean : IfOk opened (λ desk. WasClean done (state ghosts desk.store) (state ghosts last))
+
+  -- what is told at a desk that was opened, or of the refusal
+  abbrev pub ToldOf : Task → Held S → Result (Kept S) (Refusal × Held S) → Outcome → Type 0
+  ToldOf done last opened o = MatchResult opened (λ desk. (after : State) × ComesOf done desk.office after o × Keeps (state ghosts last) after) (λ e. o ≡ refused e.0)
+
+  -- where the opening was refused the database is as before
+  stays_so : (first last back : Held S) → last ≡ back → StaysSo (state ghosts first) (state ghosts back) → StaysSo (state ghosts first) (state ghosts last)
+  stays_so first last back same kept = subst (λ (k : Held S). StaysSo (state ghosts first) (state ghosts k)) (sym same) kept
+
+  -- it is told of the office of the database
+  pub told_of : (done : Task) (first last : Held S) (opened : Result (Kept S) (Refusal × Held S)) (o : Outcome) → WasOpened done first last opened → ToldOf done last opened o → DoesOver done (state ghosts first) (state ghosts last) o
+  told_of done first last (Ok d) o was is = inr (record {
+    office = d.office;
+    found = found_for done (state ghosts first) (state ghosts d.store) (state ghosts last) d.office was.clean was.office;
+    fit = was.left.fit;
+    next = is.0;
+    comes = is.1;
+    stands = is.2;
+  })
+  told_of done first last (Err e) o was is = inl (record {
+    refusal = e.0;
+    why = subst (λ (k : Held S). IsWhyUnopened e.0 (state ghosts first) (state ghosts k)) (sym was.left) (why_unopened e.0 (state ghosts first) (state ghosts e.1) was.refused was.damaged was.cause);
+    told = is;
+    stays = stays_so first last e.1 was.left was.kept;
+  })
+
+  -- and what is left is known, whether or not it was told
+  pub left_by : (done : Task) (first last : Held S) (opened : Result (Kept S) (Refusal × Held S)) → WasOpened done first last opened → (old new : Took) (status : ℕ)
+      → TellsOf (ToldOf done last opened) old new status → LeftBy done status (state ghosts first) (state ghosts last)
+  left_by done first last (Ok d) was old new status told = inl (d.office, found_for done (state ghosts first) (state ghosts d.store) (state ghosts last) d.office was.clean was.office, was.left)
+  left_by done first last (Err e) was old new status told = inr (refused_ends e.0 old new status told, stays_so first last e.1 was.left was.kept)

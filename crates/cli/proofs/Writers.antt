@@ -1,5 +1,5 @@
--- What one of the two writers took is told.
-use Rattle.std.proofs.Common.{◌≡◌, ◌⊎◌, inl, inr, ℕ, ◌+◌, List, [], ◌++◌, Option, Result, Ok, Err, IfErr, MatchResult, Vec, String, refl, ap, ◌∙◌, sym, subst, arith}
+-- What is told is told of more, and what one of the two writers took is told.
+use Rattle.std.proofs.Common.{◌≡◌, ◌⊎◌, inl, inr, ℕ, ◌+◌, List, ◌++◌, Option, Result, Ok, Err, IfErr, MatchResult, Vec, String, refl, ap, ◌∙◌, sym, subst, arith}
 use Rattle.std.specs.Io.KnownBytes.{Appends}
 use Rattle.std.specs.declared.alloc.Global.{Global}
 use Rattle.wire.proofs.Known.{appends_compose, appends_none}
@@ -11,25 +11,25 @@ use Rattle.web.specs.Connections.{AllServed, lines_after}
 use Rattle.round_files.specs.declared.rounds.Trouble.{Trouble}
 use Rattle.round_files.specs.declared.rounds.Trouble.TheVariants.{Refused}
 use Rattle.cli.specs.declared.tasks.Task.{Task}
-use Rattle.cli.specs.Outcomes.{MayDo, OnFile, Outcome, of_round, prints, refused, refusal_line, named_line, listening, Printed, Tells, IsUnread, IsUnopened, IsServed}
+use Rattle.cli.specs.Outcomes.{MayDo, OnFile, Outcome, of_round, prints, refused, refusal_line, named_line, listening, IsUnread, IsServed}
 use Rattle.cli.specs.Inside.Outcomes.{Serves}
 
--- a text on standard output, with this status
-pub on_out : (Is : Outcome → Type 0) (text : List ℕ) (status : ℕ) (w0 w other : Option (List ℕ)) (f0 f g ends : ℕ) → Is (record { out = text; err = []; status = status })
-    → Printed text status w0 w f0 f ends → Tells Is w0 w other other (f0 + g) (f + g) ends
-on_out Is text status w0 w other f0 f g ends is (inl p) = inl (record { out = text; err = []; status = status }, is, ap (λ n. n + g) p.0, p.1, appends_none other, p.2)
-on_out Is text status w0 w other f0 f g ends is (inr p) = let more : f ≡ f0 + 1 = p.0 in inr (omega (arith, more), p.1)
+-- what the two writers took, and how many of their calls failed
+pub record Took : Type 0 where
+  pub out : Option (List ℕ)
+  pub err : Option (List ℕ)
+  pub failures : ℕ
 
--- a text on standard error, with this status
-pub on_err : (Is : Outcome → Type 0) (text : List ℕ) (status : ℕ) (w0 w other : Option (List ℕ)) (f0 f g ends : ℕ) → Is (record { out = []; err = text; status = status })
-    → Printed text status w0 w f0 f ends → Tells Is other other w0 w (g + f0) (g + f) ends
-on_err Is text status w0 w other f0 f g ends is (inl p) = inl (record { out = []; err = text; status = status }, is, ap (λ n. g + n) p.0, appends_none other, p.1, p.2)
-on_err Is text status w0 w other f0 f g ends is (inr p) = let more : f ≡ f0 + 1 = p.0 in inr (omega (arith, more), p.1)
+-- `Tells` says nothing else of the two ends
+abbrev pub TellsOf : (Outcome → Type 0) → Took → Took → ℕ → Type 0
+TellsOf Is old new status =
+    ((o : Outcome) × Is o × (new.failures ≡ old.failures) × Appends old.out new.out o.out × Appends old.err new.err o.err × (status ≡ o.status))
+    ⊎ ((new.failures ≡ old.failures + 1) × (status ≡ 1))
 
 -- what is told may come of more
-pub tells_more : (A B : Outcome → Type 0) → ((o : Outcome) → A o → B o) → (w0 w v0 v : Option (List ℕ)) (f0 f status : ℕ) → Tells A w0 w v0 v f0 f status → Tells B w0 w v0 v f0 f status
-tells_more A B more w0 w v0 v f0 f status (inl t) = inl (t.0, more t.0 t.1, t.2, t.3, t.4, t.5)
-tells_more A B more w0 w v0 v f0 f status (inr failed) = inr failed
+pub tells_more : (A B : Outcome → Type 0) → ((o : Outcome) → A o → B o) → (old new : Took) (status : ℕ) → TellsOf A old new status → TellsOf B old new status
+tells_more A B more old new status (inl t) = inl (t.0, more t.0 t.1, t.2, t.3, t.4, t.5)
+tells_more A B more old new status (inr failed) = inr failed
 
 -- what holds of the value that came
 pub at_ok : {A E : Type 0} (P : A → Type 0) (Q : E → Type 0) (came : Result A E) (a : A) → came ≡ Ok a → P a → MatchResult came P Q
@@ -40,28 +40,21 @@ pub at_err : {A E : Type 0} (P : A → Type 0) (Q : E → Type 0) (came : Result
 at_err {A} {E} P Q came e is q = subst (λ (r : Result A E). MatchResult r P Q) (sym is) q
 
 -- what comes of the value that came is told
-pub ok_told : {A E : Type 0} (Of : A → Outcome → Type 0) (At : E → Outcome → Type 0) (came : Result A E) (a : A) (w0 w v0 v : Option (List ℕ)) (f0 f status : ℕ) → came ≡ Ok a
-    → Tells (λ o. Of a o) w0 w v0 v f0 f status → Tells (λ o. MatchResult came (λ a. Of a o) (λ e. At e o)) w0 w v0 v f0 f status
-ok_told Of At came a w0 w v0 v f0 f status is told =
-    tells_more (λ o. Of a o) (λ o. MatchResult came (λ a. Of a o) (λ e. At e o)) (λ o of. at_ok (λ a. Of a o) (λ e. At e o) came a is of) w0 w v0 v f0 f status told
+pub ok_told : {A E : Type 0} (Of : A → Outcome → Type 0) (At : E → Outcome → Type 0) (came : Result A E) (a : A) → came ≡ Ok a → (old new : Took) (status : ℕ)
+    → TellsOf (λ o. Of a o) old new status → TellsOf (λ o. MatchResult came (λ a. Of a o) (λ e. At e o)) old new status
+ok_told Of At came a is old new status told =
+    tells_more (λ o. Of a o) (λ o. MatchResult came (λ a. Of a o) (λ e. At e o)) (λ o of. at_ok (λ a. Of a o) (λ e. At e o) came a is of) old new status told
 
--- what comes of the error that came is told on standard error
-pub err_told : {A E : Type 0} (Of : A → Outcome → Type 0) (At : E → Outcome → Type 0) (came : Result A E) (e : E) (text : List ℕ) (status : ℕ) (w0 w other : Option (List ℕ)) (f0 f g ends : ℕ)
-    → came ≡ Err e → At e (record { out = []; err = text; status = status }) → Printed text status w0 w f0 f ends → Tells (λ o. MatchResult came (λ a. Of a o) (λ e. At e o)) other other w0 w (g + f0) (g + f) ends
-err_told Of At came e text status w0 w other f0 f g ends is at printed =
-    let told : Outcome = record { out = []; err = text; status = status } in
-    on_err (λ o. MatchResult came (λ a. Of a o) (λ e. At e o)) text status w0 w other f0 f g ends (at_err (λ a. Of a told) (λ e. At e told) came e is at) printed
-
--- a refusal of an opening is told
-pub unopened : (r : Refusal) → ((r ≡ no.Memory) ⊎ ((r ≡ no.Storage) ⊎ (r ≡ no.Damaged))) → IsUnopened (refused r)
-unopened r (inl memory) = inl (ap refused memory)
-unopened r (inr (inl storage)) = inr (inl (ap refused storage))
-unopened r (inr (inr damaged)) = inr (inr (ap refused damaged))
+-- what comes of the error that came is told
+pub err_told : {A E : Type 0} (Of : A → Outcome → Type 0) (At : E → Outcome → Type 0) (came : Result A E) (e : E) → came ≡ Err e → (old new : Took) (status : ℕ)
+    → TellsOf (λ o. At e o) old new status → TellsOf (λ o. MatchResult came (λ a. Of a o) (λ e. At e o)) old new status
+err_told Of At came e is old new status told =
+    tells_more (λ o. At e o) (λ o. MatchResult came (λ a. Of a o) (λ e. At e o)) (λ o at. at_err (λ a. Of a o) (λ e. At e o) came e is at) old new status told
 
 -- where a refusal is told the status is 1
-pub refused_ends : (r : Refusal) (w0 w v0 v : Option (List ℕ)) (f0 f status : ℕ) → Tells (λ o. o ≡ refused r) w0 w v0 v f0 f status → status ≡ 1
-refused_ends r w0 w v0 v f0 f status (inl t) = t.5 ∙ ap (λ (o : Outcome). o.status) t.1
-refused_ends r w0 w v0 v f0 f status (inr failed) = failed.1
+pub refused_ends : (r : Refusal) (old new : Took) (status : ℕ) → TellsOf (λ o. o ≡ refused r) old new status → status ≡ 1
+refused_ends r old new status (inl t) = t.5 ∙ ap (λ (o : Outcome). o.status) t.1
+refused_ends r old new status (inr failed) = failed.1
 
 -- the connections were served and told after the port
 pub all_served : (before after : State) (port count : ℕ) (w0 w1 w : Option (List ℕ)) (f0 f1 f : ℕ) → Appends w0 w1 (listening port) → f1 ≡ f0 → AllServed before count w1 w after → f ≡ f1
@@ -70,12 +63,12 @@ all_served before after port count w0 w1 w f0 f1 f told same served still =
     inl (prints (listening port ++ lines_after 0 served.came), record { came = served.came; counted = served.counted; served = served.served; is = refl }, still ∙ same, appends_compose w0 w1 w _ _ told served.wrote, refl)
 
 -- what was served is told on standard output alone
-pub served_told : (Is : Outcome → Type 0) (before after : State) (port count : ℕ) (w0 w other : Option (List ℕ)) (f0 f g ends : ℕ) → ((o : Outcome) → IsServed port count before after o → Is o)
-    → Serves port count before after w0 w f0 f ends → Tells Is w0 w other other (f0 + g) (f + g) ends
-served_told Is before after port count w0 w other f0 f g ends is (inl s) =
+pub served_told : (before after : State) (port count : ℕ) (w0 w v : Option (List ℕ)) (f0 f g ends : ℕ) → Serves port count before after w0 w f0 f ends
+    → TellsOf (IsServed port count before after) (record { out = w0; err = v; failures = f0 + g }) (record { out = w; err = v; failures = f + g }) ends
+served_told before after port count w0 w v f0 f g ends (inl s) =
     let printed : s.0 ≡ prints (listening port ++ lines_after 0 s.1.came) = s.1.is in
-    inl (s.0, is s.0 s.1, ap (λ n. n + g) s.2, s.3, subst (λ (o : Outcome). Appends other other o.err) (sym printed) (appends_none other), s.4 ∙ sym (ap (λ (o : Outcome). o.status) printed))
-served_told Is before after port count w0 w other f0 f g ends is (inr s) = let more : f ≡ f0 + 1 = s.0 in inr (omega (arith, more), s.1)
+    inl (s.0, s.1, ap (λ n. n + g) s.2, s.3, subst (λ (o : Outcome). Appends v v o.err) (sym printed) (appends_none v), s.4 ∙ sym (ap (λ (o : Outcome). o.status) printed))
+served_told before after port count w0 w v f0 f g ends (inr s) = let more : f ≡ f0 + 1 = s.0 in inr (omega (arith, more), s.1)
 
 -- a refusal of a file that is read is told
 pub unread : (r : Refusal) → ((r ≡ no.Memory) ⊎ (r ≡ no.Storage)) → IsUnread (refused r)

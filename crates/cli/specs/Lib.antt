@@ -1,3 +1,4 @@
 pub mod Anew
+pub mod Ends
 pub mod Outcomes
 pub mod Inside

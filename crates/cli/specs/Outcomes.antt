@@ -30,6 +30,7 @@ use Rattle.cli.specs.declared.tasks.Task.{Task}
 use Rattle.cli.specs.declared.tasks.Task.TheVariants as task
 use Rattle.cli.specs.declared.unread.Unread.{Unread}
 use Rattle.cli.specs.declared.unread.Unread.TheVariants as unread
+use Rattle.cli.specs.Ends.{Both, failures_of}
 use Rattle.wire.specs.declared.outcome.Served.{Served}
 use Rattle.wire.specs.declared.outcome.StreamFault.{StreamFault}
 
@@ -135,7 +136,7 @@ IsUnbound port before after o = (after ≡ before) × (o ≡ tells 1 (no_port po
 -- what a task comes to at an office that is open, and the office after it
 abbrev pub ComesOf : Task → State → State → Outcome → Type 0
 ComesOf (task.Ask asked) before after o = IsAsked asked before after o
-ComesOf (task.Serve port count) before after o = IsUnbound port before after o ⊎ IsServed port count before after o
+ComesOf (task.Serve serving) before after o = IsUnbound serving.port before after o ⊎ IsServed serving.port serving.count before after o
 
 -- what a task at a database may come to: it could not be opened, or what the task comes to at a fit office
 abbrev pub MayDo : Task → Outcome → Type 0
@@ -153,7 +154,7 @@ ImportsFile id kind o = IsUnread o ⊎ ((bytes : List ℕ) × Imports id kind by
 
 -- what a line may come to
 abbrev pub MayCome : Line → Outcome → Type 0
-MayCome (line.Serve database port count) o = MayDo (task.Serve port count) o
+MayCome (line.Serve database port count) o = MayDo (task.Serve (record { port = port; count = count })) o
 MayCome (line.Import database kind id file) o = ImportsFile (string_bytes id) kind o
 MayCome (line.OpenRound database) o = MayDo (task.Ask (request.Plain plain.OpenRound)) o
 MayCome (line.ReopenRound database) o = MayDo (task.Ask (request.Plain plain.ReopenRound)) o
@@ -179,11 +180,11 @@ abbrev pub Printed : List ℕ → ℕ → Option (List ℕ) → Option (List ℕ
 Printed text status w0 w failures0 failures ends =
     ((failures ≡ failures0) × Appends w0 w text × (ends ≡ status)) ⊎ ((failures ≡ failures0 + 1) × (ends ≡ 1))
 
--- one of these outcomes was written and its status is this, or one call of a writer failed and the status is 1
-abbrev pub Tells : (Outcome → Type 0) → Option (List ℕ) → Option (List ℕ) → Option (List ℕ) → Option (List ℕ) → ℕ → ℕ → ℕ → Type 0
-Tells Is out0 out err0 err failures0 failures status =
-    ((o : Outcome) × Is o × (failures ≡ failures0) × Appends out0 out o.out × Appends err0 err o.err × (status ≡ o.status))
-    ⊎ ((failures ≡ failures0 + 1) × (status ≡ 1))
+-- one of these outcomes was written to the two ends and its status is this, or one call of a writer failed and the status is 1
+abbrev pub Tells : {O E : Type 0} → (Outcome → Type 0) → Both O E → Both O E → ℕ → Type 0
+Tells Is old new status =
+    ((o : Outcome) × Is o × (failures_of new ≡ failures_of old) × Appends old.out.written new.out.written o.out × Appends old.err.written new.err.written o.err × (status ≡ o.status))
+    ⊎ ((failures_of new ≡ failures_of old + 1) × (status ≡ 1))
 
 -- what the words may come to
 abbrev pub ComesTo : List (List ℕ) → Outcome → Type 0

@@ -1,14 +1,15 @@
 //! What a line does at the office of a database, which is opened for it and closed behind it.
 
-ghost use Rattle.std.specs.Prelude.{◌≡◌, ◌-◌, ◌^◌, ◌<◌, ◌+◌, MatchResult};
+ghost use Rattle.std.specs.Prelude.{◌≡◌, IfOk, MatchResult};
 ghost use Rattle.sqlite.specs.Held.{state};
 ghost use Rattle.sqlite.specs.Files.{file_state};
 ghost use Rattle.desk.specs.Keeping.{Keeps};
-ghost use Rattle.cli.specs.Outcomes.{Tells, ComesOf, MayDo, refused};
-ghost use Rattle.cli.specs.Inside.Databases.{StandsAfter, LeftBy, IsClosing};
+ghost use Rattle.cli.specs.Ends.{CanFail};
+ghost use Rattle.cli.specs.Outcomes.{Tells, ComesOf, refused};
+ghost use Rattle.cli.specs.Inside.Databases.{WasClean, StandsAfter, DoesOver, LeftBy, IsClosing};
 
+use crate::ends::Ends;
 use crate::opening::{Closing, close_file};
-use crate::printing::refuse;
 use crate::tasks::{Task, do_at};
 use desk::Desk;
 use rolls::Refusal;
@@ -24,24 +25,23 @@ fn do_opened<S: Alter + Drop, O: Sink, E: Sink>(
     rt: &HostRuntime,
     opened: Result<Desk<S>, (Refusal, Connection<S>)>,
     task: Task,
-    out: &mut O,
-    err: &mut E,
+    ends: &mut Ends<O, E>,
 ) -> (u8, Connection<S>)
-    requires out { O.failures out.old < 2 ^ 64 - 1 }
-    requires err { E.failures err.old < 2 ^ 64 - 1 }
-    ensures told { Tells (λ o. MatchResult opened (λ desk. (after : _) × ComesOf task desk.office after o × Keeps (state S.Store result.1) after) (λ e. o ≡ refused e.0)) (O.written out.old) (O.written out.new) (E.written err.old) (E.written err.new) (O.failures out.old + E.failures err.old) (O.failures out.new + E.failures err.new) result.0 }
+    requires { CanFail ends.old }
+    ensures told { Tells (λ o. MatchResult opened (λ desk. (after : _) × ComesOf task desk.office after o × Keeps (state S.Store result.1) after) (λ e. o ≡ refused e.0)) ends.old ends.new result.0 }
     ensures left { MatchResult opened (λ desk. StandsAfter task desk.office (state S.Store result.1)) (λ e. result.1 ≡ e.1) }
+    ensures clean { IfOk opened (λ desk. WasClean task (state S.Store desk.store) (state S.Store result.1)) }
 {
     match opened {
         Ok(mut desk) => {
             desk.keeps();
-            let status = do_at(rt, &mut desk, task, out, err);
+            let status = do_at(rt, &mut desk, task, ends);
             desk.keeps();
             (status, desk.into_connection())
         }
         Err((refusal, connection)) => {
             drop(task);
-            (refuse(err, refusal), connection)
+            (ends.refuse(refusal), connection)
         }
     }
 }
@@ -54,15 +54,15 @@ fn do_over<S: Alter + Drop, O: Sink, E: Sink>(
     rt: &HostRuntime,
     connection: Connection<S>,
     task: Task,
-    out: &mut O,
-    err: &mut E,
+    ends: &mut Ends<O, E>,
 ) -> (u8, Connection<S>)
-    requires out { O.failures out.old < 2 ^ 64 - 1 }
-    requires err { E.failures err.old < 2 ^ 64 - 1 }
-    ensures told { Tells (MayDo task) (O.written out.old) (O.written out.new) (E.written err.old) (E.written err.new) (O.failures out.old + E.failures err.old) (O.failures out.new + E.failures err.new) result.0 }
-    ensures left { LeftBy task result.0 (state S.Store result.1) }
+    requires { CanFail ends.old }
+    ensures told { Tells (DoesOver task (state S.Store connection) (state S.Store result.1)) ends.old ends.new result.0 }
+
+    // Where a writer has failed no outcome is told, and it is still known what is left.
+    ensures left { LeftBy task result.0 (state S.Store connection) (state S.Store result.1) }
 {
-    do_opened(rt, Desk::open(rt.alloc(), connection), task, out, err)
+    do_opened(rt, Desk::open(rt.alloc(), connection), task, ends)
 }
 
 /// The same of the office of a database file, which is closed then: its log is copied into it.
@@ -70,14 +70,13 @@ pub(crate) fn do_and_close<D: Disk + Drop, O: Sink, E: Sink>(
     rt: &HostRuntime,
     connection: Connection<FileStore<D>>,
     task: Task,
-    out: &mut O,
-    err: &mut E,
+    ends: &mut Ends<O, E>,
 ) -> (u8, Closing<D>)
-    requires out { O.failures out.old < 2 ^ 64 - 1 }
-    requires err { E.failures err.old < 2 ^ 64 - 1 }
-    ensures told { Tells (MayDo task) (O.written out.old) (O.written out.new) (E.written err.old) (E.written err.new) (O.failures out.old + E.failures err.old) (O.failures out.new + E.failures err.new) result.0 }
-    ensures closing { (last : _) × LeftBy task result.0 (file_state last) × IsClosing last result.1 }
+    requires { CanFail ends.old }
+
+    // One connection shows what was told and what is left, and it is the one that was closed.
+    ensures { (last : _) × Tells (DoesOver task (file_state connection) (file_state last)) ends.old ends.new result.0 × LeftBy task result.0 (file_state connection) (file_state last) × IsClosing last result.1 }
 {
-    let (status, connection) = do_over(rt, connection, task, out, err);
+    let (status, connection) = do_over(rt, connection, task, ends);
     (status, close_file(connection))
 }

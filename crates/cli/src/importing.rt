@@ -1,11 +1,13 @@
-//! An import of a file into the office of a database.
+//! The request of an import of a file, and the asking of it at the office of a database.
 
-ghost use Rattle.std.specs.Prelude.{◌≡◌, ◌-◌, ◌^◌, ◌<◌, ◌+◌, IfOk, MatchResult};
-ghost use Rattle.cli.specs.Outcomes.{Tells, Imports, ImportsFile, MayDo, refused};
+ghost use Rattle.std.specs.Prelude.{◌≡◌, IfOk, MatchResult};
+ghost use Rattle.cli.specs.Ends.{CanFail};
+ghost use Rattle.cli.specs.Outcomes.{Tells, MayDo, refused};
+ghost use Rattle.cli.specs.Inside.Imports.{IsImportOf, IsImportOfFile};
 
+use crate::ends::Ends;
 use crate::files::read_file;
 use crate::named::do_on;
-use crate::printing::refuse;
 use crate::tasks::Task;
 use rolls::{Bytes, ImportKind, MOST_IMPORT_BYTES, Refusal, Request, Text};
 use std::alloc::AllocError;
@@ -28,78 +30,58 @@ fn import_of(
     })
 }
 
-/// Asks a request of the office of a database, or tells that there was no memory for the request.
-fn ask_made<O: Sink, E: Sink>(
-    rt: &HostRuntime,
-    database: &str,
-    made: Result<Request, AllocError>,
-    out: &mut O,
-    err: &mut E,
-) -> u8
-    requires out { O.failures out.old < 2 ^ 64 - 1 }
-    requires err { E.failures err.old < 2 ^ 64 - 1 }
-    ensures { Tells (λ o. MatchResult made (λ asked. MayDo (Task.Ask asked) o) (λ _. o ≡ refused Refusal.Memory)) (O.written out.old) (O.written out.new) (E.written err.old) (E.written err.new) (O.failures out.old + E.failures err.old) (O.failures out.new + E.failures err.new) result }
-{
-    match made {
-        Ok(asked) => do_on(rt, database, Task::Ask(asked), out, err),
-        Err(_) => refuse(err, Refusal::Memory),
-    }
-}
-
-/// Imports a file's bytes into the office of a database.
-fn import<O: Sink, E: Sink>(
-    rt: &HostRuntime,
-    database: &str,
-    kind: ImportKind,
-    id: &str,
-    bytes: Vec<u8>,
-    out: &mut O,
-    err: &mut E,
-) -> u8
-    requires out { O.failures out.old < 2 ^ 64 - 1 }
-    requires err { E.failures err.old < 2 ^ 64 - 1 }
-    ensures { Tells (Imports id.now kind bytes.items) (O.written out.old) (O.written out.new) (E.written err.old) (E.written err.new) (O.failures out.old + E.failures err.old) (O.failures out.new + E.failures err.new) result }
+/// The request of an import of a file's bytes, or why it is not made.
+fn import(rt: &HostRuntime, kind: ImportKind, id: &str, bytes: Vec<u8>) -> Result<Request, Refusal>
+    ensures { IsImportOf id.now kind bytes.items result }
 {
     if bytes.len() > MOST_IMPORT_BYTES {
-        return refuse(err, Refusal::TooLarge);
+        return Err(Refusal::TooLarge);
     }
-    ask_made(rt, database, import_of(rt, kind, id, bytes), out, err)
+    match import_of(rt, kind, id, bytes) {
+        Ok(asked) => Ok(asked),
+        Err(_) => Err(Refusal::Memory),
+    }
 }
 
-/// Imports what was read of a file into the office of a database, or tells why it could not be read.
-fn import_read<O: Sink, E: Sink>(
+/// The request of an import of what was read of a file, or the refusal of the reading.
+fn import_read(
     rt: &HostRuntime,
-    database: &str,
     kind: ImportKind,
     id: &str,
     read: Result<Vec<u8>, Refusal>,
-    out: &mut O,
-    err: &mut E,
-) -> u8
-    requires out { O.failures out.old < 2 ^ 64 - 1 }
-    requires err { E.failures err.old < 2 ^ 64 - 1 }
-    ensures { Tells (λ o. MatchResult read (λ bytes. Imports id.now kind bytes.items o) (λ refusal. o ≡ refused refusal)) (O.written out.old) (O.written out.new) (E.written err.old) (E.written err.new) (O.failures out.old + E.failures err.old) (O.failures out.new + E.failures err.new) result }
+) -> Result<Request, Refusal>
+    ensures { MatchResult read (λ bytes. IsImportOf id.now kind bytes.items result) (λ refusal. result ≡ Err refusal) }
 {
     match read {
-        Ok(bytes) => import(rt, database, kind, id, bytes, out, err),
-        Err(refusal) => refuse(err, refusal),
+        Ok(bytes) => import(rt, kind, id, bytes),
+        Err(refusal) => Err(refusal),
     }
 }
 
-/// Imports a file into the office of a database.
-pub(crate) fn import_file<O: Sink, E: Sink>(
+/// The request of an import of a file, or why it is not made.
+pub(crate) fn import_file(
     rt: &HostRuntime,
-    database: &str,
     kind: ImportKind,
     id: &str,
     file: &str,
-    out: &mut O,
-    err: &mut E,
-) -> u8
-    requires out { O.failures out.old < 2 ^ 64 - 1 }
-    requires err { E.failures err.old < 2 ^ 64 - 1 }
-    ensures { Tells (ImportsFile id.now kind) (O.written out.old) (O.written out.new) (E.written err.old) (E.written err.new) (O.failures out.old + E.failures err.old) (O.failures out.new + E.failures err.new) result }
+) -> Result<Request, Refusal>
+    ensures { IsImportOfFile id.now kind result }
 {
-    let read = read_file(rt, file, MOST_IMPORT_BYTES);
-    import_read(rt, database, kind, id, read, out, err)
+    import_read(rt, kind, id, read_file(rt, file, MOST_IMPORT_BYTES))
+}
+
+/// Asks a request of the office of a database, or tells why it was not made.
+pub(crate) fn ask_made<O: Sink, E: Sink>(
+    rt: &HostRuntime,
+    database: &str,
+    made: Result<Request, Refusal>,
+    ends: &mut Ends<O, E>,
+) -> u8
+    requires { CanFail ends.old }
+    ensures { Tells (λ o. MatchResult made (λ asked. MayDo (Task.Ask asked) o) (λ refusal. o ≡ refused refusal)) ends.old ends.new result }
+{
+    match made {
+        Ok(asked) => do_on(rt, database, Task::Ask(asked), ends),
+        Err(refusal) => ends.refuse(refusal),
+    }
 }

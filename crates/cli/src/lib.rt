@@ -5,12 +5,14 @@
 //!
 //! Promised: what is printed, where and with which status is an outcome of the line that `clap` reads from the words: a
 //! round file's result, or the answer of one step of a fit office, or the lines of the connections served; where a
-//! writer fails the status is 1. A database is closed behind what is told: its file alone stands for the office then, or
-//! it is known why not. Arguments that cannot be read are told too. Without arguments a stream is served over a
-//! new database, from the empty office on. Begin with `specs/Outcomes.antt`, `specs/Databases.antt` and `specs/Anew.antt`.
+//! writer fails the status is 1. A request is asked of the office that the database stood for, unless the disk gave back
+//! what was not written. The database is closed behind what is told: its file alone stands for the office then, or it is
+//! known why not. Arguments that cannot be read are told too. Without arguments a stream is served over a new database,
+//! from the empty office on. Begin with `specs/Outcomes.antt`, `specs/Ends.antt` and `specs/Anew.antt`.
 #![tactic(auto)]
 
 mod databases;
+mod ends;
 mod files;
 mod importing;
 mod named;
@@ -23,6 +25,7 @@ mod tasks;
 mod texts;
 mod unread;
 
+pub use ends::Ends;
 pub use program::{begin, serve_anew, start};
 pub use run::{line, tell_line, tell_unread};
 pub use unread::Unread;

@@ -1,11 +1,12 @@
 //! What a line does at the database file with a name.
 
-ghost use Rattle.std.specs.Prelude.{◌≡◌, ◌-◌, ◌^◌, ◌<◌, ◌+◌, MatchResult};
+ghost use Rattle.std.specs.Prelude.{◌≡◌, MatchResult};
+ghost use Rattle.cli.specs.Ends.{CanFail};
 ghost use Rattle.cli.specs.Outcomes.{Tells, MayDo, refused};
 
 use crate::databases::do_and_close;
+use crate::ends::Ends;
 use crate::opening::open_file;
-use crate::printing::refuse;
 use crate::tasks::Task;
 use rolls::Refusal;
 use sqlite::{Connection, FileStore};
@@ -21,21 +22,19 @@ fn do_found<D: Disk + Drop, O: Sink, E: Sink>(
     rt: &HostRuntime,
     opened: Result<Connection<FileStore<D>>, Refusal>,
     task: Task,
-    out: &mut O,
-    err: &mut E,
+    ends: &mut Ends<O, E>,
 ) -> u8
-    requires out { O.failures out.old < 2 ^ 64 - 1 }
-    requires err { E.failures err.old < 2 ^ 64 - 1 }
-    ensures { Tells (λ o. MatchResult opened (λ _. MayDo task o) (λ refusal. o ≡ refused refusal)) (O.written out.old) (O.written out.new) (E.written err.old) (E.written err.new) (O.failures out.old + E.failures err.old) (O.failures out.new + E.failures err.new) result }
+    requires { CanFail ends.old }
+    ensures { Tells (λ o. MatchResult opened (λ _. MayDo task o) (λ refusal. o ≡ refused refusal)) ends.old ends.new result }
 {
     match opened {
         Ok(connection) => {
-            let (status, _closing) = do_and_close(rt, connection, task, out, err);
+            let (status, _closing) = do_and_close(rt, connection, task, ends);
             status
         }
         Err(refusal) => {
             drop(task);
-            refuse(err, refusal)
+            ends.refuse(refusal)
         }
     }
 }
@@ -45,12 +44,10 @@ pub(crate) fn do_on<O: Sink, E: Sink>(
     rt: &HostRuntime,
     database: &str,
     task: Task,
-    out: &mut O,
-    err: &mut E,
+    ends: &mut Ends<O, E>,
 ) -> u8
-    requires out { O.failures out.old < 2 ^ 64 - 1 }
-    requires err { E.failures err.old < 2 ^ 64 - 1 }
-    ensures { Tells (MayDo task) (O.written out.old) (O.written out.new) (E.written err.old) (E.written err.new) (O.failures out.old + E.failures err.old) (O.failures out.new + E.failures err.new) result }
+    requires { CanFail ends.old }
+    ensures { Tells (MayDo task) ends.old ends.new result }
 {
-    do_found(rt, open_file(rt, database), task, out, err)
+    do_found(rt, open_file(rt, database), task, ends)
 }

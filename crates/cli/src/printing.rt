@@ -1,8 +1,10 @@
 //! What is told on standard output or standard error, and the status.
 
-ghost use Rattle.std.specs.Prelude.{◌≡◌, ◌-◌, ◌^◌, ◌<◌, ◌+◌};
+ghost use Rattle.std.specs.Prelude.{◌≡◌, ◌-◌, ◌^◌, ◌<◌};
+ghost use Rattle.cli.specs.Ends.{CanFail};
 ghost use Rattle.cli.specs.Outcomes.{Printed, Tells, refusal_line, of_round, reply_text};
 
+use crate::ends::Ends;
 use crate::texts::{bad_line, closed_line, labelled, refusal_line};
 use rolls::{Refusal, Reply};
 use round_files::Trouble;
@@ -53,17 +55,15 @@ pub(crate) fn print_reply<W: Sink>(out: &mut W, reply: &Reply) -> u8
 /// Tells what came of the text of a round file.
 pub(crate) fn tell_round<O: Sink, E: Sink>(
     came: Result<String, Trouble>,
-    out: &mut O,
-    err: &mut E,
+    ends: &mut Ends<O, E>,
 ) -> u8
-    requires out { O.failures out.old < 2 ^ 64 - 1 }
-    requires err { E.failures err.old < 2 ^ 64 - 1 }
-    ensures { Tells (λ o. o ≡ of_round came) (O.written out.old) (O.written out.new) (E.written err.old) (E.written err.new) (O.failures out.old + E.failures err.old) (O.failures out.new + E.failures err.new) result }
+    requires { CanFail ends.old }
+    ensures { Tells (λ o. o ≡ of_round came) ends.old ends.new result }
 {
     match came {
-        Ok(text) => print(out, text.as_bytes(), 0),
-        Err(Trouble::Failed(text)) => print(out, text.as_bytes(), 1),
-        Err(Trouble::Refused(refusal)) => refuse(err, refusal),
-        Err(Trouble::BadLine(number)) => print(err, bad_line(number).as_slice(), 1),
+        Ok(text) => ends.print(text.as_bytes(), 0),
+        Err(Trouble::Failed(text)) => ends.print(text.as_bytes(), 1),
+        Err(Trouble::Refused(refusal)) => ends.refuse(refusal),
+        Err(Trouble::BadLine(number)) => ends.tell(bad_line(number).as_slice(), 1),
     }
 }

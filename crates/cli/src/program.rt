@@ -1,11 +1,13 @@
 //! The program: a line where there are arguments, or else standard input served over a new database in memory.
 
-ghost use Rattle.std.specs.Prelude.{◌≡◌, ◌-◌, ◌^◌, ◌<◌, ◌+◌, ◌≤◌, IsTrue, false, length, map, string_bytes, IfOk, IfErr, MatchResult};
+ghost use Rattle.std.specs.Prelude.{◌≡◌, ◌-◌, ◌^◌, ◌<◌, ◌≤◌, IsTrue, false, length, map, string_bytes, IfOk, MatchResult};
 ghost use Rattle.std.specs.IoError.{error_kind};
+ghost use Rattle.cli.specs.Ends.{CanFail};
 ghost use Rattle.cli.specs.Anew.{ServedAnew, BrokenAnew, StreamsAnew};
 ghost use Rattle.cli.specs.Outcomes.{Tells, ComesTo};
 ghost use Rattle.cli.specs.Inside.Outcomes.{OfUnread};
 
+use crate::ends::Ends;
 use crate::run::{tell_line, tell_unread};
 use crate::unread::Unread;
 use desk::Desk;
@@ -38,29 +40,27 @@ pub fn serve_anew<R: Source, W: Sink>(alloc: Global, reader: &mut R, writer: &mu
 }
 
 /// Does the line of these words, of which the first is the program's name, as `tell_line` does; where there is no other word,
-/// serves the reader's stream to `out`, as `serve_anew` does. Gives the status of the program: 0 for a stream that was served to
+/// serves the reader's stream to standard output, as `serve_anew` does. Gives the status of the program: 0 for a stream that was served to
 /// its end, and 1 for one that was not.
 pub fn begin<R: Source, O: Sink, E: Sink>(
     rt: &HostRuntime,
     words: &[String],
     reader: &mut R,
-    out: &mut O,
-    err: &mut E,
+    ends: &mut Ends<O, E>,
 ) -> u8
     requires reader { R.failures reader.old < 2 ^ 64 - 1 }
     requires open { R.ended reader.old ≡ false }
-    requires out { O.failures out.old < 2 ^ 64 - 1 }
-    requires err { E.failures err.old < 2 ^ 64 - 1 }
-    ensures line { 1 < length words.now → Tells (ComesTo (map string_bytes words.now)) (O.written out.old) (O.written out.new) (E.written err.old) (E.written err.new) (O.failures out.old + E.failures err.old) (O.failures out.new + E.failures err.new) result }
+    requires ends { CanFail ends.old }
+    ensures line { 1 < length words.now → Tells (ComesTo (map string_bytes words.now)) ends.old ends.new result }
     ensures unread { 1 < length words.now → reader.new ≡ reader.old }
-    ensures stream { length words.now ≤ 1 → StreamsAnew (R.left reader.old) (O.written out.old) (R.left reader.new) (O.written out.new) result }
-    ensures silent { length words.now ≤ 1 → err.new ≡ err.old }
+    ensures stream { length words.now ≤ 1 → StreamsAnew (R.left reader.old) ends.old.out.written (R.left reader.new) ends.new.out.written result }
+    ensures silent { length words.now ≤ 1 → ends.new.err ≡ ends.old.err }
     ensures status { result ≤ 2 }
 {
     if words.len() > 1 {
-        return tell_line(rt, words, out, err);
+        return tell_line(rt, words, ends);
     }
-    u8::from(!serve_anew(rt.alloc(), reader, out))
+    u8::from(!serve_anew(rt.alloc(), reader, &mut ends.out))
 }
 
 /// The words of the command line, the program's name first.
@@ -73,26 +73,22 @@ fn begin_given<R: Source, O: Sink, E: Sink>(
     rt: &HostRuntime,
     given: io::Result<Vec<String>>,
     reader: &mut R,
-    out: &mut O,
-    err: &mut E,
+    ends: &mut Ends<O, E>,
 ) -> u8
     requires reader { R.failures reader.old < 2 ^ 64 - 1 }
     requires open { R.ended reader.old ≡ false }
-    requires out { O.failures out.old < 2 ^ 64 - 1 }
-    requires err { E.failures err.old < 2 ^ 64 - 1 }
-    ensures line { IfOk given (λ words. 1 < length words.items → Tells (ComesTo (map string_bytes words.items)) (O.written out.old) (O.written out.new) (E.written err.old) (E.written err.new) (O.failures out.old + E.failures err.old) (O.failures out.new + E.failures err.new) result) }
-    ensures stream { IfOk given (λ words. length words.items ≤ 1 → StreamsAnew (R.left reader.old) (O.written out.old) (R.left reader.new) (O.written out.new) result) }
+    requires ends { CanFail ends.old }
+    ensures told { MatchResult given (λ words. 1 < length words.items → Tells (ComesTo (map string_bytes words.items)) ends.old ends.new result) (λ error. Tells (OfUnread (error_kind error)) ends.old ends.new result) }
+    ensures stream { IfOk given (λ words. length words.items ≤ 1 → StreamsAnew (R.left reader.old) ends.old.out.written (R.left reader.new) ends.new.out.written result) }
+    ensures silent { IfOk given (λ words. length words.items ≤ 1 → ends.new.err ≡ ends.old.err) }
 
-    ensures silent { IfOk given (λ words. length words.items ≤ 1 → err.new ≡ err.old) }
-
-    // Why the words cannot be read is told, and then nothing is read.
-    ensures refused { IfErr given (λ error. Tells (OfUnread (error_kind error)) (O.written out.old) (O.written out.new) (E.written err.old) (E.written err.new) (O.failures out.old + E.failures err.old) (O.failures out.new + E.failures err.new) result) }
+    // Where the words cannot be read nothing else is.
     ensures unread { MatchResult given (λ words. 1 < length words.items → reader.new ≡ reader.old) (λ _. reader.new ≡ reader.old) }
     ensures status { result ≤ 2 }
 {
     match given {
-        Ok(words) => begin(rt, &words, reader, out, err),
-        Err(error) => tell_unread(Unread::of(&error), err),
+        Ok(words) => begin(rt, &words, reader, ends),
+        Err(error) => tell_unread(Unread::of(&error), &mut ends.err),
     }
 }
 
@@ -104,7 +100,6 @@ pub fn start(rt: &HostRuntime) -> u8
     ensures { result ≤ 2 }
 {
     let mut reader = Watched::new(rt.stdin());
-    let mut out = Watched::new(rt.stdout());
-    let mut err = Watched::new(rt.stderr());
-    begin_given(rt, given(rt), &mut reader, &mut out, &mut err)
+    let mut ends = Ends::new(Watched::new(rt.stdout()), Watched::new(rt.stderr()));
+    begin_given(rt, given(rt), &mut reader, &mut ends)
 }

@@ -1,13 +1,15 @@
 //! A whole line: its words, what it prints, and its status.
 
-ghost use Rattle.std.specs.Prelude.{◌≡◌, ◌-◌, ◌^◌, ◌<◌, ◌+◌, ◌≤◌, map, string_bytes};
+ghost use Rattle.std.specs.Prelude.{◌-◌, ◌^◌, ◌<◌, ◌≤◌, map, string_bytes};
+ghost use Rattle.cli.specs.Ends.{CanFail};
 ghost use Rattle.cli.specs.Outcomes.{Printed, Tells, MayCome, ComesTo, of_unread};
 
-use crate::importing::import_file;
+use crate::ends::Ends;
+use crate::importing::{ask_made, import_file};
 use crate::named::do_on;
 use crate::printing::{print, refuse};
-use crate::rounds::{check_file, solve_file};
-use crate::tasks::Task;
+use crate::rounds::{Way, do_file};
+use crate::tasks::{Serving, Task};
 use crate::texts::NOT_UTF8;
 use crate::unread::Unread;
 use commands::{Line, LineFault, command};
@@ -18,65 +20,57 @@ use web::{Sink, Watched};
 
 /// Does a line, and tells what comes of it. A file is read first, then a database is opened, then a port is bound, and then the
 /// request is judged.
-fn do_line<O: Sink, E: Sink>(rt: &HostRuntime, line: Line, out: &mut O, err: &mut E) -> u8
-    requires out { O.failures out.old < 2 ^ 64 - 1 }
-    requires err { E.failures err.old < 2 ^ 64 - 1 }
-    ensures { Tells (MayCome line) (O.written out.old) (O.written out.new) (E.written err.old) (E.written err.new) (O.failures out.old + E.failures err.old) (O.failures out.new + E.failures err.new) result }
+fn do_line<O: Sink, E: Sink>(rt: &HostRuntime, line: Line, ends: &mut Ends<O, E>) -> u8
+    requires { CanFail ends.old }
+    ensures { Tells (MayCome line) ends.old ends.new result }
 {
     match line {
         Line::Serve {
             database,
             port,
             count,
-        } => do_on(rt, &database, Task::Serve { port, count }, out, err),
+        } => do_on(rt, &database, Task::Serve(Serving { port, count }), ends),
         Line::Import {
             database,
             kind,
             id,
             file,
-        } => import_file(rt, &database, kind, &id, &file, out, err),
+        } => ask_made(rt, &database, import_file(rt, kind, &id, &file), ends),
         Line::OpenRound(database) => {
             let asked = Request::Plain(Plain::OpenRound);
-            do_on(rt, &database, Task::Ask(asked), out, err)
+            do_on(rt, &database, Task::Ask(asked), ends)
         }
         Line::ReopenRound(database) => {
             let asked = Request::Plain(Plain::ReopenRound);
-            do_on(rt, &database, Task::Ask(asked), out, err)
+            do_on(rt, &database, Task::Ask(asked), ends)
         }
-        Line::CloseRound(database) => do_on(rt, &database, Task::Ask(Request::Close), out, err),
+        Line::CloseRound(database) => do_on(rt, &database, Task::Ask(Request::Close), ends),
         Line::Report {
             database,
             kind,
             round,
         } => {
             let asked = Request::Report { kind, round };
-            do_on(rt, &database, Task::Ask(asked), out, err)
+            do_on(rt, &database, Task::Ask(asked), ends)
         }
-        Line::Solve(file) => solve_file(rt, &file, out, err),
-        Line::Check(file) => check_file(rt, &file, out, err),
+        Line::Solve(file) => do_file(rt, Way::Solve, &file, ends),
+        Line::Check(file) => do_file(rt, Way::Check, &file, ends),
     }
 }
 
 /// Does the line of these words, of which the first is the program's name, and gives the status of the program.
 ///
-/// A result goes to `out` with status 0, and a check that failed to `out` with status 1. A refusal, a bad line of a round
-/// text or a port that cannot be bound goes to `err` with status 1, a fault of the line to `err` with status 2, and help to
-/// `out` with status 0. Where a writer fails, the status is 1, and what was done stays done.
-pub fn tell_line<O: Sink, E: Sink>(
-    rt: &HostRuntime,
-    words: &[String],
-    out: &mut O,
-    err: &mut E,
-) -> u8
-    requires out { O.failures out.old < 2 ^ 64 - 1 }
-    requires err { E.failures err.old < 2 ^ 64 - 1 }
-    ensures { Tells (ComesTo (map string_bytes words.now)) (O.written out.old) (O.written out.new) (E.written err.old) (E.written err.new) (O.failures out.old + E.failures err.old) (O.failures out.new + E.failures err.new) result }
+/// A result is printed with status 0, and a check that failed with status 1. A refusal, a bad line of a round text or a port
+/// that cannot be bound is told with status 1, a fault of the line with status 2, and help is printed with status 0. Where a writer fails, the status is 1, and what was done stays done.
+pub fn tell_line<O: Sink, E: Sink>(rt: &HostRuntime, words: &[String], ends: &mut Ends<O, E>) -> u8
+    requires { CanFail ends.old }
+    ensures { Tells (ComesTo (map string_bytes words.now)) ends.old ends.new result }
 {
     match command(rt.alloc(), words) {
-        Ok(line) => do_line(rt, line, out, err),
-        Err(LineFault::Memory) => refuse(err, Refusal::Memory),
-        Err(LineFault::Help(text)) => print(out, text.as_bytes(), 0),
-        Err(LineFault::Fault(text)) => print(err, text.as_bytes(), 2),
+        Ok(line) => do_line(rt, line, ends),
+        Err(LineFault::Memory) => ends.refuse(Refusal::Memory),
+        Err(LineFault::Help(text)) => ends.print(text.as_bytes(), 0),
+        Err(LineFault::Fault(text)) => ends.tell(text.as_bytes(), 2),
     }
 }
 
@@ -101,5 +95,6 @@ pub fn line<O: Write + Drop, E: Write + Drop>(
 ) -> u8
     ensures { result ≤ 2 }
 {
-    tell_line(rt, &words, &mut Watched::new(out), &mut Watched::new(err))
+    let mut ends = Ends::new(Watched::new(out), Watched::new(err));
+    tell_line(rt, &words, &mut ends)
 }

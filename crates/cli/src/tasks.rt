@@ -1,16 +1,19 @@
 //! What a line does at a desk.
 
-ghost use Rattle.std.specs.Prelude.{◌≡◌, ◌-◌, ◌^◌, ◌<◌, ◌+◌, [], ◌∷◌, IfErr, MatchResult};
+ghost use Rattle.std.specs.Prelude.{◌≡◌, ◌-◌, ◌^◌, ◌<◌, [], ◌∷◌, IfErr, MatchResult};
 ghost use Rattle.std.specs.Net.Addr.{ipv4_octets};
 ghost use Rattle.std.specs.Net.Socket.{v4_ip, v4_port};
+ghost use Rattle.sqlite.specs.State.{HasCleanDisk};
+ghost use Rattle.sqlite.specs.Held.{state};
 ghost use Rattle.rolls.specs.Run.{Step};
 ghost use Rattle.allotment.specs.Layers.{layers};
 ghost use Rattle.web.specs.Connections.{Connect};
+ghost use Rattle.cli.specs.Ends.{CanFail};
 ghost use Rattle.cli.specs.Outcomes.{Tells, IsAsked, IsServed, IsUnbound, ComesOf};
 ghost use Rattle.cli.specs.Inside.Outcomes.{IsCutOff, Serves};
-ghost use Rattle.cli.specs.Inside.Databases.{TakesTo};
+ghost use Rattle.cli.specs.Inside.Databases.{TakesTo, WasClean};
 
-use crate::printing::{print, print_reply, refuse};
+use crate::ends::Ends;
 use crate::texts::labelled;
 use desk::Desk;
 use rolls::Request;
@@ -26,53 +29,58 @@ use web::{Sink, serve_on, write_all};
 pub(crate) enum Task {
     /// It asks a request.
     Ask(Request),
-    /// It serves so many connections to a port of the loopback address.
-    Serve {
-        /// The port, or 0 for any that is free.
-        port: u16,
-        /// The number of connections.
-        count: u32,
-    },
+    /// It serves connections.
+    Serve(Serving),
+}
+
+/// So many connections to a port of the loopback address.
+#[derive(Clone, Copy, Drop)]
+pub(crate) struct Serving {
+    /// The port, or 0 for any that is free.
+    pub(crate) port: u16,
+    /// The number of connections.
+    pub(crate) count: u32,
 }
 
 /// Asks a request at a desk, and tells what comes of it.
 fn ask_at<S: Alter, O: Sink, E: Sink>(
     desk: &mut Desk<S>,
     asked: Request,
-    out: &mut O,
-    err: &mut E,
+    ends: &mut Ends<O, E>,
 ) -> u8
-    requires out { O.failures out.old < 2 ^ 64 - 1 }
-    requires err { E.failures err.old < 2 ^ 64 - 1 }
-    ensures told { Tells (IsAsked asked desk.old.office desk.new.office) (O.written out.old) (O.written out.new) (E.written err.old) (E.written err.new) (O.failures out.old + E.failures err.old) (O.failures out.new + E.failures err.new) result }
+    requires { CanFail ends.old }
+    ensures told { Tells (IsAsked asked desk.old.office desk.new.office) ends.old ends.new result }
     ensures step { (answer : _) × Step layers desk.old.office asked answer desk.new.office }
+    ensures clean { HasCleanDisk (state S.Store desk.new.store) → HasCleanDisk (state S.Store desk.old.store) }
 {
     match desk.ask(asked) {
-        Ok(reply) => print_reply(out, &reply),
-        Err(refusal) => refuse(err, refusal),
+        Ok(reply) => ends.print_reply(&reply),
+        Err(refusal) => ends.refuse(refusal),
     }
 }
 
-/// Serves so many connections of a listener at a desk, and writes a line of each after that of the port.
+/// Serves connections of a listener at a desk, and writes a line of each after that of the port.
 fn serve_at<S: Alter, O: Sink>(
     alloc: Global,
     desk: &mut Desk<S>,
     listener: &TcpListener,
-    port: u16,
-    count: u32,
+    serving: Serving,
     out: &mut O,
 ) -> u8
     requires { O.failures out.old < 2 ^ 64 - 1 }
-    ensures told { Serves port count desk.old.office desk.new.office (O.written out.old) (O.written out.new) (O.failures out.old) (O.failures out.new) result }
+    ensures told { Serves serving.port serving.count desk.old.office desk.new.office (O.written out.old) (O.written out.new) (O.failures out.old) (O.failures out.new) result }
 
     // Nothing is served before the line of the port is out.
-    ensures cut { result ≡ 1 → IsCutOff desk.old.office port count (O.written out.old) (O.written out.new) desk.new.office }
+    ensures cut { result ≡ 1 → IsCutOff desk.old.office serving.port serving.count (O.written out.old) (O.written out.new) desk.new.office }
     ensures served { (came : _) × Connect desk.old.office came desk.new.office }
 {
-    let Ok(()) = write_all(out, labelled(b"listening ", u32::from(port)).as_slice()) else {
+    let Ok(()) = write_all(
+        out,
+        labelled(b"listening ", u32::from(serving.port)).as_slice(),
+    ) else {
         return 1;
     };
-    match serve_on(alloc, desk, listener, count, out) {
+    match serve_on(alloc, desk, listener, serving.count, out) {
         Ok(()) => 0,
         Err(_) => 1,
     }
@@ -86,46 +94,40 @@ fn loopback(port: u16) -> SocketAddrV4
     SocketAddrV4::new(Ipv4Addr::LOCALHOST, port)
 }
 
-/// Serves so many connections of a listener that was bound to a port, at a desk, or tells that it could not be bound.
+/// Serves connections of a listener that was bound to their port, at a desk, or tells that it could not be bound.
 fn serve_bound<S: Alter, O: Sink, E: Sink>(
     alloc: Global,
     desk: &mut Desk<S>,
     bound: io::Result<TcpListener>,
-    port: u16,
-    count: u32,
-    out: &mut O,
-    err: &mut E,
+    serving: Serving,
+    ends: &mut Ends<O, E>,
 ) -> u8
-    requires out { O.failures out.old < 2 ^ 64 - 1 }
-    requires err { E.failures err.old < 2 ^ 64 - 1 }
-    ensures told { Tells (λ o. MatchResult bound (λ _. IsServed port count desk.old.office desk.new.office o) (λ _. IsUnbound port desk.old.office desk.new.office o)) (O.written out.old) (O.written out.new) (E.written err.old) (E.written err.new) (O.failures out.old + E.failures err.old) (O.failures out.new + E.failures err.new) result }
+    requires { CanFail ends.old }
+    ensures told { Tells (λ o. MatchResult bound (λ _. IsServed serving.port serving.count desk.old.office desk.new.office o) (λ _. IsUnbound serving.port desk.old.office desk.new.office o)) ends.old ends.new result }
     ensures served { (came : _) × Connect desk.old.office came desk.new.office }
 
     // Where no port is bound nothing is done at the desk.
     ensures unbound { IfErr bound (λ _. desk.new ≡ desk.old) }
 {
     match bound {
-        Ok(listener) => serve_at(alloc, desk, &listener, port, count, out),
-        Err(_) => print(err, labelled(b"no port ", u32::from(port)).as_slice(), 1),
+        Ok(listener) => serve_at(alloc, desk, &listener, serving, &mut ends.out),
+        Err(_) => ends.tell(labelled(b"no port ", u32::from(serving.port)).as_slice(), 1),
     }
 }
 
-/// Serves so many connections to a port of the loopback address at a desk.
+/// Serves connections to a port of the loopback address at a desk.
 fn serve_from<S: Alter, O: Sink, E: Sink>(
     rt: &HostRuntime,
     desk: &mut Desk<S>,
-    port: u16,
-    count: u32,
-    out: &mut O,
-    err: &mut E,
+    serving: Serving,
+    ends: &mut Ends<O, E>,
 ) -> u8
-    requires out { O.failures out.old < 2 ^ 64 - 1 }
-    requires err { E.failures err.old < 2 ^ 64 - 1 }
-    ensures told { Tells (ComesOf (Task.Serve port count) desk.old.office desk.new.office) (O.written out.old) (O.written out.new) (E.written err.old) (E.written err.new) (O.failures out.old + E.failures err.old) (O.failures out.new + E.failures err.new) result }
+    requires { CanFail ends.old }
+    ensures told { Tells (ComesOf (Task.Serve serving) desk.old.office desk.new.office) ends.old ends.new result }
     ensures served { (came : _) × Connect desk.old.office came desk.new.office }
 {
-    let bound = TcpListener::bind(rt, loopback(port));
-    serve_bound(rt.alloc(), desk, bound, port, count, out, err)
+    let bound = TcpListener::bind(rt, loopback(serving.port));
+    serve_bound(rt.alloc(), desk, bound, serving, ends)
 }
 
 /// Does a task at a desk, and tells what comes of it.
@@ -133,16 +135,15 @@ pub(crate) fn do_at<S: Alter, O: Sink, E: Sink>(
     rt: &HostRuntime,
     desk: &mut Desk<S>,
     task: Task,
-    out: &mut O,
-    err: &mut E,
+    ends: &mut Ends<O, E>,
 ) -> u8
-    requires out { O.failures out.old < 2 ^ 64 - 1 }
-    requires err { E.failures err.old < 2 ^ 64 - 1 }
-    ensures told { Tells (ComesOf task desk.old.office desk.new.office) (O.written out.old) (O.written out.new) (E.written err.old) (E.written err.new) (O.failures out.old + E.failures err.old) (O.failures out.new + E.failures err.new) result }
+    requires { CanFail ends.old }
+    ensures told { Tells (ComesOf task desk.old.office desk.new.office) ends.old ends.new result }
     ensures taken { TakesTo task desk.old.office desk.new.office }
+    ensures clean { WasClean task (state S.Store desk.old.store) (state S.Store desk.new.store) }
 {
     match task {
-        Task::Ask(asked) => ask_at(desk, asked, out, err),
-        Task::Serve { port, count } => serve_from(rt, desk, port, count, out, err),
+        Task::Ask(asked) => ask_at(desk, asked, ends),
+        Task::Serve(serving) => serve_from(rt, desk, serving, ends),
     }
 }

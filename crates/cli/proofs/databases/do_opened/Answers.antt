@@ -1,20 +1,21 @@
-use Rattle.std.proofs.Common.{◌≡◌, refl, sym, subst}
+use Rattle.std.proofs.Common.{◌≡◌, IfOk, Result, sym, subst}
 use Rattle.sqlite.specs.Held.{Held, state}
 use Rattle.rolls.specs.declared.refusal.Refusal.{Refusal}
 use Rattle.rolls.specs.State.{State}
 use Rattle.desk.specs.Kept.{Kept}
 use Rattle.desk.specs.Keeping.{Keeps}
-use Rattle.cli.specs.Outcomes.{ComesOf, refused, refusal_line}
+use Rattle.cli.specs.Outcomes.{ComesOf, refused}
+use Rattle.cli.specs.Inside.Databases.{WasClean}
 use Rattle.cli.proofs.Writers.{at_ok, err_told, ok_told, tells_more}
 use Rattle.cli.proofs.databases.do_opened.Goals as goal
 
 pub returns-in-Ok-clause-told : goal.returns-in-Ok-clause-told
 returns-in-Ok-clause-told g c =
     ok_told (λ (d : Kept g.row.S.Denot) o. (after : State) × ComesOf c.args.task d.office after o × Keeps (state g.S.Store c.into_connection.result) after) (λ (e : Refusal × Held g.row.S.Denot) o. o ≡ refused e.0)
-    c.args.opened c.in-Ok.desk _ _ _ _ _ _ _ c.in-Ok.is
+    c.args.opened c.in-Ok.desk c.in-Ok.is _ _ _
     (tells_more (ComesOf c.args.task c.in-Ok.desk.office c.do_at-status.new.desk.office) _
     (λ o is. (c.do_at-status.new.desk.office, is, subst (λ (k : Held g.row.S.Denot). Keeps (state g.S.Store k) c.do_at-status.new.desk.office) (sym c.into_connection.ensures.same) c.keeps-in-Ok.ensures.tables))
-    _ _ _ _ _ _ _ c.do_at-status.ensures.told)
+    _ _ _ c.do_at-status.ensures.told)
 
 pub returns-in-Ok-clause-left : goal.returns-in-Ok-clause-left
 returns-in-Ok-clause-left g c =
@@ -25,7 +26,12 @@ returns-in-Ok-clause-left g c =
       stands = subst (λ (k : Held g.row.S.Denot). Keeps (state g.S.Store k) c.do_at-status.new.desk.office) (sym c.into_connection.ensures.same) c.keeps-in-Ok.ensures.tables;
     })
 
+pub returns-in-Ok-clause-clean : goal.returns-in-Ok-clause-clean
+returns-in-Ok-clause-clean g c =
+    subst (λ (r : Result (Kept g.row.S.Denot) (Refusal × Held g.row.S.Denot)). IfOk r (λ d. WasClean c.args.task (state g.S.Store d.store) (state g.S.Store c.into_connection.result))) (sym c.in-Ok.is)
+    (subst (λ (k : Held g.row.S.Denot). WasClean c.args.task (state g.S.Store c.in-Ok.desk.store) (state g.S.Store k)) (sym c.into_connection.ensures.same) c.do_at-status.ensures.clean)
+
 pub returns-in-Err-clause-told : goal.returns-in-Err-clause-told
 returns-in-Err-clause-told g c =
-    err_told (λ (d : Kept g.row.S.Denot) o. (after : State) × ComesOf c.args.task d.office after o × Keeps (state g.S.Store c.in-Err.connection) after) (λ (e : Refusal × Held g.row.S.Denot) o. o ≡ refused e.0) c.args.opened _ (refusal_line c.in-Err.refusal) 1 _ _ _ _ _ _ _
-    c.in-Err.is refl c.refuse.ensures
+    err_told (λ (d : Kept g.row.S.Denot) o. (after : State) × ComesOf c.args.task d.office after o × Keeps (state g.S.Store c.in-Err.connection) after) (λ (e : Refusal × Held g.row.S.Denot) o. o ≡ refused e.0)
+    c.args.opened _ c.in-Err.is _ _ _ c.refuse.ensures

@@ -1,13 +1,15 @@
-use Rattle.std.proofs.Common.{ap, rules, refl}
-use Rattle.cli.proofs.Writers.{err_told, ok_told, served_told}
+use Rattle.std.proofs.Common.{ap, rules, refl, ◌∙◌}
+use Rattle.cli.proofs.Writers.{err_told, ok_told, served_told, tells_more}
 use Rattle.cli.specs.Outcomes.{IsServed, IsUnbound, tells}
 use Rattle.cli.proofs.tasks.serve_bound.Goals as goal
 
 pub returns-in-Ok-clause-told : goal.returns-in-Ok-clause-told
 returns-in-Ok-clause-told g c =
-    ok_told (λ _ o. IsServed c.args.port c.args.count _ _ o) (λ _ o. IsUnbound c.args.port _ _ o) c.args.bound c.in-Ok.listener _ _ _ _ _ _ _ c.in-Ok.is
-    (served_told _ _ _ c.args.port c.args.count _ _ _ _ _ _ _ (λ o is. is) c.serve_at.ensures.told)
+    rw (← c.ends.view_is)
+    (ok_told (λ _ o. IsServed c.args.serving.port c.args.serving.count _ _ o) (λ _ o. IsUnbound c.args.serving.port _ _ o) c.args.bound c.in-Ok.listener c.in-Ok.is _ _ _
+    (served_told _ _ c.args.serving.port c.args.serving.count _ _ _ _ _ _ _ c.serve_at.ensures.told))
 
 pub returns-in-Err-clause-told : goal.returns-in-Err-clause-told
 returns-in-Err-clause-told g c =
-    err_told (λ _ o. IsServed c.args.port c.args.count _ _ o) (λ _ o. IsUnbound c.args.port _ _ o) c.args.bound _ _ 1 _ _ _ _ _ _ _ c.in-Err.is (refl, ap (tells 1) (search rules)) c.print.ensures
+    err_told (λ _ o. IsServed c.args.serving.port c.args.serving.count _ _ o) (λ _ o. IsUnbound c.args.serving.port _ _ o) c.args.bound _ c.in-Err.is _ _ _
+    (tells_more _ (λ o. IsUnbound c.args.serving.port c.args.desk.now.office c.args.desk.now.office o) (λ o is. (refl, is ∙ ap (tells 1) (search rules))) _ _ _ c.tell.ensures)

@@ -8,4 +8,4 @@ either (Ok a) P Q p = inr p
 either (Err e) P Q q = inl q
 
 pub returns-clause-told : goal.returns-clause-told
-returns-clause-told g c = tells_more _ _ (λ o is. either c.bind-bound.result _ _ is) _ _ _ _ _ _ _ c.serve_bound.ensures.told
+returns-clause-told g c = tells_more _ _ (λ o is. either c.bind-bound.result _ _ is) _ _ _ c.serve_bound.ensures.told

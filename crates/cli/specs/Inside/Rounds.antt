@@ -1,0 +1,12 @@
+-- For proofs alone. What a line does with the round of a file.
+use Rattle.std.specs.Prelude.{ℕ, List, Result, String}
+use Rattle.std.specs.declared.alloc.Global.{Global}
+use Rattle.round_files.specs.Rounds.{IsSolved, IsChecked}
+use Rattle.round_files.specs.declared.rounds.Trouble.{Trouble}
+use Rattle.cli.specs.declared.rounds.Way.{Way}
+use Rattle.cli.specs.declared.rounds.Way.TheVariants.{Solve, Check}
+
+-- what comes of the bytes of a round file, each way
+abbrev pub IsDone : Way → List ℕ → Result (String Global) Trouble → Type 0
+IsDone Solve = IsSolved
+IsDone Check = IsChecked

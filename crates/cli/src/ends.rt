@@ -1,0 +1,70 @@
+//! The two ends that a line writes to: standard output and standard error.
+
+ghost use Rattle.std.specs.Prelude.{◌≡◌, []};
+ghost use Rattle.cli.specs.Ends.{CanFail};
+ghost use Rattle.cli.specs.Outcomes.{Tells, tells, prints, refused, reply_text};
+
+use crate::printing::{print, print_reply, refuse};
+use rolls::{Refusal, Reply};
+use std::marker::Model;
+use web::Sink;
+
+/// The writers of results and of messages.
+#[derive(Drop)]
+pub struct Ends<O: Sink, E: Sink> {
+    pub(crate) out: O,
+    pub(crate) err: E,
+}
+
+impl<O: Sink, E: Sink> Model for Ends<O, E> {
+    ghost use Rattle.cli.specs.Ends.{Both};
+    ghost use Rattle.cli.specs.Inside.Ends.{both_code};
+
+    ghost Value = { Both O E };
+
+    ghost coded = { both_code O.code E.code };
+
+    ghost view = { λ e. record { out = record { writer = e.out; written = O.written e.out; failures = O.failures e.out }; err = record { writer = e.err; written = E.written e.err; failures = E.failures e.err } } };
+}
+
+impl<O: Sink, E: Sink> Ends<O, E> {
+    /// The two writers together.
+    pub fn new(out: O, err: E) -> Self
+        ensures out { result.out ≡ record { writer = out; written = O.written out; failures = O.failures out } }
+        ensures err { result.err ≡ record { writer = err; written = E.written err; failures = E.failures err } }
+    {
+        Ends { out, err }
+    }
+
+    /// Prints a result with this status.
+    pub(crate) fn print(&mut self, text: &[u8], status: u8) -> u8
+        requires { CanFail self.old }
+        ensures { Tells (λ o. o ≡ record { out = text.now; err = []; status = status }) self.old self.new result }
+    {
+        print(&mut self.out, text, status)
+    }
+
+    /// Prints what is printed of an answer.
+    pub(crate) fn print_reply(&mut self, reply: &Reply) -> u8
+        requires { CanFail self.old }
+        ensures { Tells (λ o. o ≡ prints (reply_text reply.now)) self.old self.new result }
+    {
+        print_reply(&mut self.out, reply)
+    }
+
+    /// Tells a message with this status.
+    pub(crate) fn tell(&mut self, text: &[u8], status: u8) -> u8
+        requires { CanFail self.old }
+        ensures { Tells (λ o. o ≡ tells status text.now) self.old self.new result }
+    {
+        print(&mut self.err, text, status)
+    }
+
+    /// Tells a refusal.
+    pub(crate) fn refuse(&mut self, refusal: Refusal) -> u8
+        requires { CanFail self.old }
+        ensures { Tells (λ o. o ≡ refused refusal) self.old self.new result }
+    {
+        refuse(&mut self.err, refusal)
+    }
+}
