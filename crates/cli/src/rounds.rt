@@ -3,7 +3,7 @@
 ghost use Rattle.std.specs.Prelude.{◌≡◌, MatchResult};
 ghost use Rattle.cli.specs.Ends.{CanFail};
 ghost use Rattle.cli.specs.Outcomes.{Tells, OnFile};
-ghost use Rattle.cli.specs.Inside.Rounds.{IsDone};
+ghost use Rattle.cli.specs.Inside.Rounds.{ComesBy};
 
 use crate::ends::Ends;
 use crate::files::read_file;
@@ -26,7 +26,7 @@ pub(crate) enum Way {
 
 /// Does this with the round that was read of a file, or gives the refusal of the reading.
 fn do_read(alloc: Global, way: Way, read: Result<Vec<u8>, Refusal>) -> Result<String, Trouble>
-    ensures { MatchResult read (λ bytes. IsDone way bytes.items result) (λ refusal. result ≡ Err (Trouble.Refused refusal)) }
+    ensures { MatchResult read (λ bytes. ComesBy way bytes.items result) (λ refusal. result ≡ Err (Trouble.Refused refusal)) }
 {
     match read {
         Ok(bytes) => match way {
@@ -45,7 +45,7 @@ pub(crate) fn do_file<O: Sink, E: Sink>(
     ends: &mut Ends<O, E>,
 ) -> u8
     requires { CanFail ends.old }
-    ensures { Tells (OnFile (IsDone way)) ends.old ends.new result }
+    ensures { Tells (OnFile (ComesBy way)) ends.old ends.new result }
 {
     let came = do_read(rt.alloc(), way, read_file(rt, file, MOST_BYTES));
     tell_round(came, ends)

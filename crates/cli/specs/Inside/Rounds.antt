@@ -7,6 +7,6 @@ use Rattle.cli.specs.declared.rounds.Way.{Way}
 use Rattle.cli.specs.declared.rounds.Way.TheVariants.{Solve, Check}
 
 -- what comes of the bytes of a round file, each way
-abbrev pub IsDone : Way → List ℕ → Result (String Global) Trouble → Type 0
-IsDone Solve = IsSolved
-IsDone Check = IsChecked
+abbrev pub ComesBy : Way → List ℕ → Result (String Global) Trouble → Type 0
+ComesBy Solve = IsSolved
+ComesBy Check = IsChecked
