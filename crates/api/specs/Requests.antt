@@ -1,5 +1,5 @@
 -- The request of a message.
-use Rattle.std.specs.Prelude.{◌≡◌, ◌⊎◌, List, [], ◌∷◌, ℕ, Option, Some, None, option_map, Result, Ok, Err, codes, if◌then◌else◌}
+use Rattle.std.specs.Prelude.{◌≡◌, ◌⊎◌, Bool, true, false, IsTrue, List, [], ◌∷◌, ℕ, Option, Some, None, option_map, Result, Ok, Err, codes, if◌then◌else◌}
 use Rattle.std.specs.Str.{bytes_eq}
 use Rattle.serde_json.specs.Data.{Data}
 use Rattle.rolls.specs.declared.refusal.Refusal.{Refusal}
@@ -9,6 +9,8 @@ use Rattle.rolls.specs.declared.request.Plain.TheVariants as plain
 use Rattle.rolls.specs.declared.request.Request.{Request}
 use Rattle.rolls.specs.declared.request.Request.TheVariants as request
 use Rattle.wire.specs.Run.{Said}
+use Rattle.api.specs.declared.routes.Call.{Call}
+use Rattle.api.specs.declared.routes.Call.TheVariants as call
 use Rattle.api.specs.declared.routes.Methods.{Methods}
 use Rattle.api.specs.declared.routes.Form.{Form}
 use Rattle.api.specs.declared.routes.Form.TheVariants.{Empty, Members, Raw}
@@ -69,3 +71,40 @@ pub record AsksRoute (said : Said) (asked : Result Request Refusal) : Type 0 whe
 -- what a message asks, or its refusal: by its path, its method and its body, in this order
 abbrev pub Asks : Said → Result Request Refusal → Type 0
 Asks said asked = AsksRoute said asked ⊎ (IsNowhere said.target × (asked ≡ Err no.NoRoute))
+
+-- whether the request of an empty body keeps a code of the path
+abbrev pub keeps_code : Call → Bool
+keeps_code call.GetSupervisor = true
+keeps_code call.GetProject = true
+keeps_code call.GetStudent = true
+keeps_code call.DropList = true
+keeps_code call.OpenRound = false
+keeps_code call.Close = false
+keeps_code call.ReopenRound = false
+keeps_code call.GetRound = false
+keeps_code call.Preview = false
+keeps_code call.RoundText = false
+keeps_code (call.Report kind) = false
+
+-- whether it takes memory to read what a body asks: members, the text of an import and a code do, and a body where none belongs does not
+abbrev pub takes_memory : Form → List ℕ → Bool
+takes_memory (Empty what) [] = keeps_code what
+takes_memory (Empty what) (b ∷ body) = false
+takes_memory (Members what) body = true
+takes_memory (Raw kind) body = true
+
+-- the same where the path has the method; another method takes none
+abbrev pub asked_takes_memory : Option Form → List ℕ → Bool
+asked_takes_memory None body = false
+asked_takes_memory (Some form) body = takes_memory form body
+
+-- it takes memory to read what a message asks
+pub record TakesMemory (said : Said) : Type 0 where
+  pub methods : Methods
+  pub values : List (List ℕ)
+  pub path : Names said.target methods values
+  pub takes : IsTrue (asked_takes_memory (by_method methods said.method) said.body)
+
+-- what is read of a message: what it asks, or refusal 1 where it takes memory to read it
+abbrev pub IsReadAs : Said → Result Request Refusal → Type 0
+IsReadAs said read = Asks said read ⊎ (TakesMemory said × (read ≡ Err no.Memory))

@@ -1,10 +1,10 @@
 //! What a message asks.
-ghost use Rattle.std.specs.Prelude.{◌≡◌, ◌⊎◌, [], ◌∷◌, IfOk, IfErr, MatchOption};
+ghost use Rattle.std.specs.Prelude.{◌≡◌, ◌⊎◌, [], ◌∷◌, IfOk, IfErr, IsTrue, MatchOption};
 ghost use Rattle.std.specs.Str.{bytes_eq};
 ghost use Rattle.serde_json.specs.View.{view};
 ghost use Rattle.api.specs.Routes.{all_routes, IsNowhere};
 ghost use Rattle.api.specs.Inside.Routes.{NamesBy};
-ghost use Rattle.api.specs.Requests.{put_by, by_body, by_method, asked_by, Asks};
+ghost use Rattle.api.specs.Requests.{put_by, by_body, by_method, asked_by, takes_memory, asked_takes_memory, IsReadAs};
 
 use crate::members::{choices_of, name_of, project_members, read_json, supervisor_members};
 use crate::routes::{Call, Form, Methods, Place, Put, called, place_of, router};
@@ -58,8 +58,8 @@ fn put_by(alloc: Global, what: Put, code: &str, value: &Value) -> Result<Option<
 fn object_asks(alloc: Global, what: Put, code: &str, body: &[u8]) -> Result<Plain, Refusal>
     ensures ok { IfOk result (λ plain.
         by_body (Form.Members what) code.now body.now ≡ Ok (Request.Plain plain)) }
-    ensures err { IfErr result (λ refusal. (refusal ≡ Refusal.Memory)
-        ⊎ (by_body (Form.Members what) code.now body.now ≡ Err refusal)) }
+    ensures err { IfErr result (λ refusal. (by_body (Form.Members what) code.now body.now ≡ Err refusal)
+        ⊎ (refusal ≡ Refusal.Memory)) }
 {
     let value = read_json(alloc, body)?;
     match put_by(alloc, what, code, &value)? {
@@ -71,8 +71,8 @@ fn object_asks(alloc: Global, what: Put, code: &str, body: &[u8]) -> Result<Plai
 /// What an empty body asks.
 fn empty_asks(alloc: Global, call: Call, code: &str, body: &[u8]) -> Result<Request, Refusal>
     ensures ok { IfOk result (λ request. by_body (Form.Empty call) code.now body.now ≡ Ok request) }
-    ensures err { IfErr result (λ refusal. (refusal ≡ Refusal.Memory)
-        ⊎ (by_body (Form.Empty call) code.now body.now ≡ Err refusal)) }
+    ensures err { IfErr result (λ refusal. (by_body (Form.Empty call) code.now body.now ≡ Err refusal)
+        ⊎ (IsTrue (takes_memory (Form.Empty call) body.now) × (refusal ≡ Refusal.Memory))) }
 {
     if !body.is_empty() {
         return Err(Refusal::Members);
@@ -102,7 +102,8 @@ fn import_asks(
 /// What a body asks.
 fn by_body(alloc: Global, form: Form, code: &str, body: &[u8]) -> Result<Request, Refusal>
     ensures ok { IfOk result (λ request. by_body form code.now body.now ≡ Ok request) }
-    ensures err { IfErr result (λ refusal. (refusal ≡ Refusal.Memory) ⊎ (by_body form code.now body.now ≡ Err refusal)) }
+    ensures err { IfErr result (λ refusal. (by_body form code.now body.now ≡ Err refusal)
+        ⊎ (IsTrue (takes_memory form body.now) × (refusal ≡ Refusal.Memory))) }
 {
     match form {
         Form::Empty(call) => empty_asks(alloc, call, code, body),
@@ -157,8 +158,9 @@ fn by_path<'t>(router: &Router<Methods>, target: &'t [u8]) -> Option<Place<'t>>
 fn asked_at(alloc: Global, place: &Place, method: &[u8], body: &[u8]) -> Result<Request, Refusal>
     ensures ok { IfOk result (λ request. asked_by (by_method place.now.methods method.now) place.now.code.now body.now
         ≡ Ok request) }
-    ensures err { IfErr result (λ refusal. (refusal ≡ Refusal.Memory)
-        ⊎ (asked_by (by_method place.now.methods method.now) place.now.code.now body.now ≡ Err refusal)) }
+    ensures err { IfErr result (λ refusal.
+        (asked_by (by_method place.now.methods method.now) place.now.code.now body.now ≡ Err refusal)
+        ⊎ (IsTrue (asked_takes_memory (by_method place.now.methods method.now) body.now) × (refusal ≡ Refusal.Memory))) }
 {
     match by_method(place.methods, method) {
         None => Err(Refusal::WrongMethod),
@@ -183,12 +185,9 @@ impl Routes {
         }
     }
 
-    /// What a message asks, or why it asks nothing.
+    /// What a message asks, or why it asks nothing. `Memory` comes only where it takes memory to read what is asked.
     pub fn request(&self, method: &[u8], target: &[u8], body: &[u8]) -> Result<Request, Refusal>
-        ensures ok { IfOk result (λ request.
-            Asks (record { method = method.now; target = target.now; body = body.now }) (Ok request)) }
-        ensures err { IfErr result (λ refusal. (refusal ≡ Refusal.Memory)
-            ⊎ Asks (record { method = method.now; target = target.now; body = body.now }) (Err refusal)) }
+        ensures { IsReadAs (record { method = method.now; target = target.now; body = body.now }) result }
     {
         match by_path(&self.router, target) {
             None => Err(Refusal::NoRoute),

@@ -1,7 +1,8 @@
 //! What the paths of messages name.
-ghost use Rattle.std.specs.Prelude.{◌≡◌, ℕ, List, [], ◌∷◌, MatchOption, IfOk, IfErr, map, codes};
+ghost use Rattle.std.specs.Prelude.{◌≡◌, ℕ, List, [], ◌∷◌, MatchOption, IfOk, IfErr, OnErr, IsTrue, map, codes};
 ghost use Rattle.std.specs.Str.{all_ascii_digits};
 ghost use Rattle.api.specs.Routes.{called, number_of, fits, read, asked, entry, list, numbered, import, all_routes, IsNowhere};
+ghost use Rattle.api.specs.Requests.{keeps_code};
 ghost use Rattle.api.specs.Inside.Routes.{written, NamesBy};
 
 use matchit::{InsertError, Router};
@@ -93,9 +94,10 @@ pub fn number_of(text: &str) -> Option<u32>
     text.parse::<u32>().ok()
 }
 
-/// The request of an empty body.
+/// The request of an empty body. It takes memory where it keeps a code.
 pub fn called(alloc: Global, call: Call, code: &str) -> Result<Request, AllocError>
-    ensures { IfOk result (λ request. request ≡ called call code.now) }
+    ensures ok { IfOk result (λ request. request ≡ called call code.now) }
+    ensures memory { OnErr result (IsTrue (keeps_code call)) }
 {
     Ok(match call {
         Call::GetSupervisor => Request::Plain(Plain::GetSupervisor {
