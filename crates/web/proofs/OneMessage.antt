@@ -1,52 +1,60 @@
 -- What comes of a message.
-use Rattle.std.proofs.Common.{◌≡◌, ◌⊎◌, inl, inr, ℕ, List, Result, Ok, Err, refl, ap, subst, ◌∙◌}
+use Rattle.std.proofs.Common.{◌≡◌, ◌⊎◌, inl, inr, ℕ, List, Option, None, IfSome, Result, Ok, Err, refl, sym, subst}
 use Rattle.rolls.specs.declared.refusal.Refusal.{Refusal}
 use Rattle.rolls.specs.declared.refusal.Refusal.TheVariants.{Memory}
 use Rattle.rolls.specs.declared.request.Plain.TheVariants.{PutSupervisor, PutProject, PutStudent, OpenRound, PutList, DropList, ReopenRound, GetSupervisor, GetProject, GetStudent, GetRound}
 use Rattle.rolls.specs.declared.request.Reply.{Reply}
+use Rattle.rolls.specs.declared.request.Reply.TheVariants as reply
 use Rattle.rolls.specs.declared.request.Request.{Request}
 use Rattle.rolls.specs.declared.request.Request.TheVariants as request
 use Rattle.rolls.specs.State.{State}
-use Rattle.rolls.specs.Run.{Makes, Step}
+use Rattle.rolls.specs.Refusing.{refusal_of}
+use Rattle.rolls.specs.Run.{Makes, Step, refusal}
 use Rattle.allotment.specs.Layers.{layers}
-use Rattle.wire.specs.Run.{Said}
-use Rattle.api.specs.Requests.{Asks}
+use Rattle.desk.specs.Keeping.{repeated_rows}
 use Rattle.api.specs.Texts.{IsRead, refusal_text, text_of}
-use Rattle.desk.specs.Sessions.{IsToldRight}
-use Rattle.web.specs.Serving.{AnswersMessage}
-
--- a message that asks nothing, or for which there is no memory
-pub refused_here : (o : State) (said : Said) (bytes : List ℕ) (refusal : Refusal) → (refusal ≡ Memory) ⊎ Asks said (Err refusal) → bytes ≡ refusal_text refusal
-    → AnswersMessage o said bytes o
-refused_here o said bytes refusal (inl e) b = inr (b ∙ ap refusal_text e, refl)
-refused_here o said bytes refusal (inr asks) b = inl (Err refusal, asks, (b, refl))
+use Rattle.web.specs.Serving.{Answers, Gets}
 
 -- an answer that is the one of a change has no text of the office in it
 no_read : (a b : Reply) → a ≡ b → IsRead (Ok a) → IsRead (Ok b)
 no_read a b is read = subst (λ (r : Reply). IsRead (Ok r)) is read
 
--- a request whose answer has such texts leaves the office
-read_stays : (o n : State) (q : Request) (a : Reply) → IsRead (Ok a) → Makes layers o q a n → n ≡ o
-read_stays o n (request.Plain (PutSupervisor code label quota)) a read made = absurd (no_read a _ made.0 read)
-read_stays o n (request.Plain (PutProject code label supervisor quota)) a read made = absurd (no_read a _ made.0 read)
-read_stays o n (request.Plain (PutStudent code label)) a read made = absurd (no_read a _ made.0 read)
-read_stays o n (request.Plain OpenRound) a read made = absurd (no_read a _ made.0 read)
-read_stays o n (request.Plain (PutList student choices)) a read made = absurd (no_read a _ made.0 read)
-read_stays o n (request.Plain (DropList student)) a read made = absurd (no_read a _ made.0 read)
-read_stays o n (request.Plain ReopenRound) a read made = absurd (no_read a _ made.0 read)
-read_stays o n (request.Plain (GetSupervisor code)) a read made = made.1
-read_stays o n (request.Plain (GetProject code)) a read made = made.1
-read_stays o n (request.Plain (GetStudent code)) a read made = made.1
-read_stays o n (request.Plain (GetRound round)) a read made = made.1
-read_stays o n request.Close a read made = absurd (no_read a _ made.3 read)
-read_stays o n request.Preview a read made = made.4
-read_stays o n request.RoundText a read made = made.1
-read_stays o n (request.Report kind round) a read made = made.1
-read_stays o n (request.Import id kind bytes) a read made = absurd (no_read a _ made.0 read)
+-- nothing is owed of what there is none of
+owes_none : {A : Type 0} (found : Option A) (P : A → Type 0) → found ≡ None → IfSome found P
+owes_none {A} found P none = subst (λ (o : Option A). IfSome o P) (sym none) tt
 
--- a message that asks a request, answered by the text of its answer, or for want of memory
-pub answered_here : (o n : State) (said : Said) (bytes : List ℕ) (q : Request) (a : Result Reply Refusal) → Asks said (Ok q) → Step layers o q a n → IsToldRight o q a
-    → (bytes ≡ text_of a) ⊎ (IsRead a × (bytes ≡ refusal_text Memory)) → AnswersMessage o said bytes n
-answered_here o n said bytes q a asks step told (inl b) = inl (Ok q, asks, (a, step, told, b))
-answered_here o n said bytes q (Ok reply) asks step told (inr read) = inr (read.1, read_stays o n q reply read.0 step.1)
-answered_here o n said bytes q (Err refusal) asks step told (inr read) = absurd read.0
+-- a request that is not refused, and is neither a read of a round nor a repeated import, may want memory
+wants_memory : (o n : State) (q : Request) → refusal_of o q ≡ None → ((number : ℕ) → q ≡ request.Plain (GetRound number) → ⊥) → repeated_rows o q ≡ None → n ≡ o
+    → Gets o q (Err Memory) n
+wants_memory o n q allowed no_round new stays = record {
+  step = (stays, inl refl);
+  right = (owes_none (refusal_of o q) (λ r. Err Memory ≡ Err r) allowed, λ is. cc);
+  round = λ number is _. absurd (no_round number is);
+  repeated = λ _. owes_none (repeated_rows o q) (λ rows. Err Memory ≡ Ok (reply.Rows rows)) new;
+}
+
+-- where there is no memory for the text of an answer, it is as if the request had found none: it is a read
+text_wants : (o n : State) (q : Request) (a : Reply) → IsRead (Ok a) → refusal layers o q ≡ None → Makes layers o q a n → Gets o q (Err Memory) n
+text_wants o n (request.Plain (PutSupervisor code label quota)) a read allowed made = absurd (no_read a _ made.0 read)
+text_wants o n (request.Plain (PutProject code label supervisor quota)) a read allowed made = absurd (no_read a _ made.0 read)
+text_wants o n (request.Plain (PutStudent code label)) a read allowed made = absurd (no_read a _ made.0 read)
+text_wants o n (request.Plain OpenRound) a read allowed made = absurd (no_read a _ made.0 read)
+text_wants o n (request.Plain (PutList student choices)) a read allowed made = absurd (no_read a _ made.0 read)
+text_wants o n (request.Plain (DropList student)) a read allowed made = absurd (no_read a _ made.0 read)
+text_wants o n (request.Plain ReopenRound) a read allowed made = absurd (no_read a _ made.0 read)
+text_wants o n (request.Plain (GetSupervisor code)) a read allowed made = wants_memory o n _ allowed (λ number is. cc) refl made.1
+text_wants o n (request.Plain (GetProject code)) a read allowed made = wants_memory o n _ allowed (λ number is. cc) refl made.1
+text_wants o n (request.Plain (GetStudent code)) a read allowed made = wants_memory o n _ allowed (λ number is. cc) refl made.1
+text_wants o n (request.Plain (GetRound round)) a read allowed made = absurd (no_read a _ made.0 read)
+text_wants o n request.Close a read allowed made = absurd (no_read a _ made.3 read)
+text_wants o n request.Preview a read allowed made = absurd (no_read a _ made.3 read)
+text_wants o n request.RoundText a read allowed made = wants_memory o n _ allowed (λ number is. cc) refl made.1
+text_wants o n (request.Report kind round) a read allowed made = wants_memory o n _ allowed (λ number is. cc) refl made.1
+text_wants o n (request.Import id kind bytes) a read allowed made = absurd (no_read a _ made.0 read)
+
+-- a request that gets an answer is answered by its text, or as one that wants memory
+pub answered_here : (o n : State) (bytes : List ℕ) (q : Request) (a : Result Reply Refusal) → Gets o q a n → (bytes ≡ text_of a) ⊎ (IsRead a × (bytes ≡ refusal_text Memory))
+    → Answers o (Ok q) bytes n
+answered_here o n bytes q a gets (inl told) = (a, gets, told)
+answered_here o n bytes q (Ok reply) gets (inr told) = (Err Memory, text_wants o n q reply told.0 gets.step.0 gets.step.1, told.1)
+answered_here o n bytes q (Err refused) gets (inr told) = absurd told.0

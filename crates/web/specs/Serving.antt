@@ -1,31 +1,44 @@
 -- What the office answers to a message.
-use Rattle.std.specs.Prelude.{◌≡◌, ◌⊎◌, ℕ, List, Result, Ok, Err}
+use Rattle.std.specs.Prelude.{◌≡◌, ℕ, List, None, Result, Ok, Err, IsOk}
 use Rattle.rolls.specs.declared.refusal.Refusal.{Refusal}
 use Rattle.rolls.specs.declared.refusal.Refusal.TheVariants as no
+use Rattle.rolls.specs.declared.request.Plain.TheVariants as plain
 use Rattle.rolls.specs.declared.request.Reply.{Reply}
+use Rattle.rolls.specs.Refusing.{refusal_of}
 use Rattle.rolls.specs.State.{State}
 use Rattle.rolls.specs.declared.request.Request.{Request}
+use Rattle.rolls.specs.declared.request.Request.TheVariants as request
 use Rattle.rolls.specs.Run.{Step}
 use Rattle.allotment.specs.Layers.{layers}
+use Rattle.desk.specs.Keeping.{AnswersKept}
 use Rattle.desk.specs.Sessions.{IsToldRight}
 use Rattle.wire.specs.declared.outcome.End.{End}
 use Rattle.wire.specs.declared.outcome.End.TheVariants.{Closed, Unfinished, BadHead, TooLarge, Hundred}
 use Rattle.wire.specs.Run.{Said}
-use Rattle.api.specs.Requests.{Asks}
+use Rattle.api.specs.Requests.{IsReadAs}
 use Rattle.api.specs.Texts.{refusal_text, text_of}
 
--- A request is answered by the text of the answer that its step gives: a refusal by name as itself, and a fault of the storage only to
--- what changes the office. A refused message leaves the office, and its refusal is the answer.
+-- a read of a known round answers
+abbrev pub AnswersRound : State → Request → Result Reply Refusal → Type 0
+AnswersRound before asked answer = (number : ℕ) → asked ≡ request.Plain (plain.GetRound number) → refusal_of before asked ≡ None → IsOk answer
+
+-- A step of the office, and its answer. A refusal by name is answered as itself, and a fault of the storage is told of what changes the
+-- office alone; a read of a known round answers, and so does a kept import that comes once more.
+pub record Gets (before : State) (asked : Request) (answer : Result Reply Refusal) (after : State) : Type 0 where
+  pub step : Step layers before asked answer after
+  pub right : IsToldRight before asked answer
+  pub round : AnswersRound before asked answer
+  pub repeated : AnswersKept before asked answer
+
+-- A request is answered by the text of the answer that it gets. What is no request leaves the office, and its refusal is the answer.
 abbrev pub Answers : State → Result Request Refusal → List ℕ → State → Type 0
-Answers before (Ok asked) bytes after =
-    (answer : Result Reply Refusal) × Step layers before asked answer after × IsToldRight before asked answer × (bytes ≡ text_of answer)
+Answers before (Ok asked) bytes after = (answer : Result Reply Refusal) × Gets before asked answer after × (bytes ≡ text_of answer)
 Answers before (Err refusal) bytes after = (bytes ≡ refusal_text refusal) × (after ≡ before)
 
--- a message is answered as what it asks is, or for want of memory refused, which leaves the office
+-- A message is answered as what is read of it. So want of memory takes the place of its answer where it takes memory to read it, and
+-- else only where it may be the answer of the request; never after a change.
 abbrev pub AnswersMessage : State → Said → List ℕ → State → Type 0
-AnswersMessage before said bytes after =
-    ((asked : Result Request Refusal) × Asks said asked × Answers before asked bytes after)
-    ⊎ ((bytes ≡ refusal_text no.Memory) × (after ≡ before))
+AnswersMessage before said bytes after = (read : Result Request Refusal) × IsReadAs said read × Answers before read bytes after
 
 -- the refusal of an end that is answered: one that is not above a limit is a bad head
 abbrev pub refusal_at : End → Refusal
