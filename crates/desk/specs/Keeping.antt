@@ -1,5 +1,5 @@
 -- What a desk keeps between requests, and what a crash leaves of one.
-use Rattle.std.specs.Prelude.{◌≡◌, ℕ, ◌||◌, ◌++◌, ◌∷◌, IsTrue, Bool, is_some, List, Result, Ok, Option, None, IfSome}
+use Rattle.std.specs.Prelude.{◌≡◌, ℕ, ◌||◌, ◌++◌, ◌∷◌, IsTrue, Bool, is_some, List, Result, Ok, IsOk, Option, None, IfSome}
 use Rattle.sqlite.specs.Effect.{Database}
 use Rattle.sqlite.specs.State.{State as Seen, HasCleanDisk}
 use Rattle.rolls.specs.declared.request.Reply.{Reply}
@@ -8,6 +8,7 @@ use Rattle.rolls.specs.State.{State, kept_rows}
 use Rattle.rolls.specs.declared.refusal.Refusal.{Refusal}
 use Rattle.rolls.specs.declared.request.Request.{Request}
 use Rattle.rolls.specs.declared.request.Request.TheVariants as request
+use Rattle.rolls.specs.declared.request.Plain.TheVariants as plain
 use Rattle.rolls.specs.Reads.{changes_nothing}
 use Rattle.rolls.specs.Refusing.{refusal_of}
 use Rattle.rolls.specs.Fit.{IsFit}
@@ -60,3 +61,7 @@ repeated_rows office (request.Report kind round) = None
 -- a kept import that is asked for once more, with the same kind and bytes, answers its own number of rows
 abbrev pub AnswersKept : State → Request → Result Reply Refusal → Type 0
 AnswersKept office request answer = refusal_of office request ≡ None → IfSome (repeated_rows office request) (λ rows. answer ≡ Ok (reply.Rows rows))
+
+-- a read of a known round answers
+abbrev pub AnswersRound : State → Request → Result Reply Refusal → Type 0
+AnswersRound office asked answer = (number : ℕ) → asked ≡ request.Plain (plain.GetRound number) → refusal_of office asked ≡ None → IsOk answer

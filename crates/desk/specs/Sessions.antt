@@ -14,7 +14,7 @@ use Rattle.rolls.specs.Run.{Step}
 use Rattle.solver.specs.Sitting.{Sitting}
 use Rattle.allotment.specs.Layers.{layers}
 use Rattle.allotment.specs.Sittings.{SitsIn, IsOneMore}
-use Rattle.desk.specs.Keeping.{AnswersKept}
+use Rattle.desk.specs.Keeping.{AnswersKept, AnswersRound}
 use Rattle.desk.specs.declared.sessions.Fate.{Fate}
 use Rattle.desk.specs.declared.sessions.Fate.TheVariants.{Stays, Starts, Joins, Ends}
 
@@ -74,7 +74,7 @@ IsToldRight o q a = IfSome (refusal_of o q) (λ r. a ≡ Err r) × (a ≡ Err St
 -- What takes no memory is answered: a read of a round that is there, a kept import that comes once more, and a preview that is
 -- read from a session.
 pub record AnswersAtOnce (o : State) (kept : Option Sitting) (q : Request) (a : Result Reply Refusal) : Type 0 where
-  pub round : (number : ℕ) → q ≡ request.Plain (GetRound number) → refusal_of o q ≡ None → IsOk a
+  pub round : AnswersRound o q a
   pub repeated : AnswersKept o q a
   pub preview : q ≡ request.Preview → refusal_of o q ≡ None → IsTrue (is_some kept) → IsOk a
 

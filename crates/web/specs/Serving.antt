@@ -1,26 +1,19 @@
 -- What the office answers to a message.
-use Rattle.std.specs.Prelude.{◌≡◌, ℕ, List, None, Result, Ok, Err, IsOk}
+use Rattle.std.specs.Prelude.{◌≡◌, ℕ, List, Result, Ok, Err}
 use Rattle.rolls.specs.declared.refusal.Refusal.{Refusal}
 use Rattle.rolls.specs.declared.refusal.Refusal.TheVariants as no
-use Rattle.rolls.specs.declared.request.Plain.TheVariants as plain
 use Rattle.rolls.specs.declared.request.Reply.{Reply}
-use Rattle.rolls.specs.Refusing.{refusal_of}
 use Rattle.rolls.specs.State.{State}
 use Rattle.rolls.specs.declared.request.Request.{Request}
-use Rattle.rolls.specs.declared.request.Request.TheVariants as request
 use Rattle.rolls.specs.Run.{Step}
 use Rattle.allotment.specs.Layers.{layers}
-use Rattle.desk.specs.Keeping.{AnswersKept}
+use Rattle.desk.specs.Keeping.{AnswersKept, AnswersRound}
 use Rattle.desk.specs.Sessions.{IsToldRight}
 use Rattle.wire.specs.declared.outcome.End.{End}
 use Rattle.wire.specs.declared.outcome.End.TheVariants.{Closed, Unfinished, BadHead, TooLarge, Hundred}
 use Rattle.wire.specs.Run.{Said}
 use Rattle.api.specs.Requests.{IsReadAs}
 use Rattle.api.specs.Texts.{refusal_text, text_of}
-
--- a read of a known round answers
-abbrev pub AnswersRound : State → Request → Result Reply Refusal → Type 0
-AnswersRound before asked answer = (number : ℕ) → asked ≡ request.Plain (plain.GetRound number) → refusal_of before asked ≡ None → IsOk answer
 
 -- A step of the office, and its answer. A refusal by name is answered as itself, and a fault of the storage is told of what changes the
 -- office alone; a read of a known round answers, and so does a kept import that comes once more.
