@@ -1,5 +1,5 @@
 //! The bytes of answers.
-ghost use Rattle.std.specs.Prelude.{◌≡◌, ◌≤◌, ◌⊎◌, ◌++◌, Some, length, codes, IfOk, OnErr, string_bytes};
+ghost use Rattle.std.specs.Prelude.{◌≡◌, ◌≤◌, ◌⊎◌, ◌++◌, Some, length, codes, decimal, IfOk, OnErr, string_bytes};
 ghost use Rattle.arrayvec.specs.ArrayVec.{array_vec_len};
 ghost use Rattle.rolls.specs.Told.{status_of};
 ghost use Rattle.serde_json.specs.View.{view};
@@ -7,7 +7,7 @@ ghost use Rattle.serde_json.specs.Written.{compact_text};
 ghost use Rattle.wire.specs.declared.TheConstants.{MOST_SHORT_BODY};
 ghost use Rattle.wire.specs.Answers.{answer_bytes};
 ghost use Rattle.api.specs.Text.{reason_of, typed_answer, json_answer};
-ghost use Rattle.api.specs.Texts.{refusal_text, row_text, rows_text, supervisor_data, project_data, list_data, placed_data, student_data, truth_text, opened_text, round_text, closed_text, preview_text, reply_text, text_of, IsRead};
+ghost use Rattle.api.specs.Texts.{refusal_text, row_text, supervisor_data, project_data, list_data, placed_data, student_data, truth_text, round_text, closed_text, preview_text, reply_text, text_of, IsRead};
 
 use crate::answers::{JSON, TEXT, answer_head, json, push, push_labelled, push_numbers, refused};
 use arrayvec::ArrayVec;
@@ -70,24 +70,14 @@ fn round_answer(body: &ShortText) -> ShortText
     json(StatusCode::OK, body.as_slice())
 }
 
-/// The body of an import.
-fn rows_body(rows: u32) -> ShortText
-    ensures items { result.items ≡ rows_text rows }
+/// The body of one member, which is a number.
+fn number_body(member: &[u8], number: u32) -> ShortText
+    requires { length member.now ≤ 20 }
+    ensures items { result.items ≡ member.now ++ decimal number ++ codes "}" }
     ensures len { array_vec_len result ≤ MOST_SHORT_BODY }
 {
     let mut out = ArrayVec::new();
-    push_labelled(&mut out, b"{\"rows\":", rows);
-    push(&mut out, b"}");
-    out
-}
-
-/// The body of an opened round.
-fn opened_body(round: u32) -> ShortText
-    ensures items { result.items ≡ opened_text round }
-    ensures len { array_vec_len result ≤ MOST_SHORT_BODY }
-{
-    let mut out = ArrayVec::new();
-    push_labelled(&mut out, b"{\"round\":", round);
+    push_labelled(&mut out, member, number);
     push(&mut out, b"}");
     out
 }
@@ -306,7 +296,10 @@ fn reply_answer(alloc: Global, reply: &Reply) -> Result<Answer, AllocError>
             let body = student_text(alloc, name.as_str(), list, placed)?;
             with_head(alloc, JSON, body.as_str())
         }
-        Reply::Opened { round } => Ok(Answer::Short(round_answer(&opened_body(*round)))),
+        Reply::Opened { round } => {
+            let body = number_body(b"{\"round\":", *round);
+            Ok(Answer::Short(round_answer(&body)))
+        },
         Reply::Round {
             number,
             is_open,
@@ -326,7 +319,10 @@ fn reply_answer(alloc: Global, reply: &Reply) -> Result<Answer, AllocError>
             Ok(Answer::Short(round_answer(&preview_body(*size, profile))))
         }
         Reply::Text(text) => with_head(alloc, TEXT, text.as_str()),
-        Reply::Rows(rows) => Ok(Answer::Short(round_answer(&rows_body(*rows)))),
+        Reply::Rows(rows) => {
+            let body = number_body(b"{\"rows\":", *rows);
+            Ok(Answer::Short(round_answer(&body)))
+        },
     }
 }
 
