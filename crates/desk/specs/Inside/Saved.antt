@@ -1,5 +1,5 @@
 -- For proofs alone. How a change that was answered or refused leaves the tables.
-use Rattle.std.specs.Prelude.{◌≡◌, ℕ, IsTrue, IsErr, OnOk, Option, Result}
+use Rattle.std.specs.Prelude.{ℕ, IsTrue, IsErr, OnOk, Option, Result}
 use Rattle.sqlite.specs.Effect.{Database}
 use Rattle.sqlite.specs.State.{State as Seen, HasCleanDisk, Survives}
 use Rattle.tables.specs.Causes.{IsCaused}

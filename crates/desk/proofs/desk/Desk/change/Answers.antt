@@ -1,4 +1,4 @@
-use Rattle.std.proofs.Common.{◌≡◌, Option, Result, Ok, Err, IfSome, IsTrue, refl, sym, ap, subst, ◌∙◌}
+use Rattle.std.proofs.Common.{◌≡◌, Option, Result, Ok, Err, IfSome, sym, ap, subst, ◌∙◌}
 use Rattle.sqlite.specs.State.{State as Seen}
 use Rattle.sqlite.specs.Held.{state}
 use Rattle.rolls.specs.State.{State}
