@@ -1,0 +1,54 @@
+#!/usr/bin/env python3
+"""Checks by its prices that the matching of a round text is a greedy maximum matching.
+
+tools/check_round.py FILE     prints what `spadesk check FILE` prints, of a text without a bad line
+
+It knows the format and the five conditions (docs/FORMATS.md, docs/PROOF.md) and nothing else of this repository: who does not
+trust the program can read these lines. Rows of nine numbers are compared as Python compares tuples, the first number first.
+"""
+import sys
+
+ZERO = (0,) * 9
+
+
+def added(*rows):
+    return tuple(map(sum, zip(ZERO, *rows)))
+
+
+def weight(rank):
+    """What a pair weighs: 1 for the size and 1 at its rank."""
+    return tuple(int(place in (0, rank)) for place in range(9))
+
+
+def checked(text):
+    quota, offerer, lists, pairs, price = {}, {}, {}, {}, {}
+    for kind, code, *rest in (line.split(",") for line in text.splitlines()):
+        if kind == "S":
+            quota["Z", code] = int(rest[0])
+        elif kind == "P":
+            offerer[code], quota["Y", code] = rest[0], int(rest[1])
+        elif kind == "C":
+            lists[code] = rest
+        elif kind == "M":
+            pairs[code] = rest[0]
+        else:
+            price[kind, code] = tuple(map(int, rest))
+    owed = [*quota, *(("U", student) for student in lists)]
+    taken = [("Y", project) for project in pairs.values()] + [("Z", offerer[project]) for project in pairs.values()]
+    if any(taken.count(node) > quota[node] for node in set(taken)):
+        return "fault 1"
+    if set(price) != set(owed):
+        return "fault 2"
+    if any(row < ZERO for row in price.values()):
+        return "fault 3"
+    for student, choices in lists.items():
+        for rank, project in enumerate(choices, 1):
+            if added(price["U", student], price["Y", project], price["Z", offerer[project]]) < weight(rank):
+                return f"fault 4 {student} {rank}"
+    worth = added(*(weight(lists[student].index(project) + 1) for student, project in pairs.items()))
+    paid = added(*(tuple(quota.get(node, 1) * number for number in row) for node, row in price.items()))
+    return "fault 5" if worth != paid else f"best size {worth[0]} profile {' '.join(map(str, worth[1:]))}"
+
+
+if __name__ == "__main__":
+    print(checked(open(sys.argv[1], encoding="ascii").read()))
