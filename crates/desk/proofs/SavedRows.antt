@@ -32,6 +32,7 @@ hold_same db rows others same h = record {
   apart = h.apart;
   list = h.list;
   at = record { apart = h.at.apart; each = λ k. h.at.each k ∙ same k };
+  beyond = h.beyond;
   editions = h.editions;
   rolls = h.rolls;
 }

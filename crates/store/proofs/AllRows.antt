@@ -2,7 +2,7 @@
 use Rattle.std.proofs.Common.{◌≡◌, ◌≢◌, ◌⊎◌, inl, inr, ℕ, ◌+◌, ◌<◌, length, get_or, take, arith, List, [], ◌∷◌, ◌++◌, Bool, true, false, cond, filter, map, refl, sym, ap, subst, ◌∙◌, append-nil, IsTrue}
 use Rattle.std.specs.List.{list_all}
 use Rattle.std.proofs.lemmas.Bool.{and_parts, false_from_ne_true}
-use Rattle.std.proofs.lemmas.List.{map-append, take_more, get_or_default}
+use Rattle.std.proofs.lemmas.List.{map-append, take_all, take_more, get_or_default}
 use Rattle.sqlite_rules.specs.Lists.{Has}
 use Rattle.sqlite_rules.proofs.ListLemmas.{has_either, has_left, has_right, has_at}
 use Rattle.sqlite.specs.Order.{Row as Cells}
@@ -10,10 +10,10 @@ use Rattle.sqlite.specs.Effect.{Database}
 use Rattle.sqlite.specs.State.{State as Seen, IsUnchanged}
 use Rattle.rolls.specs.declared.row.Row.{Row}
 use Rattle.tables.specs.declared.table.Table.{Table}
-use Rattle.store.specs.Rows.{columns, is_in, columns_of, rolls}
+use Rattle.store.specs.Rows.{columns, is_in, columns_of}
 use Rattle.store.specs.Inside.Reading.{HoldsCells, ReadsTable, ReadsSome, HoldsNoRow, ReadsAll, HoldsUnread}
 use Rattle.tables.proofs.Runs.{decide_table}
-use Rattle.store.proofs.Columns.{in_once, not_before, among_rolls, is_roll}
+use Rattle.store.proofs.Columns.{are_once, in_once, is_among, not_before, stands_among}
 
 filter_append_go : {X : Type 0} (p : X → Bool) (x : X) (xs ys : List X) (b : Bool) → filter p (xs ++ ys) ≡ filter p xs ++ filter p ys → cond b (x ∷ filter p (xs ++ ys)) (filter p (xs ++ ys)) ≡ cond b (x ∷ filter p xs) (filter p xs) ++ filter p ys
 filter_append_go p x xs ys true later = ap (λ zs. x ∷ zs) later
@@ -65,8 +65,8 @@ unchanged_then a b c p q = (
 )
 
 -- nothing was read yet
-pub reads_none : (s : Seen) → ReadsSome 0 [] s s
-reads_none s = record {
+pub reads_none : (tables : List Table) (s : Seen) → ReadsSome tables 0 [] s s
+reads_none tables s = record {
   opened = inl (refl, refl);
   same = λ up. (record { was_open = up; is_open = up; now_is = refl; committed_is = refl; mode = refl }, record { changes = refl; last_rowid = refl }, refl);
   holds = λ table h. absurd h;
@@ -74,32 +74,32 @@ reads_none s = record {
 }
 
 -- a connection that is open after readings was open before them
-was_open : (count : ℕ) (rows : List Row) (a b : Seen) → ReadsSome count rows a b → IsTrue b.is_open → IsTrue a.is_open
-was_open count rows a b s up = elim s.opened [ inl none ↦ subst IsTrue none.1 up | inr was ↦ was ]
+was_open : (tables : List Table) (count : ℕ) (rows : List Row) (a b : Seen) → ReadsSome tables count rows a b → IsTrue b.is_open → IsTrue a.is_open
+was_open tables count rows a b s up = elim s.opened [ inl none ↦ subst IsTrue none.1 up | inr was ↦ was ]
 
-module _ (i : ℕ) (d : Table) (rows more : List Row) (a b c : Seen) (low : i < length rolls) (s : ReadsSome i rows a b) (r : ReadsTable (get_or rolls i d) more b c) where
+module _ (tables : List Table) (alone : are_once tables ≡ true) (i : ℕ) (d : Table) (rows more : List Row) (a b c : Seen) (low : i < length tables) (s : ReadsSome tables i rows a b) (r : ReadsTable (get_or tables i d) more b c) where
   abbrev q : Table
-  q = get_or rolls i d
+  q = get_or tables i d
 
   open_a : IsTrue a.is_open
-  open_a = was_open i rows a b s r.same.0.was_open
+  open_a = was_open tables i rows a b s r.same.0.was_open
 
-  last : (table : Table) → Has (take (i + 1) rolls) table → Has (take i rolls) table ⊎ (table ≡ q)
-  last table h = elim (has_either (take i rolls) (q ∷ []) table (subst (λ rs. Has rs table) (take_more rolls i d low) h)) [ inl early ↦ inl early | inr (inl same) ↦ inr same | inr (inr none) ↦ absurd none ]
+  last : (table : Table) → Has (take (i + 1) tables) table → Has (take i tables) table ⊎ (table ≡ q)
+  last table h = elim (has_either (take i tables) (q ∷ []) table (subst (λ rs. Has rs table) (take_more tables i d low) h)) [ inl early ↦ inl early | inr (inl same) ↦ inr same | inr (inr none) ↦ absurd none ]
 
-  first : (table : Table) → Has (take i rolls) table → Has (take (i + 1) rolls) table
-  first table h = subst (λ rs. Has rs table) (sym (take_more rolls i d low)) (has_left (take i rolls) (q ∷ []) table h)
+  first : (table : Table) → Has (take i tables) table → Has (take (i + 1) tables) table
+  first table h = subst (λ rs. Has rs table) (sym (take_more tables i d low)) (has_left (take i tables) (q ∷ []) table h)
 
-  its_own : Has (take (i + 1) rolls) q
-  its_own = subst (λ rs. Has rs q) (sym (take_more rolls i d low)) (has_right (take i rolls) (q ∷ []) q (inl refl))
+  its_own : Has (take (i + 1) tables) q
+  its_own = subst (λ rs. Has rs q) (sym (take_more tables i d low)) (has_right (take i tables) (q ∷ []) q (inl refl))
 
   beside : (table : Table) → table ≢ q → columns_of table (rows ++ more) ≡ columns_of table rows
   beside table other = of_both table rows more ∙ ap (λ xs. columns_of table rows ++ xs) (of_other table q more other r.kind) ∙ append-nil (columns_of table rows)
 
   own : columns_of q (rows ++ more) ≡ map columns more
-  own = of_both q rows more ∙ (λ j. s.others q (not_before d i low) j ++ of_own q more r.kind j)
+  own = of_both q rows more ∙ (λ j. s.others q (not_before tables alone d i low) j ++ of_own q more r.kind j)
 
-  holds_at : (table : Table) → (table ≡ q) ⊎ (table ≢ q) → Has (take (i + 1) rolls) table → HoldsCells table (columns_of table (rows ++ more)) a.now
+  holds_at : (table : Table) → (table ≡ q) ⊎ (table ≢ q) → Has (take (i + 1) tables) table → HoldsCells table (columns_of table (rows ++ more)) a.now
   holds_at table (inl same) h =
       subst (λ x. HoldsCells x (columns_of x (rows ++ more)) a.now) (sym same) (subst (λ cells. HoldsCells q cells a.now) (sym own) (subst (HoldsCells q (map columns more)) (s.same open_a).0.now_is r.holds))
   holds_at table (inr other) h = elim (last table h) [
@@ -108,24 +108,27 @@ module _ (i : ℕ) (d : Table) (rows more : List Row) (a b c : Seen) (low : i < 
   ]
 
   -- one table more was read
-  pub reads_more : ReadsSome (i + 1) (rows ++ more) a c
+  pub reads_more : ReadsSome tables (i + 1) (rows ++ more) a c
   reads_more = record {
     opened = inr open_a;
     same = λ up. unchanged_then a b c (s.same up) r.same;
     holds = λ table. holds_at table (decide_table table q);
-    others = λ table away. beside table (λ same. away (subst (Has (take (i + 1) rolls)) (sym same) its_own)) ∙ s.others table (λ early. away (first table early));
+    others = λ table away. beside table (λ same. away (subst (Has (take (i + 1) tables)) (sym same) its_own)) ∙ s.others table (λ early. away (first table early));
   }
 
--- each table was read
-pub reads_all : (i : ℕ) (rows : List Row) (a b : Seen) → i ≡ length rolls → ReadsSome i rows a b → ReadsAll rows a b
-reads_all i rows a b end s = record {
-  same = elim s.opened [ inl none ↦ absurd (omega (arith, sym end ∙ none.0)) | inr up ↦ s.same up ];
-  holds = λ table among. s.holds table (subst (λ n. Has (take n rolls) table) (sym end) (among_rolls table among));
-}
+-- each of some tables was read
+pub reads_all : (tables : List Table) → length tables ≢ 0 → (i : ℕ) (rows : List Row) (a b : Seen) → i ≡ length tables → ReadsSome tables i rows a b → ReadsAll tables rows a b
+reads_all tables some i rows a b end s =
+    let all : take i tables ≡ tables = take_all i tables (omega (arith, end)) in
+    record {
+      same = elim s.opened [ inl none ↦ absurd (some (sym end ∙ none.0)) | inr up ↦ s.same up ];
+      holds = λ table among. s.holds table (subst (λ ts. Has ts table) (sym all) (stands_among tables table among));
+      beyond = λ table away. s.others table (λ h. away (is_among tables table (subst (λ ts. Has ts table) all h)));
+    }
 
 -- a table that could not be read, after those that were
-pub unread_then : (i : ℕ) (d : Table) (rows : List Row) (a b : Seen) → i < length rolls → ReadsSome i rows a b → IsTrue b.is_open × HoldsNoRow (get_or rolls i d) b.now → HoldsUnread a
-unread_then i d rows a b low s h =
-    let up = was_open i rows a b s h.0 in
-    let table = get_or rolls i d in
-    (up, table, is_roll table (has_at rolls i table low (get_or_default rolls i d table low)), subst (HoldsNoRow table) (s.same up).0.now_is h.1)
+pub unread_then : (tables : List Table) (i : ℕ) (d : Table) (rows : List Row) (a b : Seen) → i < length tables → ReadsSome tables i rows a b → IsTrue b.is_open × HoldsNoRow (get_or tables i d) b.now → HoldsUnread tables a
+unread_then tables i d rows a b low s h =
+    let up = was_open tables i rows a b s h.0 in
+    let table = get_or tables i d in
+    (up, table, is_among tables table (has_at tables i table low (get_or_default tables i d table low)), subst (HoldsNoRow table) (s.same up).0.now_is h.1)

@@ -15,7 +15,10 @@ use Rattle.sqlite_rules.specs.Lists.{Has}
 use Rattle.rolls.specs.declared.row.Row.{Row}
 use Rattle.tables.specs.Causes.{IsCausedInside, IsHindered, IsStopped, IsUnread}
 use Rattle.store.specs.Inside.Reading.{ReadsSome}
-use Rattle.store.specs.Rows.{columns, kept, rolls, table_of}
+use Rattle.store.specs.declared.edition.Edition.{Edition as AnEdition}
+use Rattle.store.specs.declared.edition.Edition.TheVariants.{First}
+use Rattle.store.specs.Editions.{rolls_of}
+use Rattle.store.specs.Rows.{columns, kept, table_of}
 use Rattle.store.proofs.ListedTables.{is_next}
 use Rattle.tables.specs.Inside.Steps.{Stays}
 use Rattle.tables.specs.Table.{sql_of}
@@ -55,11 +58,16 @@ unchanged_before H K a b c same survives clean up f = stopped_after H K a b c su
 pub hindered_reading : (table : Table) (a b : Seen) → Has kept table → IsStopped (IsUnread (sql_of table).select) a b → IsStopped IsHinderedReading a b
 hindered_reading table a b among = stopped_as (IsUnread (sql_of table).select) IsHinderedReading a b (λ h. record { table = table; kept = among; hindered = h })
 
--- one of the rolls cannot be read, where those before it were
-pub table_unread : (i : ℕ) (rows : List Row) (a b c : Seen) (d : Table) → i < length rolls → ReadsSome i rows a b → Survives a b (λ _. ⊥) → HasCleanDisk b → b.faults ≤ c.faults → IsStopped (IsUnread (sql_of (get_or rolls i d)).select) b c → IsStopped IsHinderedReading a c
-table_unread i rows a b c d low some survives clean up stops = elim (cases_Bool a.is_open) [
-  | inl open_before ↦ stopped_after (IsUnread (sql_of (get_or rolls i d)).select) IsHinderedReading a b c survives clean up
-      (λ h. record { table = get_or rolls i d; kept = inr (is_next rolls i d low); hindered = subst (IsUnread (sql_of (get_or rolls i d)).select a.step_limit) (some.same open_before).0.now_is h }) stops
+-- the tables of an edition are kept
+is_kept : (e : AnEdition) (table : Table) → Has (rolls_of e) table → Has kept table
+is_kept First table h = inr h
+
+-- one of the tables of an edition cannot be read, where those before it were
+pub table_unread : (e : AnEdition) (tables : List Table) → tables ≡ rolls_of e → (i : ℕ) (rows : List Row) (a b c : Seen) (d : Table) → i < length tables → ReadsSome tables i rows a b → Survives a b (λ _. ⊥) → HasCleanDisk b → b.faults ≤ c.faults
+    → IsStopped (IsUnread (sql_of (get_or tables i d)).select) b c → IsStopped IsHinderedReading a c
+table_unread e tables are i rows a b c d low some survives clean up stops = elim (cases_Bool a.is_open) [
+  | inl open_before ↦ stopped_after (IsUnread (sql_of (get_or tables i d)).select) IsHinderedReading a b c survives clean up
+      (λ h. record { table = get_or tables i d; kept = is_kept e _ (subst (λ ts. Has ts (get_or tables i d)) are (is_next tables i d low)); hindered = subst (IsUnread (sql_of (get_or tables i d)).select a.step_limit) (some.same open_before).0.now_is h }) stops
   | inr shut ↦ record { why = inl shut }
 ]
 

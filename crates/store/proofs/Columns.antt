@@ -1,5 +1,5 @@
 -- The columns of the rows of one table, once a row is put or taken away.
-use Rattle.std.proofs.Common.{◌≡◌, ◌≢◌, inl, inr, ℕ, zero, suc, ◌<◌, List, [], ◌∷◌, length, get_or, take, Bool, true, false, not, ◌&&◌, ◌==◌, cond, Some, None, is_eq, filter, map, ℤ, pos, negsuc, refl, sym, ap, subst, ◌∙◌, arith, true≢false}
+use Rattle.std.proofs.Common.{◌≡◌, ◌≢◌, ◌⊎◌, inl, inr, ℕ, zero, suc, ◌<◌, List, [], ◌∷◌, length, get_or, take, Bool, true, false, not, ◌&&◌, ◌==◌, cond, Some, None, is_eq, filter, map, ℤ, pos, negsuc, refl, sym, ap, subst, ◌∙◌, arith, true≢false}
 use Rattle.std.specs.List.{list_any}
 use Rattle.std.proofs.lemmas.Bool.{and_parts, or_parts, not-true, false_from_ne_true}
 use Rattle.std.proofs.lemmas.Bool.Decides.{Decides-eqb}
@@ -28,10 +28,13 @@ use Rattle.rolls.specs.Rows.{key_of, is_in_list, is_placement_in, same_row}
 use Rattle.tables.specs.declared.table.Table.{Table}
 use Rattle.tables.specs.declared.table.Table.TheVariants.{Choice, Edition, Placement}
 use Rattle.tables.specs.Table.{same_table}
-use Rattle.tables.proofs.Runs.{same_table_is, same_table_self}
+use Rattle.tables.proofs.Runs.{decide_table, same_table_is, same_table_self}
 use Rattle.tables.proofs.KeyTests.{equal_int}
 use Rattle.rolls.proofs.RowKeys.{apart_back, same_row_is}
-use Rattle.store.specs.Rows.{IsRoll, columns, is_in, columns_of, key_columns, list_columns, rolls, round_columns, table_at_key, table_of}
+use Rattle.store.specs.declared.edition.Edition.{Edition as AnEdition}
+use Rattle.store.specs.declared.edition.Edition.TheVariants.{First}
+use Rattle.store.specs.Editions.{rolls_of}
+use Rattle.store.specs.Rows.{IsAmong, IsRoll, columns, is_in, columns_of, key_columns, list_columns, rolls, round_columns, table_at_key, table_of}
 use Rattle.store.proofs.Keys.{dropped, left}
 
 natural : ℤ → ℕ
@@ -52,7 +55,7 @@ equal_text a b = truth_is _ ∙ text_order a b
 
 -- each key is of the table of a roll
 pub in_rolls : (k : RowKey) → IsRoll (table_at_key k)
-unfolding IsRoll
+unfolding IsAmong
 in_rolls (key.Supervisor code) = inl refl
 in_rolls (key.Project code) = inr (inl refl)
 in_rolls (key.Student code) = inr (inr (inl refl))
@@ -74,13 +77,17 @@ once_in (r ∷ rs) d once (suc i) low (inl same) =
     true≢false (sym (some_from (same_table r) rs (get_or rs i d) there (ap (same_table r) same ∙ same_table_self r)) ∙ not-true _ (and_parts _ _ once).0)
 once_in (r ∷ rs) d once (suc i) low (inr h) = once_in rs d (and_parts _ _ once).1 i (omega (arith, low)) h
 
-pub once : are_once rolls ≡ true
+pub once : (e : AnEdition) → are_once (rolls_of e) ≡ true
 unfolding are_once
-once = refl
+once First = refl
 
 -- no table comes twice
-pub not_before : (d : Table) (i : ℕ) → i < length rolls → Has (take i rolls) (get_or rolls i d) → ⊥
-not_before d i low h = once_in rolls d once i low h
+pub not_before : (tables : List Table) → are_once tables ≡ true → (d : Table) (i : ℕ) → i < length tables → Has (take i tables) (get_or tables i d) → ⊥
+not_before tables alone d i low h = once_in tables d alone i low h
+
+-- each edition has tables
+pub some_tables : (e : AnEdition) → length (rolls_of e) ≢ 0
+some_tables First none = cc
 
 -- a row in a table is of it
 pub is_of : (table : Table) (r : Row) → is_in table r ≡ true → table ≡ table_of r
@@ -243,15 +250,33 @@ not_edition (q ∷ qs) none table (inr h) e = not_edition qs (or_parts (same_tab
 
 -- no roll is the edition
 pub apart_edition : (table : Table) → IsRoll table → table ≢ Edition
-unfolding IsRoll
+unfolding IsAmong
 apart_edition table h e = not_edition rolls refl table h e
 
--- a roll stands in the list
-pub among_rolls : (table : Table) → IsRoll table → Has rolls table
-unfolding IsRoll
-among_rolls table h = h
+-- a table that is among others stands in their list
+pub stands_among : (tables : List Table) (table : Table) → IsAmong tables table → Has tables table
+unfolding IsAmong
+stands_among tables table h = h
 
--- and what stands there is one
-pub is_roll : (table : Table) → Has rolls table → IsRoll table
-unfolding IsRoll
-is_roll table h = h
+-- and what stands there is among them
+pub is_among : (tables : List Table) (table : Table) → Has tables table → IsAmong tables table
+unfolding IsAmong
+is_among tables table h = h
+
+has_or_not : (all : List Table) (table : Table) → Has all table ⊎ (Has all table → ⊥)
+has_or_not [] table = inr (λ h. h)
+has_or_not (q ∷ qs) table = elim (decide_table table q) [
+  | inl same ↦ inl (inl same)
+  | inr other ↦ elim (has_or_not qs table) [ inl among ↦ inl (inr among) | inr none ↦ inr (λ h. elim h [ inl same ↦ other same | inr later ↦ none later ]) ]
+]
+
+-- a table is among these, or it isn't
+pub among_or_not : (tables : List Table) (table : Table) → IsAmong tables table ⊎ (IsAmong tables table → ⊥)
+unfolding IsAmong
+among_or_not tables table = has_or_not tables table
+
+-- each row is of a roll
+pub none_beyond : (table : Table) → (IsRoll table → ⊥) → (list : List Row) → columns_of table list ≡ []
+none_beyond table none [] = refl
+none_beyond table none (r ∷ list) =
+    columns_same table r list (false_from_ne_true _ (λ h. none (subst IsRoll (sym (is_of table r h)) (in_rolls (key_of r))))) ∙ none_beyond table none list

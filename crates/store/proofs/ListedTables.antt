@@ -12,23 +12,23 @@ use Rattle.tables.specs.declared.table.Table.TheVariants.{Edition}
 use Rattle.tables.specs.Table.{Place, Lists, rules_of, table_at}
 use Rattle.tables.specs.Layout.{IsListed, IsUnlisted}
 use Rattle.tables.specs.Steps.{Shows}
-use Rattle.tables.proofs.Runs.{listed_at_one, decide_table}
-use Rattle.store.specs.Rows.{IsRoll, rolls}
-use Rattle.store.specs.Tables.{first_edition}
-use Rattle.store.specs.Reading.{AreListed}
+use Rattle.tables.proofs.Runs.{listed_at_one}
+use Rattle.store.proofs.Columns.{among_or_not}
+use Rattle.store.specs.Rows.{IsAmong}
+use Rattle.store.specs.Reading.{AreAllListed}
 use Rattle.store.specs.Inside.Reading.{IsAlone, IsElsewhere, IsListedAlone, IsNoRow, HoldsNoRow}
 
--- what holds of so many tables, and of the next, holds of one more
-pub so_far : (P : Table → Type 0) (all : List Table) (i : ℕ) (d : Table) → i < length all → ((table : Table) → Has (take i all) table → P table) → P (get_or all i d) → (table : Table) → Has (take (i + 1) all) table → P table
-so_far P all i d low early here table h = elim (has_either (take i all) (get_or all i d ∷ []) table (subst (λ rs. Has rs table) (take_more all i d low) h)) [
-  | inl before ↦ early table before
+-- what holds of so many, and of the next, holds of one more
+pub so_far : {X : Type 0} (P : X → Type 0) (all : List X) (i : ℕ) (d : X) → i < length all → ((x : X) → Has (take i all) x → P x) → P (get_or all i d) → (x : X) → Has (take (i + 1) all) x → P x
+so_far P all i d low early here x h = elim (has_either (take i all) (get_or all i d ∷ []) x (subst (λ rs. Has rs x) (take_more all i d low) h)) [
+  | inl before ↦ early x before
   | inr (inl same) ↦ subst P (sym same) here
   | inr (inr none) ↦ absurd none
 ]
 
 -- what holds of as many as there are holds of each
-pub of_each : (P : Table → Type 0) (all : List Table) (i : ℕ) → i ≡ length all → ((table : Table) → Has (take i all) table → P table) → (table : Table) → Has all table → P table
-of_each P all i end each table among = each table (subst (λ rs. Has rs table) (sym (ap (λ n. take n all) end ∙ take_all (length all) all (omega arith))) among)
+pub of_each : {X : Type 0} (P : X → Type 0) (all : List X) (i : ℕ) → i ≡ length all → ((x : X) → Has (take i all) x → P x) → (x : X) → Has all x → P x
+of_each P all i end each x among = each x (subst (λ rs. Has rs x) (sym (ap (λ n. take n all) end ∙ take_all (length all) all (omega arith))) among)
 
 -- the next of the tables is one of them
 pub is_next : (all : List Table) (i : ℕ) (d : Table) → i < length all → Has all (get_or all i d)
@@ -38,67 +38,55 @@ is_next all i d low = has_at all i (get_or all i d) low (get_or_default all i d 
 pub elsewhere : (table : Table) (schema : Schema) (there tree : ℕ) → IsListed (table_at table) schema there → there ≢ tree → IsElsewhere table tree schema
 elsewhere table schema there tree at other place listed same = other (listed_at_one table schema (record { tree = there; rules = at.0 }) place at.1 listed ∙ same)
 
--- where another table is listed in the tree, the table is not alone in it
-pub not_alone : (other table : Table) (schema : Schema) (tree : ℕ) → IsRoll other → other ≢ table → IsListed (table_at other) schema tree → IsAlone table tree schema → ⊥
-not_alone other table schema tree among apart at alone = alone other among apart (record { tree = tree; rules = at.0 }) at.1 refl
+-- where another one of these tables is listed in the tree, the table is not alone in it
+pub not_alone : (tables : List Table) (other table : Table) (schema : Schema) (tree : ℕ) → IsAmong tables other → other ≢ table → IsListed (table_at other) schema tree → IsAlone tables table tree schema → ⊥
+not_alone tables other table schema tree among apart at alone = alone other among apart (record { tree = tree; rules = at.0 }) at.1 refl
 
 -- a table that is listed in this tree is listed alone where the tree is its own
-pub listed_alone : (edition : ℕ) (schema : Schema) (table : Table) (tree : ℕ) → IsListed (table_at table) schema tree → tree ≢ edition → IsAlone table tree schema → IsListedAlone edition schema table
-listed_alone edition schema table tree at apart alone = record { place = record { tree = tree; rules = at.0 }; listed = at.1; from_edition = apart; alone = alone }
+pub listed_alone : (tables : List Table) (edition : ℕ) (schema : Schema) (table : Table) (tree : ℕ) → IsListed (table_at table) schema tree → tree ≢ edition → IsAlone tables table tree schema → IsListedAlone tables edition schema table
+listed_alone tables edition schema table tree at apart alone = record { place = record { tree = tree; rules = at.0 }; listed = at.1; from_edition = apart; alone = alone }
 
 -- and only there
-pub listed_close : (edition : ℕ) (schema : Schema) (table : Table) (tree : ℕ) → IsListed (table_at table) schema tree → (tree ≢ edition → IsAlone table tree schema → ⊥) → IsListedAlone edition schema table → ⊥
-listed_close edition schema table tree at close l =
+pub listed_close : (tables : List Table) (edition : ℕ) (schema : Schema) (table : Table) (tree : ℕ) → IsListed (table_at table) schema tree → (tree ≢ edition → IsAlone tables table tree schema → ⊥) → IsListedAlone tables edition schema table → ⊥
+listed_close tables edition schema table tree at close l =
     let same = listed_at_one table schema l.place (record { tree = tree; rules = at.0 }) l.listed at.1 in
-    close (subst (λ n. n ≢ edition) same l.from_edition) (subst (λ n. IsAlone table n schema) same l.alone)
+    close (subst (λ n. n ≢ edition) same l.from_edition) (subst (λ n. IsAlone tables table n schema) same l.alone)
 
--- a table is one of these, or it isn't
-has_or_not : (all : List Table) (table : Table) → Has all table ⊎ (Has all table → ⊥)
-has_or_not [] table = inr (λ h. h)
-has_or_not (q ∷ qs) table = elim (decide_table table q) [
-  | inl same ↦ inl (inl same)
-  | inr other ↦ elim (has_or_not qs table) [ inl among ↦ inl (inr among) | inr none ↦ inr (λ h. elim h [ inl same ↦ other same | inr later ↦ none later ]) ]
-]
-
-roll_or_not : (table : Table) → IsRoll table ⊎ (IsRoll table → ⊥)
-unfolding IsRoll
-roll_or_not table = has_or_not rolls table
-
-module _ (schema : Schema) (edition : ℕ) (e : IsListed (table_at Edition) schema edition) (each : (table : Table) → IsRoll table → IsListedAlone edition schema table) where
-  place_by : (table : Table) → IsRoll table ⊎ (IsRoll table → ⊥) → Place
+module _ (tables : List Table) (schema : Schema) (edition : ℕ) (e : IsListed (table_at Edition) schema edition) (each : (table : Table) → IsAmong tables table → IsListedAlone tables edition schema table) where
+  place_by : (table : Table) → IsAmong tables table ⊎ (IsAmong tables table → ⊥) → Place
   place_by table (inl among) = (each table among).place
   place_by table (inr none) = record { tree = 0; rules = rules_of table }
 
-  apart_from_edition : (table : Table) (d : IsRoll table ⊎ (IsRoll table → ⊥)) → IsRoll table → (place_by table d).tree ≢ edition
+  apart_from_edition : (table : Table) (d : IsAmong tables table ⊎ (IsAmong tables table → ⊥)) → IsAmong tables table → (place_by table d).tree ≢ edition
   unfolding place_by
   apart_from_edition table (inl among) h = (each table among).from_edition
   apart_from_edition table (inr none) h = absurd (none h)
 
-  listed_by : (table : Table) (d : IsRoll table ⊎ (IsRoll table → ⊥)) → IsRoll table → Lists schema (table_at table (place_by table d))
+  listed_by : (table : Table) (d : IsAmong tables table ⊎ (IsAmong tables table → ⊥)) → IsAmong tables table → Lists schema (table_at table (place_by table d))
   unfolding place_by
   listed_by table (inl among) h = (each table among).listed
   listed_by table (inr none) h = absurd (none h)
 
-  apart_by : (a b : Table) (d : IsRoll a ⊎ (IsRoll a → ⊥)) (f : IsRoll b ⊎ (IsRoll b → ⊥)) → IsRoll a → IsRoll b → a ≢ b → (place_by a d).tree ≢ (place_by b f).tree
+  apart_by : (a b : Table) (d : IsAmong tables a ⊎ (IsAmong tables a → ⊥)) (f : IsAmong tables b ⊎ (IsAmong tables b → ⊥)) → IsAmong tables a → IsAmong tables b → a ≢ b → (place_by a d).tree ≢ (place_by b f).tree
   unfolding place_by
   apart_by a b (inl p) (inl q) h k other = (each b q).alone a p other (each a p).place (each a p).listed
   apart_by a b (inr none) f h k other = absurd (none h)
   apart_by a b (inl p) (inr none) h k other = absurd (none k)
 
   -- tables that are each listed alone are listed
-  pub listed_right : AreListed schema
+  pub listed_right : AreAllListed tables schema
   listed_right = record {
     edition = record { tree = edition; rules = e.0 };
-    places = λ table. place_by table (roll_or_not table);
-    edition_apart = λ table. apart_from_edition table (roll_or_not table);
-    apart = λ a b. apart_by a b (roll_or_not a) (roll_or_not b);
+    places = λ table. place_by table (among_or_not tables table);
+    edition_apart = λ table. apart_from_edition table (among_or_not tables table);
+    apart = λ a b. apart_by a b (among_or_not tables a) (among_or_not tables b);
     edition_listed = e.1;
-    rolls_listed = λ table. listed_by table (roll_or_not table);
+    rolls_listed = λ table. listed_by table (among_or_not tables table);
   }
 
 -- tables that are listed are each listed alone
-pub listed_each : (schema : Schema) (edition : ℕ) → IsListed (table_at Edition) schema edition → AreListed schema → (table : Table) → IsRoll table → IsListedAlone edition schema table
-listed_each schema edition e l table among =
+pub listed_each : (tables : List Table) (schema : Schema) (edition : ℕ) → IsListed (table_at Edition) schema edition → AreAllListed tables schema → (table : Table) → IsAmong tables table → IsListedAlone tables edition schema table
+listed_each tables schema edition e l table among =
     let there : l.edition.tree ≡ edition = listed_at_one Edition schema l.edition (record { tree = edition; rules = e.0 }) l.edition_listed e.1 in
     record {
       place = l.places table;
@@ -108,16 +96,8 @@ listed_each schema edition e l table among =
     }
 
 -- where one of the tables isn't listed, they aren't
-pub no_edition : (schema : Schema) → IsUnlisted (table_at Edition) schema → AreListed schema → ⊥
-no_edition schema none l = none l.edition l.edition_listed
-
--- two columns after the rowid
-pub is_first : (cells : Cells) → length cells ≡ 3 → column cells 1 ≡ Int (pos 1) → column cells 2 ≡ Int (pos 1) → map (drop 1) (cells ∷ []) ≡ first_edition
-is_first [] h p q = absurd (omega (arith, h))
-is_first (x ∷ []) h p q = absurd (omega (arith, h))
-is_first (x ∷ y ∷ []) h p q = absurd (omega (arith, h))
-is_first (x ∷ y ∷ z ∷ []) h p q = λ i. (p i ∷ q i ∷ []) ∷ []
-is_first (w ∷ x ∷ y ∷ z ∷ more) h p q = absurd (omega (arith, h))
+pub no_edition : (tables : List Table) (schema : Schema) → IsUnlisted (table_at Edition) schema → AreAllListed tables schema → ⊥
+no_edition tables schema none l = none l.edition l.edition_listed
 
 has_mapped : {X Y : Type 0} (f : X → Y) (xs : List X) (x : X) → Has xs x → Has (map f xs) (f x)
 has_mapped f [] x h = h

@@ -25,10 +25,11 @@ use Rattle.tables.specs.Writes.{Makes, Adds}
 use Rattle.tables.specs.Steps.{HasStepped, IsLeft}
 use Rattle.tables.specs.Inside.Steps.{Stays}
 use Rattle.tables.proofs.Runs.{listed_once, stands_apart, stands_beside, stays_none, stays_then, stays_stepped, decide_table}
-use Rattle.store.specs.Rows.{kept, AreRowsAt}
-use Rattle.store.specs.Tables.{AreRuled, MakesTables, StandsFor, Founds, HasNone, Opens, first_edition}
+use Rattle.store.specs.Editions.{latest, number_of}
+use Rattle.store.specs.Rows.{kept, rolls, AreRowsAt}
+use Rattle.store.specs.Tables.{AreRuled, MakesTables, StandsFor, Founds, HasNone, Opens, numbered}
 use Rattle.store.specs.Inside.Tables.{Empties}
-use Rattle.store.proofs.Columns.{apart_edition, among_rolls}
+use Rattle.store.proofs.Columns.{apart_edition, stands_among}
 
 nothing_at : (place : ℕ) → ◌≡◌ {A = Option (List ℕ)} None (choice_in [] place)
 nothing_at place = elim (nat_le 1 place) as (λ t. ◌≡◌ {A = Option (List ℕ)} None (cond t (slice_get [] (place - 1)) None)) [ true ↦ refl | false ↦ refl ]
@@ -105,20 +106,21 @@ pub made_all : (i : ℕ) (all : List Table) (a b : Seen) → length all ≤ i �
 made_all i all a b end = subst (λ rs. Stays (MakesTables rs) a b) (take_all i all end)
 
 -- the tables, once that of the edition has its row
-empty_stands : (row : List Value) → row ∷ [] ≡ first_edition → (a b c : Database) → MakesTables kept a b → Adds (table_at Edition) (key_in Edition row) row b c → StandsFor c empty
+empty_stands : (row : List Value) → row ∷ [] ≡ numbered (number_of latest) → (a b c : Database) → MakesTables kept a b → Adds (table_at Edition) (key_in Edition row) row b c → StandsFor c empty
 empty_stands row is a b c m n =
     let first : Has kept Edition = inl refl in
     let done = n (m.places Edition) [] (m.stand Edition first) in
     record {
       edition = m.places Edition;
       places = m.places;
-      edition_apart = λ table among. m.apart table Edition (inr (among_rolls table among)) first (apart_edition table among);
-      apart = λ x y p q. m.apart x y (inr (among_rolls x p)) (inr (among_rolls y q));
+      edition_apart = λ table among. m.apart table Edition (inr (stands_among rolls table among)) first (apart_edition table among);
+      apart = λ x y p q. m.apart x y (inr (stands_among rolls x p)) (inr (stands_among rolls y q));
       list = [];
       at = no_rows;
+      beyond = λ table none. refl;
       editions = subst (λ all. Stands (table_at Edition) (m.places Edition) all c) is done.0;
       rolls = λ table among.
-          stands_apart (table_at table) (m.places table) refl [] (m.places Edition).tree b c (m.apart table Edition (inr (among_rolls table among)) first (apart_edition table among)) done.1 (m.stand table (inr (among_rolls table among)));
+          stands_apart (table_at table) (m.places table) refl [] (m.places Edition).tree b c (m.apart table Edition (inr (stands_among rolls table among)) first (apart_edition table among)) done.1 (m.stand table (inr (stands_among rolls table among)));
     }
 
 -- and are as they are made here
@@ -133,7 +135,7 @@ ruled_so row a b c m n table among place listed =
     same ∙ (λ i. table_at table (record { tree = tree i; rules = m.ruled table among i }))
 
 -- the tables were made one after the other, and then the edition was written
-pub founded : (row : List Value) → row ∷ [] ≡ first_edition → (a b c : Seen) → Stays (MakesTables kept) a b → HasStepped (Adds (table_at Edition) (key_in Edition row) row) b c → HasStepped Empties a c
+pub founded : (row : List Value) → row ∷ [] ≡ numbered (number_of latest) → (a b c : Seen) → Stays (MakesTables kept) a b → HasStepped (Adds (table_at Edition) (key_in Edition row) row) b c → HasStepped Empties a c
 unfolding Empties
 founded row is a b c m n = stays_stepped (MakesTables kept) (Adds (table_at Edition) (key_in Edition row) row) Empties a b c (λ p q. (empty_stands row is a.now b.now c.now p q, ruled_so row a.now b.now c.now p q)) m n
 

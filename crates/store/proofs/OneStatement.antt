@@ -16,18 +16,19 @@ use Rattle.tables.specs.Keyed.{Stands}
 use Rattle.tables.specs.Writes.{Adds, Puts, Removes, WritesOnly, begins_with, goes_on, with_row}
 use Rattle.tables.proofs.Runs.{stands_apart, decide_table}
 use Rattle.store.specs.Rows.{AreRowsAt, IsRoll, columns, columns_of, key_columns, list_columns, round_columns, table_at_key, table_of}
-use Rattle.store.specs.Tables.{TablesHold, first_edition}
+use Rattle.store.specs.Editions.{latest, number_of}
+use Rattle.store.specs.Tables.{TablesHold, numbered}
 use Rattle.sqlite_rules.proofs.ListLemmas.{all_has}
 use Rattle.store.specs.Inside.Saving.{AppliesOne, Enters, entering}
 use Rattle.store.specs.Saving.{Spares}
 use Rattle.store.specs.declared.saving.Way.{Way}
 use Rattle.store.specs.declared.saving.Way.TheVariants.{InPlace, New}
 use Rattle.store.proofs.Keys.{dropped, left, rows_left, rows_put, rows_taken}
-use Rattle.store.proofs.Columns.{Leave, in_rolls, is_of, columns_there, columns_elsewhere, columns_without, columns_beside, columns_kept, columns_more, columns_same, key_leaves, list_leaves, placements_leave, none_there}
+use Rattle.store.proofs.Columns.{Leave, in_rolls, is_of, columns_there, columns_elsewhere, columns_without, columns_beside, columns_kept, columns_more, columns_same, key_leaves, list_leaves, none_beyond, placements_leave, none_there}
 
 module _ (old new : Database) (rows : RowKey → Option Row) (t : TablesHold old rows) (q : Table) (kept : IsRoll q) (only : WritesOnly (t.places q).tree old new) where
-  edition_stays : Stands (table_at Edition) t.edition first_edition new
-  edition_stays = stands_apart (table_at Edition) t.edition refl first_edition (t.places q).tree old new (λ e. t.edition_apart q kept (sym e)) only t.editions
+  edition_stays : Stands (table_at Edition) t.edition (numbered (number_of latest)) new
+  edition_stays = stands_apart (table_at Edition) t.edition refl (numbered (number_of latest)) (t.places q).tree old new (λ e. t.edition_apart q kept (sym e)) only t.editions
 
   -- the rolls, of which the one that is written holds these
   rolls_are : (list : List Row) (written : List Cells) → Stands (table_at q) (t.places q) written new → columns_of q list ≡ written
@@ -51,6 +52,7 @@ module _ (old new : Database) (rows : RowKey → Option Row) (t : TablesHold old
     apart = t.apart;
     list = list;
     at = at;
+    beyond = λ table none. none_beyond table none list;
     editions = edition_stays;
     rolls = rolls_are list written stands own others;
   }

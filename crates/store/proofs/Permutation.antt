@@ -20,10 +20,11 @@ use Rattle.rolls.specs.declared.import.ImportKind.{ImportKind}
 use Rattle.rolls.specs.declared.import.ImportKind.TheVariants as kind
 use Rattle.tables.specs.declared.table.Table.{Table}
 use Rattle.tables.specs.declared.table.Table.TheVariants.{Supervisor, Project, Student, Round, Choice, Placement}
-use Rattle.store.specs.Rows.{IsRoll, columns, is_in, columns_of, rolls, table_of, AreRowsAt}
+use Rattle.store.specs.Editions.{latest}
+use Rattle.store.specs.Rows.{IsAmong, IsRoll, columns, is_in, columns_of, rolls, table_of, AreRowsAt}
 use Rattle.tables.specs.Table.{same_table}
 use Rattle.tables.proofs.Runs.{same_table_is, same_table_self}
-use Rattle.store.proofs.Columns.{is_roll, are_once, once, in_rolls, among_rolls}
+use Rattle.store.proofs.Columns.{among_or_not, are_once, in_rolls, is_among, once, stands_among}
 use Rattle.rolls.proofs.RowKeys.{same_row_is, apart_back}
 use Rattle.store.proofs.Keys.{same_row_by}
 
@@ -224,7 +225,7 @@ one_of [] r apart has = absurd has
 one_of (q ∷ qs) r apart has = one_go q qs r (is_in q r) refl apart has (one_of qs r)
 
 of_one : (r : Row) → is_of_one rolls r ≡ true
-of_one r = one_of rolls r once (among_rolls (table_of r) (in_rolls (key_of r)))
+of_one r = one_of rolls r (once latest) (stands_among rolls (table_of r) (in_rolls (key_of r)))
 
 sorted : (rows : List Row) → IsPermutation rows (gathered rolls rows)
 unfolding gathered
@@ -240,6 +241,14 @@ gathered_permuted [] xs ys each = IsPermutation-refl _
 gathered_permuted (q ∷ qs) xs ys each = beside _ _ _ _ (each q (inl refl)) (gathered_permuted qs xs ys (λ table h. each table (inr h)))
 
 -- rows whose columns are the same in each table are the same
-pub permuted_by_rolls : (xs ys : List Row) → ((table : Table) → IsRoll table → IsPermutation (columns_of table xs) (columns_of table ys)) → IsPermutation xs ys
+permuted_by_rolls : (xs ys : List Row) → ((table : Table) → IsRoll table → IsPermutation (columns_of table xs) (columns_of table ys)) → IsPermutation xs ys
 permuted_by_rolls xs ys same =
-    IsPermutation-trans _ _ _ (sorted xs) (IsPermutation-trans _ _ _ (gathered_permuted rolls xs ys (λ table among. rolls_permuted table xs ys (same table (is_roll table among)))) (IsPermutation-sym _ _ (sorted ys)))
+    IsPermutation-trans _ _ _ (sorted xs) (IsPermutation-trans _ _ _ (gathered_permuted rolls xs ys (λ table among. rolls_permuted table xs ys (same table (is_among rolls table among)))) (IsPermutation-sym _ _ (sorted ys)))
+
+-- the same of rows that are all in these tables
+pub permuted_by_tables : (tables : List Table) (xs ys : List Row) → ((table : Table) → (IsAmong tables table → ⊥) → columns_of table xs ≡ []) → ((table : Table) → (IsAmong tables table → ⊥) → columns_of table ys ≡ [])
+    → ((table : Table) → IsAmong tables table → IsPermutation (columns_of table xs) (columns_of table ys)) → IsPermutation xs ys
+permuted_by_tables tables xs ys xs_end ys_end same = permuted_by_rolls xs ys (λ table _. elim (among_or_not tables table) [
+  | inl among ↦ same table among
+  | inr beyond ↦ subst₂ IsPermutation (sym (xs_end table beyond)) (sym (ys_end table beyond)) (IsPermutation-refl [])
+])

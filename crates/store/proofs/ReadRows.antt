@@ -1,5 +1,5 @@
 -- What was read from the tables says whether they stand for a fit office.
-use Rattle.std.proofs.Common.{◌≡◌, ◌≢◌, List, [], ◌∷◌, map, drop, refl, sym, ap, subst, nat_lt, ◌^◌, true, IsTrue, length, arith, inl, inr, pos, get_or, ◌∙◌}
+use Rattle.std.proofs.Common.{◌≡◌, ◌≢◌, ℕ, List, [], ◌∷◌, map, drop, refl, sym, ap, subst, nat_lt, ◌^◌, true, IsTrue, length, Option, arith, inl, inr, pos, get_or, ◌∙◌}
 use Rattle.std.specs.List.Sorted.{IsPermutation}
 use Rattle.std.proofs.lemmas.List.Sorted.{IsPermutation-trans, IsPermutation-sym, length_permutation}
 use Rattle.sqlite_rules.specs.Lists.{Has}
@@ -18,30 +18,42 @@ use Rattle.rolls.specs.Rows.{row_of}
 use Rattle.rolls.specs.From as from
 use Rattle.tables.specs.declared.table.Table.{Table}
 use Rattle.tables.specs.declared.table.Table.TheVariants.{Edition}
-use Rattle.store.specs.Rows.{IsRoll, columns_of}
-use Rattle.store.specs.Tables.{StandsFor, first_edition}
-use Rattle.store.specs.Reading.{AreListed, IsDamaged}
+use Rattle.rolls.specs.declared.row.RowKey.{RowKey}
+use Rattle.store.specs.declared.edition.Edition.{Edition as AnEdition}
+use Rattle.store.specs.declared.edition.Edition.TheVariants.{First}
+use Rattle.store.specs.Editions.{latest, number_of, rolls_of}
+use Rattle.store.specs.Rows.{IsAmong, columns_of}
+use Rattle.store.specs.Tables.{HoldIn, StandsFor, numbered}
+use Rattle.store.specs.Reading.{AreAllListed, AreListed, IsDamaged}
 use Rattle.store.specs.Inside.Reading.{HoldsCells, HoldsNoRow}
 use Rattle.store.proofs.Cells.{two_after}
-use Rattle.store.proofs.Permutation.{has_permuted, rows_permuted, permuted_by_rolls}
+use Rattle.store.proofs.Permutation.{has_permuted, rows_permuted, permuted_by_tables}
 use Rattle.store.proofs.Fitness.{is_typed, row_of_columns}
 
--- one row with these two columns after its rowid is that of this edition
-pub is_first : (all : List Cells) (cells : Cells) → length all ≡ 1 → cells ≡ get_or all 0 cells → length cells ≡ 3 → column cells 1 ≡ Int (pos 1) → column cells 2 ≡ Int (pos 1) → map (drop 1) all ≡ first_edition
-is_first [] cells one is three p q = absurd (omega (arith, one))
-is_first (x ∷ []) cells one is three p q = ap (λ (row : Cells). drop 1 row ∷ []) (sym is) ∙ ap (λ (row : Cells). row ∷ []) (sym (two_after cells (Int (pos 1)) (Int (pos 1)) three p q))
-is_first (x ∷ y ∷ more) cells one is three p q = absurd (omega (arith, one))
+-- one row with these two columns after its rowid is that of the edition with this number
+pub is_numbered : (number : ℕ) (all : List Cells) (cells : Cells) → length all ≡ 1 → cells ≡ get_or all 0 cells → length cells ≡ 3 → column cells 1 ≡ Int (pos 1) → column cells 2 ≡ Int (pos number) → map (drop 1) all ≡ numbered number
+is_numbered number [] cells one is three p q = absurd (omega (arith, one))
+is_numbered number (x ∷ []) cells one is three p q = ap (λ (row : Cells). drop 1 row ∷ []) (sym is) ∙ ap (λ (row : Cells). row ∷ []) (sym (two_after cells (Int (pos 1)) (Int (pos number)) three p q))
+is_numbered number (x ∷ y ∷ more) cells one is three p q = absurd (omega (arith, one))
 
--- tables that are listed otherwise stand for no office
-pub unlisted : (db : Database) → (AreListed db.schema → ⊥) → IsDamaged db
-unlisted db none office fit t = none (record {
+-- tables that hold rows are listed
+pub listed_in : (e : AnEdition) (db : Database) (rows : RowKey → Option Row) → HoldIn e db rows → AreAllListed (rolls_of e) db.schema
+listed_in e db rows t = record {
   edition = t.edition;
   places = t.places;
   edition_apart = t.edition_apart;
   apart = t.apart;
   edition_listed = t.editions.listed;
   rolls_listed = λ table among. (t.rolls table among).listed;
-})
+}
+
+-- tables of the edition in which they are made stand for an office
+pub stands_in : (e : AnEdition) (db : Database) (office : State) → HoldIn e db (row_of office) → StandsFor db office
+stands_in First db office h = h
+
+-- tables that are listed otherwise stand for no office
+pub unlisted : (db : Database) → (AreListed db.schema → ⊥) → IsDamaged db
+unlisted db none office fit t = none (latest, listed_in latest db (row_of office) t)
 
 one_has : (x : Cells) (rows : List Cells) → length rows ≡ 1 → ((y : Cells) → Has rows y → Has (x ∷ []) y) → rows ≡ x ∷ []
 one_has x [] h among = absurd (omega (arith, h))
@@ -59,15 +71,15 @@ module _ (s : Seen) (live : IsLive s) (open_ : IsTrue s.is_open) where
   low_at : (table : Table) (place : Place) → Lists s.now.schema (table_at table place) → nat_lt place.tree (2 ^ 31) ≡ true
   low_at table place listed = low_tree s.now.schema s.now.trees (table_at table place) (live open_).0 listed
 
-  -- another edition
-  pub other_edition : (rows : List Cells) (new : Seen) → Shows (table_at Edition) rows s new → map (drop 1) rows ≢ first_edition → IsDamaged s.now
-  other_edition rows new shows other office fit t =
+  -- another number
+  pub other_number : (e : AnEdition) (rows : List Cells) (new : Seen) → Shows (table_at Edition) rows s new → map (drop 1) rows ≢ numbered (number_of e) → IsDamaged s.now
+  other_number First rows new shows other office fit t =
       let here = shows.stands t.edition t.editions.listed (low_edition t.edition t.editions.listed) in
       other (alone _ (map (drop 1) rows) (IsPermutation-trans _ _ _ here.holds (IsPermutation-sym _ _ t.editions.holds)))
 
   -- a table that holds what no row has
-  pub unread : (table : Table) → IsRoll table → HoldsNoRow table s.now → IsDamaged s.now
-  unread table among n office fit t =
+  pub unread : (e : AnEdition) (table : Table) → IsAmong (rolls_of e) table → HoldsNoRow table s.now → IsDamaged s.now
+  unread First table among n office fit t =
       let stands = t.rolls table among in
       let here = n.holds (t.places table) stands.listed (low_at table (t.places table) stands.listed) in
       let same : IsPermutation n.all (columns_of table t.list) = IsPermutation-trans _ _ _ here.holds (IsPermutation-sym _ _ stands.holds) in
@@ -75,25 +87,27 @@ module _ (s : Seen) (live : IsLive s) (open_ : IsTrue s.is_open) where
       n.none it.0 it.2 (is_typed office t.list it.0 fit t.at it.1) (sym it.3)
 
   -- rows of no office
-  pub unfit : (rows : List Row) → ((table : Table) → IsRoll table → HoldsCells table (columns_of table rows) s.now) → ((o : State) → IsFit o → from.AreRowsOf rows o → ⊥) → IsDamaged s.now
-  unfit rows holds none office fit t =
-      let each : (table : Table) → IsRoll table → IsPermutation (columns_of table t.list) (columns_of table rows) = λ table among.
+  pub unfit : (e : AnEdition) (rows : List Row) → ((table : Table) → IsAmong (rolls_of e) table → HoldsCells table (columns_of table rows) s.now) → ((table : Table) → (IsAmong (rolls_of e) table → ⊥) → columns_of table rows ≡ [])
+      → ((o : State) → IsFit o → from.AreRowsOf rows o → ⊥) → IsDamaged s.now
+  unfit First rows holds beyond none office fit t =
+      let each : (table : Table) → IsAmong (rolls_of First) table → IsPermutation (columns_of table t.list) (columns_of table rows) = λ table among.
       let stands = t.rolls table among in
       let here = holds table among (t.places table) stands.listed (low_at table (t.places table) stands.listed) in
       IsPermutation-trans _ _ _ stands.holds (IsPermutation-sym _ _ here.holds) in
-      let at = rows_permuted t.list rows (row_of office) (permuted_by_rolls t.list rows each) t.at in
+      let at = rows_permuted t.list rows (row_of office) (permuted_by_tables (rolls_of First) t.list rows t.beyond beyond each) t.at in
       none office fit (record { apart = at.apart; each = at.each })
 
   -- the office of the rows
-  pub stood : (l : AreListed s.now.schema) (first : List Cells) (mid : Seen) (rows : List Row) (office : State) → Shows (table_at Edition) first s mid → map (drop 1) first ≡ first_edition
-      → ((table : Table) → IsRoll table → HoldsCells table (columns_of table rows) s.now) → from.AreRowsOf rows office → StandsFor s.now office
-  stood l first mid rows office shows is holds are = record {
+  pub stood : (e : AnEdition) (l : AreAllListed (rolls_of e) s.now.schema) (number : List Cells) (mid : Seen) (rows : List Row) (office : State) → Shows (table_at Edition) number s mid → map (drop 1) number ≡ numbered (number_of e)
+      → ((table : Table) → IsAmong (rolls_of e) table → HoldsCells table (columns_of table rows) s.now) → ((table : Table) → (IsAmong (rolls_of e) table → ⊥) → columns_of table rows ≡ []) → from.AreRowsOf rows office → HoldIn e s.now (row_of office)
+  stood e l number mid rows office shows is holds beyond are = record {
     edition = l.edition;
     places = l.places;
     edition_apart = l.edition_apart;
     apart = l.apart;
     list = rows;
     at = record { apart = are.apart; each = are.each };
+    beyond = beyond;
     editions = subst (λ all. Stands (table_at Edition) l.edition all s.now) is (shows.stands l.edition l.edition_listed (low_edition l.edition l.edition_listed));
     rolls = λ table among. holds table among (l.places table) (l.rolls_listed table among) (low_at table (l.places table) (l.rolls_listed table among));
   }

@@ -18,8 +18,9 @@ use Rattle.rolls.specs.Laws.{RowsGiveOffice}
 use Rattle.rolls.specs.Rows.{row_of}
 use Rattle.rolls.specs.State.{State}
 use Rattle.store.specs.Rows.{columns_of}
-use Rattle.store.specs.Tables.{HasNone, Opens, StandsFor, TablesHold, first_edition}
-use Rattle.store.proofs.Permutation.{rows_permuted, permuted_by_rolls}
+use Rattle.store.specs.Editions.{latest, number_of, rolls_of}
+use Rattle.store.specs.Tables.{HasNone, Opens, StandsFor, TablesHold, numbered}
+use Rattle.store.proofs.Permutation.{rows_permuted, permuted_by_tables}
 
 -- so their tables hold the same rows
 holds_so : (a b : Database) (rows : RowKey → Option Row) → IsDatabase a → IsDatabase b → b.trees ≡ a.trees → TablesHold a rows → TablesHold b rows
@@ -32,7 +33,8 @@ holds_so a b rows p q trees t =
       apart = t.apart;
       list = t.list;
       at = t.at;
-      editions = stands_so (table_at Edition) t.edition first_edition a b tables trees t.editions;
+      beyond = t.beyond;
+      editions = stands_so (table_at Edition) t.edition (numbered (number_of latest)) a b tables trees t.editions;
       rolls = λ table among. stands_so (table_at table) (t.places table) (columns_of table t.list) a b tables trees (t.rolls table among);
     }
 
@@ -45,7 +47,7 @@ held_once table p q xs ys db s t =
 -- the tables hold one row at each key at most
 one_row : (db : Database) (rows others : RowKey → Option Row) → TablesHold db rows → TablesHold db others → (k : RowKey) → rows k ≡ others k
 one_row db rows others s t k =
-    let same = permuted_by_rolls s.list t.list (λ table among. held_once table (s.places table) (t.places table) (columns_of table s.list) (columns_of table t.list) db (s.rolls table among) (t.rolls table among)) in
+    let same = permuted_by_tables (rolls_of latest) s.list t.list s.beyond t.beyond (λ table among. held_once table (s.places table) (t.places table) (columns_of table s.list) (columns_of table t.list) db (s.rolls table among) (t.rolls table among)) in
     let at = rows_permuted s.list t.list rows same s.at in
     sym (at.each k) ∙ t.at.each k
 

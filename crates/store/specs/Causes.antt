@@ -10,6 +10,7 @@ use Rattle.tables.specs.declared.table.Table.TheVariants.{Edition}
 use Rattle.tables.specs.declared.table.Group.TheVariants as group
 use Rattle.tables.specs.Table.{Sharing, sharing, sql_of}
 use Rattle.tables.specs.Causes.{IsHindered, IsHinderedToPut, IsUnread, IsUnready}
+use Rattle.store.specs.Editions.{latest, number_of}
 use Rattle.store.specs.Rows.{columns, kept, key_columns, list_columns, round_columns, table_at_key, table_of}
 use Rattle.store.specs.Saving.{Applies}
 use Rattle.store.specs.Tables.{HasNone, MakesTables}
@@ -48,7 +49,7 @@ pub record IsHinderedMaking (tables : List Table) (limit : Option ℕ) (db : Dat
 pub record IsHinderedNumbering (limit : Option ℕ) (db : Database) : Type 0 where
   pub between : Database
   pub made : MakesTables kept db between
-  pub hindered : IsHindered (sql_of Edition).insert (Int (pos 1) ∷ Int (pos 1) ∷ []) limit between
+  pub hindered : IsHindered (sql_of Edition).insert (Int (pos 1) ∷ Int (pos (number_of latest)) ∷ []) limit between
 
 -- the tables cannot be made
 abbrev pub IsHinderedFounding : Option ℕ → Database → Type 0

@@ -1,4 +1,5 @@
 pub mod Rows
+pub mod Editions
 pub mod Tables
 pub mod Saving
 pub mod Reading

@@ -1,23 +1,29 @@
 -- What the rows that are read from the tables say.
-use Rattle.std.specs.Prelude.{◌≢◌}
+use Rattle.std.specs.Prelude.{◌≢◌, List}
 use Rattle.sqlite.specs.Effect.{Database}
 use Rattle.rolls.specs.State.{State}
 use Rattle.rolls.specs.Fit.{IsFit}
 use Rattle.tables.specs.declared.table.Table.{Table}
 use Rattle.tables.specs.declared.table.Table.TheVariants.{Edition}
-use Rattle.store.specs.Rows.{IsRoll, columns}
+use Rattle.store.specs.declared.edition.Edition.{Edition as AnEdition}
+use Rattle.store.specs.Editions.{rolls_of}
+use Rattle.store.specs.Rows.{IsAmong}
 use Rattle.sqlite.specs.Schema.{Schema}
 use Rattle.tables.specs.Table.{Place, Lists, table_at}
 use Rattle.store.specs.Tables.{StandsFor}
 
--- the tables of the store are listed with their columns and rules, each in a tree of its own
-pub record AreListed (schema : Schema) : Type 0 where
+-- the edition's table and these are listed with their columns and rules, each in a tree of its own
+pub record AreAllListed (tables : List Table) (schema : Schema) : Type 0 where
   pub edition : Place
   pub places : Table → Place
-  pub edition_apart : (table : Table) → IsRoll table → (places table).tree ≢ edition.tree
-  pub apart : (a b : Table) → IsRoll a → IsRoll b → a ≢ b → (places a).tree ≢ (places b).tree
+  pub edition_apart : (table : Table) → IsAmong tables table → (places table).tree ≢ edition.tree
+  pub apart : (a b : Table) → IsAmong tables a → IsAmong tables b → a ≢ b → (places a).tree ≢ (places b).tree
   pub edition_listed : Lists schema (table_at Edition edition)
-  pub rolls_listed : (table : Table) → IsRoll table → Lists schema (table_at table (places table))
+  pub rolls_listed : (table : Table) → IsAmong tables table → Lists schema (table_at table (places table))
+
+-- the tables of some edition are
+abbrev pub AreListed : Schema → Type 0
+AreListed schema = (e : AnEdition) × AreAllListed (rolls_of e) schema
 
 -- the tables stand for no fit office
 abbrev pub IsDamaged : Database → Type 0

@@ -22,9 +22,13 @@ kept = all_tables
 abbrev pub rolls : List Table
 rolls = drop 1 kept
 
--- the table is one of those
-unfoldable pub IsRoll : Table → Type 0
-IsRoll table = Has rolls table
+-- the table is one of these
+unfoldable pub IsAmong : List Table → Table → Type 0
+IsAmong tables table = Has tables table
+
+-- the table is one of those that hold rows of an office
+abbrev pub IsRoll : Table → Type 0
+IsRoll = IsAmong rolls
 
 -- the table of a key, and the columns that it gives
 abbrev pub at_key : RowKey → Table × Cells

@@ -1,5 +1,5 @@
 -- When the tables of a database hold the rows of an office.
-use Rattle.std.specs.Prelude.{◌≡◌, ◌≢◌, ◌⊎◌, pos, false, List, [], ◌∷◌, Option, is_some}
+use Rattle.std.specs.Prelude.{◌≡◌, ◌≢◌, ◌⊎◌, ℕ, pos, false, List, [], ◌∷◌, Option, is_some}
 use Rattle.sqlite.specs.declared.types.Value.TheVariants.{Int}
 use Rattle.sqlite.specs.Order.{Row as Cells}
 use Rattle.sqlite.specs.Schema.{Schema}
@@ -17,23 +17,34 @@ use Rattle.tables.specs.declared.table.Table.{Table}
 use Rattle.tables.specs.declared.table.Table.TheVariants.{Edition}
 use Rattle.tables.specs.Table.{Place, Lists, made_here, rules_of, shape_of, table_at}
 use Rattle.tables.specs.Keyed.{Stands}
-use Rattle.store.specs.Rows.{AreRowsAt, IsRoll, columns_of, kept}
+use Rattle.store.specs.declared.edition.Edition.{Edition as AnEdition}
+use Rattle.store.specs.Editions.{latest, number_of, rolls_of}
+use Rattle.store.specs.Rows.{AreRowsAt, IsAmong, columns_of, kept}
 
--- the one row of `edition`: its number is 1
-abbrev pub first_edition : List Cells
-first_edition = (Int (pos 1) ∷ Int (pos 1) ∷ []) ∷ []
+-- the one row of `edition`, with this number
+abbrev pub numbered : ℕ → List Cells
+numbered number = (Int (pos 1) ∷ Int (pos number) ∷ []) ∷ []
 
--- The tables of the store are listed with their columns and rules, each in a tree of its own, and at each key
--- there is exactly this row. What else the schema lists is not looked at.
-pub record TablesHold (db : Database) (rows : RowKey → Option Row) : Type 0 where
+-- The edition's table has this number. These tables are listed with their columns and rules, each in a tree of its own, and at each
+-- key there is exactly this row, in one of them. What else the schema lists is not looked at.
+pub record TablesOf (tables : List Table) (number : ℕ) (db : Database) (rows : RowKey → Option Row) : Type 0 where
   pub edition : Place
   pub places : Table → Place
-  pub edition_apart : (table : Table) → IsRoll table → (places table).tree ≢ edition.tree
-  pub apart : (a b : Table) → IsRoll a → IsRoll b → a ≢ b → (places a).tree ≢ (places b).tree
+  pub edition_apart : (table : Table) → IsAmong tables table → (places table).tree ≢ edition.tree
+  pub apart : (a b : Table) → IsAmong tables a → IsAmong tables b → a ≢ b → (places a).tree ≢ (places b).tree
   pub list : List Row
   pub at : AreRowsAt list rows
-  pub editions : Stands (table_at Edition) edition first_edition db
-  pub rolls : (table : Table) → IsRoll table → Stands (table_at table) (places table) (columns_of table list) db
+  pub beyond : (table : Table) → (IsAmong tables table → ⊥) → columns_of table list ≡ []
+  pub editions : Stands (table_at Edition) edition (numbered number) db
+  pub rolls : (table : Table) → IsAmong tables table → Stands (table_at table) (places table) (columns_of table list) db
+
+-- the tables hold these rows in an edition
+abbrev pub HoldIn : AnEdition → Database → (RowKey → Option Row) → Type 0
+HoldIn e = TablesOf (rolls_of e) (number_of e)
+
+-- the same of the edition in which they are made
+abbrev pub TablesHold : Database → (RowKey → Option Row) → Type 0
+TablesHold = HoldIn latest
 
 -- the tables hold the rows of this office, and nothing else
 abbrev pub StandsFor : Database → State → Type 0

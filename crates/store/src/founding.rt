@@ -10,6 +10,7 @@ ghost use Rattle.store.specs.Causes.{IsHinderedFounding, IsHinderedMaking};
 ghost use Rattle.store.specs.Inside.Tables.{Empties};
 ghost use Rattle.store.specs.Tables.{HasNone, MakesTables};
 
+use crate::edition::{LATEST, number_of};
 use crate::fault::StoreFault;
 use crate::kept::TABLES;
 use sqlite::{Alter, Connection, Transaction, params};
@@ -44,14 +45,14 @@ fn make_each<S: Alter>(tx: &mut Transaction<'_, S>, tables: &[Table]) -> Result<
     Ok(())
 }
 
-/// Makes each table, and says that this is edition 1.
+/// Makes each table, and says which edition this is.
 fn make_tables<S: Alter>(tx: &mut Transaction<'_, S>) -> Result<(), TableFault>
     ensures same_reference { tx.new.conn.ghost_name ≡ tx.old.conn.ghost_name }
     ensures step { Does (HasStepped Empties) result (state S.Store tx.old.conn.now) (state S.Store tx.new.conn.now) }
     ensures cause { IsCausedInside IsHinderedFounding result (state S.Store tx.old.conn.now) (state S.Store tx.new.conn.now) }
 {
     make_each(tx, &TABLES)?;
-    insert(tx, Table::Edition, params![1, 1])
+    insert(tx, Table::Edition, params![1, number_of(LATEST)])
 }
 
 /// Makes the tables in one transaction.

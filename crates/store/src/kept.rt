@@ -13,14 +13,3 @@ pub const TABLES: [Table; 8] = [
     Table::Placement,
     Table::Import,
 ];
-
-/// The tables that hold rows of an office.
-pub const ROLLS: [Table; 7] = [
-    Table::Supervisor,
-    Table::Project,
-    Table::Student,
-    Table::Round,
-    Table::Choice,
-    Table::Placement,
-    Table::Import,
-];

@@ -3,7 +3,7 @@
 ghost use Rattle.std.specs.Prelude.{◌≡◌, ◌↔◌, IsTrue, false};
 ghost use Rattle.store.specs.Saving.{AreActedOn, AreInert, IsActedOnAt, IsLeftAlone};
 
-use crate::kept::ROLLS;
+use crate::edition::{LATEST, rolls_of};
 use sqlite_schema::schema::Schema;
 use tables::Table;
 use tables::inert::is_inert;
@@ -25,8 +25,9 @@ pub fn are_left(schema: &Schema) -> bool
     ensures sound { IsTrue result → AreInert schema.now }
     ensures exact { (result ≡ false) ↔ AreActedOn schema.now }
 {
-    for table in ROLLS {
-        if !is_left(schema, table) {
+    let tables = rolls_of(LATEST);
+    for table in tables {
+        if !is_left(schema, *table) {
             return false;
         }
     }

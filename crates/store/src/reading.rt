@@ -1,6 +1,6 @@
 //! Reading the office from its tables.
 
-ghost use Rattle.std.specs.Prelude.{◌≡◌, ◌≢◌, IsTrue, false, pos, IfOk, Err, List, map, drop};
+ghost use Rattle.std.specs.Prelude.{◌≡◌, ◌≢◌, IsTrue, false, pos, IfOk, IfSome, Err, None, List, map, drop};
 ghost use Rattle.sqlite.specs.declared.types.Value.TheVariants.{Int};
 ghost use Rattle.sqlite.specs.Order.{column};
 ghost use Rattle.sqlite.specs.State.{HasCleanDisk, IsUnchanged, Survives};
@@ -12,13 +12,14 @@ ghost use Rattle.tables.specs.Steps.{Rests};
 ghost use Rattle.rolls.specs.State.{State};
 ghost use Rattle.rolls.specs.Fit.{IsFit};
 ghost use Rattle.rolls.specs.From.{AreRowsOf};
-ghost use Rattle.store.specs.Tables.{StandsFor, first_edition};
+ghost use Rattle.store.specs.Editions.{number_of, rolls_of};
+ghost use Rattle.store.specs.Tables.{StandsFor, numbered};
 ghost use Rattle.tables.specs.Layout.{IsListed};
-ghost use Rattle.store.specs.Reading.{AreListed, IsDamaged};
+ghost use Rattle.store.specs.Reading.{AreAllListed, AreListed, IsDamaged};
 ghost use Rattle.store.specs.Inside.Reading.{IsAlone, IsElsewhere, IsListedAlone, ReadsTable, HoldsNoRow, ReadsAll, HoldsUnread};
 
+use crate::edition::{EDITIONS, Edition, number_of, rolls_of};
 use crate::fault::StoreFault;
-use crate::kept::ROLLS;
 use crate::rows::rows_with;
 use loading::RowsFault;
 use office::Office;
@@ -45,60 +46,80 @@ fn shares(schema: &Schema, other: Table, table: Table, tree: u32) -> bool
     }
 }
 
-/// Whether no other roll's table is listed in this tree.
-fn is_alone(schema: &Schema, table: Table, tree: u32) -> bool
-    ensures right { IsTrue result → IsAlone table tree schema.now }
-    ensures wrong { result ≡ false → IsAlone table tree schema.now → ⊥ }
+/// Whether no other one of these tables is listed in this tree.
+fn is_alone(schema: &Schema, tables: &[Table], table: Table, tree: u32) -> bool
+    ensures right { IsTrue result → IsAlone tables.now table tree schema.now }
+    ensures wrong { result ≡ false → IsAlone tables.now table tree schema.now → ⊥ }
 {
-    for other in ROLLS {
-        if shares(schema, other, table, tree) {
+    for other in tables {
+        if shares(schema, *other, table, tree) {
             return false;
         }
     }
     true
 }
 
-/// Whether a roll's table is listed as it is made here, in a tree of its own.
-fn is_listed(schema: &Schema, edition: u32, table: Table) -> bool
-    ensures right { IsTrue result → IsListedAlone edition schema.now table }
-    ensures wrong { result ≡ false → IsListedAlone edition schema.now table → ⊥ }
+/// Whether one of these tables is listed as it is made here, in a tree of its own.
+fn is_listed(schema: &Schema, tables: &[Table], edition: u32, table: Table) -> bool
+    ensures right { IsTrue result → IsListedAlone tables.now edition schema.now table }
+    ensures wrong { result ≡ false → IsListedAlone tables.now edition schema.now table → ⊥ }
 {
     match tree_of(schema, table) {
-        Some(tree) => tree != edition && is_alone(schema, table, tree),
+        Some(tree) => tree != edition && is_alone(schema, tables, table, tree),
         None => false,
     }
 }
 
-/// Whether the tables are listed as they are made here, each in a tree of its own.
-pub fn are_listed(schema: &Schema) -> bool
-    ensures right { IsTrue result → AreListed schema.now }
-    ensures wrong { result ≡ false → AreListed schema.now → ⊥ }
+/// Whether the edition's table and these are listed as they are made here, each in a tree of its own.
+fn are_all_listed(schema: &Schema, tables: &[Table]) -> bool
+    ensures right { IsTrue result → AreAllListed tables.now schema.now }
+    ensures wrong { result ≡ false → AreAllListed tables.now schema.now → ⊥ }
 {
     let Some(edition) = tree_of(schema, Table::Edition) else {
         return false;
     };
-    for table in ROLLS {
-        if !is_listed(schema, edition, table) {
+    for table in tables {
+        if !is_listed(schema, tables, edition, *table) {
             return false;
         }
     }
     true
 }
 
-fn is_one(cells: &Cells, at: usize) -> bool
-    ensures right { IsTrue result → column cells.now at ≡ Int (pos 1) }
-    ensures wrong { result ≡ false → column cells.now at ≢ Int (pos 1) }
+/// The latest edition whose tables are all listed.
+fn listed_edition(schema: &Schema) -> Option<Edition>
+    ensures some { IfSome result (λ e. AreAllListed (rolls_of e) schema.now) }
+    ensures none { result ≡ None → AreListed schema.now → ⊥ }
 {
-    matches!(cells.get_ref(at), Ok(ValueRef::Int(1)))
+    for edition in EDITIONS {
+        if are_all_listed(schema, rolls_of(edition)) {
+            return Some(edition);
+        }
+    }
+    None
 }
 
-/// Whether the rows of `edition` are those of this edition.
-fn are_first(all: &[Cells]) -> bool
-    ensures right { IsTrue result → map (drop 1) all.now ≡ first_edition }
-    ensures wrong { result ≡ false → map (drop 1) all.now ≢ first_edition }
+/// Whether this column is this number.
+fn is_number(cells: &Cells, at: usize, number: u32) -> bool
+    ensures right { IsTrue result → column cells.now at ≡ Int (pos number) }
+    ensures wrong { result ≡ false → column cells.now at ≢ Int (pos number) }
 {
+    match cells.get_ref(at) {
+        Ok(ValueRef::Int(there)) => there == i64::from(number),
+        _ => false,
+    }
+}
+
+/// Whether the rows of the edition's table are one with the number of this edition.
+fn are_numbered(all: &[Cells], edition: Edition) -> bool
+    ensures right { IsTrue result → map (drop 1) all.now ≡ numbered (number_of edition) }
+    ensures wrong { result ≡ false → map (drop 1) all.now ≢ numbered (number_of edition) }
+{
+    let number = number_of(edition);
     match all {
-        [cells] => cells.column_count() == 3 && is_one(cells, 1) && is_one(cells, 2),
+        [cells] => {
+            cells.column_count() == 3 && is_number(cells, 1, 1) && is_number(cells, 2, number)
+        }
         _ => false,
     }
 }
@@ -120,18 +141,23 @@ fn read_table<S: Alter>(
     rows_with(alloc, table, cells.as_slice())
 }
 
-/// The rows of all rolls.
-fn read_rows<S: Alter>(alloc: Global, conn: &mut Connection<S>) -> Result<Vec<Row>, StoreFault>
-    ensures rows { HasCleanDisk (state S.Store conn.new) → IfOk result (λ rows. ReadsAll rows.items (state S.Store conn.old) (state S.Store conn.new)) }
-    ensures damaged { HasCleanDisk (state S.Store conn.new) → result ≡ Err StoreFault.Damaged → HoldsUnread (state S.Store conn.old) }
+/// The rows of the tables of an edition.
+fn read_rows<S: Alter>(
+    alloc: Global,
+    conn: &mut Connection<S>,
+    edition: Edition,
+) -> Result<Vec<Row>, StoreFault>
+    ensures rows { HasCleanDisk (state S.Store conn.new) → IfOk result (λ rows. ReadsAll (rolls_of edition) rows.items (state S.Store conn.old) (state S.Store conn.new)) }
+    ensures damaged { HasCleanDisk (state S.Store conn.new) → result ≡ Err StoreFault.Damaged → HoldsUnread (rolls_of edition) (state S.Store conn.old) }
     ensures rests { HasCleanDisk (state S.Store conn.new) → Rests (state S.Store conn.old) (state S.Store conn.new) }
     ensures cause { IsCaused StoreFault.Storage IsHinderedReading result (state S.Store conn.old) (state S.Store conn.new) }
     ensures mode { conn.old.in_transaction ≡ false → conn.new.in_transaction ≡ false }
     ensures survives { Survives (state S.Store conn.old) (state S.Store conn.new) (λ _. ⊥) }
 {
+    let tables = rolls_of(edition);
     let mut rows = Vec::new(alloc);
-    for table in ROLLS {
-        let mut more = read_table(alloc, conn, table)?;
+    for table in tables {
+        let mut more = read_table(alloc, conn, *table)?;
         rows.append(&mut more)?;
     }
     Ok(rows)
@@ -160,14 +186,14 @@ pub fn office_of<S: Alter>(alloc: Global, conn: &mut Connection<S>) -> Result<Of
     ensures mode { conn.old.in_transaction ≡ false → conn.new.in_transaction ≡ false }
     ensures survives { Survives (state S.Store conn.old) (state S.Store conn.new) (λ _. ⊥) }
 {
-    if !are_listed(conn.schema()) {
+    let Some(edition) = listed_edition(conn.schema()) else {
+        return Err(StoreFault::Damaged);
+    };
+    let number = read(conn, Table::Edition)?;
+    if !are_numbered(number.as_slice(), edition) {
         return Err(StoreFault::Damaged);
     }
-    let edition = read(conn, Table::Edition)?;
-    if !are_first(edition.as_slice()) {
-        return Err(StoreFault::Damaged);
-    }
-    let rows = read_rows(alloc, conn)?;
+    let rows = read_rows(alloc, conn, edition)?;
     let office = office_from(alloc, rows)?;
     Ok(office)
 }

@@ -7,7 +7,7 @@ use Rattle.rolls.specs.declared.row.Row.{Row}
 use Rattle.rolls.specs.declared.row.Row.TheVariants as row
 use Rattle.tables.specs.declared.table.Table.{Table}
 use Rattle.tables.specs.declared.table.Table.TheVariants.{Supervisor, Project, Student, Round, Choice, Placement, Import}
-use Rattle.store.specs.Rows.{IsRoll, columns, is_in, columns_of, rolls}
+use Rattle.store.specs.Rows.{IsAmong, columns, is_in, columns_of}
 use Rattle.sqlite.specs.Schema.{Schema}
 use Rattle.sqlite.specs.State.{State as Seen, IsUnchanged}
 use Rattle.sqlite_rules.specs.Lists.{Has}
@@ -56,16 +56,16 @@ pub record AreRowsOf (table : Table) (cells : List Cells) (rows : List Row) : Ty
 abbrev pub IsElsewhere : Table → ℕ → Schema → Type 0
 IsElsewhere table tree schema = (place : Place) → Lists schema (table_at table place) → place.tree ≢ tree
 
--- no table of another roll is listed in this tree
-abbrev pub IsAlone : Table → ℕ → Schema → Type 0
-IsAlone table tree schema = (other : Table) → IsRoll other → other ≢ table → IsElsewhere other tree schema
+-- no other one of these tables is listed in this tree
+abbrev pub IsAlone : List Table → Table → ℕ → Schema → Type 0
+IsAlone tables table tree schema = (other : Table) → IsAmong tables other → other ≢ table → IsElsewhere other tree schema
 
--- the table is listed with its columns and rules, and in its tree is neither that of the edition nor one of another roll
-pub record IsListedAlone (edition : ℕ) (schema : Schema) (table : Table) : Type 0 where
+-- the table is listed with its columns and rules, and in its tree is neither that of the edition, which is this one, nor another of these
+pub record IsListedAlone (tables : List Table) (edition : ℕ) (schema : Schema) (table : Table) : Type 0 where
   pub place : Place
   pub listed : Lists schema (table_at table place)
   pub from_edition : place.tree ≢ edition
-  pub alone : IsAlone table place.tree schema
+  pub alone : IsAlone tables table place.tree schema
 
 -- wherever the table is listed it holds these columns
 abbrev pub HoldsCells : Table → List Cells → Database → Type 0
@@ -85,18 +85,19 @@ pub record HoldsNoRow (table : Table) (db : Database) : Type 0 where
   pub none : IsNoRow table cells
   pub holds : HoldsCells table all db
 
--- each roll was read, and nothing has changed
-pub record ReadsAll (rows : List Row) (old new : Seen) : Type 0 where
+-- each of these tables was read, the rows are theirs, and nothing has changed
+pub record ReadsAll (tables : List Table) (rows : List Row) (old new : Seen) : Type 0 where
   pub same : IsUnchanged old new
-  pub holds : (table : Table) → IsRoll table → HoldsCells table (columns_of table rows) old.now
+  pub holds : (table : Table) → IsAmong tables table → HoldsCells table (columns_of table rows) old.now
+  pub beyond : (table : Table) → (IsAmong tables table → ⊥) → columns_of table rows ≡ []
 
--- so many of the rolls were read, if any, and nothing has changed
-pub record ReadsSome (count : ℕ) (rows : List Row) (old new : Seen) : Type 0 where
+-- so many of these tables were read, if any, and nothing has changed
+pub record ReadsSome (tables : List Table) (count : ℕ) (rows : List Row) (old new : Seen) : Type 0 where
   pub opened : ((count ≡ 0) × (new.is_open ≡ old.is_open)) ⊎ IsTrue old.is_open
   pub same : IsTrue old.is_open → IsUnchanged old new
-  pub holds : (table : Table) → Has (take count rolls) table → HoldsCells table (columns_of table rows) old.now
-  pub others : (table : Table) → (Has (take count rolls) table → ⊥) → columns_of table rows ≡ []
+  pub holds : (table : Table) → Has (take count tables) table → HoldsCells table (columns_of table rows) old.now
+  pub others : (table : Table) → (Has (take count tables) table → ⊥) → columns_of table rows ≡ []
 
--- one of the rolls holds columns that no row has
-abbrev pub HoldsUnread : Seen → Type 0
-HoldsUnread old = IsTrue old.is_open × (table : Table) × IsRoll table × HoldsNoRow table old.now
+-- one of these tables holds columns that no row has
+abbrev pub HoldsUnread : List Table → Seen → Type 0
+HoldsUnread tables old = IsTrue old.is_open × (table : Table) × IsAmong tables table × HoldsNoRow table old.now

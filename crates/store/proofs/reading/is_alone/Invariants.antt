@@ -1,9 +1,8 @@
 use Rattle.std.proofs.Common.{◌≢◌, take}
 use Rattle.sqlite_rules.specs.Lists.{Has}
 use Rattle.tables.specs.declared.table.Table.{Table}
-use Rattle.store.specs.Rows.{rolls}
 use Rattle.store.specs.Inside.Reading.{IsElsewhere}
 use Rattle.store.proofs.reading.is_alone.Given as goal
 
 abbrev pub invariant-loop-other : goal.invariant-loop-other
-invariant-loop-other l = (other : Table) → Has (take l.other-index rolls) other → other ≢ l.table → IsElsewhere other l.tree l.schema
+invariant-loop-other l = (other : Table) → Has (take l.other-index l.tables) other → other ≢ l.table → IsElsewhere other l.tree l.schema

@@ -3,12 +3,13 @@ use Rattle.sqlite.specs.Order.{Row as Cells}
 use Rattle.sqlite.specs.State.{HasCleanDisk}
 use Rattle.sqlite.specs.Held.{state}
 use Rattle.store.specs.declared.fault.StoreFault.TheVariants.{Damaged}
-use Rattle.store.specs.Tables.{first_edition}
-use Rattle.store.specs.Reading.{AreListed}
+use Rattle.store.specs.Editions.{number_of, rolls_of}
+use Rattle.store.specs.Tables.{numbered}
+use Rattle.store.specs.Reading.{AreAllListed}
 use Rattle.tables.proofs.Runs.{rests_then}
 use Rattle.tables.proofs.Runs.{survives_both}
 use Rattle.store.proofs.AllRows.{none_back, holds_back, unchanged_then}
-use Rattle.store.proofs.ReadRows.{other_edition, unread, unfit, stood}
+use Rattle.store.proofs.ReadRows.{other_number, stands_in, stood, unfit, unread}
 use Rattle.std.proofs.Common.{inl, refl, sym, ap, ◌∙◌}
 use Rattle.store.specs.declared.fault.StoreFault.TheVariants.{Storage}
 use Rattle.tables.specs.declared.table.Table.TheVariants.{Edition}
@@ -16,77 +17,79 @@ use Rattle.store.specs.Causes.{IsHinderedReading}
 use Rattle.store.proofs.Causes.{of_storage, hindered_reading, unchanged_before}
 use Rattle.store.proofs.reading.office_of.Goals as goal
 
-pub returns-then-not-are_first-clause-damaged : goal.returns-then-not-are_first-clause-damaged
-returns-then-not-are_first-clause-damaged g c clean h =
-    let shows = c.in_ok-edition.ensures.rows clean in
-    let other = subst (λ (all : List Cells). map (drop 1) all ≢ first_edition) c.as_slice.ensures.value (c.are_first.ensures.wrong c.if-not-are_first.true) in
-    other_edition (state g.S.Store c.args.conn.now) c.schema.ensures.live shows.same.0.was_open _ _ shows other
+pub returns-then-not-are_numbered-clause-damaged : goal.returns-then-not-are_numbered-clause-damaged
+returns-then-not-are_numbered-clause-damaged g c clean h =
+    let shows = c.in_ok-number.ensures.rows clean in
+    let other = subst (λ (all : List Cells). map (drop 1) all ≢ numbered (number_of c.in-Some.edition)) c.as_slice.ensures.value (c.are_numbered.ensures.wrong c.if-not-are_numbered.true) in
+    other_number (state g.S.Store c.args.conn.now) c.schema.ensures.live shows.same.0.was_open c.in-Some.edition _ _ shows other
 
 pub returns-in_err-rows-clause-damaged : goal.returns-in_err-rows-clause-damaged
 returns-in_err-rows-clause-damaged g c clean h =
     let was : c.read_rows.result ≡ Err Damaged = search rules in
     let found = c.read_rows.ensures.damaged clean was in
     let early : HasCleanDisk (state g.S.Store c.read.new.conn) = omega (arith, c.read_rows.ensures.survives.clean) in
-    let shows = c.in_ok-edition.ensures.rows early in
-    unread (state g.S.Store c.args.conn.now) c.schema.ensures.live shows.same.0.was_open found.1 found.2 (none_back found.1 _ _ shows.same.0.now_is found.3)
+    let shows = c.in_ok-number.ensures.rows early in
+    unread (state g.S.Store c.args.conn.now) c.schema.ensures.live shows.same.0.was_open c.in-Some.edition found.1 found.2 (none_back found.1 _ _ shows.same.0.now_is found.3)
 
 pub returns-in_err-office-clause-damaged : goal.returns-in_err-office-clause-damaged
 returns-in_err-office-clause-damaged g c clean h =
     let was : c.office_from.result ≡ Err Damaged = search rules in
     let early : HasCleanDisk (state g.S.Store c.read.new.conn) = omega (arith, c.read_rows.ensures.survives.clean) in
-    let shows = c.in_ok-edition.ensures.rows early in
+    let shows = c.in_ok-number.ensures.rows early in
     let all = c.in_ok-rows.ensures.rows clean in
-    unfit (state g.S.Store c.args.conn.now) c.schema.ensures.live shows.same.0.was_open c.in_ok-rows.rows.items (λ table among. holds_back table _ _ _ shows.same.0.now_is (all.holds table among)) (c.office_from.ensures.unfit was)
+    unfit (state g.S.Store c.args.conn.now) c.schema.ensures.live shows.same.0.was_open c.in-Some.edition c.in_ok-rows.rows.items (λ table among. holds_back table _ _ _ shows.same.0.now_is (all.holds table among)) all.beyond (c.office_from.ensures.unfit was)
 
 pub returns-clause-ok : goal.returns-clause-ok
 returns-clause-ok g c clean =
     let early : HasCleanDisk (state g.S.Store c.read.new.conn) = omega (arith, c.read_rows.ensures.survives.clean) in
-    let shows = c.in_ok-edition.ensures.rows early in
+    let shows = c.in_ok-number.ensures.rows early in
     let all = c.in_ok-rows.ensures.rows clean in
-    let listed = subst AreListed c.schema.ensures.value (c.are_listed.ensures.right c.if-not-are_listed.false) in
-    let first = subst (λ (rows : List Cells). map (drop 1) rows ≡ first_edition) c.as_slice.ensures.value (c.are_first.ensures.right c.if-not-are_first.false) in (
+    let listed = subst (AreAllListed (rolls_of c.in-Some.edition)) c.schema.ensures.value c.in-Some.ensures.some in
+    let number = subst (λ (rows : List Cells). map (drop 1) rows ≡ numbered (number_of c.in-Some.edition)) c.as_slice.ensures.value (c.are_numbered.ensures.right c.if-not-are_numbered.false) in (
       unchanged_then _ _ _ shows.same all.same,
-      stood (state g.S.Store c.args.conn.now) c.schema.ensures.live shows.same.0.was_open listed _ _ c.in_ok-rows.rows.items _ shows first (λ table among. holds_back table _ _ _ shows.same.0.now_is (all.holds table among)) c.in_ok-office.ensures.rows,
+      stands_in c.in-Some.edition _ _
+          (stood (state g.S.Store c.args.conn.now) c.schema.ensures.live shows.same.0.was_open c.in-Some.edition listed _ _ c.in_ok-rows.rows.items _ shows number (λ table among. holds_back table _ _ _ shows.same.0.now_is (all.holds table among)) all.beyond
+          c.in_ok-office.ensures.rows),
     )
 
 pub returns-in_err-rows-clause-rests : goal.returns-in_err-rows-clause-rests
 returns-in_err-rows-clause-rests g c clean =
     let mid = state g.S.Store c.read.new.conn in
     let early : HasCleanDisk mid = omega (arith, c.read_rows.ensures.survives.clean) in
-    rests_then (state g.S.Store c.args.conn.now) mid (state g.S.Store c.read_rows.new.conn) (c.in_ok-edition.ensures.rests early) (c.read_rows.ensures.rests clean)
+    rests_then (state g.S.Store c.args.conn.now) mid (state g.S.Store c.read_rows.new.conn) (c.in_ok-number.ensures.rests early) (c.read_rows.ensures.rests clean)
 
 pub returns-in_err-rows-clause-survives : goal.returns-in_err-rows-clause-survives
-returns-in_err-rows-clause-survives g c = survives_both _ _ _ c.in_ok-edition.ensures.survives c.read_rows.ensures.survives
+returns-in_err-rows-clause-survives g c = survives_both _ _ _ c.in_ok-number.ensures.survives c.read_rows.ensures.survives
 
 pub returns-in_err-office-clause-rests : goal.returns-in_err-office-clause-rests
 returns-in_err-office-clause-rests g c clean =
     let mid = state g.S.Store c.read.new.conn in
     let early : HasCleanDisk mid = omega (arith, c.read_rows.ensures.survives.clean) in
-    rests_then (state g.S.Store c.args.conn.now) mid (state g.S.Store c.read_rows.new.conn) (c.in_ok-edition.ensures.rests early) (c.in_ok-rows.ensures.rests clean)
+    rests_then (state g.S.Store c.args.conn.now) mid (state g.S.Store c.read_rows.new.conn) (c.in_ok-number.ensures.rests early) (c.in_ok-rows.ensures.rests clean)
 
 pub returns-in_err-office-clause-survives : goal.returns-in_err-office-clause-survives
-returns-in_err-office-clause-survives g c = survives_both _ _ _ c.in_ok-edition.ensures.survives c.in_ok-rows.ensures.survives
+returns-in_err-office-clause-survives g c = survives_both _ _ _ c.in_ok-number.ensures.survives c.in_ok-rows.ensures.survives
 
 pub returns-clause-rests : goal.returns-clause-rests
 returns-clause-rests g c clean =
     let mid = state g.S.Store c.read.new.conn in
     let early : HasCleanDisk mid = omega (arith, c.read_rows.ensures.survives.clean) in
-    rests_then (state g.S.Store c.args.conn.now) mid (state g.S.Store c.read_rows.new.conn) (c.in_ok-edition.ensures.rests early) (c.in_ok-rows.ensures.rests clean)
+    rests_then (state g.S.Store c.args.conn.now) mid (state g.S.Store c.read_rows.new.conn) (c.in_ok-number.ensures.rests early) (c.in_ok-rows.ensures.rests clean)
 
 pub returns-clause-survives : goal.returns-clause-survives
-returns-clause-survives g c = survives_both _ _ _ c.in_ok-edition.ensures.survives c.in_ok-rows.ensures.survives
+returns-clause-survives g c = survives_both _ _ _ c.in_ok-number.ensures.survives c.in_ok-rows.ensures.survives
 
-pub returns-in_err-edition-clause-cause : goal.returns-in_err-edition-clause-cause
-returns-in_err-edition-clause-cause g c clean h =
+pub returns-in_err-number-clause-cause : goal.returns-in_err-number-clause-cause
+returns-in_err-number-clause-cause g c clean h =
     let gives = rw h at c.from_residual.ensures.1 in
-    hindered_reading Edition _ _ (inl refl) (c.read.ensures.cause clean (c.in_err-edition.was ∙ ap Err (of_storage _ (sym gives))))
+    hindered_reading Edition _ _ (inl refl) (c.read.ensures.cause clean (c.in_err-number.was ∙ ap Err (of_storage _ (sym gives))))
 
 pub returns-in_err-rows-clause-cause : goal.returns-in_err-rows-clause-cause
 returns-in_err-rows-clause-cause g c clean h =
     let was : c.read_rows.result ≡ Err Storage = search rules in
     let early : HasCleanDisk (state g.S.Store c.read.new.conn) = omega (arith, c.read_rows.ensures.survives.clean) in
-    let shows = c.in_ok-edition.ensures.rows early in
-    unchanged_before IsHinderedReading IsHinderedReading _ _ _ shows.same c.in_ok-edition.ensures.survives early c.read_rows.ensures.survives.counts (λ limit db it. it) (c.read_rows.ensures.cause clean was)
+    let shows = c.in_ok-number.ensures.rows early in
+    unchanged_before IsHinderedReading IsHinderedReading _ _ _ shows.same c.in_ok-number.ensures.survives early c.read_rows.ensures.survives.counts (λ limit db it. it) (c.read_rows.ensures.cause clean was)
 
 pub returns-in_err-office-clause-cause : goal.returns-in_err-office-clause-cause
 returns-in_err-office-clause-cause g c clean h = absurd (c.office_from.ensures.faults (search rules))

@@ -13,5 +13,5 @@ invariant-loop-table g l =
       survives : Survives old now (λ _. ⊥);
       mode : l.fn.conn.in_transaction ≡ false → l.conn.in_transaction ≡ false;
       rests : HasCleanDisk now → Rests old now;
-      reads : HasCleanDisk now → ReadsSome l.table-index l.rows.items old now;
+      reads : HasCleanDisk now → ReadsSome l.tables l.table-index l.rows.items old now;
     }

@@ -1,9 +1,8 @@
 use Rattle.std.proofs.Common.{take}
 use Rattle.sqlite_rules.specs.Lists.{Has}
 use Rattle.tables.specs.declared.table.Table.{Table}
-use Rattle.store.specs.Rows.{rolls}
 use Rattle.store.specs.Inside.Reading.{IsListedAlone}
-use Rattle.store.proofs.reading.are_listed.Given as goal
+use Rattle.store.proofs.reading.are_all_listed.Given as goal
 
 abbrev pub invariant-loop-table : goal.invariant-loop-table
-invariant-loop-table l = (table : Table) → Has (take l.table-index rolls) table → IsListedAlone l.edition l.schema table
+invariant-loop-table l = (table : Table) → Has (take l.table-index l.tables) table → IsListedAlone l.tables l.edition l.schema table
