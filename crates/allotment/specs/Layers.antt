@@ -14,9 +14,10 @@ use Rattle.imports.specs.declared.fault.ImportFault.{ImportFault}
 use Rattle.imports.specs.declared.fault.ImportFault.TheVariants.{Memory, Header, Fields}
 use Rattle.imports.specs.Requests.{requests_of}
 
--- the parts of a round text of an instance alone: no student has a place, and there are no prices
+-- the parts of a greedy round text of an instance alone: no student has a place, and there are no prices
 abbrev pub alone : Instance → Parts
 alone l = record {
+  aim = Greedy;
   instance = l;
   places = map (λ e. None) l.students;
   student_prices = [];

@@ -53,7 +53,7 @@ pub fn round_text(alloc: Global, office: &Office) -> Result<Reply, AllocError>
     office.fit();
     let instance = office.instance()?;
     instance.fit();
-    let text = write_round(alloc, &instance, None)?;
+    let text = write_round(alloc, &instance, Aim::Greedy, None)?;
     Ok(Reply::Text(Text::of(alloc, text.as_str())?))
 }
 

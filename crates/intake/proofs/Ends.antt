@@ -3,6 +3,7 @@ use Rattle.std.proofs.Common.{◌≡◌, ℕ, zero, suc, ◌+◌, ◌-◌, ◌<�
 use Rattle.std.specs.List.{AllZip}
 use Rattle.std.proofs.lemmas.List.{length-map}
 use Rattle.std.proofs.lemmas.List.Elements.{All-map}
+use Rattle.spa.specs.declared.aim.Aim.{Aim}
 use Rattle.spa.specs.Instance.{Instance, Supervisor, Project, Student, supervisor_codes, project_codes, student_codes}
 use Rattle.spa.specs.declared.fault.Roll.TheVariants.{Supervisors, Projects, Students}
 use Rattle.spa.specs.declared.fault.InstanceFault.{InstanceFault}
@@ -16,7 +17,7 @@ use Rattle.intake.proofs.Rolls.{within_get}
 use Rattle.intake.proofs.Sections.{letter_at}
 use Rattle.intake.proofs.Steps.{prices_step}
 use Rattle.intake.specs.Parts.{Parts, Rise, IsPlace, ArePricesOrNone, IsRoundParts}
-use Rattle.intake.specs.Lines.{Row, choice_code, line, round_lines, section_lines, priced, price_section, pair_rows, supervisor_row, project_row, student_row}
+use Rattle.intake.specs.Lines.{Row, choice_code, line, round_lines, section_lines, priced, price_section, pair_rows, aim_rows, supervisor_row, project_row, student_row}
 use Rattle.intake.specs.Reading.{Begins}
 use Rattle.intake.specs.Inside.Draft.{IsDraft, IsWhole, ArePlaces, ArePricesUpTo, NoneOrAll, AreComplete}
 use Rattle.intake.specs.Inside.Entries.{IsTurn, with_prices}
@@ -54,7 +55,7 @@ placed p = record p { places = p.places ++ replicate (length p.instance.students
 
 -- they have the same lines
 pub placed_lines : (p : Parts) → round_lines (placed p) ≡ round_lines p
-placed_lines p = ap (λ (l : List Row). map (line (codes "S")) (map supervisor_row p.instance.supervisors) ++ (map (line (codes "P")) (map project_row p.instance.projects) ++ (map (line (codes "C")) (map student_row p.instance.students) ++ (map (line (codes "M")) l ++ flat_map section_lines (map price_section (priced p)))))) (no_more_pairs p.instance.students p.places (length p.instance.students - length p.places))
+placed_lines p = ap (λ (l : List Row). map (line (codes "A")) (aim_rows p.aim) ++ (map (line (codes "S")) (map supervisor_row p.instance.supervisors) ++ (map (line (codes "P")) (map project_row p.instance.projects) ++ (map (line (codes "C")) (map student_row p.instance.students) ++ (map (line (codes "M")) l ++ flat_map section_lines (map price_section (priced p))))))) (no_more_pairs p.instance.students p.places (length p.instance.students - length p.places))
 
 -- prices of a roll by its entries
 by_entries : {X : Type 0} (key : X → List ℕ) (es : List X) (vs : List (List ℤ)) → ArePricesUpTo (length (map key es)) vs → NoneOrAll (length (map key es)) vs → ArePricesOrNone (length es) vs
@@ -116,11 +117,11 @@ no_fault p (UnknownProject n k) d h = list_fault p (UnknownProject n k) d h.3
 no_fault p (RepeatedProject n k) d h = list_fault p (RepeatedProject n k) d h.3
 
 -- parts of the same instance and places
-pub same_parts : (i j : Instance) (ks ls : List (Option ℕ)) (u y z : List (List ℤ)) → i ≡ j → ks ≡ ls
-    → (let p : Parts = record { instance = i; places = ks; student_prices = u; project_prices = y; supervisor_prices = z } in p) ≡ record { instance = j; places = ls; student_prices = u; project_prices = y; supervisor_prices = z }
-same_parts i j ks ls u y z e f =
-    ap (λ (i : Instance). let p : Parts = record { instance = i; places = ks; student_prices = u; project_prices = y; supervisor_prices = z } in p) e
-    ∙ ap (λ (ks : List (Option ℕ)). let p : Parts = record { instance = j; places = ks; student_prices = u; project_prices = y; supervisor_prices = z } in p) f
+pub same_parts : (aim : Aim) (i j : Instance) (ks ls : List (Option ℕ)) (u y z : List (List ℤ)) → i ≡ j → ks ≡ ls
+    → (let p : Parts = record { aim = aim; instance = i; places = ks; student_prices = u; project_prices = y; supervisor_prices = z } in p) ≡ record { aim = aim; instance = j; places = ls; student_prices = u; project_prices = y; supervisor_prices = z }
+same_parts aim i j ks ls u y z e f =
+    ap (λ (i : Instance). let p : Parts = record { aim = aim; instance = i; places = ks; student_prices = u; project_prices = y; supervisor_prices = z } in p) e
+    ∙ ap (λ (ks : List (Option ℕ)). let p : Parts = record { aim = aim; instance = j; places = ks; student_prices = u; project_prices = y; supervisor_prices = z } in p) f
 
 -- the prices that are read are completed
 begins_at : (n : ℕ) (p : Parts) → IsDraft p → IsTurn n (priced p) → Begins (round_lines p)

@@ -1,8 +1,8 @@
 -- A line that goes on is one that the draft takes.
-use Rattle.std.proofs.Common.{◌≡◌, ℕ, suc, ◌+◌, ◌<◌, ◌≤◌, ◌^◌, ◌%◌, ℤ, pos, negsuc, true, false, List, [], ◌∷◌, ◌++◌, map, get_or, decimal, All, refl, sym, ap, ◌∙◌, arith, append_assoc}
+use Rattle.std.proofs.Common.{◌≡◌, ℕ, suc, ◌+◌, ◌<◌, ◌≤◌, ◌^◌, ◌%◌, ℤ, pos, negsuc, Bool, true, false, List, [], ◌∷◌, ◌++◌, map, get_or, codes, decimal, All, refl, sym, ap, ◌∙◌, arith, append_assoc}
 use Rattle.std.specs.Fmt.{signed_decimal}
 use Rattle.std.specs.List.{list_all}
-use Rattle.std.specs.Prelude.{◌==◌}
+use Rattle.std.specs.Prelude.{◌==◌, nat_le}
 use Rattle.std.specs.Cmp.{first_so, second_so}
 use Rattle.std.proofs.lemmas.Bool.{ne_eqb}
 use Rattle.std.proofs.lemmas.Bool.Decides.{nat_tests}
@@ -24,24 +24,24 @@ use Rattle.intake.proofs.Sections.{fields_of, fields_back, full, Plain, sections
 code_byte_high : (b : ℕ) → is_code_byte b ≡ true → 45 ≤ b
 code_byte_high b h = grind (arith, nat_tests)
 
+-- and so is one that is tested for it
+tested_high : (b : ℕ) → nat_le 45 b ≡ true → 45 ≤ b
+tested_high b h = grind (arith, nat_tests)
+
 -- a byte that stands in no field
 module _ (c : ℕ) (low : c < 45) where
   -- it is apart from those that do
   apart : (b : ℕ) → 45 ≤ b → (b == c) ≡ false
   apart b h = ne_eqb b c (λ e. omega (arith, e))
 
-  -- a byte of a code is no comma
-  byte_plain : (b : ℕ) → is_code_byte b ≡ true → (b == c) ≡ false
-  byte_plain b h = apart b (code_byte_high b h)
+  -- it is none of the bytes that a test takes, where the test takes none below a dash
+  high_plain : (test : ℕ → Bool) → ((b : ℕ) → test b ≡ true → 45 ≤ b) → (x : List ℕ) → list_all test x ≡ true → IsFree c x
+  high_plain test high [] h = All-nil (λ b. (b == c) ≡ false)
+  high_plain test high (b ∷ x) h = All-cons (λ b. (b == c) ≡ false) b x (apart b (high b (first_so (test b) (list_all test x) h))) (high_plain test high x (second_so (test b) (list_all test x) h))
 
   -- a code has no comma in it
-  code_plain_go : (x : List ℕ) → list_all is_code_byte x ≡ true → IsFree c x
-  code_plain_go [] h = All-nil (λ b. (b == c) ≡ false)
-  code_plain_go (b ∷ x) h = All-cons (λ b. (b == c) ≡ false) b x (byte_plain b (first_so (is_code_byte b) (list_all is_code_byte x) h)) (code_plain_go x (second_so (is_code_byte b) (list_all is_code_byte x) h))
-
-  -- the same of the whole
   code_plain : (x : List ℕ) → is_code x ≡ true → IsFree c x
-  code_plain x h = code_plain_go x (code_bytes x h)
+  code_plain x h = high_plain is_code_byte code_byte_high x (code_bytes x h)
 
   -- a digit is no comma
   digit_plain : (n : ℕ) → n < 10 → ((48 + n) == c) ≡ false
@@ -63,6 +63,7 @@ module _ (c : ℕ) (low : c < 45) where
   free_said = record {
     code = code_plain;
     blank = All-nil (λ b. (b == c) ≡ false);
+    aim = high_plain (nat_le 45) tested_high (codes "generous") refl;
     quota = λ n h. number_plain n (omega arith);
     number = signed_plain;
     none = All-nil (IsFree c);
@@ -83,7 +84,7 @@ module _ (c : ℕ) (low : c < 45) where
   -- it stands in no field of an instance, places and prices
   pub sections_plain : (p : Parts) → IsRoundInstance p.instance → All IsPrice p.student_prices → All IsPrice p.project_prices → All IsPrice p.supervisor_prices → Plain c (sections p)
   sections_plain p i u y z =
-      plain widths (sections p) (letter 83 (omega arith), (letter 80 (omega arith), (letter 67 (omega arith), (letter 77 (omega arith), (letter 85 (omega arith), (letter 89 (omega arith), (letter 90 (omega arith), tt)))))))
+      plain widths (sections p) (letter 65 (omega arith), (letter 83 (omega arith), (letter 80 (omega arith), (letter 67 (omega arith), (letter 77 (omega arith), (letter 85 (omega arith), (letter 89 (omega arith), (letter 90 (omega arith), tt))))))))
       (rows_said (λ w x. IsFree c x) (λ k r. All (IsFree c) r) free_said p i u y z)
 
   -- nor in any of the parts of a text
@@ -113,11 +114,11 @@ goes_on old l r d f b =
     record {
       parts = p;
       valid = b.2;
-      next = next_section (sections p) (sections old) l r (map fields_of b.1) e (refl, (refl, (refl, (refl, (refl, (refl, (refl, tt))))))) refl refl;
+      next = next_section (sections p) (sections old) l r (map fields_of b.1) e (refl, (refl, (refl, (refl, (refl, (refl, (refl, (refl, tt)))))))) refl refl;
     }
 
 -- parts whose lines are those of a draft have its rows
 pub rows_alike : (old p : Parts) → IsDraft old → IsRoundParts p → round_lines p ≡ round_lines old → SameRows (sections p) (sections old)
 rows_alike old p d v h =
     same_rows (sections p) (sections old) (sym (sections_back (sections p) (parts_plain 44 (omega arith) p v)) ∙ ap (map fields_of) h ∙ draft_back old d)
-    (refl, (refl, (refl, (refl, (refl, (refl, (refl, tt))))))) refl refl
+    (refl, (refl, (refl, (refl, (refl, (refl, (refl, (refl, tt)))))))) refl refl

@@ -3,7 +3,7 @@ use Rattle.std.proofs.Common.{◌≡◌, ℕ, Bool, true, false, All, ◌==◌, 
 use denote.Ref.{Bor}
 use Rattle.std.proofs.lemmas.List.Elements.{All-nil, All-cons, All-tail}
 use Rattle.intake.specs.declared.section.SectionName.{SectionName}
-use Rattle.intake.specs.declared.section.SectionName.TheVariants.{Supervisors, Projects, Students, Pairs, StudentPrices, ProjectPrices, SupervisorPrices}
+use Rattle.intake.specs.declared.section.SectionName.TheVariants.{Aims, Supervisors, Projects, Students, Pairs, StudentPrices, ProjectPrices, SupervisorPrices}
 use Rattle.intake.specs.Parts.{Parts}
 use Rattle.intake.specs.Lines.{Row, line, round_lines}
 use Rattle.intake.specs.Reading.{Begins}
@@ -21,6 +21,7 @@ letter_field s row f = All-cons IsField (letter_of s) row (go s) f
     one b h = All-cons (λ b. (b == 44) ≡ false) b [] h (All-nil (λ b. (b == 44) ≡ false))
 
     go : (s : SectionName) → IsField (letter_of s)
+    go Aims = one 65 refl
     go Supervisors = one 83 refl
     go Projects = one 80 refl
     go Students = one 67 refl
@@ -55,6 +56,7 @@ pub no_line : (old : Parts) (fs : List (List ℕ)) → IsDraft old → All IsFie
 no_line old [] d f h b = other_only old [] [] (goes_on old [] [] d (All-cons IsField [] [] (All-nil (λ b. (b == 44) ≡ false)) (All-nil IsField)) b) nil
   where
     nil : (s : SectionName) → [] ≡ letter_of s → ⊥
+    nil Aims e = cc
     nil Supervisors e = cc
     nil Projects e = cc
     nil Students e = cc

@@ -3,6 +3,7 @@ use Rattle.std.proofs.Common.{◌≡◌, ℕ, ◌+◌, ◌-◌, ◌<◌, ◌≤�
 use Rattle.std.specs.Fmt.{signed_decimal}
 use Rattle.std.proofs.lemmas.Bool.{cases_lt}
 use Rattle.std.proofs.lemmas.List.{get_or-map, drop_all}
+use Rattle.spa.specs.declared.aim.Aim.{Aim}
 use Rattle.spa.specs.Shape.{IsPlaceOf, choice_at}
 use Rattle.spa.specs.Codes.{code_at}
 use Rattle.std.proofs.lemmas.List.Concat.{flat_map-append}
@@ -10,7 +11,7 @@ use Rattle.spa.specs.Instance.{Student, supervisor_codes, project_codes, student
 use Rattle.spa.specs.Named.{Named, IsFit, instance_of, supervisors_named, projects_named, students_named}
 use Rattle.verdict.specs.declared.prices.Prices.{Prices}
 use Rattle.intake.specs.View.{alone, proved}
-use Rattle.intake.specs.Lines.{Row, sections, round_text, line, ended, section_lines, supervisor_row, project_row, student_row, pair_rows, price_rows}
+use Rattle.intake.specs.Lines.{Row, sections, round_text, line, ended, section_lines, aim_rows, supervisor_row, project_row, student_row, pair_rows, price_rows}
 
 -- a line x is written, and the rest is left
 pub next : (out new x rest whole : List ℕ) → new ≡ out ++ (x ++ []) → out ++ (x ++ rest) ≡ whole → new ++ rest ≡ whole
@@ -45,9 +46,9 @@ four : (out p q r s : List ℕ) (a b c d : List (List ℕ)) → p ≡ out ++ end
 four out p q r s a b c d ep eq er es =
     es ∙ ap (λ (o : List ℕ). o ++ ended d) (er ∙ ap (λ (o : List ℕ). o ++ ended c) (eq ∙ ap (λ (o : List ℕ). o ++ ended b) ep)) ∙ four_joined out a b c d
 
--- all seven of them
-pub seven : (a b c d e f g : List (List ℕ)) → ended (a ++ (b ++ (c ++ []))) ++ ended (d ++ (e ++ (f ++ (g ++ [])))) ≡ ended (a ++ (b ++ (c ++ (d ++ (e ++ (f ++ (g ++ [])))))))
-seven a b c d e f g = simp (flat_map-append, append_assoc, append-nil)
+-- all eight of them
+pub eight : (a b c d e f g h : List (List ℕ)) → ended (a ++ (b ++ (c ++ (d ++ [])))) ++ ended (e ++ (f ++ (g ++ (h ++ [])))) ≡ ended (a ++ (b ++ (c ++ (d ++ (e ++ (f ++ (g ++ (h ++ []))))))))
+eight a b c d e f g h = simp (flat_map-append, append_assoc, append-nil)
 
 -- nobody has a place
 pub no_pairs : {X : Type 0} (es : List Student) (xs : List X) → pair_rows es (map (λ x. None) xs) ≡ []
@@ -62,14 +63,14 @@ no_prices [] = refl
 no_prices (c ∷ cs) = refl
 
 -- sections without lines write nothing
-no_lines : (a b c : List (List ℕ)) (m u y z : List Row) → m ≡ [] → u ≡ [] → y ≡ [] → z ≡ []
-    → ended (a ++ (b ++ (c ++ []))) ≡ ended (a ++ (b ++ (c ++ (map (line (codes "M")) m ++ (map (line (codes "U")) u ++ (map (line (codes "Y")) y ++ (map (line (codes "Z")) z ++ [])))))))
-no_lines a b c m u y z hm hu hy hz = rw (hm, hu, hy, hz) refl
+no_lines : (a b c d : List (List ℕ)) (m u y z : List Row) → m ≡ [] → u ≡ [] → y ≡ [] → z ≡ []
+    → ended (a ++ (b ++ (c ++ (d ++ [])))) ≡ ended (a ++ (b ++ (c ++ (d ++ (map (line (codes "M")) m ++ (map (line (codes "U")) u ++ (map (line (codes "Y")) y ++ (map (line (codes "Z")) z ++ []))))))))
+no_lines a b c d m u y z hm hu hy hz = rw (hm, hu, hy, hz) refl
 
--- the sections of an instance alone
-pub instance_alone : (i : Named) → ended (flat_map section_lines (take 3 (sections (alone i)))) ≡ round_text (alone i)
-instance_alone i =
-    no_lines (map (line (codes "S")) (map supervisor_row (supervisors_named i.supervisor_codes i.shape.supervisors)))
+-- the sections of an aim and an instance alone
+pub instance_alone : (i : Named) (aim : Aim) → ended (flat_map section_lines (take 4 (sections (alone i aim)))) ≡ round_text (alone i aim)
+instance_alone i aim =
+    no_lines (map (line (codes "A")) (aim_rows aim)) (map (line (codes "S")) (map supervisor_row (supervisors_named i.supervisor_codes i.shape.supervisors)))
     (map (line (codes "P")) (map project_row (projects_named i.supervisor_codes i.project_codes i.shape.projects)))
     (map (line (codes "C")) (map student_row (students_named i.project_codes i.student_codes i.shape.students)))
     (pair_rows (students_named i.project_codes i.student_codes i.shape.students) (map (λ e. None) i.shape.students))
@@ -137,11 +138,11 @@ one_more P xs n before here k d below = elim (cases_lt k n) [
 ]
 
 -- the instance's sections, and then those of a matching and prices
-pub joined : (i : Named) (places : List (Option ℕ)) (prices : Prices) (out new : List ℕ) → out ≡ ended (flat_map section_lines (take 3 (sections (alone i))))
-    → new ≡ out ++ ended (flat_map section_lines (drop 3 (sections (proved i places prices)))) → new ≡ round_text (proved i places prices)
-joined i places prices out new e f =
-    f ∙ ap (λ (o : List ℕ). o ++ ended (flat_map section_lines (drop 3 (sections (proved i places prices))))) e
-    ∙ seven (map (line (codes "S")) (map supervisor_row (supervisors_named i.supervisor_codes i.shape.supervisors)))
+pub joined : (i : Named) (aim : Aim) (places : List (Option ℕ)) (prices : Prices) (out new : List ℕ) → out ≡ ended (flat_map section_lines (take 4 (sections (alone i aim))))
+    → new ≡ out ++ ended (flat_map section_lines (drop 4 (sections (proved i aim places prices)))) → new ≡ round_text (proved i aim places prices)
+joined i aim places prices out new e f =
+    f ∙ ap (λ (o : List ℕ). o ++ ended (flat_map section_lines (drop 4 (sections (proved i aim places prices))))) e
+    ∙ eight (map (line (codes "A")) (aim_rows aim)) (map (line (codes "S")) (map supervisor_row (supervisors_named i.supervisor_codes i.shape.supervisors)))
     (map (line (codes "P")) (map project_row (projects_named i.supervisor_codes i.project_codes i.shape.projects)))
     (map (line (codes "C")) (map student_row (students_named i.project_codes i.student_codes i.shape.students)))
     (map (line (codes "M")) (pair_rows (students_named i.project_codes i.student_codes i.shape.students) places))
@@ -172,13 +173,13 @@ abbrev pub prices_of : List ℕ → List (List ℕ) → List (List ℤ) → List
 prices_of letter cs vs = section_lines (record { letter = letter; rows = price_rows cs vs })
 
 -- the lines of a matching and of prices that were written in turn
-pub four_written : (i : Named) (places : List (Option ℕ)) (prices : Prices) (out a b d e : List ℕ) → IsFit i
+pub four_written : (i : Named) (aim : Aim) (places : List (Option ℕ)) (prices : Prices) (out a b d e : List ℕ) → IsFit i
     → a ≡ out ++ ended (section_lines (record { letter = codes "M"; rows = pair_rows (students_named i.project_codes i.student_codes i.shape.students) places }))
     → b ≡ a ++ ended (prices_of (codes "U") i.student_codes prices.students.items)
     → d ≡ b ++ ended (prices_of (codes "Y") i.project_codes prices.projects.items)
     → e ≡ d ++ ended (prices_of (codes "Z") i.supervisor_codes prices.supervisors.items)
-    → e ≡ out ++ ended (flat_map section_lines (drop 3 (sections (proved i places prices))))
-four_written i places prices out a b d e fit ea eb ed ee =
+    → e ≡ out ++ ended (flat_map section_lines (drop 4 (sections (proved i aim places prices))))
+four_written i aim places prices out a b d e fit ea eb ed ee =
     four out a b d e (section_lines (record { letter = codes "M"; rows = pair_rows (students_named i.project_codes i.student_codes i.shape.students) places }))
     (prices_of (codes "U") i.student_codes prices.students.items) (prices_of (codes "Y") i.project_codes prices.projects.items) (prices_of (codes "Z") i.supervisor_codes prices.supervisors.items)
     ea eb ed ee

@@ -11,13 +11,15 @@ use Rattle.std.proofs.lemmas.Fmt.{length-decimal-le, length_signed_le}
 use Rattle.std.proofs.lemmas.List.Concat.{flat_map-append}
 use Rattle.std.proofs.lemmas.List.{length-map}
 use Rattle.std.proofs.lemmas.List.Elements.{All-head, All-tail}
+use Rattle.spa.specs.declared.aim.Aim.{Aim}
+use Rattle.spa.specs.declared.aim.Aim.TheVariants.{Greedy, Generous}
 use Rattle.spa.specs.declared.TheConstants.{MOST_PLACES}
 use Rattle.spa.specs.Text.{is_code, is_code_byte}
 use Rattle.spa.specs.Instance.{Supervisor, Project, Student, supervisor_codes, project_codes, student_codes}
 use Rattle.verdict.specs.Rows.{InRange}
 use Rattle.intake.specs.declared.TheConstants.{MOST_BYTES}
 use Rattle.intake.specs.Parts.{Parts, IsRoundParts}
-use Rattle.intake.specs.Lines.{Row, Section, line, ended, sections, section_lines, supervisor_row, project_row, student_row, pair_rows, price_rows, round_text}
+use Rattle.intake.specs.Lines.{Row, Section, line, ended, sections, section_lines, aim_rows, supervisor_row, project_row, student_row, pair_rows, price_rows, round_text}
 use Rattle.intake.proofs.Widths.{Said, OfRows, OfLetters, widths, rows_said}
 use Rattle.intake.proofs.Numbers.{small}
 
@@ -53,6 +55,7 @@ short_said : Said (λ w x. length x ≤ w) (λ k r. size r ≤ k)
 short_said = record {
   code = code_short;
   blank = omega arith;
+  aim = omega arith;
   quota = quota_short;
   number = number_short;
   none = omega arith;
@@ -89,6 +92,11 @@ sections_size (w ∷ ws) (s ∷ ss) l h =
     let rest = sections_size ws ss l.1 h.1 in
     omega (arith, ap length both, lengths, first, rest)
 
+-- an aim has one row at most
+aim_few : (aim : Aim) → length (aim_rows aim) ≤ 1
+aim_few Greedy = omega arith
+aim_few Generous = omega arith
+
 -- there are no more pairs than students
 pairs_few : (es : List Student) (ks : List (Option ℕ)) → length (pair_rows es ks) ≤ length es
 pairs_few [] ks = omega arith
@@ -108,7 +116,7 @@ text_small p v =
     let i = p.instance in
     let w = v.instance.within in
     let rows = rows_said (λ w x. length x ≤ w) (λ k r. size r ≤ k) short_said p v.instance v.student_prices.prices v.project_prices.prices v.supervisor_prices.prices in
-    let all = sections_size widths (sections p) (refl, (refl, (refl, (refl, (refl, (refl, (refl, tt))))))) rows in
+    let all = sections_size widths (sections p) (refl, (refl, (refl, (refl, (refl, (refl, (refl, (refl, tt)))))))) rows in
     let supervisors = length-map i.supervisors supervisor_row in
     let projects = length-map i.projects project_row in
     let students = length-map i.students student_row in
@@ -119,4 +127,4 @@ text_small p v =
     let us = length-map i.students (λ (e : Student). e.code) in
     let ys = length-map i.projects (λ (e : Project). e.code) in
     let zs = length-map i.supervisors (λ (e : Supervisor). e.code) in
-    omega (arith, all, supervisors, projects, students, pairs, u, y, z, us, ys, zs, w.supervisors, w.projects, w.students)
+    omega (arith, all, aim_few p.aim, supervisors, projects, students, pairs, u, y, z, us, ys, zs, w.supervisors, w.projects, w.students)

@@ -1,26 +1,35 @@
 -- A draft with one entry more is a draft, and has that line after the others.
-use Rattle.std.proofs.Common.{◌≡◌, ℕ, zero, suc, ◌+◌, ◌-◌, ◌≤◌, ℤ, List, [], ◌∷◌, ◌++◌, length, map, slice_get, replicate, codes, Option, Some, None, All, Contains, refl, sym, ap, ◌∙◌, subst, arith}
+use Rattle.std.proofs.Common.{◌≡◌, ℕ, zero, suc, ◌+◌, ◌-◌, ◌≤◌, ℤ, List, [], ◌∷◌, ◌++◌, length, map, slice_get, replicate, drop, codes, Option, Some, None, All, Contains, refl, sym, ap, ◌∙◌, subst, arith}
 use Rattle.std.specs.Prelude.{IsTrue}
 use Rattle.std.proofs.lemmas.List.{map_push, length_push, length-map}
 use Rattle.std.proofs.lemmas.List.Elements.{All-push, All-nil}
 use Rattle.spa.specs.Shape.{IsPlaceOf}
+use Rattle.spa.specs.declared.aim.Aim.{Aim}
 use Rattle.spa.specs.declared.TheConstants.{MOST_PLACES}
 use Rattle.spa.specs.Text.{is_code}
 use Rattle.spa.specs.Instance.{Supervisor, Project, Student, supervisor_codes, project_codes, student_codes}
 use Rattle.spa.specs.Made.{IsSoundList}
 use Rattle.intake.specs.declared.section.SectionName.{SectionName}
-use Rattle.intake.specs.declared.section.SectionName.TheVariants.{Supervisors, Projects, Students, Pairs, StudentPrices, ProjectPrices, SupervisorPrices}
+use Rattle.intake.specs.declared.section.SectionName.TheVariants.{Aims, Supervisors, Projects, Students, Pairs, StudentPrices, ProjectPrices, SupervisorPrices}
 use Rattle.intake.specs.Parts.{Parts, IsRoll, IsRoundInstance}
 use Rattle.intake.specs.Lines.{Row, choice_code, line, sections, priced, price_section, price_rows, round_lines, supervisor_row, project_row, student_row, pair_rows}
 use Rattle.intake.specs.Inside.Draft.{IsDraft, ArePricesUpTo, ArePlaces, EndsPlaced, HasNoPrices}
-use Rattle.intake.specs.Inside.Entries.{ComesNext, NextSupervisor, NextProject, NextStudent, NextPair, NextPriceAt, HasTurn, IsNext, IsTurn, At, Entry, with_entry, with_price, with_prices, prices_at, letter_of}
+use Rattle.intake.specs.Inside.Entries.{ComesNext, NextAim, NextSupervisor, NextProject, NextStudent, NextPair, NextPriceAt, HasTurn, IsNext, IsTurn, At, Entry, with_entry, with_price, with_prices, prices_at, letter_of}
 use Rattle.intake.proofs.Prices.{unpriced_turn, unpriced_rows, changed_turn, changed_grows, pushed_prices, pushed_rows}
-use Rattle.intake.proofs.Sections.{Grows, letter_at, lines_grow}
+use Rattle.intake.proofs.Sections.{NoRows, Grows, letter_at, lines_grow}
 
 -- a list of nothing known is not sound
 nothing_known : (list : List (List ℕ)) → IsSoundList [] list → ⊥
 nothing_known [] s = absurd (omega (arith, s.0.0))
 nothing_known (x ∷ list) s = absurd (omega (arith, (s.1.known 0 x (omega arith) refl).1))
+
+-- where there are no supervisors there are no projects
+no_projects : (p : Parts) → IsDraft p → p.instance.supervisors ≡ [] → p.instance.projects ≡ []
+no_projects p d e = go p.instance.projects (subst (λ (l : List Supervisor). All (λ (q : Project). Contains (map (λ e. e.code) l) q.supervisor) p.instance.projects) e d.instance.offered)
+  where
+    go : (es : List Project) → All (λ (q : Project). Contains [] q.supervisor) es → es ≡ []
+    go [] h = refl
+    go (q ∷ es) h = absurd (omega (arith, (h 0 q (omega arith)).1))
 
 -- where there are no projects there are no students
 pub no_students : (p : Parts) → IsDraft p → p.instance.projects ≡ [] → p.instance.students ≡ []
@@ -98,6 +107,14 @@ unpriced_step : (n : ℕ) (p q : Parts) (row : Row) → IsRoundInstance q.instan
     → IsDraft q × (round_lines q ≡ round_lines p ++ line (letter_at n (sections p)) row ∷ [])
 unpriced_step n p q row i places last prices grows = (record { instance = i; places = places; last_place = last; prices = unpriced_turn (priced q) prices }, lines_grow n (sections p) (sections q) (row ∷ []) grows)
 
+-- another aim, which has one row more
+aim_step : (p : Parts) (row : Row) (aim : Aim) → IsDraft p → HasTurn Aims p → NextAim p.aim row aim → Step Aims p row aim
+aim_step p row aim d t next =
+    let projects = no_projects p d t.0 in
+    let students = no_students p d projects in
+    let none : NoRows (drop 1 (sections p)) = (ap (map supervisor_row) t.0, (ap (map project_row) projects, (ap (map student_row) students, (pairs_none p.instance.students p.places (no_places p d students), unpriced_rows (priced p) t.1)))) in
+    unpriced_step 0 p (with_entry Aims p aim) row d.instance d.places d.last_place t.1 (refl, next, none, none)
+
 -- a supervisor more
 supervisor_step : (p : Parts) (row : Row) (e : Supervisor) → IsDraft p → HasTurn Supervisors p → NextSupervisor p row e → Step Supervisors p row e
 supervisor_step p row e d t next =
@@ -105,7 +122,7 @@ supervisor_step p row e d t next =
     let q : Parts = with_entry Supervisors p e in
     let students = ap (map student_row) (no_students p d t.0) in
     let pairs = pairs_none p.instance.students p.places (no_places p d (no_students p d t.0)) in
-    unpriced_step 0 p q row
+    unpriced_step 1 p q row
     (record {
       within = record {
         supervisors = omega (arith, length_push p.instance.supervisors e, next.code.few, length-map p.instance.supervisors (λ (e : Supervisor). e.code));
@@ -121,7 +138,7 @@ supervisor_step p row e d t next =
       listed = i.listed;
     })
     d.places d.last_place t.1
-    (refl, rows_push supervisor_row p.instance.supervisors e row next.is, (ap (map project_row) t.0, (students, (pairs, unpriced_rows (priced p) t.1))), (ap (map project_row) t.0, (students, (pairs, unpriced_rows (priced q) t.1))))
+    (refl, (refl, rows_push supervisor_row p.instance.supervisors e row next.is, (ap (map project_row) t.0, (students, (pairs, unpriced_rows (priced p) t.1))), (ap (map project_row) t.0, (students, (pairs, unpriced_rows (priced q) t.1)))))
 
 -- a project more
 project_step : (p : Parts) (row : Row) (e : Project) → IsDraft p → HasTurn Projects p → NextProject p row e → Step Projects p row e
@@ -129,7 +146,7 @@ project_step p row e d t next =
     let i = d.instance in
     let q : Parts = with_entry Projects p e in
     let pairs = pairs_none p.instance.students p.places (no_places p d t.0) in
-    unpriced_step 1 p q row
+    unpriced_step 2 p q row
     (record {
       within = record {
         supervisors = i.within.supervisors;
@@ -145,14 +162,14 @@ project_step p row e d t next =
       listed = subst (λ (l : List Student). All (λ s. IsSoundList (project_codes (with_entry Projects p e).instance) s.list) l) (sym t.0) (All-nil (λ (s : Student). IsSoundList (project_codes (with_entry Projects p e).instance) s.list));
     })
     d.places d.last_place t.1
-    (refl, (refl, rows_push project_row p.instance.projects e row next.is, (ap (map student_row) t.0, (pairs, unpriced_rows (priced p) t.1)), (ap (map student_row) t.0, (pairs, unpriced_rows (priced q) t.1))))
+    (refl, (refl, (refl, rows_push project_row p.instance.projects e row next.is, (ap (map student_row) t.0, (pairs, unpriced_rows (priced p) t.1)), (ap (map student_row) t.0, (pairs, unpriced_rows (priced q) t.1)))))
 
 -- a student more
 student_step : (p : Parts) (row : Row) (e : Student) → IsDraft p → HasTurn Students p → NextStudent p row e → Step Students p row e
 student_step p row e d t next =
     let i = d.instance in
     let q : Parts = with_entry Students p e in
-    unpriced_step 2 p q row
+    unpriced_step 3 p q row
     (record {
       within = record {
         supervisors = i.within.supervisors;
@@ -168,7 +185,7 @@ student_step p row e d t next =
       listed = All-push (λ (s : Student). IsSoundList (project_codes p.instance) s.list) p.instance.students e i.listed next.list;
     })
     (subst (λ (l : List (Option ℕ)). ArePlaces (p.instance.students ++ e ∷ []) l) (sym t.0) tt) d.last_place t.1
-    (refl, (refl, (refl, rows_push student_row p.instance.students e row next.is, (pairs_none p.instance.students p.places t.0, unpriced_rows (priced p) t.1), (pairs_none q.instance.students p.places t.0, unpriced_rows (priced q) t.1))))
+    (refl, (refl, (refl, (refl, rows_push student_row p.instance.students e row next.is, (pairs_none p.instance.students p.places t.0, unpriced_rows (priced p) t.1), (pairs_none q.instance.students p.places t.0, unpriced_rows (priced q) t.1)))))
 
 -- a pair more
 pair_step : (p : Parts) (row : Row) (e : ℕ × ℕ) → IsDraft p → HasTurn Pairs p → NextPair p row e.0 e.1 → Step Pairs p row e
@@ -176,8 +193,8 @@ pair_step p row e d t next =
     let n : ℕ = e.0 - length p.places in
     let at : slice_get p.instance.students (n + length p.places) ≡ Some next.student = (let same : e.0 ≡ n + length p.places = omega (arith, next.later) in subst (λ (k : ℕ). slice_get p.instance.students k ≡ Some next.student) same next.here) in
     let rows = pair_rows_push p.instance.students p.places n e.1 next.student at ∙ ap (λ (r : Row). pair_rows p.instance.students p.places ++ r ∷ []) (sym next.is) in
-    unpriced_step 3 p (with_entry Pairs p e) row d.instance (places_push p.instance.students p.places n e.1 next.student at d.places next.place) (ends_push (p.places ++ replicate n None) e.1) t
-    (refl, (refl, (refl, (refl, rows, unpriced_rows (priced p) t, unpriced_rows (priced p) t))))
+    unpriced_step 4 p (with_entry Pairs p e) row d.instance (places_push p.instance.students p.places n e.1 next.student at d.places next.place) (ends_push (p.places ++ replicate n None) e.1) t
+    (refl, (refl, (refl, (refl, (refl, rows, unpriced_rows (priced p) t, unpriced_rows (priced p) t)))))
 
 -- a draft with other prices at position n, whose rows are more
 pub prices_step : (n : ℕ) (vs : List (List ℤ)) (p : Parts) (more : List Row) → IsDraft p → IsTurn n (priced p) → At n (λ s. ArePricesUpTo (length s.codes) vs) (priced p)
@@ -185,15 +202,15 @@ pub prices_step : (n : ℕ) (vs : List (List ℤ)) (p : Parts) (more : List Row)
     → IsDraft (with_prices n vs p) × (round_lines (with_prices n vs p) ≡ round_lines p ++ map (line (letter_at n (map price_section (priced p)))) more)
 prices_step zero vs p more d t a g = (
   record { instance = d.instance; places = d.places; last_place = d.last_place; prices = changed_turn 0 vs (priced p) d.prices t a },
-  lines_grow 4 (sections p) (sections (with_prices 0 vs p)) more (refl, (refl, (refl, (refl, changed_grows 0 vs (priced p) more t g)))),
+  lines_grow 5 (sections p) (sections (with_prices 0 vs p)) more (refl, (refl, (refl, (refl, (refl, changed_grows 0 vs (priced p) more t g))))),
 )
 prices_step (suc zero) vs p more d t a g = (
   record { instance = d.instance; places = d.places; last_place = d.last_place; prices = changed_turn 1 vs (priced p) d.prices t a },
-  lines_grow 5 (sections p) (sections (with_prices 1 vs p)) more (refl, (refl, (refl, (refl, changed_grows 1 vs (priced p) more t g)))),
+  lines_grow 6 (sections p) (sections (with_prices 1 vs p)) more (refl, (refl, (refl, (refl, (refl, changed_grows 1 vs (priced p) more t g))))),
 )
 prices_step (suc (suc zero)) vs p more d t a g = (
   record { instance = d.instance; places = d.places; last_place = d.last_place; prices = changed_turn 2 vs (priced p) d.prices t a },
-  lines_grow 6 (sections p) (sections (with_prices 2 vs p)) more (refl, (refl, (refl, (refl, changed_grows 2 vs (priced p) more t g)))),
+  lines_grow 7 (sections p) (sections (with_prices 2 vs p)) more (refl, (refl, (refl, (refl, (refl, changed_grows 2 vs (priced p) more t g))))),
 )
 prices_step (suc (suc (suc n))) vs p more d t a g = absurd t.1.1.1
 
@@ -203,6 +220,7 @@ price_step n p row v d t next = prices_step n (prices_at n (priced p) ++ v ∷ [
 
 -- an entry more of any section
 pub step : (s : SectionName) (p : Parts) (row : Row) (e : Entry s) → IsDraft p → HasTurn s p → IsNext s p row e → Step s p row e
+step Aims p row aim d t next = aim_step p row aim d t next
 step Supervisors p row e d t next = supervisor_step p row e d t next
 step Projects p row e d t next = project_step p row e d t next
 step Students p row e d t next = student_step p row e d t next

@@ -6,16 +6,18 @@ use Rattle.std.specs.Str.{bytes_eq}
 use Rattle.std.proofs.lemmas.Bool.{cases_Bool}
 use Rattle.std.proofs.lemmas.Slice.Eq.{bytes_eq-Decides}
 use Rattle.std.proofs.lemmas.List.{length-append, length-map, get_or_append_left}
+use Rattle.spa.specs.declared.aim.Aim.{Aim}
+use Rattle.spa.specs.declared.aim.Aim.TheVariants.{Greedy, Generous}
 use Rattle.spa.specs.Shape.{IsPlaceOf}
 use Rattle.spa.specs.Text.{is_code}
 use Rattle.spa.specs.Instance.{Supervisor, Project, Student, supervisor_codes, project_codes}
 use Rattle.spa.specs.Made.{IsSoundList}
 use Rattle.intake.specs.declared.section.SectionName.{SectionName}
-use Rattle.intake.specs.declared.section.SectionName.TheVariants.{Supervisors, Projects, Students, Pairs, StudentPrices, ProjectPrices, SupervisorPrices}
+use Rattle.intake.specs.declared.section.SectionName.TheVariants.{Aims, Supervisors, Projects, Students, Pairs, StudentPrices, ProjectPrices, SupervisorPrices}
 use Rattle.intake.specs.Parts.{Parts, Rise, IsPlace, IsRoll, IsRoundParts}
-use Rattle.intake.specs.Lines.{Row, choice_code, sections, priced, round_lines, supervisor_row, project_row, student_row, pair_rows}
+use Rattle.intake.specs.Lines.{Row, choice_code, sections, priced, round_lines, aim_rows, supervisor_row, project_row, student_row, pair_rows}
 use Rattle.intake.specs.Inside.Draft.{IsDraft, IsWhole, ArePlaces, EndsPlaced}
-use Rattle.intake.specs.Inside.Entries.{ComesNext, NextPriceAt, HasTurn, IsNext, IsTurn, Entry, letter_of}
+use Rattle.intake.specs.Inside.Entries.{ComesNext, NextAim, NextPriceAt, HasTurn, IsNext, IsTurn, Entry, letter_of}
 use Rattle.intake.proofs.Order.{cmp_apart, get_found}
 use Rattle.intake.proofs.PairLine.{all_found, get_mapped}
 use Rattle.intake.proofs.Prices.{SameCodes, rows_unpriced, parts_priced, takes_next, all_complete}
@@ -112,11 +114,25 @@ project_code x y e = cc
 student_code : (x y : Student) → student_row x ≡ student_row y → x.code ≡ y.code
 student_code x y e = cc
 
+-- a row more of an aim is its last
+last_aim : (new old : Aim) (r : Row) (more : List Row) → aim_rows new ≡ aim_rows old ++ r ∷ more → NextAim old r new
+last_aim Greedy Greedy r more e = cc
+last_aim Greedy Generous r more e = cc
+last_aim Generous Greedy r more e = cc
+last_aim Generous Generous r more e = cc
+
+-- an aim's line goes on only where the draft takes it
+aim_only : (old : Parts) (r : Row) → IsDraft old → GoesOn old (codes "A") r → Goes Aims old r
+aim_only old r d g =
+    let p : Parts = g.parts in
+    let i = next_at (sections p) (sections old) (codes "A") r 0 refl g.next in
+    record { turn = (nothing_made supervisor_row old.instance.supervisors i.1.0, rows_unpriced (priced old) d.prices i.1.1.1.1.1); e = p.aim; next = last_aim p.aim old.aim r i.0.0 i.0.1 }
+
 -- a supervisor's line goes on only where the draft takes it
 supervisor_only : (old : Parts) (r : Row) → IsDraft old → GoesOn old (codes "S") r → Goes Supervisors old r
 supervisor_only old r d g =
     let p : Parts = g.parts in
-    let i = next_at (sections p) (sections old) (codes "S") r 0 refl g.next in
+    let i = (next_at (sections p) (sections old) (codes "S") r 1 refl g.next).1 in
     let f = next_entry supervisor_row (λ (e : Supervisor). e.code) supervisor_code p.instance.supervisors old.instance.supervisors r _ i.0 g.valid.instance.supervisors g.valid.instance.within.supervisors in
     record { turn = (nothing_made project_row old.instance.projects i.1.0, rows_unpriced (priced old) d.prices i.1.1.1.1); e = f.e; next = record { is = f.is; code = f.code; quota = quota_found (λ (e : Supervisor). e.quota) p.instance.supervisors (length old.instance.supervisors) f.e g.valid.instance.within.supervisor_quotas f.here } }
 
@@ -125,11 +141,11 @@ project_only : (old : Parts) (r : Row) → IsDraft old → GoesOn old (codes "P"
 project_only old r d g =
     let p : Parts = g.parts in
     let n : ℕ = length old.instance.projects in
-    let at = next_at (sections p) (sections old) (codes "P") r 1 refl g.next in
-    let i = at.1 in
+    let at = next_at (sections p) (sections old) (codes "P") r 2 refl g.next in
+    let i = at.1.1 in
     let f = next_entry project_row (λ (e : Project). e.code) project_code p.instance.projects old.instance.projects r _ i.0 g.valid.instance.projects g.valid.instance.within.projects in
     let owner = all_found (λ (e : Project). Contains (supervisor_codes p.instance) e.supervisor) p.instance.projects n f.e g.valid.instance.offered f.here in
-    record { turn = (nothing_made student_row old.instance.students i.1.0, rows_unpriced (priced old) d.prices i.1.1.1); e = f.e; next = record { is = f.is; code = f.code; known = subst (λ (l : List (List ℕ)). Contains l f.e.supervisor) (same_codes supervisor_row (λ (e : Supervisor). e.code) supervisor_code p.instance.supervisors old.instance.supervisors at.0) owner; quota = quota_found (λ (e : Project). e.quota) p.instance.projects n f.e g.valid.instance.within.project_quotas f.here } }
+    record { turn = (nothing_made student_row old.instance.students i.1.0, rows_unpriced (priced old) d.prices i.1.1.1); e = f.e; next = record { is = f.is; code = f.code; known = subst (λ (l : List (List ℕ)). Contains l f.e.supervisor) (same_codes supervisor_row (λ (e : Supervisor). e.code) supervisor_code p.instance.supervisors old.instance.supervisors at.1.0) owner; quota = quota_found (λ (e : Project). e.quota) p.instance.projects n f.e g.valid.instance.within.project_quotas f.here } }
 
 -- there are no places without rows of pairs
 no_places : (es : List Student) (ks : List (Option ℕ)) → ArePlaces es ks → EndsPlaced ks → pair_rows es ks ≡ [] → ks ≡ []
@@ -143,11 +159,11 @@ no_places (x ∷ es) (None ∷ k ∷ ks) a e h = (let none : k ∷ ks ≡ [] = n
 student_only : (old : Parts) (r : Row) → IsDraft old → GoesOn old (codes "C") r → Goes Students old r
 student_only old r d g =
     let p : Parts = g.parts in
-    let at = next_at (sections p) (sections old) (codes "C") r 2 refl g.next in
-    let i = at.1.1 in
+    let at = next_at (sections p) (sections old) (codes "C") r 3 refl g.next in
+    let i = at.1.1.1 in
     let f = next_entry student_row (λ (e : Student). e.code) student_code p.instance.students old.instance.students r _ i.0 g.valid.instance.students g.valid.instance.within.students in
     let listed = all_found (λ (e : Student). IsSoundList (project_codes p.instance) e.list) p.instance.students (length old.instance.students) f.e g.valid.instance.listed f.here in
-    record { turn = (no_places old.instance.students old.places d.places d.last_place i.1.0, rows_unpriced (priced old) d.prices i.1.1); e = f.e; next = record { is = f.is; code = f.code; list = subst (λ (l : List (List ℕ)). IsSoundList l f.e.list) (same_codes project_row (λ (e : Project). e.code) project_code p.instance.projects old.instance.projects at.1.0) listed } }
+    record { turn = (no_places old.instance.students old.places d.places d.last_place i.1.0, rows_unpriced (priced old) d.prices i.1.1); e = f.e; next = record { is = f.is; code = f.code; list = subst (λ (l : List (List ℕ)). IsSoundList l f.e.list) (same_codes project_row (λ (e : Project). e.code) project_code p.instance.projects old.instance.projects at.1.1.0) listed } }
 
 -- students with the same rows are the same
 pub same_students : (xs ys : List Student) → map student_row xs ≡ map student_row ys → xs ≡ ys
@@ -256,9 +272,9 @@ zip_place (x ∷ es) (j ∷ ks) (suc s) k e z h i = zip_place es ks s k e z.1 h 
 pair_only : (old : Parts) (r : Row) → IsDraft old → GoesOn old (codes "M") r → Goes Pairs old r
 pair_only old r d g =
     let p : Parts = g.parts in
-    let at = next_at (sections p) (sections old) (codes "M") r 3 refl g.next in
-    let i = at.1.1.1 in
-    let students : p.instance.students ≡ old.instance.students = same_students p.instance.students old.instance.students at.1.1.0 in
+    let at = next_at (sections p) (sections old) (codes "M") r 4 refl g.next in
+    let i = at.1.1.1.1 in
+    let students : p.instance.students ≡ old.instance.students = same_students p.instance.students old.instance.students at.1.1.1.0 in
     let rows : pair_rows old.instance.students p.places ≡ pair_rows old.instance.students old.places ++ r ∷ i.0.0 = ap (λ (l : List Student). pair_rows l p.places) (sym students) ∙ i.0.1 in
     let a = next_pair old.instance.students p.places old.places r i.0.0 d.instance.students.rise d.places d.last_place rows in
     let zipped : AllZip IsPlace old.instance.students p.places = subst (λ (l : List Student). AllZip IsPlace l p.places) students g.valid.places in
@@ -274,26 +290,27 @@ rolls_alike p q e f g = (
 )
 
 -- the line of a price goes on only where the draft takes it
-price_only : (n : ℕ) (old : Parts) (r : Row) → IsDraft old → (p : Parts) → IsRoundParts p → NextAt (suc (suc (suc (suc n)))) (sections p) (sections old) r → (v : List ℤ) × IsTurn n (priced old) × NextPriceAt n old r v
-price_only n old r d p v at = takes_next n (priced p) (priced old) r (rolls_alike p old at.0 at.1.0 at.1.1.0) (parts_priced p v) d.prices at.1.1.1.1
+price_only : (n : ℕ) (old : Parts) (r : Row) → IsDraft old → (p : Parts) → IsRoundParts p → NextAt (suc (suc (suc (suc (suc n))))) (sections p) (sections old) r → (v : List ℤ) × IsTurn n (priced old) × NextPriceAt n old r v
+price_only n old r d p v at = takes_next n (priced p) (priced old) r (rolls_alike p old at.1.0 at.1.1.0 at.1.1.1.0) (parts_priced p v) d.prices at.1.1.1.1.1
 
 -- a line goes on only where the draft takes it
 pub only : (s : SectionName) (old : Parts) (r : Row) → IsDraft old → GoesOn old (letter_of s) r → Goes s old r
+only Aims old r d g = aim_only old r d g
 only Supervisors old r d g = supervisor_only old r d g
 only Projects old r d g = project_only old r d g
 only Students old r d g = student_only old r d g
 only Pairs old r d g = pair_only old r d g
-only StudentPrices old r d g = (let t = price_only 0 old r d g.parts g.valid (next_at (sections g.parts) (sections old) (codes "U") r 4 refl g.next) in record { turn = t.1; e = t.0; next = t.2 })
-only ProjectPrices old r d g = (let t = price_only 1 old r d g.parts g.valid (next_at (sections g.parts) (sections old) (codes "Y") r 5 refl g.next) in record { turn = t.1; e = t.0; next = t.2 })
-only SupervisorPrices old r d g = (let t = price_only 2 old r d g.parts g.valid (next_at (sections g.parts) (sections old) (codes "Z") r 6 refl g.next) in record { turn = t.1; e = t.0; next = t.2 })
+only StudentPrices old r d g = (let t = price_only 0 old r d g.parts g.valid (next_at (sections g.parts) (sections old) (codes "U") r 5 refl g.next) in record { turn = t.1; e = t.0; next = t.2 })
+only ProjectPrices old r d g = (let t = price_only 1 old r d g.parts g.valid (next_at (sections g.parts) (sections old) (codes "Y") r 6 refl g.next) in record { turn = t.1; e = t.0; next = t.2 })
+only SupervisorPrices old r d g = (let t = price_only 2 old r d g.parts g.valid (next_at (sections g.parts) (sections old) (codes "Z") r 7 refl g.next) in record { turn = t.1; e = t.0; next = t.2 })
 
 -- a line with another letter goes on nowhere
 pub other_only : (old : Parts) (l : List ℕ) (r : Row) → GoesOn old l r → ((s : SectionName) → l ≡ letter_of s → ⊥) → ⊥
 other_only old l r g none =
     let yes = next_letter (sections g.parts) (sections old) l r g.next in
     let off : has_letter l (sections g.parts) ≡ false =
-    neither l (codes "S") _ (none Supervisors) (neither l (codes "P") _ (none Projects) (neither l (codes "C") _ (none Students) (neither l (codes "M") _ (none Pairs)
-    (neither l (codes "U") _ (none StudentPrices) (neither l (codes "Y") _ (none ProjectPrices) (neither l (codes "Z") _ (none SupervisorPrices) refl)))))) in
+    neither l (codes "A") _ (none Aims) (neither l (codes "S") _ (none Supervisors) (neither l (codes "P") _ (none Projects) (neither l (codes "C") _ (none Students) (neither l (codes "M") _ (none Pairs)
+    (neither l (codes "U") _ (none StudentPrices) (neither l (codes "Y") _ (none ProjectPrices) (neither l (codes "Z") _ (none SupervisorPrices) refl))))))) in
     cc
   where
     neither : (a b : List ℕ) (x : Bool) → (a ≡ b → ⊥) → x ≡ false → (bytes_eq a b || x) ≡ false
@@ -303,4 +320,4 @@ other_only old l r g none =
 pub whole_only : (old p : Parts) → IsDraft old → IsRoundParts p → round_lines p ≡ round_lines old → IsWhole old
 whole_only old p d v h =
     let s = rows_alike old p d v h in
-    all_complete (priced p) (priced old) (rolls_alike p old s.0 s.1.0 s.1.1.0) (parts_priced p v) d.prices s.1.1.1.1 refl
+    all_complete (priced p) (priced old) (rolls_alike p old s.1.0 s.1.1.0 s.1.1.1.0) (parts_priced p v) d.prices s.1.1.1.1.1 refl

@@ -7,6 +7,8 @@ use Rattle.std.proofs.lemmas.Fmt.{decimal_injective, signed_decimal_injective}
 use Rattle.std.proofs.lemmas.List.{append_cancel_right, length-map}
 use Rattle.std.proofs.lemmas.List.Elements.{All-head, All-tail}
 use Rattle.spa.specs.Shape.{IsPlaceOf}
+use Rattle.spa.specs.declared.aim.Aim.{Aim}
+use Rattle.spa.specs.declared.aim.Aim.TheVariants.{Greedy, Generous}
 use Rattle.spa.specs.declared.TheConstants.{MOST_PLACES}
 use Rattle.spa.specs.Codes.{code_at, AreApart}
 use Rattle.spa.specs.Instance.{Supervisor, Project, Student, project_codes}
@@ -17,7 +19,7 @@ use Rattle.intake.specs.declared.round.RoundFault.{RoundFault}
 use Rattle.intake.specs.declared.round.RoundFault.TheVariants.{Memory, TooLarge, Line}
 use Rattle.intake.specs.Parts.{Parts, Rise, IsPlace, IsPrice, ArePricesOrNone, IsRoundParts}
 use Rattle.intake.proofs.Size.{text_small}
-use Rattle.intake.specs.Lines.{Row, choice_code, sections, round_lines, round_text, supervisor_row, project_row, pair_rows, price_rows}
+use Rattle.intake.specs.Lines.{Row, choice_code, sections, round_lines, round_text, aim_rows, supervisor_row, project_row, pair_rows, price_rows}
 use Rattle.intake.specs.Reading.{IsReading, IsReadBack}
 use Rattle.intake.specs.View.{parts_of}
 use Rattle.intake.proofs.Bad.{round_pieces}
@@ -41,6 +43,13 @@ same_entries {X = X} row quota one (x ∷ xs) (y ∷ ys) a b e =
     let rest : map row xs ≡ map row ys = cc in
     ap (λ (z : X). z ∷ xs) (one x y (All-head (λ q. q ≤ MOST_PLACES) (quota x) (map quota xs) a) (All-head (λ q. q ≤ MOST_PLACES) (quota y) (map quota ys) b) first)
     ∙ ap (λ (l : List X). y ∷ l) (same_entries row quota one xs ys (All-tail (λ q. q ≤ MOST_PLACES) (quota x) (map quota xs) a) (All-tail (λ q. q ≤ MOST_PLACES) (quota y) (map quota ys) b) rest)
+
+-- aims with the same rows are the same
+same_aim : (a b : Aim) → aim_rows a ≡ aim_rows b → a ≡ b
+same_aim Greedy Greedy e = refl
+same_aim Greedy Generous e = cc
+same_aim Generous Greedy e = cc
+same_aim Generous Generous e = refl
 
 -- so they do of a supervisor
 same_supervisor : (x y : Supervisor) → x.quota ≤ MOST_PLACES → y.quota ≤ MOST_PLACES → supervisor_row x ≡ supervisor_row y → x ≡ y
@@ -142,35 +151,35 @@ same_priced {X = X} code es fs us vs e a b rows =
     same_prices (map code fs) us vs (subst (λ (l : List X). length us ≤ length (map code l)) e (few_prices code es us a)) (few_prices code fs vs b) a.prices b.prices
     (ap (λ (l : List X). price_rows (map code l) us) (sym e) ∙ rows)
 
--- parts of the same seven lists are the same
-same_parts : (a i : List Supervisor) (b j : List Project) (c k : List Student) (d l : List (Option ℕ)) (u v x y z w : List (List ℤ)) → a ≡ i → b ≡ j → c ≡ k → d ≡ l → u ≡ v → x ≡ y → z ≡ w
-    → (let p : Parts = record { instance = record { supervisors = a; projects = b; students = c }; places = d; student_prices = u; project_prices = x; supervisor_prices = z } in p)
-    ≡ record { instance = record { supervisors = i; projects = j; students = k }; places = l; student_prices = v; project_prices = y; supervisor_prices = w }
-same_parts a i b j c k d l u v x y z w ea eb ec ed eu ex ez = rw (ea, eb, ec, ed, eu, ex, ez) refl
+-- parts of the same aim and the same seven lists are the same
+same_parts : (m n : Aim) (a i : List Supervisor) (b j : List Project) (c k : List Student) (d l : List (Option ℕ)) (u v x y z w : List (List ℤ)) → m ≡ n → a ≡ i → b ≡ j → c ≡ k → d ≡ l → u ≡ v → x ≡ y → z ≡ w
+    → (let p : Parts = record { aim = m; instance = record { supervisors = a; projects = b; students = c }; places = d; student_prices = u; project_prices = x; supervisor_prices = z } in p)
+    ≡ record { aim = n; instance = record { supervisors = i; projects = j; students = k }; places = l; student_prices = v; project_prices = y; supervisor_prices = w }
+same_parts m n a i b j c k d l u v x y z w em ea eb ec ed eu ex ez = rw (em, ea, eb, ec, ed, eu, ex, ez) refl
 
 -- the rows of parts with one text
 one_rows : (p q : Parts) → IsRoundParts p → IsRoundParts q → round_text p ≡ round_text q → SameRows (sections p) (sections q)
 one_rows p q v w e =
     let lines : round_lines p ≡ round_lines q = append_cancel_right (round_lines p) (round_lines q) ([] ∷ []) (sym (round_pieces (round_text p) p v refl) ∙ round_pieces (round_text p) q w e) in
     same_rows (sections p) (sections q) (sym (sections_back (sections p) (parts_plain 44 (omega arith) p v)) ∙ ap (map fields_of) lines ∙ sections_back (sections q) (parts_plain 44 (omega arith) q w))
-    (refl, (refl, (refl, (refl, (refl, (refl, (refl, tt))))))) refl refl
+    (refl, (refl, (refl, (refl, (refl, (refl, (refl, (refl, tt)))))))) refl refl
 
 -- parts with one text are the same
 pub one_text : (p q : Parts) → IsRoundParts p → IsRoundParts q → round_text p ≡ round_text q → p ≡ q
 one_text p q v w e =
     let s = one_rows p q v w e in
-    let supervisors : p.instance.supervisors ≡ q.instance.supervisors = same_entries supervisor_row (λ (e : Supervisor). e.quota) same_supervisor p.instance.supervisors q.instance.supervisors v.instance.within.supervisor_quotas w.instance.within.supervisor_quotas s.0 in
-    let projects : p.instance.projects ≡ q.instance.projects = same_entries project_row (λ (e : Project). e.quota) same_project p.instance.projects q.instance.projects v.instance.within.project_quotas w.instance.within.project_quotas s.1.0 in
-    let students : p.instance.students ≡ q.instance.students = same_students p.instance.students q.instance.students s.1.1.0 in
+    let supervisors : p.instance.supervisors ≡ q.instance.supervisors = same_entries supervisor_row (λ (e : Supervisor). e.quota) same_supervisor p.instance.supervisors q.instance.supervisors v.instance.within.supervisor_quotas w.instance.within.supervisor_quotas s.1.0 in
+    let projects : p.instance.projects ≡ q.instance.projects = same_entries project_row (λ (e : Project). e.quota) same_project p.instance.projects q.instance.projects v.instance.within.project_quotas w.instance.within.project_quotas s.1.1.0 in
+    let students : p.instance.students ≡ q.instance.students = same_students p.instance.students q.instance.students s.1.1.1.0 in
     let zipped : AllZip IsPlace q.instance.students p.places = subst (λ (l : List Student). AllZip IsPlace l p.places) students v.places in
-    let pairs : pair_rows q.instance.students p.places ≡ pair_rows q.instance.students q.places = ap (λ (l : List Student). pair_rows l p.places) (sym students) ∙ s.1.1.1.0 in
-    same_parts p.instance.supervisors q.instance.supervisors p.instance.projects q.instance.projects p.instance.students q.instance.students
+    let pairs : pair_rows q.instance.students p.places ≡ pair_rows q.instance.students q.places = ap (λ (l : List Student). pair_rows l p.places) (sym students) ∙ s.1.1.1.1.0 in
+    same_parts p.aim q.aim p.instance.supervisors q.instance.supervisors p.instance.projects q.instance.projects p.instance.students q.instance.students
     p.places q.places p.student_prices q.student_prices p.project_prices q.project_prices p.supervisor_prices q.supervisor_prices
-    supervisors projects students
+    (same_aim p.aim q.aim s.0) supervisors projects students
     (same_places (project_codes q.instance) q.instance.students p.places q.places w.instance.students.rise w.instance.listed zipped w.places pairs)
-    (same_priced (λ (e : Student). e.code) p.instance.students q.instance.students p.student_prices q.student_prices students v.student_prices w.student_prices s.1.1.1.1.0)
-    (same_priced (λ (e : Project). e.code) p.instance.projects q.instance.projects p.project_prices q.project_prices projects v.project_prices w.project_prices s.1.1.1.1.1.0)
-    (same_priced (λ (e : Supervisor). e.code) p.instance.supervisors q.instance.supervisors p.supervisor_prices q.supervisor_prices supervisors v.supervisor_prices w.supervisor_prices s.1.1.1.1.1.1.0)
+    (same_priced (λ (e : Student). e.code) p.instance.students q.instance.students p.student_prices q.student_prices students v.student_prices w.student_prices s.1.1.1.1.1.0)
+    (same_priced (λ (e : Project). e.code) p.instance.projects q.instance.projects p.project_prices q.project_prices projects v.project_prices w.project_prices s.1.1.1.1.1.1.0)
+    (same_priced (λ (e : Supervisor). e.code) p.instance.supervisors q.instance.supervisors p.supervisor_prices q.supervisor_prices supervisors v.supervisor_prices w.supervisor_prices s.1.1.1.1.1.1.1.0)
 
 -- the text of parts is read as them
 pub read_back : (p : Parts) (r : Result RoundParts RoundFault) → IsRoundParts p → IsReading (round_text p) r → IsReadBack p r

@@ -4,6 +4,7 @@ use Rattle.std.specs.Prelude.{IsTrue, AllPairs}
 use Rattle.std.specs.List.{AllZip}
 use Rattle.std.proofs.lemmas.List.{length-map, get_or_default}
 use Rattle.std.proofs.lemmas.List.Elements.{All-nil, All-cons, All-head, All-tail}
+use Rattle.spa.specs.declared.aim.Aim.{Aim}
 use Rattle.spa.specs.Shape.{IsPlaceOf}
 use Rattle.spa.specs.declared.TheConstants.{PLACES, RANKS, MOST_PLACES}
 use Rattle.spa.specs.Text.{is_code}
@@ -181,9 +182,9 @@ round_instance i fit form rise = record {
   listed = all_listed i fit;
 }
 
--- an instance alone is the parts of a round
-pub alone_whole : (i : Named) → IsFit i → HasForms i → HasRises i → IsRoundParts (alone i)
-alone_whole i fit form rise = record {
+-- an aim and an instance alone are the parts of a round
+pub alone_whole : (i : Named) (aim : Aim) → IsFit i → HasForms i → HasRises i → IsRoundParts (alone i aim)
+alone_whole i aim fit form rise = record {
   instance = round_instance i fit form rise;
   places = unplaced_named i.project_codes i.student_codes i.shape.students fit.students.one_each;
   student_prices = unpriced (length (instance_of i).students);
@@ -192,8 +193,8 @@ alone_whole i fit form rise = record {
 }
 
 -- and so it is with a matching and prices
-pub proved_whole : (i : Named) (ks : List (Option ℕ)) (p : Prices) → IsFit i → HasForms i → HasRises i → HasPlaces i.shape ks → HasShape i.shape p → HasNumbers p → IsRoundParts (proved i ks p)
-proved_whole i ks p fit form rise places shape numbers = record {
+pub proved_whole : (i : Named) (aim : Aim) (ks : List (Option ℕ)) (p : Prices) → IsFit i → HasForms i → HasRises i → HasPlaces i.shape ks → HasShape i.shape p → HasNumbers p → IsRoundParts (proved i aim ks p)
+proved_whole i aim ks p fit form rise places shape numbers = record {
   instance = round_instance i fit form rise;
   places = placed_named i.project_codes i.student_codes i.shape.students ks fit.students.one_each places.one_each places.in_list;
   student_prices = priced (length (instance_of i).students) (length i.shape.students) p.students.items (student_count i fit) shape.students numbers.students shape.students_range;

@@ -1,8 +1,10 @@
 -- What is said of each field and row, said of the rows of all sections.
-use Rattle.std.proofs.Common.{◌≡◌, ℕ, zero, suc, ◌+◌, ◌-◌, ◌*◌, ◌<◌, ◌≤◌, ℤ, pos, true, List, [], ◌∷◌, length, map, get_or, slice_get, decimal, Option, Some, None, All, Contains, refl, arith}
+use Rattle.std.proofs.Common.{◌≡◌, ℕ, zero, suc, ◌+◌, ◌-◌, ◌*◌, ◌<◌, ◌≤◌, ℤ, pos, true, List, [], ◌∷◌, length, map, get_or, slice_get, codes, decimal, Option, Some, None, All, Contains, refl, arith}
 use Rattle.std.specs.Fmt.{signed_decimal}
 use Rattle.std.specs.Prelude.{IsTrue, ⊤}
 use Rattle.std.proofs.lemmas.List.Elements.{All-nil, All-cons, All-head, All-tail, All-map, All-contains}
+use Rattle.spa.specs.declared.aim.Aim.{Aim}
+use Rattle.spa.specs.declared.aim.Aim.TheVariants.{Greedy, Generous}
 use Rattle.spa.specs.declared.TheConstants.{MOST_PLACES, RANKS, PLACES}
 use Rattle.spa.specs.Text.{is_code}
 use Rattle.spa.specs.Codes.{code_at}
@@ -10,7 +12,7 @@ use Rattle.spa.specs.Instance.{Instance, Supervisor, Project, Student, superviso
 use Rattle.spa.specs.Made.{IsSoundList}
 use Rattle.verdict.specs.Rows.{InRange}
 use Rattle.intake.specs.Parts.{Parts, IsRoll, IsPrice, IsRoundInstance}
-use Rattle.intake.specs.Lines.{Row, Section, choice_code, sections, supervisor_row, project_row, student_row, pair_rows, price_rows}
+use Rattle.intake.specs.Lines.{Row, Section, choice_code, sections, aim_rows, supervisor_row, project_row, student_row, pair_rows, price_rows}
 use Rattle.intake.proofs.Found.{slice_get_at}
 use Rattle.intake.proofs.PairLine.{all_found, get_mapped}
 
@@ -18,6 +20,7 @@ use Rattle.intake.proofs.PairLine.{all_found, get_mapped}
 pub record Said (F : ℕ → List ℕ → Type 0) (R : ℕ → Row → Type 0) : Type 0 where
   pub code : (x : List ℕ) → is_code x ≡ true → F 16 x
   pub blank : F 16 []
+  pub aim : F 8 (codes "generous")
   pub quota : (n : ℕ) → n ≤ MOST_PLACES → F 3 (decimal n)
   pub number : (n : ℤ) → InRange n → F 8 (signed_decimal n)
   pub none : R 0 []
@@ -43,9 +46,9 @@ list_width = 17 + 17 * RANKS
 abbrev pub price_width : ℕ
 price_width = 17 + 9 * PLACES
 
--- the widths of the rows of the seven sections
+-- the widths of the rows of the eight sections
 abbrev pub widths : List ℕ
-widths = 21 ∷ 38 ∷ list_width ∷ 34 ∷ price_width ∷ price_width ∷ price_width ∷ []
+widths = 9 ∷ 21 ∷ 38 ∷ list_width ∷ 34 ∷ price_width ∷ price_width ∷ price_width ∷ []
 
 -- the code of an entry has the form
 code_found : {X : Type 0} (key : X → List ℕ) (es : List X) (n : ℕ) (e : X) → All (λ c. IsTrue (is_code c)) (map key es) → slice_get es n ≡ Some e → is_code (key e) ≡ true
@@ -60,6 +63,11 @@ module _ (F : ℕ → List ℕ → Type 0) (R : ℕ → Row → Type 0) (s : Sai
   -- the rows of a roll
   entry_rows : {X : Type 0} (row : X → Row) (w : ℕ) (es : List X) → ((n : ℕ) (e : X) → slice_get es n ≡ Some e → R w (row e)) → All (R w) (map row es)
   entry_rows row w es each = All-map (R w) row es (λ k d h. each k (get_or es k d) (slice_get_at es k d (get_or es k d) h refl))
+
+  -- the rows of an aim
+  aim_said : (aim : Aim) → All (R 9) (aim_rows aim)
+  aim_said Greedy = All-nil (R 9)
+  aim_said Generous = All-cons (R 9) (codes "generous" ∷ []) [] (s.more 8 0 9 (codes "generous") [] s.aim s.none (omega arith)) (All-nil (R 9))
 
   -- a quota at the end of a row
   last_quota : (n : ℕ) → n ≤ MOST_PLACES → R 4 (decimal n ∷ [])
@@ -130,10 +138,10 @@ module _ (F : ℕ → List ℕ → Type 0) (R : ℕ → Row → Type 0) (s : Sai
       (s.more 16 (9 * length v) price_width c (map signed_decimal v) (s.code c (All-head (λ c. IsTrue (is_code c)) c cs f)) (numbers_said v (λ t l. price.range t (omega (arith, price.numbers)))) (omega (arith, price.numbers)))
       (prices_said cs vs (All-tail (λ c. IsTrue (is_code c)) c cs f) (All-tail IsPrice v vs p))
 
-  -- the rows of an instance, places and prices
+  -- the rows of an aim, an instance, places and prices
   pub rows_said : (p : Parts) → IsRoundInstance p.instance → All IsPrice p.student_prices → All IsPrice p.project_prices → All IsPrice p.supervisor_prices → OfRows R widths (sections p)
   rows_said p i u y z =
       let pairs = pairs_said p.instance.students p.places (λ n e at. (s.code e.code (code_found (λ (e : Student). e.code) p.instance.students n e i.students.form at), list_said (project_codes p.instance) e.list i.projects (student_list p.instance n e i at))) in (
-        supervisor_rows p.instance i,
-        (project_rows p.instance i, (student_rows p.instance i, (pairs, (prices_said (student_codes p.instance) p.student_prices i.students.form u, (prices_said (project_codes p.instance) p.project_prices i.projects.form y, (prices_said (supervisor_codes p.instance) p.supervisor_prices i.supervisors.form z, tt)))))),
+        aim_said p.aim,
+        (supervisor_rows p.instance i, (project_rows p.instance i, (student_rows p.instance i, (pairs, (prices_said (student_codes p.instance) p.student_prices i.students.form u, (prices_said (project_codes p.instance) p.project_prices i.projects.form y, (prices_said (supervisor_codes p.instance) p.supervisor_prices i.supervisors.form z, tt))))))),
       )

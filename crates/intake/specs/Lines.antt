@@ -1,6 +1,8 @@
--- The text of a round: its lines in seven sections, each line a letter and fields.
+-- The text of a round: its lines in eight sections, each line a letter and fields.
 use Rattle.std.specs.Prelude.{ℕ, ◌-◌, ℤ, List, [], ◌∷◌, ◌++◌, map, flat_map, Option, Some, None, codes, decimal}
 use Rattle.std.specs.Fmt.{signed_decimal}
+use Rattle.spa.specs.declared.aim.Aim.{Aim}
+use Rattle.spa.specs.declared.aim.Aim.TheVariants.{Greedy, Generous}
 use Rattle.spa.specs.Codes.{code_at}
 use Rattle.spa.specs.Instance.{Supervisor, Project, Student, supervisor_codes, project_codes, student_codes}
 use Rattle.intake.specs.Parts.{Parts}
@@ -13,6 +15,11 @@ Row = List (List ℕ)
 pub record Section : Type 0 where
   pub letter : List ℕ
   pub rows : List Row
+
+-- the aim: a greedy one is not written
+abbrev pub aim_rows : Aim → List Row
+aim_rows Greedy = []
+aim_rows Generous = (codes "generous" ∷ []) ∷ []
 
 -- a supervisor: code and quota
 abbrev pub supervisor_row : Supervisor → Row
@@ -64,7 +71,8 @@ price_section s = record { letter = s.letter; rows = price_rows s.codes s.prices
 -- the sections in their order
 abbrev pub sections : Parts → List Section
 sections p =
-    record { letter = codes "S"; rows = map supervisor_row p.instance.supervisors }
+    record { letter = codes "A"; rows = aim_rows p.aim }
+    ∷ record { letter = codes "S"; rows = map supervisor_row p.instance.supervisors }
     ∷ record { letter = codes "P"; rows = map project_row p.instance.projects }
     ∷ record { letter = codes "C"; rows = map student_row p.instance.students }
     ∷ record { letter = codes "M"; rows = pair_rows p.instance.students p.places }

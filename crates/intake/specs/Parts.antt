@@ -1,4 +1,4 @@
--- The parts of a round by codes: an instance, a place in the list or none for each student, and prices.
+-- The parts of a round by codes: an aim, an instance, a place in the list or none for each student, and prices.
 use Rattle.std.specs.Prelude.{◌≡◌, ℕ, ℤ, ◌⊎◌, List, length, Option, IfSome, IsTrue, All, AllPairs, Contains}
 use Rattle.std.specs.List.{AllZip}
 use Rattle.std.specs.declared.cmp.Ordering.TheVariants.{Less}
@@ -6,14 +6,16 @@ use Rattle.std.specs.declared.cmp.Ordering.{Ordering}
 use Rattle.std.specs.Ordering.{nat_cmp}
 use Rattle.std.specs.Cmp.Lexicographic.{slice_cmp}
 use Rattle.spa.specs.declared.TheConstants.{PLACES}
+use Rattle.spa.specs.declared.aim.Aim.{Aim}
 use Rattle.spa.specs.Text.{is_code}
 use Rattle.spa.specs.Shape.{IsPlaceOf}
 use Rattle.spa.specs.Instance.{Instance, Student, supervisor_codes, project_codes, student_codes}
 use Rattle.spa.specs.Made.{IsWithin, IsSoundList}
 use Rattle.verdict.specs.Rows.{EachInRange}
 
--- the instance, for each student the place in the list or none, and the prices, each of so many numbers
+-- the aim, the instance, for each student the place in the list or none, and the prices, each of so many numbers
 pub record Parts : Type 0 where
+  pub aim : Aim
   pub instance : Instance
   pub places : List (Option ℕ)
   pub student_prices : List (List ℤ)

@@ -5,7 +5,7 @@ ghost use Rattle.std.specs.Prelude.{◌≡◌, ◌-◌, ◌++◌, ◌↔◌, ◌
 ghost use Rattle.spa.specs.Instance.{student_codes, project_codes};
 ghost use Rattle.spa.specs.Made.{IsSoundList};
 ghost use Rattle.intake.specs.Parts.{IsRoll, IsRoundParts};
-ghost use Rattle.intake.specs.declared.section.SectionName.TheVariants.{Supervisors, Projects, Students, Pairs};
+ghost use Rattle.intake.specs.declared.section.SectionName.TheVariants.{Aims, Supervisors, Projects, Students, Pairs};
 ghost use Rattle.intake.specs.Inside.Draft.{draft_of, IsDraft, HasNoPrices, NoneOrAll, IsField, nothing, IsWhole};
 ghost use Rattle.intake.specs.Inside.Entries.{Adds, AddsPrice, AddsLine, HasTurn, line_of};
 ghost use Rattle.intake.specs.Lines.{round_lines};
@@ -17,7 +17,7 @@ use crate::lookup::{Coded, next_code, position_at, position_in};
 use crate::round::RoundParts;
 use crate::section::{SectionName, section_of};
 use spa::{
-    Code, Instance, InstanceFault, MOST_PROJECTS, MOST_STUDENTS, MOST_SUPERVISORS, Matching,
+    Aim, Code, Instance, InstanceFault, MOST_PROJECTS, MOST_STUDENTS, MOST_SUPERVISORS, Matching,
     PLACES, RANKS,
 };
 use std::alloc::{AllocError, Global};
@@ -27,6 +27,7 @@ use verdict::Prices;
 /// entries of a roll.
 #[derive(Drop)]
 pub(crate) struct Draft {
+    aim: Aim,
     supervisors: Vec<(Code, u32)>,
     projects: Vec<(Code, Code, u32)>,
     students: Vec<(Code, Vec<Code>)>,
@@ -111,6 +112,7 @@ impl Draft {
         ensures { draft_of result ≡ nothing }
     {
         Draft {
+            aim: Aim::Greedy,
             supervisors: Vec::new(alloc),
             projects: Vec::new(alloc),
             students: Vec::new(alloc),
@@ -153,6 +155,7 @@ impl Draft {
         ensures { IsTrue result ↔ HasTurn section (draft_of self.now) }
     {
         match section {
+            SectionName::Aims => self.supervisors.is_empty() && self.has_no_prices(),
             SectionName::Supervisors => self.projects.is_empty() && self.has_no_prices(),
             SectionName::Projects => self.students.is_empty() && self.has_no_prices(),
             SectionName::Students => self.places.is_empty() && self.has_no_prices(),
@@ -167,6 +170,23 @@ impl Draft {
                 self.has_students_priced() && self.has_projects_priced()
             }
         }
+    }
+
+    /// Makes the aim generous, if the fields say so and none before did.
+    fn add_aim(&mut self, fields: &[&[u8]]) -> bool
+        ensures { Adds Aims (draft_of self.old) (map (λ f. f.now) fields.now) (draft_of self.new) result }
+    {
+        let [name] = fields else {
+            return false;
+        };
+        if self.aim != Aim::Greedy {
+            return false;
+        }
+        if *name != "generous".as_bytes() {
+            return false;
+        }
+        self.aim = Aim::Generous;
+        true
     }
 
     /// Adds a supervisor, if the fields are of the next.
@@ -268,6 +288,7 @@ impl Draft {
         ensures { IfOk result (λ b. Adds section (draft_of self.old) (map (λ f. f.now) row.now) (draft_of self.new) b) }
     {
         match section {
+            SectionName::Aims => Ok(self.add_aim(row)),
             SectionName::Supervisors => self.add_supervisor(row),
             SectionName::Projects => self.add_project(row),
             SectionName::Students => self.add_student(alloc, row),
@@ -334,6 +355,7 @@ impl Draft {
         fill(&mut places, self.students.len())?;
         match Instance::new(alloc, self.supervisors, self.projects, self.students) {
             Ok(instance) => Ok(RoundParts {
+                aim: self.aim,
                 instance,
                 matching: Matching { places },
                 prices: self.prices,

@@ -1,8 +1,8 @@
 //! Texts that come from outside and go there: round texts, and by `imports` import texts.
 //!
-//! A round text is an instance by codes, and with it a matching and prices, in lines that people and other programs can
-//! read. Nothing here judges whether the matching is one of the instance or whether the prices prove it best: `verdict`
-//! does.
+//! A round text is an aim and an instance by codes, and with them a matching and prices, in lines that people and other
+//! programs can read. Nothing here judges whether the matching is one of the instance or whether the prices prove it
+//! best: `verdict` does.
 //!
 //! Promised: `write_round` writes the one text of its parts. `read_round` gives the parts of a text that has the form,
 //! and else names the first line up to which the lines begin no such text. No two parts have one text, so what was

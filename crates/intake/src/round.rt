@@ -1,13 +1,15 @@
 //! What is read of a round text, and why a text is none.
 #![tactic(auto)]
 
-use spa::{Instance, Matching};
+use spa::{Aim, Instance, Matching};
 use std::alloc::AllocError;
 use verdict::Prices;
 
 /// The parts of a round text. A text without prices gives empty ones, and a student without a pair has no place.
 #[derive(Drop)]
 pub struct RoundParts {
+    /// The aim: greedy, unless the text says that it is generous.
+    pub aim: Aim,
     /// The instance, each roll by codes.
     pub instance: Instance,
     /// The pairs, by each student's place in the list. They need not keep the quotas.

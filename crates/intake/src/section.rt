@@ -8,6 +8,7 @@ ghost use Rattle.intake.specs.Inside.Entries.{letter_of};
 /// The sections in their order.
 #[derive(Clone, Copy)]
 pub(crate) enum SectionName {
+    Aims,
     Supervisors,
     Projects,
     Students,
@@ -22,6 +23,7 @@ pub(crate) fn section_of(letter: &[u8]) -> Option<SectionName>
     ensures { MatchOption result ((s : SectionName) → ¬ (letter.now ≡ letter_of s)) (λ s. letter.now ≡ letter_of s) }
 {
     match letter {
+        [b'A'] => Some(SectionName::Aims),
         [b'S'] => Some(SectionName::Supervisors),
         [b'P'] => Some(SectionName::Projects),
         [b'C'] => Some(SectionName::Students),

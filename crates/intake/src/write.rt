@@ -4,19 +4,30 @@
 ghost use Rattle.std.specs.Prelude.{◌≡◌, ◌≤◌, ◌++◌, map, flat_map, take, drop, codes, IfOk, IfSome, OnOk, string_bytes, length, All, IsTrue};
 ghost use Rattle.spa.specs.Text.{is_code};
 ghost use Rattle.spa.specs.declared.TheConstants.{PLACES};
+ghost use Rattle.spa.specs.declared.aim.Aim.{Aim};
 ghost use Rattle.spa.specs.Instance.{supervisor_codes, project_codes, student_codes};
 ghost use Rattle.spa.specs.Named.{Named, instance_of};
 ghost use Rattle.spa.specs.Matched.{IsMatched, HasPlaces};
 ghost use Rattle.verdict.specs.Verdict.{HasShape};
 ghost use Rattle.intake.specs.declared.TheConstants.{MOST_BYTES};
 ghost use Rattle.intake.specs.Parts.{Rise, IsRoundParts};
-ghost use Rattle.intake.specs.Lines.{Section, supervisor_row, project_row, student_row, pair_rows, price_rows, sections, section_lines, ended, round_text};
+ghost use Rattle.intake.specs.Lines.{Section, aim_rows, supervisor_row, project_row, student_row, pair_rows, price_rows, sections, section_lines, ended, round_text};
 ghost use Rattle.intake.specs.View.{alone, proved, written};
 
 use crate::lines::{push_pair, push_price, push_project, push_student, push_supervisor};
-use spa::{Code, Instance, Matching, PLACES};
+use spa::{Aim, Code, Instance, Matching, PLACES};
 use std::alloc::{AllocError, Global};
 use verdict::Prices;
+
+/// Appends the line of an aim, where it has one.
+fn write_aim(out: &mut String, aim: Aim) -> Result<(), AllocError>
+    ensures text { OnOk result (string_bytes out.new ≡ string_bytes out.old ++ ended (section_lines (record { letter = codes "A"; rows = aim_rows aim }))) }
+{
+    match aim {
+        Aim::Greedy => Ok(()),
+        Aim::Generous => out.push_str("A,generous\n"),
+    }
+}
 
 /// Appends the supervisors' lines.
 fn write_supervisors(out: &mut String, instance: &Instance) -> Result<(), AllocError>
@@ -103,13 +114,14 @@ fn write_prices(
     Ok(())
 }
 
-/// Appends the lines of an instance.
-fn write_instance(out: &mut String, instance: &Instance) -> Result<(), AllocError>
-    ensures text { OnOk result (string_bytes out.new ≡ string_bytes out.old ++ ended (flat_map section_lines (take 3 (sections (alone instance.now))))) }
+/// Appends the lines of an aim and an instance.
+fn write_instance(out: &mut String, instance: &Instance, aim: Aim) -> Result<(), AllocError>
+    ensures text { OnOk result (string_bytes out.new ≡ string_bytes out.old ++ ended (flat_map section_lines (take 4 (sections (alone instance.now aim))))) }
     ensures supervisors { OnOk result (All (λ c. IsTrue (is_code c)) instance.now.supervisor_codes) }
     ensures projects { OnOk result (All (λ c. IsTrue (is_code c)) instance.now.project_codes) }
     ensures students { OnOk result (All (λ c. IsTrue (is_code c)) instance.now.student_codes) }
 {
+    write_aim(out, aim)?;
     write_supervisors(out, instance)?;
     write_projects(out, instance)?;
     write_students(out, instance)
@@ -124,7 +136,7 @@ fn write_proof(
 ) -> Result<(), AllocError>
     requires places { HasPlaces instance.now.shape matching.now.places.items }
     requires shape { HasShape instance.now.shape prices.now }
-    ensures text { OnOk result (string_bytes out.new ≡ string_bytes out.old ++ ended (flat_map section_lines (drop 3 (sections (proved instance.now matching.now.places.items prices.now))))) }
+    ensures text { OnOk result ((aim : Aim) → string_bytes out.new ≡ string_bytes out.old ++ ended (flat_map section_lines (drop 4 (sections (proved instance.now aim matching.now.places.items prices.now))))) }
     ensures students { OnOk result (All (λ v. length v ≡ PLACES) prices.now.students.items) }
     ensures projects { OnOk result (All (λ v. length v ≡ PLACES) prices.now.projects.items) }
     ensures supervisors { OnOk result (All (λ v. length v ≡ PLACES) prices.now.supervisors.items) }
@@ -137,10 +149,11 @@ fn write_proof(
     Ok(())
 }
 
-/// Writes an instance, alone or with a matching and prices: the one text of these parts. Codes rise in each roll.
+/// Writes an instance and an aim, alone or with a matching and prices: the one text of these parts. Codes rise in each roll.
 pub fn write_round(
     alloc: Global,
     instance: &Instance,
+    aim: Aim,
     proof: Option<(&Matching, &Prices)>,
 ) -> Result<String, AllocError>
     requires supervisors { Rise (supervisor_codes (instance_of instance.now)) }
@@ -151,17 +164,17 @@ pub fn write_round(
     requires matching { IfSome proof (λ p. IsMatched instance.now.shape p.0.now.places.items) }
     requires shape { IfSome proof (λ p. HasShape instance.now.shape p.1.now) }
 
-    ensures text { IfOk result (λ text. string_bytes text ≡ round_text (written instance.now proof.entry)) }
+    ensures text { IfOk result (λ text. string_bytes text ≡ round_text (written instance.now aim proof.entry)) }
 
     // It is never too large to be read.
     ensures small { IfOk result (λ text. length (string_bytes text) ≤ MOST_BYTES) }
 
     // So the law of round texts holds of them.
-    ensures parts { OnOk result (IsRoundParts (written instance.now proof.entry)) }
+    ensures parts { OnOk result (IsRoundParts (written instance.now aim proof.entry)) }
 {
     instance.fit();
     let mut out = String::new(alloc);
-    write_instance(&mut out, instance)?;
+    write_instance(&mut out, instance, aim)?;
     if let Some((matching, prices)) = proof {
         write_proof(&mut out, instance, matching, prices)?;
     }

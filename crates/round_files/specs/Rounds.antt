@@ -3,7 +3,6 @@ use Rattle.std.specs.Prelude.{◌≡◌, ℕ, List, [], ◌∷◌, ◌++◌, len
 use Rattle.std.specs.List.{range_with_len}
 use Rattle.std.specs.declared.alloc.Global.{Global}
 use Rattle.spa.specs.declared.TheConstants.{RANKS}
-use Rattle.spa.specs.declared.aim.Aim.TheVariants.{Greedy}
 use Rattle.spa.specs.Order.{order}
 use Rattle.spa.specs.Codes.{code_at}
 use Rattle.spa.specs.Shape.{Shape}
@@ -23,13 +22,13 @@ use Rattle.rolls.specs.declared.refusal.Refusal.TheVariants.{Memory as NoMemory,
 use Rattle.round_files.specs.declared.rounds.Trouble.{Trouble}
 use Rattle.round_files.specs.declared.rounds.Trouble.TheVariants.{Refused, BadLine, Failed}
 
--- what is printed is the round of the text with a greedy maximum matching and prices that prove it
+-- what is printed is the round of the text, its aim with it, with a matching and prices that prove it best by this aim
 pub record IsSolution (text printed : List ℕ) : Type 0 where
   pub round : RoundParts
   pub solved : Solved
   pub read : IsReading text (Ok round)
-  pub best : IsProvedBest (order Greedy) round.instance.shape solved.matching.places.items solved.prices
-  pub is : printed ≡ round_text (proved round.instance solved.matching.places.items solved.prices)
+  pub best : IsProvedBest (order round.aim) round.instance.shape solved.matching.places.items solved.prices
+  pub is : printed ≡ round_text (proved round.instance round.aim solved.matching.places.items solved.prices)
 
 -- the size, and the numbers of pairs of rank 1 and so on, of the matching that places stand for
 abbrev pub best_text : Shape → List (Option ℕ) → List ℕ
@@ -44,20 +43,20 @@ fault_text i Below = codes "fault 3" ++ 10 ∷ []
 fault_text i (Uncovered s n) = codes "fault 4 " ++ code_at i.student_codes s ++ 32 ∷ decimal n ++ 10 ∷ []
 fault_text i Unequal = codes "fault 5" ++ 10 ∷ []
 
--- what is printed is size and profile of the text's matching, which its prices prove greedy maximum
+-- what is printed is size and profile of the text's matching, which its prices prove best by the text's aim
 pub record IsYes (text printed : List ℕ) : Type 0 where
   pub round : RoundParts
   pub read : IsReading text (Ok round)
-  pub best : IsProvedBest (order Greedy) round.instance.shape round.matching.places.items round.prices
-  pub greedy_maximum : IsBest Greedy round.instance.shape (pairs round.instance.shape round.matching.places.items)
+  pub best : IsProvedBest (order round.aim) round.instance.shape round.matching.places.items round.prices
+  pub maximum : IsBest round.aim round.instance.shape (pairs round.instance.shape round.matching.places.items)
   pub is : printed ≡ best_text round.instance.shape round.matching.places.items
 
--- what is printed is the first condition that fails of the text's matching and prices
+-- what is printed is the first condition that fails, by the text's aim, of its matching and prices
 pub record IsNo (text printed : List ℕ) : Type 0 where
   pub round : RoundParts
   pub fault : CheckFault
   pub read : IsReading text (Ok round)
-  pub first : IsFirstFailure (order Greedy) round.instance.shape round.matching.places.items round.prices fault
+  pub first : IsFirstFailure (order round.aim) round.instance.shape round.matching.places.items round.prices fault
   pub is : printed ≡ fault_text round.instance fault
 
 -- the text is none of a round, as is told; want of memory may take the place of anything

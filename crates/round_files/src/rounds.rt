@@ -1,7 +1,6 @@
 //! What the lines on round files print.
 
 ghost use Rattle.std.specs.Prelude.{◌≡◌, ℕ, List, ◌∷◌, ◌++◌, flat_map, IfOk, OnOk, string_bytes, decimal};
-ghost use Rattle.spa.specs.declared.aim.Aim.TheVariants.{Greedy};
 ghost use Rattle.spa.specs.Order.{order};
 ghost use Rattle.spa.specs.Matched.{HasPlaces};
 ghost use Rattle.verdict.specs.Verdict.{IsFirstFailure};
@@ -10,7 +9,7 @@ ghost use Rattle.round_files.specs.Rounds.{best_text, fault_text, IsSolved, IsCh
 use intake::{RoundFault, RoundParts, read_round, write_round};
 use rolls::Refusal;
 use solver::solve;
-use spa::{Aim, profile};
+use spa::profile;
 use std::alloc::{AllocError, Global};
 use std::fmt::Write;
 use verdict::{CheckFault, check};
@@ -53,26 +52,28 @@ impl From<RoundFault> for Trouble {
     }
 }
 
-/// The round of a text with a greedy maximum matching and prices that prove it.
+/// The round of a text with a matching and prices that prove it best by the text's aim.
 pub fn solved(alloc: Global, text: &[u8]) -> Result<String, Trouble>
     ensures { IsSolved text.now result }
 {
     let parts = read_round(alloc, text)?;
     parts.instance.fit();
-    let solved = solve(alloc, &parts.instance, Aim::Greedy)?;
+    let solved = solve(alloc, &parts.instance, parts.aim)?;
     Ok(write_round(
         alloc,
         &parts.instance,
+        parts.aim,
         Some((&solved.matching, &solved.prices)),
     )?)
 }
 
-/// Size and profile of the matching of a text where its prices prove it best, or else the first condition that fails.
+/// Size and profile of the matching of a text where its prices prove it best by the text's aim, or else the first
+/// condition that fails.
 pub fn checked(alloc: Global, text: &[u8]) -> Result<String, Trouble>
     ensures { IsChecked text.now result }
 {
     let parts = read_round(alloc, text)?;
-    match check(&parts.instance, Aim::Greedy, &parts.matching, &parts.prices) {
+    match check(&parts.instance, parts.aim, &parts.matching, &parts.prices) {
         Ok(()) => Ok(best(alloc, &parts)?),
         Err(fault) => Err(Trouble::Failed(failed(alloc, &parts, fault)?)),
     }
@@ -104,7 +105,7 @@ fn best(alloc: Global, parts: &RoundParts) -> Result<String, AllocError>
 
 /// What is printed of a check that failed: the number of the condition, and the first uncovered student and place.
 fn failed(alloc: Global, parts: &RoundParts, fault: CheckFault) -> Result<String, AllocError>
-    requires { IsFirstFailure (order Greedy) parts.now.instance.shape parts.now.matching.places.items parts.now.prices fault }
+    requires { IsFirstFailure (order parts.now.aim) parts.now.instance.shape parts.now.matching.places.items parts.now.prices fault }
     ensures { IfOk result (λ text. string_bytes text ≡ fault_text parts.now.instance fault) }
 {
     parts.instance.fit();

@@ -1,5 +1,6 @@
 -- The parts of a round text as far as it was read.
 use Rattle.std.specs.Prelude.{◌≡◌, false, ◌==◌, ℕ, ◌≤◌, ◌⊎◌, ℤ, List, [], ◌∷◌, length, map, Option, IsSome, All, ⊤}
+use Rattle.spa.specs.declared.aim.Aim.TheVariants.{Greedy}
 use Rattle.spa.specs.Instance.{Student, given}
 use Rattle.intake.specs.declared.draft.Draft.{Draft}
 use Rattle.intake.specs.Parts.{Parts, IsRoundInstance, IsPlace, IsPrice}
@@ -8,6 +9,7 @@ use Rattle.intake.specs.Lines.{Priced, priced}
 -- the parts that were read
 abbrev pub draft_of : Draft → Parts
 draft_of d = record {
+  aim = d.aim;
   instance = given d.supervisors.items d.projects.items (map (λ e. (e.0, e.1.items)) d.students.items);
   places = d.places.items;
   student_prices = d.prices.students.items;
@@ -69,6 +71,7 @@ HasNoPrices p = AreUnpriced (priced p)
 -- nothing was read
 abbrev pub nothing : Parts
 nothing = record {
+  aim = Greedy;
   instance = record { supervisors = []; projects = []; students = [] };
   places = [];
   student_prices = [];

@@ -1,6 +1,7 @@
 -- What a line may add to the parts that were read, section by section.
 use Rattle.std.specs.Prelude.{◌≡◌, Bool, true, false, replicate, ◌-◌, ℕ, zero, suc, ◌<◌, ◌≤◌, ℤ, List, [], ◌∷◌, ◌++◌, length, map, slice_get, codes, None, Some, IsTrue, Contains}
 use Rattle.std.specs.Fmt.{signed_decimal}
+use Rattle.spa.specs.declared.aim.Aim.{Aim}
 use Rattle.spa.specs.declared.TheConstants.{MOST_SUPERVISORS, MOST_PROJECTS, MOST_STUDENTS, MOST_PLACES}
 use Rattle.spa.specs.Text.{is_code}
 use Rattle.spa.specs.Shape.{IsPlaceOf}
@@ -8,14 +9,15 @@ use Rattle.spa.specs.Codes.{code_at}
 use Rattle.spa.specs.Instance.{Supervisor, Project, Student, supervisor_codes, project_codes, student_codes}
 use Rattle.spa.specs.Made.{IsSoundList}
 use Rattle.intake.specs.declared.section.SectionName.{SectionName}
-use Rattle.intake.specs.declared.section.SectionName.TheVariants.{Supervisors, Projects, Students, Pairs, StudentPrices, ProjectPrices, SupervisorPrices}
+use Rattle.intake.specs.declared.section.SectionName.TheVariants.{Aims, Supervisors, Projects, Students, Pairs, StudentPrices, ProjectPrices, SupervisorPrices}
 use Rattle.intake.specs.Parts.{Parts, Rise, IsPrice}
-use Rattle.intake.specs.Lines.{Row, Priced, priced, choice_code, line, round_lines, supervisor_row, project_row, student_row}
+use Rattle.intake.specs.Lines.{Row, Priced, priced, choice_code, line, round_lines, aim_rows, supervisor_row, project_row, student_row}
 use Rattle.intake.specs.Reading.{Begins}
 use Rattle.intake.specs.Inside.Draft.{IsDraft, HasNoPrices, NoneOrAll, AreUnpriced}
 
 -- the letter of a section's lines
 abbrev pub letter_of : SectionName → List ℕ
+letter_of Aims = codes "A"
 letter_of Supervisors = codes "S"
 letter_of Projects = codes "P"
 letter_of Students = codes "C"
@@ -29,6 +31,10 @@ pub record ComesNext (most : ℕ) (roll : List (List ℕ)) (code : List ℕ) : T
   pub form : IsTrue (is_code code)
   pub few : length roll < most
   pub next : Rise (roll ++ code ∷ [])
+
+-- the rows of the new aim are those of the old one and this row
+abbrev pub NextAim : Aim → Row → Aim → Type 0
+NextAim old row new = aim_rows new ≡ aim_rows old ++ row ∷ []
 
 -- the row is that of the supervisor, whose code comes next
 pub record NextSupervisor (p : Parts) (row : Row) (e : Supervisor) : Type 0 where
@@ -93,6 +99,7 @@ prices_at (suc n) (s ∷ ss) = prices_at n ss
 
 -- what a line of a section adds: of a pair the student's position and the place
 abbrev pub Entry : SectionName → Type 0
+Entry Aims = Aim
 Entry Supervisors = Supervisor
 Entry Projects = Project
 Entry Students = Student
@@ -103,6 +110,7 @@ Entry SupervisorPrices = List ℤ
 
 -- a line of the section may come: no later section has begun, and the prices of the rolls before are complete
 abbrev pub HasTurn : SectionName → Parts → Type 0
+HasTurn Aims p = (p.instance.supervisors ≡ []) × HasNoPrices p
 HasTurn Supervisors p = (p.instance.projects ≡ []) × HasNoPrices p
 HasTurn Projects p = (p.instance.students ≡ []) × HasNoPrices p
 HasTurn Students p = (p.places ≡ []) × HasNoPrices p
@@ -113,6 +121,7 @@ HasTurn SupervisorPrices p = IsTurn 2 (priced p)
 
 -- the row is that of the entry, which comes next in the section
 abbrev pub IsNext : (s : SectionName) → Parts → Row → Entry s → Type 0
+IsNext Aims p row aim = NextAim p.aim row aim
 IsNext Supervisors p row e = NextSupervisor p row e
 IsNext Projects p row e = NextProject p row e
 IsNext Students p row e = NextStudent p row e
@@ -127,6 +136,7 @@ with_price n p v = with_prices n (prices_at n (priced p) ++ v ∷ []) p
 
 -- one entry more: of a pair, the students between the last and this one have no place
 abbrev pub with_entry : (s : SectionName) → Parts → Entry s → Parts
+with_entry Aims p aim = record p { aim = aim }
 with_entry Supervisors p e = record p { instance = record p.instance { supervisors = p.instance.supervisors ++ e ∷ [] } }
 with_entry Projects p e = record p { instance = record p.instance { projects = p.instance.projects ++ e ∷ [] } }
 with_entry Students p e = record p { instance = record p.instance { students = p.instance.students ++ e ∷ [] } }

@@ -4,7 +4,7 @@ use Rattle.intake.proofs.write.write_proof.Goals as goal
 
 pub returns : goal.returns
 returns c = record {
-  text = four_written c.args.instance.now c.args.matching.now.places.items c.args.prices.now (string_bytes c.args.out.now)
+  text = λ aim. four_written c.args.instance.now aim c.args.matching.now.places.items c.args.prices.now (string_bytes c.args.out.now)
       (string_bytes c.write_pairs.new.out) (string_bytes c.write_prices.new.out) (string_bytes c.write_prices-2.new.out) (string_bytes c.write_prices-3.new.out)
       c.fit.ensures
       (rw c.deref.ensures.value at c.in_ok-write_pairs.ensures)

@@ -6,7 +6,7 @@ returns-in-Ok c = record {
   round = c.in_ok-parts.parts;
   read = c.in_ok-parts.ensures.reading;
   best = c.in-Ok.ensures.accepted.0 refl;
-  greedy_maximum = c.in-Ok.ensures.best;
+  maximum = c.in-Ok.ensures.best;
   is = c.in_ok-best-in-Ok.ensures;
 }
 

@@ -23,6 +23,6 @@ returns-then-not-has_turn c = no_turn c.in-Some-section_of.section _ c.args.fiel
 pub returns : goal.returns
 returns c =
     IfOk-weaker c.add_to.result (λ b. Adds c.in-Some-section_of.section (draft_of c.args.self.now) (map (λ f. f.now) c.in-Some.row.now) (draft_of c.add_to.new.self) b) (λ b. AddsLine (draft_of c.args.self.now) (line_of (map (λ f. f.now) c.args.fields.now)) (draft_of c.add_to.new.self) b)
-    (λ b h. moved_line _ _ b c.args.fields.now c.in-Some.letter.now c.in-Some.row.now (letter_of c.in-Some-section_of.section) c.in-Some.ensures.cases.0 c.in-Some-section_of.ensures
+    (λ b h. moved_line (draft_of c.args.self.now) (draft_of c.add_to.new.self) b c.args.fields.now c.in-Some.letter.now c.in-Some.row.now (letter_of c.in-Some-section_of.section) c.in-Some.ensures.cases.0 c.in-Some-section_of.ensures
     (section_line c.in-Some-section_of.section _ _ _ b c.requires.draft (fields_after c.args.fields.now c.in-Some.letter.now c.in-Some.row.now c.in-Some.ensures.cases.0 c.requires.fields) (c.has_turn.ensures.0 c.if-not-has_turn.false) h))
     c.add_to.ensures

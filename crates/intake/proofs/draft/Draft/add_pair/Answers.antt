@@ -67,6 +67,6 @@ returns c =
         place = record { first = omega arith; last = omega (arith, c.in-Some-position_in.ensures.0, ap length c.deref-2.ensures.value) };
         is = two_fields c.args.fields.now c.in-len2.len_at_least c.in-len2.len_below ∙ ap (λ (x : List ℕ). x ∷ (get_or c.args.fields.now 1 blank).now ∷ []) (sym first) ∙ ap (λ (x : List ℕ). c.index.result.now.0 ∷ x ∷ []) second;
       },
-      ap (λ (l : List (Option ℕ)). parts c.args.self.now.supervisors.items c.args.self.now.projects.items (map (λ e. (e.0, e.1.items)) c.args.self.now.students.items) l c.args.self.now.prices.students.items c.args.self.now.prices.projects.items c.args.self.now.prices.supervisors.items)
+      ap (λ (l : List (Option ℕ)). parts c.args.self.now.aim c.args.self.now.supervisors.items c.args.self.now.projects.items (map (λ e. (e.0, e.1.items)) c.args.self.now.students.items) l c.args.self.now.prices.students.items c.args.self.now.prices.projects.items c.args.self.now.prices.supervisors.items)
           (c.in_ok-push.ensures.items ∙ ap (λ (l : List (Option ℕ)). l ++ Some k ∷ []) c.in_ok-fill.ensures),
     )

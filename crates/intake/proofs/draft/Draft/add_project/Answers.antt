@@ -50,7 +50,7 @@ returns c =
         quota = c.in-Some-read_quota.ensures.0;
         known = contained _ owner c.copy-supervisor.result (at ∙ ap Some (sym supervisor));
       },
-      project_added c.args.self.now.supervisors.items c.args.self.now.projects.items c.push.new.self.items (map (λ e. (e.0, e.1.items)) c.args.self.now.students.items) c.args.self.now.places.items _ _ _ c.in-Some.code c.copy-supervisor.result c.in-Some-read_quota.quota c.in_ok-push.ensures.items,
+      project_added _ c.args.self.now.supervisors.items c.args.self.now.projects.items c.push.new.self.items (map (λ e. (e.0, e.1.items)) c.args.self.now.students.items) c.args.self.now.places.items _ _ _ c.in-Some.code c.copy-supervisor.result c.in-Some-read_quota.quota c.in_ok-push.ensures.items,
     )
 
 pub read_quota-requires : goal.read_quota-requires

@@ -40,6 +40,6 @@ returns c =
         code = comes_moved _ _ _ _ _ keys (sym next.0) next.1;
         list = sound_moved _ _ _ _ owners (sym read.0) read.1;
       },
-      student_added c.args.self.now.supervisors.items c.args.self.now.projects.items (map (λ e. (e.0, e.1.items)) c.args.self.now.students.items) (map (λ e. (e.0, e.1.items)) c.push.new.self.items) c.args.self.now.places.items _ _ _ c.in-Some-next_code.code c.in-Some-2.list.items
+      student_added _ c.args.self.now.supervisors.items c.args.self.now.projects.items (map (λ e. (e.0, e.1.items)) c.args.self.now.students.items) (map (λ e. (e.0, e.1.items)) c.push.new.self.items) c.args.self.now.places.items _ _ _ c.in-Some-next_code.code c.in-Some-2.list.items
           (ap (map (λ e. (e.0, e.1.items))) c.in_ok-push.ensures.items ∙ map_push (λ e. (e.0, e.1.items)) c.args.self.now.students.items (c.in-Some-next_code.code, c.in-Some-2.list)),
     )

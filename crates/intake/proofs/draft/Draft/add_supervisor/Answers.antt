@@ -28,7 +28,7 @@ returns c =
         code = comes_moved _ _ _ _ _ keys (sym read.0) read.1;
         quota = c.in-Some-read_quota.ensures.0;
       },
-      supervisor_added c.args.self.now.supervisors.items c.push.new.self.items c.args.self.now.projects.items (map (λ e. (e.0, e.1.items)) c.args.self.now.students.items) c.args.self.now.places.items _ _ _ c.in-Some.code c.in-Some-read_quota.quota c.in_ok-push.ensures.items,
+      supervisor_added _ c.args.self.now.supervisors.items c.push.new.self.items c.args.self.now.projects.items (map (λ e. (e.0, e.1.items)) c.args.self.now.students.items) c.args.self.now.places.items _ _ _ c.in-Some.code c.in-Some-read_quota.quota c.in_ok-push.ensures.items,
     )
 
 pub read_quota-requires : goal.read_quota-requires

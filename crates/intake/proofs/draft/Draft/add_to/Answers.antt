@@ -4,6 +4,9 @@ use Rattle.intake.proofs.Prices.{price_adds}
 use Rattle.intake.proofs.Rolls.{supervisor_keys, project_keys, student_keys}
 use Rattle.intake.proofs.draft.Draft.add_to.Goals as goal
 
+pub returns-in-Aims : goal.returns-in-Aims
+returns-in-Aims c = rw c.in-Aims.is c.add_aim.ensures
+
 pub returns-in_ok-added-in-StudentPrices : goal.returns-in_ok-added-in-StudentPrices
 returns-in_ok-added-in-StudentPrices c = rw c.in-StudentPrices.is (price_adds 0 _ _ c.add_price.new.prices.items c.in_ok-added-in-StudentPrices.added (price_moved _ _ _ _ _ c.in_ok-added-in-StudentPrices.added (ap (map (λ e. e.0)) c.deref.ensures.value ∙ sym (student_keys c.args.self.now.students.items)) c.in_ok-added-in-StudentPrices.ensures))
 
