@@ -12,26 +12,41 @@ use std::test::Fail;
 use std::{fs, io};
 use web::Watched;
 
-/// The round without matching and prices.
-const ALONE: &str = "S,L,5\nP,P,L,1\nP,Q,L,1\nP,Z,L,0\nC,A,P,Q\nC,C,Z,P\n";
+// Rounds without matching and prices, greedy and generous; pairs that `solve` finds for them; and what `check` then prints.
+#[rattlefmt::skip]
+static SOLVED: &str =
+    r#"S,L,5^nP,P,L,1^nP,Q,L,1^nP,Z,L,0^nC,A,P,Q^nC,C,Z,P^n                                   | M,A,Q^nM,C,P^nU,A, | best size 2 profile 0 2 0 0^0^n
+       S,L,5^nP,U,L,1^nP,V,L,1^nP,X,L,1^nP,Y,L,0^nP,Z,L,0^nC,A,X,V^nC,C,Z,X,Y,U^n             | M,A,X^nM,C,U^nU,A, | best size 2 profile 1 0 0 1^0^n
+       A,generous^nS,L,5^nP,U,L,1^nP,V,L,1^nP,X,L,1^nP,Y,L,0^nP,Z,L,0^nC,A,X,V^nC,C,Z,X,Y,U^n | M,A,V^nM,C,X^nU,A, | best size 2 profile 0 2 0 0^0^n"#;
 
-/// Whether this was printed of it: the round itself with pairs and prices.
-fn is_solved(printed: &Printed) -> bool {
-    match std::str::from_utf8(&printed.out) {
-        Ok(text) => text.starts_with(ALONE) && text.contains("\nM,A,Q\nM,C,P\nU,A,"),
-        Err(_) => false,
-    }
+/// Whether this was printed of a round: the round itself, and behind it these pairs.
+fn is_solved(alloc: Global, printed: &Printed, round: &[u8], pairs: &str) -> Result<bool, Fail> {
+    let mut front = Vec::new(alloc);
+    front.extend_from_slice(round)?;
+    front.extend_from_slice(&body_of(alloc, pairs)?)?;
+    Ok(printed.status == 0 && printed.err.is_empty() && printed.out.starts_with(&front))
+}
+
+/// Solves the round of a row, and checks what was printed of it.
+fn solve_and_check(rt: &HostRuntime, abort: &impl Abort, row: &str) -> Result<(), Fail> {
+    let (round, rest) = first_cell(row);
+    let (pairs, best) = first_cell(rest);
+    let round = body_of(rt.alloc(), round)?;
+    fs::write(rt, "round.txt", &round)?;
+    let solved = run_line(rt, "spadesk solve round.txt")?;
+    let is_solved = is_solved(rt.alloc(), &solved, &round, pairs)?;
+    holds(abort, is_solved, row);
+    fs::write(rt, "round.txt", &solved.out)?;
+    let best = body_of(rt.alloc(), best.trim())?;
+    prints(rt, abort, "spadesk check round.txt", (&best, b""), 0)
 }
 
 #[test]
 fn what_solve_prints_is_accepted(rt: HostRuntime) -> Result<(), Fail> {
-    fs::write(&rt, "round.txt", ALONE)?;
-    let solved = run_line(&rt, "spadesk solve round.txt")?;
-    let is_well = solved.err.is_empty() && solved.status == 0;
-    holds(&rt, is_well && is_solved(&solved), "a round is solved");
-    fs::write(&rt, "round.txt", &solved.out)?;
-    let best = body_of(rt.alloc(), "best size 2 profile 0 2 0 0^0^n")?;
-    prints(&rt, &rt, "spadesk check round.txt", (&best, b""), 0)
+    for row in SOLVED.lines() {
+        solve_and_check(&rt, &rt, row)?;
+    }
+    Ok(())
 }
 
 /// What `--help` prints.

@@ -21,17 +21,25 @@ static CHECKS: &str =
        S,L,5^nP,P,L,1^nP,Q,L,1^nP,Z,L,0^nC,A,P,Q^nC,C,Z,P^nM,A,Q^nM,C,P^nU,A,1,0,1,0,0^,^nU,C,1,-1,2,0,0^,^nY,P,0,1,-1,0,0^,^nY,Q,0,0,0,0,0^,^nY,Z,0,1000000,-1000000,0,0^,^nZ,L,0,0,0,0,0^,^n | spadesk check round.txt | 0 | best size 2 profile 0 2 0 0^0^n |
        S,L,5^nP,P,L,1^nP,Q,L,1^nP,Z,L,0^nC,A,P,Q^nC,C,Z,P^nM,A,Q^nM,C,P^nU,A,1,0,1,0,0^,^nU,C,1,-1,2,0,0^,^nY,P,0,1,-1,0,0^,^nY,Q,0,0,0,0,0^,^nY,Z,0,0,0,0,0^,^nZ,L,0,0,0,0,0^,^n              | spadesk check round.txt | 1 | fault 4 C 1^n                   |"#;
 
+/// A generous round with a generous maximum matching and prices that prove it, and the same as a greedy round.
+#[rattlefmt::skip]
+static CHECKS_BY_AIM: &str =
+    r#"A,generous^nS,L,5^nP,U,L,1^nP,V,L,1^nP,X,L,1^nP,Y,L,0^nP,Z,L,0^nC,A,X,V^nC,C,Z,X,Y,U^nM,A,V^nM,C,X^nU,A,1,0,1,0,0^,^nU,C,1,0,0,0,1^,^nY,U,0,0,0,0,0^,^nY,V,0,0,0,0,0^,^nY,X,0,0,1,0,-1^,^nY,Y,0,0,0,1,-1^,^nY,Z,0,1,0,0,-1^,^nZ,L,0,0,0,0,0^,^n | spadesk check round.txt | 0 | best size 2 profile 0 2 0 0^0^n |
+       S,L,5^nP,U,L,1^nP,V,L,1^nP,X,L,1^nP,Y,L,0^nP,Z,L,0^nC,A,X,V^nC,C,Z,X,Y,U^nM,A,V^nM,C,X^nU,A,1,0,1,0,0^,^nU,C,1,0,0,0,1^,^nY,U,0,0,0,0,0^,^nY,V,0,0,0,0,0^,^nY,X,0,0,1,0,-1^,^nY,Y,0,0,0,1,-1^,^nY,Z,0,1,0,0,-1^,^nZ,L,0,0,0,0,0^,^n             | spadesk check round.txt | 1 | fault 4 A 1^n                   |"#;
+
 // Texts that are solved or are none, and a file that is not there.
 #[rattlefmt::skip]
 static OTHER_FILES: &str =
     r#"                 | spadesk solve round.txt   | 0 |  |
+       A,generous^n     | spadesk solve round.txt   | 0 | A,generous^n |
        S,L,5^nP,P,K,1^n | spadesk solve round.txt   | 1 |  | bad line 2^n
                         | spadesk check no-such.txt | 1 |  | refused 2: Storage^n"#;
 
-// Texts that are read; all but the first lack prices. Behind the last bar stands what a text shows.
+// Texts that are read; all but the first two lack prices. Behind the last bar stands what a text shows.
 #[rattlefmt::skip]
 static FIT_TEXTS: &str =
     r#"                                                          | spadesk check round.txt | 0 | best size 0 profile 0 0 0 0^0^n |  | nothing
+       A,generous^n                                              | spadesk check round.txt | 0 | best size 0 profile 0 0 0 0^0^n |  | a generous round of nothing
        S,L,5^n                                                   | spadesk check round.txt | 1 | fault 2^n                       |  | a supervisor
        S,L,0^nS,M,500^n                                          | spadesk check round.txt | 1 | fault 2^n                       |  | quotas at their ends
        S,L,5^nP,P,L,1^nC,A,P^n                                   | spadesk check round.txt | 1 | fault 2^n                       |  | no pairs
@@ -78,11 +86,22 @@ static FAULTY_TEXTS: &str =
        S,L,5^nZ,L,0,0,0,0,0^,^nZ,M,0,0,0,0,0^,^n                        | spadesk check round.txt | 1 |  | bad line 3^n | a price too many
        S,L,5^nP,P,L,1^nC,A,P^nC,B,P^nU,A,0,0,0,0,0^,^nY,P,0,0,0,0,0^,^n | spadesk check round.txt | 1 |  | bad line 6^n | a section that stops early
        S,L,5^nP,P,L,1^nC,A,P^nC,B,P^nU,A,0,0,0,0,0^,^n                  | spadesk check round.txt | 1 |  | bad line 6^n | a text that stops early
+       A,greedy^n                                                       | spadesk check round.txt | 1 |  | bad line 1^n | the aim that has no line
+       A^n                                                              | spadesk check round.txt | 1 |  | bad line 1^n | an aim without a word
+       A,^n                                                             | spadesk check round.txt | 1 |  | bad line 1^n | an aim with an empty word
+       A,generous,x^n                                                   | spadesk check round.txt | 1 |  | bad line 1^n | a field more than an aim
+       A,generous                                                       | spadesk check round.txt | 1 |  | bad line 1^n | no end of the line of an aim
+       a,generous^n                                                     | spadesk check round.txt | 1 |  | bad line 1^n | an aim with a small letter
+       A,generous^nA,generous^n                                         | spadesk check round.txt | 1 |  | bad line 2^n | an aim twice
+       A,generous^nA,greedy^n                                           | spadesk check round.txt | 1 |  | bad line 2^n | two aims
+       S,L,5^nA,generous^n                                              | spadesk check round.txt | 1 |  | bad line 2^n | an aim out of turn
+       A,generous^nS,L,5^nP,P,L,1^nC,A,P^nM,A,P^nA,generous^n           | spadesk check round.txt | 1 |  | bad line 6^n | an aim at the end
        S,^x,5^n                                                         | spadesk check round.txt | 1 |  | bad line 1^n | a byte that is no text"#;
 
 #[test]
 fn texts_are_checked_or_the_first_bad_line_is_named(rt: HostRuntime) -> Result<(), Fail> {
     print_rounds(&rt, &rt, CHECKS)?;
+    print_rounds(&rt, &rt, CHECKS_BY_AIM)?;
     print_rounds(&rt, &rt, OTHER_FILES)?;
     print_rounds(&rt, &rt, FIT_TEXTS)?;
     print_rounds(&rt, &rt, FAULTY_TEXTS)
