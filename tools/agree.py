@@ -3,9 +3,9 @@
 
 tools/agree.py SPADESK [TEXTS [SEED]]
 
-Each text is a small round that the program has solved. Of four texts one stays as it is; in the others a price, a pair, a quota or a
-list is changed, a line is taken away, or prices are scaled. What the program tells as a bad line is no text for the second checker,
-and is counted apart.
+Each text is a small round, greedy or generous, that the program has solved. Of four texts one stays as it is; in the others the aim,
+a price, a pair, a quota or a list is changed, or a line is taken away. What the program tells as a bad line is no text for the second
+checker, and is counted apart.
 """
 import collections
 import random
@@ -15,16 +15,18 @@ import tempfile
 
 from check_round import checked
 
+GENEROUS = "A,generous\n"
+
 
 def round_text(draw):
-    """The text of a round with a few supervisors, projects and students."""
+    """The text of a round with an aim and a few supervisors, projects and students."""
     supervisors, projects, students = draw.randint(1, 4), draw.randint(1, 7), draw.randint(0, 9)
     lines = [f"S,L{n},{draw.randint(0, 4)}" for n in range(supervisors)]
     lines += [f"P,P{n},L{draw.randrange(supervisors)},{draw.randint(0, 3)}" for n in range(projects)]
     for n in range(students):
         chosen = draw.sample(range(projects), draw.randint(1, min(projects, 8)))
         lines.append(f"C,A{n}," + ",".join(f"P{p}" for p in chosen))
-    return "".join(line + "\n" for line in lines)
+    return draw.choice(("", GENEROUS)) + "".join(line + "\n" for line in lines)
 
 
 def spoiled(draw, text):
@@ -32,6 +34,8 @@ def spoiled(draw, text):
     lines = text.splitlines()
     if draw.random() < 0.25 or not lines:
         return text
+    if draw.random() < 0.1:
+        return text.removeprefix(GENEROUS) if text.startswith(GENEROUS) else GENEROUS + text
     at = draw.randrange(len(lines))
     fields = lines[at].split(",")
     if fields[0] in "UYZ" and draw.random() < 0.8:
