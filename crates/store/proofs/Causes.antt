@@ -1,11 +1,9 @@
 -- Why a call of the store failed, from why the statement did on which it ended.
-use Rattle.std.proofs.Common.{◌≡◌, ◌≤◌, ◌<◌, inl, inr, ℕ, true, List, [], take, get_or, length, Option, Result, refl, subst}
-use Rattle.std.proofs.lemmas.Option.{slice_get_read, slice_get-get_or}
+use Rattle.std.proofs.Common.{◌≡◌, ◌≤◌, ◌<◌, inl, inr, ℕ, true, List, [], take, get_or, length, Option, Some, Result, slice_get, refl, subst}
 use Rattle.sqlite.specs.declared.error.Error.{Error}
 use Rattle.sqlite.specs.Effect.{Database}
 use Rattle.sqlite.specs.Steps.{FailsToCommit}
 use Rattle.sqlite.specs.State.{State as Seen, HasCleanDisk, Survives, IsUnchanged}
-use Rattle.rolls.specs.declared.row.Change.{Change}
 use Rattle.tables.specs.declared.fault.TableFault.{TableFault}
 use Rattle.tables.specs.declared.fault.TableFault.TheVariants as fault
 use Rattle.tables.specs.declared.table.Table.{Table}
@@ -13,7 +11,7 @@ use Rattle.tables.specs.Faults.{fault_of}
 use Rattle.std.proofs.lemmas.Bool.{cases_Bool}
 use Rattle.sqlite_rules.specs.Lists.{Has}
 use Rattle.rolls.specs.declared.row.Row.{Row}
-use Rattle.tables.specs.Causes.{IsCausedInside, IsHindered, IsStopped, IsUnread}
+use Rattle.tables.specs.Causes.{IsCausedInside, IsStopped, IsUnread}
 use Rattle.store.specs.Inside.Reading.{ReadsSome}
 use Rattle.store.specs.declared.edition.Edition.{Edition as AnEdition}
 use Rattle.store.specs.declared.edition.Edition.TheVariants.{First}
@@ -25,12 +23,10 @@ use Rattle.tables.specs.Table.{sql_of}
 use Rattle.tables.proofs.Causes.{stopped_after, stopped_as, stopped_before, uncommitted}
 use Rattle.store.specs.declared.fault.StoreFault.TheVariants.{Storage}
 use Rattle.store.specs.Inside.Faults.{of_table}
-use Rattle.store.specs.Saving.{Applies}
 use Rattle.store.specs.Inside.Saving.{entering}
 use Rattle.store.specs.declared.saving.Way.{Way}
 use Rattle.store.specs.declared.saving.Way.TheVariants.{InPlace, New}
-use Rattle.store.specs.Tables.{MakesTables}
-use Rattle.store.specs.Causes.{IsHinderedAmong, IsHinderedChange, IsHinderedMaking, IsHinderedReading}
+use Rattle.store.specs.Causes.{IsHinderedAfter, IsHinderedChange, IsHinderedReading}
 use Rattle.store.specs.Inside.Causes.{IsHinderedToEnter}
 
 -- a fault of the storage is one of a statement
@@ -38,17 +34,11 @@ pub of_storage : (f : TableFault) → of_table f ≡ Storage → f ≡ fault.Sto
 of_storage fault.Memory h = cc
 of_storage fault.Storage h = refl
 
--- one of the changes was refused
-pub change_refused : (i : ℕ) (changes : List Change) (change : Change) (a b c : Seen) → i < length changes → change ≡ get_or changes i change → Survives a b (λ _. ⊥) → HasCleanDisk b → b.faults ≤ c.faults → Stays (Applies (take i changes)) a b
-    → IsStopped (IsHinderedChange change) b c → IsStopped (IsHinderedAmong changes) a c
-change_refused i changes change a b c low is survives clean up made =
-    stopped_after (IsHinderedChange change) (IsHinderedAmong changes) a b c survives clean up (λ h. record { count = i; change = change; there = slice_get_read changes (length changes) i change refl low is; between = b.now; made = made.step; hindered = h })
-
--- one of the tables was refused
-pub table_refused : (i : ℕ) (tables : List Table) (d : Table) (a b c : Seen) → i < length tables → Survives a b (λ _. ⊥) → HasCleanDisk b → b.faults ≤ c.faults → Stays (MakesTables (take i tables)) a b
-    → IsStopped (IsHindered (sql_of (get_or tables i d)).create []) b c → IsStopped (IsHinderedMaking tables) a c
-table_refused i tables d a b c low survives clean up made =
-    stopped_after _ (IsHinderedMaking tables) a b c survives clean up (λ h. record { count = i; table = get_or tables i d; there = slice_get-get_or tables i d low; between = b.now; made = made.step; hindered = h })
+-- one of several was refused
+pub one_refused : {X : Type 0} (Makes : List X → Database → Database → Type 0) (H : X → Option ℕ → Database → Type 0) (i : ℕ) (all : List X) (one : X) (a b c : Seen) → slice_get all i ≡ Some one → Survives a b (λ _. ⊥) → HasCleanDisk b → b.faults ≤ c.faults
+    → Stays (Makes (take i all)) a b → IsStopped (H one) b c → IsStopped (IsHinderedAfter Makes H all) a c
+one_refused Makes H i all one a b c there survives clean up made =
+    stopped_after (H one) (IsHinderedAfter Makes H all) a b c survives clean up (λ h. record { count = i; one = one; there = there; between = b.now; made = made.step; hindered = h })
 
 -- a call after another that changed nothing
 pub unchanged_before : (H K : Option ℕ → Database → Type 0) (a b c : Seen) → IsUnchanged a b → Survives a b (λ _. ⊥) → HasCleanDisk b → b.faults ≤ c.faults → ((limit : Option ℕ) (db : Database) → H limit db → K limit db) → IsStopped H b c → IsStopped K a c

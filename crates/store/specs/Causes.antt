@@ -23,27 +23,26 @@ IsHinderedChange (Take key) = IsHindered (sql_of (table_at_key key)).delete (key
 IsHinderedChange (TakeList round student) = IsHindered (sharing group.List).removal (list_columns round student)
 IsHinderedChange (TakePlacements round) = IsHindered (sharing group.Placed).removal (round_columns round)
 
--- one of the changes is refused, once those before it are made
-pub record IsHinderedAmong (changes : List Change) (limit : Option ℕ) (db : Database) : Type 0 where
+-- one of several is refused, once those before it are made
+pub record IsHinderedAfter {X : Type 0} (Makes : List X → Database → Database → Type 0) (IsHinderedAt : X → Option ℕ → Database → Type 0) (all : List X) (limit : Option ℕ) (db : Database) : Type 0 where
   pub count : ℕ
-  pub change : Change
-  pub there : slice_get changes count ≡ Some change
+  pub one : X
+  pub there : slice_get all count ≡ Some one
   pub between : Database
-  pub made : Applies (take count changes) db between
-  pub hindered : IsHinderedChange change limit between
+  pub made : Makes (take count all) db between
+  pub hindered : IsHinderedAt one limit between
+
+-- one of the changes is refused, once those before it are made
+abbrev pub IsHinderedAmong : List Change → Option ℕ → Database → Type 0
+IsHinderedAmong = IsHinderedAfter Applies IsHinderedChange
 
 -- a transaction of these changes is refused
 abbrev pub IsHinderedToSave : List Change → Option ℕ → Database → Type 0
 IsHinderedToSave changes limit db = IsUnready limit db ⊎ IsHinderedAmong changes limit db
 
 -- one of these tables is refused, once those before it are made
-pub record IsHinderedMaking (tables : List Table) (limit : Option ℕ) (db : Database) : Type 0 where
-  pub count : ℕ
-  pub table : Table
-  pub there : slice_get tables count ≡ Some table
-  pub between : Database
-  pub made : MakesTables (take count tables) db between
-  pub hindered : IsHindered (sql_of table).create [] limit between
+abbrev pub IsHinderedMaking : List Table → Option ℕ → Database → Type 0
+IsHinderedMaking = IsHinderedAfter MakesTables (λ table. IsHindered (sql_of table).create [])
 
 -- the number of the edition is refused, once the tables are made
 pub record IsHinderedNumbering (limit : Option ℕ) (db : Database) : Type 0 where

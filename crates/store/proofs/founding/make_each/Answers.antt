@@ -1,10 +1,14 @@
 use Rattle.std.proofs.Common.{◌≤◌, length, refl, arith, ◌∙◌}
 use Rattle.tables.proofs.Runs.{part_none, part_ok, part_then}
 use Rattle.store.proofs.NewTables.{made_all, made_more, made_none}
-use Rattle.std.proofs.Common.{rules}
+use Rattle.std.proofs.Common.{[], rules}
+use Rattle.std.proofs.lemmas.Option.{slice_get-get_or}
+use Rattle.tables.specs.Causes.{IsHindered}
+use Rattle.tables.specs.Table.{sql_of}
+use Rattle.store.specs.Tables.{MakesTables}
 use Rattle.sqlite.specs.State.{HasCleanDisk}
 use Rattle.sqlite.specs.Held.{state}
-use Rattle.store.proofs.Causes.{table_refused}
+use Rattle.store.proofs.Causes.{one_refused}
 use Rattle.store.proofs.founding.make_each.Goals as goal
 
 pub loop-table-init : goal.loop-table-init
@@ -25,4 +29,5 @@ returns-in_err-make-clause-cause g c inside clean h =
     let so_far = c.loop-table.invariant.1 in
     let early : HasCleanDisk (state g.S.Store c.loop-table.tx.conn.now) = omega (arith, c.make.ensures.step.survives.clean) in
     let made = so_far.did early in
-    table_refused c.loop-table.table-index c.args.tables.now _ _ _ _ c.loop-table-test.true so_far.survives early c.make.ensures.step.survives.counts made (c.make.ensures.cause (made.mode ∙ inside) clean (search rules))
+    let there = slice_get-get_or c.args.tables.now c.loop-table.table-index _ c.loop-table-test.true in
+    one_refused MakesTables (λ table. IsHindered (sql_of table).create []) c.loop-table.table-index c.args.tables.now _ _ _ _ there so_far.survives early c.make.ensures.step.survives.counts made (c.make.ensures.cause (made.mode ∙ inside) clean (search rules))

@@ -1,10 +1,13 @@
 use Rattle.std.proofs.Common.{refl, ◌∙◌}
 use Rattle.tables.proofs.Runs.{part_none, part_then}
 use Rattle.store.proofs.ChangesInTurn.{changes_more, changes_none}
-use Rattle.std.proofs.Common.{arith, rules}
+use Rattle.std.proofs.Common.{arith, length, rules}
+use Rattle.std.proofs.lemmas.Option.{slice_get_read}
+use Rattle.store.specs.Causes.{IsHinderedChange}
+use Rattle.store.specs.Saving.{Applies}
 use Rattle.sqlite.specs.State.{HasCleanDisk}
 use Rattle.sqlite.specs.Held.{state}
-use Rattle.store.proofs.Causes.{change_refused}
+use Rattle.store.proofs.Causes.{one_refused}
 use Rattle.store.proofs.saving.apply_all.Goals as goal
 
 pub loop-change-preserved : goal.loop-change-preserved
@@ -22,4 +25,5 @@ returns-in_err-apply-clause-cause g c inside clean h =
     let so_far = c.loop-change.invariant.1 in
     let early : HasCleanDisk (state g.S.Store c.loop-change.tx.conn.now) = omega (arith, c.apply.ensures.step.survives.clean) in
     let made = so_far.did early in
-    change_refused c.loop-change.change-index c.args.changes.now c.change-item.result _ _ _ c.loop-change-test.true c.change-item.is so_far.survives early c.apply.ensures.step.survives.counts made (c.apply.ensures.cause (made.mode ∙ inside) clean (search rules))
+    let there = slice_get_read c.args.changes.now (length c.args.changes.now) c.loop-change.change-index c.change-item.result refl c.loop-change-test.true c.change-item.is in
+    one_refused Applies IsHinderedChange c.loop-change.change-index c.args.changes.now c.change-item.result _ _ _ there so_far.survives early c.apply.ensures.step.survives.counts made (c.apply.ensures.cause (made.mode ∙ inside) clean (search rules))
