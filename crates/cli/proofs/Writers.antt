@@ -20,7 +20,7 @@ pub record Took : Type 0 where
   pub err : Option (List ℕ)
   pub failures : ℕ
 
--- `Tells` says nothing else of the two ends
+-- `Tells` says nothing else of the two outputs
 abbrev pub TellsOf : (Outcome → Type 0) → Took → Took → ℕ → Type 0
 TellsOf Is old new status =
     ((o : Outcome) × Is o × (new.failures ≡ old.failures) × Appends old.out new.out o.out × Appends old.err new.err o.err × (status ≡ o.status))

@@ -1,4 +1,4 @@
 pub mod Anew
-pub mod Ends
+pub mod Outputs
 pub mod Outcomes
 pub mod Inside

@@ -30,7 +30,7 @@ use Rattle.cli.specs.declared.tasks.Task.{Task}
 use Rattle.cli.specs.declared.tasks.Task.TheVariants as task
 use Rattle.cli.specs.declared.unread.Unread.{Unread}
 use Rattle.cli.specs.declared.unread.Unread.TheVariants as unread
-use Rattle.cli.specs.Ends.{Both, failures_of}
+use Rattle.cli.specs.Outputs.{Both, failures_of}
 use Rattle.wire.specs.declared.outcome.Served.{Served}
 use Rattle.wire.specs.declared.outcome.StreamFault.{StreamFault}
 
@@ -180,7 +180,7 @@ abbrev pub Printed : List ℕ → ℕ → Option (List ℕ) → Option (List ℕ
 Printed text status w0 w failures0 failures ends =
     ((failures ≡ failures0) × Appends w0 w text × (ends ≡ status)) ⊎ ((failures ≡ failures0 + 1) × (ends ≡ 1))
 
--- one of these outcomes was written to the two ends and its status is this, or one call of a writer failed and the status is 1
+-- one of these outcomes was written to the two outputs and its status is this, or one call of a writer failed and the status is 1
 abbrev pub Tells : {O E : Type 0} → (Outcome → Type 0) → Both O E → Both O E → ℕ → Type 0
 Tells Is old new status =
     ((o : Outcome) × Is o × (failures_of new ≡ failures_of old) × Appends old.out.written new.out.written o.out × Appends old.err.written new.err.written o.err × (status ≡ o.status))

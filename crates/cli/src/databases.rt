@@ -4,12 +4,12 @@ ghost use Rattle.std.specs.Prelude.{◌≡◌, IfOk, MatchResult};
 ghost use Rattle.sqlite.specs.Held.{state};
 ghost use Rattle.sqlite.specs.Files.{file_state};
 ghost use Rattle.desk.specs.Keeping.{Keeps};
-ghost use Rattle.cli.specs.Ends.{CanFail};
+ghost use Rattle.cli.specs.Outputs.{CanFail};
 ghost use Rattle.cli.specs.Outcomes.{Tells, ComesOf, refused};
 ghost use Rattle.cli.specs.Inside.Databases.{WasClean, StandsAfter, DoesOver, LeftBy, IsClosing};
 
-use crate::ends::Ends;
 use crate::opening::{Closing, close_file};
+use crate::outputs::Outputs;
 use crate::tasks::{Task, do_at};
 use desk::Desk;
 use rolls::Refusal;
@@ -25,23 +25,23 @@ fn do_opened<S: Alter + Drop, O: Sink, E: Sink>(
     rt: &HostRuntime,
     opened: Result<Desk<S>, (Refusal, Connection<S>)>,
     task: Task,
-    ends: &mut Ends<O, E>,
+    outputs: &mut Outputs<O, E>,
 ) -> (u8, Connection<S>)
-    requires { CanFail ends.old }
-    ensures told { Tells (λ o. MatchResult opened (λ desk. (after : _) × ComesOf task desk.office after o × Keeps (state S.Store result.1) after) (λ e. o ≡ refused e.0)) ends.old ends.new result.0 }
+    requires { CanFail outputs.old }
+    ensures told { Tells (λ o. MatchResult opened (λ desk. (after : _) × ComesOf task desk.office after o × Keeps (state S.Store result.1) after) (λ e. o ≡ refused e.0)) outputs.old outputs.new result.0 }
     ensures left { MatchResult opened (λ desk. StandsAfter task desk.office (state S.Store result.1)) (λ e. result.1 ≡ e.1) }
     ensures clean { IfOk opened (λ desk. WasClean task (state S.Store desk.store) (state S.Store result.1)) }
 {
     match opened {
         Ok(mut desk) => {
             desk.keeps();
-            let status = do_at(rt, &mut desk, task, ends);
+            let status = do_at(rt, &mut desk, task, outputs);
             desk.keeps();
             (status, desk.into_connection())
         }
         Err((refusal, connection)) => {
             drop(task);
-            (ends.refuse(refusal), connection)
+            (outputs.refuse(refusal), connection)
         }
     }
 }
@@ -54,15 +54,15 @@ fn do_over<S: Alter + Drop, O: Sink, E: Sink>(
     rt: &HostRuntime,
     connection: Connection<S>,
     task: Task,
-    ends: &mut Ends<O, E>,
+    outputs: &mut Outputs<O, E>,
 ) -> (u8, Connection<S>)
-    requires { CanFail ends.old }
-    ensures told { Tells (DoesOver task (state S.Store connection) (state S.Store result.1)) ends.old ends.new result.0 }
+    requires { CanFail outputs.old }
+    ensures told { Tells (DoesOver task (state S.Store connection) (state S.Store result.1)) outputs.old outputs.new result.0 }
 
     // Where a writer has failed no outcome is told, and it is still known what is left.
     ensures left { LeftBy task result.0 (state S.Store connection) (state S.Store result.1) }
 {
-    do_opened(rt, Desk::open(rt.alloc(), connection), task, ends)
+    do_opened(rt, Desk::open(rt.alloc(), connection), task, outputs)
 }
 
 /// The same of the office of a database file, which is closed then: its log is copied into it.
@@ -70,13 +70,13 @@ pub(crate) fn do_and_close<D: Disk + Drop, O: Sink, E: Sink>(
     rt: &HostRuntime,
     connection: Connection<FileStore<D>>,
     task: Task,
-    ends: &mut Ends<O, E>,
+    outputs: &mut Outputs<O, E>,
 ) -> (u8, Closing<D>)
-    requires { CanFail ends.old }
+    requires { CanFail outputs.old }
 
     // One connection shows what was told and what is left, and it is the one that was closed.
-    ensures { (last : _) × Tells (DoesOver task (file_state connection) (file_state last)) ends.old ends.new result.0 × LeftBy task result.0 (file_state connection) (file_state last) × IsClosing last result.1 }
+    ensures { (last : _) × Tells (DoesOver task (file_state connection) (file_state last)) outputs.old outputs.new result.0 × LeftBy task result.0 (file_state connection) (file_state last) × IsClosing last result.1 }
 {
-    let (status, connection) = do_over(rt, connection, task, ends);
+    let (status, connection) = do_over(rt, connection, task, outputs);
     (status, close_file(connection))
 }

@@ -1,13 +1,13 @@
 //! The request of an import of a file, and the asking of it at the office of a database.
 
 ghost use Rattle.std.specs.Prelude.{◌≡◌, IfOk, MatchResult};
-ghost use Rattle.cli.specs.Ends.{CanFail};
+ghost use Rattle.cli.specs.Outputs.{CanFail};
 ghost use Rattle.cli.specs.Outcomes.{Tells, MayDo, refused};
 ghost use Rattle.cli.specs.Inside.Imports.{IsImportOf, IsImportOfFile};
 
-use crate::ends::Ends;
 use crate::files::read_file;
 use crate::named::do_on;
+use crate::outputs::Outputs;
 use crate::tasks::Task;
 use rolls::{Bytes, ImportKind, MOST_IMPORT_BYTES, Refusal, Request, Text};
 use std::alloc::AllocError;
@@ -75,13 +75,13 @@ pub(crate) fn ask_made<O: Sink, E: Sink>(
     rt: &HostRuntime,
     database: &str,
     made: Result<Request, Refusal>,
-    ends: &mut Ends<O, E>,
+    outputs: &mut Outputs<O, E>,
 ) -> u8
-    requires { CanFail ends.old }
-    ensures { Tells (λ o. MatchResult made (λ asked. MayDo (Task.Ask asked) o) (λ refusal. o ≡ refused refusal)) ends.old ends.new result }
+    requires { CanFail outputs.old }
+    ensures { Tells (λ o. MatchResult made (λ asked. MayDo (Task.Ask asked) o) (λ refusal. o ≡ refused refusal)) outputs.old outputs.new result }
 {
     match made {
-        Ok(asked) => do_on(rt, database, Task::Ask(asked), ends),
-        Err(refusal) => ends.refuse(refusal),
+        Ok(asked) => do_on(rt, database, Task::Ask(asked), outputs),
+        Err(refusal) => outputs.refuse(refusal),
     }
 }

@@ -8,15 +8,15 @@
 //! writer fails the status is 1. A request is asked of the office that the database stood for, unless the disk gave back
 //! what was not written. The database is closed behind what is told: its file alone stands for the office then, or it is
 //! known why not. Arguments that cannot be read are told too. Without arguments a stream is served over a new database,
-//! from the empty office on. Begin with `specs/Outcomes.antt`, `specs/Ends.antt` and `specs/Anew.antt`.
+//! from the empty office on. Begin with `specs/Outcomes.antt`, `specs/Outputs.antt` and `specs/Anew.antt`.
 #![tactic(auto)]
 
 mod databases;
-mod ends;
 mod files;
 mod importing;
 mod named;
 mod opening;
+mod outputs;
 mod printing;
 mod program;
 mod rounds;
@@ -25,7 +25,7 @@ mod tasks;
 mod texts;
 mod unread;
 
-pub use ends::Ends;
+pub use outputs::Outputs;
 pub use program::{begin, serve_anew, start};
 pub use run::{line, tell_line, tell_unread};
 pub use unread::Unread;

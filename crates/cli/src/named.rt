@@ -1,12 +1,12 @@
 //! What a line does at the database file with a name.
 
 ghost use Rattle.std.specs.Prelude.{◌≡◌, MatchResult};
-ghost use Rattle.cli.specs.Ends.{CanFail};
+ghost use Rattle.cli.specs.Outputs.{CanFail};
 ghost use Rattle.cli.specs.Outcomes.{Tells, MayDo, refused};
 
 use crate::databases::do_and_close;
-use crate::ends::Ends;
 use crate::opening::open_file;
+use crate::outputs::Outputs;
 use crate::tasks::Task;
 use rolls::Refusal;
 use sqlite::{Connection, FileStore};
@@ -22,19 +22,19 @@ fn do_found<D: Disk + Drop, O: Sink, E: Sink>(
     rt: &HostRuntime,
     opened: Result<Connection<FileStore<D>>, Refusal>,
     task: Task,
-    ends: &mut Ends<O, E>,
+    outputs: &mut Outputs<O, E>,
 ) -> u8
-    requires { CanFail ends.old }
-    ensures { Tells (λ o. MatchResult opened (λ _. MayDo task o) (λ refusal. o ≡ refused refusal)) ends.old ends.new result }
+    requires { CanFail outputs.old }
+    ensures { Tells (λ o. MatchResult opened (λ _. MayDo task o) (λ refusal. o ≡ refused refusal)) outputs.old outputs.new result }
 {
     match opened {
         Ok(connection) => {
-            let (status, _closing) = do_and_close(rt, connection, task, ends);
+            let (status, _closing) = do_and_close(rt, connection, task, outputs);
             status
         }
         Err(refusal) => {
             drop(task);
-            ends.refuse(refusal)
+            outputs.refuse(refusal)
         }
     }
 }
@@ -44,10 +44,10 @@ pub(crate) fn do_on<O: Sink, E: Sink>(
     rt: &HostRuntime,
     database: &str,
     task: Task,
-    ends: &mut Ends<O, E>,
+    outputs: &mut Outputs<O, E>,
 ) -> u8
-    requires { CanFail ends.old }
-    ensures { Tells (MayDo task) ends.old ends.new result }
+    requires { CanFail outputs.old }
+    ensures { Tells (MayDo task) outputs.old outputs.new result }
 {
-    do_found(rt, open_file(rt, database), task, ends)
+    do_found(rt, open_file(rt, database), task, outputs)
 }

@@ -1,10 +1,10 @@
 //! What is told on standard output or standard error, and the status.
 
 ghost use Rattle.std.specs.Prelude.{◌≡◌, ◌-◌, ◌^◌, ◌<◌};
-ghost use Rattle.cli.specs.Ends.{CanFail};
+ghost use Rattle.cli.specs.Outputs.{CanFail};
 ghost use Rattle.cli.specs.Outcomes.{Printed, Tells, refusal_line, of_round, reply_text};
 
-use crate::ends::Ends;
+use crate::outputs::Outputs;
 use crate::texts::{bad_line, closed_line, labelled, refusal_line};
 use rolls::{Refusal, Reply};
 use round_files::Trouble;
@@ -55,15 +55,15 @@ pub(crate) fn print_reply<W: Sink>(out: &mut W, reply: &Reply) -> u8
 /// Tells what came of the text of a round file.
 pub(crate) fn tell_round<O: Sink, E: Sink>(
     came: Result<String, Trouble>,
-    ends: &mut Ends<O, E>,
+    outputs: &mut Outputs<O, E>,
 ) -> u8
-    requires { CanFail ends.old }
-    ensures { Tells (λ o. o ≡ of_round came) ends.old ends.new result }
+    requires { CanFail outputs.old }
+    ensures { Tells (λ o. o ≡ of_round came) outputs.old outputs.new result }
 {
     match came {
-        Ok(text) => ends.print(text.as_bytes(), 0),
-        Err(Trouble::Failed(text)) => ends.print(text.as_bytes(), 1),
-        Err(Trouble::Refused(refusal)) => ends.refuse(refusal),
-        Err(Trouble::BadLine(number)) => ends.tell(bad_line(number).as_slice(), 1),
+        Ok(text) => outputs.print(text.as_bytes(), 0),
+        Err(Trouble::Failed(text)) => outputs.print(text.as_bytes(), 1),
+        Err(Trouble::Refused(refusal)) => outputs.refuse(refusal),
+        Err(Trouble::BadLine(number)) => outputs.tell(bad_line(number).as_slice(), 1),
     }
 }

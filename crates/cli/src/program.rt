@@ -2,12 +2,12 @@
 
 ghost use Rattle.std.specs.Prelude.{◌≡◌, ◌-◌, ◌^◌, ◌<◌, ◌≤◌, IsTrue, false, length, map, string_bytes, IfOk, MatchResult};
 ghost use Rattle.std.specs.IoError.{error_kind};
-ghost use Rattle.cli.specs.Ends.{CanFail};
+ghost use Rattle.cli.specs.Outputs.{CanFail};
 ghost use Rattle.cli.specs.Anew.{ServedAnew, BrokenAnew, StreamsAnew};
 ghost use Rattle.cli.specs.Outcomes.{Tells, ComesTo};
 ghost use Rattle.cli.specs.Inside.Outcomes.{OfUnread};
 
-use crate::ends::Ends;
+use crate::outputs::Outputs;
 use crate::run::{tell_line, tell_unread};
 use crate::unread::Unread;
 use desk::Desk;
@@ -46,21 +46,21 @@ pub fn begin<R: Source, O: Sink, E: Sink>(
     rt: &HostRuntime,
     words: &[String],
     reader: &mut R,
-    ends: &mut Ends<O, E>,
+    outputs: &mut Outputs<O, E>,
 ) -> u8
     requires reader { R.failures reader.old < 2 ^ 64 - 1 }
     requires open { R.ended reader.old ≡ false }
-    requires ends { CanFail ends.old }
-    ensures line { 1 < length words.now → Tells (ComesTo (map string_bytes words.now)) ends.old ends.new result }
+    requires outputs { CanFail outputs.old }
+    ensures line { 1 < length words.now → Tells (ComesTo (map string_bytes words.now)) outputs.old outputs.new result }
     ensures unread { 1 < length words.now → reader.new ≡ reader.old }
-    ensures stream { length words.now ≤ 1 → StreamsAnew (R.left reader.old) ends.old.out.written (R.left reader.new) ends.new.out.written result }
-    ensures silent { length words.now ≤ 1 → ends.new.err ≡ ends.old.err }
+    ensures stream { length words.now ≤ 1 → StreamsAnew (R.left reader.old) outputs.old.out.written (R.left reader.new) outputs.new.out.written result }
+    ensures silent { length words.now ≤ 1 → outputs.new.err ≡ outputs.old.err }
     ensures status { result ≤ 2 }
 {
     if words.len() > 1 {
-        return tell_line(rt, words, ends);
+        return tell_line(rt, words, outputs);
     }
-    u8::from(!serve_anew(rt.alloc(), reader, &mut ends.out))
+    u8::from(!serve_anew(rt.alloc(), reader, &mut outputs.out))
 }
 
 /// The words of the command line, the program's name first.
@@ -73,22 +73,22 @@ fn begin_given<R: Source, O: Sink, E: Sink>(
     rt: &HostRuntime,
     given: io::Result<Vec<String>>,
     reader: &mut R,
-    ends: &mut Ends<O, E>,
+    outputs: &mut Outputs<O, E>,
 ) -> u8
     requires reader { R.failures reader.old < 2 ^ 64 - 1 }
     requires open { R.ended reader.old ≡ false }
-    requires ends { CanFail ends.old }
-    ensures told { MatchResult given (λ words. 1 < length words.items → Tells (ComesTo (map string_bytes words.items)) ends.old ends.new result) (λ error. Tells (OfUnread (error_kind error)) ends.old ends.new result) }
-    ensures stream { IfOk given (λ words. length words.items ≤ 1 → StreamsAnew (R.left reader.old) ends.old.out.written (R.left reader.new) ends.new.out.written result) }
-    ensures silent { IfOk given (λ words. length words.items ≤ 1 → ends.new.err ≡ ends.old.err) }
+    requires outputs { CanFail outputs.old }
+    ensures told { MatchResult given (λ words. 1 < length words.items → Tells (ComesTo (map string_bytes words.items)) outputs.old outputs.new result) (λ error. Tells (OfUnread (error_kind error)) outputs.old outputs.new result) }
+    ensures stream { IfOk given (λ words. length words.items ≤ 1 → StreamsAnew (R.left reader.old) outputs.old.out.written (R.left reader.new) outputs.new.out.written result) }
+    ensures silent { IfOk given (λ words. length words.items ≤ 1 → outputs.new.err ≡ outputs.old.err) }
 
     // Where the words cannot be read nothing else is.
     ensures unread { MatchResult given (λ words. 1 < length words.items → reader.new ≡ reader.old) (λ _. reader.new ≡ reader.old) }
     ensures status { result ≤ 2 }
 {
     match given {
-        Ok(words) => begin(rt, &words, reader, ends),
-        Err(error) => tell_unread(Unread::of(&error), &mut ends.err),
+        Ok(words) => begin(rt, &words, reader, outputs),
+        Err(error) => tell_unread(Unread::of(&error), &mut outputs.err),
     }
 }
 
@@ -100,6 +100,6 @@ pub fn start(rt: &HostRuntime) -> u8
     ensures { result ≤ 2 }
 {
     let mut reader = Watched::new(rt.stdin());
-    let mut ends = Ends::new(Watched::new(rt.stdout()), Watched::new(rt.stderr()));
-    begin_given(rt, given(rt), &mut reader, &mut ends)
+    let mut outputs = Outputs::new(Watched::new(rt.stdout()), Watched::new(rt.stderr()));
+    begin_given(rt, given(rt), &mut reader, &mut outputs)
 }

@@ -1,12 +1,12 @@
 //! The lines on a round file.
 
 ghost use Rattle.std.specs.Prelude.{◌≡◌, MatchResult};
-ghost use Rattle.cli.specs.Ends.{CanFail};
+ghost use Rattle.cli.specs.Outputs.{CanFail};
 ghost use Rattle.cli.specs.Outcomes.{Tells, OnFile};
 ghost use Rattle.cli.specs.Inside.Rounds.{ComesBy};
 
-use crate::ends::Ends;
 use crate::files::read_file;
+use crate::outputs::Outputs;
 use crate::printing::tell_round;
 use intake::MOST_BYTES;
 use rolls::Refusal;
@@ -42,11 +42,11 @@ pub(crate) fn do_file<O: Sink, E: Sink>(
     rt: &HostRuntime,
     way: Way,
     file: &str,
-    ends: &mut Ends<O, E>,
+    outputs: &mut Outputs<O, E>,
 ) -> u8
-    requires { CanFail ends.old }
-    ensures { Tells (OnFile (ComesBy way)) ends.old ends.new result }
+    requires { CanFail outputs.old }
+    ensures { Tells (OnFile (ComesBy way)) outputs.old outputs.new result }
 {
     let came = do_read(rt.alloc(), way, read_file(rt, file, MOST_BYTES));
-    tell_round(came, ends)
+    tell_round(came, outputs)
 }

@@ -1,12 +1,12 @@
 //! A whole line: its words, what it prints, and its status.
 
 ghost use Rattle.std.specs.Prelude.{◌-◌, ◌^◌, ◌<◌, ◌≤◌, map, string_bytes};
-ghost use Rattle.cli.specs.Ends.{CanFail};
+ghost use Rattle.cli.specs.Outputs.{CanFail};
 ghost use Rattle.cli.specs.Outcomes.{Printed, Tells, MayCome, ComesTo, of_unread};
 
-use crate::ends::Ends;
 use crate::importing::{ask_made, import_file};
 use crate::named::do_on;
+use crate::outputs::Outputs;
 use crate::printing::{print, refuse};
 use crate::rounds::{Way, do_file};
 use crate::tasks::{Serving, Task};
@@ -20,41 +20,41 @@ use web::{Sink, Watched};
 
 /// Does a line, and tells what comes of it. A file is read first, then a database is opened, then a port is bound, and then the
 /// request is judged.
-fn do_line<O: Sink, E: Sink>(rt: &HostRuntime, line: Line, ends: &mut Ends<O, E>) -> u8
-    requires { CanFail ends.old }
-    ensures { Tells (MayCome line) ends.old ends.new result }
+fn do_line<O: Sink, E: Sink>(rt: &HostRuntime, line: Line, outputs: &mut Outputs<O, E>) -> u8
+    requires { CanFail outputs.old }
+    ensures { Tells (MayCome line) outputs.old outputs.new result }
 {
     match line {
         Line::Serve {
             database,
             port,
             count,
-        } => do_on(rt, &database, Task::Serve(Serving { port, count }), ends),
+        } => do_on(rt, &database, Task::Serve(Serving { port, count }), outputs),
         Line::Import {
             database,
             kind,
             id,
             file,
-        } => ask_made(rt, &database, import_file(rt, kind, &id, &file), ends),
+        } => ask_made(rt, &database, import_file(rt, kind, &id, &file), outputs),
         Line::OpenRound(database) => {
             let asked = Request::Plain(Plain::OpenRound);
-            do_on(rt, &database, Task::Ask(asked), ends)
+            do_on(rt, &database, Task::Ask(asked), outputs)
         }
         Line::ReopenRound(database) => {
             let asked = Request::Plain(Plain::ReopenRound);
-            do_on(rt, &database, Task::Ask(asked), ends)
+            do_on(rt, &database, Task::Ask(asked), outputs)
         }
-        Line::CloseRound(database) => do_on(rt, &database, Task::Ask(Request::Close), ends),
+        Line::CloseRound(database) => do_on(rt, &database, Task::Ask(Request::Close), outputs),
         Line::Report {
             database,
             kind,
             round,
         } => {
             let asked = Request::Report { kind, round };
-            do_on(rt, &database, Task::Ask(asked), ends)
+            do_on(rt, &database, Task::Ask(asked), outputs)
         }
-        Line::Solve(file) => do_file(rt, Way::Solve, &file, ends),
-        Line::Check(file) => do_file(rt, Way::Check, &file, ends),
+        Line::Solve(file) => do_file(rt, Way::Solve, &file, outputs),
+        Line::Check(file) => do_file(rt, Way::Check, &file, outputs),
     }
 }
 
@@ -62,15 +62,19 @@ fn do_line<O: Sink, E: Sink>(rt: &HostRuntime, line: Line, ends: &mut Ends<O, E>
 ///
 /// A result is printed with status 0, and a check that failed with status 1. A refusal, a bad line of a round text or a port
 /// that cannot be bound is told with status 1, a fault of the line with status 2, and help is printed with status 0. Where a writer fails, the status is 1, and what was done stays done.
-pub fn tell_line<O: Sink, E: Sink>(rt: &HostRuntime, words: &[String], ends: &mut Ends<O, E>) -> u8
-    requires { CanFail ends.old }
-    ensures { Tells (ComesTo (map string_bytes words.now)) ends.old ends.new result }
+pub fn tell_line<O: Sink, E: Sink>(
+    rt: &HostRuntime,
+    words: &[String],
+    outputs: &mut Outputs<O, E>,
+) -> u8
+    requires { CanFail outputs.old }
+    ensures { Tells (ComesTo (map string_bytes words.now)) outputs.old outputs.new result }
 {
     match command(rt.alloc(), words) {
-        Ok(line) => do_line(rt, line, ends),
-        Err(LineFault::Memory) => ends.refuse(Refusal::Memory),
-        Err(LineFault::Help(text)) => ends.print(text.as_bytes(), 0),
-        Err(LineFault::Fault(text)) => ends.tell(text.as_bytes(), 2),
+        Ok(line) => do_line(rt, line, outputs),
+        Err(LineFault::Memory) => outputs.refuse(Refusal::Memory),
+        Err(LineFault::Help(text)) => outputs.print(text.as_bytes(), 0),
+        Err(LineFault::Fault(text)) => outputs.tell(text.as_bytes(), 2),
     }
 }
 
@@ -95,6 +99,6 @@ pub fn line<O: Write + Drop, E: Write + Drop>(
 ) -> u8
     ensures { result ≤ 2 }
 {
-    let mut ends = Ends::new(Watched::new(out), Watched::new(err));
-    tell_line(rt, &words, &mut ends)
+    let mut outputs = Outputs::new(Watched::new(out), Watched::new(err));
+    tell_line(rt, &words, &mut outputs)
 }

@@ -8,12 +8,12 @@ ghost use Rattle.sqlite.specs.Held.{state};
 ghost use Rattle.rolls.specs.Run.{Step};
 ghost use Rattle.allotment.specs.Layers.{layers};
 ghost use Rattle.web.specs.Connections.{Connect};
-ghost use Rattle.cli.specs.Ends.{CanFail};
+ghost use Rattle.cli.specs.Outputs.{CanFail};
 ghost use Rattle.cli.specs.Outcomes.{Tells, IsAsked, IsServed, IsUnbound, ComesOf};
 ghost use Rattle.cli.specs.Inside.Outcomes.{IsCutOff, Serves};
 ghost use Rattle.cli.specs.Inside.Databases.{TakesTo, WasClean};
 
-use crate::ends::Ends;
+use crate::outputs::Outputs;
 use crate::texts::labelled;
 use desk::Desk;
 use rolls::Request;
@@ -46,16 +46,16 @@ pub(crate) struct Serving {
 fn ask_at<S: Alter, O: Sink, E: Sink>(
     desk: &mut Desk<S>,
     asked: Request,
-    ends: &mut Ends<O, E>,
+    outputs: &mut Outputs<O, E>,
 ) -> u8
-    requires { CanFail ends.old }
-    ensures told { Tells (IsAsked asked desk.old.office desk.new.office) ends.old ends.new result }
+    requires { CanFail outputs.old }
+    ensures told { Tells (IsAsked asked desk.old.office desk.new.office) outputs.old outputs.new result }
     ensures step { (answer : _) × Step layers desk.old.office asked answer desk.new.office }
     ensures clean { HasCleanDisk (state S.Store desk.new.store) → HasCleanDisk (state S.Store desk.old.store) }
 {
     match desk.ask(asked) {
-        Ok(reply) => ends.print_reply(&reply),
-        Err(refusal) => ends.refuse(refusal),
+        Ok(reply) => outputs.print_reply(&reply),
+        Err(refusal) => outputs.refuse(refusal),
     }
 }
 
@@ -100,18 +100,18 @@ fn serve_bound<S: Alter, O: Sink, E: Sink>(
     desk: &mut Desk<S>,
     bound: io::Result<TcpListener>,
     serving: Serving,
-    ends: &mut Ends<O, E>,
+    outputs: &mut Outputs<O, E>,
 ) -> u8
-    requires { CanFail ends.old }
-    ensures told { Tells (λ o. MatchResult bound (λ _. IsServed serving.port serving.count desk.old.office desk.new.office o) (λ _. IsUnbound serving.port desk.old.office desk.new.office o)) ends.old ends.new result }
+    requires { CanFail outputs.old }
+    ensures told { Tells (λ o. MatchResult bound (λ _. IsServed serving.port serving.count desk.old.office desk.new.office o) (λ _. IsUnbound serving.port desk.old.office desk.new.office o)) outputs.old outputs.new result }
     ensures served { (came : _) × Connect desk.old.office came desk.new.office }
 
     // Where no port is bound nothing is done at the desk.
     ensures unbound { IfErr bound (λ _. desk.new ≡ desk.old) }
 {
     match bound {
-        Ok(listener) => serve_at(alloc, desk, &listener, serving, &mut ends.out),
-        Err(_) => ends.tell(labelled(b"no port ", u32::from(serving.port)).as_slice(), 1),
+        Ok(listener) => serve_at(alloc, desk, &listener, serving, &mut outputs.out),
+        Err(_) => outputs.tell(labelled(b"no port ", u32::from(serving.port)).as_slice(), 1),
     }
 }
 
@@ -120,14 +120,14 @@ fn serve_from<S: Alter, O: Sink, E: Sink>(
     rt: &HostRuntime,
     desk: &mut Desk<S>,
     serving: Serving,
-    ends: &mut Ends<O, E>,
+    outputs: &mut Outputs<O, E>,
 ) -> u8
-    requires { CanFail ends.old }
-    ensures told { Tells (ComesOf (Task.Serve serving) desk.old.office desk.new.office) ends.old ends.new result }
+    requires { CanFail outputs.old }
+    ensures told { Tells (ComesOf (Task.Serve serving) desk.old.office desk.new.office) outputs.old outputs.new result }
     ensures served { (came : _) × Connect desk.old.office came desk.new.office }
 {
     let bound = TcpListener::bind(rt, loopback(serving.port));
-    serve_bound(rt.alloc(), desk, bound, serving, ends)
+    serve_bound(rt.alloc(), desk, bound, serving, outputs)
 }
 
 /// Does a task at a desk, and tells what comes of it.
@@ -135,15 +135,15 @@ pub(crate) fn do_at<S: Alter, O: Sink, E: Sink>(
     rt: &HostRuntime,
     desk: &mut Desk<S>,
     task: Task,
-    ends: &mut Ends<O, E>,
+    outputs: &mut Outputs<O, E>,
 ) -> u8
-    requires { CanFail ends.old }
-    ensures told { Tells (ComesOf task desk.old.office desk.new.office) ends.old ends.new result }
+    requires { CanFail outputs.old }
+    ensures told { Tells (ComesOf task desk.old.office desk.new.office) outputs.old outputs.new result }
     ensures taken { TakesTo task desk.old.office desk.new.office }
     ensures clean { WasClean task (state S.Store desk.old.store) (state S.Store desk.new.store) }
 {
     match task {
-        Task::Ask(asked) => ask_at(desk, asked, ends),
-        Task::Serve(serving) => serve_from(rt, desk, serving, ends),
+        Task::Ask(asked) => ask_at(desk, asked, outputs),
+        Task::Serve(serving) => serve_from(rt, desk, serving, outputs),
     }
 }

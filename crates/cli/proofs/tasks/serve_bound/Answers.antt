@@ -5,7 +5,7 @@ use Rattle.cli.proofs.tasks.serve_bound.Goals as goal
 
 pub returns-in-Ok-clause-told : goal.returns-in-Ok-clause-told
 returns-in-Ok-clause-told g c =
-    rw (← c.ends.view_is)
+    rw (← c.outputs.view_is)
     (ok_told (λ _ o. IsServed c.args.serving.port c.args.serving.count _ _ o) (λ _ o. IsUnbound c.args.serving.port _ _ o) c.args.bound c.in-Ok.listener c.in-Ok.is _ _ _
     (served_told _ _ c.args.serving.port c.args.serving.count _ _ _ _ _ _ _ c.serve_at.ensures.told))
 

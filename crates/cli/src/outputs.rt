@@ -1,7 +1,7 @@
-//! The two ends that a line writes to: standard output and standard error.
+//! What a line writes to: standard output and standard error.
 
 ghost use Rattle.std.specs.Prelude.{◌≡◌, []};
-ghost use Rattle.cli.specs.Ends.{CanFail};
+ghost use Rattle.cli.specs.Outputs.{CanFail};
 ghost use Rattle.cli.specs.Outcomes.{Tells, tells, prints, refused, reply_text};
 
 use crate::printing::{print, print_reply, refuse};
@@ -11,14 +11,14 @@ use web::Sink;
 
 /// The writers of results and of messages.
 #[derive(Drop)]
-pub struct Ends<O: Sink, E: Sink> {
+pub struct Outputs<O: Sink, E: Sink> {
     pub(crate) out: O,
     pub(crate) err: E,
 }
 
-impl<O: Sink, E: Sink> Model for Ends<O, E> {
-    ghost use Rattle.cli.specs.Ends.{Both};
-    ghost use Rattle.cli.specs.Inside.Ends.{both_code};
+impl<O: Sink, E: Sink> Model for Outputs<O, E> {
+    ghost use Rattle.cli.specs.Outputs.{Both};
+    ghost use Rattle.cli.specs.Inside.Outputs.{both_code};
 
     ghost Value = { Both O E };
 
@@ -27,13 +27,13 @@ impl<O: Sink, E: Sink> Model for Ends<O, E> {
     ghost view = { λ e. record { out = record { writer = e.out; written = O.written e.out; failures = O.failures e.out }; err = record { writer = e.err; written = E.written e.err; failures = E.failures e.err } } };
 }
 
-impl<O: Sink, E: Sink> Ends<O, E> {
+impl<O: Sink, E: Sink> Outputs<O, E> {
     /// The two writers together.
     pub fn new(out: O, err: E) -> Self
         ensures out { result.out ≡ record { writer = out; written = O.written out; failures = O.failures out } }
         ensures err { result.err ≡ record { writer = err; written = E.written err; failures = E.failures err } }
     {
-        Ends { out, err }
+        Outputs { out, err }
     }
 
     /// Prints a result with this status.
