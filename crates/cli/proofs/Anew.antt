@@ -1,4 +1,4 @@
--- A new database is opened as the empty office, so what is served over it is served from the empty office on.
+-- A new database is opened as the empty office, without a session, so what is served over it is served from there on.
 use Rattle.std.proofs.Common.{◌≡◌, inl, inr, ℕ, List, [], Option, Some, None, ap, sym, subst, ◌∙◌}
 use Rattle.sqlite.specs.Effect.{Database}
 use Rattle.sqlite.specs.Schema.{Schema}
@@ -7,24 +7,31 @@ use Rattle.tables.specs.declared.table.Table.TheVariants.{Edition}
 use Rattle.tables.specs.Table.{shape_of}
 use Rattle.rolls.specs.State.{State, empty}
 use Rattle.store.specs.Tables.{Opens}
+use Rattle.desk.specs.Kept.{Kept}
 use Rattle.wire.specs.declared.outcome.Served.{Served}
 use Rattle.wire.specs.declared.outcome.StreamFault.{StreamFault}
 use Rattle.wire.specs.Served.{ServedTo, BrokeOff}
-use Rattle.web.specs.Serving.{AnswersMessage, end_text}
+use Rattle.web.specs.Serving.{AnswersMessage, AtDesk, at_desk, end_text, just_opened}
 use Rattle.cli.specs.Anew.{ServedAnew, BrokenAnew}
+use Rattle.cli.proofs.Opened.{no_sitting}
 
 -- a database that lists no table stands for no office, so it is opened as the empty one
-pub opened_empty : (old new : Database) (office : State) → old.schema ≡ record { tables = []; indexes = []; views = [] } → Opens old new office → office ≡ empty
+opened_empty : (old new : Database) (office : State) → old.schema ≡ record { tables = []; indexes = []; views = [] } → Opens old new office → office ≡ empty
 opened_empty old new office none (inl made) = made.1
 opened_empty old new office none (inr found) =
     let named : table_named old.schema (shape_of Edition).name ≡ Some found.1.editions.listed.at = found.1.editions.listed.named in
     let never : table_named old.schema (shape_of Edition).name ≡ None = ap (λ (s : Schema). table_named s (shape_of Edition).name) none in
     absurd (let e : Some found.1.editions.listed.at ≡ None = sym named ∙ never in cc)
 
--- what was served from an office that is empty
-pub served_anew : (office after : State) (left0 w0 left w : Option (List ℕ)) (served : Served) → office ≡ empty → ServedTo AnswersMessage end_text office left0 w0 left w served after → ServedAnew left0 w0 left w
-served_anew office after left0 w0 left w served is h = (served, after, subst (λ (o : State). ServedTo AnswersMessage end_text o left0 w0 left w served after) is h)
+-- a desk that was opened of it has the empty office, and no session
+pub opened_anew : {S : Type 0} (old new : Database) (desk : Kept S) → old.schema ≡ record { tables = []; indexes = []; views = [] } → Opens old new desk.office → desk.session ≡ None
+    → at_desk desk ≡ just_opened empty
+opened_anew old new desk none opens no_session = no_sitting desk no_session ∙ ap just_opened (opened_empty old new desk.office none opens)
 
--- what broke off from an office that is empty
-pub broken_anew : (office after : State) (left0 w0 left w : Option (List ℕ)) (fault : StreamFault) → office ≡ empty → BrokeOff AnswersMessage end_text office left0 w0 left w after fault → BrokenAnew left0 w0 left w
-broken_anew office after left0 w0 left w fault is h = inl (fault, after, subst (λ (o : State). BrokeOff AnswersMessage end_text o left0 w0 left w after fault) is h)
+-- what was served from there
+pub served_anew : (before after : AtDesk) (left0 w0 left w : Option (List ℕ)) (served : Served) → before ≡ just_opened empty → ServedTo AnswersMessage end_text before left0 w0 left w served after → ServedAnew left0 w0 left w
+served_anew before after left0 w0 left w served is h = (served, after, subst (λ (d : AtDesk). ServedTo AnswersMessage end_text d left0 w0 left w served after) is h)
+
+-- what broke off from there
+pub broken_anew : (before after : AtDesk) (left0 w0 left w : Option (List ℕ)) (fault : StreamFault) → before ≡ just_opened empty → BrokeOff AnswersMessage end_text before left0 w0 left w after fault → BrokenAnew left0 w0 left w
+broken_anew before after left0 w0 left w fault is h = inl (fault, after, subst (λ (d : AtDesk). BrokeOff AnswersMessage end_text d left0 w0 left w after fault) is h)

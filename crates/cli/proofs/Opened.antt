@@ -1,5 +1,5 @@
 -- What comes of a task where its office was opened or the opening refused, and what is left.
-use Rattle.std.proofs.Common.{◌≡◌, ◌⊎◌, inl, inr, ℕ, false, Result, Ok, Err, IfOk, IfErr, MatchResult, sym, subst, ap}
+use Rattle.std.proofs.Common.{◌≡◌, ◌⊎◌, inl, inr, ℕ, false, Option, None, Result, Ok, Err, IfOk, IfErr, MatchResult, sym, subst, ap}
 use Rattle.sqlite.specs.Effect.{Database}
 use Rattle.sqlite.specs.State.{State as Seen, HasCleanDisk}
 use Rattle.sqlite.specs.Held.{Held, state}
@@ -7,12 +7,14 @@ use Rattle.sqlite_trees.specs.declared.store.Store.{Ghosts}
 use Rattle.rolls.specs.declared.refusal.Refusal.{Refusal}
 use Rattle.rolls.specs.declared.refusal.Refusal.TheVariants as no
 use Rattle.rolls.specs.State.{State}
+use Rattle.solver.specs.Sitting.{Sitting}
 use Rattle.tables.specs.Causes.{IsStopped}
 use Rattle.store.specs.Causes.{IsHinderedOpening}
 use Rattle.store.specs.Reading.{IsDamaged}
 use Rattle.store.specs.Tables.{HasNone, Opens}
 use Rattle.desk.specs.Kept.{Kept}
 use Rattle.desk.specs.Keeping.{Keeps}
+use Rattle.web.specs.Serving.{AtDesk, at_desk, just_opened}
 use Rattle.cli.specs.declared.tasks.Task.{Task}
 use Rattle.cli.specs.declared.tasks.Task.TheVariants as task
 use Rattle.cli.specs.Outcomes.{ComesOf, IsUnopened, MayDo, Outcome, refused}
@@ -48,20 +50,25 @@ pub may_do : (done : Task) (before after : Seen) (o : Outcome) → DoesOver done
 may_do done before after o (inl not) = inl (subst IsUnopened (sym not.told) (why_refused not.refusal before after not.why))
 may_do done before after o (inr is) = inr (is.office, is.fit, is.next, is.comes)
 
+-- a desk that keeps no session is as it was just opened
+pub no_sitting : {S : Type 0} (desk : Kept S) → desk.session ≡ None → at_desk desk ≡ just_opened desk.office
+no_sitting desk none = ap (λ (session : Option Sitting). let at : AtDesk = record { office = desk.office; session = session } in at) none
+
 module _ {S : Type 0} (ghosts : Ghosts S) where
   -- the office of a connection was opened or not, and a task was done at it, which left the last connection
   pub record WasOpened (done : Task) (first last : Held S) (opened : Result (Kept S) (Refusal × Held S)) : Type 0 where
+    pub no_session : IfOk opened (λ desk. desk.session ≡ None)
     pub office : IfOk opened (λ desk. HasCleanDisk (state ghosts desk.store) → Opens (state ghosts first).now (state ghosts desk.store).now desk.office)
     pub refused : IfErr opened (λ e. (e.0 ≡ no.Memory) ⊎ ((e.0 ≡ no.Storage) ⊎ (e.0 ≡ no.Damaged)))
     pub damaged : IfErr opened (λ e. HasCleanDisk (state ghosts e.1) → e.0 ≡ no.Damaged → IsDamaged (state ghosts first).now × (HasNone (state ghosts first).now.schema → ⊥))
     pub cause : IfErr opened (λ e. first.in_transaction ≡ false → HasCleanDisk (state ghosts e.1) → e.0 ≡ no.Storage → IsStopped IsHinderedOpening (state ghosts first) (state ghosts e.1))
     pub kept : IfErr opened (λ e. StaysSo (state ghosts first) (state ghosts e.1))
-    pub left : MatchResult opened (λ desk. StandsAfter done desk.office (state ghosts last)) (λ e. last ≡ e.1)
+    pub left : MatchResult opened (λ desk. StandsAfter done (at_desk desk) (state ghosts last)) (λ e. last ≡ e.1)
     pub clean : IfOk opened (λ desk. WasClean done (state ghosts desk.store) (state ghosts last))
 
   -- what is told at a desk that was opened, or of the refusal
   abbrev pub ToldOf : Task → Held S → Result (Kept S) (Refusal × Held S) → Outcome → Type 0
-  ToldOf done last opened o = MatchResult opened (λ desk. (after : State) × ComesOf done desk.office after o × Keeps (state ghosts last) after) (λ e. o ≡ refused e.0)
+  ToldOf done last opened o = MatchResult opened (λ desk. (after : AtDesk) × ComesOf done (at_desk desk) after o × Keeps (state ghosts last) after.office) (λ e. o ≡ refused e.0)
 
   -- where the opening was refused the database is as before
   stays_so : (first last back : Held S) → last ≡ back → StaysSo (state ghosts first) (state ghosts back) → StaysSo (state ghosts first) (state ghosts last)
@@ -74,7 +81,7 @@ module _ {S : Type 0} (ghosts : Ghosts S) where
     found = found_for done (state ghosts first) (state ghosts d.store) (state ghosts last) d.office was.clean was.office;
     fit = was.left.fit;
     next = is.0;
-    comes = is.1;
+    comes = subst (λ (before : AtDesk). ComesOf done before is.0 o) (no_sitting d was.no_session) is.1;
     stands = is.2;
   })
   told_of done first last (Err e) o was is = inl (record {
@@ -87,5 +94,9 @@ module _ {S : Type 0} (ghosts : Ghosts S) where
   -- and what is left is known, whether or not it was told
   pub left_by : (done : Task) (first last : Held S) (opened : Result (Kept S) (Refusal × Held S)) → WasOpened done first last opened → (old new : Took) (status : ℕ)
       → TellsOf (ToldOf done last opened) old new status → LeftBy done status (state ghosts first) (state ghosts last)
-  left_by done first last (Ok d) was old new status told = inl (d.office, found_for done (state ghosts first) (state ghosts d.store) (state ghosts last) d.office was.clean was.office, was.left)
+  left_by done first last (Ok d) was old new status told = inl (
+    d.office,
+    found_for done (state ghosts first) (state ghosts d.store) (state ghosts last) d.office was.clean was.office,
+    subst (λ (before : AtDesk). StandsAfter done before (state ghosts last)) (no_sitting d was.no_session) was.left,
+  )
   left_by done first last (Err e) was old new status told = inr (refused_ends e.0 old new status told, stays_so first last e.1 was.left was.kept)

@@ -6,8 +6,8 @@ use Rattle.wire.proofs.Known.{appends_compose, appends_none}
 use Rattle.rolls.specs.declared.refusal.Refusal.{Refusal}
 use Rattle.rolls.specs.declared.refusal.Refusal.TheVariants as no
 use Rattle.rolls.specs.Told.{number_of, name_of}
-use Rattle.rolls.specs.State.{State}
 use Rattle.web.specs.Connections.{AllServed, lines_after}
+use Rattle.web.specs.Serving.{AtDesk}
 use Rattle.round_files.specs.declared.rounds.Trouble.{Trouble}
 use Rattle.round_files.specs.declared.rounds.Trouble.TheVariants.{Refused}
 use Rattle.cli.specs.declared.tasks.Task.{Task}
@@ -57,13 +57,13 @@ refused_ends r old new status (inl t) = t.5 ∙ ap (λ (o : Outcome). o.status) 
 refused_ends r old new status (inr failed) = failed.1
 
 -- the connections were served and told after the port
-pub all_served : (before after : State) (port count : ℕ) (w0 w1 w : Option (List ℕ)) (f0 f1 f : ℕ) → Appends w0 w1 (listening port) → f1 ≡ f0 → AllServed before count w1 w after → f ≡ f1
+pub all_served : (before after : AtDesk) (port count : ℕ) (w0 w1 w : Option (List ℕ)) (f0 f1 f : ℕ) → Appends w0 w1 (listening port) → f1 ≡ f0 → AllServed before count w1 w after → f ≡ f1
     → Serves port count before after w0 w f0 f 0
 all_served before after port count w0 w1 w f0 f1 f told same served still =
     inl (prints (listening port ++ lines_after 0 served.came), record { came = served.came; counted = served.counted; served = served.served; is = refl }, still ∙ same, appends_compose w0 w1 w _ _ told served.wrote, refl)
 
 -- what was served is told on standard output alone
-pub served_told : (before after : State) (port count : ℕ) (w0 w v : Option (List ℕ)) (f0 f g ends : ℕ) → Serves port count before after w0 w f0 f ends
+pub served_told : (before after : AtDesk) (port count : ℕ) (w0 w v : Option (List ℕ)) (f0 f g ends : ℕ) → Serves port count before after w0 w f0 f ends
     → TellsOf (IsServed port count before after) (record { out = w0; err = v; failures = f0 + g }) (record { out = w; err = v; failures = f + g }) ends
 served_told before after port count w0 w v f0 f g ends (inl s) =
     let printed : s.0 ≡ prints (listening port ++ lines_after 0 s.1.came) = s.1.is in

@@ -1,21 +1,21 @@
 -- A stream that is served over a new database.
 use Rattle.std.specs.Prelude.{◌≡◌, ◌⊎◌, ℕ, List, Option}
-use Rattle.rolls.specs.State.{State, empty}
+use Rattle.rolls.specs.State.{empty}
 use Rattle.wire.specs.declared.outcome.Served.{Served}
 use Rattle.wire.specs.declared.outcome.StreamFault.{StreamFault}
 use Rattle.wire.specs.Served.{ServedTo, BrokeOff}
-use Rattle.web.specs.Serving.{AnswersMessage, end_text}
+use Rattle.web.specs.Serving.{AnswersMessage, AtDesk, end_text, just_opened}
 
--- The stream was served to its end: what was written is the answers of a run of the office from the empty one over its messages, and then the refusal of
--- its end.
+-- The stream was served to its end: what was written is the answers of a run over its messages, from the empty office without a session on, and then
+-- the refusal of its end.
 abbrev pub ServedAnew : Option (List ℕ) → Option (List ℕ) → Option (List ℕ) → Option (List ℕ) → Type 0
 ServedAnew left0 w0 left w =
-    (served : Served) × (after : State) × ServedTo AnswersMessage end_text empty left0 w0 left w served after
+    (served : Served) × (after : AtDesk) × ServedTo AnswersMessage end_text (just_opened empty) left0 w0 left w served after
 
 -- The stream broke off: a beginning of that was written, or there was no office, and nothing was read or written.
 abbrev pub BrokenAnew : Option (List ℕ) → Option (List ℕ) → Option (List ℕ) → Option (List ℕ) → Type 0
 BrokenAnew left0 w0 left w =
-    ((fault : StreamFault) × (after : State) × BrokeOff AnswersMessage end_text empty left0 w0 left w after fault)
+    ((fault : StreamFault) × (after : AtDesk) × BrokeOff AnswersMessage end_text (just_opened empty) left0 w0 left w after fault)
     ⊎ ((left ≡ left0) × (w ≡ w0))
 
 -- the stream was served to its end and the status is 0, or it broke off and the status is 1

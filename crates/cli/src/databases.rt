@@ -4,6 +4,7 @@ ghost use Rattle.std.specs.Prelude.{◌≡◌, IfOk, MatchResult};
 ghost use Rattle.sqlite.specs.Held.{state};
 ghost use Rattle.sqlite.specs.Files.{file_state};
 ghost use Rattle.desk.specs.Keeping.{Keeps};
+ghost use Rattle.web.specs.Serving.{at_desk};
 ghost use Rattle.cli.specs.Outputs.{CanFail};
 ghost use Rattle.cli.specs.Outcomes.{Tells, ComesOf, refused};
 ghost use Rattle.cli.specs.Inside.Databases.{WasClean, StandsAfter, DoesOver, LeftBy, IsClosing};
@@ -28,8 +29,8 @@ fn do_opened<S: Alter + Drop, O: Sink, E: Sink>(
     outputs: &mut Outputs<O, E>,
 ) -> (u8, Connection<S>)
     requires { CanFail outputs.old }
-    ensures told { Tells (λ o. MatchResult opened (λ desk. (after : _) × ComesOf task desk.office after o × Keeps (state S.Store result.1) after) (λ e. o ≡ refused e.0)) outputs.old outputs.new result.0 }
-    ensures left { MatchResult opened (λ desk. StandsAfter task desk.office (state S.Store result.1)) (λ e. result.1 ≡ e.1) }
+    ensures told { Tells (λ o. MatchResult opened (λ desk. (after : _) × ComesOf task (at_desk desk) after o × Keeps (state S.Store result.1) after.office) (λ e. o ≡ refused e.0)) outputs.old outputs.new result.0 }
+    ensures left { MatchResult opened (λ desk. StandsAfter task (at_desk desk) (state S.Store result.1)) (λ e. result.1 ≡ e.1) }
     ensures clean { IfOk opened (λ desk. WasClean task (state S.Store desk.store) (state S.Store result.1)) }
 {
     match opened {

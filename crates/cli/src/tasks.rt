@@ -8,6 +8,7 @@ ghost use Rattle.sqlite.specs.Held.{state};
 ghost use Rattle.rolls.specs.Run.{Step};
 ghost use Rattle.allotment.specs.Layers.{layers};
 ghost use Rattle.web.specs.Connections.{Connect};
+ghost use Rattle.web.specs.Serving.{at_desk};
 ghost use Rattle.cli.specs.Outputs.{CanFail};
 ghost use Rattle.cli.specs.Outcomes.{Tells, IsAsked, IsServed, IsUnbound, ComesOf};
 ghost use Rattle.cli.specs.Inside.Outcomes.{IsCutOff, Serves};
@@ -68,11 +69,11 @@ fn serve_at<S: Alter, O: Sink>(
     out: &mut O,
 ) -> u8
     requires { O.failures out.old < 2 ^ 64 - 1 }
-    ensures told { Serves serving.port serving.count desk.old.office desk.new.office (O.written out.old) (O.written out.new) (O.failures out.old) (O.failures out.new) result }
+    ensures told { Serves serving.port serving.count (at_desk desk.old) (at_desk desk.new) (O.written out.old) (O.written out.new) (O.failures out.old) (O.failures out.new) result }
 
     // Nothing is served before the line of the port is out.
-    ensures cut { result ≡ 1 → IsCutOff desk.old.office serving.port serving.count (O.written out.old) (O.written out.new) desk.new.office }
-    ensures served { (came : _) × Connect desk.old.office came desk.new.office }
+    ensures cut { result ≡ 1 → IsCutOff (at_desk desk.old) serving.port serving.count (O.written out.old) (O.written out.new) (at_desk desk.new) }
+    ensures served { (came : _) × Connect (at_desk desk.old) came (at_desk desk.new) }
 {
     let Ok(()) = write_all(
         out,
@@ -103,8 +104,8 @@ fn serve_bound<S: Alter, O: Sink, E: Sink>(
     outputs: &mut Outputs<O, E>,
 ) -> u8
     requires { CanFail outputs.old }
-    ensures told { Tells (λ o. MatchResult bound (λ _. IsServed serving.port serving.count desk.old.office desk.new.office o) (λ _. IsUnbound serving.port desk.old.office desk.new.office o)) outputs.old outputs.new result }
-    ensures served { (came : _) × Connect desk.old.office came desk.new.office }
+    ensures told { Tells (λ o. MatchResult bound (λ _. IsServed serving.port serving.count (at_desk desk.old) (at_desk desk.new) o) (λ _. IsUnbound serving.port (at_desk desk.old) (at_desk desk.new) o)) outputs.old outputs.new result }
+    ensures served { (came : _) × Connect (at_desk desk.old) came (at_desk desk.new) }
 
     // Where no port is bound nothing is done at the desk.
     ensures unbound { IfErr bound (λ _. desk.new ≡ desk.old) }
@@ -123,8 +124,8 @@ fn serve_from<S: Alter, O: Sink, E: Sink>(
     outputs: &mut Outputs<O, E>,
 ) -> u8
     requires { CanFail outputs.old }
-    ensures told { Tells (ComesOf (Task.Serve serving) desk.old.office desk.new.office) outputs.old outputs.new result }
-    ensures served { (came : _) × Connect desk.old.office came desk.new.office }
+    ensures told { Tells (ComesOf (Task.Serve serving) (at_desk desk.old) (at_desk desk.new)) outputs.old outputs.new result }
+    ensures served { (came : _) × Connect (at_desk desk.old) came (at_desk desk.new) }
 {
     let bound = TcpListener::bind(rt, loopback(serving.port));
     serve_bound(rt.alloc(), desk, bound, serving, outputs)
@@ -138,8 +139,8 @@ pub(crate) fn do_at<S: Alter, O: Sink, E: Sink>(
     outputs: &mut Outputs<O, E>,
 ) -> u8
     requires { CanFail outputs.old }
-    ensures told { Tells (ComesOf task desk.old.office desk.new.office) outputs.old outputs.new result }
-    ensures taken { TakesTo task desk.old.office desk.new.office }
+    ensures told { Tells (ComesOf task (at_desk desk.old) (at_desk desk.new)) outputs.old outputs.new result }
+    ensures taken { TakesTo task (at_desk desk.old) (at_desk desk.new) }
     ensures clean { WasClean task (state S.Store desk.old.store) (state S.Store desk.new.store) }
 {
     match task {

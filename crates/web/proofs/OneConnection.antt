@@ -2,20 +2,20 @@
 use Rattle.std.proofs.Common.{◌≡◌, ◌<◌, ◌+◌, ◌∙◌, ℕ, List, [], ◌∷◌, ◌++◌, length, take, Option, Result, Ok, Err, IfOk, IfErr, OnErr, inl, inr, refl, sym, ap, subst, arith, append-nil}
 use Rattle.std.specs.Io.KnownBytes.{Appends}
 use Rattle.std.proofs.lemmas.List.{append_assoc, length-append}
-use Rattle.rolls.specs.State.{State}
 use Rattle.wire.proofs.Known.{appends_compose, appends_none}
 use Rattle.wire.specs.declared.outcome.Served.{Served}
 use Rattle.wire.specs.declared.outcome.StreamFault.{StreamFault}
 use Rattle.wire.specs.declared.outcome.StreamFault.TheVariants.{Read}
 use Rattle.web.specs.Inside.Connections.{IsStreamed}
 use Rattle.web.specs.Connections.{Connects, Connect, connection_line, lines_after, AllServed, SomeServed}
+use Rattle.web.specs.Serving.{AtDesk}
 
 abbrev Came : Type 0
 Came = Result Served StreamFault
 
 -- one connection more
-connect_more : (before mid after : State) (came : List Came) (one : Came) → Connect before came mid → Connects mid one after → Connect before (came ++ one ∷ []) after
-connect_more before mid after [] one so_far last = (after, subst (λ (s : State). Connects s one after) so_far last, refl)
+connect_more : (before mid after : AtDesk) (came : List Came) (one : Came) → Connect before came mid → Connects mid one after → Connect before (came ++ one ∷ []) after
+connect_more before mid after [] one so_far last = (after, subst (λ (d : AtDesk). Connects d one after) so_far last, refl)
 connect_more before mid after (c ∷ came) one so_far last = (so_far.0, so_far.1, connect_more so_far.0 mid after came one so_far.2 last)
 
 -- its line comes after the others
@@ -35,7 +35,7 @@ next_line n came one counted =
     lines_more 0 came one ∙ ap (λ k. lines_after 0 came ++ connection_line k one) at
 
 -- one more is served and told
-pub one_more : (before mid after : State) (n : ℕ) (w0 w w' : Option (List ℕ)) (one : Came) → AllServed before n w0 w mid → Connects mid one after
+pub one_more : (before mid after : AtDesk) (n : ℕ) (w0 w w' : Option (List ℕ)) (one : Came) → AllServed before n w0 w mid → Connects mid one after
     → Appends w w' (connection_line (n + 1) one) → AllServed before (n + 1) w0 w' after
 one_more before mid after n w0 w w' one so_far last wrote = record {
   came = so_far.came ++ one ∷ [];
@@ -45,7 +45,7 @@ one_more before mid after n w0 w w' one so_far last wrote = record {
 }
 
 -- one more is served, and its line is cut
-pub one_cut : (before mid after : State) (n count : ℕ) (w0 w w' : Option (List ℕ)) (one : Came) → n < count → AllServed before n w0 w mid → Connects mid one after
+pub one_cut : (before mid after : AtDesk) (n count : ℕ) (w0 w w' : Option (List ℕ)) (one : Came) → n < count → AllServed before n w0 w mid → Connects mid one after
     → ((k : ℕ) × (k < length (connection_line (n + 1) one)) × Appends w w' (take k (connection_line (n + 1) one))) → SomeServed before count w0 w' after
 one_cut before mid after n count w0 w w' one few so_far last wrote =
     let counted : length so_far.came ≡ n = so_far.counted in
@@ -65,9 +65,9 @@ at_fault (Ok a) p = tt
 at_fault (Err e) p = p
 
 -- what became of the next connection, whether it was accepted or not
-pub came_next : {A E D : Type 0} (office_of : D → State) (before after : D) (accepted : Result A E) (came : Came) → IfOk accepted (λ _. IsStreamed (office_of before) came (office_of after))
-    → IfErr accepted (λ _. (came ≡ Err Read) × (after ≡ before)) → Connects (office_of before) came (office_of after)
-came_next office_of before after (Ok a) (Ok served) streamed failed = streamed
-came_next office_of before after (Ok a) (Err fault) streamed failed = inl streamed
-came_next office_of before after (Err e) came streamed failed =
-    subst (λ (r : Came). Connects (office_of before) r (office_of after)) (sym failed.0) (inr (refl, ap office_of failed.1))
+pub came_next : {A E D : Type 0} (see : D → AtDesk) (before after : D) (accepted : Result A E) (came : Came) → IfOk accepted (λ _. IsStreamed (see before) came (see after))
+    → IfErr accepted (λ _. (came ≡ Err Read) × (after ≡ before)) → Connects (see before) came (see after)
+came_next see before after (Ok a) (Ok served) streamed failed = streamed
+came_next see before after (Ok a) (Err fault) streamed failed = inl streamed
+came_next see before after (Err e) came streamed failed =
+    subst (λ (r : Came). Connects (see before) r (see after)) (sym failed.0) (inr (refl, ap see failed.1))

@@ -7,13 +7,13 @@ use Rattle.rolls.specs.declared.request.Reply.{Reply}
 use Rattle.rolls.specs.declared.request.Reply.TheVariants as reply
 use Rattle.rolls.specs.declared.request.Request.{Request}
 use Rattle.rolls.specs.declared.request.Request.TheVariants as request
-use Rattle.rolls.specs.State.{State}
 use Rattle.rolls.specs.Refusing.{refusal_of}
 use Rattle.rolls.specs.Run.{Makes, Step, refusal}
 use Rattle.allotment.specs.Layers.{layers}
 use Rattle.desk.specs.Keeping.{repeated_rows}
+use Rattle.desk.specs.Sessions.{GoesOn}
 use Rattle.api.specs.Texts.{IsRead, refusal_text, text_of}
-use Rattle.web.specs.Serving.{Answers, Gets}
+use Rattle.web.specs.Serving.{Answers, AtDesk, Gets}
 
 -- an answer that is the one of a change has no text of the office in it
 no_read : (a b : Reply) → a ≡ b → IsRead (Ok a) → IsRead (Ok b)
@@ -23,38 +23,43 @@ no_read a b is read = subst (λ (r : Reply). IsRead (Ok r)) is read
 owes_none : {A : Type 0} (found : Option A) (P : A → Type 0) → found ≡ None → IfSome found P
 owes_none {A} found P none = subst (λ (o : Option A). IfSome o P) (sym none) tt
 
--- a request that is not refused, and is neither a read of a round nor a repeated import, may want memory
-wants_memory : (o n : State) (q : Request) → refusal_of o q ≡ None → ((number : ℕ) → q ≡ request.Plain (GetRound number) → ⊥) → repeated_rows o q ≡ None → n ≡ o
-    → Gets o q (Err Memory) n
-wants_memory o n q allowed no_round new stays = record {
+-- A request that is not refused, and is no read of a round, repeated import or preview, may want memory: it leaves the office and the session.
+wants_memory : (o n : AtDesk) (q : Request) → refusal_of o.office q ≡ None → ((number : ℕ) → q ≡ request.Plain (GetRound number) → ⊥) → repeated_rows o.office q ≡ None
+    → (q ≡ request.Preview → ⊥) → n.office ≡ o.office → n.session ≡ o.session → Gets o q (Err Memory) n
+wants_memory o n q allowed no_round new no_preview stays kept = record {
   step = (stays, inl refl);
-  right = (owes_none (refusal_of o q) (λ r. Err Memory ≡ Err r) allowed, λ is. cc);
-  round = λ number is _. absurd (no_round number is);
-  repeated = λ _. owes_none (repeated_rows o q) (λ rows. Err Memory ≡ Ok (reply.Rows rows)) new;
+  right = (owes_none (refusal_of o.office q) (λ r. Err Memory ≡ Err r) allowed, λ is. cc);
+  at_once = record {
+    round = λ number is _. absurd (no_round number is);
+    repeated = λ _. owes_none (repeated_rows o.office q) (λ rows. Err Memory ≡ Ok (reply.Rows rows)) new;
+    preview = λ is _ _. absurd (no_preview is);
+  };
+  goes = kept;
 }
 
 -- where there is no memory for the text of an answer, it is as if the request had found none: it is a read
-text_wants : (o n : State) (q : Request) (a : Reply) → IsRead (Ok a) → refusal layers o q ≡ None → Makes layers o q a n → Gets o q (Err Memory) n
-text_wants o n (request.Plain (PutSupervisor code label quota)) a read allowed made = absurd (no_read a _ made.0 read)
-text_wants o n (request.Plain (PutProject code label supervisor quota)) a read allowed made = absurd (no_read a _ made.0 read)
-text_wants o n (request.Plain (PutStudent code label)) a read allowed made = absurd (no_read a _ made.0 read)
-text_wants o n (request.Plain OpenRound) a read allowed made = absurd (no_read a _ made.0 read)
-text_wants o n (request.Plain (PutList student choices)) a read allowed made = absurd (no_read a _ made.0 read)
-text_wants o n (request.Plain (DropList student)) a read allowed made = absurd (no_read a _ made.0 read)
-text_wants o n (request.Plain ReopenRound) a read allowed made = absurd (no_read a _ made.0 read)
-text_wants o n (request.Plain (GetSupervisor code)) a read allowed made = wants_memory o n _ allowed (λ number is. cc) refl made.1
-text_wants o n (request.Plain (GetProject code)) a read allowed made = wants_memory o n _ allowed (λ number is. cc) refl made.1
-text_wants o n (request.Plain (GetStudent code)) a read allowed made = wants_memory o n _ allowed (λ number is. cc) refl made.1
-text_wants o n (request.Plain (GetRound round)) a read allowed made = absurd (no_read a _ made.0 read)
-text_wants o n request.Close a read allowed made = absurd (no_read a _ made.3 read)
-text_wants o n request.Preview a read allowed made = absurd (no_read a _ made.3 read)
-text_wants o n request.RoundText a read allowed made = wants_memory o n _ allowed (λ number is. cc) refl made.1
-text_wants o n (request.Report kind round) a read allowed made = wants_memory o n _ allowed (λ number is. cc) refl made.1
-text_wants o n (request.Import id kind bytes) a read allowed made = absurd (no_read a _ made.0 read)
+text_wants : (o n : AtDesk) (q : Request) (a : Reply) → IsRead (Ok a) → refusal layers o.office q ≡ None → Makes layers o.office q a n.office → GoesOn o.office q (Ok a) o.session n.session
+    → Gets o q (Err Memory) n
+text_wants o n (request.Plain (PutSupervisor code label quota)) a read allowed made goes = absurd (no_read a _ made.0 read)
+text_wants o n (request.Plain (PutProject code label supervisor quota)) a read allowed made goes = absurd (no_read a _ made.0 read)
+text_wants o n (request.Plain (PutStudent code label)) a read allowed made goes = absurd (no_read a _ made.0 read)
+text_wants o n (request.Plain OpenRound) a read allowed made goes = absurd (no_read a _ made.0 read)
+text_wants o n (request.Plain (PutList student choices)) a read allowed made goes = absurd (no_read a _ made.0 read)
+text_wants o n (request.Plain (DropList student)) a read allowed made goes = absurd (no_read a _ made.0 read)
+text_wants o n (request.Plain ReopenRound) a read allowed made goes = absurd (no_read a _ made.0 read)
+text_wants o n (request.Plain (GetSupervisor code)) a read allowed made goes = wants_memory o n _ allowed (λ number is. cc) refl (λ is. cc) made.1 goes
+text_wants o n (request.Plain (GetProject code)) a read allowed made goes = wants_memory o n _ allowed (λ number is. cc) refl (λ is. cc) made.1 goes
+text_wants o n (request.Plain (GetStudent code)) a read allowed made goes = wants_memory o n _ allowed (λ number is. cc) refl (λ is. cc) made.1 goes
+text_wants o n (request.Plain (GetRound round)) a read allowed made goes = absurd (no_read a _ made.0 read)
+text_wants o n request.Close a read allowed made goes = absurd (no_read a _ made.3 read)
+text_wants o n request.Preview a read allowed made goes = absurd (no_read a _ made.3 read)
+text_wants o n request.RoundText a read allowed made goes = wants_memory o n _ allowed (λ number is. cc) refl (λ is. cc) made.1 goes
+text_wants o n (request.Report kind round) a read allowed made goes = wants_memory o n _ allowed (λ number is. cc) refl (λ is. cc) made.1 goes
+text_wants o n (request.Import id kind bytes) a read allowed made goes = absurd (no_read a _ made.0 read)
 
 -- a request that gets an answer is answered by its text, or as one that wants memory
-pub answered_here : (o n : State) (bytes : List ℕ) (q : Request) (a : Result Reply Refusal) → Gets o q a n → (bytes ≡ text_of a) ⊎ (IsRead a × (bytes ≡ refusal_text Memory))
+pub answered_here : (o n : AtDesk) (bytes : List ℕ) (q : Request) (a : Result Reply Refusal) → Gets o q a n → (bytes ≡ text_of a) ⊎ (IsRead a × (bytes ≡ refusal_text Memory))
     → Answers o (Ok q) bytes n
 answered_here o n bytes q a gets (inl told) = (a, gets, told)
-answered_here o n bytes q (Ok reply) gets (inr told) = (Err Memory, text_wants o n q reply told.0 gets.step.0 gets.step.1, told.1)
+answered_here o n bytes q (Ok reply) gets (inr told) = (Err Memory, text_wants o n q reply told.0 gets.step.0 gets.step.1 gets.goes, told.1)
 answered_here o n bytes q (Err refused) gets (inr told) = absurd told.0

@@ -1,4 +1,4 @@
--- A run at a desk is a run of its office.
+-- A run at a desk is a run of what is seen of it.
 use Rattle.std.proofs.Common.{ℕ, List, [], ◌∷◌, Option, Result, Ok, Err, IfOk, IfErr, ap}
 use Rattle.wire.specs.Messages.{Message}
 use Rattle.wire.specs.Run.{Said, said, Run}

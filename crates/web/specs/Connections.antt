@@ -1,35 +1,34 @@
 -- What became of the connections of a listener, and the line of each.
 use Rattle.std.specs.Prelude.{◌≡◌, ◌⊎◌, ℕ, ◌+◌, ◌<◌, List, [], ◌∷◌, ◌++◌, length, take, codes, decimal, Option, Result, Ok, Err}
 use Rattle.std.specs.Io.KnownBytes.{Appends}
-use Rattle.rolls.specs.State.{State}
 use Rattle.wire.specs.declared.outcome.End.{End}
 use Rattle.wire.specs.declared.outcome.End.TheVariants.{Closed, Unfinished, BadHead, TooLarge, Hundred}
 use Rattle.wire.specs.declared.outcome.Served.{Served}
 use Rattle.wire.specs.declared.outcome.StreamFault.{StreamFault}
 use Rattle.wire.specs.declared.outcome.StreamFault.TheVariants.{Memory, Read, Write}
 use Rattle.wire.specs.Served.{ServedTo, BrokeOff}
-use Rattle.web.specs.Serving.{AnswersMessage, end_text}
+use Rattle.web.specs.Serving.{AnswersMessage, AtDesk, end_text}
 
--- a stream was served at an office, and broke off by this fault
-abbrev pub Breaks : State → StreamFault → State → Type 0
+-- a stream was served at a desk, and broke off by this fault
+abbrev pub Breaks : AtDesk → StreamFault → AtDesk → Type 0
 Breaks before fault after =
     (left0 w0 left w : Option (List ℕ)) × BrokeOff AnswersMessage end_text before left0 w0 left w after fault
 
--- a stream was served at an office, to its end
-abbrev pub Ends : State → Served → State → Type 0
+-- a stream was served at a desk, to its end
+abbrev pub Ends : AtDesk → Served → AtDesk → Type 0
 Ends before served after =
     (left0 w0 left w : Option (List ℕ)) × ServedTo AnswersMessage end_text before left0 w0 left w served after
 
--- the stream of a connection was served, to its end or until a fault; one that could not be accepted is a fault of reading, and the
--- office stays
-abbrev pub Connects : State → Result Served StreamFault → State → Type 0
+-- the stream of a connection was served, to its end or until a fault; one that could not be accepted is a fault of reading, and leaves
+-- the office and the session
+abbrev pub Connects : AtDesk → Result Served StreamFault → AtDesk → Type 0
 Connects before (Ok served) after = Ends before served after
 Connects before (Err fault) after = Breaks before fault after ⊎ ((fault ≡ Read) × (after ≡ before))
 
 -- one connection after another
-abbrev pub Connect : State → List (Result Served StreamFault) → State → Type 0
+abbrev pub Connect : AtDesk → List (Result Served StreamFault) → AtDesk → Type 0
 Connect before [] after = after ≡ before
-Connect before (came ∷ more) after = (next : State) × Connects before came next × Connect next more after
+Connect before (came ∷ more) after = (next : AtDesk) × Connects before came next × Connect next more after
 
 -- the word for the end of a stream
 abbrev pub end_word : End → List ℕ
@@ -60,14 +59,14 @@ lines_after before [] = []
 lines_after before (came ∷ more) = connection_line (before + 1) came ++ lines_after (before + 1) more
 
 -- so many connections were served, and the line of each was written
-pub record AllServed (before : State) (count : ℕ) (w0 w : Option (List ℕ)) (after : State) : Type 0 where
+pub record AllServed (before : AtDesk) (count : ℕ) (w0 w : Option (List ℕ)) (after : AtDesk) : Type 0 where
   pub came : List (Result Served StreamFault)
   pub counted : length came ≡ count
   pub served : Connect before came after
   pub wrote : Appends w0 w (lines_after 0 came)
 
 -- some of so many connections were served: the lines of all but the last were written whole, and a part of the last one's
-pub record SomeServed (before : State) (count : ℕ) (w0 w : Option (List ℕ)) (after : State) : Type 0 where
+pub record SomeServed (before : AtDesk) (count : ℕ) (w0 w : Option (List ℕ)) (after : AtDesk) : Type 0 where
   pub told : List (Result Served StreamFault)
   pub last : Result Served StreamFault
   pub few : length told < count

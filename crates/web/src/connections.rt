@@ -5,6 +5,7 @@ ghost use Rattle.wire.specs.declared.TheConstants.{MOST_SHORT_BODY};
 ghost use Rattle.arrayvec.specs.ArrayVec.{array_vec_len};
 ghost use Rattle.web.specs.Inside.Connections.{IsStreamed};
 ghost use Rattle.web.specs.Connections.{Connects, AllServed, SomeServed, end_word, fault_word, told_of, connection_line};
+ghost use Rattle.web.specs.Serving.{at_desk};
 
 use crate::service::serve_stream;
 use api::{push, push_labelled};
@@ -103,7 +104,7 @@ fn serve_accepted<S: Alter>(
     desk: &mut Desk<S>,
     accepted: io::Result<(TcpStream, SocketAddr)>,
 ) -> Result<Served, StreamFault>
-    ensures served { IfOk accepted (λ _. IsStreamed desk.old.office result desk.new.office) }
+    ensures served { IfOk accepted (λ _. IsStreamed (at_desk desk.old) result (at_desk desk.new)) }
     ensures unaccepted { IfErr accepted (λ _. (result ≡ Err StreamFault.Read) × (desk.new ≡ desk.old)) }
 {
     let Ok((stream, _)) = accepted else {
@@ -120,7 +121,7 @@ fn serve_next<S: Alter>(
     desk: &mut Desk<S>,
     listener: &TcpListener,
 ) -> Result<Served, StreamFault>
-    ensures { Connects desk.old.office result desk.new.office }
+    ensures { Connects (at_desk desk.old) result (at_desk desk.new) }
 {
     serve_accepted(alloc, desk, listener.accept())
 }
@@ -137,8 +138,8 @@ pub fn serve_on<S: Alter, O: Sink>(
     out: &mut O,
 ) -> Result<(), OutFault>
     requires { O.failures out.old < 2 ^ 64 - 1 }
-    ensures served { OnOk result (AllServed desk.old.office count (O.written out.old) (O.written out.new) desk.new.office) }
-    ensures broken { OnErr result (SomeServed desk.old.office count (O.written out.old) (O.written out.new) desk.new.office) }
+    ensures served { OnOk result (AllServed (at_desk desk.old) count (O.written out.old) (O.written out.new) (at_desk desk.new)) }
+    ensures broken { OnErr result (SomeServed (at_desk desk.old) count (O.written out.old) (O.written out.new) (at_desk desk.new)) }
     ensures count_ok { OnOk result (O.failures out.new ≡ O.failures out.old) }
     ensures count_err { OnErr result (O.failures out.new ≡ O.failures out.old + 1) }
 {

@@ -2,7 +2,7 @@
 ghost use Rattle.std.specs.Prelude.{◌≡◌, ◌-◌, ◌^◌, ◌+◌, ◌<◌, false, Err, IfOk, IfErr};
 ghost use Rattle.wire.specs.Run.{read_failed, write_failed};
 ghost use Rattle.wire.specs.Served.{BrokeOff, ServedTo};
-ghost use Rattle.web.specs.Serving.{AnswersMessage, refusal_at, end_text};
+ghost use Rattle.web.specs.Serving.{AnswersMessage, at_desk, refusal_at, end_text};
 
 use api::{Routes, answer_of, refusal_answer};
 use desk::Desk;
@@ -29,7 +29,7 @@ fn refusal_at(end: End) -> Refusal
 }
 
 impl<S: Alter> Handler<Desk<S>> for Clerk {
-    ghost step = { λ before said bytes after. AnswersMessage before.office said bytes after.office };
+    ghost step = { λ before said bytes after. AnswersMessage (at_desk before) said bytes (at_desk after) };
 
     ghost refusal = { end_text };
 
@@ -56,17 +56,17 @@ pub fn serve_stream<S: Alter, R: Source, W: Sink>(
     requires open { R.ended reader.old ≡ false }
     requires write_failures { W.failures writer.old < 2 ^ 64 - 1 }
 
-    // What was written: the texts of the answers of a run of the office over the messages of the stream, and the
-    // refusal that ends it. What was read and what the reader has left are the stream.
-    ensures served { IfOk result (λ served. ServedTo AnswersMessage end_text desk.old.office
+    // What was written: the texts of the answers of a run over the messages of the stream, from the office and the session of the
+    // desk on, and the refusal that ends it. What was read and what the reader has left are the stream.
+    ensures served { IfOk result (λ served. ServedTo AnswersMessage end_text (at_desk desk.old)
         (R.left reader.old) (W.written writer.old) (R.left reader.new) (W.written writer.new)
-        served desk.new.office) }
+        served (at_desk desk.new)) }
 
     // After a fault a beginning of that: all answers but the last whole. A reader fails before the hundredth answer
     // alone, so nothing is read after it.
-    ensures broken { IfErr result (λ fault. BrokeOff AnswersMessage end_text desk.old.office
+    ensures broken { IfErr result (λ fault. BrokeOff AnswersMessage end_text (at_desk desk.old)
         (R.left reader.old) (W.written writer.old) (R.left reader.new) (W.written writer.new)
-        desk.new.office fault) }
+        (at_desk desk.new) fault) }
 
     // Want of memory comes before anything is read, asked or written.
     ensures early { result ≡ Err StreamFault.Memory → (desk.new ≡ desk.old)

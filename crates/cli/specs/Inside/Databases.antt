@@ -26,23 +26,24 @@ use Rattle.store.specs.Reading.{IsDamaged}
 use Rattle.store.specs.Tables.{HasNone, StandsFor}
 use Rattle.desk.specs.Keeping.{Keeps}
 use Rattle.web.specs.Connections.{Connect}
+use Rattle.web.specs.Serving.{AtDesk, just_opened}
 use Rattle.wire.specs.declared.outcome.Served.{Served}
 use Rattle.wire.specs.declared.outcome.StreamFault.{StreamFault}
 use Rattle.cli.specs.declared.tasks.Task.{Task}
 use Rattle.cli.specs.declared.tasks.Task.TheVariants as task
 use Rattle.cli.specs.Outcomes.{ComesOf, Outcome, refused}
 
--- what a task makes of an office: one step of its request, or what its connections make
-abbrev pub TakesTo : Task → State → State → Type 0
-TakesTo (task.Ask asked) before after = (answer : Result Reply Refusal) × Step layers before asked answer after
+-- what a task makes of what is at a desk: one step of its request, or what its connections make
+abbrev pub TakesTo : Task → AtDesk → AtDesk → Type 0
+TakesTo (task.Ask asked) before after = (answer : Result Reply Refusal) × Step layers before.office asked answer after.office
 TakesTo (task.Serve serving) before after = (came : List (Result Served StreamFault)) × Connect before came after
 
--- the tables stand for what a task makes of this office, which is fit
-pub record StandsAfter (done : Task) (before : State) (seen : Seen) : Type 0 where
-  pub fit : IsFit before
-  pub after : State
+-- the tables stand for what a task makes of the office at this desk, which is fit
+pub record StandsAfter (done : Task) (before : AtDesk) (seen : Seen) : Type 0 where
+  pub fit : IsFit before.office
+  pub after : AtDesk
   pub taken : TakesTo done before after
-  pub stands : Keeps seen after
+  pub stands : Keeps seen after.office
 
 -- A disk that is clean behind a request was clean before it. Of the connections that were served it is not known.
 abbrev pub WasClean : Task → Seen → Seen → Type 0
@@ -81,9 +82,9 @@ pub record IsDone (done : Task) (before after : Seen) (o : Outcome) : Type 0 whe
   pub office : State
   pub found : IsFoundFor done before after office
   pub fit : IsFit office
-  pub next : State
-  pub comes : ComesOf done office next o
-  pub stands : Keeps after next
+  pub next : AtDesk
+  pub comes : ComesOf done (just_opened office) next o
+  pub stands : Keeps after next.office
 
 -- what a task at a database comes to, and what the database is then
 abbrev pub DoesOver : Task → Seen → Seen → Outcome → Type 0
@@ -93,7 +94,7 @@ DoesOver done before after o = IsNotDone before after o ⊎ IsDone done before a
 -- opened, with status 1, the database as it was.
 abbrev pub LeftBy : Task → ℕ → Seen → Seen → Type 0
 LeftBy done status before after =
-    ((office : State) × IsFoundFor done before after office × StandsAfter done office after) ⊎ ((status ≡ 1) × StaysSo before after)
+    ((office : State) × IsFoundFor done before after office × StandsAfter done (just_opened office) after) ⊎ ((status ≡ 1) × StaysSo before after)
 
 -- What comes of closing a database file: the last commit is in the file alone, or there was no memory or the disk failed, and the two
 -- files hold it as before.

@@ -1,6 +1,6 @@
-use Rattle.desk.specs.Kept.{Kept}
+use Rattle.web.specs.Serving.{at_desk}
 use Rattle.web.proofs.OneConnection.{came_next}
 use Rattle.web.proofs.connections.serve_next.Goals as goal
 
 pub returns : goal.returns
-returns g c = came_next (λ (d : Kept g.row.S.Denot). d.office) _ _ c.accept.result c.serve_accepted.result c.serve_accepted.ensures.served c.serve_accepted.ensures.unaccepted
+returns g c = came_next (at_desk {S = g.row.S.Denot}) _ _ c.accept.result c.serve_accepted.result c.serve_accepted.ensures.served c.serve_accepted.ensures.unaccepted

@@ -1,9 +1,10 @@
 use Rattle.std.proofs.Common.{◌≡◌}
 use Rattle.web.specs.Connections.{AllServed}
+use Rattle.web.specs.Serving.{at_desk}
 use Rattle.web.proofs.connections.serve_on.Given as goal
 
 abbrev pub invariant-loop-before : goal.invariant-loop-before
 invariant-loop-before g l = record {
-  served : AllServed l.initial.desk.office l.before (g.O.Sink.written l.initial.out) (g.O.Sink.written l.out) l.desk.office;
+  served : AllServed (at_desk l.initial.desk) l.before (g.O.Sink.written l.initial.out) (g.O.Sink.written l.out) (at_desk l.desk);
   writes : g.O.Sink.failures l.out ≡ g.O.Sink.failures l.initial.out;
 }

@@ -1,21 +1,21 @@
 use Rattle.std.proofs.Common.{◌≡◌, ℕ, ◌+◌, arith}
-use Rattle.web.specs.Serving.{AnswersMessage, end_text}
+use Rattle.web.specs.Serving.{AnswersMessage, at_desk, end_text}
 use Rattle.wire.proofs.Turns.{nothing_broken}
 use Rattle.web.proofs.Seen.{served_seen, broken_seen}
 use Rattle.web.proofs.service.serve_stream.Goals as goal
 
 pub returns-in_default-clause-broken : goal.returns-in_default-clause-broken
 returns-in_default-clause-broken g c =
-    nothing_broken AnswersMessage end_text c.args.desk.now.office (g.R.Source.left c.args.reader.now) (g.W.Sink.written c.args.writer.now)
+    nothing_broken AnswersMessage end_text (at_desk c.args.desk.now) (g.R.Source.left c.args.reader.now) (g.W.Sink.written c.args.writer.now)
 
 pub returns-clause-served : goal.returns-clause-served
 returns-clause-served g c =
-    served_seen (λ desk. desk.office) AnswersMessage end_text c.args.desk.now c.serve_messages.new.desk (g.R.Source.left c.args.reader.now) (g.W.Sink.written c.args.writer.now)
+    served_seen at_desk AnswersMessage end_text c.args.desk.now c.serve_messages.new.desk (g.R.Source.left c.args.reader.now) (g.W.Sink.written c.args.writer.now)
     (g.R.Source.left c.serve_messages.new.reader) (g.W.Sink.written c.serve_messages.new.writer) c.serve_messages.result c.serve_messages.ensures.served
 
 pub returns-clause-broken : goal.returns-clause-broken
 returns-clause-broken g c =
-    broken_seen (λ desk. desk.office) AnswersMessage end_text c.args.desk.now c.serve_messages.new.desk (g.R.Source.left c.args.reader.now) (g.W.Sink.written c.args.writer.now)
+    broken_seen at_desk AnswersMessage end_text c.args.desk.now c.serve_messages.new.desk (g.R.Source.left c.args.reader.now) (g.W.Sink.written c.args.writer.now)
     (g.R.Source.left c.serve_messages.new.reader) (g.W.Sink.written c.serve_messages.new.writer) c.serve_messages.result c.serve_messages.ensures.broken
 
 -- a count that stays

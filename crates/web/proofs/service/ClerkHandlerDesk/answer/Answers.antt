@@ -1,6 +1,7 @@
 use Rattle.std.proofs.Common.{Ok, Err, refl, sym, subst}
 use Rattle.wire.specs.Answers.{answer_bytes}
 use Rattle.api.specs.Requests.{IsReadAs}
+use Rattle.web.specs.Serving.{at_desk}
 use Rattle.web.proofs.OneMessage.{answered_here}
 use Rattle.web.proofs.service.ClerkHandlerDesk.answer.Goals as goal
 
@@ -14,8 +15,13 @@ returns-in-Ok g c = record {
   step = (
     Ok c.in-Ok.request,
     c.in-Ok.ensures,
-    answered_here c.args.desk.now.office c.ask.new.self.office (answer_bytes c.answer_of.result) c.in-Ok.request c.ask.result
-        (record { step = c.ask.ensures.step; right = (c.ask.ensures.named, c.ask.ensures.storage); round = c.ask.ensures.round; repeated = c.ask.ensures.repeated })
+    answered_here (at_desk c.args.desk.now) (at_desk c.ask.new.self) (answer_bytes c.answer_of.result) c.in-Ok.request c.ask.result
+        (record {
+          step = c.ask.ensures.step;
+          right = (c.ask.ensures.named, c.ask.ensures.storage);
+          at_once = record { round = c.ask.ensures.round; repeated = c.ask.ensures.repeated; preview = c.ask.ensures.kept };
+          goes = c.ask.ensures.session;
+        })
         c.answer_of.ensures,
   );
 }
