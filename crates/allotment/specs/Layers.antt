@@ -16,14 +16,7 @@ use Rattle.imports.specs.Requests.{requests_of}
 
 -- the parts of a greedy round text of an instance alone: no student has a place, and there are no prices
 abbrev pub alone : Instance → Parts
-alone l = record {
-  aim = Greedy;
-  instance = l;
-  places = map (λ e. None) l.students;
-  student_prices = [];
-  project_prices = [];
-  supervisor_prices = [];
-}
+alone l = record { aim = Greedy; instance = l; places = map (λ e. None) l.students; student_prices = []; project_prices = []; supervisor_prices = [] }
 
 -- the refusal of a text that is no import text; a record with another number of fields is one whose members are wrong
 abbrev pub refused_as : ImportFault → Refusal

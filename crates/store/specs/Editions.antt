@@ -1,13 +1,9 @@
 -- The editions of the tables: which tables hold rows in each, and its number.
-use Rattle.std.specs.Prelude.{ℕ, List, [], ◌∷◌}
+use Rattle.std.specs.Prelude.{ℕ, List}
 use Rattle.tables.specs.declared.table.Table.{Table}
 use Rattle.store.specs.declared.edition.Edition.{Edition}
 use Rattle.store.specs.declared.edition.Edition.TheVariants.{First}
 use Rattle.store.specs.Rows.{rolls}
-
--- every edition, the latest first
-abbrev pub editions : List Edition
-editions = First ∷ []
 
 -- the edition in which tables are made
 abbrev pub latest : Edition

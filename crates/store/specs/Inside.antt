@@ -1,5 +1,6 @@
 -- What proofs need and no public clause says.
 pub mod Causes
+pub mod Editions
 pub mod Faults
 pub mod Reading
 pub mod Saving

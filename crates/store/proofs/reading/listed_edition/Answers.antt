@@ -2,7 +2,8 @@ use Rattle.std.proofs.Common.{◌≡◌, inl, length, refl, subst, sym, arith}
 use Rattle.sqlite_rules.specs.Lists.{Has}
 use Rattle.store.specs.declared.edition.Edition.{Edition}
 use Rattle.store.specs.declared.edition.Edition.TheVariants.{First}
-use Rattle.store.specs.Editions.{editions, rolls_of}
+use Rattle.store.specs.Editions.{rolls_of}
+use Rattle.store.specs.Inside.Editions.{editions}
 use Rattle.store.specs.Reading.{AreAllListed}
 use Rattle.store.proofs.ListedTables.{so_far, of_each}
 use Rattle.store.proofs.reading.listed_edition.Goals as goal

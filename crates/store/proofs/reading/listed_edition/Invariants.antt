@@ -1,7 +1,8 @@
 use Rattle.std.proofs.Common.{take}
 use Rattle.sqlite_rules.specs.Lists.{Has}
 use Rattle.store.specs.declared.edition.Edition.{Edition}
-use Rattle.store.specs.Editions.{editions, rolls_of}
+use Rattle.store.specs.Editions.{rolls_of}
+use Rattle.store.specs.Inside.Editions.{editions}
 use Rattle.store.specs.Reading.{AreAllListed}
 use Rattle.store.proofs.reading.listed_edition.Given as goal
 
