@@ -1,16 +1,18 @@
 #!/usr/bin/env python3
-"""Runs every command of a walkthrough, and compares what it prints with what the walkthrough shows.
+"""Runs every command of the walkthroughs, and compares what it prints with what they show.
 
-tools/walkthrough.py SPADESK [--write]     needs curl, jq and sqlite3
-tools/walkthrough.py                       only compares the texts of the test with those of the example
+tools/walkthrough.py SPADESK [--write] [TEXT..]     needs curl, jq and sqlite3
+tools/walkthrough.py                                only compares the texts of the test with those of the example
 
-The commands are the lines after a `$` in the blocks of examples/first-round/README.md; they run in a folder of their own, beside
-the files of the example. With --write the walkthrough shows what was printed. After each line, and once `serve` has ended, a copy of
-the database file alone is held beside one with its log: each report on each must be the same, and each row that SQLite reads.
+Each TEXT is one of WALKTHROUGHS, and without any all of them are run. The commands are the lines after a `$` in its console blocks.
+They run from the top to the end in a folder of their own, beside the files of the walkthrough and a link to this folder. With --write
+the text shows what was printed. After each line, and once `serve` has ended, a copy of the database file alone is held beside one with
+its log: each report on each must be the same, and each row that SQLite reads.
 
-The lines of the program, and what is served, are also a test of the gate, crates/trials/src/walkthrough.rt, which has the texts of the
-example for its own. Here each of them is compared with the example, file by file, line by line and request by request.
+The lines of the first round, and what is served there, are also a test of the gate, crates/trials/src/walkthrough.rt, which has the
+texts of the example for its own. Here each of them is compared with the example, file by file, line by line and request by request.
 """
+import difflib
 import os
 import re
 import shutil
@@ -21,26 +23,32 @@ import tempfile
 import time
 
 TOP = os.path.dirname(os.path.dirname(os.path.abspath(__file__)))
-EXAMPLE = os.path.join(TOP, "examples", "first-round")
 TEST = os.path.join(TOP, "crates", "trials", "src", "walkthrough.rt")
+FIRST = "examples/first-round/README.md"
+
+# each text, with the folder of its files
+WALKTHROUGHS = {
+    FIRST: "examples/first-round",
+}
 
 
 def read(path):
-    with open(path, encoding="utf-8") as file:
+    with open(os.path.join(TOP, path), encoding="utf-8") as file:
         return file.read()
 
 
 def shown_commands(text):
-    """Each command of the walkthrough, with what it prints."""
+    """Each command of a walkthrough, with what it prints."""
     blocks = re.findall(r"```console\n(.*?)```", text, flags=re.S)
     return [pair for block in blocks for pair in re.findall(r"^\$ (.*)\n((?:(?!\$ ).*\n)*)", block, re.M)]
 
 
 def compare_test():
-    """Ends where the test does not have the files, the lines and the requests of the example."""
+    """Ends where the test does not have the files, the lines and the requests of the first round."""
     test = read(TEST)
-    commands = shown_commands(read(os.path.join(EXAMPLE, "README.md")))
-    wanted = [f'r#"{read(os.path.join(EXAMPLE, name))}"#' for name in os.listdir(EXAMPLE) if name.endswith(".csv")]
+    commands = shown_commands(read(FIRST))
+    folder = WALKTHROUGHS[FIRST]
+    wanted = [f'r#"{read(os.path.join(folder, name))}"#' for name in os.listdir(os.path.join(TOP, folder)) if name.endswith(".csv")]
     missing = [text for text in wanted if text not in test]
     rows = re.findall(r"^ *(?:r#\")?(spadesk .*?) +\| 0 \| ?(.*?)(?:\"#;)?$", test, re.M)
     lines = [(command, told) for command, told in commands if command.startswith("spadesk ") and "&" not in command]
@@ -74,56 +82,96 @@ def seen(folder, names, env):
     return reports, rows
 
 
-def compare_copies(command, folder, env):
-    """Ends where the database file alone is not what it is with its log."""
-    if not os.path.exists(f"{folder}/school.db-wal"):
-        return
-    if seen(folder, ["school.db"], env) != seen(folder, ["school.db", "school.db-wal"], env):
-        sys.exit(f"after this a copy of the file alone is another office: {command}")
+class Shell:
+    """Runs commands in a folder. What ends with `&` is left running: `cat served.txt` waits for its end, and `kill $!` ends it."""
+
+    def __init__(self, folder, env):
+        self.folder, self.env, self.left = folder, env, []
+
+    def begin(self, command):
+        """Leaves a command running, once it has written to served.txt."""
+        served = f"{self.folder}/served.txt"
+        if os.path.exists(served):
+            os.remove(served)
+        self.left.append(subprocess.Popen(f"exec {command.rstrip('& ')}", shell=True, cwd=self.folder, env=self.env))
+        for _ in range(300):
+            if self.left[-1].poll() is not None or os.path.exists(served) and os.path.getsize(served):
+                break
+            time.sleep(0.1)
+
+    def end(self, is_killed):
+        """Waits for the end of what was left running, or brings it about."""
+        for it in self.left:
+            if is_killed:
+                it.terminate()
+            it.wait(timeout=60)
+        self.left = []
+
+    def compare_copies(self, command):
+        """Ends where the database file alone is not what it is with its log, though nothing has it open."""
+        if self.left or not os.path.exists(f"{self.folder}/school.db-wal"):
+            return
+        if seen(self.folder, ["school.db"], self.env) != seen(self.folder, ["school.db", "school.db-wal"], self.env):
+            sys.exit(f"after this a copy of the file alone is another office: {command}")
+
+    def run(self, command):
+        """What a command prints."""
+        if command.endswith("&"):
+            self.begin(command)
+            return ""
+        if command == "kill $!":
+            self.end(True)
+            return ""
+        if command == "cat served.txt":
+            self.end(False)
+        ran = subprocess.run(command, shell=True, cwd=self.folder, env=self.env, stdout=subprocess.PIPE, stderr=subprocess.STDOUT, timeout=60)
+        if command.startswith("spadesk ") or command == "cat served.txt":
+            self.compare_copies(command)
+        text = ran.stdout.decode().replace("\r\n", "\n")
+        return text if text.endswith("\n") or not text else text + "\n"
 
 
-def run(command, folder, env, served):
-    """What a command prints; one that ends with `&` is left running, and a moment is given it to begin."""
-    if command.endswith("&"):
-        served.append(subprocess.Popen(command.rstrip("& "), shell=True, cwd=folder, env=env))
-        time.sleep(2)
-        return ""
-    ran = subprocess.run(command, shell=True, cwd=folder, env=env, stdout=subprocess.PIPE, stderr=subprocess.STDOUT, timeout=60)
-    is_ended = command.startswith("cat ")
-    for it in served if is_ended else []:
-        it.wait(timeout=60)
-    if command.startswith("spadesk ") or is_ended:
-        compare_copies(command, folder, env)
-    text = ran.stdout.decode()
-    return text if text.endswith("\n") or not text else text + "\n"
+def play(text, program):
+    """The text with what its commands print now, and how many they are."""
+    commands = []
+    with tempfile.TemporaryDirectory() as folder, tempfile.TemporaryDirectory() as programs:
+        for name in os.listdir(os.path.join(TOP, WALKTHROUGHS[text])):
+            shutil.copy(os.path.join(TOP, WALKTHROUGHS[text], name), folder)
+        os.symlink(os.path.join(TOP, "tools"), f"{folder}/tools")
+        os.symlink(os.path.abspath(program), f"{programs}/spadesk")
+        shell = Shell(folder, {**os.environ, "PATH": f"{programs}:{os.environ['PATH']}"})
+
+        def played(block):
+            these = re.findall(r"^\$ (.*)$", block[1], re.M)
+            commands.extend(these)
+            return "```console\n" + "".join(f"$ {it}\n{shell.run(it)}" for it in these) + "```"
+
+        try:
+            told = re.sub(r"```console\n(.*?)```", played, read(text), flags=re.S)
+        finally:
+            shell.end(True)
+    return told, len(commands)
 
 
-def main(program=None, *flags):
-    if program is None or "--write" not in flags:
+def main(program=None, *words):
+    is_written = "--write" in words
+    if not is_written:
         compare_test()
     if program is None:
         return
-    path = os.path.join(EXAMPLE, "README.md")
-    shown = read(path)
-    with tempfile.TemporaryDirectory() as folder:
-        for name in os.listdir(EXAMPLE):
-            shutil.copy(os.path.join(EXAMPLE, name), folder)
-        os.makedirs(f"{folder}/bin")
-        os.symlink(os.path.abspath(program), f"{folder}/bin/spadesk")
-        env = {**os.environ, "PATH": f"{folder}/bin:{os.environ['PATH']}"}
-
-        served = []
-
-        def played(block):
-            commands = re.findall(r"^\$ (.*)$", block[1], re.M)
-            return "```console\n" + "".join(f"$ {it}\n{run(it, folder, env, served)}" for it in commands) + "```"
-
-        told = re.sub(r"```console\n(.*?)```", played, shown, flags=re.S)
-    if "--write" in flags:
-        with open(path, "w", encoding="utf-8") as file:
-            file.write(told)
-    elif told != shown:
-        sys.exit("what the commands print is not what the walkthrough shows")
+    differing = False
+    for text in [word for word in words if word != "--write"] or WALKTHROUGHS:
+        shown = read(text)
+        told, count = play(text, program)
+        if is_written:
+            with open(os.path.join(TOP, text), "w", encoding="utf-8") as file:
+                file.write(told)
+        elif told != shown:
+            differing = True
+            sys.stdout.writelines(difflib.unified_diff(shown.splitlines(True), told.splitlines(True), f"{text} shows", "the commands print"))
+        print(f"{text}: {count} commands, " + ("written" if is_written else "not as shown" if told != shown else "each as shown"))
+    if differing:
+        sys.exit(1)
 
 
 if __name__ == "__main__":
