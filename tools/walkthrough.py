@@ -29,6 +29,8 @@ FIRST = "examples/first-round/README.md"
 # each text, with the folder of its files
 WALKTHROUGHS = {
     FIRST: "examples/first-round",
+    "docs/GUIDE.md": "examples/term",
+    "examples/refusals/README.md": "examples/refusals",
 }
 
 

@@ -1,0 +1,4 @@
+SELECT code, label AS name
+FROM student
+WHERE code NOT IN (SELECT student FROM placement)
+ORDER BY code;
