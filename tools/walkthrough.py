@@ -5,8 +5,8 @@ tools/walkthrough.py SPADESK [--write] [TEXT..]     needs curl, jq and sqlite3
 tools/walkthrough.py                                only compares the texts of the test with those of the example
 
 Each TEXT is one of WALKTHROUGHS, and without any all of them are run. The commands are the lines after a `$` in its console blocks.
-They run from the top to the end in a folder of their own, beside the files of the walkthrough and a link to this folder. With --write
-the text shows what was printed. After each line, and once `serve` has ended, a copy of the database file alone is held beside one with
+They run from the top to the end in a folder of their own, beside the files of the walkthrough and links to this folder and to docs.
+With --write the text shows what was printed. After each line, and once `serve` has ended, a copy of the database file alone is held beside one with
 its log: each report on each must be the same, and each row that SQLite reads.
 
 The lines of the first round, and what is served there, are also a test of the gate, crates/trials/src/walkthrough.rt, which has the
@@ -141,7 +141,8 @@ def play(text, program):
     with tempfile.TemporaryDirectory() as folder, tempfile.TemporaryDirectory() as programs:
         for name in os.listdir(os.path.join(TOP, WALKTHROUGHS[text])):
             shutil.copy(os.path.join(TOP, WALKTHROUGHS[text], name), folder)
-        os.symlink(os.path.join(TOP, "tools"), f"{folder}/tools")
+        for name in ("tools", "docs"):
+            os.symlink(os.path.join(TOP, name), f"{folder}/{name}")
         os.symlink(os.path.abspath(program), f"{programs}/spadesk")
         shell = Shell(folder, {**os.environ, "PATH": f"{programs}:{os.environ['PATH']}"})
 
