@@ -1,0 +1,107 @@
+#!/usr/bin/env python3
+"""Runs nginx with the snippet of the README in front of `spadesk serve`, and compares what comes through.
+
+tools/nginx.py SPADESK [NGINX]     without NGINX the one of the PATH; where there is none it says so
+
+Three things of the snippet are others here: there is no certificate, and so no `ssl`; the port at which nginx listens; the file of the
+users. The ports 8080 and 8081 must be free.
+"""
+import base64
+import http.client
+import os
+import re
+import shutil
+import socket
+import subprocess
+import sys
+import tempfile
+import time
+
+TOP = os.path.dirname(os.path.dirname(os.path.abspath(__file__)))
+USER = {"Authorization": "Basic " + base64.b64encode(b"keeper:secret").decode()}
+OWN, FOREIGN = {"Origin": "https://office.school.example"}, {"Origin": "https://other.example"}
+
+
+def config(folder):
+    """The whole file of nginx around the snippet."""
+    with open(os.path.join(TOP, "README.md"), encoding="utf-8") as file:
+        snippet = re.search(r"```nginx\n(.*?)```", file.read(), re.S)[1]
+    snippet = re.sub(r" *ssl_certificate.*\n", "", snippet).replace("listen 443 ssl;", "listen 127.0.0.1:8081;")
+    snippet = re.sub(r"(auth_basic_user_file +)\S+;", rf"\1{folder}/users;", snippet)
+    paths = "".join(f"{it}_temp_path {folder}/{it};\n" for it in ("client_body", "proxy", "fastcgi", "uwsgi", "scgi"))
+    main = f"daemon off;\nmaster_process off;\npid {folder}/nginx.pid;\nerror_log stderr;\n"
+    return f"{main}events {{}}\nhttp {{\naccess_log off;\n{paths}{snippet}}}\n"
+
+
+def started(port, *words, **more):
+    """A process, once its port is taken."""
+    process = subprocess.Popen(words, stderr=subprocess.DEVNULL, **more)
+    for _ in range(100):
+        time.sleep(0.1)
+        with socket.socket() as probe:
+            if process.poll() is None and probe.connect_ex(("127.0.0.1", port)) == 0:
+                return process
+    process.kill()
+    sys.exit(f"nothing listens at {port}: {' '.join(words)}")
+
+
+def asked(method, path, body=None, fields=USER, count=1):
+    """Status and body of the last of so many answers over one connection."""
+    connection = http.client.HTTPConnection("127.0.0.1", 8081, timeout=10)
+    for _ in range(count):
+        connection.request(method, path, body, fields)
+        answer = connection.getresponse()
+        told = answer.read().decode()
+    connection.close()
+    return answer.status, told if "json" in answer.getheader("Content-Type") else ""
+
+
+def trials():
+    """What is tried, what comes and what must come."""
+    text = b"code,name\nS1,Ann\n"
+    full = text + b"".join(b"S2,%s\n" % (b"x" * 196) for _ in range(400))
+    full = full[:65_525] + b"\nS3,Bob\n"
+    full += b"\n" * (65_536 - len(full))
+    none = '{"fault":"NoRoundOpen","number":19}'
+    yield "without a sign-in", asked("GET", "/preview", fields={}), (401, "")
+    yield "with one", asked("GET", "/preview"), (409, none)
+    yield "a page of another site", asked("POST", "/rounds", fields={**USER, **FOREIGN}), (403, "")
+    yield "a page of the school", asked("GET", "/preview", fields={**USER, **OWN}), (409, none)
+    yield "a body in chunks", asked("POST", "/imports/students/I1", iter([text[:5], text[5:]])), (200, '{"rows":1}')
+    yield "a body of 65,536 bytes", asked("POST", "/imports/students/I2", full)[0], 200
+    yield "a body of 65,537 bytes", asked("POST", "/imports/students/I3", full + b"\n"), (413, "")
+    yield "forty fields", asked("GET", "/preview", fields={**USER, **{f"X-{n}": "x" for n in range(40)}}), (409, none)
+    yield "the last of 150 on a connection", asked("GET", "/preview", count=150), (409, none)
+    with socket.create_connection(("127.0.0.1", 8081)) as slow:
+        head = f"PUT /students/S1 HTTP/1.1\r\nHost: it\r\nContent-Length: 14\r\nAuthorization: {USER['Authorization']}\r\n\r\n"
+        slow.sendall(head.encode() + b"{")
+        yield "beside a slow client", asked("GET", "/preview"), (409, none)
+
+
+def main(program, nginx=shutil.which("nginx")):
+    if nginx is None:
+        print("there is no nginx here: the snippet was not tried")
+        return
+    with tempfile.TemporaryDirectory() as folder, open(f"{folder}/served", "w+") as served:
+        for name, text in (("users", "keeper:{PLAIN}secret\n"), ("nginx.conf", config(folder))):
+            with open(f"{folder}/{name}", "w") as file:
+                file.write(text)
+        running = [started(8080, program, "serve", f"{folder}/school.db", "8080", "1000000", stdout=served)]
+        try:
+            running.append(started(8081, nginx, "-p", folder, "-c", f"{folder}/nginx.conf"))
+            came = list(trials())
+        finally:
+            for it in running:
+                it.terminate()
+                it.wait(timeout=60)
+        served.seek(0)
+        lines = served.read().splitlines()[2:]
+    came.append((f"{len(lines)} connections", {line.split(": ")[1] for line in lines}, {"1 answers, closed"}))
+    for name, told, wanted in came:
+        print(f"{name}: {told}" + ("" if told == wanted else f", and not {wanted}"))
+    if any(told != wanted for _, told, wanted in came):
+        sys.exit(1)
+
+
+if __name__ == "__main__":
+    main(*sys.argv[1:])
