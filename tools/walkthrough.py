@@ -4,7 +4,8 @@
 tools/walkthrough.py SPADESK [--write] [TEXT..]     needs curl, jq and sqlite3
 tools/walkthrough.py                                only compares the texts of the test with those of the example
 
-Each TEXT is one of WALKTHROUGHS, and without any all of them are run. The commands are the lines after a `$` in its console blocks.
+Each TEXT is one of WALKTHROUGHS, and without any all of them are run. The commands are the lines after a `$` in its console blocks;
+those of `rt`, which prove or build, stand in other blocks and are not run.
 They run from the top to the end in a folder of their own, beside the files of the walkthrough and links to this folder and to docs.
 With --write the text shows what was printed. After each line, and once `serve` has ended, a copy of the database file alone is held beside one with
 its log: each report on each must be the same, and each row that SQLite reads.
@@ -30,8 +31,10 @@ UNTESTED = "\n## Anyone can check it\n"
 
 # each text, with the folder of its files
 WALKTHROUGHS = {
+    "README.md": "examples/first-round",
     FIRST: "examples/first-round",
     "docs/GUIDE.md": "examples/term",
+    "examples/README.md": "examples",
     "examples/refusals/README.md": "examples/refusals",
 }
 
@@ -139,8 +142,9 @@ def play(text, program):
     """The text with what its commands print now, and how many they are."""
     commands = []
     with tempfile.TemporaryDirectory() as folder, tempfile.TemporaryDirectory() as programs:
-        for name in os.listdir(os.path.join(TOP, WALKTHROUGHS[text])):
-            shutil.copy(os.path.join(TOP, WALKTHROUGHS[text], name), folder)
+        for entry in os.scandir(os.path.join(TOP, WALKTHROUGHS[text])):
+            if entry.is_file():
+                shutil.copy(entry.path, folder)
         for name in ("tools", "docs"):
             os.symlink(os.path.join(TOP, name), f"{folder}/{name}")
         os.symlink(os.path.abspath(program), f"{programs}/spadesk")
