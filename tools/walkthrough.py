@@ -5,7 +5,7 @@ tools/walkthrough.py SPADESK [--write] [TEXT..]     needs curl, jq and sqlite3
 tools/walkthrough.py                                only compares the texts of the test with those of the example
 
 Each TEXT is one of WALKTHROUGHS, and without any all of them are run. The commands are the lines after a `$` in its console blocks;
-those of `rt`, which prove or build, stand in other blocks and are not run.
+those of `rt`, which prove or build, stand in other blocks and are not run. Without any TEXT the snippet for nginx is tried too.
 They run from the top to the end in a folder of their own, beside the files of the walkthrough and links to this folder and to docs.
 With --write the text shows what was printed. After each line, and once `serve` has ended, a copy of the database file alone is held beside one with
 its log: each report on each must be the same, and each row that SQLite reads.
@@ -23,6 +23,8 @@ import subprocess
 import sys
 import tempfile
 import time
+
+import nginx
 
 TOP = os.path.dirname(os.path.dirname(os.path.abspath(__file__)))
 TEST = os.path.join(TOP, "crates", "trials", "src", "walkthrough.rt")
@@ -169,7 +171,8 @@ def main(program=None, *words):
     if program is None:
         return
     differing = False
-    for text in [word for word in words if word != "--write"] or WALKTHROUGHS:
+    named = [word for word in words if word != "--write"]
+    for text in named or WALKTHROUGHS:
         shown = read(text)
         told, count = play(text, program)
         if is_written:
@@ -181,6 +184,8 @@ def main(program=None, *words):
         print(f"{text}: {count} commands, " + ("written" if is_written else "not as shown" if told != shown else "each as shown"))
     if differing:
         sys.exit(1)
+    if not words:
+        nginx.main(program)
 
 
 if __name__ == "__main__":
