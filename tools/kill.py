@@ -1,21 +1,42 @@
 #!/usr/bin/env python3
-"""A served file that is killed in the middle of puts has every answered put when it is opened again.
+"""A served file that is killed in the middle of puts has every answered put when it is opened again, and one of the first edition that is
+killed while it is raised is of the first or the second edition of the same office.
 
 tools/kill.py SPADESK [TIMES]
 
 Each time a program serves a new database, students are put over one connection after another, the program is killed by SIGKILL at
-some moment, and another program serves the file and is asked for each student whose put was answered.
+some moment, and another program serves the file and is asked for each student whose put was answered. As often a line opens a file of
+the first edition and is killed at some moment; the rows of the file are those from before or those of the raised file, and another
+line prints what it prints undisturbed.
 """
 import os
 import random
+import shutil
 import signal
 import socket
+import sqlite3
 import subprocess
 import sys
 import tempfile
 import threading
+import time
+from collections import Counter
+from contextlib import closing
 
+HERE = os.path.dirname(os.path.abspath(__file__))
+EXAMPLE = os.path.join(HERE, "..", "examples", "first-round")
 PORT = 18080
+MADE = [
+    "import DB supervisors I1 supervisors.csv",
+    "import DB projects I2 projects.csv",
+    "import DB students I3 students.csv",
+    "open-round DB",
+    "import DB lists I4 lists.csv",
+    "close-round DB",
+    "open-round DB",
+]
+# what makes a file of the first edition, in which rounds had no aim, of one of the second
+FIRST_EDITION = "DROP TABLE round_aim; UPDATE edition SET number = 1;"
 
 
 def exchange(messages, answered):
@@ -75,9 +96,61 @@ def once(program, draw):
     return known
 
 
+def line(program, words, path):
+    """What a line prints over a file."""
+    told = [program, *(path if word == "DB" else word for word in words.split())]
+    return subprocess.run(told, cwd=EXAMPLE, capture_output=True, text=True, check=True).stdout
+
+
+def rows(path):
+    """The rows of a database as it stands, with its log, beside which nothing is written."""
+    with tempfile.TemporaryDirectory() as folder:
+        for end in ("", "-wal"):
+            if os.path.exists(path + end):
+                shutil.copy(path + end, os.path.join(folder, "looked.db" + end))
+        with closing(sqlite3.connect(os.path.join(folder, "looked.db"))) as looked:
+            return list(looked.iterdump())
+
+
+def first_edition(program, path):
+    """Makes a file of the first edition, whose first round is closed and whose second is open."""
+    for words in MADE:
+        line(program, words, path)
+    with closing(sqlite3.connect(path)) as made:
+        made.executescript(FIRST_EDITION)
+
+
+def raised(program, draw, times):
+    """Kills lines in the middle of an opening of that file; how many files of each edition they left."""
+    report, left = "report DB placements 1", Counter()
+    with tempfile.TemporaryDirectory() as folder:
+        start, path = os.path.join(folder, "start.db"), os.path.join(folder, "school.db")
+        first_edition(program, start)
+        shutil.copy(start, path)
+        first, begun = rows(path), time.monotonic()
+        told = line(program, report, path)
+        taken, second = time.monotonic() - begun, rows(path)
+        for _ in range(times):
+            for end in ("", "-wal"):
+                if os.path.exists(path + end):
+                    os.remove(path + end)
+            shutil.copy(start, path)
+            it = subprocess.Popen([program, *report.replace("DB", path).split()], stdout=subprocess.DEVNULL)
+            time.sleep(draw.uniform(0, 1.5 * taken))
+            it.kill()
+            it.wait()
+            found = rows(path)
+            if found not in (first, second) or line(program, report, path) != told or rows(path) != second:
+                sys.exit("a file that was killed while it was raised is of no edition of its office")
+            left["first" if found == first else "second"] += 1
+    return left
+
+
 def main(program, times="20"):
-    draw = random.Random(1)
+    draw, program = random.Random(1), os.path.abspath(program)
     print("answered before the kill, and found again:", *(once(program, draw) for _ in range(int(times))))
+    left = raised(program, draw, int(times))
+    print("files killed while they are raised, of the first edition:", left["first"], "and of the second:", left["second"])
 
 
 if __name__ == "__main__":

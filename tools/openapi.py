@@ -40,6 +40,7 @@ JSON = "application/json"
 FORMS = {
     "Empty": (None, ("Members",), None),
     "Members": (JSON, ("Json", "Members"), None),
+    "Opens": (JSON, ("Json", "Members"), "OpenRound"),
     "Raw": ("text/csv", (), "Import"),
 }
 

@@ -3,7 +3,7 @@
 
 tools/disk/sweep.py SPADESK [ROW..]     needs gcc, curl and sqlite3
 
-The rows are LINES, by their numbers from 1; without a number all are swept. Each call is failed alone and with all behind it, by EIO and by ENOSPC;
+The rows are LINES, by their numbers from 1; without a number all are swept. Some begin with a file of the first edition, which the line raises. Each call is failed alone and with all behind it, by EIO and by ENOSPC;
 the program is killed before it, and half-way through it where it is a write; and no file may grow beyond some size, for sizes from none in
 steps of 4,096 bytes, until the line is not hindered. Then one of these must hold, where the office is what the program itself reports of the files, and their rows:
 - all is printed as ever, and the office is that after the line;
@@ -11,7 +11,8 @@ steps of 4,096 bytes, until the line is not hindered. Then one of these must hol
   after it, as a crash may leave it; where it is that before it, the line does its work when it is asked again;
 - the program was killed, and the office is that before or that after.
 What was printed was done: where a call behind the last text is the first that fails, the first of these holds, or the program was killed and
-the office is that after the line. Where all calls went well the file alone is that office.
+the office is that after the line. Where all calls went well the file alone is that office. As they stand, before the program opens them, the
+files have the rows from before the line, those that they have once they are opened, or those after the line.
 """
 import os
 import resource
@@ -27,17 +28,22 @@ EXAMPLE = os.path.join(HERE, "..", "..", "examples", "first-round")
 PORT = 18081
 PUT = ["-X", "PUT", "-d", '{"choices":["SYMMETRY","CIPHER"]}', f"http://127.0.0.1:{PORT}/lists/S16"]
 REOPEN = ["-X", "POST", f"http://127.0.0.1:{PORT}/rounds/reopen"]
+# what makes a file of the first edition, in which rounds had no aim, of one of the second
+FIRST_EDITION = "DROP TABLE round_aim; UPDATE edition SET number = 1;"
+# the words, the request over the one connection that the line serves, and what is done to the file before
 LINES = [
-    ("import DB supervisors I1 supervisors.csv", None),
-    ("import DB projects I2 projects.csv", None),
-    ("import DB students I3 students.csv", None),
-    ("open-round DB", None),
-    ("import DB lists I4 lists.csv", None),
-    (f"serve DB {PORT} 1", PUT),
-    ("close-round DB", None),
-    ("close-round DB", None),
-    ("report DB placements 1", None),
-    (f"serve DB {PORT} 1", REOPEN),
+    ("import DB supervisors I1 supervisors.csv", None, ""),
+    ("import DB projects I2 projects.csv", None, ""),
+    ("import DB students I3 students.csv", None, ""),
+    ("open-round DB", None, ""),
+    ("import DB lists I4 lists.csv", None, ""),
+    (f"serve DB {PORT} 1", PUT, ""),
+    ("close-round DB", None, ""),
+    ("close-round DB", None, ""),
+    ("report DB placements 1", None, ""),
+    (f"serve DB {PORT} 1", REOPEN, ""),
+    ("close-round DB", None, FIRST_EDITION),
+    ("report DB placements 1", None, FIRST_EDITION),
 ]
 MODES = [(mode, fault) for mode in ("once", "on") for fault in ("EIO", "ENOSPC")] + [("kill", ""), ("tear", "")]
 STORAGE = '{"fault":"Storage","number":2}'
@@ -80,19 +86,33 @@ class Sweep:
             if start and end in ends and os.path.exists(os.path.join(self.folder, start + end)):
                 shutil.copy(os.path.join(self.folder, start + end), path)
 
+    def rows(self):
+        """The rows of the database that is looked at."""
+        dump = subprocess.run(["sqlite3", os.path.join(self.folder, "looked.db"), "PRAGMA integrity_check", ".dump"], capture_output=True, text=True)
+        return dump.stdout
+
     def office(self, name, ends=("", "-wal")):
-        """A report on a database, which the program opens for it and closes, and the rows that it has then."""
+        """The rows of a database as it stands; a report on it, which the program opens it for and closes it; and the rows that it has then."""
+        self.copy(name, "looked.db", ends)
+        stood = self.rows()
         self.copy(name, "looked.db", ends)
         report = self.line("report looked.db placements 1")
-        dump = subprocess.run(["sqlite3", os.path.join(self.folder, "looked.db"), "PRAGMA integrity_check", ".dump"], capture_output=True, text=True)
-        return dump.stdout, report
+        return stood, (self.rows(), report)
+
+    def alter(self, start, sql):
+        """Does this to a database."""
+        if sql:
+            subprocess.run(["sqlite3", os.path.join(self.folder, start), sql], check=True)
 
     def judge(self, row, came, is_behind):
         """What came of a run, in a word; else an end."""
         words, request, undisturbed, before, after = row
         self.runs += 1
-        left = self.office("swept.db")
-        where = "after" if left == after else "before" if left == before else "another office"
+        stood, left = self.office("swept.db")
+        if (stood, left) == after:
+            where = "after"
+        else:
+            where = "before" if stood in before[0] and left == before[1] else "another office"
         refused = came[3] == STORAGE if came[3] else came[:3] == ("", "refused 2: Storage\n", 1)
         if came == undisturbed:
             what = "as ever"
@@ -115,7 +135,9 @@ class Sweep:
         """Sweeps a line over the database that stands in `start`, or a new one; what it leaves is the next start."""
         told = words.replace("DB", "swept.db")
         self.copy(start, "swept.db")
-        before = self.office("swept.db")
+        stood, opened = self.office("swept.db")
+        # SQLite takes a new file that is not yet whole for no database
+        before = [stood, opened[0]] if start else [stood, opened[0], ""], opened
         undisturbed = self.line(told, request)
         with open(os.path.join(self.folder, "counted"), encoding="utf-8") as file:
             first, last = map(int, file.read().split())
@@ -144,7 +166,8 @@ def main(program, *numbers):
     with tempfile.TemporaryDirectory() as folder:
         sweep = Sweep(program, folder)
         start = None
-        for number, (words, request) in enumerate(LINES, 1):
+        for number, (words, request, sql) in enumerate(LINES, 1):
+            sweep.alter(start, sql)
             if not numbers or str(number) in numbers:
                 sweep.of(start, words, request)
             sweep.copy(start, "after.db")

@@ -5,7 +5,8 @@ tools/memory/sweep.py SPADESK [MOST]     needs gcc and sqlite3
 
 For each allocation (of more than MOST, 400, so many spread evenly) one of these must hold: the line prints what it prints undisturbed,
 and leaves the same rows; or it prints `refused 1: Memory` with status 1, and leaves the rows from before; or nothing could be printed
-at all, since the text of the answer itself found no memory: then the status is 1, and the rows are those from before or after. A
+at all, since the text of the answer itself found no memory: then the status is 1, and the rows are those from before or after. The rows
+from before are those of the file as it stood, or as it is once it was opened: with tables, of the last edition. A
 database error (`refused 2`) or damage (`refused 30`) is never the word for want of memory.
 """
 import os
@@ -17,6 +18,21 @@ import tempfile
 HERE = os.path.dirname(os.path.abspath(__file__))
 EXAMPLE = os.path.join(HERE, "..", "..", "examples", "first-round")
 OUT_OF_MEMORY = ("", "refused 1: Memory\n", 1)
+# what makes a file of the first edition, in which rounds had no aim, of one of the second
+FIRST_EDITION = "DROP TABLE round_aim; UPDATE edition SET number = 1;"
+# the words, and what is done to the file before
+LINES = [
+    ("import DB supervisors I1 supervisors.csv", ""),
+    ("import DB projects I2 projects.csv", ""),
+    ("import DB students I3 students.csv", ""),
+    ("open-round DB", ""),
+    ("import DB lists I4 lists.csv", ""),
+    ("close-round DB", ""),
+    ("report DB placements 1", ""),
+    ("reopen-round DB", ""),
+    ("close-round DB", FIRST_EDITION),
+    ("report DB placements 1", FIRST_EDITION),
+]
 
 
 class Sweep:
@@ -44,16 +60,23 @@ class Sweep:
                 shutil.copy(os.path.join(self.folder, start + end), path)
 
     def rows(self, name):
-        """The rows of a database, whatever stands in its log; none where it holds no table yet."""
+        """The rows of a database, whatever stands in its log."""
         self.copy(name, "looked.db")
         dump = subprocess.run(["sqlite3", os.path.join(self.folder, "looked.db"), ".dump"], capture_output=True, text=True)
-        rows = [row for row in dump.stdout.splitlines() if row.startswith("INSERT")]
-        return [] if rows == ["INSERT INTO edition VALUES(1,1);"] else rows
+        return [row for row in dump.stdout.splitlines() if row.startswith("INSERT")]
+
+    def alter(self, start, sql):
+        """Does this to a database."""
+        if sql:
+            subprocess.run(["sqlite3", os.path.join(self.folder, start), sql], check=True)
 
     def of(self, start, words):
         """Sweeps a line over the database that stands in `start`, or a new one, and makes it the next start."""
         told = words.replace("DB", "swept.db")
-        before = self.rows(start) if start else []
+        self.copy(start, "swept.db")
+        stood = self.rows("swept.db")
+        self.line("report swept.db profile 0")
+        before = stood, self.rows("swept.db")
         self.copy(start, "swept.db")
         undisturbed = self.line(told, 0)
         after = self.rows("swept.db") if "DB" in words else []
@@ -65,11 +88,11 @@ class Sweep:
             self.copy(start, "swept.db")
             came = self.line(told, number)
             left = self.rows("swept.db") if "DB" in words else []
-            well = (came == undisturbed and left == after) or (came == OUT_OF_MEMORY and left == before)
-            silent = came[0] != undisturbed[0] and came[1] == "" and came[2] == 1 and left in (before, after)
+            well = (came == undisturbed and left == after) or (came == OUT_OF_MEMORY and left in before)
+            silent = came[0] != undisturbed[0] and came[1] == "" and came[2] == 1 and left in (*before, after)
             refused += came == OUT_OF_MEMORY
             if not (well or silent):
-                sys.exit(f"{words}: allocation {number} of {count} refused: {came}, rows {'before' if left == before else 'after' if left == after else 'others'}")
+                sys.exit(f"{words}: allocation {number} of {count} refused: {came}, rows {'before' if left in before else 'after' if left == after else 'others'}")
         print(f"{words:50} {count:6} allocations, {len(numbers):5} refused in turn, {refused:5} told as refused 1", flush=True)
 
 
@@ -77,16 +100,8 @@ def main(program, most="400"):
     with tempfile.TemporaryDirectory() as folder:
         sweep = Sweep(program, folder, int(most))
         start = None
-        for n, words in enumerate([
-            "import DB supervisors I1 supervisors.csv",
-            "import DB projects I2 projects.csv",
-            "import DB students I3 students.csv",
-            "open-round DB",
-            "import DB lists I4 lists.csv",
-            "close-round DB",
-            "report DB placements 1",
-            "reopen-round DB",
-        ]):
+        for n, (words, sql) in enumerate(LINES):
+            sweep.alter(start, sql)
             sweep.of(start, words)
             start = f"step{n}.db"
             sweep.copy("swept.db", "last.db")

@@ -10,7 +10,6 @@ use Rattle.std.proofs.lemmas.List.Folds.{find-append}
 use Rattle.std.proofs.lemmas.Slice.Eq.{bytes_eq-Decides}
 use Rattle.spa.specs.declared.TheConstants.{RANKS, MOST_STUDENTS}
 use Rattle.spa.specs.Codes.{code_at}
-use Rattle.spa.specs.declared.aim.Aim.TheVariants.{Greedy}
 use Rattle.spa.specs.Shape.{Shape}
 use Rattle.spa.specs.Instance as spa
 use Rattle.spa.specs.Instance.{Instance, project_codes}
@@ -20,7 +19,7 @@ use Rattle.solver.specs.Sitting.{Sitting, with_list}
 use Rattle.rolls.specs.declared.rounds.Round.{Round}
 use Rattle.rolls.specs.declared.rounds.Listed.{Listed}
 use Rattle.rolls.specs.Roll.{find as entry, put}
-use Rattle.rolls.specs.State.{State, list_key, last_round, lists_of, list_of, choices_in, is_open, round_is_open}
+use Rattle.rolls.specs.State.{State, list_key, aim_of, last_round, lists_of, list_of, choices_in, is_open, round_is_open}
 use Rattle.rolls.specs.Instances.{round_instance}
 use Rattle.rolls.specs.Fit.{IsFit, ListFits}
 use Rattle.rolls.specs.Stepping.{with_last}
@@ -151,6 +150,10 @@ module _ (o n : State) (student : List ℕ) (first : IsFirstList o student n) (o
   same_last : last_round (with_last listing o) ≡ last_round o
   same_last = last_kept listing (λ r. refl) o first.fit.numbered
 
+  -- the round keeps its aim
+  pub same_aim : aim_of n (last_round n) ≡ aim_of o (last_round o)
+  same_aim = ap (λ (x : State). aim_of x (last_round x)) first.after ∙ ap (aim_of (with_last listing o)) same_last
+
   lists_after : lists_of n (last_round n) ≡ put list_key own (lists_of o (last_round o))
   lists_after =
       ap (λ (x : State). lists_of x (last_round x)) first.after ∙ ap (lists_of (with_last listing o)) same_last
@@ -233,10 +236,10 @@ module _ (o n : State) (student : List ℕ) (first : IsFirstList o student n) (o
         (same.found student ∙ find_made list_key listed (λ e. e.code) (λ e. refl) student (lists_of o (last_round o)) ∙ ap (λ (x : Option Listed). option_map listed x) none_before)
 
     -- and with it the instance is that of the round after
-    pub sits_after : (sitting : Sitting) → sitting.aim ≡ Greedy → with_list i.shape list ≡ sitting.shape → SitsIn n sitting
-    sits_after sitting greedy here = record {
+    pub sits_after : (sitting : Sitting) → sitting.aim ≡ aim_of n (last_round n) → with_list i.shape list ≡ sitting.shape → SitsIn n sitting
+    sits_after sitting aim here = record {
       is_open = still_open;
-      greedy = greedy;
+      aim = aim;
       named = with_one i student list;
       fit = fit_pushed i student list sound may_admit new_code;
       here = here;
@@ -258,5 +261,5 @@ module _ (n : State) (sitting : Sitting) (student : List ℕ) (joins : MayJoin n
   -- and then the session sits in the office
   pub joins_sits : (new : Sitting) → new.aim ≡ sitting.aim → new.shape ≡ with_list sitting.shape list → SitsIn n new
   joins_sits new aim is =
-      sits_after joins.before n student joins.put joins.sat.is_open fit few joins.sat.named joins.sat.fit joins.sat.same list ranking new (aim ∙ joins.sat.greedy)
+      sits_after joins.before n student joins.put joins.sat.is_open fit few joins.sat.named joins.sat.fit joins.sat.same list ranking new (aim ∙ joins.sat.aim ∙ sym (same_aim joins.before n student joins.put joins.sat.is_open))
       (ap (λ (s : Shape). with_list s list) joins.sat.here ∙ sym is)

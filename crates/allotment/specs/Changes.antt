@@ -1,7 +1,7 @@
 -- The changes of the tables that a request may make of an office.
 use Rattle.std.specs.Prelude.{◌≡◌, List, [], Ok}
 use Rattle.spa.specs.Coded.{CodePair}
-use Rattle.rolls.specs.State.{State}
+use Rattle.rolls.specs.State.{State, aim_of, last_round}
 use Rattle.rolls.specs.Instances.{round_instance}
 use Rattle.rolls.specs.Closing.{MayClose}
 use Rattle.rolls.specs.declared.row.Change.{Change}
@@ -16,7 +16,7 @@ use Rattle.allotment.specs.Layers.{layers}
 -- be taken, and those of an import are of the requests that its text's records stand for. Any other request makes none.
 abbrev pub MayChange : State → Request → List Change → Type 0
 MayChange o (request.Plain p) changes = changes ≡ changes_of p o
-MayChange o request.Close changes = (M : List CodePair) × MayClose o M × layers.MayTake (round_instance o) M × (changes ≡ close_changes M o)
+MayChange o request.Close changes = (M : List CodePair) × MayClose o M × layers.MayTake (aim_of o (last_round o)) (round_instance o) M × (changes ≡ close_changes M o)
 MayChange o (request.Import id kind bytes) changes = (rows : List Plain) × (layers.records kind bytes ≡ Ok rows) × (changes ≡ import_changes id kind bytes rows o)
 MayChange o request.Preview changes = changes ≡ []
 MayChange o request.RoundText changes = changes ≡ []

@@ -1,7 +1,7 @@
 -- What the office takes from the layers beside it.
 use Rattle.std.specs.Prelude.{List, [], map, None, Result, Ok, Err}
 use Rattle.spa.specs.Instance.{Instance}
-use Rattle.spa.specs.declared.aim.Aim.TheVariants.{Greedy}
+use Rattle.spa.specs.declared.aim.Aim.{Aim}
 use Rattle.spa.specs.Coded.{IsBestByCodes}
 use Rattle.intake.specs.Parts.{Parts}
 use Rattle.intake.specs.Lines.{round_text}
@@ -14,9 +14,9 @@ use Rattle.imports.specs.declared.fault.ImportFault.{ImportFault}
 use Rattle.imports.specs.declared.fault.ImportFault.TheVariants.{Memory, Header, Fields}
 use Rattle.imports.specs.Requests.{requests_of}
 
--- the parts of a greedy round text of an instance alone: no student has a place, and there are no prices
-abbrev pub alone : Instance → Parts
-alone l = record { aim = Greedy; instance = l; places = map (λ e. None) l.students; student_prices = []; project_prices = []; supervisor_prices = [] }
+-- the parts of a round text with this aim of an instance alone: no student has a place, and there are no prices
+abbrev pub alone : Aim → Instance → Parts
+alone aim l = record { aim = aim; instance = l; places = map (λ e. None) l.students; student_prices = []; project_prices = []; supervisor_prices = [] }
 
 -- the refusal of a text that is no import text; a record with another number of fields is one whose members are wrong
 abbrev pub refused_as : ImportFault → Refusal
@@ -29,12 +29,12 @@ abbrev pub as_read : Result (List Plain) ImportFault → Result (List Plain) Ref
 as_read (Ok rows) = Ok rows
 as_read (Err fault) = Err (refused_as fault)
 
--- a closing takes a greedy maximum matching of the round's instance, the text of an instance is its round text, a report is its text,
+-- a closing takes a matching of the round's instance that is best by its aim, the text of an instance is its round text, a report is its text,
 -- and the requests of an import are those of the records that `csv` reads from its text
 abbrev pub layers : Layers
 layers = record {
-  MayTake = IsBestByCodes Greedy;
-  round_text = λ l. round_text (alone l);
+  MayTake = IsBestByCodes;
+  round_text = λ aim l. round_text (alone aim l);
   report = report_text;
   records = λ kind bytes. as_read (requests_of kind bytes);
 }

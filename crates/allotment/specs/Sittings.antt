@@ -1,10 +1,9 @@
 -- A session that sits in the open round: the round's rolls, and its lists admitted in some order.
 use Rattle.std.specs.Prelude.{◌≡◌, ℕ, ◌+◌, ◌<◌, ◌≤◌, false, IsTrue, List, length, find, Option, None}
 use Rattle.std.specs.Str.{bytes_eq}
-use Rattle.spa.specs.declared.aim.Aim.TheVariants.{Greedy}
 use Rattle.spa.specs.Instance.{Instance, Student}
 use Rattle.spa.specs.Named.{Named, IsFit as IsFitInstance, instance_of}
-use Rattle.rolls.specs.State.{State, last_round, round_is_open, has_list}
+use Rattle.rolls.specs.State.{State, aim_of, last_round, round_is_open, has_list}
 use Rattle.rolls.specs.Fit.{IsFit}
 use Rattle.rolls.specs.Instances.{round_instance}
 use Rattle.rolls.specs.Refusing.{plain_refusal}
@@ -23,10 +22,10 @@ pub record IsSameRound (l m : Instance) : Type 0 where
   pub found : (code : List ℕ) → student_in l code ≡ student_in m code
   pub as_many : length l.students ≡ length m.students
 
--- a round is open, and the session has its instance by positions, with the students in some order, and the greedy aim
+-- a round is open, and the session has its instance by positions, with the students in some order, and its aim
 pub record SitsIn (office : State) (sitting : Sitting) : Type 0 where
   pub is_open : IsTrue (round_is_open office)
-  pub greedy : sitting.aim ≡ Greedy
+  pub aim : sitting.aim ≡ aim_of office (last_round office)
   pub named : Named
   pub fit : IsFitInstance named
   pub here : named.shape ≡ sitting.shape

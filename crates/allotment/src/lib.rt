@@ -1,8 +1,8 @@
 //! What the office takes from the layers beside it: a matching for the open round's closing, the session that its previews are read
 //! from, its round text, the text of a report, and the records of an import text.
 //!
-//! `office` takes any matching of the round's instance, and any requests as an import's; `solver` finds a greedy maximum
-//! matching, `reports` writes reports, and `imports` reads a text. Here they meet. Nothing here holds an office or touches a table: `desk` does.
+//! `office` takes any matching of the round's instance, and any requests as an import's; `solver` finds a matching that is best by
+//! the round's aim, `reports` writes reports, and `imports` reads a text. Here they meet. Nothing here holds an office or touches a table: `desk` does.
 //!
 //! Promised: each function makes exactly the step of its request, or refuses it as the definition does; out of memory the
 //! office is as before. A session sits in an office where it has the rolls and the lists of its open round, the lists in any order
@@ -27,10 +27,9 @@ use office::Office;
 use rolls::{Bytes, Done, ImportKind, Refusal, Reply, ReportKind, Text};
 pub use sitting::{join, read_preview, sit};
 use solver::solve;
-use spa::Aim;
 use std::alloc::{AllocError, Global};
 
-/// Closes the open round with a greedy maximum matching of its instance.
+/// Closes the open round with a matching of its instance that is best by its aim.
 pub fn close(alloc: Global, office: &mut Office) -> Result<Done, AllocError>
     requires open { IsTrue (round_is_open office.old) }
     ensures made { IfOk result (λ done. Makes layers office.old request.Close done.reply office.new) }
@@ -41,7 +40,8 @@ pub fn close(alloc: Global, office: &mut Office) -> Result<Done, AllocError>
     places_law();
     let instance = office.instance()?;
     instance.fit();
-    let solved = solve(alloc, &instance, Aim::Greedy)?;
+    let aim = office.last_aim();
+    let solved = solve(alloc, &instance, aim)?;
     office.close(&solved.matching)
 }
 
@@ -53,7 +53,8 @@ pub fn round_text(alloc: Global, office: &Office) -> Result<Reply, AllocError>
     office.fit();
     let instance = office.instance()?;
     instance.fit();
-    let text = write_round(alloc, &instance, Aim::Greedy, None)?;
+    let aim = office.last_aim();
+    let text = write_round(alloc, &instance, aim, None)?;
     Ok(Reply::Text(Text::of(alloc, text.as_str())?))
 }
 

@@ -17,7 +17,7 @@ use closing::few_law;
 use office::Office;
 use rolls::{Project, Reply};
 use solver::Session;
-use spa::{Aim, Code, Instance, code_law};
+use spa::{Code, Instance, code_law};
 use std::alloc::{AllocError, Global};
 
 /// The students of an instance are admitted, one after another.
@@ -40,12 +40,8 @@ pub fn sit(alloc: Global, office: &Office) -> Result<Session, AllocError>
 {
     let instance = office.instance()?;
     instance.fit();
-    let mut session = Session::start(
-        alloc,
-        instance.supervisors(),
-        instance.projects(),
-        Aim::Greedy,
-    )?;
+    let aim = office.last_aim();
+    let mut session = Session::start(alloc, instance.supervisors(), instance.projects(), aim)?;
     admit_all(&mut session, &instance)?;
     Ok(session)
 }

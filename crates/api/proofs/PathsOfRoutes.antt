@@ -17,7 +17,7 @@ use Rattle.api.specs.declared.routes.Segments.{Segments}
 use Rattle.api.specs.declared.routes.Segments.TheVariants.{Any, Numbers}
 use Rattle.api.specs.declared.routes.Call.TheVariants as call
 use Rattle.api.specs.declared.routes.Put.TheVariants as put
-use Rattle.api.specs.Routes.{is_segment, row, fixed, read, asked, entry, list, numbered, import, fits, all_routes, fill, AreSegments, AllFit, HasRow, Names, IsNowhere, first_of}
+use Rattle.api.specs.Routes.{is_segment, row, fixed, read, asked, opens, entry, list, numbered, import, fits, all_routes, fill, AreSegments, AllFit, HasRow, Names, IsNowhere, first_of}
 use Rattle.api.specs.Inside.Routes.{NamesBy}
 use Rattle.api.proofs.Found.{steps, found_along, ends_here, param_leaf, number_leaf}
 use Rattle.api.proofs.Sound.{both, makes, AllPlain, plain_all}
@@ -231,7 +231,7 @@ all_standing =
     ∷ lies (codes "/rounds/close") (asked call.Close) refl refl refl
     ∷ lies (codes "/rounds/reopen") (asked call.ReopenRound) refl refl refl
     ∷ stands (codes "/rounds/") 7 (numbered call.GetRound) refl refl refl refl beside_words
-    ∷ lies (codes "/rounds") (asked call.OpenRound) refl refl refl
+    ∷ lies (codes "/rounds") opens refl refl refl
     ∷ lies (codes "/roundtext") (read call.RoundText) refl refl refl
     ∷ alone (codes "/students/") 9 (entry put.Student call.GetStudent) refl refl refl refl refl
     ∷ alone (codes "/supervisors/") 12 (entry put.Supervisor call.GetSupervisor) refl refl refl refl refl

@@ -4,6 +4,8 @@ use Rattle.std.specs.Option.{option_map_or}
 use Rattle.std.specs.Str.{is_utf8}
 use Rattle.serde_json.specs.Data.{Data, Items, no_items, item, Members, no_members, member}
 use Rattle.serde_json.specs.Read.{read}
+use Rattle.spa.specs.Aims.{aim_with}
+use Rattle.spa.specs.declared.aim.Aim.{Aim}
 use Rattle.serde_json.specs.Find.{get, as_str, as_array, as_object, as_number, as_u64}
 
 -- what a body is in JSON, if it is a text of it
@@ -40,9 +42,13 @@ quota_of (Some n) = min n no_quota
 abbrev pub quota_in : Data → Option ℕ
 quota_in d = option_map (λ n. quota_of (as_u64 n)) (option_and_then as_number (get (codes "quota") d))
 
+-- the text of a member alone
+abbrev pub lone_text : List ℕ → Data → Option (List ℕ)
+lone_text name = of_size 1 (text_in name)
+
 -- a name alone
 abbrev pub name_of : Data → Option (List ℕ)
-name_of = of_size 1 (text_in (codes "name"))
+name_of = lone_text (codes "name")
 
 -- a name and a quota
 abbrev pub name_and_quota : Data → Option (List ℕ × ℕ)
@@ -56,6 +62,10 @@ supervisor_members = of_size 2 name_and_quota
 abbrev pub project_members : Data → Option ((List ℕ × ℕ) × List ℕ)
 project_members = of_size 3 (λ d.
     option_and_then (λ both. option_map (λ supervisor. (both, supervisor)) (text_in (codes "supervisor") d)) (name_and_quota d))
+
+-- an aim alone, by its word
+abbrev pub aim_of : Data → Option Aim
+aim_of d = option_and_then aim_with (lone_text (codes "aim") d)
 
 -- the texts of items that are all texts
 abbrev pub texts_of : Items → Option (List (List ℕ))

@@ -2,6 +2,7 @@
 use Rattle.std.specs.Prelude.{◌≡◌, ◌⊎◌, Bool, true, false, IsTrue, List, [], ◌∷◌, ℕ, Option, Some, None, option_map, Result, Ok, Err, codes, if◌then◌else◌}
 use Rattle.std.specs.Str.{bytes_eq}
 use Rattle.serde_json.specs.Data.{Data}
+use Rattle.spa.specs.declared.aim.Aim.TheVariants.{Greedy}
 use Rattle.rolls.specs.declared.refusal.Refusal.{Refusal}
 use Rattle.rolls.specs.declared.refusal.Refusal.TheVariants as no
 use Rattle.rolls.specs.declared.request.Plain.{Plain}
@@ -13,11 +14,11 @@ use Rattle.api.specs.declared.routes.Call.{Call}
 use Rattle.api.specs.declared.routes.Call.TheVariants as call
 use Rattle.api.specs.declared.routes.Methods.{Methods}
 use Rattle.api.specs.declared.routes.Form.{Form}
-use Rattle.api.specs.declared.routes.Form.TheVariants.{Empty, Members, Raw}
+use Rattle.api.specs.declared.routes.Form.TheVariants.{Empty, Members, Opens, Raw}
 use Rattle.api.specs.declared.routes.Put.{Put}
 use Rattle.api.specs.declared.routes.Put.TheVariants as put
 use Rattle.api.specs.Routes.{called, first_of, Names, IsNowhere}
-use Rattle.api.specs.Members.{json_of, name_of, supervisor_members, project_members, choices_of}
+use Rattle.api.specs.Members.{json_of, name_of, supervisor_members, project_members, choices_of, aim_of}
 
 -- what the members of a body ask to be put under a code
 abbrev pub put_by : Put → List ℕ → Data → Option Plain
@@ -41,10 +42,20 @@ abbrev pub empty_asks : Request → List ℕ → Result Request Refusal
 empty_asks asked [] = Ok asked
 empty_asks asked (b ∷ body) = Err no.Members
 
+-- the round that is opened by the members of a body
+abbrev pub opened_by : Data → Option Plain
+opened_by d = option_map plain.OpenRound (aim_of d)
+
+-- what is asked where a round is opened: a greedy one by an empty body, and otherwise one of the aim that the body names
+abbrev pub opening_asks : List ℕ → Result Request Refusal
+opening_asks [] = Ok (request.Plain (plain.OpenRound Greedy))
+opening_asks (b ∷ body) = object_asks opened_by (json_of (b ∷ body))
+
 -- what a body asks
 abbrev pub by_body : Form → List ℕ → List ℕ → Result Request Refusal
 by_body (Empty what) code body = empty_asks (called what code) body
 by_body (Members what) code body = object_asks (put_by what code) (json_of body)
+by_body Opens code body = opening_asks body
 by_body (Raw kind) code body = Ok (request.Import code kind body)
 
 -- what a method asks of a path
@@ -78,7 +89,6 @@ keeps_code call.GetSupervisor = true
 keeps_code call.GetProject = true
 keeps_code call.GetStudent = true
 keeps_code call.DropList = true
-keeps_code call.OpenRound = false
 keeps_code call.Close = false
 keeps_code call.ReopenRound = false
 keeps_code call.GetRound = false
@@ -91,6 +101,8 @@ abbrev pub takes_memory : Form → List ℕ → Bool
 takes_memory (Empty what) [] = keeps_code what
 takes_memory (Empty what) (b ∷ body) = false
 takes_memory (Members what) body = true
+takes_memory Opens [] = false
+takes_memory Opens (b ∷ body) = true
 takes_memory (Raw kind) body = true
 
 -- the same where the path has the method; another method takes none

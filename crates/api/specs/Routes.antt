@@ -12,7 +12,7 @@ use Rattle.rolls.specs.declared.report.ReportKind.TheVariants as of
 use Rattle.rolls.specs.declared.request.Plain.TheVariants as plain
 use Rattle.rolls.specs.declared.request.Request.{Request}
 use Rattle.rolls.specs.declared.request.Request.TheVariants as request
-use Rattle.api.specs.declared.routes.Form.TheVariants.{Empty, Members, Raw}
+use Rattle.api.specs.declared.routes.Form.TheVariants.{Empty, Members, Opens, Raw}
 use Rattle.api.specs.declared.routes.Segments.{Segments}
 use Rattle.api.specs.declared.routes.Segments.TheVariants.{Any, Numbers}
 use Rattle.api.specs.declared.routes.Call.{Call}
@@ -30,7 +30,6 @@ called call.GetSupervisor code = request.Plain (plain.GetSupervisor code)
 called call.GetProject code = request.Plain (plain.GetProject code)
 called call.GetStudent code = request.Plain (plain.GetStudent code)
 called call.DropList code = request.Plain (plain.DropList code)
-called call.OpenRound code = request.Plain plain.OpenRound
 called call.Close code = request.Close
 called call.ReopenRound code = request.Plain plain.ReopenRound
 called call.GetRound code = request.Plain (plain.GetRound (unwrap_or (number_of code) 0))
@@ -50,6 +49,10 @@ read what = record { segments = Any; get = Some (Empty what); put = None; post =
 -- what is asked of the office as a whole
 abbrev pub asked : Call → Methods
 asked what = record { segments = Any; get = None; put = None; post = Some (Empty what); delete = None }
+
+-- a round is opened
+abbrev pub opens : Methods
+opens = record { segments = Any; get = None; put = None; post = Some Opens; delete = None }
 
 -- an entry of the rolls is put and read
 abbrev pub entry : Put → Call → Methods
@@ -100,7 +103,7 @@ all_routes =
     ∷ fixed (codes "/rounds/close") (asked call.Close)
     ∷ fixed (codes "/rounds/reopen") (asked call.ReopenRound)
     ∷ row (codes "/rounds/") (codes "code") (numbered call.GetRound)
-    ∷ fixed (codes "/rounds") (asked call.OpenRound)
+    ∷ fixed (codes "/rounds") opens
     ∷ fixed (codes "/roundtext") (read call.RoundText)
     ∷ row (codes "/students/") (codes "code") (entry put.Student call.GetStudent)
     ∷ row (codes "/supervisors/") (codes "code") (entry put.Supervisor call.GetSupervisor)

@@ -3,6 +3,8 @@ use Rattle.std.specs.Prelude.{ℕ, Bool, true, false, List, ◌++◌, map, Optio
 use Rattle.serde_json.specs.Data.{Data, null, number, unsigned, string, array, object, member, no_members}
 use Rattle.serde_json.specs.View.{items_of}
 use Rattle.serde_json.specs.Written.{items_text, compact_text}
+use Rattle.spa.specs.Aims.{aim_word}
+use Rattle.spa.specs.declared.aim.Aim.{Aim}
 use Rattle.rolls.specs.declared.refusal.Refusal.{Refusal}
 use Rattle.rolls.specs.declared.refusal.Refusal.TheVariants as no
 use Rattle.rolls.specs.declared.request.Reply.{Reply}
@@ -73,9 +75,9 @@ abbrev pub opened_text : ℕ → List ℕ
 opened_text round = codes "{\"round\":" ++ decimal round ++ codes "}"
 
 -- a round in JSON
-abbrev pub round_text : ℕ → Bool → ℕ → List ℕ → ℕ → List ℕ
-round_text round is_open placed profile students =
-    codes "{\"open\":" ++ truth_text is_open ++ codes ",\"placed\":" ++ decimal placed ++ codes ",\"profile\":[" ++ numbers_text profile
+abbrev pub round_text : ℕ → Aim → Bool → ℕ → List ℕ → ℕ → List ℕ
+round_text round aim is_open placed profile students =
+    codes "{\"aim\":\"" ++ aim_word aim ++ codes "\",\"open\":" ++ truth_text is_open ++ codes ",\"placed\":" ++ decimal placed ++ codes ",\"profile\":[" ++ numbers_text profile
     ++ codes ",\"round\":" ++ decimal round ++ codes ",\"students\":" ++ decimal students ++ codes "}"
 
 -- a closed round in JSON
@@ -98,7 +100,7 @@ reply_text (reply.Supervisor name placed quota) = json_answer 200 (compact_text 
 reply_text (reply.Project name placed quota supervisor) = json_answer 200 (compact_text (project_data name placed quota supervisor))
 reply_text (reply.Student name choices placement) = json_answer 200 (compact_text (student_data name choices placement))
 reply_text (reply.Opened round) = json_answer 200 (opened_text round)
-reply_text (reply.Round round is_open placed profile students) = json_answer 200 (round_text round is_open placed profile students)
+reply_text (reply.Round round aim is_open placed profile students) = json_answer 200 (round_text round aim is_open placed profile students)
 reply_text (reply.Closed round size profile) = json_answer 200 (closed_text round size profile)
 reply_text (reply.Preview size profile) = json_answer 200 (preview_text size profile)
 reply_text (reply.Text text) = typed_answer 200 text_type text
@@ -116,7 +118,7 @@ IsRead (Ok (reply.Supervisor name placed quota)) = Unit {0}
 IsRead (Ok (reply.Project name placed quota supervisor)) = Unit {0}
 IsRead (Ok (reply.Student name choices placement)) = Unit {0}
 IsRead (Ok (reply.Opened round)) = ⊥
-IsRead (Ok (reply.Round round is_open placed profile students)) = ⊥
+IsRead (Ok (reply.Round round aim is_open placed profile students)) = ⊥
 IsRead (Ok (reply.Closed round size profile)) = ⊥
 IsRead (Ok (reply.Preview size profile)) = ⊥
 IsRead (Ok (reply.Text text)) = Unit {0}

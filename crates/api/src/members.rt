@@ -2,10 +2,11 @@
 ghost use Rattle.std.specs.Prelude.{◌≡◌, ◌⊎◌, Some, None, IfOk, IfErr, option_map, option_and_then, codes};
 ghost use Rattle.serde_json.specs.View.{view, items_view};
 ghost use Rattle.serde_json.specs.Find.{as_object, as_array, as_number, as_str, get};
-ghost use Rattle.api.specs.Members.{json_of, count, has_size, text_in, quota_of, quota_in, name_of, name_and_quota, supervisor_members, project_members, texts_of, choices_of};
+ghost use Rattle.api.specs.Members.{json_of, count, has_size, text_in, quota_of, quota_in, lone_text, name_of, name_and_quota, supervisor_members, project_members, aim_of, texts_of, choices_of};
 
 use rolls::{Refusal, Text, Texts};
 use serde_json::Value;
+use spa::Aim;
 use std::alloc::{AllocError, Global};
 
 /// Handed on in place of a number that is no quota; the office refuses it as too great.
@@ -97,14 +98,21 @@ fn quota_in(value: &Value) -> Option<u32>
     }
 }
 
-/// The name that stands alone.
-pub fn name_of(value: &Value) -> Option<&str>
-    ensures { option_map (λ name. name.now) result ≡ name_of (view value.now) }
+/// The text of a member that stands alone.
+fn lone_text<'v>(value: &'v Value, name: &str) -> Option<&'v str>
+    ensures { option_map (λ text. text.now) result ≡ lone_text name.now (view value.now) }
 {
     if !has_size(value, 1) {
         return None;
     }
-    text_in(value, "name")
+    text_in(value, name)
+}
+
+/// The name that stands alone.
+pub fn name_of(value: &Value) -> Option<&str>
+    ensures { option_map (λ name. name.now) result ≡ name_of (view value.now) }
+{
+    lone_text(value, "name")
 }
 
 /// The members `name` and `quota`.
@@ -148,6 +156,16 @@ pub fn project_members(value: &Value) -> Option<ProjectMembers<'_>>
                 supervisor,
             }),
         },
+    }
+}
+
+/// The aim that stands alone, by its word.
+pub fn aim_of(value: &Value) -> Option<Aim>
+    ensures { result ≡ aim_of (view value.now) }
+{
+    match lone_text(value, "aim") {
+        None => None,
+        Some(word) => Aim::of_word(word),
     }
 }
 

@@ -4,14 +4,15 @@ ghost use Rattle.std.specs.Str.{bytes_eq};
 ghost use Rattle.serde_json.specs.View.{view};
 ghost use Rattle.api.specs.Routes.{all_routes, IsNowhere};
 ghost use Rattle.api.specs.Inside.Routes.{NamesBy};
-ghost use Rattle.api.specs.Requests.{put_by, by_body, by_method, asked_by, takes_memory, asked_takes_memory, IsReadAs};
+ghost use Rattle.api.specs.Requests.{put_by, opening_asks, by_body, by_method, asked_by, takes_memory, asked_takes_memory, IsReadAs};
 
-use crate::members::{choices_of, name_of, project_members, read_json, supervisor_members};
+use crate::members::{aim_of, choices_of, name_of, project_members, read_json, supervisor_members};
 use crate::routes::{Call, Form, Methods, Place, Put, called, place_of, router};
 use http::Method;
 use matchit::Router;
 use rolls::{Bytes, ImportKind, Plain, Refusal, Request, Text};
 use serde_json::Value;
+use spa::Aim;
 use std::alloc::{AllocError, Global};
 use std::str;
 
@@ -83,6 +84,22 @@ fn empty_asks(alloc: Global, call: Call, code: &str, body: &[u8]) -> Result<Requ
     }
 }
 
+/// The round that a body opens: by its member, or, where it is empty, a greedy one.
+fn opening_asks(alloc: Global, body: &[u8]) -> Result<Plain, Refusal>
+    ensures ok { IfOk result (λ plain. opening_asks body.now ≡ Ok (Request.Plain plain)) }
+    ensures err { IfErr result (λ refusal. (opening_asks body.now ≡ Err refusal)
+        ⊎ (IsTrue (takes_memory Form.Opens body.now) × (refusal ≡ Refusal.Memory))) }
+{
+    if body.is_empty() {
+        return Ok(Plain::OpenRound { aim: Aim::Greedy });
+    }
+    let value = read_json(alloc, body)?;
+    match aim_of(&value) {
+        None => Err(Refusal::Members),
+        Some(aim) => Ok(Plain::OpenRound { aim }),
+    }
+}
+
 /// The import that a body is the text of.
 fn import_asks(
     alloc: Global,
@@ -108,6 +125,10 @@ fn by_body(alloc: Global, form: Form, code: &str, body: &[u8]) -> Result<Request
     match form {
         Form::Empty(call) => empty_asks(alloc, call, code, body),
         Form::Members(what) => match object_asks(alloc, what, code, body) {
+            Ok(plain) => Ok(Request::Plain(plain)),
+            Err(refusal) => Err(refusal),
+        },
+        Form::Opens => match opening_asks(alloc, body) {
             Ok(plain) => Ok(Request::Plain(plain)),
             Err(refusal) => Err(refusal),
         },

@@ -1,7 +1,7 @@
 //! What the paths of messages name.
 ghost use Rattle.std.specs.Prelude.{◌≡◌, ℕ, List, [], ◌∷◌, MatchOption, IfOk, IfErr, OnErr, IsTrue, map, codes};
 ghost use Rattle.std.specs.Str.{all_ascii_digits};
-ghost use Rattle.api.specs.Routes.{called, number_of, fits, read, asked, entry, list, numbered, import, all_routes, IsNowhere};
+ghost use Rattle.api.specs.Routes.{called, number_of, fits, read, asked, opens, entry, list, numbered, import, all_routes, IsNowhere};
 ghost use Rattle.api.specs.Requests.{keeps_code};
 ghost use Rattle.api.specs.Inside.Routes.{written, NamesBy};
 
@@ -16,7 +16,6 @@ pub enum Call {
     GetProject,
     GetStudent,
     DropList,
-    OpenRound,
     Close,
     ReopenRound,
     GetRound,
@@ -41,6 +40,8 @@ pub enum Form {
     Empty(Call),
     /// A body of members.
     Members(Put),
+    /// A body of the member `aim`, or an empty one, by which a round is opened.
+    Opens,
     /// The text of an import, whatever it is.
     Raw(ImportKind),
 }
@@ -112,7 +113,6 @@ pub fn called(alloc: Global, call: Call, code: &str) -> Result<Request, AllocErr
         Call::DropList => Request::Plain(Plain::DropList {
             student: Text::of(alloc, code)?,
         }),
-        Call::OpenRound => Request::Plain(Plain::OpenRound),
         Call::Close => Request::Close,
         Call::ReopenRound => Request::Plain(Plain::ReopenRound),
         Call::GetRound => Request::Plain(Plain::GetRound {
@@ -162,6 +162,16 @@ fn asked(call: Call) -> Methods
 {
     Methods {
         post: Some(Form::Empty(call)),
+        ..NOTHING
+    }
+}
+
+/// A round is opened.
+fn opens() -> Methods
+    ensures { result ≡ opens }
+{
+    Methods {
+        post: Some(Form::Opens),
         ..NOTHING
     }
 }
@@ -244,7 +254,7 @@ fn routes() -> [(&'static str, Methods); ROUTES]
         ("/rounds/close", asked(Call::Close)),
         ("/rounds/reopen", asked(Call::ReopenRound)),
         ("/rounds/{code}", numbered(Call::GetRound)),
-        ("/rounds", asked(Call::OpenRound)),
+        ("/rounds", opens()),
         ("/roundtext", read(Call::RoundText)),
         ("/students/{code}", entry(Put::Student, Call::GetStudent)),
         (

@@ -14,7 +14,7 @@ use arrayvec::ArrayVec;
 use http::StatusCode;
 use rolls::{Choices, Placement, Refusal, Reply};
 use serde_json::{Value, json};
-use spa::RANKS;
+use spa::{Aim, RANKS};
 use std::alloc::{AllocError, Global};
 use wire::{Answer, ShortText};
 
@@ -109,30 +109,33 @@ fn preview_body(size: u32, profile: &[u32; RANKS]) -> ShortText
     out
 }
 
-/// Where the body of a round begins.
+/// Where the body of a round goes on after its aim.
 fn round_start(is_open: bool) -> &'static [u8]
-    ensures text { result.now ≡ codes "{\"open\":" ++ truth_text is_open ++ codes ",\"placed\":" }
-    ensures len { length result.now ≤ 24 }
+    ensures text { result.now ≡ codes "\",\"open\":" ++ truth_text is_open ++ codes ",\"placed\":" }
+    ensures len { length result.now ≤ 25 }
 {
     if is_open {
-        b"{\"open\":true,\"placed\":"
+        b"\",\"open\":true,\"placed\":"
     } else {
-        b"{\"open\":false,\"placed\":"
+        b"\",\"open\":false,\"placed\":"
     }
 }
 
 /// The body of a round.
 fn round_body(
     number: u32,
+    aim: Aim,
     is_open: bool,
     placed: u32,
     profile: &[u32; RANKS],
     students: u32,
 ) -> ShortText
-    ensures items { result.items ≡ round_text number is_open placed profile.now students }
+    ensures items { result.items ≡ round_text number aim is_open placed profile.now students }
     ensures len { array_vec_len result ≤ MOST_SHORT_BODY }
 {
     let mut out = ArrayVec::new();
+    push(&mut out, b"{\"aim\":\"");
+    push(&mut out, aim.word().as_bytes());
     push_labelled(&mut out, round_start(is_open), placed);
     push(&mut out, b",\"profile\":[");
     push_numbers(&mut out, profile);
@@ -302,12 +305,13 @@ fn reply_answer(alloc: Global, reply: &Reply) -> Result<Answer, AllocError>
         },
         Reply::Round {
             number,
+            aim,
             is_open,
             placed,
             profile,
             students,
         } => {
-            let body = round_body(*number, *is_open, *placed, profile, *students);
+            let body = round_body(*number, *aim, *is_open, *placed, profile, *students);
             Ok(Answer::Short(round_answer(&body)))
         }
         Reply::Closed {

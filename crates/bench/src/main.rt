@@ -21,7 +21,7 @@
 use cli::start;
 use desk::Desk;
 use rolls::{Bytes, ImportKind, MOST_IMPORT_BYTES, MOST_IMPORTS, Plain, Request, Text, Texts};
-use spa::{MOST_PLACES, MOST_PROJECTS, MOST_STUDENTS, MOST_SUPERVISORS, RANKS};
+use spa::{Aim, MOST_PLACES, MOST_PROJECTS, MOST_STUDENTS, MOST_SUPERVISORS, RANKS};
 use sqlite::{Alter, Connection};
 use std::alloc::{AllocError, Global};
 use std::process::ExitCode;
@@ -122,7 +122,7 @@ fn request(alloc: Global, step: Step) -> Result<Request, AllocError> {
         Step::Supervisor(n) => Ok(Request::Plain(supervisor(alloc, n)?)),
         Step::Project(n, quota) => Ok(Request::Plain(project(alloc, n, quota)?)),
         Step::Student(n) => Ok(Request::Plain(student(alloc, n)?)),
-        Step::OpenRound => Ok(Request::Plain(Plain::OpenRound)),
+        Step::OpenRound => Ok(Request::Plain(Plain::OpenRound { aim: Aim::Greedy })),
         Step::List { student, chosen_by } => Ok(Request::Plain(list(alloc, student, chosen_by)?)),
         Step::Close => Ok(Request::Close),
         Step::Reopen => Ok(Request::Plain(Plain::ReopenRound)),

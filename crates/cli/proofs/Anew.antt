@@ -15,13 +15,18 @@ use Rattle.web.specs.Serving.{AnswersMessage, AtDesk, at_desk, end_text, just_op
 use Rattle.cli.specs.Anew.{ServedAnew, BrokenAnew}
 use Rattle.cli.proofs.Opened.{no_sitting}
 
--- a database that lists no table stands for no office, so it is opened as the empty one
+-- where no table is listed the edition's is not
+unlisted : (old : Database) (at : ℕ) → old.schema ≡ record { tables = []; indexes = []; views = [] } → table_named old.schema (shape_of Edition).name ≡ Some at → ⊥
+unlisted old at none named =
+    let never : table_named old.schema (shape_of Edition).name ≡ None = ap (λ (s : Schema). table_named s (shape_of Edition).name) none in
+    let e : Some at ≡ None = sym named ∙ never in
+    cc
+
+-- a database that lists no table stands for no office in any edition, so it is opened as the empty one
 opened_empty : (old new : Database) (office : State) → old.schema ≡ record { tables = []; indexes = []; views = [] } → Opens old new office → office ≡ empty
 opened_empty old new office none (inl made) = made.1
-opened_empty old new office none (inr found) =
-    let named : table_named old.schema (shape_of Edition).name ≡ Some found.1.editions.listed.at = found.1.editions.listed.named in
-    let never : table_named old.schema (shape_of Edition).name ≡ None = ap (λ (s : Schema). table_named s (shape_of Edition).name) none in
-    absurd (let e : Some found.1.editions.listed.at ≡ None = sym named ∙ never in cc)
+opened_empty old new office none (inr (inl found)) = absurd (unlisted old found.1.editions.listed.at none found.1.editions.listed.named)
+opened_empty old new office none (inr (inr raised)) = absurd (unlisted old raised.stood.holds.editions.listed.at none raised.stood.holds.editions.listed.named)
 
 -- a desk that was opened of it has the empty office, and no session
 pub opened_anew : {S : Type 0} (old new : Database) (desk : Kept S) → old.schema ≡ record { tables = []; indexes = []; views = [] } → Opens old new desk.office → desk.session ≡ None

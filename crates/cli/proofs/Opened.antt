@@ -11,6 +11,8 @@ use Rattle.solver.specs.Sitting.{Sitting}
 use Rattle.tables.specs.Causes.{IsStopped}
 use Rattle.store.specs.Causes.{IsHinderedOpening}
 use Rattle.store.specs.Reading.{IsDamaged}
+use Rattle.store.specs.Editions.{latest}
+use Rattle.store.proofs.Standing.{in_latest}
 use Rattle.store.specs.Tables.{HasNone, Opens}
 use Rattle.desk.specs.Kept.{Kept}
 use Rattle.desk.specs.Keeping.{Keeps}
@@ -24,7 +26,8 @@ use Rattle.cli.proofs.Writers.{TellsOf, Took, refused_ends}
 -- what was opened is the office of the database before
 of_opened : (old new : Database) (office : State) → Opens old new office → IsOfficeOf old office
 of_opened old new office (inl made) = inl (made.0, made.1)
-of_opened old new office (inr found) = inr found.1
+of_opened old new office (inr (inl found)) = inr (latest, in_latest found.1)
+of_opened old new office (inr (inr raised)) = inr (raised.edition, raised.stood)
 
 -- a disk that is clean behind the task was clean when the office was opened
 found_for : (done : Task) (before opened after : Seen) (office : State) → WasClean done opened after → (HasCleanDisk opened → Opens before.now opened.now office) → IsFoundFor done before after office

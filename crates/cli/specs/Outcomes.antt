@@ -157,7 +157,7 @@ ImportsFile id kind o = IsUnread o ⊎ ((bytes : List ℕ) × Imports id kind by
 abbrev pub MayCome : Line → Outcome → Type 0
 MayCome (line.Serve database port count) o = MayDo (task.Serve (record { port = port; count = count })) o
 MayCome (line.Import database kind id file) o = ImportsFile (string_bytes id) kind o
-MayCome (line.OpenRound database) o = MayDo (task.Ask (request.Plain plain.OpenRound)) o
+MayCome (line.OpenRound database aim) o = MayDo (task.Ask (request.Plain (plain.OpenRound aim))) o
 MayCome (line.ReopenRound database) o = MayDo (task.Ask (request.Plain plain.ReopenRound)) o
 MayCome (line.CloseRound database) o = MayDo (task.Ask request.Close) o
 MayCome (line.Report database kind round) o = MayDo (task.Ask (request.Report kind round)) o

@@ -36,8 +36,8 @@ fn do_line<O: Sink, E: Sink>(rt: &HostRuntime, line: Line, outputs: &mut Outputs
             id,
             file,
         } => ask_made(rt, &database, import_file(rt, kind, &id, &file), outputs),
-        Line::OpenRound(database) => {
-            let asked = Request::Plain(Plain::OpenRound);
+        Line::OpenRound { database, aim } => {
+            let asked = Request::Plain(Plain::OpenRound { aim });
             do_on(rt, &database, Task::Ask(asked), outputs)
         }
         Line::ReopenRound(database) => {

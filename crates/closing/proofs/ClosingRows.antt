@@ -88,6 +88,7 @@ module _ (M : List CodePair) (o : State) (fit : IsFit o) (may : MayClose o M) wh
   closed_at (key.Supervisor code) = others_stay (map (kept o) M) round_put (key.Supervisor code) (λ s. refl)
   closed_at (key.Project code) = others_stay (map (kept o) M) round_put (key.Project code) (λ s. refl)
   closed_at (key.Student code) = others_stay (map (kept o) M) round_put (key.Student code) (λ s. refl)
+  closed_at (key.RoundAim n) = others_stay (map (kept o) M) round_put (key.RoundAim n) (λ s. refl)
   closed_at (key.Import id) = others_stay (map (kept o) M) round_put (key.Import id) (λ s. refl)
   closed_at (key.Round n) = others_stay (map (kept o) M) round_put (key.Round n) (λ s. refl) ∙ round_turned n
   closed_at (key.Choice round student place) =

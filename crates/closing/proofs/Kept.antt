@@ -18,7 +18,7 @@ use Rattle.rolls.specs.Instances.{round_instance}
 use Rattle.rolls.specs.Fit.{IsFit, ListFits, PlacementFits}
 use Rattle.rolls.specs.Closing.{MayClose, kept, after_close}
 use Rattle.rolls.proofs.EntryChange.{all_weaker}
-use Rattle.rolls.proofs.LastRound.{has_reading, closed_before, round_within, last_kept, numbered_kept, last_open_kept, other_kept, reading_kept, reading_changed, same_lists}
+use Rattle.rolls.proofs.LastRound.{has_reading, closed_before, round_within, aimed_kept, last_kept, numbered_kept, last_open_kept, other_kept, reading_kept, reading_changed, same_lists}
 use Rattle.closing.proofs.Entries.{all_made, all_always, count_made, count_fewer}
 use Rattle.closing.proofs.ManyPuts.{rises_put_all, all_put_all, found_put_all, count_put_all}
 use Rattle.closing.proofs.OpenRound.{places_left, places_with_left, same_offerer, same_choices}
@@ -137,6 +137,7 @@ module _ (M : List CodePair) (o : State) (fit : IsFit o) where
       projects = fit.projects;
       students = fit.students;
       numbered = numbered_kept closed_round (λ r. refl) o fit.numbered;
+      aimed = aimed_kept closed_round (λ r. refl) o fit.numbered fit.aimed;
       few_rounds = omega (arith, last_kept closed_round (λ r. refl) o fit.numbered, fit.few_rounds);
       last_open = last_open_kept closed_round (λ r. refl) o fit.numbered fit.last_open;
       lists_rise = λ n. subst (λ (ls : List Listed). rises list_key ls ≡ true) (sym (lists_same n)) (fit.lists_rise n);

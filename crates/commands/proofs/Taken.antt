@@ -15,7 +15,7 @@ use Rattle.clap.specs.Simple.{App, Shape, entered, label_of, names_of, rows_at}
 use Rattle.clap.specs.Takes.{is_given, value_passes}
 use Rattle.clap.specs.Values.{refused_kind}
 use Rattle.clap.specs.Walk.{Held, Names, Outcome, Row, Rule, Step, Text, Waiting, Walk, action_of, after_flag, after_step, answers_to, arg_by_id, arg_by_index, arg_by_long, arg_by_short, bundle_met, bundle_step, default_rows, done, finished, first_of, has_long, has_row, has_short, idle, is_multiple, is_pending, long_or_other, long_word, more_values, next, nothing_held, option, plain, plain_word, positional, reading_by, refused, rows_after, settled, settled_rows, short_or_plain, subcommand, subcommand_met, subcommand_or_other, takes_several, takes_values, to_positional, trailing, used, used_as, used_by_id, value, values_or_missing, waits, walk, walk_from, walked, walked_from, with_default, with_values, without, word_met}
-use Rattle.commands.specs.Reading.{Each}
+use Rattle.commands.specs.Reading.{Each, HasOne}
 use Rattle.clap.specs.declared.builder.action.ArgAction.{ArgAction}
 use Rattle.clap.specs.declared.builder.action.ArgAction.TheVariants.{Set, Help}
 use Rattle.clap.specs.declared.builder.range.ValueRange.{ValueRange}
@@ -352,14 +352,30 @@ given_value c a id rows known each e = go (find (λ (r : Row). bytes_eq r.id id)
         let here : arg_by_id c r.id ≡ Some a = subst (λ (t : Text). arg_by_id c t ≡ Some a) (sym ((bytes_eq-Decides r.id id).0 at.1)) known in
         first r.values (subst (λ (o : Option Rule). IfSome o (λ b. Passes b r.values)) here at.0)
 
--- a required argument has a value that passes the parser of its id
-abbrev pub HasValue : Shape → List Row → Rule → Type 0
-HasValue s rows a = a.required ≡ true → (b : Rule) → arg_by_id s.rules a.id ≡ Some b → IsSomeAnd (first_of a.id rows) (λ v. value_passes b v ≡ true)
+-- the same of one that need not be given
+value_sound : (c : List Rule) (a : Rule) (id : Text) (rows : List Row) → arg_by_id c id ≡ Some a → Each (IsSound c) rows → IfSome (first_of id rows) (λ v. value_passes a v ≡ true)
+value_sound c a id rows known each = go (find (λ (r : Row). bytes_eq r.id id) rows) refl
+  where
+    first : (vs : List Text) → Passes a vs → IfSome (slice_get vs 0) (λ v. value_passes a v ≡ true)
+    first [] h = tt
+    first (v ∷ vs) h = h
 
-was_given : (b : Bool) (g : Bool) → (b && not g) ≡ false → b ≡ true → g ≡ true
-was_given true true h e = refl
-was_given true false h e = cc
-was_given false g h e = cc
+    go : (o : Option Row) → find (λ (r : Row). bytes_eq r.id id) rows ≡ o → IfSome (option_and_then (λ (r : Row). slice_get r.values 0) o) (λ v. value_passes a v ≡ true)
+    go None is = tt
+    go (Some r) is =
+        let at = found_at (IsSound c) (λ (x : Row). bytes_eq x.id id) rows r each is in
+        let here : arg_by_id c r.id ≡ Some a = subst (λ (t : Text). arg_by_id c t ≡ Some a) (sym ((bytes_eq-Decides r.id id).0 at.1)) known in
+        first r.values (subst (λ (o : Option Rule). IfSome o (λ b. Passes b r.values)) here at.0)
+
+-- an argument has a value that passes the parser of its id, or, where none is required, none
+abbrev pub HasValue : Shape → List Row → Rule → Type 0
+HasValue s rows a = (b : Rule) → arg_by_id s.rules a.id ≡ Some b → HasOne a.required (first_of a.id rows) (λ v. value_passes b v ≡ true)
+
+-- a value that is required is given, and any that is given passes
+one_if_required : (b g : Bool) (o : Option Text) (P : Text → Type 0) → (b && not g) ≡ false → (g ≡ true → IsSomeAnd o P) → IfSome o P → HasOne b o P
+one_if_required true true o P h has may = has refl
+one_if_required true false o P h has may = absurd (let e : true ≡ false = h in cc)
+one_if_required false g o P h has may = may
 
 -- words of a line without a fault
 pub line_values : (s : Shape) (words : List Text) → Each Plain s.rules → Each (λ a. a.defaults ≡ []) s.rules → level_fault s [] nothing_held words false [] ≡ []
@@ -374,7 +390,8 @@ line_values s words simple none e =
     let ends : Each (IsSound s.rules) (finished s.rules end) = subst (λ (rows : List Row). Each (IsSound s.rules) rows) (sym (no_defaults s.rules (settled s.rules end).rows none)) sound in
     let given : list_any (λ (a : Rule). a.required && not (is_given a.id (finished s.rules end))) s.rules ≡ false = second_half s.subcommand_negates_reqs _ (none_wanted _ _ _ checked_well.1) in
     none_any (λ (a : Rule). a.required && not (is_given a.id (finished s.rules end))) (HasValue s (finished s.rules end))
-    (λ a h required b known. given_value s.rules b a.id (finished s.rules end) known ends (was_given a.required (is_given a.id (finished s.rules end)) h required)) s.rules given
+    (λ a h b known. one_if_required a.required (is_given a.id (finished s.rules end)) (first_of a.id (finished s.rules end)) (λ v. value_passes b v ≡ true) h
+    (given_value s.rules b a.id (finished s.rules end) known ends) (value_sound s.rules b a.id (finished s.rules end) known ends)) s.rules given
 
 -- ---- the subcommand
 

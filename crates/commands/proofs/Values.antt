@@ -5,6 +5,7 @@ use Rattle.std.specs.Borrow.{Bor}
 use Rattle.std.specs.List.{list_any}
 use Rattle.std.specs.Str.{bytes_eq}
 use Rattle.std.proofs.lemmas.Slice.Eq.{bytes_eq-Decides}
+use Rattle.spa.specs.Aims.{aims, aim_word}
 use Rattle.rolls.specs.Kinds.{word_of}
 use Rattle.clap.proofs.WalkLemmas.{list_any-map}
 use Rattle.clap.specs.Faults.{level_fault}
@@ -14,11 +15,11 @@ use Rattle.clap.specs.Walk.{arg_by_id, nothing_held, rows_after}
 use Rattle.clap.specs.Words.{Row, Rule, Text, fault_of, subcommand_of}
 use Rattle.commands.specs.Kinds.{import_kinds, report_kinds, report_word}
 use Rattle.commands.specs.Program.{AreWords, parser_of, program, rule_by}
-use Rattle.commands.specs.Reading.{AreGiven, Each, IsGiven, fits, word_in}
-use Rattle.commands.specs.Table.{Argument, count, database, file, id, import_kind, port, report_kind, round}
+use Rattle.commands.specs.Reading.{AreGiven, Each, HasOne, IsGiven, fits, word_in}
+use Rattle.commands.specs.Table.{Argument, aim, count, database, file, id, import_kind, port, report_kind, round}
 use Rattle.commands.specs.declared.program.Kinds.{Kinds}
 use Rattle.commands.specs.declared.table.Takes.{Takes}
-use Rattle.commands.specs.declared.table.Takes.TheVariants.{Word, Number, ImportKind, ReportKind}
+use Rattle.commands.specs.declared.table.Takes.TheVariants.{Word, Number, ImportKind, ReportKind, Aim}
 use Rattle.commands.proofs.Taken.{HasValue, IsHelp, IsValue, Plain, app_values, line_values}
 
 same_words : {K : Type 0} (word_by : K → Text) (kinds : List K) (names : List (Bor Text)) (word : Text) → map (λ n. n.now) names ≡ map word_by kinds
@@ -32,10 +33,13 @@ fits_by kinds are Word word h = refl
 fits_by kinds are (Number least most) word h = h
 fits_by kinds are ImportKind word h = sym (same_words word_of import_kinds kinds.imports.now word are.imports) ∙ h
 fits_by kinds are ReportKind word h = sym (same_words report_word report_kinds kinds.reports.now word are.reports) ∙ h
+fits_by kinds are Aim word h = sym (same_words aim_word aims kinds.aims.now word are.aims) ∙ h
 
-some_and : {X : Type 0} (o : Option X) (P Q : X → Type 0) → ((x : X) → P x → Q x) → IsSomeAnd o P → IsSomeAnd o Q
-some_and None P Q f h = h
-some_and (Some x) P Q f h = f x h
+one_by : (b : Bool) (o : Option Text) (P Q : Text → Type 0) → ((x : Text) → P x → Q x) → HasOne b o P → HasOne b o Q
+one_by true None P Q f h = h
+one_by true (Some x) P Q f h = f x h
+one_by false None P Q f h = h
+one_by false (Some x) P Q f h = f x h
 
 -- an argument's rule, at its place
 abbrev rule_at : Kinds → ℕ → Argument → Rule
@@ -50,9 +54,9 @@ is_help i = record { action = refl; range = refl }
 pub given_by : (kinds : Kinds) → AreWords kinds → (s : Shape) (rows : List Row) (i : ℕ) (argument : Argument) → HasValue s rows (rule_at kinds i argument)
     → arg_by_id s.rules argument.name ≡ Some (rule_at kinds i argument) → IsGiven rows argument
 given_by kinds are s rows i argument has known =
-    some_and (word_in rows argument) _ (λ (word : Text). fits argument.takes word ≡ true) (λ word pass. fits_by kinds are argument.takes word pass) (has refl (rule_at kinds i argument) known)
+    one_by argument.needed (word_in rows argument) _ (λ (word : Text). fits argument.takes word ≡ true) (λ word pass. fits_by kinds are argument.takes word pass) (has (rule_at kinds i argument) known)
 
--- the rules of a line with one, three or four arguments
+-- the rules of a line with one to four arguments
 one_leaf : (kinds : Kinds) → AreWords kinds → (s : Shape) (a : Argument) → s.rules ≡ rule_at kinds 1 a ∷ with_index 2 (filled help_rule) ∷ []
     → arg_by_id s.rules a.name ≡ Some (rule_at kinds 1 a) → (words : List Text) → level_fault s [] nothing_held words false [] ≡ [] → Each (IsGiven (rows_after s.rules [] words)) (a ∷ [])
 one_leaf kinds are s a is known words e =
@@ -60,6 +64,16 @@ one_leaf kinds are s a is known words e =
     let none : Each (λ (b : Rule). b.defaults ≡ []) s.rules = subst (λ (r : List Rule). Each (λ (b : Rule). b.defaults ≡ []) r) (sym is) (refl, (refl, tt)) in
     let has = subst (λ (r : List Rule). Each (HasValue s (rows_after s.rules [] words)) r) is (line_values s words simple none e) in
     (given_by kinds are s (rows_after s.rules [] words) 1 a has.0 known, tt)
+
+two_leaf : (kinds : Kinds) → AreWords kinds → (s : Shape) (a b : Argument) → s.rules ≡ rule_at kinds 1 a ∷ rule_at kinds 2 b ∷ with_index 3 (filled help_rule) ∷ []
+    → arg_by_id s.rules a.name ≡ Some (rule_at kinds 1 a) → arg_by_id s.rules b.name ≡ Some (rule_at kinds 2 b)
+    → (words : List Text) → level_fault s [] nothing_held words false [] ≡ [] → Each (IsGiven (rows_after s.rules [] words)) (a ∷ b ∷ [])
+two_leaf kinds are s a b is one two words e =
+    let simple : Each Plain s.rules = subst (λ (r : List Rule). Each Plain r) (sym is) (inl (is_value kinds 1 a), (inl (is_value kinds 2 b), (inr (is_help 3), tt))) in
+    let none : Each (λ (d : Rule). d.defaults ≡ []) s.rules = subst (λ (r : List Rule). Each (λ (d : Rule). d.defaults ≡ []) r) (sym is) (refl, (refl, (refl, tt))) in
+    let rows : List Row = rows_after s.rules [] words in
+    let has = subst (λ (r : List Rule). Each (HasValue s (rows_after s.rules [] words)) r) is (line_values s words simple none e) in
+    (given_by kinds are s rows 1 a has.0 one, (given_by kinds are s rows 2 b has.1.0 two, tt))
 
 three_leaf : (kinds : Kinds) → AreWords kinds → (s : Shape) (a b c : Argument) → s.rules ≡ rule_at kinds 1 a ∷ rule_at kinds 2 b ∷ rule_at kinds 3 c ∷ with_index 4 (filled help_rule) ∷ []
     → arg_by_id s.rules a.name ≡ Some (rule_at kinds 1 a) → arg_by_id s.rules b.name ≡ Some (rule_at kinds 2 b) → arg_by_id s.rules c.name ≡ Some (rule_at kinds 3 c)
@@ -96,7 +110,7 @@ values_given kinds are words e =
       (
         (λ word at other ws f. four_leaf kinds are _ database import_kind id file refl refl refl refl refl ws f),
         (
-          (λ word at other ws f. one_leaf kinds are _ database refl refl ws f),
+          (λ word at other ws f. two_leaf kinds are _ database aim refl refl refl ws f),
           (
             (λ word at other ws f. one_leaf kinds are _ database refl refl ws f),
             (

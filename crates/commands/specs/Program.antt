@@ -1,5 +1,6 @@
 -- The command by which `clap` reads the words.
 use Rattle.std.specs.Prelude.{◌≡◌, Some, codes, fold, map, true}
+use Rattle.spa.specs.Aims.{aims, aim_word}
 use Rattle.rolls.specs.Kinds.{word_of}
 use Rattle.clap.specs.Words.{App, Rule, new_app, new_rule, with_rule, with_subcommand}
 use Rattle.clap.specs.declared.builder.value_parser.ValueParser.{ValueParser}
@@ -8,12 +9,13 @@ use Rattle.commands.specs.Kinds.{import_kinds, report_kinds, report_word}
 use Rattle.commands.specs.Table.{Argument, Told, lines}
 use Rattle.commands.specs.declared.program.Kinds.{Kinds}
 use Rattle.commands.specs.declared.table.Takes.{Takes}
-use Rattle.commands.specs.declared.table.Takes.TheVariants.{Word, Number, ImportKind, ReportKind}
+use Rattle.commands.specs.declared.table.Takes.TheVariants.{Word, Number, ImportKind, ReportKind, Aim}
 
 -- the words that are lent to `clap` are those of the kinds
 pub record AreWords (kinds : Kinds) : Type 0 where
   pub imports : map (λ w. w.now) kinds.imports.now ≡ map word_of import_kinds
   pub reports : map (λ w. w.now) kinds.reports.now ≡ map report_word report_kinds
+  pub aims : map (λ w. w.now) kinds.aims.now ≡ map aim_word aims
 
 -- what is asked of a word
 abbrev pub parser_of : Kinds → Takes → ValueParser
@@ -21,10 +23,11 @@ parser_of kinds Word = String
 parser_of kinds (Number least most) = Unsigned least most
 parser_of kinds ImportKind = Names kinds.imports
 parser_of kinds ReportKind = Names kinds.reports
+parser_of kinds Aim = Names kinds.aims
 
--- an argument that must be given
+-- an argument
 abbrev pub rule_by : Kinds → Argument → Rule
-rule_by kinds argument = record (new_rule argument.name) { parser = Some (parser_of kinds argument.takes); required = true }
+rule_by kinds argument = record (new_rule argument.name) { parser = Some (parser_of kinds argument.takes); required = argument.needed }
 
 -- a command with one more argument
 abbrev pub with_argument : Kinds → App → Argument → App

@@ -1,8 +1,11 @@
 -- The line that words stand for, and the faults of words that are none.
-use Rattle.std.specs.Prelude.{◌≡◌, ◌≢◌, ℕ, Bool, List, [], ◌∷◌, Option, Some, Result, IfErr, IfOk, IsSomeAnd, codes, find, option_map, string_bytes, true}
+use Rattle.std.specs.Prelude.{◌≡◌, ◌≢◌, ℕ, Bool, false, List, [], ◌∷◌, Option, None, Some, Result, IfErr, IfOk, IfSome, IsSomeAnd, codes, find, option_map, string_bytes, true}
 use Rattle.std.specs.List.{list_any}
 use Rattle.std.specs.Str.{bytes_eq}
 use Rattle.std.specs.Str.Parse.{digits_value, without_leading_plus}
+use Rattle.spa.specs.Aims.{aims, aim_word}
+use Rattle.spa.specs.declared.aim.Aim.{Aim as AnAim}
+use Rattle.spa.specs.declared.aim.Aim.TheVariants.{Greedy}
 use Rattle.rolls.specs.Kinds.{word_of}
 use Rattle.clap.specs.Words.{App, IsAmong, Row, Text, fault_of, first_of, subcommand_of, takes}
 use Rattle.clap.specs.Words.{Kinds as ErrorKinds}
@@ -11,14 +14,14 @@ use Rattle.clap.specs.declared.error.kind.ErrorKind.TheVariants.{DisplayHelp}
 use Rattle.clap.specs.ValueTests.{is_unsigned_in}
 use Rattle.commands.specs.Kinds.{import_kinds, report_kinds, report_word}
 use Rattle.commands.specs.Program.{AreWords, program}
-use Rattle.commands.specs.Table.{Argument, count, database, file, id, import_kind, lines, port, report_kind, round}
+use Rattle.commands.specs.Table.{Argument, aim, count, database, file, id, import_kind, lines, port, report_kind, round}
 use Rattle.commands.specs.declared.line.Line.{Line}
 use Rattle.commands.specs.declared.line.Line.TheVariants.{Serve, Import, OpenRound, ReopenRound, CloseRound, Report, Solve, Check}
 use Rattle.commands.specs.declared.line.LineFault.{LineFault}
 use Rattle.commands.specs.declared.line.LineFault.TheVariants.{Memory, Help, Fault}
 use Rattle.commands.specs.declared.program.Kinds.{Kinds}
 use Rattle.commands.specs.declared.table.Takes.{Takes}
-use Rattle.commands.specs.declared.table.Takes.TheVariants.{Word, Number, ImportKind, ReportKind}
+use Rattle.commands.specs.declared.table.Takes.TheVariants.{Word, Number, ImportKind, ReportKind, Aim}
 
 -- the word that was read for an argument
 abbrev pub word_in : List Row → Argument → Option Text
@@ -35,10 +38,21 @@ fits Word word = true
 fits (Number least most) word = is_unsigned_in least most word
 fits ImportKind word = list_any (λ kind. bytes_eq (word_of kind) word) import_kinds
 fits ReportKind word = list_any (λ kind. bytes_eq (report_word kind) word) report_kinds
+fits Aim word = list_any (λ a. bytes_eq (aim_word a) word) aims
 
--- a word was read for the argument, and may stand for it
+-- there is one that passes, or, where none is needed, none
+abbrev pub HasOne : Bool → Option Text → (Text → Type 0) → Type 0
+HasOne true o P = IsSomeAnd o P
+HasOne false o P = IfSome o P
+
+-- a word was read for the argument that may stand for it, or, where none is needed, none
 abbrev pub IsGiven : List Row → Argument → Type 0
-IsGiven rows argument = IsSomeAnd (word_in rows argument) (λ word. fits argument.takes word ≡ true)
+IsGiven rows argument = HasOne argument.needed (word_in rows argument) (λ word. fits argument.takes word ≡ true)
+
+-- the aim of this word; without one it is greedy
+abbrev pub IsAimOf : Option Text → AnAim → Type 0
+IsAimOf None a = a ≡ Greedy
+IsAimOf (Some word) a = word ≡ aim_word a
 
 -- there is a line of this name, and each of its arguments is given
 abbrev pub AreGiven : Text → List Row → Type 0
@@ -58,7 +72,7 @@ IsLineOf name rows (Serve d p c) = (name ≡ codes "serve") × (word_in rows dat
 IsLineOf name rows (Import d k i f) =
     (name ≡ codes "import") × (word_in rows database ≡ Some (string_bytes d)) × (word_in rows import_kind ≡ Some (word_of k))
     × (word_in rows id ≡ Some (string_bytes i)) × (word_in rows file ≡ Some (string_bytes f))
-IsLineOf name rows (OpenRound d) = (name ≡ codes "open-round") × (word_in rows database ≡ Some (string_bytes d))
+IsLineOf name rows (OpenRound d a) = (name ≡ codes "open-round") × (word_in rows database ≡ Some (string_bytes d)) × IsAimOf (word_in rows aim) a
 IsLineOf name rows (ReopenRound d) = (name ≡ codes "reopen-round") × (word_in rows database ≡ Some (string_bytes d))
 IsLineOf name rows (CloseRound d) = (name ≡ codes "close-round") × (word_in rows database ≡ Some (string_bytes d))
 IsLineOf name rows (Report d k n) = (name ≡ codes "report") × (word_in rows database ≡ Some (string_bytes d)) × (word_in rows report_kind ≡ Some (report_word k)) × (number_in rows round ≡ Some n)

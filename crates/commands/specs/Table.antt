@@ -1,13 +1,18 @@
 -- The lines of the program, each told once.
-use Rattle.std.specs.Prelude.{List, [], ◌∷◌, codes}
+use Rattle.std.specs.Prelude.{Bool, true, false, List, [], ◌∷◌, codes}
 use Rattle.clap.specs.Words.{Text}
 use Rattle.commands.specs.declared.table.Takes.{Takes}
-use Rattle.commands.specs.declared.table.Takes.TheVariants.{Word, Number, ImportKind, ReportKind}
+use Rattle.commands.specs.declared.table.Takes.TheVariants.{Word, Number, ImportKind, ReportKind, Aim}
 
--- an argument, which must be given: its name, and what its word may be
+-- an argument: its name, what its word may be, and whether it must be given
 pub record Argument : Type 0 where
   pub name : Text
   pub takes : Takes
+  pub needed : Bool
+
+-- one that must be given
+abbrev pub needs : Text → Takes → Argument
+needs name takes = record { name = name; takes = takes; needed = true }
 
 -- a line: its name, and its arguments in order
 pub record Told : Type 0 where
@@ -16,35 +21,39 @@ pub record Told : Type 0 where
 
 -- the file of a database
 abbrev pub database : Argument
-database = record { name = codes "DATABASE"; takes = Word }
+database = needs (codes "DATABASE") Word
 
 -- a port
 abbrev pub port : Argument
-port = record { name = codes "PORT"; takes = Number 1 65535 }
+port = needs (codes "PORT") (Number 1 65535)
 
 -- how many connections are served
 abbrev pub count : Argument
-count = record { name = codes "COUNT"; takes = Number 1 1000000 }
+count = needs (codes "COUNT") (Number 1 1000000)
 
 -- a kind of imports
 abbrev pub import_kind : Argument
-import_kind = record { name = codes "KIND"; takes = ImportKind }
+import_kind = needs (codes "KIND") ImportKind
 
 -- the id of an import
 abbrev pub id : Argument
-id = record { name = codes "ID"; takes = Word }
+id = needs (codes "ID") Word
 
 -- a file that is read
 abbrev pub file : Argument
-file = record { name = codes "FILE"; takes = Word }
+file = needs (codes "FILE") Word
 
 -- a kind of reports
 abbrev pub report_kind : Argument
-report_kind = record { name = codes "KIND"; takes = ReportKind }
+report_kind = needs (codes "KIND") ReportKind
 
 -- the number of a round
 abbrev pub round : Argument
-round = record { name = codes "ROUND"; takes = Number 0 9999 }
+round = needs (codes "ROUND") (Number 0 9999)
+
+-- how an opened round is closed, which may be left out
+abbrev pub aim : Argument
+aim = record { name = codes "AIM"; takes = Aim; needed = false }
 
 -- a line of this name with these arguments
 abbrev pub told : Text → List Argument → Told
@@ -55,7 +64,7 @@ abbrev pub lines : List Told
 lines =
     told (codes "serve") (database ∷ port ∷ count ∷ [])
     ∷ told (codes "import") (database ∷ import_kind ∷ id ∷ file ∷ [])
-    ∷ told (codes "open-round") (database ∷ [])
+    ∷ told (codes "open-round") (database ∷ aim ∷ [])
     ∷ told (codes "reopen-round") (database ∷ [])
     ∷ told (codes "close-round") (database ∷ [])
     ∷ told (codes "report") (database ∷ report_kind ∷ round ∷ [])

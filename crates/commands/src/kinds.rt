@@ -2,10 +2,12 @@
 
 ghost use Rattle.std.specs.Prelude.{◌≡◌, IfSome, find, map};
 ghost use Rattle.std.specs.Str.{bytes_eq};
+ghost use Rattle.spa.specs.Aims.{aims, aim_word};
 ghost use Rattle.rolls.specs.Kinds.{word_of};
 ghost use Rattle.commands.specs.Kinds.{import_kinds, report_kinds, report_word};
 
 use rolls::{ImportKind, ReportKind};
+use spa::AIMS;
 
 /// The kinds of imports.
 const IMPORT_KINDS: [ImportKind; 4] = [
@@ -54,6 +56,14 @@ pub(crate) fn report_words() -> [&'static str; 4]
         report_word(third),
         report_word(fourth),
     ]
+}
+
+/// The words of the aims.
+pub(crate) fn aim_words() -> [&'static str; 2]
+    ensures { map (λ w. w.now) result ≡ map aim_word aims }
+{
+    let [first, second] = AIMS;
+    [first.word(), second.word()]
 }
 
 /// The kind of imports that has this word.

@@ -4,6 +4,7 @@ ghost use Rattle.std.specs.Prelude.{◌≡◌};
 ghost use Rattle.commands.specs.declared.line.LineFault.TheVariants.{Memory};
 
 use rolls::{ImportKind, ReportKind};
+use spa::Aim;
 use std::alloc::AllocError;
 
 /// A line of the program, with its values.
@@ -29,8 +30,13 @@ pub enum Line {
         /// The file with the records.
         file: String,
     },
-    /// Open the next round of this database.
-    OpenRound(String),
+    /// Open the next round of a database.
+    OpenRound {
+        /// The file of the database.
+        database: String,
+        /// By which aim the round is closed.
+        aim: Aim,
+    },
     /// Open the last round of this database again.
     ReopenRound(String),
     /// Close the open round of this database.
@@ -44,7 +50,7 @@ pub enum Line {
         /// The number of the round, 0 to 9,999. No round has the number 0.
         round: u32,
     },
-    /// Print the round of this file with a greedy maximum matching and prices.
+    /// Print the round of this file with a best matching and prices.
     Solve(String),
     /// Check the matching and the prices of the round of this file.
     Check(String),

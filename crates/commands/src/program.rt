@@ -16,6 +16,7 @@ use std::alloc::{AllocError, Global};
 pub(crate) struct Kinds<'a> {
     pub imports: &'a [&'a str],
     pub reports: &'a [&'a str],
+    pub aims: &'a [&'a str],
 }
 
 /// What `clap` asks of a word.
@@ -27,6 +28,7 @@ fn parser_of<'a>(kinds: Kinds<'a>, takes: Takes) -> ValueParser<'a>
         Takes::Number(least, most) => ValueParser::Unsigned(least, most),
         Takes::ImportKind => ValueParser::Names(kinds.imports),
         Takes::ReportKind => ValueParser::Names(kinds.reports),
+        Takes::Aim => ValueParser::Names(kinds.aims),
     }
 }
 
@@ -37,7 +39,7 @@ fn argument<'a>(alloc: Global, kinds: Kinds<'a>, told: &Argument) -> Arg<'a>
 {
     Arg::new(alloc, told.name)
         .help(told.help)
-        .required(true)
+        .required(told.needed)
         .value_parser(parser_of(kinds, told.takes))
 }
 

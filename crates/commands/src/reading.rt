@@ -1,38 +1,48 @@
 //! The line that words stand for.
 
-ghost use Rattle.std.specs.Prelude.{◌≡◌, ◌^◌, IfOk, IsSomeAnd, Some, codes, map, string_bytes, true};
+ghost use Rattle.std.specs.Prelude.{◌≡◌, ◌^◌, IfOk, IsSomeAnd, Some, codes, map, option_map, string_bytes, true};
 ghost use Rattle.rolls.specs.Kinds.{word_of};
 ghost use Rattle.clap.specs.Words.{found_of, kind_of, rows_of, subcommand_rows_of};
 ghost use Rattle.commands.specs.Kinds.{report_word};
 ghost use Rattle.commands.specs.Program.{AreWords};
-ghost use Rattle.commands.specs.Reading.{AreGiven, IsAnswer, IsGiven, IsLineOf, fits, number_in, word_in};
+ghost use Rattle.commands.specs.Reading.{AreGiven, IsAimOf, IsAnswer, IsGiven, IsLineOf, fits, number_in, word_in};
 ghost use Rattle.commands.specs.Inside.Reading.{IsNumberBelow, IsToldBy};
 ghost use Rattle.commands.specs.Table;
 ghost use Rattle.commands.specs.Inside.Table.{argument_by};
 
-use crate::kinds::{import_kind, import_words, report_kind, report_words};
+use crate::kinds::{aim_words, import_kind, import_words, report_kind, report_words};
 use crate::line::{Line, LineFault};
 use crate::program::{Kinds, program};
 use crate::table::Argument;
-use crate::table::given::{COUNT, DATABASE, FILE, ID, IMPORT_KIND, PORT, REPORT_KIND, ROUND};
+use crate::table::given::{AIM, COUNT, DATABASE, FILE, ID, IMPORT_KIND, PORT, REPORT_KIND, ROUND};
 use clap::error::ErrorKind;
 use clap::{ArgMatches, Error};
 use rolls::{ImportKind, ReportKind};
+use spa::Aim;
 use std::alloc::{AllocError, Global};
 use std::string::ToString;
 
-/// The word of an argument.
+/// The word of an argument, if it is given.
+fn given_word<'a>(given: &ArgMatches<'a>, argument: &Argument) -> Option<&'a str>
+    ensures { option_map (λ w. w.now) result ≡ word_in (rows_of (found_of given.now)) (argument_by argument.now) }
+{
+    given.get_str(argument.name)
+}
+
+/// The word of an argument that has to be given.
 fn word<'a>(given: &ArgMatches<'a>, argument: &Argument) -> &'a str
-    requires { IsGiven (rows_of (found_of given.now)) (argument_by argument.now) }
+    requires given { IsGiven (rows_of (found_of given.now)) (argument_by argument.now) }
+    requires needed { argument.now.needed ≡ true }
     ensures word { word_in (rows_of (found_of given.now)) (argument_by argument.now) ≡ Some result.now }
     ensures fits { fits argument.now.takes result.now ≡ true }
 {
-    given.get_str(argument.name).unwrap()
+    given_word(given, argument).unwrap()
 }
 
 /// The word of an argument, as a text of its own.
 fn text(alloc: Global, given: &ArgMatches<'_>, argument: &Argument) -> Result<String, AllocError>
-    requires { IsGiven (rows_of (found_of given.now)) (argument_by argument.now) }
+    requires given { IsGiven (rows_of (found_of given.now)) (argument_by argument.now) }
+    requires needed { argument.now.needed ≡ true }
     ensures { IfOk result (λ t. word_in (rows_of (found_of given.now)) (argument_by argument.now) ≡ Some (string_bytes t)) }
 {
     String::from_str(alloc, word(given, argument))
@@ -41,6 +51,7 @@ fn text(alloc: Global, given: &ArgMatches<'_>, argument: &Argument) -> Result<St
 /// The number that the word of an argument writes.
 fn number(given: &ArgMatches<'_>, argument: &Argument) -> u32
     requires given { IsGiven (rows_of (found_of given.now)) (argument_by argument.now) }
+    requires needed { argument.now.needed ≡ true }
     requires small { IsNumberBelow (2 ^ 32) argument.now.takes }
     ensures { number_in (rows_of (found_of given.now)) (argument_by argument.now) ≡ Some result }
 {
@@ -71,6 +82,17 @@ fn report(given: &ArgMatches<'_>) -> ReportKind
     report_kind(word(given, &REPORT_KIND)).unwrap()
 }
 
+/// The aim, which is greedy where none is given.
+fn aim(given: &ArgMatches<'_>) -> Aim
+    requires { IsGiven (rows_of (found_of given.now)) Rattle.commands.specs.Table.aim }
+    ensures { IsAimOf (word_in (rows_of (found_of given.now)) Rattle.commands.specs.Table.aim) result }
+{
+    match given_word(given, &AIM) {
+        None => Aim::Greedy,
+        Some(word) => Aim::of_word(word).unwrap(),
+    }
+}
+
 /// The line `serve`.
 fn serve_line(alloc: Global, given: &ArgMatches<'_>) -> Result<Line, AllocError>
     requires { AreGiven (codes "serve") (rows_of (found_of given.now)) }
@@ -96,6 +118,17 @@ fn import_line(alloc: Global, given: &ArgMatches<'_>) -> Result<Line, AllocError
     })
 }
 
+/// The line `open-round`.
+fn open_line(alloc: Global, given: &ArgMatches<'_>) -> Result<Line, AllocError>
+    requires { AreGiven (codes "open-round") (rows_of (found_of given.now)) }
+    ensures { IfOk result (IsLineOf (codes "open-round") (rows_of (found_of given.now))) }
+{
+    Ok(Line::OpenRound {
+        database: text(alloc, given, &DATABASE)?,
+        aim: aim(given),
+    })
+}
+
 /// The line `report`.
 fn report_line(alloc: Global, given: &ArgMatches<'_>) -> Result<Line, AllocError>
     requires { AreGiven (codes "report") (rows_of (found_of given.now)) }
@@ -116,7 +149,7 @@ fn line_of(alloc: Global, name: &str, given: &ArgMatches<'_>) -> Result<Line, Al
     match name {
         "serve" => serve_line(alloc, given),
         "import" => import_line(alloc, given),
-        "open-round" => Ok(Line::OpenRound(text(alloc, given, &DATABASE)?)),
+        "open-round" => open_line(alloc, given),
         "reopen-round" => Ok(Line::ReopenRound(text(alloc, given, &DATABASE)?)),
         "close-round" => Ok(Line::CloseRound(text(alloc, given, &DATABASE)?)),
         "report" => report_line(alloc, given),
@@ -170,9 +203,11 @@ pub fn command(alloc: Global, words: &[String]) -> Result<Line, LineFault>
 {
     let imports = import_words();
     let reports = report_words();
+    let aims = aim_words();
     let kinds = Kinds {
         imports: imports.as_slice(),
         reports: reports.as_slice(),
+        aims: aims.as_slice(),
     };
     answer(alloc, kinds, words)
 }

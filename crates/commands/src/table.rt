@@ -4,7 +4,7 @@ ghost use Rattle.std.specs.Prelude.{◌≡◌, map};
 ghost use Rattle.commands.specs.Table.{lines};
 ghost use Rattle.commands.specs.Inside.Table.{told_by};
 
-use self::given::{COUNT, DATABASE, FILE, ID, IMPORT_KIND, PORT, REPORT_KIND, ROUND};
+use self::given::{AIM, COUNT, DATABASE, FILE, ID, IMPORT_KIND, PORT, REPORT_KIND, ROUND};
 
 /// What the word of an argument may be.
 #[derive(Clone, Copy)]
@@ -17,15 +17,19 @@ pub(crate) enum Takes {
     ImportKind,
     /// The word of a kind of reports.
     ReportKind,
+    /// The word of an aim.
+    Aim,
 }
 
-/// An argument of a line, which has to be given.
+/// An argument of a line.
 pub(crate) struct Argument {
     /// What help calls it.
     pub name: &'static str,
     /// What help says of it.
     pub help: &'static str,
     pub takes: Takes,
+    /// Whether it has to be given.
+    pub needed: bool,
 }
 
 /// A line: its name, what it does, an example of it, and its arguments in order.
@@ -41,25 +45,26 @@ pub(crate) struct Row {
 pub(crate) mod given {
     use super::{Argument, Takes};
 
-    pub(crate) const DATABASE: Argument = Argument { name: "DATABASE", help: "The database file; it is made if it is not there", takes: Takes::Word };
-    pub(crate) const PORT: Argument = Argument { name: "PORT", help: "The port of 127.0.0.1 to listen on, 1 to 65535", takes: Takes::Number(1, 65_535) };
-    pub(crate) const COUNT: Argument = Argument { name: "COUNT", help: "How many connections to serve, 1 to 1000000", takes: Takes::Number(1, 1_000_000) };
-    pub(crate) const IMPORT_KIND: Argument = Argument { name: "KIND", help: "What the records are", takes: Takes::ImportKind };
-    pub(crate) const ID: Argument = Argument { name: "ID", help: "A code of your choice for this import, such as I1; sent again under it, the same import changes nothing", takes: Takes::Word };
-    pub(crate) const FILE: Argument = Argument { name: "FILE", help: "The file to read", takes: Takes::Word };
-    pub(crate) const REPORT_KIND: Argument = Argument { name: "KIND", help: "What to report", takes: Takes::ReportKind };
-    pub(crate) const ROUND: Argument = Argument { name: "ROUND", help: "The number of the round, 0 to 9999; the first round is 1", takes: Takes::Number(0, 9_999) };
+    pub(crate) const DATABASE: Argument = Argument { name: "DATABASE", help: "The database file; it is made if it is not there", takes: Takes::Word, needed: true };
+    pub(crate) const PORT: Argument = Argument { name: "PORT", help: "The port of 127.0.0.1 to listen on, 1 to 65535", takes: Takes::Number(1, 65_535), needed: true };
+    pub(crate) const COUNT: Argument = Argument { name: "COUNT", help: "How many connections to serve, 1 to 1000000", takes: Takes::Number(1, 1_000_000), needed: true };
+    pub(crate) const IMPORT_KIND: Argument = Argument { name: "KIND", help: "What the records are", takes: Takes::ImportKind, needed: true };
+    pub(crate) const ID: Argument = Argument { name: "ID", help: "A code of your choice for this import, such as I1; sent again under it, the same import changes nothing", takes: Takes::Word, needed: true };
+    pub(crate) const FILE: Argument = Argument { name: "FILE", help: "The file to read", takes: Takes::Word, needed: true };
+    pub(crate) const AIM: Argument = Argument { name: "AIM", help: "By which aim the round is closed; without it greedy", takes: Takes::Aim, needed: false };
+    pub(crate) const REPORT_KIND: Argument = Argument { name: "KIND", help: "What to report", takes: Takes::ReportKind, needed: true };
+    pub(crate) const ROUND: Argument = Argument { name: "ROUND", help: "The number of the round, 0 to 9999; the first round is 1", takes: Takes::Number(0, 9_999), needed: true };
 }
 
 #[rattlefmt::skip]
 const ROWS: [Row; 8] = [
     Row { name: "serve", about: "Serves the database to COUNT connections, one after another, then ends", example: "Example: spadesk serve school.db 8080 1000", arguments: &[DATABASE, PORT, COUNT] },
     Row { name: "import", about: "Imports supervisors, projects, students or lists from a CSV file", example: "Example: spadesk import school.db students I1 students.csv", arguments: &[DATABASE, IMPORT_KIND, ID, FILE] },
-    Row { name: "open-round", about: "Opens the next round, for which students may then have lists", example: "Example: spadesk open-round school.db", arguments: &[DATABASE] },
+    Row { name: "open-round", about: "Opens the next round, for which students may then have lists", example: "Example: spadesk open-round school.db generous", arguments: &[DATABASE, AIM] },
     Row { name: "reopen-round", about: "Opens the last round again: its lists stay, its placements go", example: "Example: spadesk reopen-round school.db", arguments: &[DATABASE] },
     Row { name: "close-round", about: "Closes the open round and places the students who have lists in it", example: "Example: spadesk close-round school.db", arguments: &[DATABASE] },
     Row { name: "report", about: "Prints a report of one round", example: "Example: spadesk report school.db placements 1", arguments: &[DATABASE, REPORT_KIND, ROUND] },
-    Row { name: "solve", about: "Prints the round of FILE with a greedy maximum matching and prices", example: "Example: spadesk solve round.txt", arguments: &[FILE] },
+    Row { name: "solve", about: "Prints the round of FILE with a best matching and prices that prove it", example: "Example: spadesk solve round.txt", arguments: &[FILE] },
     Row { name: "check", about: "Checks the matching and the prices of the round of FILE", example: "Example: spadesk check round.txt", arguments: &[FILE] },
 ];
 

@@ -6,7 +6,9 @@ use Rattle.sqlite_trees.specs.declared.store.Store.{Ghosts}
 use Rattle.rolls.specs.declared.request.Request.{Request}
 use Rattle.rolls.specs.State.{State}
 use Rattle.tables.specs.Steps.{IsLeft}
+use Rattle.store.specs.Editions.{latest}
 use Rattle.store.specs.Laws.{OpensAgain}
+use Rattle.store.proofs.Standing.{in_latest}
 use Rattle.desk.specs.Kept.{Kept}
 use Rattle.desk.specs.Keeping.{CarriesOut, StandsForOne}
 use Rattle.desk.specs.Laws.{IsAtRest, IsOneOf, IsOpenedAfter, LeavesOneOf}
@@ -16,7 +18,7 @@ module _ {S : Type 0} (ghosts : Ghosts S) (again : OpensAgain) where
   -- what is left of a desk at rest is its office
   pub rest_kept : (desk : Kept S) (office : State) → IsAtRest ghosts desk → IsOpenedAfter ghosts desk office → office ≡ desk.office
   rest_kept desk office rest it =
-      again (state ghosts desk.store).now it.found it.opened desk.office office rest.sound it.sound (rest.alone it.found.trees it.left) rest.stands rest.fit it.fit it.opens
+      again latest (state ghosts desk.store).now it.found it.opened desk.office office rest.sound it.sound (rest.alone it.found.trees it.left) (in_latest rest.stands) rest.fit it.fit it.opens
 
   -- what is left of a call is what could be left before, or an office that it may make
   pub call_whole : (IsOne : State → Type 0) (old new : Kept S) (refused : List Request) → LeavesOneOf ghosts refused old
@@ -34,7 +36,7 @@ module _ {S : Type 0} (ghosts : Ghosts S) (again : OpensAgain) where
     }))
     | inr left ↦
         let one = left.step in
-        let same : office ≡ one.office = again left.db it.found it.opened one.office office left.sound it.sound left.same one.stands one.fit it.fit it.opens in
+        let same : office ≡ one.office = again latest left.db it.found it.opened one.office office left.sound it.sound left.same (in_latest one.stands) one.fit it.fit it.opens in
         inr (subst IsOne (sym same) one.one)
   ]
 

@@ -41,7 +41,7 @@ plain_named : (o : State) (p : Plain) → plain_refusal o p ≡ Some no.Storage 
 plain_named o (PutSupervisor code label quota) = first_named (supervisor_tests o code label quota) (refl, (refl, (refl, (refl, (refl, tt)))))
 plain_named o (PutProject code label supervisor quota) = first_named (project_tests o code label supervisor quota) (refl, (refl, (refl, (refl, (refl, (refl, (refl, (refl, tt))))))))
 plain_named o (PutStudent code label) = first_named (student_tests o code label) (refl, (refl, (refl, tt)))
-plain_named o OpenRound = first_named (opening_tests o) (refl, (refl, tt))
+plain_named o (OpenRound aim) = first_named (opening_tests o) (refl, (refl, tt))
 plain_named o (PutList student choices) = first_named (list_tests o student choices) (refl, (refl, (refl, (refl, choices_named o [] choices))))
 plain_named o (DropList student) = first_named (drop_tests o student) (refl, (refl, (refl, tt)))
 plain_named o ReopenRound = first_named (reopening_tests o) (refl, (refl, tt))

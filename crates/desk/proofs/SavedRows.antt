@@ -15,32 +15,20 @@ use Rattle.rolls.specs.declared.request.Request.{Request}
 use Rattle.rolls.specs.Fit.{IsFit}
 use Rattle.rolls.specs.Run.{Makes, refusal}
 use Rattle.allotment.specs.Layers.{layers}
-use Rattle.store.specs.Tables.{TablesHold, StandsFor, Opens}
+use Rattle.store.specs.Tables.{StandsFor, Opens}
 use Rattle.rolls.specs.declared.refusal.Refusal.{Refusal}
 use Rattle.rolls.specs.declared.refusal.Refusal.TheVariants as no
 use Rattle.store.specs.declared.fault.StoreFault.{StoreFault}
 use Rattle.store.specs.declared.fault.StoreFault.TheVariants as store
+use Rattle.store.specs.Editions.{latest, number_of, rolls_of}
 use Rattle.store.specs.Saving.{Saves}
+use Rattle.store.proofs.Standing.{hold_same}
 use Rattle.desk.specs.Keeping.{CarriesOut, Keeps, StandsForOne}
-
--- tables hold rows that are the same at each key
-hold_same : (db : Database) (rows others : RowKey → Option Row) → ((k : RowKey) → rows k ≡ others k) → TablesHold db rows → TablesHold db others
-hold_same db rows others same h = record {
-  edition = h.edition;
-  places = h.places;
-  edition_apart = h.edition_apart;
-  apart = h.apart;
-  list = h.list;
-  at = record { apart = h.at.apart; each = λ k. h.at.each k ∙ same k };
-  beyond = h.beyond;
-  editions = h.editions;
-  rolls = h.rolls;
-}
 
 -- what is saved stands for the next office
 pub stands_after : (changes : List Change) (office next : State) (old new : Database) → Turns changes office next → Saves changes old new → StandsFor old office → StandsFor new next
 unfolding Saves
-stands_after changes office next old new turns saves stands = hold_same new (after_changes changes (row_of office)) (row_of next) turns.rows (saves (row_of office) stands)
+stands_after changes office next old new turns saves stands = hold_same (rolls_of latest) (number_of latest) new (after_changes changes (row_of office)) (row_of next) turns.rows (saves (row_of office) stands)
 
 -- a disk that is clean was clean before
 pub was_clean : (old new : Seen) (P : Trees → Type 0) → Survives old new P → HasCleanDisk new → HasCleanDisk old
@@ -81,7 +69,8 @@ call_carried q office next done old new none made fit turns keeps it =
 -- an office that was opened is one that the tables stand for
 pub opened_stands : (old new : Database) (office : State) → Opens old new office → StandsFor new office
 opened_stands old new office (inl made) = subst (λ (o : State). StandsFor new o) (sym made.1) made.2
-opened_stands old new office (inr found) = subst (λ (db : Database). StandsFor db office) (sym found.0) found.1
+opened_stands old new office (inr (inl found)) = subst (λ (db : Database). StandsFor db office) (sym found.0) found.1
+opened_stands old new office (inr (inr raised)) = raised.stands
 
 -- what is told as a fault of the storage was one of the store
 pub was_storage : (fault : StoreFault) (refusal : Refusal) → (fault ≡ store.Memory → refusal ≡ no.Memory) → (fault ≡ store.Damaged → refusal ≡ no.Damaged) → refusal ≡ no.Storage → fault ≡ store.Storage

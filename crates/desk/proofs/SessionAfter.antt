@@ -26,7 +26,7 @@ use Rattle.desk.specs.Inside.Sessions.{MayMeet}
 -- a student who is put is in no list, so the session sits as before
 put_stays : (o : State) (code label : List ℕ) (kept : Option Sitting) → SitsAt o kept → SitsAt (after_plain (PutStudent code label) o) kept
 put_stays o code label None sits = sits
-put_stays o code label (Some s) sits = record { is_open = sits.is_open; greedy = sits.greedy; named = sits.named; fit = sits.fit; here = sits.here; same = sits.same }
+put_stays o code label (Some s) sits = record { is_open = sits.is_open; aim = sits.aim; named = sits.named; fit = sits.fit; here = sits.here; same = sits.same }
 
 -- who puts a first list may join
 put_joins : (o n : State) (student : List ℕ) (choices : List (List ℕ)) (kept : Option Sitting) → IsFit o → plain_refusal o (PutList student choices) ≡ None → has_list o (last_round o) student ≡ false → n ≡ after_plain (PutList student choices) o
@@ -44,7 +44,7 @@ plain_meets : (o n : State) (p : Plain) (kept : Option Sitting) → IsFit o → 
 plain_meets o n (PutSupervisor code label quota) kept fit allowed change after sits = tt
 plain_meets o n (PutProject code label supervisor quota) kept fit allowed change after sits = tt
 plain_meets o n (PutStudent code label) kept fit allowed change after sits = subst (λ (x : State). SitsAt x kept) (sym after) (put_stays o code label kept sits)
-plain_meets o n OpenRound kept fit allowed change after sits = tt
+plain_meets o n (OpenRound aim) kept fit allowed change after sits = tt
 plain_meets o n (PutList student choices) kept fit allowed change after sits = list_meets o n student choices kept fit allowed after sits (has_list o (last_round o) student) refl
 plain_meets o n (DropList student) kept fit allowed change after sits = tt
 plain_meets o n ReopenRound kept fit allowed change after sits = tt
@@ -69,7 +69,7 @@ read_leaves : (o : State) (p : Plain) → is_read p ≡ true → (plain_fate o p
 read_leaves o (PutSupervisor code label quota) read = cc
 read_leaves o (PutProject code label supervisor quota) read = cc
 read_leaves o (PutStudent code label) read = cc
-read_leaves o OpenRound read = cc
+read_leaves o (OpenRound aim) read = cc
 read_leaves o (PutList student choices) read = cc
 read_leaves o (DropList student) read = cc
 read_leaves o ReopenRound read = cc

@@ -27,7 +27,7 @@ abbrev pub plain_fate : State → Plain → Fate
 plain_fate o (PutSupervisor code label quota) = Ends
 plain_fate o (PutProject code label supervisor quota) = Ends
 plain_fate o (PutStudent code label) = Stays
-plain_fate o OpenRound = Ends
+plain_fate o (OpenRound aim) = Ends
 plain_fate o (PutList student choices) = list_fate o student
 plain_fate o (DropList student) = Ends
 plain_fate o ReopenRound = Ends

@@ -12,7 +12,7 @@ ghost use Rattle.rolls.specs.Refusing.{plain_refusal, refusal_of};
 ghost use Rattle.rolls.specs.Run.{Makes, MayRefuse, Step, Run, refusal};
 ghost use Rattle.allotment.specs.Layers.{layers};
 ghost use Rattle.allotment.specs.Changes.{MayChange};
-ghost use Rattle.store.specs.Tables.{Opens, Founds, HasNone, LeavesAlone};
+ghost use Rattle.store.specs.Tables.{Brings, Opens, HasNone, LeavesAlone};
 ghost use Rattle.store.specs.Reading.{AreListed, IsDamaged};
 ghost use Rattle.tables.specs.Causes.{IsCaused, IsStopped};
 ghost use Rattle.store.specs.Causes.{IsHinderedOpening, IsHinderedToSave};
@@ -109,8 +109,8 @@ impl<S: Alter> Desk<S> {
         ensures unlisted { connection.in_transaction ≡ false → (HasNone (state S.Store connection).now.schema → ⊥) → (AreListed (state S.Store connection).now.schema → ⊥) → IsErr result × IfErr result (λ e. e.0 ≡ Refusal.Damaged) }
 
         // What a crash leaves: what it could leave before, or tables of the empty office where none was there.
-        ensures crash_ok { IfOk result (λ desk. Survives (state S.Store connection) (state S.Store desk.store) (IsLeft Founds (state S.Store connection))) }
-        ensures crash_err { IfErr result (λ e. Survives (state S.Store connection) (state S.Store e.1) (IsLeft Founds (state S.Store connection))) }
+        ensures crash_ok { IfOk result (λ desk. Survives (state S.Store connection) (state S.Store desk.store) (IsLeft Brings (state S.Store connection))) }
+        ensures crash_err { IfErr result (λ e. Survives (state S.Store connection) (state S.Store e.1) (IsLeft Brings (state S.Store connection))) }
         ensures alone { IfOk result (λ desk. HasCleanDisk (state S.Store desk.store) → LeavesAlone (state S.Store desk.store)) }
         ensures is_open { IfOk result (λ desk. HasCleanDisk (state S.Store desk.store) → IsTrue (state S.Store desk.store).is_open) }
         ensures no_session { IfOk result (λ desk. desk.session ≡ None) }

@@ -43,7 +43,7 @@ fn plain_fate(alloc: Global, office: &Office, plain: &Plain) -> Result<Fate, All
         Plain::GetSupervisor { .. } | Plain::GetProject { .. } => Ok(Fate::Stays),
         Plain::GetStudent { .. } | Plain::GetRound { .. } => Ok(Fate::Stays),
         Plain::PutSupervisor { .. } | Plain::PutProject { .. } => Ok(Fate::Ends),
-        Plain::OpenRound | Plain::DropList { .. } | Plain::ReopenRound => Ok(Fate::Ends),
+        Plain::OpenRound { .. } | Plain::DropList { .. } | Plain::ReopenRound => Ok(Fate::Ends),
     }
 }
 

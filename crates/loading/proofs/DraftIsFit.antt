@@ -19,7 +19,7 @@ use Rattle.rolls.specs.declared.rounds.Listed.{Listed}
 use Rattle.rolls.specs.declared.rounds.Placement.{Placement}
 use Rattle.rolls.specs.Roll.{Key, key_cmp, same_key, find, is_below, rises}
 use Rattle.rolls.specs.State.{State, supervisor_key, project_key, round_key, supervisor_of, project_of, round_of, lists_of, has_supervisor, has_project, has_student, is_placed_before, is_closed, choices_in, quota_in, quota_with, is_offered_by, placed_in_project, placed_with_supervisor}
-use Rattle.rolls.specs.Fit.{IsFit, ProjectFits, ListFits, PlacementFits, are_numbered, only_last_open, is_distinct}
+use Rattle.rolls.specs.Fit.{IsFit, ProjectFits, ListFits, PlacementFits, are_aimed, are_numbered, only_last_open, is_distinct}
 use Rattle.rolls.proofs.Places.{keys_total}
 use Rattle.rolls.proofs.EntryChange.{all_weaker}
 use Rattle.rolls.proofs.Found.{found_key, holds_of_found}
@@ -199,6 +199,7 @@ pub record IsJoined (o : State) : Type 0 where
   pub few : are_few o ≡ true
   pub offered : are_offered o ≡ true
   pub numbered : are_numbered 1 o.rounds ≡ true
+  pub aimed : are_aimed o.aims o.rounds ≡ true
   pub last_open : only_last_open o.rounds ≡ true
   pub lists : list_all (λ r. list_all (is_list o r.number) r.lists) o.rounds ≡ true
   pub placements : list_all (is_placement o) o.placements ≡ true
@@ -215,12 +216,14 @@ joined o h =
     let b2 = second_so (are_offered o) (are_rounds o && (placements && are_within o)) b1 in
     let rounds = first_so (are_rounds o) (placements && are_within o) b2 in
     let b3 = second_so (are_rounds o) (placements && are_within o) b2 in
-    let rest = second_so (are_numbered 1 o.rounds) (only_last_open o.rounds && lists) rounds in
+    let aims = second_so (are_numbered 1 o.rounds) (are_aimed o.aims o.rounds && (only_last_open o.rounds && lists)) rounds in
+    let rest = second_so (are_aimed o.aims o.rounds) (only_last_open o.rounds && lists) aims in
     let quotas = second_so placements (are_within o) b3 in
     record {
       few = first_so (are_few o) (are_offered o && (are_rounds o && (placements && are_within o))) h;
       offered = first_so (are_offered o) (are_rounds o && (placements && are_within o)) b1;
-      numbered = first_so (are_numbered 1 o.rounds) (only_last_open o.rounds && lists) rounds;
+      numbered = first_so (are_numbered 1 o.rounds) (are_aimed o.aims o.rounds && (only_last_open o.rounds && lists)) rounds;
+      aimed = first_so (are_aimed o.aims o.rounds) (only_last_open o.rounds && lists) aims;
       last_open = first_so (only_last_open o.rounds) lists rest;
       lists = second_so (only_last_open o.rounds) lists rest;
       placements = first_so placements (are_within o) b3;
@@ -252,6 +255,7 @@ whole_fit o d whole =
       students = record { rise = d.rolls.students.rise; few = at_most _ _ (first_so students (rounds && imports) few2); each = d.rolls.students.each };
       numbered = j.numbered;
       few_rounds = at_most _ _ (first_so rounds imports few3);
+      aimed = j.aimed;
       last_open = j.last_open;
       lists_rise = λ n. (d.lists n).rise;
       lists_fit = lists;
@@ -272,5 +276,5 @@ fit_whole o fit =
     (both_so (nat_le (length o.placements) MOST_STUDENTS) _ (within _ _ (omega (arith, few_placed o fit, fit.students.few))) (within _ _ fit.imports.few))))) in
     both_so (are_few o) _ few
     (both_so (are_offered o) _ (all_pass (ProjectFits o) (λ p. has_supervisor o p.supervisor) (λ p fits. fits.supervisor) o.projects fit.projects.each)
-    (both_so (are_rounds o) _ (both_so (are_numbered 1 o.rounds) _ fit.numbered (both_so (only_last_open o.rounds) _ fit.last_open (fit_lists o fit)))
+    (both_so (are_rounds o) _ (both_so (are_numbered 1 o.rounds) _ fit.numbered (both_so (are_aimed o.aims o.rounds) _ fit.aimed (both_so (only_last_open o.rounds) _ fit.last_open (fit_lists o fit))))
     (both_so (list_all (is_placement o) o.placements) _ (all_pass (PlacementFits o) (is_placement o) (fits_placement o) o.placements fit.placements_fit) (fit_within o fit))))

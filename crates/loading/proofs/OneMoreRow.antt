@@ -14,8 +14,8 @@ use Rattle.rolls.specs.declared.row.Row.TheVariants as row
 use Rattle.rolls.specs.declared.row.RowKey.{RowKey}
 use Rattle.rolls.specs.declared.row.RowKey.TheVariants as key
 use Rattle.rolls.specs.Roll.{Key, key_cmp, find, put, same_key}
-use Rattle.rolls.specs.State.{State, supervisor_key, project_key, student_key, round_key, list_key, placement_key, import_key, round_of, has_round, lists_of, choices_in}
-use Rattle.rolls.specs.Rows.{row_of, key_of, same_row, same_parts, supervisor_row, project_row, student_row, round_row, placement_row, import_row, choice_in}
+use Rattle.rolls.specs.State.{State, supervisor_key, project_key, student_key, round_key, aim_key, list_key, placement_key, import_key, round_of, has_round, lists_of, choices_in}
+use Rattle.rolls.specs.Rows.{row_of, key_of, same_row, same_parts, supervisor_row, project_row, student_row, round_row, aim_row, placement_row, import_row, choice_in}
 use Rattle.rolls.proofs.EntryChange.{find-put, same_code, is_equal}
 use Rattle.rolls.proofs.Found.{found_key}
 use Rattle.rolls.proofs.Same.{keys_exact}
@@ -201,5 +201,6 @@ turns_with o (row.Choice n s p c) form free k =
     let next = is_next o n s p c form in
     turns_by_chosen o n s p c next k ∙ ap (λ (m : State). row_of m k) (chosen_is o n s p c next)
 turns_with o (row.Placement student round project rank) form free (key.Placement k) = turned placement_key placement_row (record { student = student; round = round; project = project; rank = rank }) o.placements (0, k) (same_parts (k ∷ []) (student ∷ [])) (code_alone k student)
+turns_with o (row.RoundAim round aim) form free (key.RoundAim k) = turned aim_key aim_row (record { round = round; aim = aim }) o.aims (k, []) (same_parts ((k ∷ []) ∷ []) ((round ∷ []) ∷ [])) (number_alone k round)
 turns_with o (row.Import id kind bytes rows) form free (key.Import k) = turned import_key import_row (record { id = id; kind = kind; bytes = bytes; rows = rows }) o.imports (0, k) (same_parts (k ∷ []) (id ∷ [])) (code_alone k id)
 turns_with o r form free k = refl

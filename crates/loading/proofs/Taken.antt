@@ -9,6 +9,7 @@ use Rattle.std.proofs.lemmas.List.{length-append}
 use Rattle.spa.specs.declared.TheConstants.{MOST_PLACES}
 use Rattle.spa.specs.Text.{is_code, is_label}
 use Rattle.rolls.specs.declared.TheConstants.{MOST_IMPORT_BYTES}
+use Rattle.spa.specs.declared.aim.Aim.{Aim}
 use Rattle.rolls.specs.declared.entries.Supervisor.{Supervisor}
 use Rattle.rolls.specs.declared.entries.Project.{Project}
 use Rattle.rolls.specs.declared.entries.Student.{Student}
@@ -18,7 +19,7 @@ use Rattle.rolls.specs.declared.row.Row.{Row}
 use Rattle.rolls.specs.declared.row.Row.TheVariants as row
 use Rattle.rolls.specs.declared.row.RowKey.{RowKey}
 use Rattle.rolls.specs.Roll.{Key, put, rises}
-use Rattle.rolls.specs.State.{State, empty, supervisor_key, project_key, student_key, round_key, list_key, placement_key, import_key, lists_of}
+use Rattle.rolls.specs.State.{State, empty, supervisor_key, project_key, student_key, round_key, aim_key, list_key, placement_key, import_key, lists_of}
 use Rattle.rolls.specs.Fit.{SupervisorFits, StudentFits, ImportFits}
 use Rattle.rolls.specs.Rows.{row_of, key_of, same_row}
 use Rattle.rolls.proofs.Places.{rises-put}
@@ -61,6 +62,7 @@ pub record IsDrafted (o : State) : Type 0 where
   pub rolls : AreRolls o.supervisors o.projects o.students
   pub rounds : rises round_key o.rounds ≡ true
   pub lists : (n : ℕ) → AreOf list_key HasChoices (lists_of o n)
+  pub aims : rises aim_key o.aims ≡ true
   pub placements : rises placement_key o.placements ≡ true
   pub imports : AreOf import_key ImportFits o.imports
 
@@ -72,6 +74,7 @@ drafted_shaped o d = record {
   rounds_rise = d.rounds;
   lists_rise = λ n. (d.lists n).rise;
   lists_some = λ n. (d.lists n).each;
+  aims_rise = d.aims;
   placements_rise = d.placements;
   imports_rise = d.imports.rise;
 }
@@ -81,6 +84,7 @@ empty_drafted = record {
   rolls = record { supervisors = record { rise = refl; each = tt }; projects = record { rise = refl; each = tt }; students = record { rise = refl; each = tt } };
   rounds = refl;
   lists = λ n. record { rise = refl; each = tt };
+  aims = refl;
   placements = refl;
   imports = record { rise = refl; each = tt };
 }
@@ -108,6 +112,7 @@ drafted_supervisor o code label quota form d =
       rolls = record { supervisors = put_of supervisor_key SupervisorFits _ o.supervisors fits d.rolls.supervisors; projects = d.rolls.projects; students = d.rolls.students };
       rounds = d.rounds;
       lists = d.lists;
+      aims = d.aims;
       placements = d.placements;
       imports = d.imports;
     }
@@ -124,6 +129,7 @@ drafted_project o code label supervisor quota form d =
       rolls = record { supervisors = d.rolls.supervisors; projects = put_of project_key ProjectForm _ o.projects fits d.rolls.projects; students = d.rolls.students };
       rounds = d.rounds;
       lists = d.lists;
+      aims = d.aims;
       placements = d.placements;
       imports = d.imports;
     }
@@ -135,6 +141,7 @@ drafted_student o code label form d =
       rolls = record { supervisors = d.rolls.supervisors; projects = d.rolls.projects; students = put_of student_key StudentFits _ o.students fits d.rolls.students };
       rounds = d.rounds;
       lists = d.lists;
+      aims = d.aims;
       placements = d.placements;
       imports = d.imports;
     }
@@ -144,6 +151,7 @@ drafted_round o number is_open free d = record {
   rolls = d.rolls;
   rounds = rises-put round_key (record { number = number; is_open = is_open; lists = [] }) o.rounds d.rounds;
   lists = λ n. subst (AreOf list_key HasChoices) (sym (lists_kept o (record { number = number; is_open = is_open; lists = [] }) (absent number _ free) n)) (d.lists n);
+  aims = d.aims;
   placements = d.placements;
   imports = d.imports;
 }
@@ -161,6 +169,7 @@ drafted_choice o n s p c form d =
       rolls = d.rolls;
       rounds = rises-put round_key (record next.round { lists = with_choice s c next.round.lists }) o.rounds d.rounds;
       lists = λ k. subst (AreOf list_key HasChoices) (sym (lists_chosen o n s p c next k)) (chosen_lists o n s c k (bytes_eq (k ∷ []) (n ∷ [])) (d.lists n) (d.lists k));
+      aims = d.aims;
       placements = d.placements;
       imports = d.imports;
     } in
@@ -171,7 +180,18 @@ drafted_placement o student round project rank d = record {
   rolls = d.rolls;
   rounds = d.rounds;
   lists = d.lists;
+  aims = d.aims;
   placements = rises-put placement_key (record { student = student; round = round; project = project; rank = rank }) o.placements d.placements;
+  imports = d.imports;
+}
+
+drafted_aim : (o : State) (round : ℕ) (aim : Aim) → IsDrafted o → IsDrafted (with_row (row.RoundAim round aim) o)
+drafted_aim o round aim d = record {
+  rolls = d.rolls;
+  rounds = d.rounds;
+  lists = d.lists;
+  aims = rises-put aim_key (record { round = round; aim = aim }) o.aims d.aims;
+  placements = d.placements;
   imports = d.imports;
 }
 
@@ -187,6 +207,7 @@ drafted_import o id kind bytes rows form d =
       rolls = d.rolls;
       rounds = d.rounds;
       lists = d.lists;
+      aims = d.aims;
       placements = d.placements;
       imports = put_of import_key ImportFits _ o.imports fits d.imports;
     }
@@ -198,6 +219,7 @@ drafted_with o (row.Student code label) form free = drafted_student o code label
 drafted_with o (row.Round number is_open) form free = drafted_round o number is_open free
 drafted_with o (row.Choice n s p c) form free = drafted_choice o n s p c form
 drafted_with o (row.Placement student round project rank) form free = drafted_placement o student round project rank
+drafted_with o (row.RoundAim round aim) form free = drafted_aim o round aim
 drafted_with o (row.Import id kind bytes rows) form free = drafted_import o id kind bytes rows form
 
 -- ---- any row

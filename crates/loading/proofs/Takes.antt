@@ -195,4 +195,5 @@ form_of w fit o (row.Student code label) there behind free = form_of_student w f
 form_of w fit o (row.Round number is_open) there behind free = refl
 form_of w fit o (row.Choice n s p c) there behind free = form_of_choice w fit o n s p c there behind free
 form_of w fit o (row.Placement student round project rank) there behind free = form_of_placement w fit o student round project rank there
+form_of w fit o (row.RoundAim round aim) there behind free = refl
 form_of w fit o (row.Import id kind bytes rows) there behind free = form_of_import w fit o id kind bytes rows there

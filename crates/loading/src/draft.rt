@@ -7,10 +7,10 @@ ghost use Rattle.loading.specs.Inside.Gathering.{taken_in, choices_among, with_c
 
 use crate::fault::RowsFault;
 use rolls::{
-    Bytes, Choices, Import, ImportKind, Listed, MOST_IMPORT_BYTES, Placement, Project, Round, Row,
+    Bytes, Choices, Import, ImportKind, Listed, MOST_IMPORT_BYTES, Placement, Project, Round, RoundAim, Row,
     Student, Supervisor, Table, Text,
 };
-use spa::{Code, Label, MOST_PLACES, RANKS};
+use spa::{Aim, Code, Label, MOST_PLACES, RANKS};
 use std::alloc::{AllocError, Global};
 
 /// The parts of an office.
@@ -24,6 +24,8 @@ pub struct Draft {
     pub students: Table<Student>,
     /// The rounds, by number.
     pub rounds: Table<Round>,
+    /// The aims of the rounds, by number.
+    pub aims: Table<RoundAim>,
     /// The placements, by student.
     pub placements: Table<Placement>,
     /// The imports that were made, by id.
@@ -92,6 +94,7 @@ impl Draft {
             projects: Table::new(alloc),
             students: Table::new(alloc),
             rounds: Table::new(alloc),
+            aims: Table::new(alloc),
             placements: Table::new(alloc),
             imports: Table::new(alloc),
         }
@@ -228,6 +231,18 @@ impl Draft {
         Ok(())
     }
 
+    /// Takes in the row of a round's aim.
+    fn take_aim(&mut self, round: u32, aim: Aim) -> Result<(), RowsFault>
+        ensures taken { OnOk result (taken_in (drafted self.old) (Row.RoundAim round aim) ≡ Some (drafted self.new)) }
+        ensures unfit { result ≡ Err RowsFault.Unfit → taken_in (drafted self.old) (Row.RoundAim round aim) ≡ None }
+    {
+        if self.aims.by_number(round).is_some() {
+            return Err(RowsFault::Unfit);
+        }
+        self.aims.put(RoundAim { round, aim })?;
+        Ok(())
+    }
+
     /// Takes in an import's row. Its text is shared with the row.
     fn take_import(
         &mut self,
@@ -285,6 +300,7 @@ impl Draft {
                 project,
                 rank,
             } => self.take_placement(student, *round, project, *rank),
+            Row::RoundAim { round, aim } => self.take_aim(*round, *aim),
             Row::Import {
                 id,
                 kind,

@@ -5,13 +5,13 @@ ghost use Rattle.std.specs.List.{list_all, list_any};
 ghost use Rattle.std.specs.Option.{option_map_or};
 ghost use Rattle.std.specs.Str.{bytes_eq};
 ghost use Rattle.rolls.specs.State.{has_supervisor, has_project, is_placed_before};
-ghost use Rattle.rolls.specs.Fit.{are_numbered, only_last_open, is_distinct};
+ghost use Rattle.rolls.specs.Fit.{are_aimed, are_numbered, only_last_open, is_distinct};
 ghost use Rattle.loading.specs.View.{drafted};
 ghost use Rattle.loading.specs.Inside.Gathering.{choices_among};
 ghost use Rattle.loading.specs.Inside.Whole.{is_whole, are_few, are_offered, are_rounds, is_list, is_placement};
 
 use crate::draft::Draft;
-use rolls::{Listed, MOST_IMPORTS, MOST_ROUNDS, Placement, Round, Table};
+use rolls::{Listed, MOST_IMPORTS, MOST_ROUNDS, Placement, Round, RoundAim, Table};
 use spa::{Code, MOST_PROJECTS, MOST_STUDENTS, MOST_SUPERVISORS, RANKS};
 
 /// Whether the rounds have the numbers from 1 on.
@@ -20,6 +20,21 @@ fn are_numbered(rounds: &[Round]) -> bool
 {
     for i in 0..rounds.len() {
         if rounds[i].number as usize != i + 1 {
+            return false;
+        }
+    }
+    true
+}
+
+/// Whether these are the aims of the rounds, in their order.
+fn are_aimed(aims: &[RoundAim], rounds: &[Round]) -> bool
+    ensures { result ≡ are_aimed aims.now rounds.now }
+{
+    if aims.len() != rounds.len() {
+        return false;
+    }
+    for i in 0..rounds.len() {
+        if aims[i].round != rounds[i].number {
             return false;
         }
     }
@@ -149,7 +164,10 @@ impl Draft {
         ensures { result ≡ are_rounds (drafted self.now) }
     {
         let rounds = self.rounds.entries();
-        are_numbered(rounds) && only_last_open(rounds) && self.are_listed()
+        are_numbered(rounds)
+            && are_aimed(self.aims.entries(), rounds)
+            && only_last_open(rounds)
+            && self.are_listed()
     }
 
     /// Whether a placement is one by a closed round.

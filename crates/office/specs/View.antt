@@ -4,4 +4,4 @@ use Rattle.rolls.specs.State.{State}
 
 -- the office of an `Office`
 abbrev pub state_of : Inside → State
-state_of a = record { supervisors = a.supervisors; projects = a.projects; students = a.students; rounds = a.rounds; placements = a.placements; imports = a.imports }
+state_of a = record { supervisors = a.supervisors; projects = a.projects; students = a.students; rounds = a.rounds; aims = a.aims; placements = a.placements; imports = a.imports }

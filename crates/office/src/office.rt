@@ -19,7 +19,7 @@ ghost use Rattle.row_changes.specs.Changes.{changes_of};
 
 use loading::{RowsFault, gather};
 use rolls::{
-    Done, Import, Placement, Plain, Project, Refusal, Reply, Request, Round, Row, Student,
+    Done, Import, Placement, Plain, Project, Refusal, Reply, Request, Round, RoundAim, Row, Student,
     Supervisor, Table,
 };
 use std::alloc::{AllocError, Global};
@@ -33,6 +33,7 @@ pub struct Office {
     projects: Table<Project>,
     students: Table<Student>,
     rounds: Table<Round>,
+    aims: Table<RoundAim>,
     placements: Table<Placement>,
     imports: Table<Import>,
 }
@@ -60,6 +61,7 @@ impl Office {
             projects: Table::new(alloc),
             students: Table::new(alloc),
             rounds: Table::new(alloc),
+            aims: Table::new(alloc),
             placements: Table::new(alloc),
             imports: Table::new(alloc),
         }
@@ -77,6 +79,7 @@ impl Office {
                 projects: draft.projects,
                 students: draft.students,
                 rounds: draft.rounds,
+                aims: draft.aims,
                 placements: draft.placements,
                 imports: draft.imports,
             }),
@@ -95,6 +98,7 @@ impl Office {
             projects: self.projects.duplicate(alloc)?,
             students: self.students.duplicate(alloc)?,
             rounds: self.rounds.duplicate(alloc)?,
+            aims: self.aims.duplicate(alloc)?,
             placements: self.placements.duplicate(alloc)?,
             imports: self.imports.duplicate(alloc)?,
         })
@@ -173,7 +177,7 @@ impl Office {
                 quota,
             } => self.put_project(code, label, supervisor, quota),
             Plain::PutStudent { code, label } => self.put_student(code, label),
-            Plain::OpenRound => self.open_round(),
+            Plain::OpenRound { aim } => self.open_round(aim),
             Plain::PutList { student, choices } => self.put_list(student, choices),
             Plain::DropList { student } => self.drop_list(student),
             Plain::ReopenRound => self.reopen_round(),
@@ -212,7 +216,7 @@ impl Office {
             Plain::PutStudent { code, label } => {
                 self.student_refusal(code.as_str(), label.as_str())
             }
-            Plain::OpenRound => self.opening_refusal(),
+            Plain::OpenRound { .. } => self.opening_refusal(),
             Plain::PutList { student, choices } => {
                 self.list_refusal(student.as_str(), choices.as_slice())
             }

@@ -1,19 +1,22 @@
 -- Rounds that are numbered from 1. The round with a number stands at the place before it, so a round that is put with the last
 -- number takes the last place, and one with the next number is added behind. What a round holds is read by `option_map_or`:
 -- one lemma for all such readings, whether a change keeps what is read or another round is read.
-use Rattle.std.proofs.Common.{◌≡◌, ℕ, zero, suc, ◌+◌, ◌<◌, ◌≤◌, inl, inr, Bool, true, false, not, cond, List, [], ◌∷◌, ◌++◌, length, Option, Some, None, slice_get, refl, sym, ap, ◌∙◌, arith}
+use Rattle.std.proofs.Common.{◌≡◌, ℕ, zero, suc, ◌+◌, ◌<◌, ◌≤◌, inl, inr, Bool, true, false, not, cond, List, [], ◌∷◌, ◌++◌, length, Option, Some, None, is_some, slice_get, refl, sym, ap, ◌∙◌, arith}
 use Rattle.std.specs.Prelude.{◌==◌, ◌&&◌}
 use Rattle.std.specs.Option.{option_map, option_map_or}
 use Rattle.std.specs.Cmp.{first_so, second_so, nat_cmp_is}
 use Rattle.std.specs.Ordering.{is_lt, is_eq, ordering_then}
+use Rattle.std.specs.declared.cmp.Ordering.{Ordering}
 use Rattle.std.specs.declared.cmp.Ordering.TheVariants.{Less, Equal, Greater}
 use Rattle.std.proofs.lemmas.Bool.{and_from, eqb-true, eq-eqb, cases_eq, cases_order, cases_Bool}
 use Rattle.std.proofs.lemmas.Option.{slice_get_past, slice_get_cases}
+use Rattle.spa.specs.declared.aim.Aim.{Aim}
 use Rattle.rolls.specs.declared.rounds.Round.{Round}
 use Rattle.rolls.specs.declared.rounds.Listed.{Listed}
+use Rattle.rolls.specs.declared.rounds.RoundAim.{RoundAim}
 use Rattle.rolls.specs.Roll.{key_cmp, same_key, by_order, find, put, is_below, rises}
-use Rattle.rolls.specs.State.{State, round_key, list_key, round_of, last_round, is_open, is_closed, lists_of, choices_in}
-use Rattle.rolls.specs.Fit.{are_numbered, only_last_open}
+use Rattle.rolls.specs.State.{State, round_key, aim_key, list_key, round_of, last_round, is_open, is_closed, lists_of, choices_in}
+use Rattle.rolls.specs.Fit.{are_aimed, are_numbered, only_last_open}
 use Rattle.rolls.specs.Stepping.{with_last, after_opening}
 use Rattle.rolls.proofs.EntryChange.{find-put}
 
@@ -288,40 +291,93 @@ module _ (f : Round → Round) (keeps : (r : Round) → (f r).number ≡ r.numbe
   pub reading_changed : {A : Type 0} (g : Round → A) (d : A) (r : Round) → round_of o (last_round o) ≡ Some r → option_map_or g (round_of (with_last f o) (last_round o)) d ≡ g (f r)
   reading_changed g d r is = ap (λ x. option_map_or g x d) last_changed ∙ ap (λ x. option_map_or g (option_map f x) d) is
 
+-- ---- the aims of rounds
+
+first_aimed : (a : RoundAim) (aims : List RoundAim) (r : Round) (rs : List Round) → are_aimed (a ∷ aims) (r ∷ rs) ≡ true → a.round ≡ r.number
+first_aimed a aims r rs h = eqb-true a.round r.number (first_so (a.round == r.number) (are_aimed aims rs) h)
+
+rest_aimed : (a : RoundAim) (aims : List RoundAim) (r : Round) (rs : List Round) → are_aimed (a ∷ aims) (r ∷ rs) ≡ true → are_aimed aims rs ≡ true
+rest_aimed a aims r rs h = second_so (a.round == r.number) (are_aimed aims rs) h
+
+one_aimed : (a : RoundAim) (aims : List RoundAim) (r : Round) (rs : List Round) → a.round ≡ r.number → are_aimed aims rs ≡ true → are_aimed (a ∷ aims) (r ∷ rs) ≡ true
+one_aimed a aims r rs same rest = and_from (a.round == r.number) (are_aimed aims rs) (eq-eqb a.round r.number same) rest
+
+-- a round and its aim go to the same place
+pub aimed_put : (a : RoundAim) (r : Round) → a.round ≡ r.number → (aims : List RoundAim) (rs : List Round) → are_aimed aims rs ≡ true → are_aimed (put aim_key a aims) (put round_key r rs) ≡ true
+aimed_put a r same [] [] h = one_aimed a [] r [] same refl
+aimed_put a r same (b ∷ aims) (s ∷ rs) h =
+    let first = first_aimed b aims s rs h in
+    let order : key_cmp (aim_key a) (aim_key b) ≡ key_cmp (round_key r) (round_key s) = λ i. key_cmp (same i, []) (first i, []) in
+    ap (λ c. are_aimed (by_order c (a ∷ b ∷ aims) (a ∷ aims) (b ∷ put aim_key a aims)) (put round_key r (s ∷ rs))) order ∙ by (aimed_put a r same aims rs (rest_aimed b aims s rs h)) (key_cmp (round_key r) (round_key s))
+  where
+    by : are_aimed (put aim_key a aims) (put round_key r rs) ≡ true → (c : Ordering) → are_aimed (by_order c (a ∷ b ∷ aims) (a ∷ aims) (b ∷ put aim_key a aims)) (by_order c (r ∷ s ∷ rs) (r ∷ rs) (s ∷ put round_key r rs)) ≡ true
+    by later Less = one_aimed a (b ∷ aims) r (s ∷ rs) same h
+    by later Equal = one_aimed a aims r rs same (rest_aimed b aims s rs h)
+    by later Greater = one_aimed b (put aim_key a aims) s (put round_key r rs) (first_aimed b aims s rs h) later
+aimed_put a r same [] (s ∷ rs) h = cc
+aimed_put a r same (b ∷ aims) [] h = cc
+
+-- an aim is found where its round is
+pub aimed_found : (n : ℕ) (aims : List RoundAim) (rs : List Round) → are_aimed aims rs ≡ true → is_some (find aim_key (n, []) aims) ≡ is_some (find round_key (n, []) rs)
+aimed_found n [] [] h = refl
+aimed_found n (a ∷ aims) (r ∷ rs) h =
+    ap (λ m. is_some (cond (same_key (n, []) (m, [])) (Some a) (find aim_key (n, []) aims))) (first_aimed a aims r rs h) ∙ by (aimed_found n aims rs (rest_aimed a aims r rs h)) (same_key (n, []) (r.number, []))
+  where
+    by : is_some (find aim_key (n, []) aims) ≡ is_some (find round_key (n, []) rs) → (b : Bool) → is_some (cond b (Some a) (find aim_key (n, []) aims)) ≡ is_some (cond b (Some r) (find round_key (n, []) rs))
+    by later true = refl
+    by later false = later
+aimed_found n [] (r ∷ rs) h = cc
+aimed_found n (a ∷ aims) [] h = cc
+
+-- rounds with the same numbers have the same aims
+aimed_same : (n : ℕ) (aims : List RoundAim) (rs ss : List Round) → are_numbered n rs ≡ true → are_numbered n ss ≡ true → length rs ≡ length ss → are_aimed aims rs ≡ true → are_aimed aims ss ≡ true
+aimed_same n aims [] [] h k same aimed = aimed
+aimed_same n [] (r ∷ rs) (s ∷ ss) h k same aimed = cc
+aimed_same n (a ∷ aims) (r ∷ rs) (s ∷ ss) h k same aimed =
+    let first : a.round ≡ s.number = first_aimed a aims r rs aimed ∙ numbered_first n r rs h ∙ sym (numbered_first n s ss k) in
+    one_aimed a aims s ss first
+    (aimed_same (suc n) aims rs ss (second_so (r.number == n) (are_numbered (suc n) rs) h) (second_so (s.number == n) (are_numbered (suc n) ss) k) (omega (arith, same)) (rest_aimed a aims r rs aimed))
+aimed_same n aims [] (s ∷ ss) h k same aimed = absurd (omega (arith, same))
+aimed_same n aims (r ∷ rs) [] h k same aimed = absurd (omega (arith, same))
+
+-- so a round that is put anew keeps its aim
+pub aimed_kept : (f : Round → Round) → ((r : Round) → (f r).number ≡ r.number) → (o : State) → are_numbered 1 o.rounds ≡ true → are_aimed o.aims o.rounds ≡ true → are_aimed o.aims (with_last f o).rounds ≡ true
+aimed_kept f keeps o numbered = aimed_same 1 o.aims o.rounds (with_last f o).rounds numbered (numbered_kept f keeps o numbered) (sym (last_kept f keeps o numbered))
+
 -- ---- the next round opened
 
-module _ (o : State) (numbered : are_numbered 1 o.rounds ≡ true) where
+module _ (aim : Aim) (o : State) (numbered : are_numbered 1 o.rounds ≡ true) where
   -- the round that is added
   abbrev pub next : Round
   next = record { number = last_round o + 1; is_open = true; lists = [] }
 
-  added : (after_opening o).rounds ≡ o.rounds ++ next ∷ []
+  added : (after_opening aim o).rounds ≡ o.rounds ++ next ∷ []
   added = put_more 1 next o.rounds numbered (omega arith)
 
-  pub last_after_opening : last_round (after_opening o) ≡ last_round o + 1
+  pub last_after_opening : last_round (after_opening aim o) ≡ last_round o + 1
   last_after_opening = ap length added ∙ length_more next o.rounds ∙ omega arith
 
-  pub numbered_after_opening : are_numbered 1 (after_opening o).rounds ≡ true
+  pub numbered_after_opening : are_numbered 1 (after_opening aim o).rounds ≡ true
   numbered_after_opening = ap (are_numbered 1) added ∙ numbered_one_more 1 next o.rounds numbered (omega arith)
 
   -- each but the last is closed, where none was open
-  pub last_open_after_opening : only_last_open o.rounds ≡ true → is_open o (last_round o) ≡ false → only_last_open (after_opening o).rounds ≡ true
+  pub last_open_after_opening : only_last_open o.rounds ≡ true → is_open o (last_round o) ≡ false → only_last_open (after_opening aim o).rounds ≡ true
   last_open_after_opening h c = ap only_last_open added ∙ open_more next o.rounds h (λ k e.
       ap (λ x. option_map_or (λ r. r.is_open) x false) (sym (round_at o numbered k)) ∙ ap (is_open o) e ∙ c)
 
   -- the new round
-  pub round_opened : round_of (after_opening o) (last_round o + 1) ≡ Some next
+  pub round_opened : round_of (after_opening aim o) (last_round o + 1) ≡ Some next
   round_opened = find-put round_key (last_round o + 1, []) next o.rounds ∙ ap (λ b. cond b (Some next) (round_of o (last_round o + 1))) (same_round (last_round o + 1) (last_round o + 1) refl)
 
   -- each other is as it was
-  pub other_after_opening : (n : ℕ) → (n ≡ last_round o + 1 → ⊥) → round_of (after_opening o) n ≡ round_of o n
+  pub other_after_opening : (n : ℕ) → (n ≡ last_round o + 1 → ⊥) → round_of (after_opening aim o) n ≡ round_of o n
   other_after_opening n other = find-put round_key (n, []) next o.rounds ∙ ap (λ b. cond b (Some next) (round_of o n)) (other_round n (last_round o + 1) other)
 
   -- what is read of a round, where the new one has nothing of it: as `lists_of`
-  pub reading_after_opening : {A : Type 0} (g : Round → A) (d : A) → g next ≡ d → (n : ℕ) → option_map_or g (round_of (after_opening o) n) d ≡ option_map_or g (round_of o n) d
+  pub reading_after_opening : {A : Type 0} (g : Round → A) (d : A) → g next ≡ d → (n : ℕ) → option_map_or g (round_of (after_opening aim o) n) d ≡ option_map_or g (round_of o n) d
   reading_after_opening g d none n = elim (cases_eq n (last_round o + 1)) [
     | inl last ↦
-        ap (λ m. option_map_or g (round_of (after_opening o) m) d) last ∙ ap (λ x. option_map_or g x d) round_opened ∙ none
+        ap (λ m. option_map_or g (round_of (after_opening aim o) m) d) last ∙ ap (λ x. option_map_or g x d) round_opened ∙ none
         ∙ sym (ap (λ x. option_map_or g x d) (no_round_above o numbered n (omega (arith, last))))
     | inr other ↦ ap (λ x. option_map_or g x d) (other_after_opening n other)
   ]

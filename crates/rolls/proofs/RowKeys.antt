@@ -36,6 +36,7 @@ of_table (suc (suc zero)) (code ∷ _) = key.Student code
 of_table (suc (suc (suc zero))) ((number ∷ _) ∷ _) = key.Round number
 of_table (suc (suc (suc (suc zero)))) ((round ∷ _) ∷ student ∷ (place ∷ _) ∷ _) = key.Choice round student place
 of_table (suc (suc (suc (suc (suc zero))))) (student ∷ _) = key.Placement student
+of_table (suc (suc (suc (suc (suc (suc (suc zero))))))) ((round ∷ _) ∷ _) = key.RoundAim round
 of_table _ (id ∷ _) = key.Import id
 of_table _ _ = key.Supervisor []
 
@@ -50,6 +51,7 @@ parts_back (key.Student code) = refl
 parts_back (key.Round number) = refl
 parts_back (key.Choice round student place) = refl
 parts_back (key.Placement student) = refl
+parts_back (key.RoundAim round) = refl
 parts_back (key.Import id) = refl
 
 -- keys that are the same are one

@@ -16,15 +16,16 @@ use Rattle.rolls.specs.declared.entries.Student.{Student}
 use Rattle.rolls.specs.declared.rounds.Round.{Round}
 use Rattle.rolls.specs.declared.rounds.Listed.{Listed}
 use Rattle.rolls.specs.declared.rounds.Placement.{Placement}
+use Rattle.rolls.specs.declared.rounds.RoundAim.{RoundAim}
 use Rattle.rolls.specs.declared.import.Import.{Import}
 use Rattle.rolls.specs.declared.row.Row.{Row}
 use Rattle.rolls.specs.declared.row.Row.TheVariants as row
 use Rattle.rolls.specs.declared.row.RowKey.{RowKey}
 use Rattle.rolls.specs.declared.row.RowKey.TheVariants as key
 use Rattle.rolls.specs.Roll.{Key, code_cmp, same_key, find, rises, is_below}
-use Rattle.rolls.specs.State.{State, supervisor_key, project_key, student_key, round_key, list_key, placement_key, import_key, lists_of, list_of, round_of}
-use Rattle.rolls.specs.Rows.{row_of, supervisor_row, project_row, student_row, round_row, placement_row, import_row, choice_in}
-use Rattle.rolls.specs.Fit.{IsFit, ListFits, are_numbered}
+use Rattle.rolls.specs.State.{State, supervisor_key, project_key, student_key, round_key, aim_key, list_key, placement_key, import_key, lists_of, list_of, round_of}
+use Rattle.rolls.specs.Rows.{row_of, supervisor_row, project_row, student_row, round_row, aim_row, placement_row, import_row, choice_in}
+use Rattle.rolls.specs.Fit.{IsFit, ListFits, are_aimed, are_numbered}
 use Rattle.rolls.specs.Laws.{RowsGiveOffice}
 use Rattle.rolls.proofs.EntryChange.{all_weaker}
 use Rattle.rolls.proofs.Found.{none_found, found_key, holds_of_found}
@@ -38,6 +39,7 @@ pub record IsShaped (o : State) : Type 0 where
   pub rounds_rise : rises round_key o.rounds ≡ true
   pub lists_rise : (n : ℕ) → rises list_key (lists_of o n) ≡ true
   pub lists_some : (n : ℕ) → AllByRecursion (λ l. 1 ≤ length l.choices) (lists_of o n)
+  pub aims_rise : rises aim_key o.aims ≡ true
   pub placements_rise : rises placement_key o.placements ≡ true
   pub imports_rise : rises import_key o.imports ≡ true
 
@@ -59,6 +61,10 @@ student_in _ = None
 abbrev pub placement_in : Row → Option Placement
 placement_in (row.Placement student round project rank) = Some (record { student = student; round = round; project = project; rank = rank })
 placement_in _ = None
+
+abbrev pub aim_in : Row → Option RoundAim
+aim_in (row.RoundAim round aim) = Some (record { round = round; aim = aim })
+aim_in _ = None
 
 abbrev pub import_in : Row → Option Import
 import_in (row.Import id kind bytes rows) = Some (record { id = id; kind = kind; bytes = bytes; rows = rows })
@@ -139,10 +145,13 @@ never_tied Less = refl
 never_tied Equal = refl
 never_tied Greater = refl
 
--- rounds stand under their numbers alone
-found_round : (es fs : List Round) → ((n : ℕ) → find round_key (n, []) es ≡ find round_key (n, []) fs) → (q : Key) → find round_key q es ≡ find round_key q fs
-found_round es fs same (n, []) = same n
-found_round es fs same (n, c ∷ cs) = none_found round_key (n, c ∷ cs) (λ e. never_tied (nat_cmp n e.number)) es ∙ sym (none_found round_key (n, c ∷ cs) (λ e. never_tied (nat_cmp n e.number)) fs)
+-- entries under numbers stand there alone
+found_number : {E : Type 0} (key : E → Key) (number : E → ℕ) → ((e : E) → key e ≡ (number e, [])) → (es fs : List E) → ((n : ℕ) → find key (n, []) es ≡ find key (n, []) fs) → (q : Key) → find key q es ≡ find key q fs
+found_number key number is es fs same (n, []) = same n
+found_number key number is es fs same (n, c ∷ cs) = none_found key (n, c ∷ cs) never es ∙ sym (none_found key (n, c ∷ cs) never fs)
+  where
+    never : (e : _) → same_key (n, c ∷ cs) (key e) ≡ false
+    never e = ap (same_key (n, c ∷ cs)) (is e) ∙ never_tied (nat_cmp n (number e))
 
 abbrev head_of : Round → ℕ × Bool
 head_of r = (r.number, r.is_open)
@@ -188,10 +197,11 @@ module _ (o n : State) (of : IsShaped o) (nf : IsShaped n) (same : (k : RowKey) 
       let supervisors = same_by_code supervisor_key (λ s. s.code) (λ s. refl) o.supervisors n.supervisors of.supervisors_rise nf.supervisors_rise (λ code. same_entry supervisor_row supervisor_in (λ e. refl) _ _ (same (key.Supervisor code))) in
       let projects = same_by_code project_key (λ p. p.code) (λ p. refl) o.projects n.projects of.projects_rise nf.projects_rise (λ code. same_entry project_row project_in (λ e. refl) _ _ (same (key.Project code))) in
       let students = same_by_code student_key (λ s. s.code) (λ s. refl) o.students n.students of.students_rise nf.students_rise (λ code. same_entry student_row student_in (λ e. refl) _ _ (same (key.Student code))) in
-      let rounds = same_found round_key o.rounds n.rounds of.rounds_rise nf.rounds_rise (found_round o.rounds n.rounds private_round) in
+      let rounds = same_found round_key o.rounds n.rounds of.rounds_rise nf.rounds_rise (found_number round_key (λ r. r.number) (λ r. refl) o.rounds n.rounds private_round) in
+      let aims = same_found aim_key o.aims n.aims of.aims_rise nf.aims_rise (found_number aim_key (λ a. a.round) (λ a. refl) o.aims n.aims (λ r. same_entry aim_row aim_in (λ e. refl) _ _ (same (key.RoundAim r)))) in
       let placements = same_by_code placement_key (λ p. p.student) (λ p. refl) o.placements n.placements of.placements_rise nf.placements_rise (λ code. same_entry placement_row placement_in (λ e. refl) _ _ (same (key.Placement code))) in
       let imports = same_by_code import_key (λ i. i.id) (λ i. refl) o.imports n.imports of.imports_rise nf.imports_rise (λ id. same_entry import_row import_in (λ e. refl) _ _ (same (key.Import id))) in
-      λ i. record { supervisors = supervisors i; projects = projects i; students = students i; rounds = rounds i; placements = placements i; imports = imports i }
+      λ i. record { supervisors = supervisors i; projects = projects i; students = students i; rounds = rounds i; aims = aims i; placements = placements i; imports = imports i }
 
 -- ---- a fit office has this shape
 
@@ -210,6 +220,24 @@ numbered_rise m (r ∷ rs) h =
     let rest = second_so (r.number == m) (are_numbered (suc m) rs) h in
     ap (λ b. b && rises round_key rs) (below_numbered r.number (suc m) rs (omega (arith, first)) rest) ∙ numbered_rise (suc m) rs rest
 
+-- aims stand in the order of their rounds
+below_aimed : (k : ℕ) (aims : List RoundAim) (rs : List Round) → are_aimed aims rs ≡ true → is_below aim_key (k, []) aims ≡ is_below round_key (k, []) rs
+below_aimed k [] [] h = refl
+below_aimed k (a ∷ aims) (r ∷ rs) h =
+    let same : a.round ≡ r.number = grind (arith, nat_tests, first_so (a.round == r.number) (are_aimed aims rs) h) in
+    λ i. is_lt (ordering_then (nat_cmp k (same i)) Equal) && below_aimed k aims rs (second_so (a.round == r.number) (are_aimed aims rs) h) i
+below_aimed k [] (r ∷ rs) h = cc
+below_aimed k (a ∷ aims) [] h = cc
+
+aimed_rise : (aims : List RoundAim) (rs : List Round) → are_aimed aims rs ≡ true → rises aim_key aims ≡ rises round_key rs
+aimed_rise [] [] h = refl
+aimed_rise (a ∷ aims) (r ∷ rs) h =
+    let same : a.round ≡ r.number = grind (arith, nat_tests, first_so (a.round == r.number) (are_aimed aims rs) h) in
+    let rest = second_so (a.round == r.number) (are_aimed aims rs) h in
+    λ i. (ap (λ n. is_below aim_key (n, []) aims) same ∙ below_aimed r.number aims rs rest) i && aimed_rise aims rs rest i
+aimed_rise [] (r ∷ rs) h = cc
+aimed_rise (a ∷ aims) [] h = cc
+
 pub fit_shaped : (o : State) → IsFit o → IsShaped o
 fit_shaped o fit = record {
   supervisors_rise = fit.supervisors.rise;
@@ -218,6 +246,7 @@ fit_shaped o fit = record {
   rounds_rise = numbered_rise 1 o.rounds fit.numbered;
   lists_rise = fit.lists_rise;
   lists_some = λ n. all_weaker (ListFits o n) (λ l. 1 ≤ length l.choices) (λ l fits. fits.choices.some) (lists_of o n) (fit.lists_fit n);
+  aims_rise = aimed_rise o.aims o.rounds fit.aimed ∙ numbered_rise 1 o.rounds fit.numbered;
   placements_rise = fit.placements_rise;
   imports_rise = fit.imports.rise;
 }

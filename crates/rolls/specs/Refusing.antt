@@ -115,7 +115,7 @@ abbrev pub plain_refusal : State → Plain → Option Refusal
 plain_refusal o (PutSupervisor code label quota) = first (supervisor_tests o code label quota)
 plain_refusal o (PutProject code label supervisor quota) = first (project_tests o code label supervisor quota)
 plain_refusal o (PutStudent code label) = first (student_tests o code label)
-plain_refusal o OpenRound = first (opening_tests o)
+plain_refusal o (OpenRound aim) = first (opening_tests o)
 plain_refusal o (PutList student choices) = first (list_tests o student choices)
 plain_refusal o (DropList student) = first (drop_tests o student)
 plain_refusal o ReopenRound = first (reopening_tests o)

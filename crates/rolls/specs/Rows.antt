@@ -7,6 +7,7 @@ use Rattle.rolls.specs.declared.entries.Project.{Project}
 use Rattle.rolls.specs.declared.entries.Student.{Student}
 use Rattle.rolls.specs.declared.rounds.Round.{Round}
 use Rattle.rolls.specs.declared.rounds.Placement.{Placement}
+use Rattle.rolls.specs.declared.rounds.RoundAim.{RoundAim}
 use Rattle.rolls.specs.declared.import.Import.{Import}
 use Rattle.rolls.specs.declared.row.Row.{Row}
 use Rattle.rolls.specs.declared.row.Row.TheVariants as row
@@ -14,7 +15,7 @@ use Rattle.rolls.specs.declared.row.RowKey.{RowKey}
 use Rattle.rolls.specs.declared.row.RowKey.TheVariants as key
 use Rattle.rolls.specs.declared.row.Change.{Change}
 use Rattle.rolls.specs.declared.row.Change.TheVariants as change
-use Rattle.rolls.specs.State.{State, supervisor_of, project_of, student_of, round_of, placement_of, import_of, choices_in}
+use Rattle.rolls.specs.State.{State, supervisor_of, project_of, student_of, round_of, round_aim_of, placement_of, import_of, choices_in}
 
 -- the key of a row
 abbrev pub key_of : Row → RowKey
@@ -24,6 +25,7 @@ key_of (row.Student code label) = key.Student code
 key_of (row.Round number is_open) = key.Round number
 key_of (row.Choice round student place project) = key.Choice round student place
 key_of (row.Placement student round project rank) = key.Placement student
+key_of (row.RoundAim round aim) = key.RoundAim round
 key_of (row.Import id kind bytes rows) = key.Import id
 
 -- the parts of a key: the number of its table first; a number is written as a list of one
@@ -34,6 +36,7 @@ parts_of (key.Student code) = (2 ∷ []) ∷ code ∷ []
 parts_of (key.Round number) = (3 ∷ []) ∷ (number ∷ []) ∷ []
 parts_of (key.Choice round student place) = (4 ∷ []) ∷ (round ∷ []) ∷ student ∷ (place ∷ []) ∷ []
 parts_of (key.Placement student) = (5 ∷ []) ∷ student ∷ []
+parts_of (key.RoundAim round) = (7 ∷ []) ∷ (round ∷ []) ∷ []
 parts_of (key.Import id) = (6 ∷ []) ∷ id ∷ []
 
 -- whether two keys have the same parts
@@ -66,6 +69,10 @@ round_row r = row.Round r.number r.is_open
 abbrev pub placement_row : Placement → Row
 placement_row p = row.Placement p.student p.round p.project p.rank
 
+-- the row of a round's aim
+abbrev pub aim_row : RoundAim → Row
+aim_row a = row.RoundAim a.round a.aim
+
 -- an import's row
 abbrev pub import_row : Import → Row
 import_row i = row.Import i.id i.kind i.bytes i.rows
@@ -82,6 +89,7 @@ row_of o (key.Student code) = option_map student_row (student_of o code)
 row_of o (key.Round number) = option_map round_row (round_of o number)
 row_of o (key.Choice round student place) = option_map (row.Choice round student place) (choice_in (choices_in o round student) place)
 row_of o (key.Placement student) = option_map placement_row (placement_of o student)
+row_of o (key.RoundAim round) = option_map aim_row (round_aim_of o round)
 row_of o (key.Import id) = option_map import_row (import_of o id)
 
 -- whether a key is of a choice in this student's list in this round

@@ -2,28 +2,32 @@
 use Rattle.std.specs.Prelude.{ℕ, ◌==◌, ◌&&◌, not, Bool, false, nat_lt, List, [], length, count_by, Option, None, is_some, if◌then◌else◌}
 use Rattle.std.specs.Option.{option_map, option_map_or}
 use Rattle.std.specs.Str.{bytes_eq}
+use Rattle.spa.specs.declared.aim.Aim.{Aim}
+use Rattle.spa.specs.declared.aim.Aim.TheVariants.{Greedy}
 use Rattle.rolls.specs.declared.entries.Supervisor.{Supervisor}
 use Rattle.rolls.specs.declared.entries.Project.{Project}
 use Rattle.rolls.specs.declared.entries.Student.{Student}
 use Rattle.rolls.specs.declared.rounds.Round.{Round}
 use Rattle.rolls.specs.declared.rounds.Listed.{Listed}
 use Rattle.rolls.specs.declared.rounds.Placement.{Placement}
+use Rattle.rolls.specs.declared.rounds.RoundAim.{RoundAim}
 use Rattle.rolls.specs.declared.import.Import.{Import}
 use Rattle.rolls.specs.Roll.{Key, of_code, of_number, find}
 
--- the office: its three rolls by code, the rounds by number, each with its lists, the placements by student, and the imports
--- that were made, by id
+-- the office: its three rolls by code, the rounds by number, each with its lists, their aims by number, the placements by student,
+-- and the imports that were made, by id
 pub record State : Type 0 where
   pub supervisors : List Supervisor
   pub projects : List Project
   pub students : List Student
   pub rounds : List Round
+  pub aims : List RoundAim
   pub placements : List Placement
   pub imports : List Import
 
 -- the office that holds nothing
 abbrev pub empty : State
-empty = record { supervisors = []; projects = []; students = []; rounds = []; placements = []; imports = [] }
+empty = record { supervisors = []; projects = []; students = []; rounds = []; aims = []; placements = []; imports = [] }
 
 -- a supervisor's key
 abbrev pub supervisor_key : Supervisor → Key
@@ -44,6 +48,10 @@ round_key r = of_number r.number
 -- the key of a list, among those of its round
 abbrev pub list_key : Listed → Key
 list_key l = of_code l.student
+
+-- the key of a round's aim
+abbrev pub aim_key : RoundAim → Key
+aim_key a = of_number a.round
 
 -- a placement's key
 abbrev pub placement_key : Placement → Key
@@ -68,6 +76,14 @@ student_of o code = find student_key (of_code code) o.students
 -- the round with this number
 abbrev pub round_of : State → ℕ → Option Round
 round_of o n = find round_key (of_number n) o.rounds
+
+-- the entry of a round's aim
+abbrev pub round_aim_of : State → ℕ → Option RoundAim
+round_aim_of o n = find aim_key (of_number n) o.aims
+
+-- the aim of a round
+abbrev pub aim_of : State → ℕ → Aim
+aim_of o n = option_map_or (λ a. a.aim) (round_aim_of o n) Greedy
 
 -- where a student is placed
 abbrev pub placement_of : State → List ℕ → Option Placement

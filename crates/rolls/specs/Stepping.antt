@@ -2,11 +2,12 @@
 use Rattle.std.specs.Prelude.{ℕ, zero, suc, ◌+◌, ◌==◌, not, true, List, [], ◌∷◌, length, filter, Option, Some, None}
 use Rattle.std.specs.Option.{option_map_or}
 use Rattle.spa.specs.declared.TheConstants.{RANKS}
+use Rattle.spa.specs.declared.aim.Aim.{Aim}
 use Rattle.rolls.specs.declared.rounds.Round.{Round}
 use Rattle.rolls.specs.declared.request.Reply.{Reply}
 use Rattle.rolls.specs.declared.request.Reply.TheVariants as reply
 use Rattle.rolls.specs.Roll.{of_code, put, take_out}
-use Rattle.rolls.specs.State.{State, supervisor_key, project_key, student_key, round_key, list_key, supervisor_of, project_of, student_of, round_of, placement_of, last_round, is_open, lists_of, open_choices, placed_in_project, placed_with_supervisor, placed_in_round, placed_at_rank}
+use Rattle.rolls.specs.State.{State, supervisor_key, project_key, student_key, round_key, aim_key, list_key, supervisor_of, project_of, student_of, round_of, aim_of, placement_of, last_round, is_open, lists_of, open_choices, placed_in_project, placed_with_supervisor, placed_in_round, placed_at_rank}
 use Rattle.rolls.specs.declared.request.Plain.{Plain}
 use Rattle.rolls.specs.declared.request.Plain.TheVariants.{PutSupervisor, PutProject, PutStudent, OpenRound, PutList, DropList, ReopenRound, GetSupervisor, GetProject, GetStudent, GetRound}
 
@@ -14,9 +15,12 @@ use Rattle.rolls.specs.declared.request.Plain.TheVariants.{PutSupervisor, PutPro
 abbrev pub with_last : (Round → Round) → State → State
 with_last f o = record o { rounds = option_map_or (λ r. put round_key (f r) o.rounds) (round_of o (last_round o)) o.rounds }
 
--- the next round, open and without lists
-abbrev pub after_opening : State → State
-after_opening o = record o { rounds = put round_key (record { number = last_round o + 1; is_open = true; lists = [] }) o.rounds }
+-- the next round, open, with this aim and without lists
+abbrev pub after_opening : Aim → State → State
+after_opening aim o = record o {
+  rounds = put round_key (record { number = last_round o + 1; is_open = true; lists = [] }) o.rounds;
+  aims = put aim_key (record { round = last_round o + 1; aim = aim }) o.aims;
+}
 
 -- the last round is open again and has placed nobody; its lists stay
 abbrev pub after_reopening : State → State
@@ -27,7 +31,7 @@ abbrev pub after_plain : Plain → State → State
 after_plain (PutSupervisor code label quota) o = record o { supervisors = put supervisor_key (record { code = code; label = label; quota = quota }) o.supervisors }
 after_plain (PutProject code label supervisor quota) o = record o { projects = put project_key (record { code = code; label = label; supervisor = supervisor; quota = quota }) o.projects }
 after_plain (PutStudent code label) o = record o { students = put student_key (record { code = code; label = label }) o.students }
-after_plain OpenRound o = after_opening o
+after_plain (OpenRound aim) o = after_opening aim o
 after_plain (PutList student choices) o = with_last (λ r. record r { lists = put list_key (record { student = student; choices = choices }) r.lists }) o
 after_plain (DropList student) o = with_last (λ r. record r { lists = take_out list_key (of_code student) r.lists }) o
 after_plain ReopenRound o = after_reopening o
@@ -55,11 +59,11 @@ abbrev pub plain_reply : Plain → State → Reply
 plain_reply (PutSupervisor code label quota) o = reply.Done
 plain_reply (PutProject code label supervisor quota) o = reply.Done
 plain_reply (PutStudent code label) o = reply.Done
-plain_reply OpenRound o = reply.Opened (last_round o + 1)
+plain_reply (OpenRound aim) o = reply.Opened (last_round o + 1)
 plain_reply (PutList student choices) o = reply.Done
 plain_reply (DropList student) o = reply.Done
 plain_reply ReopenRound o = reply.Opened (last_round o)
 plain_reply (GetSupervisor code) o = answer_of (λ s. reply.Supervisor s.label (placed_with_supervisor o code) s.quota) (supervisor_of o code)
 plain_reply (GetProject code) o = answer_of (λ p. reply.Project p.label (placed_in_project o code) p.quota p.supervisor) (project_of o code)
 plain_reply (GetStudent code) o = answer_of (λ s. reply.Student s.label (open_choices o code) (placement_of o code)) (student_of o code)
-plain_reply (GetRound round) o = reply.Round round (is_open o round) (placed_in_round o round) (by_rank (λ k. placed_at_rank o round (k + 1))) (length (lists_of o round))
+plain_reply (GetRound round) o = reply.Round round (aim_of o round) (is_open o round) (placed_in_round o round) (by_rank (λ k. placed_at_rank o round (k + 1))) (length (lists_of o round))

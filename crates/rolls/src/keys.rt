@@ -1,10 +1,10 @@
 //! The key and the copy of each kind of entry.
 
-ghost use Rattle.rolls.specs.State.{supervisor_key, project_key, student_key, round_key, list_key, placement_key, import_key};
+ghost use Rattle.rolls.specs.State.{supervisor_key, project_key, student_key, round_key, aim_key, list_key, placement_key, import_key};
 
 use crate::entries::{Project, Student, Supervisor};
 use crate::import::Import;
-use crate::rounds::{Listed, Placement, Round};
+use crate::rounds::{Listed, Placement, Round, RoundAim};
 use crate::table::Entry;
 use std::alloc::{AllocError, Global};
 
@@ -83,6 +83,21 @@ impl Entry for Round {
             number: self.number,
             is_open: self.is_open,
             lists: self.lists.duplicate(alloc)?,
+        })
+    }
+}
+
+impl Entry for RoundAim {
+    ghost key = { aim_key };
+
+    fn key(&self) -> (u32, &str) {
+        (self.round, "")
+    }
+
+    fn duplicate(&self, _alloc: Global) -> Result<Self, AllocError> {
+        Ok(RoundAim {
+            round: self.round,
+            aim: self.aim,
         })
     }
 }

@@ -8,7 +8,7 @@ use crate::report::ReportKind;
 use crate::rounds::{Choices, Placement};
 use crate::row::Change;
 use crate::text::{Text, Texts};
-use spa::{Code, Label, RANKS};
+use spa::{Aim, Code, Label, RANKS};
 
 /// A request that needs nothing but the office. Texts and quotas come as they were sent, for the office
 /// to judge.
@@ -32,8 +32,10 @@ pub enum Plain {
         code: Text,
         label: Text,
     },
-    /// Opens the next round.
-    OpenRound,
+    /// Opens the next round, with this aim.
+    OpenRound {
+        aim: Aim,
+    },
     /// Makes the student's list in the open round this one.
     PutList {
         student: Text,
@@ -72,7 +74,7 @@ impl Plain {
             Plain::PutSupervisor { .. }
             | Plain::PutProject { .. }
             | Plain::PutStudent { .. }
-            | Plain::OpenRound
+            | Plain::OpenRound { .. }
             | Plain::PutList { .. }
             | Plain::DropList { .. }
             | Plain::ReopenRound => false,
@@ -137,10 +139,11 @@ pub enum Reply {
     Opened {
         round: u32,
     },
-    /// A round: whether it is open, how many students it placed, how many of them at rank 1 and so on, and how many lists
-    /// it has.
+    /// A round: its aim, whether it is open, how many students it placed, how many of them at rank 1 and so on, and how many
+    /// lists it has.
     Round {
         number: u32,
+        aim: Aim,
         is_open: bool,
         placed: u32,
         profile: [u32; RANKS],

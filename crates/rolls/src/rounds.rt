@@ -4,7 +4,7 @@ ghost use Rattle.std.specs.Prelude.{◌≡◌};
 
 use crate::shared::Shared;
 use crate::table::Table;
-use spa::Code;
+use spa::{Aim, Code};
 
 /// The projects that a student lists, by their codes, first choice first.
 pub type Choices = Shared<Code>;
@@ -27,6 +27,15 @@ pub struct Round {
     pub is_open: bool,
     /// Its lists, by the students' codes.
     pub lists: Table<Listed>,
+}
+
+/// The aim of a round: which of the largest matchings is best when it closes.
+#[derive(Drop)]
+pub struct RoundAim {
+    /// The round's number.
+    pub round: u32,
+    /// Its aim.
+    pub aim: Aim,
 }
 
 /// Where a round placed a student.

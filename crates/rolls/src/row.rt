@@ -2,6 +2,7 @@
 
 use crate::import::{Bytes, ImportKind};
 use crate::text::Text;
+use spa::Aim;
 
 /// A row of a table.
 #[derive(Drop)]
@@ -43,6 +44,11 @@ pub enum Row {
         project: Text,
         rank: u32,
     },
+    /// Of the table `round_aim`.
+    RoundAim {
+        round: u32,
+        aim: Aim,
+    },
     /// Of the table `import`.
     Import {
         id: Text,
@@ -67,6 +73,8 @@ pub enum RowKey {
     Choice(u32, Text, u32),
     /// A student's code in the table `placement`.
     Placement(Text),
+    /// A round's number in the table `round_aim`.
+    RoundAim(u32),
     /// An id in the table `import`.
     Import(Text),
 }

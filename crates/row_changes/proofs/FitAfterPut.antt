@@ -12,12 +12,13 @@ use Rattle.rolls.specs.declared.entries.Supervisor.{Supervisor}
 use Rattle.rolls.specs.declared.entries.Project.{Project}
 use Rattle.rolls.specs.declared.entries.Student.{Student}
 use Rattle.rolls.specs.declared.rounds.Round.{Round}
+use Rattle.rolls.specs.declared.rounds.RoundAim.{RoundAim}
 use Rattle.rolls.specs.declared.rounds.Listed.{Listed}
 use Rattle.rolls.specs.declared.rounds.Placement.{Placement}
 use Rattle.rolls.specs.declared.import.Import.{Import}
 use Rattle.rolls.specs.Roll.{Key, put, same_key, rises}
 use Rattle.rolls.specs.State.{State, supervisor_key, project_key, student_key, list_key, placement_key, import_key, project_of, has_supervisor, has_project, has_student, has_import, list_of, lists_of, choices_in, is_offered_by, placed_with_supervisor, placed_in_project, quota_with}
-use Rattle.rolls.specs.Fit.{AreEntries, IsFit, SupervisorFits, ProjectFits, StudentFits, ListFits, PlacementFits, ImportFits, are_numbered, only_last_open}
+use Rattle.rolls.specs.Fit.{AreEntries, IsFit, SupervisorFits, ProjectFits, StudentFits, ListFits, PlacementFits, ImportFits, are_aimed, are_numbered, only_last_open}
 use Rattle.rolls.specs.Refusing.{is_moved}
 use Rattle.rolls.specs.Importing.{with_import}
 use Rattle.rolls.proofs.Places.{rises-put}
@@ -61,6 +62,7 @@ fit_with_supervisor o s fit fits enough free = record {
   students = fit.students;
   numbered = fit.numbered;
   few_rounds = fit.few_rounds;
+  aimed = fit.aimed;
   last_open = fit.last_open;
   lists_rise = fit.lists_rise;
   lists_fit = fit.lists_fit;
@@ -127,6 +129,7 @@ fit_with_project o p fit fits moved enough free = record {
   students = fit.students;
   numbered = fit.numbered;
   few_rounds = fit.few_rounds;
+  aimed = fit.aimed;
   last_open = fit.last_open;
   lists_rise = fit.lists_rise;
   lists_fit = λ n. all_weaker (ListFits o n) (ListFits (with_project o p) n) (list_fits_still o p n) (lists_of o n) (fit.lists_fit n);
@@ -161,6 +164,7 @@ fit_with_student o s fit fits free = record {
   students = entries_put student_key StudentFits MOST_STUDENTS s o.students fit.students fits free;
   numbered = fit.numbered;
   few_rounds = fit.few_rounds;
+  aimed = fit.aimed;
   last_open = fit.last_open;
   lists_rise = fit.lists_rise;
   lists_fit = λ n. all_weaker (ListFits o n) (ListFits (with_student o s) n) (known_list_still o s n) (lists_of o n) (fit.lists_fit n);
@@ -180,6 +184,7 @@ fit_with_import i o fit fits free = record {
   students = fit.students;
   numbered = fit.numbered;
   few_rounds = fit.few_rounds;
+  aimed = fit.aimed;
   last_open = fit.last_open;
   lists_rise = fit.lists_rise;
   lists_fit = fit.lists_fit;
@@ -193,23 +198,25 @@ fit_with_import i o fit fits free = record {
 -- ---- the rounds change
 
 -- Other rounds, and no more placements by any count. The new lists and placements are fit.
-pub record IsRoundStep (o : State) (rounds : List Round) (placements : List Placement) : Type 0 where
+pub record IsRoundStep (o : State) (rounds : List Round) (aims : List RoundAim) (placements : List Placement) : Type 0 where
   pub numbered : are_numbered 1 rounds ≡ true
   pub few_rounds : length rounds ≤ MOST_ROUNDS
+  pub aimed : are_aimed aims rounds ≡ true
   pub last_open : only_last_open rounds ≡ true
-  pub lists_rise : (n : ℕ) → rises list_key (lists_of (record o { rounds = rounds; placements = placements }) n) ≡ true
-  pub lists_fit : (n : ℕ) → AllByRecursion (ListFits (record o { rounds = rounds; placements = placements }) n) (lists_of (record o { rounds = rounds; placements = placements }) n)
+  pub lists_rise : (n : ℕ) → rises list_key (lists_of (record o { rounds = rounds; aims = aims; placements = placements }) n) ≡ true
+  pub lists_fit : (n : ℕ) → AllByRecursion (ListFits (record o { rounds = rounds; aims = aims; placements = placements }) n) (lists_of (record o { rounds = rounds; aims = aims; placements = placements }) n)
   pub placements_rise : rises placement_key placements ≡ true
-  pub placements_fit : AllByRecursion (PlacementFits (record o { rounds = rounds; placements = placements })) placements
+  pub placements_fit : AllByRecursion (PlacementFits (record o { rounds = rounds; aims = aims; placements = placements })) placements
   pub counts_fall : (t : Placement → Bool) → count_by t placements ≤ count_by t o.placements
 
-pub fit_with_rounds : (o : State) (rounds : List Round) (placements : List Placement) → IsFit o → IsRoundStep o rounds placements → IsFit (record o { rounds = rounds; placements = placements })
-fit_with_rounds o rounds placements fit step = record {
+pub fit_with_rounds : (o : State) (rounds : List Round) (aims : List RoundAim) (placements : List Placement) → IsFit o → IsRoundStep o rounds aims placements → IsFit (record o { rounds = rounds; aims = aims; placements = placements })
+fit_with_rounds o rounds aims placements fit step = record {
   supervisors = fit.supervisors;
   projects = fit.projects;
   students = fit.students;
   numbered = step.numbered;
   few_rounds = step.few_rounds;
+  aimed = step.aimed;
   last_open = step.last_open;
   lists_rise = step.lists_rise;
   lists_fit = step.lists_fit;

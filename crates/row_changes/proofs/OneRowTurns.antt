@@ -7,6 +7,7 @@ use Rattle.std.specs.Str.{bytes_eq}
 use Rattle.std.proofs.lemmas.Bool.{cases_Bool, cases_eq}
 use Rattle.std.proofs.lemmas.Slice.Eq.{bytes_eq-Decides}
 use Rattle.std.proofs.lemmas.Map.Entries.{option_filter}
+use Rattle.spa.specs.declared.aim.Aim.{Aim}
 use Rattle.rolls.specs.declared.entries.Supervisor.{Supervisor}
 use Rattle.rolls.specs.declared.entries.Project.{Project}
 use Rattle.rolls.specs.declared.entries.Student.{Student}
@@ -21,13 +22,13 @@ use Rattle.rolls.specs.declared.row.RowKey.TheVariants as key
 use Rattle.rolls.specs.declared.row.Change.{Change}
 use Rattle.rolls.specs.declared.row.Change.TheVariants as change
 use Rattle.rolls.specs.Roll.{Key, find, has, put, same_key}
-use Rattle.rolls.specs.State.{State, supervisor_key, project_key, student_key, round_key, list_key, placement_key, import_key, supervisor_of, project_of, student_of, round_of, placement_of, import_of, has_supervisor, has_project, has_student, has_import, lists_of, list_of, last_round, is_open, choices_in}
-use Rattle.rolls.specs.Fit.{IsFit, are_numbered}
-use Rattle.rolls.specs.Rows.{Turns, AreFresh, key_of, row_of, same_row, is_in_list, is_placement_in, unless, after_change, after_changes, supervisor_row, project_row, student_row, round_row, placement_row, import_row, choice_in}
+use Rattle.rolls.specs.State.{State, supervisor_key, project_key, student_key, round_key, aim_key, list_key, placement_key, import_key, supervisor_of, project_of, student_of, round_of, round_aim_of, placement_of, import_of, has_supervisor, has_project, has_student, has_import, lists_of, list_of, last_round, is_open, choices_in}
+use Rattle.rolls.specs.Fit.{IsFit, are_aimed, are_numbered}
+use Rattle.rolls.specs.Rows.{Turns, AreFresh, key_of, row_of, same_row, is_in_list, is_placement_in, unless, after_change, after_changes, supervisor_row, project_row, student_row, round_row, aim_row, placement_row, import_row, choice_in}
 use Rattle.rolls.specs.Stepping.{after_opening, after_reopening}
 use Rattle.rolls.specs.Importing.{with_import}
 use Rattle.rolls.proofs.EntryChange.{find-put}
-use Rattle.rolls.proofs.LastRound.{last_changed, other_kept, reading_kept, reading_after_opening, some_round, round_number, same_lists, same_round, other_round, no_round_above}
+use Rattle.rolls.proofs.LastRound.{last_changed, other_kept, reading_kept, reading_after_opening, some_round, round_number, same_lists, same_round, other_round, no_round_above, aimed_found}
 use Rattle.row_changes.specs.Changes.{put_or_added, list_changes, reopening_changes}
 use Rattle.row_changes.specs.Laws.{KeepingTurns}
 use Rattle.row_changes.proofs.Entries.{find-filter}
@@ -61,6 +62,7 @@ supervisor_turned o s (key.Student code) = refl
 supervisor_turned o s (key.Round n) = refl
 supervisor_turned o s (key.Choice n student place) = refl
 supervisor_turned o s (key.Placement student) = refl
+supervisor_turned o s (key.RoundAim n) = refl
 supervisor_turned o s (key.Import id) = refl
 
 pub turns_supervisor : (o : State) (s : Supervisor) → Turns (put_or_added (has_supervisor o s.code) (supervisor_row s) ∷ []) o (with_supervisor o s)
@@ -76,6 +78,7 @@ project_turned o p (key.Student code) = refl
 project_turned o p (key.Round n) = refl
 project_turned o p (key.Choice n student place) = refl
 project_turned o p (key.Placement student) = refl
+project_turned o p (key.RoundAim n) = refl
 project_turned o p (key.Import id) = refl
 
 pub turns_project : (o : State) (p : Project) → Turns (put_or_added (has_project o p.code) (project_row p) ∷ []) o (with_project o p)
@@ -91,6 +94,7 @@ student_turned o s (key.Student code) = turned student_key student_row s o.stude
 student_turned o s (key.Round n) = refl
 student_turned o s (key.Choice n student place) = refl
 student_turned o s (key.Placement student) = refl
+student_turned o s (key.RoundAim n) = refl
 student_turned o s (key.Import id) = refl
 
 pub turns_student : (o : State) (s : Student) → Turns (put_or_added (has_student o s.code) (student_row s) ∷ []) o (with_student o s)
@@ -106,6 +110,7 @@ import_turned o i (key.Student code) = refl
 import_turned o i (key.Round n) = refl
 import_turned o i (key.Choice n student place) = refl
 import_turned o i (key.Placement student) = refl
+import_turned o i (key.RoundAim n) = refl
 import_turned o i (key.Import id) = turned import_key import_row i o.imports (0, id) _ (code_test id i.id)
 
 pub turns_import : KeepingTurns
@@ -120,19 +125,24 @@ turns_import i o = record {
 same_choice : (o new : State) (n : ℕ) (student : List ℕ) (place : ℕ) → lists_of new n ≡ lists_of o n → row_of o (key.Choice n student place) ≡ row_of new (key.Choice n student place)
 same_choice o new n student place same = ap (λ cs. option_map (row.Choice n student place) (choice_in cs place)) (sym (same_lists o new n n same student))
 
-pub turns_opened : (o : State) → are_numbered 1 o.rounds ≡ true → Turns (change.Add (row.Round (last_round o + 1) true) ∷ []) o (after_opening o)
-turns_opened o numbered = record {
-  fresh = (ap (option_map round_row) (no_round_above o numbered (last_round o + 1) (omega arith)), tt);
+pub turns_opened : (aim : Aim) (o : State) → are_numbered 1 o.rounds ≡ true → are_aimed o.aims o.rounds ≡ true
+    → Turns (change.Add (row.Round (last_round o + 1) true) ∷ change.Add (row.RoundAim (last_round o + 1) aim) ∷ []) o (after_opening aim o)
+turns_opened aim o numbered aimed = record {
+  fresh = (ap (option_map round_row) none, (no_row aim_row (round_aim_of o (last_round o + 1)) (aimed_found (last_round o + 1) o.aims o.rounds aimed ∙ ap is_some none), tt));
   rows = opened;
 }
   where
-    opened : (k : RowKey) → after_change (change.Add (row.Round (last_round o + 1) true)) (row_of o) k ≡ row_of (after_opening o) k
+    none : round_of o (last_round o + 1) ≡ None
+    none = no_round_above o numbered (last_round o + 1) (omega arith)
+
+    opened : (k : RowKey) → after_change (change.Add (row.RoundAim (last_round o + 1) aim)) (after_change (change.Add (row.Round (last_round o + 1) true)) (row_of o)) k ≡ row_of (after_opening aim o) k
     opened (key.Supervisor code) = refl
     opened (key.Project code) = refl
     opened (key.Student code) = refl
     opened (key.Round n) = turned round_key round_row (record { number = last_round o + 1; is_open = true; lists = [] }) o.rounds (n, []) _ (round_test n (last_round o + 1))
-    opened (key.Choice n student place) = same_choice o (after_opening o) n student place (reading_after_opening o numbered (λ (r : Round). r.lists) [] refl n)
+    opened (key.Choice n student place) = same_choice o (after_opening aim o) n student place (reading_after_opening aim o numbered (λ (r : Round). r.lists) [] refl n)
     opened (key.Placement student) = refl
+    opened (key.RoundAim n) = turned aim_key aim_row (record { round = last_round o + 1; aim = aim }) o.aims (n, []) _ (round_test n (last_round o + 1))
     opened (key.Import id) = refl
 
 -- ---- a list of the last round
@@ -192,6 +202,7 @@ module _ (g : List Listed → List Listed) (student : List ℕ) (has : Bool) (ne
   lists_turned (key.Student code) = elsewhere (key.Student code) refl
   lists_turned (key.Round n) = elsewhere (key.Round n) refl ∙ same_round_row n
   lists_turned (key.Placement s) = elsewhere (key.Placement s) refl
+  lists_turned (key.RoundAim n) = elsewhere (key.RoundAim n) refl
   lists_turned (key.Import id) = elsewhere (key.Import id) refl
   lists_turned (key.Choice n s place) = elim (cases_eq n (last_round o)) [
     | inl last ↦ subst (λ m. after_changes changes (row_of o) (key.Choice m s place) ≡ row_of (with_lists g o) (key.Choice m s place)) (sym last) (in_last s place)
@@ -245,6 +256,7 @@ module _ (o : State) (fit : IsFit o) (some : 1 ≤ last_round o) where
   reopened (key.Supervisor code) = stays (last_round o) supervisor_row (λ e. refl) (supervisor_of o code)
   reopened (key.Project code) = stays (last_round o) project_row (λ e. refl) (project_of o code)
   reopened (key.Student code) = stays (last_round o) student_row (λ e. refl) (student_of o code)
+  reopened (key.RoundAim n) = stays (last_round o) aim_row (λ e. refl) (round_aim_of o n)
   reopened (key.Import id) = stays (last_round o) import_row (λ e. refl) (import_of o id)
   reopened (key.Round n) = ap (unless (is_placement_in (last_round o))) (round_there n) ∙ stays (last_round o) round_row (λ e. refl) (round_of (after_reopening o) n)
   reopened (key.Choice n s place) =

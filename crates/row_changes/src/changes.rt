@@ -5,7 +5,7 @@ ghost use Rattle.spa.specs.declared.TheConstants.{RANKS};
 ghost use Rattle.row_changes.specs.Changes as says;
 
 use rolls::{Change, Placement, Row, Text};
-use spa::Code;
+use spa::{Aim, Code};
 use std::alloc::{AllocError, Global};
 
 /// The change by which a student's list in a round goes, where there is one.
@@ -45,6 +45,19 @@ pub fn list_changes(
             project: Text::of(alloc, code.as_str())?,
         }))?;
     }
+    Ok(changes)
+}
+
+/// A round of this number and with this aim opens.
+pub fn opening_changes(alloc: Global, round: u32, aim: Aim) -> Result<Vec<Change>, AllocError>
+    ensures { IfOk result (λ changes. changes.items ≡ says.opening_changes round aim) }
+{
+    let mut changes = Vec::new(alloc);
+    changes.push(Change::Add(Row::Round {
+        number: round,
+        is_open: true,
+    }))?;
+    changes.push(Change::Add(Row::RoundAim { round, aim }))?;
     Ok(changes)
 }
 

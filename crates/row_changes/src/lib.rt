@@ -12,5 +12,5 @@
 mod changes;
 mod laws;
 
-pub use changes::{kept_placements, list_changes, reopening_changes};
+pub use changes::{kept_placements, list_changes, opening_changes, reopening_changes};
 pub use laws::{fit_law, following_law, keeping_law, turns_law};

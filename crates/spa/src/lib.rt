@@ -34,7 +34,7 @@ mod rolls;
 mod text;
 mod worth;
 
-pub use aim::Aim;
+pub use aim::{AIMS, Aim};
 pub use code::Code;
 pub use counts::Counts;
 pub use fault::{InstanceFault, Roll};

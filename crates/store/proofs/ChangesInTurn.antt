@@ -6,6 +6,7 @@ use Rattle.sqlite.specs.State.{State}
 use Rattle.rolls.specs.declared.row.Row.{Row}
 use Rattle.rolls.specs.declared.row.RowKey.{RowKey}
 use Rattle.rolls.specs.declared.row.Change.{Change}
+use Rattle.rolls.specs.declared.row.Change.TheVariants.{Add, Put, Take, TakeList, TakePlacements}
 use Rattle.rolls.specs.Rows.{AreFresh, IsFresh, after_change, after_changes}
 use Rattle.sqlite.specs.Tree.{Trees}
 use Rattle.tables.specs.Steps.{HasStepped, HasSaved, IsLeft}
@@ -15,13 +16,13 @@ use Rattle.store.specs.Tables.{TablesHold}
 use Rattle.sqlite.specs.Schema.{Schema}
 use Rattle.sqlite_rules.specs.Lists.{Has}
 use Rattle.tables.specs.Table.{Lists, table_at}
-use Rattle.store.specs.Saving.{AddsNew, AreInert, Applies, LeavesOthers, Saves, Spares}
+use Rattle.store.specs.Saving.{AddsNew, AllNeed, AreInert, Applies, LeavesOthers, Needs, Saves, Spares}
 use Rattle.store.specs.Inside.Saving.{AppliesOne}
 
 -- no change applies nothing
 pub applies_none : (db : Database) → Applies [] db db
 unfolding Applies
-applies_none db inert rows t = (t, record { schema = refl; others = λ any h apart. refl }, tt)
+applies_none db need rows t = (t, record { schema = refl; others = λ any h apart. refl }, tt)
 
 after_more : (cs : List Change) (c : Change) (rows : RowKey → Option Row) → after_changes (cs ++ c ∷ []) rows ≡ after_change c (after_changes cs rows)
 after_more [] c rows = refl
@@ -41,11 +42,29 @@ spares_then x y z p q = record {
       ∙ p.others any h apart;
 }
 
+-- what changes ask of the schema, one of them behind the others
+need_more : (cs : List Change) (c : Change) (s : Schema) → AllNeed (cs ++ c ∷ []) s → AllNeed cs s × Needs c s
+need_more [] c s all = (tt, all.0)
+need_more (d ∷ cs) c s all = let rest = need_more cs c s all.1 in ((all.0, rest.0), rest.1)
+
+-- where no foreign key acts on the tables they have it
+all_needed : (cs : List Change) (s : Schema) → AreInert s → AllNeed cs s
+all_needed [] s inert = tt
+all_needed (c ∷ cs) s inert = (one c, all_needed cs s inert)
+  where
+    one : (c : Change) → Needs c s
+    one (Add row) = tt
+    one (Put row) = inert
+    one (Take k) = inert
+    one (TakeList n t) = inert
+    one (TakePlacements n) = inert
+
 applies_then : (cs : List Change) (c : Change) (x y z : Database) → Applies cs x y → AppliesOne c y z → Applies (cs ++ c ∷ []) x z
 unfolding Applies AppliesOne
-applies_then cs c x y z p q inert rows t =
-    let first = p inert rows t in
-    let then = q (subst AreInert (sym first.1.schema) inert) (after_changes cs rows) first.0 in
+applies_then cs c x y z p q need rows t =
+    let needs = need_more cs c x.schema need in
+    let first = p needs.0 rows t in
+    let then = q (subst (Needs c) (sym first.1.schema) needs.1) (after_changes cs rows) first.0 in
     (subst (TablesHold z) (sym (after_more cs c rows)) then.0, spares_then x y z first.1 then.1, fresh_more cs c rows first.2 then.2)
 
 -- nothing was changed yet
@@ -62,7 +81,7 @@ changes_more i changes change a b c low is p q =
 -- changes that were applied are saved, where nothing acts on the tables
 pub saves : (changes : List Change) (old new : Database) → AreInert old.schema → Applies changes old new → Saves changes old new
 unfolding Applies Saves
-saves changes old new inert p rows t = (p inert rows t).0
+saves changes old new inert p rows t = (p (all_needed changes old.schema inert) rows t).0
 
 -- the same of a transaction
 pub saves_call : {E : Type 0} (changes : List Change) (a b : State) (r : Result (Unit {0}) E) → AreInert a.now.schema → OnOk r (HasSaved (Applies changes) a b) → OnOk r (HasSaved (Saves changes) a b)
@@ -76,7 +95,7 @@ saves_left changes old trees inert h = record { was_open = h.was_open; db = h.db
 -- changes that were applied left the other tables alone
 pub leaves_others : (changes : List Change) (old new : Database) → AreInert old.schema → Applies changes old new → LeavesOthers old new
 unfolding Applies LeavesOthers
-leaves_others changes old new inert p rows t = (p inert rows t).1
+leaves_others changes old new inert p rows t = (p (all_needed changes old.schema inert) rows t).1
 
 -- the same of a transaction
 pub others_call : {E : Type 0} (changes : List Change) (a b : State) (r : Result (Unit {0}) E) → AreInert a.now.schema → OnOk r (HasSaved (Applies changes) a b) → OnOk r (LeavesOthers a.now b.now)
@@ -86,7 +105,7 @@ others_call changes a b (Err e) inert h = h
 -- changes that were applied added rows of new keys
 pub adds_new : (changes : List Change) (old new : Database) → AreInert old.schema → Applies changes old new → AddsNew changes old
 unfolding Applies AddsNew
-adds_new changes old new inert p rows t = (p inert rows t).2
+adds_new changes old new inert p rows t = (p (all_needed changes old.schema inert) rows t).2
 
 -- the same of a transaction
 pub new_call : {E : Type 0} (changes : List Change) (a b : State) (r : Result (Unit {0}) E) → AreInert a.now.schema → OnOk r (HasSaved (Applies changes) a b) → OnOk r (AddsNew changes a.now)

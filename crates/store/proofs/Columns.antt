@@ -1,5 +1,5 @@
 -- The columns of the rows of one table, once a row is put or taken away.
-use Rattle.std.proofs.Common.{◌≡◌, ◌≢◌, ◌⊎◌, inl, inr, ℕ, zero, suc, ◌<◌, List, [], ◌∷◌, length, get_or, take, Bool, true, false, not, ◌&&◌, ◌==◌, cond, Some, None, is_eq, filter, map, ℤ, pos, negsuc, refl, sym, ap, subst, ◌∙◌, arith, true≢false}
+use Rattle.std.proofs.Common.{◌≡◌, ◌≢◌, ◌⊎◌, inl, inr, ℕ, zero, suc, ◌<◌, List, [], ◌∷◌, ◌++◌, length, get_or, take, Bool, true, false, not, ◌&&◌, ◌==◌, cond, Some, None, is_eq, filter, map, ℤ, pos, negsuc, refl, sym, ap, subst, ◌∙◌, arith, true≢false}
 use Rattle.std.specs.List.{list_any}
 use Rattle.std.proofs.lemmas.Bool.{and_parts, or_parts, not-true, false_from_ne_true}
 use Rattle.std.proofs.lemmas.Bool.Decides.{Decides-eqb}
@@ -26,14 +26,15 @@ use Rattle.rolls.specs.declared.row.RowKey.TheVariants as key
 use Rattle.rolls.specs.From.{row_in}
 use Rattle.rolls.specs.Rows.{key_of, is_in_list, is_placement_in, same_row}
 use Rattle.tables.specs.declared.table.Table.{Table}
-use Rattle.tables.specs.declared.table.Table.TheVariants.{Choice, Edition, Placement}
+use Rattle.tables.specs.declared.table.Table.TheVariants.{Choice, Edition, Placement, RoundAim}
 use Rattle.tables.specs.Table.{same_table}
 use Rattle.tables.proofs.Runs.{decide_table, same_table_is, same_table_self}
 use Rattle.tables.proofs.KeyTests.{equal_int}
 use Rattle.rolls.proofs.RowKeys.{apart_back, same_row_is}
-use Rattle.store.specs.declared.edition.Edition.{Edition as AnEdition}
-use Rattle.store.specs.declared.edition.Edition.TheVariants.{First}
-use Rattle.store.specs.Editions.{rolls_of}
+use Rattle.editions.specs.declared.Edition.{Edition as AnEdition}
+use Rattle.editions.specs.declared.Edition.TheVariants.{First, Second}
+use Rattle.editions.specs.Editions.{HaveNoLater}
+use Rattle.store.specs.Editions.{beyond, rolls_of}
 use Rattle.store.specs.Rows.{IsAmong, IsRoll, columns, is_in, columns_of, key_columns, list_columns, rolls, round_columns, table_at_key, table_of}
 use Rattle.store.proofs.Keys.{dropped, left}
 
@@ -63,6 +64,7 @@ in_rolls (key.Round number) = inr (inr (inr (inl refl)))
 in_rolls (key.Choice round student place) = inr (inr (inr (inr (inl refl))))
 in_rolls (key.Placement student) = inr (inr (inr (inr (inr (inl refl)))))
 in_rolls (key.Import id) = inr (inr (inr (inr (inr (inr (inl refl))))))
+in_rolls (key.RoundAim round) = inr (inr (inr (inr (inr (inr (inr (inl refl)))))))
 
 unfoldable pub are_once : List Table → Bool
 are_once [] = true
@@ -80,6 +82,7 @@ once_in (r ∷ rs) d once (suc i) low (inr h) = once_in rs d (and_parts _ _ once
 pub once : (e : AnEdition) → are_once (rolls_of e) ≡ true
 unfolding are_once
 once First = refl
+once Second = refl
 
 -- no table comes twice
 pub not_before : (tables : List Table) → are_once tables ≡ true → (d : Table) (i : ℕ) → i < length tables → Has (take i tables) (get_or tables i d) → ⊥
@@ -88,6 +91,7 @@ not_before tables alone d i low h = once_in tables d alone i low h
 -- each edition has tables
 pub some_tables : (e : AnEdition) → length (rolls_of e) ≢ 0
 some_tables First none = cc
+some_tables Second none = cc
 
 -- a row in a table is of it
 pub is_of : (table : Table) (r : Row) → is_in table r ≡ true → table ≡ table_of r
@@ -102,7 +106,7 @@ same_tests true b f g = sym (f refl)
 same_tests false true f g = g refl
 same_tests false false f g = refl
 
-int_self : (a : ℤ) → equal Binary (Int a) (Int a) ≡ true
+pub int_self : (a : ℤ) → equal Binary (Int a) (Int a) ≡ true
 unfolding binary
 int_self a = truth_is _ ∙ ap is_eq (value_cmp-Int a a) ∙ (Equal-is (int_cmp a a)).1 (sym (int_cmp_is a a Equal refl))
 
@@ -121,6 +125,7 @@ drops_own (key.Student code) (row.Student c l) h = ap (λ t. not (t && true)) (s
 drops_own (key.Round number) (row.Round n o) h = ap (λ t. not (t && true)) (sym (equal_number n number))
 drops_own (key.Choice round student place) (row.Choice n s k p) h = λ i. not (sym (equal_number n round) i && (sym (equal_text s student) i && (sym (equal_number k place) i && true)))
 drops_own (key.Placement student) (row.Placement s n p k) h = ap (λ t. not (t && true)) (sym (equal_text s student))
+drops_own (key.RoundAim round) (row.RoundAim n a) h = ap (λ t. not (t && true)) (sym (equal_number n round))
 drops_own (key.Import id) (row.Import i w b n) h = ap (λ t. not (t && true)) (sym (equal_text i id))
 drops_own _ _ h = absurd (cc)
 
@@ -243,15 +248,16 @@ columns_more r list = rw (same_table_self (table_of r)) refl
 pub columns_same : (table : Table) (r : Row) (list : List Row) → is_in table r ≡ false → columns_of table (r ∷ list) ≡ columns_of table list
 columns_same table r list kind = rw kind refl
 
-not_edition : (tables : List Table) → list_any (same_table Edition) tables ≡ false → (table : Table) → Has tables table → table ≢ Edition
-not_edition [] none table h e = absurd h
-not_edition (q ∷ qs) none table (inl is) e = true≢false (sym (ap (same_table Edition) (sym is ∙ e)) ∙ (or_parts (same_table Edition q) (list_any (same_table Edition) qs) none).0)
-not_edition (q ∷ qs) none table (inr h) e = not_edition qs (or_parts (same_table Edition q) (list_any (same_table Edition) qs) none).1 table h e
+-- a table that is tested to be none of these is none
+pub not_among : (p : Table) (tables : List Table) → list_any (same_table p) tables ≡ false → (table : Table) → Has tables table → table ≢ p
+not_among p [] none table h e = absurd h
+not_among p (q ∷ qs) none table (inl is) e = true≢false (sym (same_table_self p) ∙ ap (same_table p) (sym e ∙ is) ∙ (or_parts (same_table p q) (list_any (same_table p) qs) none).0)
+not_among p (q ∷ qs) none table (inr h) e = not_among p qs (or_parts (same_table p q) (list_any (same_table p) qs) none).1 table h e
 
 -- no roll is the edition
 pub apart_edition : (table : Table) → IsRoll table → table ≢ Edition
 unfolding IsAmong
-apart_edition table h e = not_edition rolls refl table h e
+apart_edition table h e = not_among Edition rolls refl table h e
 
 -- a table that is among others stands in their list
 pub stands_among : (tables : List Table) (table : Table) → IsAmong tables table → Has tables table
@@ -280,3 +286,21 @@ pub none_beyond : (table : Table) → (IsRoll table → ⊥) → (list : List Ro
 none_beyond table none [] = refl
 none_beyond table none (r ∷ list) =
     columns_same table r list (false_from_ne_true _ (λ h. none (subst IsRoll (sym (is_of table r h)) (in_rolls (key_of r))))) ∙ none_beyond table none list
+
+-- what is among the first is among them all
+pub has_left : (tables more : List Table) (table : Table) → Has tables table → Has (tables ++ more) table
+has_left [] more table h = absurd h
+has_left (q ∷ tables) more table (inl same) = inl same
+has_left (q ∷ tables) more table (inr h) = inr (has_left tables more table h)
+
+-- a table that later editions have is none of an edition
+pub fresh_beyond : (e : AnEdition) (table : Table) → Has (beyond e) table → IsAmong (rolls_of e) table → ⊥
+unfolding IsAmong
+fresh_beyond First table (inl is) there = not_among RoundAim (rolls_of First) refl table there is
+fresh_beyond First table (inr h) there = absurd h
+fresh_beyond Second table h there = absurd h
+
+-- rows of the tables of an edition alone have none of a later one
+pub none_later : (e : AnEdition) (rows : List Row) → ((table : Table) → (IsAmong (rolls_of e) table → ⊥) → columns_of table rows ≡ []) → HaveNoLater e rows
+none_later First rows none = λ n. none_there (key.RoundAim n) rows (ap (filter (begins_with (key_columns (key.RoundAim n)))) (none RoundAim (fresh_beyond First RoundAim (inl refl))))
+none_later Second rows none = tt

@@ -16,13 +16,17 @@ use Rattle.rolls.specs.declared.row.Row.TheVariants as row
 use Rattle.rolls.specs.declared.row.RowKey.{RowKey}
 use Rattle.rolls.specs.Roll.{Key, find}
 use Rattle.spa.proofs.Texts.{code_utf8, label_utf8}
-use Rattle.rolls.specs.State.{State, supervisor_of, project_of, student_of, round_of, placement_of, import_of, supervisor_key, project_key, student_key, list_key, placement_key, import_key, has_supervisor, has_project, has_student, last_round, lists_of, list_of, choices_in}
+use Rattle.rolls.specs.State.{State, supervisor_of, project_of, student_of, round_of, round_aim_of, placement_of, import_of, supervisor_key, project_key, student_key, list_key, placement_key, import_key, has_supervisor, has_project, has_student, last_round, lists_of, list_of, choices_in}
 use Rattle.rolls.specs.Fit.{IsFit, SupervisorFits, ProjectFits, StudentFits, ListFits, PlacementFits, ImportFits}
 use Rattle.rolls.proofs.Found.{found_key, holds_of_found}
-use Rattle.rolls.proofs.LastRound.{round_within}
-use Rattle.rolls.specs.Rows.{key_of, same_row, row_of, supervisor_row, project_row, student_row, round_row, placement_row, import_row, choice_in}
+use Rattle.rolls.proofs.LastRound.{aimed_found, round_within}
+use Rattle.rolls.specs.Rows.{key_of, same_row, row_of, supervisor_row, project_row, student_row, round_row, aim_row, placement_row, import_row, choice_in}
 use Rattle.rolls.specs.From.{row_in, are_apart}
 use Rattle.tables.specs.declared.table.Table.{Table}
+use Rattle.editions.specs.declared.Edition.{Edition as AnEdition}
+use Rattle.editions.specs.declared.Edition.TheVariants.{First, Second}
+use Rattle.editions.specs.Editions.{row_at}
+use Rattle.rolls.specs.declared.row.RowKey.TheVariants as key
 use Rattle.store.specs.Rows.{columns, is_in, columns_of, AreRowsAt}
 use Rattle.store.specs.Inside.Reading.{IsTyped}
 use Rattle.rolls.proofs.RowKeys.{same_row_is, same_row_self}
@@ -146,15 +150,33 @@ typed_at o fit (row.Placement student round project rank) h =
     let fits = holds_of_found placement_key (PlacementFits o) (0, student) o.placements p fit.placements_fit it.1 in
     let stands = choice_stands o fit p.round p.student (p.rank - 1) p.project fits.listed in
     subst IsTyped it.2 (code_utf8 p.student stands.student, omega (arith, stands.round), code_utf8 p.project stands.project, omega (arith, stands.place, fits.rank))
+typed_at o fit (row.RoundAim round aim) h =
+    let it = mapped aim_row (round_aim_of o round) (row.RoundAim round aim) h in
+    let there : is_some (round_of o round) ≡ true = sym (aimed_found round o.aims o.rounds fit.aimed) ∙ ap is_some it.1 in
+    let r = entry (round_of o round) there in
+    let low = (round_within o fit.numbered round r.0 r.1).within in
+    omega (arith, low, fit.few_rounds)
 typed_at o fit (row.Import id kind bytes rows) h =
     let it = mapped import_row (import_of o id) (row.Import id kind bytes rows) h in
     let i = it.0 in
     let fits = holds_of_found import_key ImportFits (0, id) o.imports i fit.imports.each it.1 in
     subst IsTyped it.2 (code_utf8 i.id fits.id, omega (arith, fits.rows))
 
+-- a row that an office has in an edition it has in the last one
+in_last : (e : AnEdition) (o : State) (k : RowKey) (r : Row) → row_at e o k ≡ Some r → row_of o k ≡ Some r
+in_last First o (key.RoundAim n) r h = cc
+in_last First o (key.Supervisor code) r h = h
+in_last First o (key.Project code) r h = h
+in_last First o (key.Student code) r h = h
+in_last First o (key.Round n) r h = h
+in_last First o (key.Choice n s p) r h = h
+in_last First o (key.Placement s) r h = h
+in_last First o (key.Import id) r h = h
+in_last Second o k r h = h
+
 -- each row of a fit office has UTF-8 texts and a small quota
-pub is_typed : (o : State) (list : List Row) (r : Row) → IsFit o → AreRowsAt list (row_of o) → Has list r → IsTyped r
-is_typed o list r fit at h = typed_at o fit r (sym (at.each (key_of r)) ∙ row_stands list r at.apart h)
+pub is_typed : (e : AnEdition) (o : State) (list : List Row) (r : Row) → IsFit o → AreRowsAt list (row_at e o) → Has list r → IsTyped r
+is_typed e o list r fit at h = typed_at o fit r (in_last e o (key_of r) r (sym (at.each (key_of r)) ∙ row_stands list r at.apart h))
 
 filtered_go : (p : Row → Bool) (s r : Row) (rest : List Row) (b : Bool) → p s ≡ b → (Has (filter p rest) r → Has rest r × (p r ≡ true)) → Has (cond b (s ∷ filter p rest) (filter p rest)) r → Has (s ∷ rest) r × (p r ≡ true)
 filtered_go p s r rest true is later (inl same) = (inl same, ap p same ∙ is)

@@ -1,4 +1,5 @@
 mod Cells
+pub mod Standing
 mod Keys
 mod Columns
 mod OneStatement
@@ -11,5 +12,8 @@ mod AllRows
 mod Permutation
 mod Fitness
 mod ReadRows
+mod Raised
+mod FoundOffice
 mod SameTrees
+mod Opening
 mod Causes

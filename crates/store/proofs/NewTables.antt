@@ -27,7 +27,7 @@ use Rattle.tables.specs.Inside.Steps.{Stays}
 use Rattle.tables.proofs.Runs.{listed_once, stands_apart, stands_beside, stays_none, stays_then, stays_stepped, decide_table}
 use Rattle.store.specs.Editions.{latest, number_of}
 use Rattle.store.specs.Rows.{kept, rolls, AreRowsAt}
-use Rattle.store.specs.Tables.{AreRuled, MakesTables, StandsFor, Founds, HasNone, Opens, numbered}
+use Rattle.store.specs.Tables.{AreRuled, AreRuledAmong, Brings, MakesTables, StandsFor, HasNone, Opens, numbered}
 use Rattle.store.specs.Inside.Tables.{Empties}
 use Rattle.store.proofs.Columns.{apart_edition, stands_among}
 
@@ -125,7 +125,7 @@ empty_stands row is a b c m n =
 
 -- and are as they are made here
 ruled_so : (row : List Value) (a b c : Database) → MakesTables kept a b → Adds (table_at Edition) (key_in Edition row) row b c → AreRuled c.schema
-unfolding AreRuled
+unfolding AreRuledAmong
 ruled_so row a b c m n table among place listed =
     let first : Has kept Edition = inl refl in
     let done = n (m.places Edition) [] (m.stand Edition first) in
@@ -145,6 +145,6 @@ unfolding Empties
 opens_new old new office none is made = inl (none, is, made.0, made.1)
 
 -- what a crash leaves of the making
-pub founds_left : (old : Seen) (trees : Trees) → HasNone old.now.schema → IsLeft Empties old trees → IsLeft Founds old trees
+pub founds_left : (old : Seen) (trees : Trees) → HasNone old.now.schema → IsLeft Empties old trees → IsLeft Brings old trees
 unfolding Empties
-founds_left old trees none h = record { was_open = h.was_open; db = h.db; sound = h.sound; step = record { none = none; stands = h.step.0; ruled = h.step.1 }; same = h.same }
+founds_left old trees none h = record { was_open = h.was_open; db = h.db; sound = h.sound; step = inl (record { none = none; stands = h.step.0; ruled = h.step.1 }); same = h.same }

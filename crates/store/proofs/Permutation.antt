@@ -16,10 +16,11 @@ use Rattle.rolls.specs.Rows.{key_of, same_row}
 use Rattle.rolls.specs.From.{row_in, are_apart}
 use Rattle.std.specs.Str.{bytes_eq}
 use Rattle.rolls.specs.Kinds.{word_of}
+use Rattle.spa.specs.declared.aim.Aim.TheVariants.{Greedy, Generous}
 use Rattle.rolls.specs.declared.import.ImportKind.{ImportKind}
 use Rattle.rolls.specs.declared.import.ImportKind.TheVariants as kind
 use Rattle.tables.specs.declared.table.Table.{Table}
-use Rattle.tables.specs.declared.table.Table.TheVariants.{Supervisor, Project, Student, Round, Choice, Placement}
+use Rattle.tables.specs.declared.table.Table.TheVariants.{Supervisor, Project, Student, Round, Choice, Placement, RoundAim}
 use Rattle.store.specs.Editions.{latest}
 use Rattle.store.specs.Rows.{IsAmong, IsRoll, columns, is_in, columns_of, rolls, table_of, AreRowsAt}
 use Rattle.tables.specs.Table.{same_table}
@@ -144,6 +145,7 @@ row_from Student v = row.Student (text_in (column v 0)) (text_in (column v 1))
 row_from Round v = row.Round (number_in (column v 0)) (number_in (column v 1) == 1)
 row_from Choice v = row.Choice (number_in (column v 0)) (text_in (column v 1)) (number_in (column v 2)) (text_in (column v 3))
 row_from Placement v = row.Placement (text_in (column v 0)) (number_in (column v 1)) (text_in (column v 2)) (number_in (column v 3))
+row_from RoundAim v = row.RoundAim (number_in (column v 0)) (cond (number_in (column v 1) == 1) Generous Greedy)
 row_from _ v = row.Import (text_in (column v 0)) (kind_in (text_in (column v 1))) (blob_in (column v 2)) (number_in (column v 3))
 
 own_columns : (r : Row) → row_from (table_of r) (columns r) ≡ r
@@ -155,6 +157,8 @@ own_columns (row.Round n true) = refl
 own_columns (row.Round n false) = refl
 own_columns (row.Choice n s k p) = refl
 own_columns (row.Placement s n p k) = refl
+own_columns (row.RoundAim n Greedy) = refl
+own_columns (row.RoundAim n Generous) = refl
 own_columns (row.Import i kind.Supervisors b n) = refl
 own_columns (row.Import i kind.Projects b n) = refl
 own_columns (row.Import i kind.Students b n) = refl

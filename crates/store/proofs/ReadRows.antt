@@ -14,17 +14,16 @@ use Rattle.tables.proofs.Runs.{low_tree}
 use Rattle.rolls.specs.declared.row.Row.{Row}
 use Rattle.rolls.specs.State.{State}
 use Rattle.rolls.specs.Fit.{IsFit}
-use Rattle.rolls.specs.Rows.{row_of}
-use Rattle.rolls.specs.From as from
+use Rattle.rolls.specs.From.{are_apart, row_in}
 use Rattle.tables.specs.declared.table.Table.{Table}
 use Rattle.tables.specs.declared.table.Table.TheVariants.{Edition}
 use Rattle.rolls.specs.declared.row.RowKey.{RowKey}
-use Rattle.store.specs.declared.edition.Edition.{Edition as AnEdition}
-use Rattle.store.specs.declared.edition.Edition.TheVariants.{First}
-use Rattle.store.specs.Editions.{latest, number_of, rolls_of}
+use Rattle.editions.specs.declared.Edition.{Edition as AnEdition}
+use Rattle.editions.specs.Editions.{AreRowsIn, row_at}
+use Rattle.store.specs.Editions.{number_of, rolls_of}
 use Rattle.store.specs.Rows.{IsAmong, columns_of}
-use Rattle.store.specs.Tables.{HoldIn, StandsFor, numbered}
-use Rattle.store.specs.Reading.{AreAllListed, AreListed, IsDamaged}
+use Rattle.store.specs.Tables.{HoldIn, StandsIn, numbered}
+use Rattle.store.specs.Reading.{AreAllListed, IsUnfitIn}
 use Rattle.store.specs.Inside.Reading.{HoldsCells, HoldsNoRow}
 use Rattle.store.proofs.Cells.{two_after}
 use Rattle.store.proofs.Permutation.{has_permuted, rows_permuted, permuted_by_tables}
@@ -47,13 +46,9 @@ listed_in e db rows t = record {
   rolls_listed = λ table among. (t.rolls table among).listed;
 }
 
--- tables of the edition in which they are made stand for an office
-pub stands_in : (e : AnEdition) (db : Database) (office : State) → HoldIn e db (row_of office) → StandsFor db office
-stands_in First db office h = h
-
 -- tables that are listed otherwise stand for no office
-pub unlisted : (db : Database) → (AreListed db.schema → ⊥) → IsDamaged db
-unlisted db none office fit t = none (latest, listed_in latest db (row_of office) t)
+pub unlisted : (e : AnEdition) (db : Database) → (AreAllListed (rolls_of e) db.schema → ⊥) → IsUnfitIn e db
+unlisted e db none office fit stands = none (listed_in e db (row_at e office) stands.holds)
 
 one_has : (x : Cells) (rows : List Cells) → length rows ≡ 1 → ((y : Cells) → Has rows y → Has (x ∷ []) y) → rows ≡ x ∷ []
 one_has x [] h among = absurd (omega (arith, h))
@@ -72,42 +67,45 @@ module _ (s : Seen) (live : IsLive s) (open_ : IsTrue s.is_open) where
   low_at table place listed = low_tree s.now.schema s.now.trees (table_at table place) (live open_).0 listed
 
   -- another number
-  pub other_number : (e : AnEdition) (rows : List Cells) (new : Seen) → Shows (table_at Edition) rows s new → map (drop 1) rows ≢ numbered (number_of e) → IsDamaged s.now
-  other_number First rows new shows other office fit t =
+  pub other_number : (e : AnEdition) (rows : List Cells) (new : Seen) → Shows (table_at Edition) rows s new → map (drop 1) rows ≢ numbered (number_of e) → IsUnfitIn e s.now
+  other_number e rows new shows other office fit stands =
+      let t = stands.holds in
       let here = shows.stands t.edition t.editions.listed (low_edition t.edition t.editions.listed) in
       other (alone _ (map (drop 1) rows) (IsPermutation-trans _ _ _ here.holds (IsPermutation-sym _ _ t.editions.holds)))
 
   -- a table that holds what no row has
-  pub unread : (e : AnEdition) (table : Table) → IsAmong (rolls_of e) table → HoldsNoRow table s.now → IsDamaged s.now
-  unread First table among n office fit t =
-      let stands = t.rolls table among in
-      let here = n.holds (t.places table) stands.listed (low_at table (t.places table) stands.listed) in
-      let same : IsPermutation n.all (columns_of table t.list) = IsPermutation-trans _ _ _ here.holds (IsPermutation-sym _ _ stands.holds) in
+  pub unread : (e : AnEdition) (table : Table) → IsAmong (rolls_of e) table → HoldsNoRow table s.now → IsUnfitIn e s.now
+  unread e table among n office fit stands =
+      let t = stands.holds in
+      let there = t.rolls table among in
+      let here = n.holds (t.places table) there.listed (low_at table (t.places table) there.listed) in
+      let same : IsPermutation n.all (columns_of table t.list) = IsPermutation-trans _ _ _ here.holds (IsPermutation-sym _ _ there.holds) in
       let it = row_of_columns table t.list n.cells (has_permuted _ _ same n.cells n.among) in
-      n.none it.0 it.2 (is_typed office t.list it.0 fit t.at it.1) (sym it.3)
+      n.none it.0 it.2 (is_typed e office t.list it.0 fit t.at it.1) (sym it.3)
 
-  -- rows of no office
-  pub unfit : (e : AnEdition) (rows : List Row) → ((table : Table) → IsAmong (rolls_of e) table → HoldsCells table (columns_of table rows) s.now) → ((table : Table) → (IsAmong (rolls_of e) table → ⊥) → columns_of table rows ≡ [])
-      → ((o : State) → IsFit o → from.AreRowsOf rows o → ⊥) → IsDamaged s.now
-  unfit First rows holds beyond none office fit t =
-      let each : (table : Table) → IsAmong (rolls_of First) table → IsPermutation (columns_of table t.list) (columns_of table rows) = λ table among.
-      let stands = t.rolls table among in
-      let here = holds table among (t.places table) stands.listed (low_at table (t.places table) stands.listed) in
-      IsPermutation-trans _ _ _ stands.holds (IsPermutation-sym _ _ here.holds) in
-      let at = rows_permuted t.list rows (row_of office) (permuted_by_tables (rolls_of First) t.list rows t.beyond beyond each) t.at in
-      none office fit (record { apart = at.apart; each = at.each })
+  -- rows that were read, those of the tables of an edition alone
+  module _ (e : AnEdition) (rows : List Row) (holds : (table : Table) → IsAmong (rolls_of e) table → HoldsCells table (columns_of table rows) s.now) (beyond : (table : Table) → (IsAmong (rolls_of e) table → ⊥) → columns_of table rows ≡ []) where
+    -- they are those of an office that the tables stand for
+    pub are_in : (office : State) → StandsIn e s.now office → AreRowsIn e rows office
+    are_in office stands =
+        let t = stands.holds in
+        let each : (table : Table) → IsAmong (rolls_of e) table → IsPermutation (columns_of table t.list) (columns_of table rows) = λ table among.
+        let there = t.rolls table among in
+        let here = holds table among (t.places table) there.listed (low_at table (t.places table) there.listed) in
+        IsPermutation-trans _ _ _ there.holds (IsPermutation-sym _ _ here.holds) in
+        let at = rows_permuted t.list rows (row_at e office) (permuted_by_tables (rolls_of e) t.list rows t.beyond beyond each) t.at in
+        record { apart = at.apart; each = at.each; allowed = stands.allowed }
 
-  -- the office of the rows
-  pub stood : (e : AnEdition) (l : AreAllListed (rolls_of e) s.now.schema) (number : List Cells) (mid : Seen) (rows : List Row) (office : State) → Shows (table_at Edition) number s mid → map (drop 1) number ≡ numbered (number_of e)
-      → ((table : Table) → IsAmong (rolls_of e) table → HoldsCells table (columns_of table rows) s.now) → ((table : Table) → (IsAmong (rolls_of e) table → ⊥) → columns_of table rows ≡ []) → from.AreRowsOf rows office → HoldIn e s.now (row_of office)
-  stood e l number mid rows office shows is holds beyond are = record {
-    edition = l.edition;
-    places = l.places;
-    edition_apart = l.edition_apart;
-    apart = l.apart;
-    list = rows;
-    at = record { apart = are.apart; each = are.each };
-    beyond = beyond;
-    editions = subst (λ all. Stands (table_at Edition) l.edition all s.now) is (shows.stands l.edition l.edition_listed (low_edition l.edition l.edition_listed));
-    rolls = λ table among. holds table among (l.places table) (l.rolls_listed table among) (low_at table (l.places table) (l.rolls_listed table among));
-  }
+    -- and the tables hold them, where no key stands twice
+    pub stood : (l : AreAllListed (rolls_of e) s.now.schema) (number : List Cells) (mid : Seen) → Shows (table_at Edition) number s mid → map (drop 1) number ≡ numbered (number_of e) → IsTrue (are_apart rows) → HoldIn e s.now (row_in rows)
+    stood l number mid shows is apart = record {
+      edition = l.edition;
+      places = l.places;
+      edition_apart = l.edition_apart;
+      apart = l.apart;
+      list = rows;
+      at = record { apart = apart; each = λ k. refl };
+      beyond = beyond;
+      editions = subst (λ all. Stands (table_at Edition) l.edition all s.now) is (shows.stands l.edition l.edition_listed (low_edition l.edition l.edition_listed));
+      rolls = λ table among. holds table among (l.places table) (l.rolls_listed table among) (low_at table (l.places table) (l.rolls_listed table among));
+    }

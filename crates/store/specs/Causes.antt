@@ -8,11 +8,14 @@ use Rattle.rolls.specs.declared.row.Change.TheVariants.{Add, Put, Take, TakeList
 use Rattle.tables.specs.declared.table.Table.{Table}
 use Rattle.tables.specs.declared.table.Table.TheVariants.{Edition}
 use Rattle.tables.specs.declared.table.Group.TheVariants as group
-use Rattle.tables.specs.Table.{Sharing, sharing, sql_of}
+use Rattle.tables.specs.Table.{Sharing, key_in, sharing, sql_of, table_at}
+use Rattle.tables.specs.Writes.{Puts}
 use Rattle.tables.specs.Causes.{IsHindered, IsHinderedToPut, IsUnread, IsUnready}
-use Rattle.store.specs.Editions.{latest, number_of}
+use Rattle.sqlite.specs.Order.{Row as Cells}
+use Rattle.editions.specs.declared.Edition.{Edition as AnEdition}
+use Rattle.store.specs.Editions.{IsEarlier, beyond, latest, number_of}
 use Rattle.store.specs.Rows.{columns, kept, key_columns, list_columns, round_columns, table_at_key, table_of}
-use Rattle.store.specs.Saving.{Applies}
+use Rattle.store.specs.Saving.{Applies, IsActedOnAt}
 use Rattle.store.specs.Tables.{HasNone, MakesTables}
 
 -- a change is refused
@@ -22,6 +25,10 @@ IsHinderedChange (Add row) = IsHindered (sql_of (table_of row)).insert (columns 
 IsHinderedChange (Take key) = IsHindered (sql_of (table_at_key key)).delete (key_columns key)
 IsHinderedChange (TakeList round student) = IsHindered (sharing group.List).removal (list_columns round student)
 IsHinderedChange (TakePlacements round) = IsHindered (sharing group.Placed).removal (round_columns round)
+
+-- the row of the latest edition
+abbrev pub latest_number : Cells
+latest_number = Int (pos 1) ∷ Int (pos (number_of latest)) ∷ []
 
 -- one of several is refused, once those before it are made
 pub record IsHinderedAfter {X : Type 0} (Makes : List X → Database → Database → Type 0) (IsHinderedAt : X → Option ℕ → Database → Type 0) (all : List X) (limit : Option ℕ) (db : Database) : Type 0 where
@@ -48,11 +55,29 @@ IsHinderedMaking = IsHinderedAfter MakesTables (λ table. IsHindered (sql_of tab
 pub record IsHinderedNumbering (limit : Option ℕ) (db : Database) : Type 0 where
   pub between : Database
   pub made : MakesTables kept db between
-  pub hindered : IsHindered (sql_of Edition).insert (Int (pos 1) ∷ Int (pos (number_of latest)) ∷ []) limit between
+  pub hindered : IsHindered (sql_of Edition).insert latest_number limit between
 
 -- the tables cannot be made
 abbrev pub IsHinderedFounding : Option ℕ → Database → Type 0
 IsHinderedFounding limit db = IsHinderedMaking kept limit db ⊎ IsHinderedNumbering limit db
+
+-- a table that an edition lacks is refused, or, once they are made, a change
+abbrev pub IsHinderedToExtend : AnEdition → List Change → Option ℕ → Database → Type 0
+IsHinderedToExtend e changes limit db = IsHinderedMaking (beyond e) limit db ⊎ ((made : Database) × MakesTables (beyond e) db made × IsHinderedAmong changes limit made)
+
+-- what comes after the number is refused
+pub record IsHinderedBeyond (e : AnEdition) (changes : List Change) (limit : Option ℕ) (db : Database) : Type 0 where
+  pub between : Database
+  pub numbered : Puts (table_at Edition) (key_in Edition latest_number) latest_number db between
+  pub hindered : IsHinderedToExtend e changes limit between
+
+-- the number of the latest edition is refused, or what comes after it
+abbrev pub IsHinderedToLift : AnEdition → List Change → Option ℕ → Database → Type 0
+IsHinderedToLift e changes limit db = IsHinderedToPut Edition latest_number limit db ⊎ IsHinderedBeyond e changes limit db
+
+-- the tables of an earlier edition cannot be raised by these changes: a foreign key acts on the number, or a statement is refused
+abbrev pub IsHinderedToRaise : AnEdition → List Change → Option ℕ → Database → Type 0
+IsHinderedToRaise e changes limit db = IsActedOnAt Edition db.schema ⊎ IsHinderedToLift e changes limit db
 
 -- one of the tables cannot be read
 pub record IsHinderedReading (limit : Option ℕ) (db : Database) : Type 0 where
@@ -60,6 +85,6 @@ pub record IsHinderedReading (limit : Option ℕ) (db : Database) : Type 0 where
   pub kept : Has kept table
   pub hindered : IsUnread (sql_of table).select limit db
 
--- the tables are not there and cannot be made, or one cannot be read
+-- the tables are not there and cannot be made, one cannot be read, or those of an earlier edition cannot be raised
 abbrev pub IsHinderedOpening : Option ℕ → Database → Type 0
-IsHinderedOpening limit db = (HasNone db.schema × IsHinderedFounding limit db) ⊎ IsHinderedReading limit db
+IsHinderedOpening limit db = (HasNone db.schema × IsHinderedFounding limit db) ⊎ (IsHinderedReading limit db ⊎ ((e : AnEdition) × IsEarlier e × (changes : List Change) × IsHinderedToRaise e changes limit db))

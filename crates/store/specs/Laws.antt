@@ -3,8 +3,9 @@ use Rattle.std.specs.Prelude.{◌≡◌}
 use Rattle.sqlite.specs.Effect.{Database, IsDatabase}
 use Rattle.rolls.specs.State.{State}
 use Rattle.rolls.specs.Fit.{IsFit}
-use Rattle.store.specs.Tables.{Opens, StandsFor}
+use Rattle.editions.specs.declared.Edition.{Edition}
+use Rattle.store.specs.Tables.{Opens, StandsIn}
 
--- A database whose tables stand for an office, opened from its trees alone, is opened as that office.
+-- A database whose tables stand for an office in some edition, opened from its trees alone, is opened as that office.
 abbrev pub OpensAgain : Type 0
-OpensAgain = (db found opened : Database) (office again : State) → IsDatabase db → IsDatabase found → found.trees ≡ db.trees → StandsFor db office → IsFit office → IsFit again → Opens found opened again → again ≡ office
+OpensAgain = (e : Edition) (db found opened : Database) (office again : State) → IsDatabase db → IsDatabase found → found.trees ≡ db.trees → StandsIn e db office → IsFit office → IsFit again → Opens found opened again → again ≡ office

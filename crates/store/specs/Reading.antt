@@ -5,12 +5,12 @@ use Rattle.rolls.specs.State.{State}
 use Rattle.rolls.specs.Fit.{IsFit}
 use Rattle.tables.specs.declared.table.Table.{Table}
 use Rattle.tables.specs.declared.table.Table.TheVariants.{Edition}
-use Rattle.store.specs.declared.edition.Edition.{Edition as AnEdition}
+use Rattle.editions.specs.declared.Edition.{Edition as AnEdition}
 use Rattle.store.specs.Editions.{rolls_of}
 use Rattle.store.specs.Rows.{IsAmong}
 use Rattle.sqlite.specs.Schema.{Schema}
 use Rattle.tables.specs.Table.{Place, Lists, table_at}
-use Rattle.store.specs.Tables.{StandsFor}
+use Rattle.store.specs.Tables.{StandsFor, StandsIn}
 
 -- the edition's table and these are listed with their columns and rules, each in a tree of its own
 pub record AreAllListed (tables : List Table) (schema : Schema) : Type 0 where
@@ -25,6 +25,14 @@ pub record AreAllListed (tables : List Table) (schema : Schema) : Type 0 where
 abbrev pub AreListed : Schema → Type 0
 AreListed schema = (e : AnEdition) × AreAllListed (rolls_of e) schema
 
--- the tables stand for no fit office
+-- the tables stand for no fit office in an edition
+abbrev pub IsUnfitIn : AnEdition → Database → Type 0
+IsUnfitIn e db = (office : State) → IsFit office → StandsIn e db office → ⊥
+
+-- nor in any
 abbrev pub IsDamaged : Database → Type 0
-IsDamaged db = (office : State) → IsFit office → StandsFor db office → ⊥
+IsDamaged db = (e : AnEdition) → IsUnfitIn e db
+
+-- the tables stand for no fit office in the latest edition
+abbrev pub IsUnfit : Database → Type 0
+IsUnfit db = (office : State) → IsFit office → StandsFor db office → ⊥

@@ -1,11 +1,13 @@
 -- The rows of the tables as SQL has them.
-use Rattle.std.specs.Prelude.{◌≡◌, ℕ, pos, cond, Bool, IsTrue, List, [], ◌∷◌, drop, map, filter, Option}
+use Rattle.std.specs.Prelude.{◌≡◌, ℕ, pos, cond, Bool, false, true, IsTrue, List, [], ◌∷◌, drop, map, filter, Option}
 use Rattle.sqlite.specs.declared.types.Value.TheVariants.{Int, Text, Blob}
 use Rattle.sqlite.specs.Order.{Row as Cells}
 use Rattle.sqlite_rules.specs.Lists.{Has}
 use Rattle.tables.specs.declared.table.Table.{Table}
-use Rattle.tables.specs.declared.table.Table.TheVariants.{Supervisor, Project, Student, Round, Choice, Placement, Import}
+use Rattle.tables.specs.declared.table.Table.TheVariants.{Supervisor, Project, Student, Round, Choice, Placement, Import, RoundAim}
 use Rattle.tables.specs.Table.{all_tables, same_table}
+use Rattle.spa.specs.declared.aim.Aim.{Aim}
+use Rattle.spa.specs.declared.aim.Aim.TheVariants.{Greedy, Generous}
 use Rattle.rolls.specs.declared.row.Row.{Row}
 use Rattle.rolls.specs.declared.row.Row.TheVariants as row
 use Rattle.rolls.specs.declared.row.RowKey.{RowKey}
@@ -38,6 +40,7 @@ at_key (key.Student code) = (Student, Text code ∷ [])
 at_key (key.Round number) = (Round, Int (pos number) ∷ [])
 at_key (key.Choice round student place) = (Choice, Int (pos round) ∷ Text student ∷ Int (pos place) ∷ [])
 at_key (key.Placement student) = (Placement, Text student ∷ [])
+at_key (key.RoundAim round) = (RoundAim, Int (pos round) ∷ [])
 at_key (key.Import id) = (Import, Text id ∷ [])
 
 abbrev pub table_at_key : RowKey → Table
@@ -58,6 +61,11 @@ round_columns round = Int (pos round) ∷ []
 abbrev pub table_of : Row → Table
 table_of r = table_at_key (key_of r)
 
+-- whether an aim is the generous one
+abbrev pub is_generous : Aim → Bool
+is_generous Greedy = false
+is_generous Generous = true
+
 -- the columns of a row
 abbrev pub columns : Row → Cells
 columns (row.Supervisor code label quota) = Text code ∷ Text label ∷ Int (pos quota) ∷ []
@@ -66,6 +74,7 @@ columns (row.Student code label) = Text code ∷ Text label ∷ []
 columns (row.Round number is_open) = Int (pos number) ∷ Int (pos (cond is_open 1 0)) ∷ []
 columns (row.Choice round student place project) = Int (pos round) ∷ Text student ∷ Int (pos place) ∷ Text project ∷ []
 columns (row.Placement student round project rank) = Text student ∷ Int (pos round) ∷ Text project ∷ Int (pos rank) ∷ []
+columns (row.RoundAim round aim) = Int (pos round) ∷ Int (pos (cond (is_generous aim) 1 0)) ∷ []
 columns (row.Import id kind bytes rows) = Text id ∷ Text (word_of kind) ∷ Blob bytes ∷ Int (pos rows) ∷ []
 
 -- whether it is a row of this table

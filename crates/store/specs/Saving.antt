@@ -1,5 +1,6 @@
 -- What saving changes does to the tables.
-use Rattle.std.specs.Prelude.{◌≡◌, ◌≢◌, List, Option}
+use Rattle.std.specs.Prelude.{◌≡◌, ◌≢◌, ⊤, List, Option}
+use Rattle.std.specs.List.{AllByRecursion}
 use Rattle.sqlite.specs.Schema.{Schema}
 use Rattle.sqlite.specs.Table.{Table as AnyTable}
 use Rattle.sqlite_rules.specs.Lists.{Has}
@@ -8,6 +9,7 @@ use Rattle.sqlite.specs.Effect.{Database}
 use Rattle.rolls.specs.declared.row.Row.{Row}
 use Rattle.rolls.specs.declared.row.RowKey.{RowKey}
 use Rattle.rolls.specs.declared.row.Change.{Change}
+use Rattle.rolls.specs.declared.row.Change.TheVariants.{Add}
 use Rattle.rolls.specs.Rows.{AreFresh, after_changes}
 use Rattle.tables.specs.Table.{Place, Lists, table_at}
 use Rattle.store.specs.Rows.{IsRoll}
@@ -45,10 +47,19 @@ pub record Spares (old new : Database) : Type 0 where
 unfoldable pub LeavesOthers : Database → Database → Type 0
 LeavesOthers old new = (rows : RowKey → Option Row) → TablesHold old rows → Spares old new
 
+-- what a change asks of the schema: where it adds a row, nothing, and else that no foreign key acts on the tables
+abbrev pub Needs : Change → Schema → Type 0
+Needs (Add row) schema = ⊤
+Needs _ schema = AreInert schema
+
+-- what changes ask of it
+abbrev pub AllNeed : List Change → Schema → Type 0
+AllNeed changes schema = AllByRecursion (λ change. Needs change schema) changes
+
 -- the same, of a run of statements, which spare the other tables and add rows of new keys alone
 unfoldable pub Applies : List Change → Database → Database → Type 0
 Applies changes old new =
-    AreInert old.schema → (rows : RowKey → Option Row) → TablesHold old rows → TablesHold new (after_changes changes rows) × Spares old new × AreFresh changes rows
+    AllNeed changes old.schema → (rows : RowKey → Option Row) → TablesHold old rows → TablesHold new (after_changes changes rows) × Spares old new × AreFresh changes rows
 
 -- where the tables held rows, nothing stood at the key of a row when its turn to be added came
 unfoldable pub AddsNew : List Change → Database → Type 0

@@ -14,11 +14,13 @@ use Rattle.rolls.specs.declared.row.RowKey.{RowKey}
 use Rattle.rolls.specs.Rows.{row_of}
 use Rattle.rolls.specs.State.{State, empty}
 use Rattle.tables.specs.declared.table.Table.{Table}
-use Rattle.tables.specs.declared.table.Table.TheVariants.{Edition}
+use Rattle.tables.specs.declared.table.Table.TheVariants.{Edition as EditionTable}
 use Rattle.tables.specs.Table.{Place, Lists, made_here, rules_of, shape_of, table_at}
 use Rattle.tables.specs.Keyed.{Stands}
-use Rattle.store.specs.declared.edition.Edition.{Edition as AnEdition}
-use Rattle.store.specs.Editions.{latest, number_of, rolls_of}
+use Rattle.editions.specs.declared.Edition.{Edition}
+use Rattle.editions.specs.Editions.{Allows, row_at}
+use Rattle.rolls.specs.Fit.{IsFit}
+use Rattle.store.specs.Editions.{IsEarlier, beyond, latest, number_of, rolls_of}
 use Rattle.store.specs.Rows.{AreRowsAt, IsAmong, columns_of, kept}
 
 -- the one row of `edition`, with this number
@@ -35,11 +37,11 @@ pub record TablesOf (tables : List Table) (number : ℕ) (db : Database) (rows :
   pub list : List Row
   pub at : AreRowsAt list rows
   pub beyond : (table : Table) → (IsAmong tables table → ⊥) → columns_of table list ≡ []
-  pub editions : Stands (table_at Edition) edition (numbered number) db
+  pub editions : Stands (table_at EditionTable) edition (numbered number) db
   pub rolls : (table : Table) → IsAmong tables table → Stands (table_at table) (places table) (columns_of table list) db
 
 -- the tables hold these rows in an edition
-abbrev pub HoldIn : AnEdition → Database → (RowKey → Option Row) → Type 0
+abbrev pub HoldIn : Edition → Database → (RowKey → Option Row) → Type 0
 HoldIn e = TablesOf (rolls_of e) (number_of e)
 
 -- the same of the edition in which they are made
@@ -50,13 +52,28 @@ TablesHold = HoldIn latest
 abbrev pub StandsFor : Database → State → Type 0
 StandsFor db office = TablesHold db (row_of office)
 
+-- none of these tables is there
+abbrev pub HasNoneOf : List Table → Schema → Type 0
+HasNoneOf tables schema = (table : Table) → Has tables table → is_some (table_named schema (shape_of table).name) ≡ false
+
 -- none of the tables of the store is there
 abbrev pub HasNone : Schema → Type 0
-HasNone schema = (table : Table) → Has kept table → is_some (table_named schema (shape_of table).name) ≡ false
+HasNone = HasNoneOf kept
 
--- the tables of the store are as they are made here: STRICT, with their CHECK rules, and each reference names its column
-unfoldable pub AreRuled : Schema → Type 0
-AreRuled schema = (table : Table) → Has kept table → (place : Place) → Lists schema (table_at table place) → table_at table place ≡ made_here table place.tree
+-- these tables are as they are made here: STRICT, with their CHECK rules, and each reference names its column
+unfoldable pub AreRuledAmong : List Table → Schema → Type 0
+AreRuledAmong tables schema = (table : Table) → Has tables table → (place : Place) → Lists schema (table_at table place) → table_at table place ≡ made_here table place.tree
+
+-- so are all tables of the store
+abbrev pub AreRuled : Schema → Type 0
+AreRuled = AreRuledAmong kept
+
+-- The tables stand for an office in an edition: they hold the rows that it has there, and nothing else; it may be told there; and no
+-- table has the name of one of a later edition.
+pub record StandsIn (e : Edition) (db : Database) (office : State) : Type 0 where
+  pub holds : HoldIn e db (row_at e office)
+  pub allowed : Allows e office
+  pub alone : HasNoneOf (beyond e) db.schema
 
 -- Each of these tables was made, with its rules and no rows, in a tree of its own, while the tables that the schema had are
 -- listed as before, with their rows.
@@ -73,9 +90,23 @@ pub record Founds (old new : Database) : Type 0 where
   pub stands : StandsFor new empty
   pub ruled : AreRuled new.schema
 
--- what was opened: the empty office where none of the tables was there, and else the office that they stand for
+-- tables that stood for a fit office in an earlier edition come to stand for it in the latest one
+pub record Raises (old new : Database) (office : State) : Type 0 where
+  pub edition : Edition
+  pub earlier : IsEarlier edition
+  pub stood : StandsIn edition old office
+  pub fit : IsFit office
+  pub stands : StandsFor new office
+  pub ruled : AreRuledAmong (beyond edition) new.schema
+
+-- what an opening may make of a database
+abbrev pub Brings : Database → Database → Type 0
+Brings old new = Founds old new ⊎ ((office : State) × Raises old new office)
+
+-- what was opened: the empty office where none of the tables was there, else the office that they stand for, in an earlier edition or in the
+-- latest one, to which an earlier one is raised
 abbrev pub Opens : Database → Database → State → Type 0
-Opens old new office = (HasNone old.schema × (office ≡ empty) × StandsFor new empty × AreRuled new.schema) ⊎ ((new ≡ old) × StandsFor old office)
+Opens old new office = (HasNone old.schema × (office ≡ empty) × StandsFor new empty × AreRuled new.schema) ⊎ (((new ≡ old) × StandsFor old office) ⊎ Raises old new office)
 
 -- a crash leaves what is seen, and nothing else
 abbrev pub LeavesAlone : Seen → Type 0

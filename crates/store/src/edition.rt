@@ -1,23 +1,17 @@
-//! The editions of the tables.
+//! The editions of the tables, as tables.
 
-ghost use Rattle.std.specs.Prelude.{◌≡◌};
-ghost use Rattle.store.specs.Editions.{number_of, rolls_of};
+ghost use Rattle.std.specs.Prelude.{◌≡◌, ◌≢◌};
+ghost use Rattle.store.specs.Editions.{beyond, number_of, rolls_of};
+ghost use Rattle.store.specs.Tables.{HasNoneOf};
 
+use crate::founding::has_none_of;
 use crate::kept::TABLES;
+use editions::Edition;
+use sqlite_schema::schema::Schema;
 use tables::Table;
 
-/// An edition of the tables: which of them hold rows, and the number that the table `edition` has.
-#[derive(Clone, Copy, PartialEq, Eq, Drop)]
-pub enum Edition {
-    /// Lists have eight places at most, and rounds are greedy.
-    First,
-}
-
-/// Every edition, the latest first.
-pub const EDITIONS: [Edition; 1] = [Edition::First];
-
 /// The edition in which tables are made.
-pub const LATEST: Edition = Edition::First;
+pub const LATEST: Edition = Edition::Second;
 
 /// The number of an edition.
 pub fn number_of(edition: Edition) -> u32
@@ -25,6 +19,7 @@ pub fn number_of(edition: Edition) -> u32
 {
     match edition {
         Edition::First => 1,
+        Edition::Second => 2,
     }
 }
 
@@ -33,6 +28,29 @@ pub fn rolls_of(edition: Edition) -> &'static [Table]
     ensures { result.now ≡ rolls_of edition }
 {
     match edition {
-        Edition::First => &TABLES[1..],
+        Edition::First => &TABLES[1..8],
+        Edition::Second => &TABLES[1..],
+    }
+}
+
+/// The tables that later editions have beside them.
+pub fn beyond(edition: Edition) -> &'static [Table]
+    ensures { result.now ≡ beyond edition }
+{
+    match edition {
+        Edition::First => &TABLES[8..],
+        Edition::Second => &[],
+    }
+}
+
+/// The edition of the tables that are there: the earliest beyond which none is.
+pub fn edition_of(schema: &Schema) -> Edition
+    ensures alone { HasNoneOf (beyond result) schema.now }
+    ensures later { result ≢ Edition.First → HasNoneOf (beyond Edition.First) schema.now → ⊥ }
+{
+    if has_none_of(schema, beyond(Edition::First)) {
+        Edition::First
+    } else {
+        LATEST
     }
 }

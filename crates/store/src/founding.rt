@@ -8,7 +8,7 @@ ghost use Rattle.tables.specs.Inside.Steps.{Stays};
 ghost use Rattle.tables.specs.Causes.{IsCaused, IsCausedInside};
 ghost use Rattle.store.specs.Causes.{IsHinderedFounding, IsHinderedMaking};
 ghost use Rattle.store.specs.Inside.Tables.{Empties};
-ghost use Rattle.store.specs.Tables.{HasNone, MakesTables};
+ghost use Rattle.store.specs.Tables.{HasNone, HasNoneOf, MakesTables};
 
 use crate::edition::{LATEST, number_of};
 use crate::fault::StoreFault;
@@ -20,21 +20,29 @@ use tables::fault::TableFault;
 use tables::layout::has_table;
 use tables::statements::{insert, make};
 
-/// Whether none of the tables is there.
-pub fn has_none(schema: &Schema) -> bool
-    ensures right { IsTrue result → HasNone schema.now }
-    ensures wrong { result ≡ false → HasNone schema.now → ⊥ }
+/// Whether none of these tables is there.
+pub fn has_none_of(schema: &Schema, tables: &[Table]) -> bool
+    ensures right { IsTrue result → HasNoneOf tables.now schema.now }
+    ensures wrong { result ≡ false → HasNoneOf tables.now schema.now → ⊥ }
 {
-    for table in TABLES {
-        if has_table(schema, table) {
+    for table in tables {
+        if has_table(schema, *table) {
             return false;
         }
     }
     true
 }
 
+/// Whether none of the tables is there.
+pub fn has_none(schema: &Schema) -> bool
+    ensures right { IsTrue result → HasNone schema.now }
+    ensures wrong { result ≡ false → HasNone schema.now → ⊥ }
+{
+    has_none_of(schema, &TABLES)
+}
+
 /// Makes each of these tables.
-fn make_each<S: Alter>(tx: &mut Transaction<'_, S>, tables: &[Table]) -> Result<(), TableFault>
+pub fn make_each<S: Alter>(tx: &mut Transaction<'_, S>, tables: &[Table]) -> Result<(), TableFault>
     ensures same_reference { tx.new.conn.ghost_name ≡ tx.old.conn.ghost_name }
     ensures step { Does (Stays (MakesTables tables.now)) result (state S.Store tx.old.conn.now) (state S.Store tx.new.conn.now) }
     ensures cause { IsCausedInside (IsHinderedMaking tables.now) result (state S.Store tx.old.conn.now) (state S.Store tx.new.conn.now) }

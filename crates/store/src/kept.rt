@@ -3,7 +3,7 @@
 use tables::Table;
 
 /// Every table. Each is made after those that it refers to.
-pub const TABLES: [Table; 8] = [
+pub const TABLES: [Table; 9] = [
     Table::Edition,
     Table::Supervisor,
     Table::Project,
@@ -12,4 +12,5 @@ pub const TABLES: [Table; 8] = [
     Table::Choice,
     Table::Placement,
     Table::Import,
+    Table::RoundAim,
 ];

@@ -19,6 +19,7 @@ mod founding;
 mod kept;
 mod laws;
 mod quiet;
+mod raising;
 mod reading;
 mod rows;
 mod saving;

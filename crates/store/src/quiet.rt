@@ -10,7 +10,7 @@ use tables::inert::is_inert;
 use tables::layout::tree_of;
 
 /// Whether no foreign key acts on the rows of a table.
-fn is_left(schema: &Schema, table: Table) -> bool
+pub fn is_left(schema: &Schema, table: Table) -> bool
     ensures sound { IsTrue result → IsLeftAlone table schema.now }
     ensures exact { (result ≡ false) ↔ IsActedOnAt table schema.now }
 {

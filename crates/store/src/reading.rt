@@ -1,6 +1,6 @@
 //! Reading the office from its tables.
 
-ghost use Rattle.std.specs.Prelude.{◌≡◌, ◌≢◌, IsTrue, false, pos, IfOk, IfSome, Err, None, List, map, drop};
+ghost use Rattle.std.specs.Prelude.{◌≡◌, ◌≢◌, IsTrue, false, pos, IfOk, IfSome, OnOk, Err, None, List, map, drop};
 ghost use Rattle.sqlite.specs.declared.types.Value.TheVariants.{Int};
 ghost use Rattle.sqlite.specs.Order.{column};
 ghost use Rattle.sqlite.specs.State.{HasCleanDisk, IsUnchanged, Survives};
@@ -13,17 +13,19 @@ ghost use Rattle.rolls.specs.State.{State};
 ghost use Rattle.rolls.specs.Fit.{IsFit};
 ghost use Rattle.rolls.specs.From.{AreRowsOf};
 ghost use Rattle.store.specs.Editions.{number_of, rolls_of};
-ghost use Rattle.store.specs.Tables.{StandsFor, numbered};
+ghost use Rattle.store.specs.Tables.{numbered};
 ghost use Rattle.tables.specs.Layout.{IsListed};
-ghost use Rattle.store.specs.Reading.{AreAllListed, AreListed, IsDamaged};
-ghost use Rattle.store.specs.Inside.Reading.{IsAlone, IsElsewhere, IsListedAlone, ReadsTable, HoldsNoRow, ReadsAll, HoldsUnread};
+ghost use Rattle.store.specs.Reading.{AreAllListed, IsUnfitIn};
+ghost use Rattle.store.specs.Inside.Reading.{IsAlone, IsElsewhere, IsListedAlone, ReadsTable, Finds, HoldsNoRow, HoldsRows, ReadsAll, HoldsUnread};
 
-use crate::edition::{EDITIONS, Edition, number_of, rolls_of};
+use crate::edition::{number_of, rolls_of};
 use crate::fault::StoreFault;
 use crate::rows::rows_with;
+use crate::raising::added;
+use editions::{Edition, adding_law, more_rows, renewal_law};
 use loading::RowsFault;
 use office::Office;
-use rolls::Row;
+use rolls::{Change, Row};
 use sqlite::{Alter, Connection, Row as Cells};
 use sqlite_schema::schema::Schema;
 use sqlite_value::value::ValueRef;
@@ -86,18 +88,6 @@ fn are_all_listed(schema: &Schema, tables: &[Table]) -> bool
     true
 }
 
-/// The latest edition whose tables are all listed.
-fn listed_edition(schema: &Schema) -> Option<Edition>
-    ensures some { IfSome result (λ e. AreAllListed (rolls_of e) schema.now) }
-    ensures none { result ≡ None → AreListed schema.now → ⊥ }
-{
-    for edition in EDITIONS {
-        if are_all_listed(schema, rolls_of(edition)) {
-            return Some(edition);
-        }
-    }
-    None
-}
 
 /// Whether this column is this number.
 fn is_number(cells: &Cells, at: usize, number: u32) -> bool
@@ -163,6 +153,31 @@ fn read_rows<S: Alter>(
     Ok(rows)
 }
 
+/// The rows of the tables of an edition, after the number was read.
+fn rows_in<S: Alter>(
+    alloc: Global,
+    conn: &mut Connection<S>,
+    edition: Edition,
+) -> Result<Vec<Row>, StoreFault>
+    ensures rows { HasCleanDisk (state S.Store conn.new) → IfOk result (λ rows. HoldsRows edition rows.items (state S.Store conn.old) (state S.Store conn.new)) }
+    ensures unlisted { (AreAllListed (rolls_of edition) (state S.Store conn.old).now.schema → ⊥) → result ≡ Err StoreFault.Damaged }
+    ensures damaged { HasCleanDisk (state S.Store conn.new) → result ≡ Err StoreFault.Damaged → IsUnfitIn edition (state S.Store conn.old).now }
+    ensures rests { HasCleanDisk (state S.Store conn.new) → Rests (state S.Store conn.old) (state S.Store conn.new) }
+    ensures cause { IsCaused StoreFault.Storage IsHinderedReading result (state S.Store conn.old) (state S.Store conn.new) }
+    ensures mode { conn.old.in_transaction ≡ false → conn.new.in_transaction ≡ false }
+    ensures survives { Survives (state S.Store conn.old) (state S.Store conn.new) (λ _. ⊥) }
+{
+    if !are_all_listed(conn.schema(), rolls_of(edition)) {
+        return Err(StoreFault::Damaged);
+    }
+    let number = read(conn, Table::Edition)?;
+    if !are_numbered(number.as_slice(), edition) {
+        return Err(StoreFault::Damaged);
+    }
+    let rows = read_rows(alloc, conn, edition)?;
+    Ok(rows)
+}
+
 /// The office of rows that were read.
 fn office_from(alloc: Global, rows: Vec<Row>) -> Result<Office, StoreFault>
     ensures rows { IfOk result (λ office. AreRowsOf rows.items office) }
@@ -176,24 +191,29 @@ fn office_from(alloc: Global, rows: Vec<Row>) -> Result<Office, StoreFault>
     }
 }
 
-/// The office of the tables, where none is being written.
-pub fn office_of<S: Alter>(alloc: Global, conn: &mut Connection<S>) -> Result<Office, StoreFault>
-    ensures ok { HasCleanDisk (state S.Store conn.new) → IfOk result (λ office. IsUnchanged (state S.Store conn.old) (state S.Store conn.new) × StandsFor (state S.Store conn.old).now office) }
-    ensures unlisted { (AreListed (state S.Store conn.old).now.schema → ⊥) → result ≡ Err StoreFault.Damaged }
-    ensures damaged { HasCleanDisk (state S.Store conn.new) → result ≡ Err StoreFault.Damaged → IsDamaged (state S.Store conn.old).now }
+/// The office of the tables of an edition, where none is being written, and the changes that raise them.
+pub fn office_in<S: Alter>(
+    alloc: Global,
+    conn: &mut Connection<S>,
+    edition: Edition,
+) -> Result<(Office, Vec<Change>), StoreFault>
+    ensures ok { HasCleanDisk (state S.Store conn.new) → IfOk result (λ it. Finds edition it.0 it.1.items (state S.Store conn.old) (state S.Store conn.new)) }
+    ensures same { HasCleanDisk (state S.Store conn.new) → OnOk result (IsUnchanged (state S.Store conn.old) (state S.Store conn.new)) }
+    ensures unlisted { (AreAllListed (rolls_of edition) (state S.Store conn.old).now.schema → ⊥) → result ≡ Err StoreFault.Damaged }
+    ensures damaged { HasCleanDisk (state S.Store conn.new) → result ≡ Err StoreFault.Damaged → IsUnfitIn edition (state S.Store conn.old).now }
     ensures rests { HasCleanDisk (state S.Store conn.new) → Rests (state S.Store conn.old) (state S.Store conn.new) }
     ensures cause { IsCaused StoreFault.Storage IsHinderedReading result (state S.Store conn.old) (state S.Store conn.new) }
     ensures mode { conn.old.in_transaction ≡ false → conn.new.in_transaction ≡ false }
     ensures survives { Survives (state S.Store conn.old) (state S.Store conn.new) (λ _. ⊥) }
 {
-    let Some(edition) = listed_edition(conn.schema()) else {
-        return Err(StoreFault::Damaged);
-    };
-    let number = read(conn, Table::Edition)?;
-    if !are_numbered(number.as_slice(), edition) {
-        return Err(StoreFault::Damaged);
-    }
-    let rows = read_rows(alloc, conn, edition)?;
+    renewal_law();
+    adding_law();
+    let mut rows = rows_in(alloc, conn, edition)?;
+    let more = more_rows(alloc, edition, &rows)?;
+    let changes = added(alloc, more)?;
+    let mut rest = more_rows(alloc, edition, &rows)?;
+    rows.append(&mut rest)?;
     let office = office_from(alloc, rows)?;
-    Ok(office)
+    office.fit();
+    Ok((office, changes))
 }

@@ -6,10 +6,12 @@ ghost use Rattle.sqlite.specs.Order.{Row as AnyCells, column};
 ghost use Rattle.sqlite_rules.specs.Lists.{Has};
 ghost use Rattle.rolls.specs.Kinds.{word_of};
 ghost use Rattle.tables.specs.Table.{kinds_of};
+ghost use Rattle.store.specs.Rows.{is_generous};
 ghost use Rattle.store.specs.Inside.Reading.{IsNoRow, IsRowWith, AreRowsOf, is_of_rolls, is_of_rounds};
 
 use crate::fault::StoreFault;
 use rolls::{Bytes, ImportKind, Row, Text};
+use spa::Aim;
 use sqlite::Row as Cells;
 use sqlite_value::value::ValueRef;
 use std::alloc::Global;
@@ -62,6 +64,19 @@ fn flag_at(cells: &Cells, at: usize) -> Result<bool, StoreFault>
         0 => Ok(false),
         1 => Ok(true),
         _ => Err(StoreFault::Damaged),
+    }
+}
+
+/// The aim in a column, where 1 stands for the generous one.
+fn aim_at(cells: &Cells, at: usize) -> Result<Aim, StoreFault>
+    ensures aim { IfOk result (λ aim. column cells.now at ≡ Int (pos (cond (is_generous aim) 1 0))) }
+    ensures damaged { result ≡ Err StoreFault.Damaged → (aim : Aim) → column cells.now at ≢ Int (pos (cond (is_generous aim) 1 0)) }
+    ensures alone { IfErr result (λ fault. fault ≡ StoreFault.Damaged) }
+{
+    if flag_at(cells, at)? {
+        Ok(Aim::Generous)
+    } else {
+        Ok(Aim::Greedy)
     }
 }
 
@@ -141,9 +156,12 @@ fn roll_row(alloc: Global, table: Table, cells: &Cells) -> Result<Row, StoreFaul
             code: text_at(alloc, cells, 1)?,
             label: text_at(alloc, cells, 2)?,
         }),
-        Table::Round | Table::Choice | Table::Placement | Table::Import | Table::Edition => {
-            Err(StoreFault::Damaged)
-        }
+        Table::Round
+        | Table::Choice
+        | Table::Placement
+        | Table::Import
+        | Table::RoundAim
+        | Table::Edition => Err(StoreFault::Damaged),
     }
 }
 
@@ -158,7 +176,7 @@ fn row_with(alloc: Global, table: Table, cells: &Cells) -> Result<Row, StoreFaul
     }
     match table {
         Table::Supervisor | Table::Project | Table::Student => roll_row(alloc, table, cells),
-        Table::Round | Table::Choice | Table::Placement | Table::Import => {
+        Table::Round | Table::Choice | Table::Placement | Table::Import | Table::RoundAim => {
             round_row(alloc, table, cells)
         }
         Table::Edition => Err(StoreFault::Damaged),
@@ -192,6 +210,10 @@ fn round_row(alloc: Global, table: Table, cells: &Cells) -> Result<Row, StoreFau
             rank: number_at(cells, 4)?,
             student: text_at(alloc, cells, 1)?,
             project: text_at(alloc, cells, 3)?,
+        }),
+        Table::RoundAim => Ok(Row::RoundAim {
+            round: number_at(cells, 1)?,
+            aim: aim_at(cells, 2)?,
         }),
         Table::Import => Ok(Row::Import {
             rows: number_at(cells, 4)?,

@@ -11,11 +11,13 @@ ghost use Rattle.tables.specs.Steps.{Does, HasSaved, HasStepped, IsKept, IsLeft}
 ghost use Rattle.tables.specs.Inside.Steps.{Stays};
 ghost use Rattle.store.specs.Causes.{IsHinderedAmong, IsHinderedChange, IsHinderedToSave};
 ghost use Rattle.store.specs.Inside.Causes.{IsHinderedToEnter};
+ghost use Rattle.store.specs.Rows.{is_generous};
 ghost use Rattle.store.specs.Saving.{Applies, AreActedOn, LeavesOthers, Saves};
 ghost use Rattle.store.specs.Inside.Saving.{AppliesOne, Enters, entering};
 
 use crate::fault::StoreFault;
 use rolls::{Change, Row, RowKey};
+use spa::Aim;
 use sqlite::{Alter, Connection, Transaction, params};
 use sqlite_value::value::ValueRef;
 use tables::fault::TableFault;
@@ -28,6 +30,16 @@ fn flag(value: bool) -> u32
     ensures { result ≡ cond value 1 0 }
 {
     if value { 1 } else { 0 }
+}
+
+/// Whether an aim is the generous one.
+fn is_generous(aim: Aim) -> bool
+    ensures { result ≡ is_generous aim }
+{
+    match aim {
+        Aim::Greedy => false,
+        Aim::Generous => true,
+    }
 }
 
 /// How a row comes into its table.
@@ -115,6 +127,12 @@ fn write_row<S: Alter>(tx: &mut Transaction<'_, S>, way: Way, row: &Row) -> Resu
             Table::Placement,
             params![student.as_str(), *round, project.as_str(), *rank],
         ),
+        Row::RoundAim { round, aim } => enter(
+            tx,
+            way,
+            Table::RoundAim,
+            params![*round, flag(is_generous(*aim))],
+        ),
         Row::Import {
             id,
             kind,
@@ -144,6 +162,7 @@ fn take_row<S: Alter>(tx: &mut Transaction<'_, S>, key: &RowKey) -> Result<(), T
             delete(tx, Table::Choice, params![*round, student.as_str(), *place])
         }
         RowKey::Placement(student) => delete(tx, Table::Placement, params![student.as_str()]),
+        RowKey::RoundAim(round) => delete(tx, Table::RoundAim, params![*round]),
         RowKey::Import(id) => delete(tx, Table::Import, params![id.as_str()]),
     }
 }

@@ -6,14 +6,16 @@ ghost use Rattle.sqlite.specs.Held.{state};
 ghost use Rattle.tables.specs.Steps.{HasSaved, IsKept, IsLeft};
 ghost use Rattle.tables.specs.Causes.{IsCaused, IsStopped};
 ghost use Rattle.store.specs.Causes.{IsHinderedOpening, IsHinderedReading, IsHinderedToSave};
-ghost use Rattle.store.specs.Tables.{Founds, HasNone, LeavesAlone, Opens, StandsFor};
-ghost use Rattle.store.specs.Reading.{AreListed, IsDamaged};
+ghost use Rattle.store.specs.Tables.{Brings, HasNone, LeavesAlone, Opens, StandsFor};
+ghost use Rattle.store.specs.Reading.{AreListed, IsDamaged, IsUnfit};
 ghost use Rattle.store.specs.Saving.{AddsNew, AreActedOn, LeavesOthers, Saves};
 
 use crate::fault::StoreFault;
+use crate::edition::{LATEST, edition_of};
 use crate::founding::{found, has_none};
 use crate::quiet::are_left;
-use crate::reading::office_of;
+use crate::raising::raise;
+use crate::reading::office_in;
 use crate::saving::save_all;
 use office::Office;
 use rolls::Change;
@@ -56,7 +58,7 @@ fn open_tables<S: Alter>(alloc: Global, conn: &mut Connection<S>) -> Result<Offi
     ensures some { result ≡ Err StoreFault.Damaged → HasNone (state S.Store conn.old).now.schema → ⊥ }
     ensures kept { HasCleanDisk (state S.Store conn.new) → OnErr result (IsKept (state S.Store conn.old) (state S.Store conn.new)) }
     ensures cause { conn.old.in_transaction ≡ false → IsCaused StoreFault.Storage IsHinderedOpening result (state S.Store conn.old) (state S.Store conn.new) }
-    ensures crash { Survives (state S.Store conn.old) (state S.Store conn.new) (IsLeft Founds (state S.Store conn.old)) }
+    ensures crash { Survives (state S.Store conn.old) (state S.Store conn.new) (IsLeft Brings (state S.Store conn.old)) }
 {
     if !conn.is_autocommit() {
         return Err(StoreFault::Storage);
@@ -65,13 +67,19 @@ fn open_tables<S: Alter>(alloc: Global, conn: &mut Connection<S>) -> Result<Offi
         found(conn)?;
         return Ok(Office::new(alloc));
     }
-    office_of(alloc, conn)
+    let edition = edition_of(conn.schema());
+    let (office, changes) = office_in(alloc, conn, edition)?;
+    if edition == LATEST {
+        return Ok(office);
+    }
+    raise(conn, edition, &changes)?;
+    Ok(office)
 }
 
 impl<S: Alter> Store<S> {
     /// Opens the tables: the office that they stand for, or the empty one of a database that has none of
-    /// them, where they are made in one transaction. Other tables are left alone. With a fault the
-    /// connection is given back.
+    /// them, where they are made in one transaction. Tables of an earlier edition are raised in one
+    /// transaction. Other tables are left alone. With a fault the connection is given back.
     pub fn open(
         alloc: Global,
         mut conn: Connection<S>,
@@ -95,8 +103,8 @@ impl<S: Alter> Store<S> {
         ensures cause { IfErr result (λ it. conn.in_transaction ≡ false → HasCleanDisk (state S.Store it.1) → it.0 ≡ StoreFault.Storage → IsStopped IsHinderedOpening (state S.Store conn) (state S.Store it.1)) }
 
         // A crash at any moment of the call.
-        ensures crash { IfOk result (λ it. Survives (state S.Store conn) (state S.Store it.0) (IsLeft Founds (state S.Store conn))) }
-        ensures crash_err { IfErr result (λ it. Survives (state S.Store conn) (state S.Store it.1) (IsLeft Founds (state S.Store conn))) }
+        ensures crash { IfOk result (λ it. Survives (state S.Store conn) (state S.Store it.0) (IsLeft Brings (state S.Store conn))) }
+        ensures crash_err { IfErr result (λ it. Survives (state S.Store conn) (state S.Store it.1) (IsLeft Brings (state S.Store conn))) }
     {
         match open_tables(alloc, &mut conn) {
             Ok(office) => Ok((Store { conn, alloc }, office)),
@@ -108,7 +116,7 @@ impl<S: Alter> Store<S> {
     pub fn load(&mut self) -> Result<Office, StoreFault>
         ensures ok { HasCleanDisk (state S.Store self.new) → IfOk result (StandsFor (state S.Store self.old).now) }
         ensures unlisted { self.old.in_transaction ≡ false → (AreListed (state S.Store self.old).now.schema → ⊥) → result ≡ Err StoreFault.Damaged }
-        ensures damaged { HasCleanDisk (state S.Store self.new) → result ≡ Err StoreFault.Damaged → IsDamaged (state S.Store self.old).now }
+        ensures damaged { HasCleanDisk (state S.Store self.new) → result ≡ Err StoreFault.Damaged → IsUnfit (state S.Store self.old).now }
         ensures kept { HasCleanDisk (state S.Store self.new) → IsKept (state S.Store self.old) (state S.Store self.new) }
         ensures cause { self.old.in_transaction ≡ false → IsCaused StoreFault.Storage IsHinderedReading result (state S.Store self.old) (state S.Store self.new) }
 
@@ -122,7 +130,8 @@ impl<S: Alter> Store<S> {
         if !self.conn.is_autocommit() {
             return Err(StoreFault::Storage);
         }
-        office_of(self.alloc, &mut self.conn)
+        let (office, _) = office_in(self.alloc, &mut self.conn, LATEST)?;
+        Ok(office)
     }
 
     /// Makes the changes in one transaction, which touches only the rows that they name.

@@ -9,7 +9,7 @@ use Rattle.sqlite.specs.Term.{Term, col}
 use Rattle.sqlite.specs.declared.types.Value.TheVariants.{Int, Text as Words}
 use Rattle.sqlite_value.specs.Keys.{first_key}
 use Rattle.tables.specs.declared.table.Table.{Table}
-use Rattle.tables.specs.declared.table.Table.TheVariants.{Edition, Supervisor, Project, Student, Round, Choice, Placement, Import}
+use Rattle.tables.specs.declared.table.Table.TheVariants.{Edition, Supervisor, Project, Student, Round, Choice, Placement, Import, RoundAim}
 use Rattle.tables.specs.Table.{Place, cells, shape_of, sharing, table_at}
 use Rattle.tables.specs.Writes.{begins_with, goes_on}
 use Rattle.tables.specs.declared.table.Group.{Group}
@@ -106,6 +106,14 @@ texts Import = record {
   keys = λ at id r. refl;
   rows = λ at id kind bytes rows. record { one = refl; added = λ here. rw (cast_null, cast_bytes at.rules.is_strict bytes, cast_int rows) refl; shares = λ here r. rw cast_null refl; finds = λ r. refl; set = λ r int same. rw (cast_bytes at.rules.is_strict bytes, cast_int rows) refl };
   keyed = λ at. inr (0, refl, refl);
+}
+texts RoundAim = record {
+  read = record { body = _; create = refl; insert = refl; update = refl; delete = refl; select = refl; defined = refl; unlisted = refl; laid = λ schema place base. refl; shows = λ place r. refl };
+  tested = λ is_strict schema at tree bare checks there. record { removal = rw there (rw there refl); change = rw there (rw there refl) };
+  all = λ schema at place there low. rw there (rw low (rw there refl));
+  keys = λ at round r. refl;
+  rows = λ at round generous. record { one = refl; added = λ here. rw (cast_int round, cast_int generous) refl; shares = λ here r. rw (cast_int round) refl; finds = λ r. refl; set = λ r int same. rw (rowid_is r round int (and_parts _ _ same).0, cast_int round, cast_int generous) refl };
+  keyed = λ at. inl refl;
 }
 
 -- and what the text gives that takes a group of rows away

@@ -23,7 +23,7 @@ use Rattle.sqlite_schema.specs.Rules.{kind_code, kind_of}
 use Rattle.sqlite_value.specs.Keys.{plain}
 use Rattle.sqlite_value.specs.declared.keys.Order.{Order}
 use Rattle.tables.specs.declared.table.Table.{Table}
-use Rattle.tables.specs.declared.table.Table.TheVariants.{Edition, Supervisor, Project, Student, Round, Choice, Placement, Import}
+use Rattle.tables.specs.declared.table.Table.TheVariants.{Edition, Supervisor, Project, Student, Round, Choice, Placement, Import, RoundAim}
 use Rattle.tables.specs.declared.table.Group.{Group}
 use Rattle.tables.specs.declared.table.Group.TheVariants as group
 
@@ -176,10 +176,22 @@ telling Import = record {
   };
   checks = op2 Or (op2 Or (against Eq 2 (Words (codes "supervisors"))) (against Eq 2 (Words (codes "projects")))) (op2 Or (against Eq 2 (Words (codes "students"))) (against Eq 2 (Words (codes "lists")))) ∷ [];
 }
+telling RoundAim = record {
+  number = 8;
+  shape = by_rowid (codes "round_aim") ((codes "round", Integer) ∷ (codes "generous", Integer) ∷ []) ((0, codes "round", codes "number") ∷ []);
+  sql = record {
+    create = codes "CREATE TABLE round_aim (round INTEGER NOT NULL PRIMARY KEY REFERENCES round (number), generous INTEGER NOT NULL CHECK (generous IN (0, 1))) STRICT";
+    insert = codes "INSERT INTO round_aim (round, generous) VALUES (?1, ?2)";
+    update = codes "UPDATE round_aim SET generous = ?2 WHERE round = ?1";
+    delete = codes "DELETE FROM round_aim WHERE round = ?1";
+    select = codes "SELECT rowid, * FROM round_aim";
+  };
+  checks = op2 Or (against Eq 2 (Int (pos 0))) (against Eq 2 (Int (pos 1))) ∷ [];
+}
 
 -- all of them, by their numbers
 abbrev pub all_tables : List Table
-all_tables = Edition ∷ Supervisor ∷ Project ∷ Student ∷ Round ∷ Choice ∷ Placement ∷ Import ∷ []
+all_tables = Edition ∷ Supervisor ∷ Project ∷ Student ∷ Round ∷ Choice ∷ Placement ∷ Import ∷ RoundAim ∷ []
 
 abbrev pub number_of : Table → ℕ
 number_of table = (telling table).number

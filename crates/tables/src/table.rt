@@ -17,6 +17,7 @@ pub enum Table {
     Choice,
     Placement,
     Import,
+    RoundAim,
 }
 
 /// A column of a table, by its name and its kind: NOT NULL, with no default.
@@ -25,6 +26,8 @@ pub(crate) struct Told(pub &'static str, pub Kind);
 const BYTES: Told = Told("bytes", Kind::Blob);
 
 const CODE: Told = Told("code", Kind::Text);
+
+const GENEROUS: Told = Told("generous", Kind::Integer);
 
 const ID: Told = Told("id", Kind::Integer);
 
@@ -60,27 +63,19 @@ pub(crate) struct Parent {
     pub column: &'static str,
 }
 
-const SUPERVISORS: Parent = Parent {
-    table: "supervisor",
-    column: "code",
-};
+#[rattlefmt::skip]
+const SUPERVISORS: Parent = Parent { table: "supervisor", column: "code" };
 
-const PROJECTS: Parent = Parent {
-    table: "project",
-    column: "code",
-};
+#[rattlefmt::skip]
+const PROJECTS: Parent = Parent { table: "project", column: "code" };
 
-const STUDENTS: Parent = Parent {
-    table: "student",
-    column: "code",
-};
+#[rattlefmt::skip]
+const STUDENTS: Parent = Parent { table: "student", column: "code" };
 
-const ROUNDS: Parent = Parent {
-    table: "round",
-    column: "number",
-};
+#[rattlefmt::skip]
+const ROUNDS: Parent = Parent { table: "round", column: "number" };
 
-/// A reference from a column, which is counted from 1, to another table, with NO ACTION.
+/// A reference from a column, which is counted from 1, with 0 for the rowid, to another table, with NO ACTION.
 pub(crate) struct Link(pub usize, pub Parent);
 
 /// The keys of a table. Columns are counted from 1, and 0 stands for the rowid.
@@ -127,7 +122,7 @@ pub(crate) struct Shape {
 /// The tables.
 #[rattlefmt::skip]
 mod rows {
-    use super::{BYTES, BY_ROWID, BY_TEXT, CODE, ID, IMPORT, KIND, LABEL, NUMBER, OPEN, PLACE, PROJECT, PROJECTS, QUOTA, RANK, ROUND, ROUNDS, ROWS, STUDENT, STUDENTS, SUPERVISOR, SUPERVISORS, Keys, Link, Shape};
+    use super::{BYTES, BY_ROWID, BY_TEXT, CODE, GENEROUS, ID, IMPORT, KIND, LABEL, NUMBER, OPEN, PLACE, PROJECT, PROJECTS, QUOTA, RANK, ROUND, ROUNDS, ROWS, STUDENT, STUDENTS, SUPERVISOR, SUPERVISORS, Keys, Link, Shape};
 
     pub(crate) static EDITION_SHAPE: Shape = Shape { name: "edition", columns: &[ID, NUMBER], keys: BY_ROWID, links: &[],
         create: "CREATE TABLE edition (id INTEGER NOT NULL PRIMARY KEY CHECK (id = 1), number INTEGER NOT NULL) STRICT",
@@ -168,6 +163,11 @@ mod rows {
         create: "CREATE TABLE import (id TEXT NOT NULL PRIMARY KEY, kind TEXT NOT NULL CHECK (kind IN ('supervisors', 'projects', 'students', 'lists')), bytes BLOB NOT NULL, rows INTEGER NOT NULL) STRICT",
         insert: "INSERT INTO import (id, kind, bytes, rows) VALUES (?1, ?2, ?3, ?4)", update: "UPDATE import SET id = ?1, kind = ?2, bytes = ?3, rows = ?4 WHERE id = ?1",
         delete: "DELETE FROM import WHERE id = ?1", select: "SELECT rowid, * FROM import" };
+
+    pub(crate) static ROUND_AIM_SHAPE: Shape = Shape { name: "round_aim", columns: &[ROUND, GENEROUS], keys: BY_ROWID, links: &[Link(0, ROUNDS)],
+        create: "CREATE TABLE round_aim (round INTEGER NOT NULL PRIMARY KEY REFERENCES round (number), generous INTEGER NOT NULL CHECK (generous IN (0, 1))) STRICT",
+        insert: "INSERT INTO round_aim (round, generous) VALUES (?1, ?2)", update: "UPDATE round_aim SET generous = ?2 WHERE round = ?1",
+        delete: "DELETE FROM round_aim WHERE round = ?1", select: "SELECT rowid, * FROM round_aim" };
 }
 
 /// Rows of a table that go together: those that share some columns.
@@ -213,6 +213,7 @@ impl Table {
             Table::Choice => &rows::CHOICE_SHAPE,
             Table::Placement => &rows::PLACEMENT_SHAPE,
             Table::Import => &rows::IMPORT_SHAPE,
+            Table::RoundAim => &rows::ROUND_AIM_SHAPE,
         }
     }
 }

@@ -6,7 +6,7 @@ use crate::school::SCHOOL;
 use std::rt::HostRuntime;
 use std::test::Fail;
 
-/// Five more projects, Y without a place, and an open round; before it a list of eight comes too early.
+/// Five more projects, Y without a place; a list of eight comes too early.
 #[rattlefmt::skip]
 const BEFORE: &str =
     r#"PUT /projects/U | {"name":"Urns","quota":1,"supervisor":"L"}    | 200 OK       | {"ok":true}
@@ -14,8 +14,12 @@ const BEFORE: &str =
        PUT /projects/W | {"name":"Walls","quota":1,"supervisor":"L"}   | 200 OK       | {"ok":true}
        PUT /projects/X | {"name":"Xenon","quota":1,"supervisor":"L"}   | 200 OK       | {"ok":true}
        PUT /projects/Y | {"name":"Yards","quota":0,"supervisor":"L"}   | 200 OK       | {"ok":true}
-       PUT /lists/B    | {"choices":["Z","Y","X","W","V","U","Q","P"]} | 409 Conflict | {"fault":"NoRoundOpen","number":19}
-       POST /rounds    |                                               | 200 OK       | {"round":1}"#;
+       PUT /lists/B    | {"choices":["Z","Y","X","W","V","U","Q","P"]} | 409 Conflict | {"fault":"NoRoundOpen","number":19}"#;
+
+/// The opening of a round, by each aim.
+const GREEDY: &str = r#"POST /rounds || 200 OK | {"round":1}"#;
+
+const GENEROUS: &str = r#"POST /rounds | {"aim":"generous"} | 200 OK | {"round":1}"#;
 
 /// Each gets the first choice.
 #[rattlefmt::skip]
@@ -34,6 +38,26 @@ const FIRST_AND_FOURTH: &str =
        POST /rounds/close |                               | 200 OK | {"profile":[1,0,0,1^,],"round":1,"size":2}
        GET /students/A    |                               | 200 OK | {"list":null,"name":"Ann","placed":{"project":"X","rank":1,"round":1}}
        GET /students/C    |                               | 200 OK | {"list":null,"name":"Cy","placed":{"project":"U","rank":4,"round":1}}"#;
+
+/// By the other aim two second choices come before a first and a fourth, also once the round was opened again. The aim stays the round's
+/// own.
+#[rattlefmt::skip]
+const TWO_SECONDS: &str =
+    r#"PUT /lists/A        | {"choices":["X","V"]}         | 200 OK | {"ok":true}
+       GET /preview        |                               | 200 OK | {"profile":[1,0,0,0^,],"size":1}
+       PUT /lists/C        | {"choices":["Z","X","Y","U"]} | 200 OK | {"ok":true}
+       GET /preview        |                               | 200 OK | {"profile":[0,2,0,0^,],"size":2}
+       POST /rounds/close  |                               | 200 OK | {"profile":[0,2,0,0^,],"round":1,"size":2}
+       GET /students/A     |                               | 200 OK | {"list":null,"name":"Ann","placed":{"project":"V","rank":2,"round":1}}
+       GET /students/C     |                               | 200 OK | {"list":null,"name":"Cy","placed":{"project":"X","rank":2,"round":1}}
+       GET /rounds/1       |                               | 200 OK | {"aim":"generous","open":false,"placed":2,"profile":[0,2,0,0^,],"round":1,"students":2}
+       POST /rounds/reopen |                               | 200 OK | {"round":1}
+       GET /rounds/1       |                               | 200 OK | {"aim":"generous","open":true,"placed":0,"profile":[0,0,0,0^,],"round":1,"students":2}
+       GET /preview        |                               | 200 OK | {"profile":[0,2,0,0^,],"size":2}
+       POST /rounds/close  |                               | 200 OK | {"profile":[0,2,0,0^,],"round":1,"size":2}
+       POST /rounds        |                               | 200 OK | {"round":2}
+       GET /rounds/2       |                               | 200 OK | {"aim":"greedy","open":true,"placed":0,"profile":[0,0,0,0^,],"round":2,"students":0}
+       GET /rounds/1       |                               | 200 OK | {"aim":"generous","open":false,"placed":2,"profile":[0,2,0,0^,],"round":1,"students":2}"#;
 
 /// A quota is put below what the preview placed.
 #[rattlefmt::skip]
@@ -65,7 +89,7 @@ const TWO_LISTS: &str =
        PUT /lists/B       | {"choices":["Y","Q"]} | 200 OK        | {"ok":true}
        GET /students/B    |                       | 200 OK        | {"list":["Y","Q"],"name":"Bob","placed":null}
        POST /rounds/close |                       | 200 OK        | {"profile":[0,1,0,0^,],"round":2,"size":1}
-       GET /rounds/1      |                       | 200 OK        | {"open":false,"placed":0,"profile":[0,0,0,0^,],"round":1,"students":1}
+       GET /rounds/1      |                       | 200 OK        | {"aim":"greedy","open":false,"placed":0,"profile":[0,0,0,0^,],"round":1,"students":1}
        GET /students/B    |                       | 200 OK        | {"list":null,"name":"Bob","placed":{"project":"Q","rank":2,"round":2}}"#;
 
 /// P of quota 2 takes one student in each of two rounds.
@@ -78,7 +102,7 @@ const TWO_ROUNDS: &str =
        PUT /lists/B       | {"choices":["P"]}                           | 200 OK | {"ok":true}
        PUT /lists/C       | {"choices":["P"]}                           | 200 OK | {"ok":true}
        POST /rounds/close |                                             | 200 OK | {"profile":[1,0,0,0^,],"round":2,"size":1}
-       GET /rounds/1      |                                             | 200 OK | {"open":false,"placed":1,"profile":[1,0,0,0^,],"round":1,"students":1}
+       GET /rounds/1      |                                             | 200 OK | {"aim":"greedy","open":false,"placed":1,"profile":[1,0,0,0^,],"round":1,"students":1}
        GET /supervisors/L |                                             | 200 OK | {"name":"Lee","placed":2,"quota":5}
        GET /projects/P    |                                             | 200 OK | {"name":"Pumps","placed":2,"quota":2,"supervisor":"L"}
        GET /students/A    |                                             | 200 OK | {"list":null,"name":"Ann","placed":{"project":"P","rank":1,"round":1}}"#;
@@ -87,7 +111,7 @@ const TWO_ROUNDS: &str =
 #[rattlefmt::skip]
 const REOPENED: &str =
     r#"POST /rounds/reopen |                                             | 200 OK       | {"round":2}
-       GET /rounds/2       |                                             | 200 OK       | {"open":true,"placed":0,"profile":[0,0,0,0^,],"round":2,"students":2}
+       GET /rounds/2       |                                             | 200 OK       | {"aim":"greedy","open":true,"placed":0,"profile":[0,0,0,0^,],"round":2,"students":2}
        PUT /projects/P     | {"name":"Pumps","quota":0,"supervisor":"L"} | 409 Conflict | {"fault":"BelowPlaced","number":17}
        PUT /projects/P     | {"name":"Pumps","quota":1,"supervisor":"L"} | 200 OK       | {"ok":true}
        GET /preview        |                                             | 200 OK       | {"profile":[0,0,0,0^,],"size":0}"#;
@@ -157,13 +181,14 @@ const FORTY_PLACES: &str =
 
 /// Each play at tables of its own.
 #[rattlefmt::skip]
-static PLAYS: [&[Sitting]; 8] = [
-    &[(&[Part::Lines(SCHOOL), Part::Lines(BEFORE), Part::Lines(TWO_FIRSTS)], 3)],
-    &[(&[Part::Lines(SCHOOL), Part::Lines(BEFORE), Part::Lines(FIRST_AND_FOURTH)], 3)],
-    &[(&[Part::Lines(SCHOOL), Part::Lines(BEFORE), Part::Lines(QUOTA_GOES)], 3)],
-    &[(&[Part::Lines(SCHOOL), Part::Lines(BEFORE), Part::Lines(EIGHT)], 3)],
-    &[(&[Part::Lines(SCHOOL), Part::Lines(BEFORE), Part::Lines(TWO_LISTS)], 3)],
-    &[(&[Part::Lines(SCHOOL), Part::Lines(BEFORE), Part::Lines(TWO_ROUNDS), Part::Twice("GET /students/B"), Part::Twice("GET /students/C"), Part::Lines(REOPENED)], 3)],
+static PLAYS: [&[Sitting]; 9] = [
+    &[(&[Part::Lines(SCHOOL), Part::Lines(BEFORE), Part::Lines(GREEDY), Part::Lines(TWO_FIRSTS)], 3)],
+    &[(&[Part::Lines(SCHOOL), Part::Lines(BEFORE), Part::Lines(GREEDY), Part::Lines(FIRST_AND_FOURTH)], 3)],
+    &[(&[Part::Lines(SCHOOL), Part::Lines(BEFORE), Part::Lines(GENEROUS), Part::Lines(TWO_SECONDS)], 3)],
+    &[(&[Part::Lines(SCHOOL), Part::Lines(BEFORE), Part::Lines(GREEDY), Part::Lines(QUOTA_GOES)], 3)],
+    &[(&[Part::Lines(SCHOOL), Part::Lines(BEFORE), Part::Lines(GREEDY), Part::Lines(EIGHT)], 3)],
+    &[(&[Part::Lines(SCHOOL), Part::Lines(BEFORE), Part::Lines(GREEDY), Part::Lines(TWO_LISTS)], 3)],
+    &[(&[Part::Lines(SCHOOL), Part::Lines(BEFORE), Part::Lines(GREEDY), Part::Lines(TWO_ROUNDS), Part::Twice("GET /students/B"), Part::Twice("GET /students/C"), Part::Lines(REOPENED)], 3)],
     &[(&[Part::Lines(OF_SIXTY), Part::Counted(1, 61, SIXTY_PROJECTS), Part::Counted(1, 60, SIXTY_LISTS), Part::Lines(SIXTY), Part::Counted(1, 60, SIXTY_PLACES)], 60)],
     &[(&[Part::Lines(OF_FORTY), Part::Counted(1, 21, FORTY_LISTS), Part::Lines(FORTY), Part::Counted(1, 21, FORTY_PLACES)], 40)],
 ];

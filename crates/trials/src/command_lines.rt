@@ -62,7 +62,7 @@ Commands:
   reopen-round  Opens the last round again: its lists stay, its placements go
   close-round   Closes the open round and places the students who have lists in it
   report        Prints a report of one round
-  solve         Prints the round of FILE with a greedy maximum matching and prices
+  solve         Prints the round of FILE with a best matching and prices that prove it
   check         Checks the matching and the prices of the round of FILE
   help          Print this message or the help of the given subcommand(s)
 

@@ -6,7 +6,7 @@ ghost use Rattle.sqlite_disk.specs.Memory.{memory_is_usable};
 use crate::judged::holds;
 use crate::kept::kept_by;
 use crate::played::{answer_of, asked, play_lines};
-use crate::school::{LISTED, SCHOOL};
+use crate::school::{FIRST_EDITION, LISTED, SCHOOL};
 use desk::Desk;
 use rolls::Refusal;
 use sqlite::{Alter, Connection, FileStore, Files, Options};
@@ -16,36 +16,58 @@ use std::process::Abort;
 use std::rt::HostRuntime;
 use std::test::Fail;
 
-/// After how many pages of the log these are copied into the database file; what is played before; a request, or none where the
-/// database is only opened, as it stands in its log; and a read as it is answered before the request. Where nothing is played the files
-/// hold nothing, and the tables are made.
-type Row = (usize, &'static [&'static str], &'static str, &'static str);
+/// What files hold before a row.
+#[derive(Clone, Copy)]
+enum Before {
+    /// Nothing: the tables are made.
+    Nothing,
+    /// The school with its lists.
+    Listed,
+    /// Tables of the first edition, which are raised.
+    FirstEdition,
+}
+
+/// After how many pages of the log these are copied into the database file; what it holds; a request, or none where the database is
+/// only opened, as it stands in its log; and a read as it is answered before the request.
+type Row = (usize, Before, &'static str, &'static str);
 
 #[rattlefmt::skip]
-static ROWS: [Row; 9] = [
-    (1_000, &[SCHOOL, LISTED], "", ""),
-    (1_000, &[], "", ""),
-    (1_000, &[SCHOOL, LISTED],
+static ROWS: [Row; 10] = [
+    (1_000, Before::Listed, "", ""),
+    (1_000, Before::Nothing, "", ""),
+    (1_000, Before::Listed,
      r#"POST /rounds/close || 200 OK | {"profile":[0,2,0,0^,],"round":1,"size":2}"#,
-     r#"GET /rounds/1 || 200 OK | {"open":true,"placed":0,"profile":[0,0,0,0^,],"round":1,"students":2}"#),
-    (1_000, &[SCHOOL, LISTED],
+     r#"GET /rounds/1 || 200 OK | {"aim":"greedy","open":true,"placed":0,"profile":[0,0,0,0^,],"round":1,"students":2}"#),
+    (1_000, Before::Listed,
      r#"POST /imports/students/I1 | code,name^nS1,Ann^nS2,Bob^n | 200 OK | {"rows":2}"#,
      r#"GET /students/S2 || 404 Not Found | {"fault":"UnknownStudent","number":15}"#),
-    (1_000, &[SCHOOL, LISTED],
+    (1_000, Before::Listed,
      r#"PUT /lists/A | {"choices":["Q","P"]} | 200 OK | {"ok":true}"#,
      r#"GET /students/A || 200 OK | {"list":["P","Q"],"name":"Ann","placed":null}"#),
-    (1_000, &[SCHOOL, LISTED],
+    (1_000, Before::Listed,
      r#"PUT /students/S1 | {"name":"Dan"} | 200 OK | {"ok":true}"#,
      r#"GET /students/S1 || 404 Not Found | {"fault":"UnknownStudent","number":15}"#),
-    (1_000, &[],
+    (1_000, Before::Nothing,
      r#"PUT /students/S1 | {"name":"Dan"} | 200 OK | {"ok":true}"#,
      r#"GET /students/S1 || 404 Not Found | {"fault":"UnknownStudent","number":15}"#),
-    (1, &[SCHOOL, LISTED],
+    (1_000, Before::Nothing,
+     r#"POST /rounds | {"aim":"generous"} | 200 OK | {"round":1}"#,
+     r#"GET /rounds/1 || 404 Not Found | {"fault":"UnknownRound","number":26}"#),
+    (1, Before::Listed,
      r#"POST /rounds/close || 200 OK | {"profile":[0,2,0,0^,],"round":1,"size":2}"#,
-     r#"GET /rounds/1 || 200 OK | {"open":true,"placed":0,"profile":[0,0,0,0^,],"round":1,"students":2}"#),
-    (1, &[],
+     r#"GET /rounds/1 || 200 OK | {"aim":"greedy","open":true,"placed":0,"profile":[0,0,0,0^,],"round":1,"students":2}"#),
+    (1, Before::Nothing,
      r#"PUT /students/S1 | {"name":"Dan"} | 200 OK | {"ok":true}"#,
      r#"GET /students/S1 || 404 Not Found | {"fault":"UnknownStudent","number":15}"#),
+];
+
+/// The same of files of the first edition.
+#[rattlefmt::skip]
+static FIRST_EDITION_ROWS: [Row; 2] = [
+    (1_000, Before::FirstEdition, "", ""),
+    (1, Before::FirstEdition,
+     r#"POST /rounds/close || 200 OK | {"profile":[0,0,0,0^,],"round":2,"size":0}"#,
+     r#"GET /rounds/2 || 200 OK | {"aim":"greedy","open":true,"placed":0,"profile":[0,0,0,0^,],"round":2,"students":1}"#),
 ];
 
 /// How a database that fails refuses a request.
@@ -63,11 +85,18 @@ fn are_same(bytes: &Bytes, other: &Bytes) -> bool {
     bytes.log.as_slice() == other.log.as_slice() && bytes.db.as_slice() == other.db.as_slice()
 }
 
-/// A database before a request, what its tables keep then, and what they keep after the request.
+/// What tables keep as they stand, and what they keep after lines at the desk over them.
+#[derive(Drop)]
+struct Kept {
+    stood: String,
+    after: String,
+}
+
+/// A database before a request, what its tables keep then and once they are opened, and what they keep after the request.
 #[derive(Drop)]
 struct Start {
     bytes: Bytes,
-    old: String,
+    old: Kept,
     new: String,
 }
 
@@ -162,20 +191,22 @@ fn is_made_over<S: Alter + Drop>(
     }
 }
 
-/// Plays lines at the desk over a database. What its tables then keep.
+/// Plays lines at the desk over a database. What its tables keep before and then.
 fn kept_after<S: Alter + Drop>(
     alloc: Global,
     rt: &impl Abort,
-    connection: Connection<S>,
+    mut connection: Connection<S>,
     lines: &[&'static str],
-) -> Result<(String, Connection<S>), Fail> {
+) -> Result<(Kept, Connection<S>), Fail> {
+    let stood = kept_by(alloc, &mut connection)?;
     match Desk::open(alloc, connection) {
         Ok(mut desk) => {
             for line in lines {
                 play_lines(alloc, rt, &mut desk, line)?;
             }
             let mut connection = desk.into_connection();
-            Ok((kept_by(alloc, &mut connection)?, connection))
+            let after = kept_by(alloc, &mut connection)?;
+            Ok((Kept { stood, after }, connection))
         }
         Err(_) => Err(Fail::new("the files are no office")),
     }
@@ -187,25 +218,40 @@ fn kept_in(
     rt: &impl Abort,
     bytes: &Bytes,
     lines: &[&'static str],
-) -> Result<String, Fail> {
+) -> Result<Kept, Fail> {
     match opened(alloc, bytes, ALL, 1_000)? {
         Ok(connection) => Ok(kept_after(alloc, rt, connection, lines)?.0),
         Err(_files) => Err(Fail::new("the files are no database")),
     }
 }
 
-/// The files of a new database at whose desk these lines were played, where each change is copied into the database file at the next
-/// one, so that the log is short, or all stand in the log.
-fn filled(
+/// Fills a new database.
+fn fill<S: Alter + Drop>(
     alloc: Global,
     rt: &impl Abort,
-    lines: &[&'static str],
-    is_copied: bool,
-) -> Result<Bytes, Fail> {
+    mut connection: Connection<S>,
+    before: Before,
+) -> Result<Connection<S>, Fail> {
+    match before {
+        Before::Nothing => Ok(connection),
+        Before::Listed => Ok(kept_after(alloc, rt, connection, &[SCHOOL, LISTED])?.1),
+        Before::FirstEdition => {
+            connection.execute_batch(FIRST_EDITION)?;
+            Ok(connection)
+        }
+    }
+}
+
+/// The files of a database that was filled, where each change is copied into the database file at the next one, so that the log is
+/// short, or all stand in the log.
+fn filled(alloc: Global, rt: &impl Abort, before: Before, is_copied: bool) -> Result<Bytes, Fail> {
+    if matches!(before, Before::Nothing) {
+        return Ok(empty(alloc));
+    }
     let frames = if is_copied { 1 } else { 1_000 };
     match opened(alloc, &empty(alloc), ALL, frames)? {
         Ok(connection) => {
-            let (_kept, connection) = kept_after(alloc, rt, connection, lines)?;
+            let connection = fill(alloc, rt, connection, before)?;
             bytes_of(alloc, &connection.into_store().close())
         }
         Err(_files) => Err(Fail::new("no new database")),
@@ -220,6 +266,16 @@ fn empty(alloc: Global) -> Bytes {
     }
 }
 
+/// Whether tables may be left that keep this: what they keep after the request, or, where it was not made, what they kept before or once
+/// they were opened. Opened anew they are the same office.
+fn may_be_left(start: &Start, found: &Kept, is_made: bool) -> bool {
+    if found.stood == start.new {
+        return found.after == start.new;
+    }
+    let is_old = found.stood == start.old.stood || found.stood == start.old.after;
+    !is_made && is_old && found.after == start.old.after
+}
+
 /// The files with these bytes are those of the office after the request, or, where it was not made, of that before.
 fn find(
     alloc: Global,
@@ -230,10 +286,9 @@ fn find(
 ) -> Result<(), Fail> {
     let is_found = if are_same(bytes, &start.bytes) {
         // These were opened at the start.
-        !is_made || start.old == start.new
+        !is_made || start.old.stood == start.new
     } else {
-        let found = kept_in(alloc, rt, bytes, &[])?;
-        found == start.new || (!is_made && found == start.old)
+        may_be_left(start, &kept_in(alloc, rt, bytes, &[])?, is_made)
     };
     holds(rt, is_found, "the office of the files");
     Ok(())
@@ -289,14 +344,10 @@ fn sweep(
 
 /// Runs a row with a log that fails, and with a database file that fails.
 fn sweep_both(alloc: Global, rt: &impl Abort, row: Row) -> Result<(), Fail> {
-    let bytes = if row.1.is_empty() {
-        empty(alloc)
-    } else {
-        filled(alloc, rt, row.1, !row.2.is_empty())?
-    };
+    let bytes = filled(alloc, rt, row.1, !row.2.is_empty())?;
     let old = kept_in(alloc, rt, &bytes, &[])?;
-    let new = kept_in(alloc, rt, &bytes, &[row.2])?;
-    holds(rt, (old == new) == row.2.is_empty(), row.2);
+    let new = kept_in(alloc, rt, &bytes, &[row.2])?.after;
+    holds(rt, (old.after == new) == row.2.is_empty(), row.2);
     let start = Start { bytes, old, new };
     sweep(alloc, rt, &start, row, true)?;
     sweep(alloc, rt, &start, row, false)
@@ -305,6 +356,14 @@ fn sweep_both(alloc: Global, rt: &impl Abort, row: Row) -> Result<(), Fail> {
 #[test]
 fn what_is_asked_while_a_file_fails_is_made_or_refused(rt: HostRuntime) -> Result<(), Fail> {
     for row in ROWS {
+        sweep_both(rt.alloc(), &rt, row)?;
+    }
+    Ok(())
+}
+
+#[test]
+fn a_file_that_fails_is_raised_or_stays(rt: HostRuntime) -> Result<(), Fail> {
+    for row in FIRST_EDITION_ROWS {
         sweep_both(rt.alloc(), &rt, row)?;
     }
     Ok(())

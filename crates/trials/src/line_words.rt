@@ -33,7 +33,9 @@ fn shown(alloc: Global, line: &Line) -> Result<String, AllocError> {
             id,
             file,
         } => format!(in alloc; "Import {database}, {}, {id}, {file}", kind.word()),
-        Line::OpenRound(database) => format!(in alloc; "OpenRound {database}"),
+        Line::OpenRound { database, aim } => {
+            format!(in alloc; "OpenRound {database}, {}", aim.word())
+        }
         Line::ReopenRound(database) => format!(in alloc; "ReopenRound {database}"),
         Line::CloseRound(database) => format!(in alloc; "CloseRound {database}"),
         Line::Report {
@@ -75,14 +77,16 @@ fn compare_words(
 
 // The words, and the line. Each range is met at both ends.
 #[rattlefmt::skip]
-static LINES: [(&str, &str); 16] = [
+static LINES: [(&str, &str); 18] = [
     ("spadesk serve school.db 1 1",                      "Serve school.db, 1, 1"),
     ("spadesk serve school.db 65535 1000000",            "Serve school.db, 65535, 1000000"),
     ("spadesk import a.db supervisors I1 x.csv",         "Import a.db, supervisors, I1, x.csv"),
     ("spadesk import a.db projects I2 y.csv",            "Import a.db, projects, I2, y.csv"),
     ("spadesk import a.db students I3 z.csv",            "Import a.db, students, I3, z.csv"),
     ("spadesk import a.db lists I4 w.csv",               "Import a.db, lists, I4, w.csv"),
-    ("spadesk open-round school.db",                     "OpenRound school.db"),
+    ("spadesk open-round school.db",                     "OpenRound school.db, greedy"),
+    ("spadesk open-round school.db greedy",              "OpenRound school.db, greedy"),
+    ("spadesk open-round school.db generous",            "OpenRound school.db, generous"),
     ("spadesk reopen-round school.db",                   "ReopenRound school.db"),
     ("spadesk close-round school.db",                    "CloseRound school.db"),
     ("spadesk report a.db profile 0",                    "Report a.db, Profile, 0"),
@@ -99,7 +103,7 @@ const HINT: &str = "\n\nFor more information, try '--help'.\n";
 
 // The words, and the fault without its end.
 #[rattlefmt::skip]
-static FAULTS: [(&str, &str); 20] = [
+static FAULTS: [(&str, &str); 22] = [
     ("spadesk serve a.db 0 5",               "error: invalid value '0' for '<PORT>': 0 is not in 1..=65535"),
     ("spadesk serve a.db 65536 5",           "error: invalid value '65536' for '<PORT>': 65536 is not in 1..=65535"),
     ("spadesk serve a.db http 5",            "error: invalid value 'http' for '<PORT>': invalid digit found in string"),
@@ -110,7 +114,9 @@ static FAULTS: [(&str, &str); 20] = [
     ("spadesk import a.db student I1 x.csv", "error: invalid value 'student' for '<KIND>'\n  [possible values: supervisors, projects, students, lists]\n\n  tip: a similar value exists: 'students'"),
     ("spadesk import a.db",                  "error: the following required arguments were not provided:\n  <KIND>\n  <ID>\n  <FILE>\n\nUsage: spadesk import <DATABASE> <KIND> <ID> <FILE>"),
     ("spadesk import a.db lists I1 x y",     "error: unexpected argument 'y' found\n\nUsage: spadesk import <DATABASE> <KIND> <ID> <FILE>"),
-    ("spadesk open-round",                   "error: the following required arguments were not provided:\n  <DATABASE>\n\nUsage: spadesk open-round <DATABASE>"),
+    ("spadesk open-round",                   "error: the following required arguments were not provided:\n  <DATABASE>\n\nUsage: spadesk open-round <DATABASE> [AIM]"),
+    ("spadesk open-round a.db fair",         "error: invalid value 'fair' for '[AIM]'\n  [possible values: greedy, generous]"),
+    ("spadesk open-round a.db greedy 2",     "error: unexpected argument '2' found\n\nUsage: spadesk open-round <DATABASE> [AIM]"),
     ("spadesk reopen-round a.db 1",          "error: unexpected argument '1' found\n\nUsage: spadesk reopen-round <DATABASE>"),
     ("spadesk close-round --now a.db",       "error: unexpected argument '--now' found\n\n  tip: to pass '--now' as a value, use '-- --now'\n\nUsage: spadesk close-round <DATABASE>"),
     ("spadesk report a.db students 1",       "error: invalid value 'students' for '<KIND>'\n  [possible values: profile, loads, unplaced, placements]"),

@@ -13,7 +13,7 @@ use crate::played::{
 use crate::school::{LISTED, SCHOOL};
 use desk::Desk;
 use rolls::Refusal;
-use sqlite::MemStore;
+use sqlite::{Connection, MemStore};
 use std::alloc::{AllocError, Global};
 use std::process::Abort;
 use std::rt::HostRuntime;
@@ -54,7 +54,7 @@ const TWENTY: &[Part] = &[
 const PREVIEW: &str = r#"GET /preview || 200 OK | {"profile":[0,2,0,0^,],"size":2}"#;
 
 #[rattlefmt::skip]
-static ROWS: [Row; 7] = [
+static ROWS: [Row; 8] = [
     (&[],
      r#"POST /imports/students/I1 | code,name^nS1,Ann^nS2,Bob^n | 200 OK | {"rows":2}"#,
      r#"GET /students/S2 || 404 Not Found | {"fault":"UnknownStudent","number":15}"#,
@@ -68,6 +68,10 @@ static ROWS: [Row; 7] = [
         GET /students/S2 || 404 Not Found | {"fault":"UnknownStudent","number":15}"#,
      r#"GET /students/S1 || 200 OK | {"list":null,"name":"Ann","placed":null}
         GET /students/S2 || 200 OK | {"list":null,"name":"Bob","placed":null}"#),
+    (&[],
+     r#"POST /rounds | {"aim":"generous"} | 200 OK | {"round":1}"#,
+     r#"GET /rounds/1 || 404 Not Found | {"fault":"UnknownRound","number":26}"#,
+     r#"GET /rounds/1 || 200 OK | {"aim":"generous","open":true,"placed":0,"profile":[0,0,0,0^,],"round":1,"students":0}"#),
     (&[Part::Lines(SCHOOL), Part::Lines(LISTED)], PREVIEW, "", PREVIEW),
     (&[Part::Lines(SCHOOL), Part::Lines(LISTED), Part::Lines(PREVIEW)], PREVIEW, PREVIEW, PREVIEW),
     (&[Part::Lines(SCHOOL), Part::Lines(LISTED), Part::Lines(PREVIEW)],
@@ -79,9 +83,9 @@ static ROWS: [Row; 7] = [
     (TWENTY, r#"GET /preview || 200 OK | {"profile":[20,0,0,20^,],"size":40}"#, "", ""),
     (TWENTY,
      r#"POST /rounds/close || 200 OK | {"profile":[20,0,0,20^,],"round":1,"size":40}"#,
-     r#"GET /rounds/1 || 200 OK | {"open":true,"placed":0,"profile":[0,0,0,0^,],"round":1,"students":40}
+     r#"GET /rounds/1 || 200 OK | {"aim":"greedy","open":true,"placed":0,"profile":[0,0,0,0^,],"round":1,"students":40}
         GET /preview || 200 OK | {"profile":[20,0,0,20^,],"size":40}"#,
-     r#"GET /rounds/1 || 200 OK | {"open":false,"placed":40,"profile":[20,0,0,20^,],"round":1,"students":40}"#),
+     r#"GET /rounds/1 || 200 OK | {"aim":"greedy","open":false,"placed":40,"profile":[20,0,0,20^,],"round":1,"students":40}"#),
 ];
 
 /// What may come of a row: what is written, and what the tables then keep.
@@ -227,32 +231,57 @@ fn what_is_refused_memory_is_made_when_it_is_asked_again(rt: HostRuntime) -> Res
     Ok(())
 }
 
-/// Opens a desk over filled tables with the nth request for memory refused: it is opened, or refused and opened then. Whether that
-/// request came.
-fn open(alloc: Global, rt: &impl Abort, n: u32) -> Result<bool, Fail> {
-    let mut connection = desk_of(alloc, rt, TWENTY)?.into_connection();
+/// Filled tables as they are, and what makes them tables of the first edition.
+static EDITIONS: [&str; 2] = ["", "DROP TABLE round_aim; UPDATE edition SET number = 1;"];
+
+/// Opens a desk over tables with the nth request for memory refused: it is opened, or refused and the tables stay. Whether that request
+/// came.
+fn open_once(
+    alloc: Global,
+    rt: &impl Abort,
+    mut connection: Connection<MemStore>,
+    n: u32,
+) -> Result<(Connection<MemStore>, bool), Fail> {
     let kept = kept_by(alloc, &mut connection)?;
     arm(alloc, n);
     let opened = Desk::open(alloc, connection);
     let is_hit = is_hit(alloc);
-    let connection = match opened {
-        Ok(desk) => desk.into_connection(),
-        Err((refusal, connection)) => {
-            holds(rt, refusal == Refusal::Memory, "an opening without memory");
-            connection
+    match opened {
+        Ok(desk) => Ok((desk.into_connection(), is_hit)),
+        Err((refusal, mut connection)) => {
+            let is_left = keeps(alloc, &mut connection, &kept)?;
+            let is_memory = refusal == Refusal::Memory;
+            holds(rt, is_memory && is_left, "an opening without memory");
+            Ok((connection, is_hit))
         }
-    };
+    }
+}
+
+/// The same over filled tables, with those of an edition made of them; then a desk is opened over them. Whether that request came.
+fn open(alloc: Global, rt: &impl Abort, edition: &str, n: u32) -> Result<bool, Fail> {
+    let mut connection = desk_of(alloc, rt, TWENTY)?.into_connection();
+    let kept = kept_by(alloc, &mut connection)?;
+    connection.execute_batch(edition)?;
+    let (connection, is_hit) = open_once(alloc, rt, connection, n)?;
     let mut connection = desk_over(alloc, rt, connection).into_connection();
     holds(rt, keeps(alloc, &mut connection, &kept)?, "filled tables");
     Ok(is_hit)
 }
 
-#[test]
-fn a_desk_is_opened_or_refused_for_want_of_memory(rt: HostRuntime) -> Result<(), Fail> {
+/// Opens a desk over tables of an edition with each request for memory refused in turn.
+fn sweep_opening(alloc: Global, rt: &impl Abort, edition: &str) -> Result<(), Fail> {
     for n in 1..1_000_000 {
-        if !open(rt.alloc(), &rt, n)? {
+        if !open(alloc, rt, edition, n)? {
             return Ok(());
         }
     }
     Err(Fail::new("the requests for memory have no end"))
+}
+
+#[test]
+fn a_desk_is_opened_or_refused_for_want_of_memory(rt: HostRuntime) -> Result<(), Fail> {
+    for edition in EDITIONS {
+        sweep_opening(rt.alloc(), &rt, edition)?;
+    }
+    Ok(())
 }

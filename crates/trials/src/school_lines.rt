@@ -2,22 +2,26 @@
 
 use crate::judged::holds;
 use crate::printed::{print_rows, prints, write_files};
+use crate::school::FIRST_EDITION;
 use rolls::MOST_IMPORT_BYTES;
 use sqlite::{Connection, FileStore, Unknown};
 use sqlite_disk::Disk;
 use std::fs;
+use std::process::Abort;
 use std::rt::HostRuntime;
 use std::test::Fail;
 
-/// The files of these lines: two imports of students, a small school, and a text that is no database.
+/// The files of these lines: two imports of students, a small school with two kinds of projects and lists, and a text that is no database.
 #[rattlefmt::skip]
-static FILES: [(&str, &str); 7] = [
+static FILES: [(&str, &str); 9] = [
     ("first.csv",        "code,name\nS1,Ann\nS2,Bob\n"),
     ("second.csv",       "code,name\nS3,Cy\nS4\n"),
     ("supervisors.csv",  "code,name,quota\nL,Lee,5\n"),
     ("projects.csv",     "code,name,supervisor,quota\nP,Pumps,L,1\nQ,Quays,L,1\nZ,Zinc,L,0\n"),
     ("students.csv",     "code,name\nA,Ann\nB,Bob\nC,Cy\n"),
     ("lists.csv",        "student,choices\nA,P Q\nB,Z\nC,Z P\n"),
+    ("far_projects.csv", "code,name,supervisor,quota\nU,Urns,L,1\nV,Vats,L,1\nX,Xenon,L,1\nY,Yards,L,0\nZ,Zinc,L,0\n"),
+    ("far_lists.csv",    "student,choices\nA,X V\nC,Z X Y U\n"),
     ("text.db",          "This is a text, and no database at all.\n"),
 ];
 
@@ -49,6 +53,27 @@ static ROUND: &str =
        spadesk report round.db loads 1                        | 0 | L                     2    5^n  P                   1    1^n  Q                   1    1^n  Z                   0    0^n |
        spadesk report round.db profile 1                      | 0 | ROUND       1 closed^nSTUDENTS    3^nPLACED      2^nRANK 1      0^nRANK 2      2^nRANK 3      0^nRANK 4      0^n^k       |"#;
 
+/// The aims of rounds: a generous one closes as one also once it was opened again, a greedy one does otherwise, and another word is none.
+#[rattlefmt::skip]
+static AIMS: &str =
+    r#"spadesk import aims.db supervisors I1 supervisors.csv | 0 | rows 1^n                                                     |
+       spadesk import aims.db projects I2 far_projects.csv   | 0 | rows 5^n                                                     |
+       spadesk import aims.db students I3 students.csv       | 0 | rows 3^n                                                     |
+       spadesk open-round aims.db fair                       | 2 |                                                              | error: invalid value 'fair' for '[AIM]'^n  [possible values: greedy, generous]^n^nFor more information, try '--help'.^n
+       spadesk open-round aims.db generous                   | 0 | round 1^n                                                    |
+       spadesk open-round aims.db greedy                     | 1 |                                                              | refused 18: RoundIsOpen^n
+       spadesk import aims.db lists I4 far_lists.csv         | 0 | rows 2^n                                                     |
+       spadesk close-round aims.db                           | 0 | round 1 size 2 profile 0 2 0 0^0^n                           |
+       spadesk report aims.db placements 1                   | 0 | A                V                 2^nC                X                 2^n |
+       spadesk reopen-round aims.db                          | 0 | round 1^n                                                    |
+       spadesk close-round aims.db                           | 0 | round 1 size 2 profile 0 2 0 0^0^n                           |
+       spadesk import even.db supervisors I1 supervisors.csv | 0 | rows 1^n                                                     |
+       spadesk import even.db projects I2 far_projects.csv   | 0 | rows 5^n                                                     |
+       spadesk import even.db students I3 students.csv       | 0 | rows 3^n                                                     |
+       spadesk open-round even.db greedy                     | 0 | round 1^n                                                    |
+       spadesk import even.db lists I4 far_lists.csv         | 0 | rows 2^n                                                     |
+       spadesk close-round even.db                           | 0 | round 1 size 2 profile 1 0 0 1^0^n                           |"#;
+
 /// Names of no database: in a folder that is not there, of a text, and of a folder.
 #[rattlefmt::skip]
 static NO_DATABASE: &str =
@@ -61,6 +86,7 @@ fn lines_over_files_print_as_they_should(rt: HostRuntime) -> Result<(), Fail> {
     write_files(&rt, FILES.as_slice())?;
     print_rows(&rt, &rt, FIRST)?;
     print_rows(&rt, &rt, ROUND)?;
+    print_rows(&rt, &rt, AIMS)?;
     print_rows(&rt, &rt, NO_DATABASE)
 }
 
@@ -93,19 +119,43 @@ fn an_import_file_is_read_to_its_end_or_is_too_large(rt: HostRuntime) -> Result<
     prints(&rt, &rt, words, (b"", b"refused 4: TooLarge\n"), 1)
 }
 
-/// Gives a database a table with the name of one of an office, and closes it.
-fn spoil<D: Disk + Drop>(mut connection: Connection<FileStore<D>>) -> Result<(), Fail> {
-    connection.execute_batch("CREATE TABLE student (a INTEGER)")?;
+/// Makes tables in a database, and closes it.
+fn make_tables<D: Disk + Drop>(
+    mut connection: Connection<FileStore<D>>,
+    texts: &[&str],
+) -> Result<(), Fail> {
+    for text in texts {
+        connection.execute_batch(text)?;
+    }
     connection.close()?;
     Ok(())
 }
 
-#[test]
-fn a_database_of_other_tables_is_damaged(rt: HostRuntime) -> Result<(), Fail> {
-    match Connection::open_from(&rt, "other.db", false, Unknown) {
-        Ok(connection) => spoil(connection)?,
+/// A file of these tables is refused, and stays as it is.
+fn refuses_tables(
+    rt: &HostRuntime,
+    abort: &impl Abort,
+    name: &str,
+    texts: &[&str],
+) -> Result<(), Fail> {
+    match Connection::open_from(rt, name, false, Unknown) {
+        Ok(connection) => make_tables(connection, texts)?,
         Err(_) => return Err(Fail::new("the database of the file")),
     }
-    let words = "spadesk open-round other.db";
-    prints(&rt, &rt, words, (b"", b"refused 30: Damaged\n"), 1)
+    let bytes = fs::read(rt, name)?;
+    let words = format!(in rt.alloc(); "spadesk open-round {name}")?;
+    prints(rt, abort, &words, (b"", b"refused 30: Damaged\n"), 1)?;
+    let left = fs::read(rt, name)?;
+    holds(abort, left.as_slice() == bytes.as_slice(), name);
+    Ok(())
+}
+
+/// A table with the name of one that is not in the first edition.
+const LATER: &str = "CREATE TABLE round_aim (a INTEGER)";
+
+#[test]
+fn a_database_of_other_tables_is_damaged(rt: HostRuntime) -> Result<(), Fail> {
+    let other = &["CREATE TABLE student (a INTEGER)"];
+    refuses_tables(&rt, &rt, "other.db", other)?;
+    refuses_tables(&rt, &rt, "later.db", &[FIRST_EDITION, LATER])
 }

@@ -84,7 +84,7 @@ static MIXED: &str =
        kept | GET /preview               |                                             | 200 OK           | {"profile":[1,1,0,0^,],"size":2}
        kept | DELETE /lists/D            |                                             | 404 Not Found    | {"fault":"NoList","number":25}
        none | DELETE /lists/C            |                                             | 200 OK           | {"ok":true}
-       none | GET /rounds/1              |                                             | 200 OK           | {"open":true,"placed":0,"profile":[0,0,0,0^,],"round":1,"students":2}
+       none | GET /rounds/1              |                                             | 200 OK           | {"aim":"greedy","open":true,"placed":0,"profile":[0,0,0,0^,],"round":1,"students":2}
        kept | GET /preview               |                                             | 200 OK           | {"profile":[1,1,0,0^,],"size":2}
        none | PUT /lists/B               | {"choices":["Q"]}                           | 200 OK           | {"ok":true}
        kept | GET /preview               |                                             | 200 OK           | {"profile":[2,0,0,0^,],"size":2}
@@ -112,6 +112,29 @@ static MIXED: &str =
        kept | GET /preview               |                                             | 200 OK           | {"profile":[3,0,0,0^,],"size":3}
        kept | GET /rounds/2              |                                             | 404 Not Found    | {"fault":"UnknownRound","number":26}
        none | POST /rounds/close         |                                             | 200 OK           | {"profile":[3,0,0,0^,],"round":1,"size":3}"#;
+
+/// The same over a generous round, whose text the session leaves as it is.
+#[rattlefmt::skip]
+static GENEROUS: &str =
+    r#"none | PUT /supervisors/L  | {"name":"Lee","quota":5}                    | 200 OK | {"ok":true}
+       none | PUT /projects/U     | {"name":"Urns","quota":1,"supervisor":"L"}  | 200 OK | {"ok":true}
+       none | PUT /projects/V     | {"name":"Vats","quota":1,"supervisor":"L"}  | 200 OK | {"ok":true}
+       none | PUT /projects/X     | {"name":"Xenon","quota":1,"supervisor":"L"} | 200 OK | {"ok":true}
+       none | PUT /projects/Y     | {"name":"Yards","quota":0,"supervisor":"L"} | 200 OK | {"ok":true}
+       none | PUT /projects/Z     | {"name":"Zinc","quota":0,"supervisor":"L"}  | 200 OK | {"ok":true}
+       none | PUT /students/A     | {"name":"Ann"}                              | 200 OK | {"ok":true}
+       none | PUT /students/C     | {"name":"Cy"}                               | 200 OK | {"ok":true}
+       none | POST /rounds        | {"aim":"generous"}                          | 200 OK | {"round":1}
+       kept | GET /preview        |                                             | 200 OK | {"profile":[0,0,0,0^,],"size":0}
+       kept | PUT /lists/A        | {"choices":["X","V"]}                       | 200 OK | {"ok":true}
+       kept | GET /preview        |                                             | 200 OK | {"profile":[1,0,0,0^,],"size":1}
+       kept | PUT /lists/C        | {"choices":["Z","X","Y","U"]}               | 200 OK | {"ok":true}
+       kept | GET /preview        |                                             | 200 OK | {"profile":[0,2,0,0^,],"size":2}
+       kept | GET /roundtext      |                                             | 200 OK | A,generous^nS,L,5^nP,U,L,1^nP,V,L,1^nP,X,L,1^nP,Y,L,0^nP,Z,L,0^nC,A,X,V^nC,C,Z,X,Y,U^n
+       none | POST /rounds/close  |                                             | 200 OK | {"profile":[0,2,0,0^,],"round":1,"size":2}
+       none | POST /rounds/reopen |                                             | 200 OK | {"round":1}
+       kept | GET /preview        |                                             | 200 OK | {"profile":[0,2,0,0^,],"size":2}
+       none | POST /rounds/close  |                                             | 200 OK | {"profile":[0,2,0,0^,],"round":1,"size":2}"#;
 
 /// Size and profile of a preview.
 fn preview(desk: &mut Desk<MemStore>) -> Option<(u32, [u32; RANKS])> {
@@ -170,6 +193,9 @@ fn compare_sessions(
 
 #[test]
 fn a_session_is_kept_just_where_it_may_be(rt: HostRuntime) -> Result<(), Fail> {
-    let mut desk = new_desk(rt.alloc(), &rt)?;
-    compare_sessions(rt.alloc(), &rt, &mut desk, MIXED)
+    for lines in [MIXED, GENEROUS] {
+        let mut desk = new_desk(rt.alloc(), &rt)?;
+        compare_sessions(rt.alloc(), &rt, &mut desk, lines)?;
+    }
+    Ok(())
 }

@@ -5,6 +5,7 @@ use crate::desks::desk_over;
 use crate::judged::holds;
 use crate::kept::{keeps, kept_by};
 use crate::played::{count, play_lines};
+use crate::school::FIRST_EDITION;
 use desk::Desk;
 use sqlite::{Connection, MemStore};
 use std::alloc::Global;
@@ -12,7 +13,7 @@ use std::process::Abort;
 use std::rt::HostRuntime;
 use std::test::Fail;
 
-/// Another table and those of an office, with nobody on its rolls.
+/// Another table and those of an office in the first edition, with nobody on its rolls.
 #[rattlefmt::skip]
 static TABLES: &str =
     "CREATE TABLE other (a INTEGER);
@@ -25,6 +26,13 @@ static TABLES: &str =
      CREATE TABLE placement (student TEXT NOT NULL PRIMARY KEY REFERENCES student (code), round INTEGER NOT NULL REFERENCES round (number), project TEXT NOT NULL REFERENCES project (code), rank INTEGER NOT NULL) STRICT;
      CREATE TABLE import (id TEXT NOT NULL PRIMARY KEY, kind TEXT NOT NULL, bytes BLOB NOT NULL, rows INTEGER NOT NULL) STRICT;
      INSERT INTO edition VALUES (1, 1);";
+
+/// What makes tables of the second edition of them, by hand.
+#[rattlefmt::skip]
+const RAISED: &str =
+    "CREATE TABLE round_aim (round INTEGER NOT NULL PRIMARY KEY REFERENCES round (number), generous INTEGER NOT NULL CHECK (generous IN (0, 1))) STRICT;
+     INSERT INTO round_aim SELECT number, 0 FROM round;
+     UPDATE edition SET number = number + 1;";
 
 /// Rolls and the edition: a name, what is added to the tables, and a line of the office that they are opened as, or the name of the
 /// refusal.
@@ -55,8 +63,8 @@ static ROUNDS: &str =
 /// What is told of them.
 #[rattlefmt::skip]
 static OF_FIT_ROUNDS: &str =
-    r#"closed round | | GET /rounds/1 || 200 OK | {"open":false,"placed":1,"profile":[0,1,0,0^,],"round":1,"students":1}
-       nobody there | | GET /rounds/2 || 200 OK | {"open":false,"placed":0,"profile":[0,0,0,0^,],"round":2,"students":1}
+    r#"closed round | | GET /rounds/1 || 200 OK | {"aim":"greedy","open":false,"placed":1,"profile":[0,1,0,0^,],"round":1,"students":1}
+       nobody there | | GET /rounds/2 || 200 OK | {"aim":"greedy","open":false,"placed":0,"profile":[0,0,0,0^,],"round":2,"students":1}
        open round   | | GET /students/B || 200 OK | {"list":["P"],"name":"Bob","placed":null}
        placement    | | GET /students/A || 200 OK | {"list":null,"name":"Ann","placed":{"project":"Q","rank":2,"round":1}}"#;
 
@@ -75,6 +83,39 @@ static OF_ROUNDS: &str =
        listed once placed   | INSERT INTO round VALUES (1, 0), (2, 1); INSERT INTO choice VALUES (1, 'A', 1, 'P'), (2, 'A', 1, 'Q'); INSERT INTO placement VALUES ('A', 1, 'P', 1) | Damaged
        a project is over    | INSERT INTO round VALUES (1, 0); INSERT INTO choice VALUES (1, 'A', 1, 'P'), (1, 'B', 1, 'P'); INSERT INTO placement VALUES ('A', 1, 'P', 1), ('B', 1, 'P', 1) | Damaged
        a supervisor is over | UPDATE supervisor SET quota = 1; INSERT INTO round VALUES (1, 0); INSERT INTO choice VALUES (1, 'A', 1, 'Q'), (1, 'B', 1, 'Q'); INSERT INTO placement VALUES ('A', 1, 'Q', 1), ('B', 1, 'Q', 1) | Damaged"#;
+
+/// Aims of those rounds.
+#[rattlefmt::skip]
+static OF_AIMS: &str =
+    r#"an aim of each      | UPDATE round_aim SET generous = 1 WHERE round = 3 | GET /rounds/3 || 200 OK | {"aim":"generous","open":true,"placed":0,"profile":[0,0,0,0^,],"round":3,"students":1}
+       of a closed round   | UPDATE round_aim SET generous = 1 WHERE round = 1 | GET /rounds/1 || 200 OK | {"aim":"generous","open":false,"placed":1,"profile":[0,1,0,0^,],"round":1,"students":1}
+       an aim is missing   | DELETE FROM round_aim WHERE round = 2             | Damaged
+       no aims             | DELETE FROM round_aim                             | Damaged
+       neither one nor two | DROP TABLE round_aim; CREATE TABLE round_aim (round INTEGER NOT NULL PRIMARY KEY REFERENCES round, generous INTEGER NOT NULL); INSERT INTO round_aim VALUES (1, 0), (2, 2), (3, 1) | Damaged
+       a word as an aim    | DROP TABLE round_aim; CREATE TABLE round_aim (round INTEGER NOT NULL PRIMARY KEY REFERENCES round, generous INTEGER NOT NULL); INSERT INTO round_aim VALUES (1, 0), (2, 'no'), (3, 1) | Damaged
+       without STRICT      | DROP TABLE round_aim; CREATE TABLE round_aim (round INTEGER NOT NULL PRIMARY KEY REFERENCES round, generous INTEGER NOT NULL); INSERT INTO round_aim VALUES (1, 0), (2, 1), (3, 1) | GET /rounds/2 || 200 OK | {"aim":"generous","open":false,"placed":0,"profile":[0,0,0,0^,],"round":2,"students":1}
+       no reference        | DROP TABLE round_aim; CREATE TABLE round_aim (round INTEGER NOT NULL PRIMARY KEY, generous INTEGER NOT NULL); INSERT INTO round_aim VALUES (1, 0), (2, 1), (3, 1) | Damaged
+       aims without table  | DROP TABLE round_aim                              | Damaged
+       the first number    | UPDATE edition SET number = 1                     | Damaged"#;
+
+/// Tables of the first edition beside one of the name that the second adds, or beside what cannot stand with it.
+#[rattlefmt::skip]
+static OF_LATER_NAMES: &str =
+    r#"a table            | CREATE TABLE round_aim (a INTEGER)                   | Damaged
+       in other letters   | CREATE TABLE Round_Aim (a INTEGER)                   | Damaged
+       as it is made      | CREATE TABLE round_aim (round INTEGER NOT NULL PRIMARY KEY REFERENCES round (number), generous INTEGER NOT NULL) STRICT; INSERT INTO round_aim VALUES (1, 0), (2, 0), (3, 0) | Damaged
+       of a later number  | UPDATE edition SET number = 2                        | Damaged
+       an index           | CREATE INDEX round_aim ON other (a)                  | Storage
+       what is acted on   | CREATE TABLE act (of INTEGER REFERENCES edition ON UPDATE CASCADE) | Storage"#;
+
+/// What tables that were made by the program of the first edition are opened as.
+#[rattlefmt::skip]
+static OF_FIRST_EDITION: &str =
+    r#"closed round | | GET /rounds/1   || 200 OK | {"aim":"greedy","open":false,"placed":2,"profile":[0,2,0,0^,],"round":1,"students":2}
+       open round   | | GET /rounds/2   || 200 OK | {"aim":"greedy","open":true,"placed":0,"profile":[0,0,0,0^,],"round":2,"students":1}
+       placement    | | GET /students/C || 200 OK | {"list":null,"name":"Cy","placed":{"project":"P","rank":2,"round":1}}
+       list         | | GET /students/B || 200 OK | {"list":["Z"],"name":"Bob","placed":null}
+       import       | | POST /imports/students/I1 | B,Bob | 200 OK | {"rows":1}"#;
 
 /// Two imports.
 const IMPORTS: &str =
@@ -153,7 +194,13 @@ static LOOSE_ROUND: &str =
 static LOOSE_READ: &str =
     r#"GET /students/A | | 200 OK | {"list":null,"name":"Anna","placed":{"project":"P","rank":1,"round":1}}
        GET /students/B | | 200 OK | {"list":null,"name":"Bob","placed":{"project":"Q","rank":2,"round":1}}
-       GET /rounds/1   | | 200 OK | {"open":false,"placed":2,"profile":[1,1,0,0^,],"round":1,"students":2}"#;
+       GET /rounds/1   | | 200 OK | {"aim":"greedy","open":false,"placed":2,"profile":[1,1,0,0^,],"round":1,"students":2}"#;
+
+/// What a row adds to the tables, and what they are opened as.
+fn parts(row: &str) -> (&str, &str) {
+    let (_name, rest) = first_cell(row);
+    first_cell(rest)
+}
 
 /// The database of these texts, with what is added.
 fn made(alloc: Global, before: &[&str], added: &str) -> Result<Connection<MemStore>, Fail> {
@@ -184,7 +231,57 @@ fn opened(
     }
 }
 
-/// Compares what the tables of each row are opened as, and that their schema and their rows stay.
+/// Compares what the tables of a row are opened as, and what their schema and their rows are then.
+fn compare_opened(
+    alloc: Global,
+    rt: &impl Abort,
+    conn: Connection<MemStore>,
+    row: &str,
+    kept: &str,
+) -> Result<(), Fail> {
+    let (_added, line) = parts(row);
+    let mut conn = opened(alloc, rt, conn, line)?;
+    holds(rt, keeps(alloc, &mut conn, kept)?, row);
+    Ok(())
+}
+
+/// The same of each row, where schema and rows stay.
+fn compare_staying(
+    alloc: Global,
+    rt: &impl Abort,
+    before: &[&str],
+    rows: &str,
+) -> Result<(), Fail> {
+    for row in rows.lines() {
+        let mut conn = made(alloc, before, parts(row).0)?;
+        let kept = kept_by(alloc, &mut conn)?;
+        compare_opened(alloc, rt, conn, row, &kept)?;
+    }
+    Ok(())
+}
+
+/// The same of a row over tables of the first edition, once as they are and once raised by hand. Where the row has a desk over them, they
+/// are opened as the raised ones.
+fn compare_editions(
+    alloc: Global,
+    rt: &impl Abort,
+    before: &[&str],
+    row: &str,
+) -> Result<(), Fail> {
+    let (added, line) = parts(row);
+    let mut conn = made(alloc, before, added)?;
+    let mut raised = made(alloc, before, added)?;
+    raised.execute_batch(RAISED)?;
+    let kept = kept_by(alloc, &mut raised)?;
+    compare_opened(alloc, rt, raised, row, &kept)?;
+    if line.contains('|') {
+        return compare_opened(alloc, rt, conn, row, &kept);
+    }
+    let kept = kept_by(alloc, &mut conn)?;
+    compare_opened(alloc, rt, conn, row, &kept)
+}
+
+/// The same of each row.
 fn compare_hand_made(
     alloc: Global,
     rt: &impl Abort,
@@ -192,12 +289,7 @@ fn compare_hand_made(
     rows: &str,
 ) -> Result<(), Fail> {
     for row in rows.lines() {
-        let (_name, rest) = first_cell(row);
-        let (added, line) = first_cell(rest);
-        let mut conn = made(alloc, before, added)?;
-        let kept = kept_by(alloc, &mut conn)?;
-        let mut conn = opened(alloc, rt, conn, line)?;
-        holds(rt, keeps(alloc, &mut conn, &kept)?, row);
+        compare_editions(alloc, rt, before, row)?;
     }
     Ok(())
 }
@@ -211,6 +303,15 @@ fn hand_made_tables_are_judged(rt: HostRuntime) -> Result<(), Fail> {
     compare_hand_made(rt.alloc(), &rt, &[TABLES], OF_IMPORTS)?;
     compare_hand_made(rt.alloc(), &rt, &[LOOSE], OF_LOOSE)?;
     compare_hand_made(rt.alloc(), &rt, &[LOOSE, ROLLS, ROUNDS], OF_FIT_ROUNDS)
+}
+
+#[test]
+fn tables_of_the_first_edition_are_raised(rt: HostRuntime) -> Result<(), Fail> {
+    compare_hand_made(rt.alloc(), &rt, &[FIRST_EDITION], OF_FIRST_EDITION)?;
+    let rounds = &[TABLES, ROLLS, ROUNDS];
+    compare_staying(rt.alloc(), &rt, rounds, OF_LATER_NAMES)?;
+    let aimed = &[TABLES, ROLLS, ROUNDS, RAISED];
+    compare_staying(rt.alloc(), &rt, aimed, OF_AIMS)
 }
 
 #[test]

@@ -26,7 +26,19 @@ const SHUT: &str =
        GET /rounds/12345   |                                                   | 404 Not Found          | {"fault":"NoRoute","number":5}
        GET /rounds/x       |                                                   | 404 Not Found          | {"fault":"NoRoute","number":5}
        GET /rounds/close   |                                                   | 405 Method Not Allowed | {"fault":"WrongMethod","number":6}
-       POST /rounds        | {}                                                | 400 Bad Request        | {"fault":"Members","number":8}"#;
+       POST /rounds        | {}                                                | 400 Bad Request        | {"fault":"Members","number":8}
+       POST /rounds        | {"aim":"fair"}                                    | 400 Bad Request        | {"fault":"Members","number":8}
+       POST /rounds        | {"aim":"Greedy"}                                  | 400 Bad Request        | {"fault":"Members","number":8}
+       POST /rounds        | {"aim":""}                                        | 400 Bad Request        | {"fault":"Members","number":8}
+       POST /rounds        | {"aim":1}                                         | 400 Bad Request        | {"fault":"Members","number":8}
+       POST /rounds        | {"aim":null}                                      | 400 Bad Request        | {"fault":"Members","number":8}
+       POST /rounds        | {"aims":"greedy"}                                 | 400 Bad Request        | {"fault":"Members","number":8}
+       POST /rounds        | {"aim":"greedy","open":true}                      | 400 Bad Request        | {"fault":"Members","number":8}
+       POST /rounds        | ["greedy"]                                        | 400 Bad Request        | {"fault":"Members","number":8}
+       POST /rounds        | "greedy"                                          | 400 Bad Request        | {"fault":"Members","number":8}
+       POST /rounds        | greedy                                            | 400 Bad Request        | {"fault":"Json","number":7}
+       POST /rounds        | {"aim":"greedy"                                   | 400 Bad Request        | {"fault":"Json","number":7}
+       POST /rounds        | ^s                                                | 400 Bad Request        | {"fault":"Json","number":7}"#;
 
 /// The first round is opened, and lists are put; then its text is read.
 #[rattlefmt::skip]
@@ -50,7 +62,7 @@ const LISTS: &str =
        GET /preview    |                                                   | 200 OK          | {"profile":[1,0,0,0^,],"size":1}
        PUT /lists/C    | {"choices":["Z","P"]}                             | 200 OK          | {"ok":true}
        GET /students/A |                                                   | 200 OK          | {"list":["P","Q"],"name":"Ann","placed":null}
-       GET /rounds/1   |                                                   | 200 OK          | {"open":true,"placed":0,"profile":[0,0,0,0^,],"round":1,"students":2}
+       GET /rounds/1   |                                                   | 200 OK          | {"aim":"greedy","open":true,"placed":0,"profile":[0,0,0,0^,],"round":1,"students":2}
        GET /preview    |                                                   | 200 OK          | {"profile":[0,2,0,0^,],"size":2}
        GET /roundtext  |                                                   | 200 OK          | S,L,5^nP,P,L,1^nP,Q,L,1^nP,Z,L,0^nC,A,P,Q^nC,C,Z,P^n"#;
 
@@ -65,14 +77,14 @@ const CLOSED: &str =
        POST /rounds/close  |                                             | 409 Conflict | {"fault":"NoRoundOpen","number":19}
        GET /students/A     |                                             | 200 OK       | {"list":null,"name":"Ann","placed":{"project":"Q","rank":2,"round":1}}
        GET /students/C     |                                             | 200 OK       | {"list":null,"name":"Cy","placed":{"project":"P","rank":2,"round":1}}
-       GET /rounds/1       |                                             | 200 OK       | {"open":false,"placed":2,"profile":[0,2,0,0^,],"round":1,"students":2}
+       GET /rounds/1       |                                             | 200 OK       | {"aim":"greedy","open":false,"placed":2,"profile":[0,2,0,0^,],"round":1,"students":2}
        GET /projects/P     |                                             | 200 OK       | {"name":"Pumps","placed":1,"quota":1,"supervisor":"L"}
        GET /supervisors/L  |                                             | 200 OK       | {"name":"Lee","placed":2,"quota":5}
        PUT /projects/P     | {"name":"Pumps","quota":0,"supervisor":"L"} | 409 Conflict | {"fault":"BelowPlaced","number":17}
        PUT /supervisors/L  | {"name":"Lee","quota":1}                    | 409 Conflict | {"fault":"BelowPlaced","number":17}
        POST /rounds/reopen |                                             | 200 OK       | {"round":1}
        POST /rounds/reopen |                                             | 409 Conflict | {"fault":"RoundIsOpen","number":18}
-       GET /rounds/1       |                                             | 200 OK       | {"open":true,"placed":0,"profile":[0,0,0,0^,],"round":1,"students":2}
+       GET /rounds/1       |                                             | 200 OK       | {"aim":"greedy","open":true,"placed":0,"profile":[0,0,0,0^,],"round":1,"students":2}
        GET /students/A     |                                             | 200 OK       | {"list":["P","Q"],"name":"Ann","placed":null}
        DELETE /lists/A     |                                             | 200 OK       | {"ok":true}
        POST /rounds/close  |                                             | 200 OK       | {"profile":[0,1,0,0^,],"round":1,"size":1}
@@ -86,8 +98,8 @@ const CLOSED: &str =
 /// What is read after all that, and once more after the desk is opened anew.
 #[rattlefmt::skip]
 const AFTER: &str =
-    r#"GET /rounds/1      |  | 200 OK | {"open":false,"placed":1,"profile":[0,1,0,0^,],"round":1,"students":1}
-       GET /rounds/2      |  | 200 OK | {"open":false,"placed":1,"profile":[1,0,0,0^,],"round":2,"students":2}
+    r#"GET /rounds/1      |  | 200 OK | {"aim":"greedy","open":false,"placed":1,"profile":[0,1,0,0^,],"round":1,"students":1}
+       GET /rounds/2      |  | 200 OK | {"aim":"greedy","open":false,"placed":1,"profile":[1,0,0,0^,],"round":2,"students":2}
        GET /projects/P    |  | 200 OK | {"name":"Pumps","placed":2,"quota":2,"supervisor":"L"}
        GET /supervisors/L |  | 200 OK | {"name":"Lee","placed":2,"quota":5}
        GET /students/C    |  | 200 OK | {"list":null,"name":"Cy","placed":{"project":"P","rank":2,"round":1}}"#;
@@ -111,6 +123,32 @@ const QUOTAS: &str =
        POST /rounds       |                                             | 200 OK | {"round":2}
        POST /rounds/close |                                             | 200 OK | {"profile":[0,0,0,0^,],"round":2,"size":0}"#;
 
+/// Rounds by each aim. An open one refuses each opening, but for what is no opening.
+#[rattlefmt::skip]
+const AIMS: &str =
+    r#"POST /rounds        | {"aim":"greedy"}     | 200 OK          | {"round":1}
+       POST /rounds        | {"aim":"generous"}   | 409 Conflict    | {"fault":"RoundIsOpen","number":18}
+       POST /rounds        | {"aim":"fair"}       | 400 Bad Request | {"fault":"Members","number":8}
+       GET /roundtext      |                      | 200 OK          |
+       POST /rounds/close  |                      | 200 OK          | {"profile":[0,0,0,0^,],"round":1,"size":0}
+       POST /rounds        | {"aim":"generous"}   | 200 OK          | {"round":2}
+       GET /roundtext      |                      | 200 OK          | A,generous^n
+       POST /rounds/close  |                      | 200 OK          | {"profile":[0,0,0,0^,],"round":2,"size":0}
+       POST /rounds        |                      | 200 OK          | {"round":3}
+       POST /rounds/close  |                      | 200 OK          | {"profile":[0,0,0,0^,],"round":3,"size":0}
+       POST /rounds        | ^s{"aim":"generous"} | 200 OK          | {"round":4}
+       POST /rounds/close  |                      | 200 OK          | {"profile":[0,0,0,0^,],"round":4,"size":0}
+       POST /rounds/reopen |                      | 200 OK          | {"round":4}
+       GET /roundtext      |                      | 200 OK          | A,generous^n"#;
+
+/// What is told of them, and once more after the desk is opened anew.
+#[rattlefmt::skip]
+const AIMED: &str =
+    r#"GET /rounds/1 |  | 200 OK | {"aim":"greedy","open":false,"placed":0,"profile":[0,0,0,0^,],"round":1,"students":0}
+       GET /rounds/2 |  | 200 OK | {"aim":"generous","open":false,"placed":0,"profile":[0,0,0,0^,],"round":2,"students":0}
+       GET /rounds/3 |  | 200 OK | {"aim":"greedy","open":false,"placed":0,"profile":[0,0,0,0^,],"round":3,"students":0}
+       GET /rounds/4 |  | 200 OK | {"aim":"generous","open":true,"placed":0,"profile":[0,0,0,0^,],"round":4,"students":0}"#;
+
 /// Twelve rounds.
 #[rattlefmt::skip]
 const EACH_ROUND: &str =
@@ -126,12 +164,13 @@ const TWELVE: &str =
 
 /// Each play at tables of its own.
 #[rattlefmt::skip]
-static PLAYS: [&[Sitting]; 3] = [
+static PLAYS: [&[Sitting]; 4] = [
     &[
         (&[Part::Lines(SCHOOL), Part::Lines(SHUT), Part::Lines(LISTS), Part::Filled(RANKS as u32, r#""P","#, TOO_LONG), Part::Lines(CLOSED), Part::Lines(AFTER)], 3),
         (&[Part::Lines(AFTER)], 3),
     ],
     &[(&[Part::Lines(QUOTAS)], 2)],
+    &[(&[Part::Lines(AIMS), Part::Lines(AIMED)], 0), (&[Part::Lines(AIMED)], 0)],
     &[(&[Part::Counted(1, 13, EACH_ROUND), Part::Lines(TWELVE)], 0)],
 ];
 

@@ -113,7 +113,7 @@ static SHOWN: &str =
 /// Requests over HTTP, and their answers.
 #[rattlefmt::skip]
 static SERVED: &str =
-    r#"GET /rounds/1         | {"open":false,"placed":20,"profile":[14,4,2,0,0,0,0,0],"round":1,"students":20}
+    r#"GET /rounds/1         | {"aim":"greedy","open":false,"placed":20,"profile":[14,4,2,0,0,0,0,0],"round":1,"students":20}
        GET /students/S01     | {"list":null,"name":"Amina","placed":{"project":"LOOM","rank":3,"round":1}}
        POST /rounds/reopen   | {"round":1}
        GET /preview          | {"profile":[14,4,2,0,0,0,0,0],"size":20}"#;

@@ -43,7 +43,7 @@ text_wants : (o n : AtDesk) (q : Request) (a : Reply) → IsRead (Ok a) → refu
 text_wants o n (request.Plain (PutSupervisor code label quota)) a read allowed made goes = absurd (no_read a _ made.0 read)
 text_wants o n (request.Plain (PutProject code label supervisor quota)) a read allowed made goes = absurd (no_read a _ made.0 read)
 text_wants o n (request.Plain (PutStudent code label)) a read allowed made goes = absurd (no_read a _ made.0 read)
-text_wants o n (request.Plain OpenRound) a read allowed made goes = absurd (no_read a _ made.0 read)
+text_wants o n (request.Plain (OpenRound aim)) a read allowed made goes = absurd (no_read a _ made.0 read)
 text_wants o n (request.Plain (PutList student choices)) a read allowed made goes = absurd (no_read a _ made.0 read)
 text_wants o n (request.Plain (DropList student)) a read allowed made goes = absurd (no_read a _ made.0 read)
 text_wants o n (request.Plain ReopenRound) a read allowed made goes = absurd (no_read a _ made.0 read)

@@ -1,5 +1,4 @@
 use Rattle.std.proofs.Common.{ℕ, ◌-◌, List, [], Option, refl, sym, ap, subst, ◌∙◌}
-use Rattle.spa.specs.declared.aim.Aim.TheVariants.{Greedy}
 use Rattle.spa.specs.Instance.{Instance, Supervisor, Project, Student, supervisor_codes, project_codes, student_codes}
 use Rattle.spa.specs.Named.{Named, instance_of}
 use Rattle.rolls.specs.State.{State, supervisor_key, project_key, list_key, last_round, lists_of, placed_in_project, placed_with_supervisor}
@@ -32,6 +31,6 @@ pub returns : goal.returns
 returns c =
     let i : Named = c.in_ok-instance.instance in
     let nobody = no_places i.project_codes i.student_codes i.shape.students c.fit-2.ensures.students.one_each in
-    let parts : List (Option ℕ) → Parts = λ ks. record { aim = Greedy; instance = instance_of i; places = ks; student_prices = []; project_prices = []; supervisor_prices = [] } in
-    let text = c.in_ok-of.ensures ∙ c.as_str.ensures.value ∙ c.in_ok-text.ensures.text ∙ ap (λ (ks : List (Option ℕ)). round_text (parts ks)) nobody ∙ ap (λ (l : Instance). round_text (alone l)) c.in_ok-instance.ensures.instance in
+    let parts : List (Option ℕ) → Parts = λ ks. record { aim = c.last_aim-aim.result; instance = instance_of i; places = ks; student_prices = []; project_prices = []; supervisor_prices = [] } in
+    let text = c.in_ok-of.ensures ∙ c.as_str.ensures.value ∙ c.in_ok-text.ensures.text ∙ ap (λ (ks : List (Option ℕ)). round_text (parts ks)) nobody ∙ (λ k. round_text (alone (c.last_aim-aim.ensures.aim k) (c.in_ok-instance.ensures.instance k))) in
     record { made = (ap reply.Text text, refl) }

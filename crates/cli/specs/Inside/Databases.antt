@@ -23,7 +23,8 @@ use Rattle.tables.specs.Causes.{IsStopped}
 use Rattle.tables.specs.Steps.{IsKept}
 use Rattle.store.specs.Causes.{IsHinderedOpening}
 use Rattle.store.specs.Reading.{IsDamaged}
-use Rattle.store.specs.Tables.{HasNone, StandsFor}
+use Rattle.editions.specs.declared.Edition.{Edition}
+use Rattle.store.specs.Tables.{HasNone, StandsIn}
 use Rattle.desk.specs.Keeping.{Keeps}
 use Rattle.web.specs.Connections.{Connect}
 use Rattle.web.specs.Serving.{AtDesk, just_opened}
@@ -50,9 +51,9 @@ abbrev pub WasClean : Task → Seen → Seen → Type 0
 WasClean (task.Ask asked) before after = HasCleanDisk after → HasCleanDisk before
 WasClean (task.Serve serving) before after = ⊤
 
--- the office that is opened of a database: the empty one where none of the tables is there, and else the one that they stand for
+-- the office that is opened of a database: the empty one where none of the tables is there, and else the one that they stand for in some edition
 abbrev pub IsOfficeOf : Database → State → Type 0
-IsOfficeOf db office = (HasNone db.schema × (office ≡ empty)) ⊎ StandsFor db office
+IsOfficeOf db office = (HasNone db.schema × (office ≡ empty)) ⊎ ((e : Edition) × StandsIn e db office)
 
 -- a request is asked of the office of this database, unless the disk has given back what was not written
 abbrev pub IsFoundFor : Task → Seen → Seen → State → Type 0

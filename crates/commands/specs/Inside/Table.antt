@@ -6,7 +6,7 @@ use Rattle.commands.specs.Table.{Argument, Told}
 
 -- what the program tells of an argument
 abbrev pub argument_by : GivenArgument → Argument
-argument_by given = record { name = given.name.now; takes = given.takes }
+argument_by given = record { name = given.name.now; takes = given.takes; needed = given.needed }
 
 -- and of a line
 abbrev pub told_by : GivenRow → Told

@@ -13,7 +13,7 @@ use Rattle.rolls.specs.declared.row.Row.TheVariants as row
 use Rattle.rolls.specs.declared.row.RowKey.{RowKey}
 use Rattle.rolls.specs.declared.row.RowKey.TheVariants as key
 use Rattle.rolls.specs.Roll.{of_code, find, put}
-use Rattle.rolls.specs.State.{State, supervisor_key, project_key, student_key, round_key, list_key, placement_key, import_key, round_of, has_round, choices_in}
+use Rattle.rolls.specs.State.{State, supervisor_key, project_key, student_key, round_key, aim_key, list_key, placement_key, import_key, round_of, has_round, choices_in}
 use Rattle.rolls.specs.Rows.{key_of, row_of}
 use Rattle.loading.specs.declared.fault.RowsFault.{RowsFault}
 use Rattle.loading.specs.declared.fault.RowsFault.TheVariants.{Memory, Unfit}
@@ -58,6 +58,7 @@ with_row (row.Round number is_open) o = record o { rounds = put round_key (recor
 with_row (row.Choice round student place project) o =
     record o { rounds = option_map_or (λ r. put round_key (record r { lists = with_choice student project r.lists }) o.rounds) (round_of o round) o.rounds }
 with_row (row.Placement student round project rank) o = record o { placements = put placement_key (record { student = student; round = round; project = project; rank = rank }) o.placements }
+with_row (row.RoundAim round aim) o = record o { aims = put aim_key (record { round = round; aim = aim }) o.aims }
 with_row (row.Import id kind bytes rows) o = record o { imports = put import_key (record { id = id; kind = kind; bytes = bytes; rows = rows }) o.imports }
 
 -- whether a row has the form of an entry's, and a choice is the next of its list, in a round that is held
@@ -68,6 +69,7 @@ has_form o (row.Student code label) = is_code code && is_label label
 has_form o (row.Round number is_open) = true
 has_form o (row.Choice round student place project) = is_code student && (is_code project && (has_round o round && (length (choices_in o round student) + 1 == place)))
 has_form o (row.Placement student round project rank) = is_code student && is_code project
+has_form o (row.RoundAim round aim) = true
 has_form o (row.Import id kind bytes rows) = is_code id && (nat_le (length bytes) MOST_IMPORT_BYTES && nat_le rows MOST_IMPORT_BYTES)
 
 -- whether nothing is held at a row's key

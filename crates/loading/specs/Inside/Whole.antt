@@ -8,7 +8,7 @@ use Rattle.rolls.specs.declared.TheConstants.{MOST_ROUNDS, MOST_IMPORTS}
 use Rattle.rolls.specs.declared.rounds.Listed.{Listed}
 use Rattle.rolls.specs.declared.rounds.Placement.{Placement}
 use Rattle.rolls.specs.State.{State, has_supervisor, has_project, has_student, is_placed_before, is_closed, choices_in, placed_in_project, placed_with_supervisor}
-use Rattle.rolls.specs.Fit.{are_numbered, only_last_open, is_distinct}
+use Rattle.rolls.specs.Fit.{are_aimed, are_numbered, only_last_open, is_distinct}
 
 -- nothing is too long
 abbrev pub are_few : State → Bool
@@ -26,9 +26,9 @@ is_list o n l =
     has_student o l.student && (not (is_placed_before o l.student n) && (nat_le (length l.choices) RANKS
     && (is_distinct l.choices && list_all (has_project o) l.choices)))
 
--- the rounds have the numbers from 1 on, all but the last are closed, and each list is one of its round
+-- the rounds have the numbers from 1 on, each has an aim, all but the last are closed, and each list is one of its round
 abbrev pub are_rounds : State → Bool
-are_rounds o = are_numbered 1 o.rounds && (only_last_open o.rounds && list_all (λ r. list_all (is_list o r.number) r.lists) o.rounds)
+are_rounds o = are_numbered 1 o.rounds && (are_aimed o.aims o.rounds && (only_last_open o.rounds && list_all (λ r. list_all (is_list o r.number) r.lists) o.rounds))
 
 -- a placement by a closed round, of a project that stands at the rank in the student's list of that round
 abbrev pub is_placement : State → Placement → Bool

@@ -4,7 +4,7 @@ ghost use Rattle.std.specs.Prelude.{◌≡◌, [], Some, None};
 ghost use Rattle.std.specs.List.{list_any};
 ghost use Rattle.std.specs.Str.{bytes_eq};
 ghost use Rattle.rolls.specs.declared.request.Plain.TheVariants as ask;
-ghost use Rattle.rolls.specs.Refusing.{first, plain_refusal, is_moved, choice_tests, open_tests};
+ghost use Rattle.rolls.specs.Refusing.{first, plain_refusal, is_moved, choice_tests, open_tests, opening_tests};
 
 use super::Office;
 use rolls::{MOST_ROUNDS, Refusal, Text};
@@ -102,7 +102,7 @@ impl Office {
 
     /// Why a round can't be opened.
     pub(crate) fn opening_refusal(&self) -> Option<Refusal>
-        ensures { result ≡ plain_refusal self.now ask.OpenRound }
+        ensures { result ≡ first (opening_tests self.now) }
     {
         if self.round_is_open() {
             return Some(Refusal::RoundIsOpen);

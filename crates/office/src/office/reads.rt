@@ -84,6 +84,7 @@ impl Office {
         let found = self.rounds.by_number(round).unwrap();
         Reply::Round {
             number: round,
+            aim: self.aim_of(round),
             is_open: found.is_open,
             placed: placed_by(placements, round) as u32,
             profile: ranked(placements, round),

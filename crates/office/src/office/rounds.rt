@@ -1,16 +1,17 @@
 //! Rounds, with their lists, and requests that open one.
 
 ghost use Rattle.std.specs.Prelude.{◌≡◌, true, is_some, Some, None, IfOk, OnErr};
-ghost use Rattle.rolls.specs.State.{last_round, lists_of, round_of};
+ghost use Rattle.rolls.specs.Roll.{put};
+ghost use Rattle.rolls.specs.State.{aim_key, aim_of, last_round, lists_of, round_of};
 ghost use Rattle.rolls.specs.declared.request.Plain.TheVariants as ask;
 ghost use Rattle.rolls.specs.Refusing.{plain_refusal};
 ghost use Rattle.rolls.specs.Answers.{IsDone};
 ghost use Rattle.row_changes.specs.Changes.{changes_of};
 
 use super::Office;
-use crate::making::one_change;
-use rolls::{Change, Done, Entry, Listed, Reply, Round, Row, Table};
-use row_changes::{kept_placements, reopening_changes};
+use rolls::{Done, Entry, Listed, Reply, Round, RoundAim, Table};
+use row_changes::{kept_placements, opening_changes, reopening_changes};
+use spa::Aim;
 use std::alloc::AllocError;
 
 impl Office {
@@ -42,24 +43,48 @@ impl Office {
             .duplicate(self.alloc)
     }
 
-    /// Opens the next round.
-    pub(crate) fn open_round(&mut self) -> Result<Done, AllocError>
-        requires allowed { plain_refusal self.old ask.OpenRound ≡ None }
-        ensures ok { IfOk result (IsDone ask.OpenRound self.old self.new) }
-        ensures changes { IfOk result (λ done. let changes = done.changes in changes.items ≡ changes_of ask.OpenRound self.old) }
+    /// The aim of a round; greedy where there is no such round.
+    pub fn aim_of(&self, round: u32) -> Aim
+        ensures aim { result ≡ aim_of self.now round }
+    {
+        match self.aims.by_number(round) {
+            Some(entry) => entry.aim,
+            None => Aim::Greedy,
+        }
+    }
+
+    /// The aim of the last round; greedy where there is none.
+    pub fn last_aim(&self) -> Aim
+        ensures aim { result ≡ aim_of self.now (last_round self.now) }
+    {
+        self.aim_of(self.last_round())
+    }
+
+    /// The aims of the rounds, with one more.
+    fn aims_with(&self, round: u32, aim: Aim) -> Result<Table<RoundAim>, AllocError>
+        ensures put { let o = self.now in IfOk result (λ aims. aims ≡ put aim_key (record { round = round; aim = aim }) o.aims) }
+    {
+        let mut aims = self.aims.duplicate(self.alloc)?;
+        aims.put(RoundAim { round, aim })?;
+        Ok(aims)
+    }
+
+    /// Opens the next round, with this aim.
+    pub(crate) fn open_round(&mut self, aim: Aim) -> Result<Done, AllocError>
+        requires allowed { plain_refusal self.old (ask.OpenRound aim) ≡ None }
+        ensures ok { IfOk result (IsDone (ask.OpenRound aim) self.old self.new) }
+        ensures changes { IfOk result (λ done. let changes = done.changes in changes.items ≡ changes_of (ask.OpenRound aim) self.old) }
         ensures err { OnErr result (self.new ≡ self.old) }
     {
         let number = self.last_round() + 1;
-        let row = Row::Round {
-            number,
-            is_open: true,
-        };
-        let changes = one_change(self.alloc, Change::Add(row))?;
+        let changes = opening_changes(self.alloc, number, aim)?;
+        let aims = self.aims_with(number, aim)?;
         self.rounds.put(Round {
             number,
             is_open: true,
             lists: Table::new(self.alloc),
         })?;
+        self.aims = aims;
         Ok(Done {
             reply: Reply::Opened { round: number },
             changes,

@@ -1,8 +1,8 @@
 -- For proofs alone. The editions of the tables.
 use Rattle.std.specs.Prelude.{List, [], ◌∷◌}
-use Rattle.store.specs.declared.edition.Edition.{Edition}
-use Rattle.store.specs.declared.edition.Edition.TheVariants.{First}
+use Rattle.editions.specs.declared.Edition.{Edition}
+use Rattle.editions.specs.declared.Edition.TheVariants.{First, Second}
 
--- every edition, the latest first
-abbrev pub editions : List Edition
-editions = First ∷ []
+-- the earlier editions, the first of them first
+abbrev pub earlier : List Edition
+earlier = First ∷ []

@@ -6,7 +6,17 @@ use Rattle.sqlite.specs.Effect.{Database}
 use Rattle.rolls.specs.declared.row.Row.{Row}
 use Rattle.rolls.specs.declared.row.Row.TheVariants as row
 use Rattle.tables.specs.declared.table.Table.{Table}
-use Rattle.tables.specs.declared.table.Table.TheVariants.{Supervisor, Project, Student, Round, Choice, Placement, Import}
+use Rattle.tables.specs.declared.table.Table.TheVariants.{Supervisor, Project, Student, Round, Choice, Placement, Import, RoundAim}
+use Rattle.rolls.specs.declared.row.RowKey.{RowKey}
+use Rattle.rolls.specs.declared.row.Change.{Change}
+use Rattle.rolls.specs.Fit.{IsFit}
+use Rattle.rolls.specs.From.{are_apart, row_in}
+use Rattle.rolls.specs.Rows.{after_changes, row_of}
+use Rattle.rolls.specs.State.{State}
+use Rattle.editions.specs.declared.Edition.{Edition as AnEdition}
+use Rattle.editions.specs.Editions.{Allows, AreRowsIn, HaveNoLater, row_at}
+use Rattle.store.specs.Tables.{HoldIn, StandsIn}
+use Rattle.store.specs.Inside.Raising.{NeedNothing}
 use Rattle.store.specs.Rows.{IsAmong, columns, is_in, columns_of}
 use Rattle.sqlite.specs.Schema.{Schema}
 use Rattle.sqlite.specs.State.{State as Seen, IsUnchanged}
@@ -22,6 +32,7 @@ IsTyped (row.Student code label) = IsUtf8 code × IsUtf8 label
 IsTyped (row.Round number is_open) = number < 2 ^ 32
 IsTyped (row.Choice round student place project) = (round < 2 ^ 32) × IsUtf8 student × (place < 2 ^ 32) × IsUtf8 project
 IsTyped (row.Placement student round project rank) = IsUtf8 student × (round < 2 ^ 32) × IsUtf8 project × (rank < 2 ^ 32)
+IsTyped (row.RoundAim round aim) = round < 2 ^ 32
 IsTyped (row.Import id kind bytes rows) = IsUtf8 id × (rows < 2 ^ 32)
 
 -- the table is one of supervisors, projects or students
@@ -37,6 +48,7 @@ is_of_rounds Round = true
 is_of_rounds Choice = true
 is_of_rounds Placement = true
 is_of_rounds Import = true
+is_of_rounds RoundAim = true
 is_of_rounds _ = false
 
 -- a row of the table, whose columns these are after its rowid
@@ -97,6 +109,23 @@ pub record ReadsSome (tables : List Table) (count : ℕ) (rows : List Row) (old 
   pub same : IsTrue old.is_open → IsUnchanged old new
   pub holds : (table : Table) → Has (take count tables) table → HoldsCells table (columns_of table rows) old.now
   pub others : (table : Table) → (Has (take count tables) table → ⊥) → columns_of table rows ≡ []
+
+-- The rows of the tables of an edition were read, and nothing has changed. Where no key stands twice the tables hold them, and they are those of
+-- any office that the tables stand for.
+pub record HoldsRows (e : AnEdition) (rows : List Row) (old new : Seen) : Type 0 where
+  pub same : IsUnchanged old new
+  pub none_later : HaveNoLater e rows
+  pub holds : IsTrue (are_apart rows) → HoldIn e old.now (row_in rows)
+  pub are : (office : State) → StandsIn e old.now office → AreRowsIn e rows office
+
+-- an office was found in the tables of an edition, with the changes that raise them, and nothing has changed
+pub record Finds (e : AnEdition) (office : State) (changes : List Change) (old new : Seen) : Type 0 where
+  pub same : IsUnchanged old new
+  pub holds : HoldIn e old.now (row_at e office)
+  pub allowed : Allows e office
+  pub fit : IsFit office
+  pub nothing : NeedNothing changes
+  pub turned : (k : RowKey) → after_changes changes (row_at e office) k ≡ row_of office k
 
 -- one of these tables holds columns that no row has
 abbrev pub HoldsUnread : List Table → Seen → Type 0

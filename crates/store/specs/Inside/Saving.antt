@@ -13,12 +13,12 @@ use Rattle.tables.specs.Writes.{Adds, Puts}
 use Rattle.store.specs.Tables.{TablesHold}
 use Rattle.store.specs.declared.saving.Way.{Way}
 use Rattle.store.specs.declared.saving.Way.TheVariants.{InPlace, New}
-use Rattle.store.specs.Saving.{AreInert, Spares}
+use Rattle.store.specs.Saving.{Needs, Spares}
 
 -- the same, of one change
 unfoldable pub AppliesOne : Change → Database → Database → Type 0
 AppliesOne change old new =
-    AreInert old.schema → (rows : RowKey → Option Row) → TablesHold old rows → TablesHold new (after_change change rows) × Spares old new × IsFresh change rows
+    Needs change old.schema → (rows : RowKey → Option Row) → TablesHold old rows → TablesHold new (after_change change rows) × Spares old new × IsFresh change rows
 
 -- the change that brings a row into its table so
 abbrev pub entering : Way → Row → Change

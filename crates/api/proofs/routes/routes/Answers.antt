@@ -21,7 +21,7 @@ returns c =
       c.asked.ensures,
       c.asked-2.ensures,
       c.numbered-5.ensures,
-      c.asked-3.ensures,
+      c.opens.ensures,
       c.read-2.ensures,
       c.entry-2.ensures,
       c.entry-3.ensures,

@@ -45,3 +45,9 @@ returns-in-Placement-clause-cause g c = rw c.in-Placement.is (rw (c.params-to_sq
 
 pub returns-in-Import-clause-cause : goal.returns-in-Import-clause-cause
 returns-in-Import-clause-cause g c = rw c.in-Import.is (rw (c.params-to_sql-in-Import.ensures, c.as_str-in-Import.ensures) at c.delete-in-Import.ensures.cause)
+
+pub returns-in-RoundAim-clause-step : goal.returns-in-RoundAim-clause-step
+returns-in-RoundAim-clause-step g c = rw c.in-RoundAim.is (part_as _ _ _ _ _ (λ _ p. stepped_as _ _ _ _ (hold_take _ _ _) p) (rw c.params-to_sql-in-RoundAim.ensures at c.delete-in-RoundAim.ensures.step))
+
+pub returns-in-RoundAim-clause-cause : goal.returns-in-RoundAim-clause-cause
+returns-in-RoundAim-clause-cause g c = rw c.in-RoundAim.is (rw c.params-to_sql-in-RoundAim.ensures at c.delete-in-RoundAim.ensures.cause)

@@ -58,3 +58,11 @@ returns-in-Placement-clause-cause g c = rw c.in-Placement.is (refused_entering c
 
 pub returns-in-Import-clause-cause : goal.returns-in-Import-clause-cause
 returns-in-Import-clause-cause g c = rw c.in-Import.is (refused_entering c.args.way _ _ _ _ (rw (c.params-to_sql-in-Import.ensures, c.params-to_sql-in-Import-2.ensures, c.params-to_sql-in-Import-3.ensures, c.params-to_sql-in-Import-4.ensures, c.as_str-in-Import.ensures, c.word.ensures, c.as_slice.ensures) at c.enter-in-Import.ensures.cause))
+
+pub returns-in-RoundAim-clause-step : goal.returns-in-RoundAim-clause-step
+returns-in-RoundAim-clause-step g c =
+    rw c.in-RoundAim.is (part_as _ _ _ _ _ (λ _ p. stepped_as _ _ _ _ (hold_enter c.args.way _ _ _) p)
+    (rw (c.params-to_sql-in-RoundAim.ensures, c.params-to_sql-in-RoundAim-2.ensures, c.flag-in-RoundAim.ensures, c.is_generous.ensures) at c.enter-in-RoundAim.ensures.step))
+
+pub returns-in-RoundAim-clause-cause : goal.returns-in-RoundAim-clause-cause
+returns-in-RoundAim-clause-cause g c = rw c.in-RoundAim.is (refused_entering c.args.way _ _ _ _ (rw (c.params-to_sql-in-RoundAim.ensures, c.params-to_sql-in-RoundAim-2.ensures, c.flag-in-RoundAim.ensures, c.is_generous.ensures) at c.enter-in-RoundAim.ensures.cause))

@@ -1,7 +1,17 @@
-use Rattle.std.proofs.Common.{subst, rules}
+use Rattle.std.proofs.Common.{◌≡◌, ◌≢◌, ◌∙◌, Err, inr, sym, subst, arith, rules}
 use Rattle.sqlite.proofs.StateLemmas.{survives_weaker}
-use Rattle.store.specs.Tables.{HasNone}
+use Rattle.sqlite.specs.State.{HasCleanDisk}
+use Rattle.sqlite.specs.Held.{state}
+use Rattle.sqlite.specs.Schema.{Schema}
+use Rattle.editions.specs.declared.Edition.TheVariants.{First}
+use Rattle.store.specs.Causes.{IsHinderedOpening, IsHinderedToRaise}
+use Rattle.tables.specs.Steps.{IsKept}
+use Rattle.store.specs.declared.fault.StoreFault.TheVariants.{Damaged, Storage}
+use Rattle.store.specs.Editions.{beyond, latest}
+use Rattle.store.specs.Tables.{HasNone, HasNoneOf}
+use Rattle.store.proofs.Causes.{unchanged_before}
 use Rattle.store.proofs.NewTables.{opens_new, founds_left}
+use Rattle.store.proofs.Opening.{brings_left, earlier_of, kept_after, on_err, opens_found, opens_raised, unfit_all}
 use Rattle.store.proofs.store.open_tables.Goals as goal
 
 pub returns-in_err-found-clause-crash : goal.returns-in_err-found-clause-crash
@@ -16,3 +26,52 @@ returns-then-has_none-clause-ok g c clean =
 pub returns-then-has_none-clause-crash : goal.returns-then-has_none-clause-crash
 returns-then-has_none-clause-crash g c =
     survives_weaker _ _ _ _ (λ clean trees h. founds_left _ trees (subst HasNone c.schema.ensures.value (c.has_none.ensures.right c.if-has_none.true)) h) c.found.ensures.crash
+
+pub returns-in_err-office-clause-damaged : goal.returns-in_err-office-clause-damaged
+returns-in_err-office-clause-damaged g c clean h =
+    let was : c.office_in.result ≡ Err Damaged = search rules in
+    unfit_all c.edition_of-edition.result (state g.S.Store c.args.conn.now).now (subst (HasNoneOf (beyond c.edition_of-edition.result)) c.schema-2.ensures.value c.edition_of-edition.ensures.alone)
+    (subst (λ (s : Schema). c.edition_of-edition.result ≢ First → HasNoneOf (beyond First) s → ⊥) c.schema-2.ensures.value c.edition_of-edition.ensures.later) (c.office_in.ensures.damaged clean was)
+
+pub returns-then-eq-clause-ok : goal.returns-then-eq-clause-ok
+returns-then-eq-clause-ok g c clean =
+    let latest_one : c.edition_of-edition.result ≡ latest = search rules in
+    opens_found c.edition_of-edition.result c.in_ok-office.office c.in_ok-office.changes.items _ _ latest_one (c.in_ok-office.ensures.ok clean)
+
+pub returns-in_err-raise-clause-unlisted : goal.returns-in_err-raise-clause-unlisted
+returns-in_err-raise-clause-unlisted g c settled some none =
+    let was : c.office_in.result ≡ Err Damaged = c.office_in.ensures.unlisted (λ l. none (c.edition_of-edition.result, l)) in
+    absurd (let bad = sym c.in_ok-office.was ∙ was in cc)
+
+pub returns-in_err-raise-clause-kept : goal.returns-in_err-raise-clause-kept
+returns-in_err-raise-clause-kept g c clean =
+    let early : HasCleanDisk (state g.S.Store c.office_in.new.conn) = omega (arith, c.raise.ensures.crash.clean) in
+    on_err c.from_residual-in_err-raise.result (IsKept (state g.S.Store c.args.conn.now) (state g.S.Store c.raise.new.conn)) (kept_after (state g.S.Store c.args.conn.now) (state g.S.Store c.office_in.new.conn) (state g.S.Store c.raise.new.conn) (c.in_ok-office.ensures.same early) (search rules))
+
+pub returns-in_err-raise-clause-cause : goal.returns-in_err-raise-clause-cause
+returns-in_err-raise-clause-cause g c settled clean h =
+    let was : c.raise.result ≡ Err Storage = search rules in
+    let early : HasCleanDisk (state g.S.Store c.office_in.new.conn) = omega (arith, c.raise.ensures.crash.clean) in
+    let mode = c.office_in.ensures.mode settled in
+    let other : c.edition_of-edition.result ≢ latest = search rules in
+    unchanged_before (IsHinderedToRaise c.edition_of-edition.result c.in_ok-office.changes.items) IsHinderedOpening _ _ _ (c.in_ok-office.ensures.same early) c.in_ok-office.ensures.survives early c.raise.ensures.crash.counts
+    (λ limit db it. inr (inr (c.edition_of-edition.result, earlier_of c.edition_of-edition.result other, c.in_ok-office.changes.items, it))) (rw c.deref.ensures.value at (c.raise.ensures.cause mode clean was))
+
+pub returns-in_err-raise-clause-crash : goal.returns-in_err-raise-clause-crash
+returns-in_err-raise-clause-crash g c =
+    let other : c.edition_of-edition.result ≢ latest = search rules in
+    brings_left c.edition_of-edition.result c.in_ok-office.office c.in_ok-office.changes.items _ _ _ (earlier_of c.edition_of-edition.result other)
+    (subst (HasNoneOf (beyond c.edition_of-edition.result)) c.schema-2.ensures.value c.edition_of-edition.ensures.alone) c.in_ok-office.ensures.ok c.in_ok-office.ensures.survives (rw c.deref.ensures.value at c.raise.ensures.crash)
+
+pub returns-clause-ok : goal.returns-clause-ok
+returns-clause-ok g c clean =
+    let early : HasCleanDisk (state g.S.Store c.office_in.new.conn) = omega (arith, c.raise.ensures.crash.clean) in
+    let other : c.edition_of-edition.result ≢ latest = search rules in
+    opens_raised c.edition_of-edition.result c.in_ok-office.office c.in_ok-office.changes.items _ _ (earlier_of c.edition_of-edition.result other)
+    (subst (HasNoneOf (beyond c.edition_of-edition.result)) c.schema-2.ensures.value c.edition_of-edition.ensures.alone) (c.in_ok-office.ensures.ok early) _ (rw c.deref.ensures.value at (c.in_ok-raise.ensures.ok clean))
+
+pub returns-clause-crash : goal.returns-clause-crash
+returns-clause-crash g c =
+    let other : c.edition_of-edition.result ≢ latest = search rules in
+    brings_left c.edition_of-edition.result c.in_ok-office.office c.in_ok-office.changes.items _ _ _ (earlier_of c.edition_of-edition.result other)
+    (subst (HasNoneOf (beyond c.edition_of-edition.result)) c.schema-2.ensures.value c.edition_of-edition.ensures.alone) c.in_ok-office.ensures.ok c.in_ok-office.ensures.survives (rw c.deref.ensures.value at c.raise.ensures.crash)

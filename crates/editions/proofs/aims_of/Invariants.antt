@@ -1,0 +1,6 @@
+use Rattle.std.proofs.Common.{◌≡◌, ◌++◌, drop}
+use Rattle.editions.specs.Editions.{aims_of}
+use Rattle.editions.proofs.aims_of.Given as goal
+
+abbrev pub invariant-loop-row : goal.invariant-loop-row
+invariant-loop-row l = l.aims.items ++ aims_of (drop l.row-index l.rows) ≡ aims_of l.rows

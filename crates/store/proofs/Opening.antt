@@ -1,0 +1,79 @@
+-- What comes of an opening: the office that was read, in the latest edition or raised to it.
+use Rattle.std.proofs.Common.{◌≡◌, ◌≢◌, Result, Ok, Err, OnErr, List, inl, inr, refl, sym, subst, ◌∙◌, arith}
+use Rattle.sqlite.specs.State.{State as Seen, HasCleanDisk, IsUnchanged, Survives}
+use Rattle.sqlite.specs.Effect.{Database}
+use Rattle.sqlite.specs.Tree.{Trees}
+use Rattle.sqlite.proofs.StateLemmas.{survives_then}
+use Rattle.rolls.specs.declared.row.Change.{Change}
+use Rattle.rolls.specs.State.{State}
+use Rattle.editions.specs.declared.Edition.{Edition as AnEdition}
+use Rattle.editions.specs.declared.Edition.TheVariants.{First, Second}
+use Rattle.editions.specs.Editions.{row_at}
+use Rattle.tables.specs.Steps.{HasSaved, IsKept, IsLeft}
+use Rattle.store.specs.Editions.{IsEarlier, beyond, latest, number_of, rolls_of}
+use Rattle.store.specs.Reading.{IsDamaged, IsUnfitIn}
+use Rattle.store.specs.Tables.{Brings, HasNoneOf, HoldIn, Opens, Raises}
+use Rattle.store.specs.Inside.Raising.{Rises}
+use Rattle.store.specs.Inside.Reading.{Finds}
+use Rattle.store.proofs.Standing.{hold_same}
+use Rattle.store.proofs.SameTrees.{not_beyond, one_or_apart}
+
+-- an edition that is not the latest is an earlier one
+pub earlier_of : (e : AnEdition) → e ≢ latest → IsEarlier e
+earlier_of First other = tt
+earlier_of Second other = absurd (other refl)
+
+-- tables of the latest edition were read
+pub opens_found : (e : AnEdition) (office : State) (changes : List Change) (old new : Seen) → e ≡ latest → Finds e office changes old new → Opens old.now new.now office
+opens_found e office changes old new is found = inr (inl (found.same.0.now_is, subst (λ it. HoldIn it old.now (row_at it office)) is found.holds))
+
+module _ (e : AnEdition) (office : State) (changes : List Change) (old mid : Seen) (earlier : IsEarlier e) (alone : HasNoneOf (beyond e) old.now.schema) (found : Finds e office changes old mid) where
+  -- tables of an earlier edition were read and raised
+  raised : (db : Database) → Rises e changes mid.now db → Raises old.now db office
+  unfolding Rises
+  raised db rises =
+      let done = rises found.nothing (row_at e office) (subst (λ it. HoldIn e it (row_at e office)) (sym found.same.0.now_is) found.holds) in
+      record {
+        edition = e;
+        earlier = earlier;
+        stood = record { holds = found.holds; allowed = found.allowed; alone = alone };
+        fit = found.fit;
+        stands = hold_same (rolls_of latest) (number_of latest) db _ _ found.turned done.0;
+        ruled = done.1;
+      }
+
+  pub opens_raised : (new : Seen) → HasSaved (Rises e changes) mid new → Opens old.now new.now office
+  opens_raised new saved = inr (inr (raised new.now saved.step))
+
+  -- what a crash leaves of that
+  raised_left : (trees : Trees) → IsLeft (Rises e changes) mid trees → IsLeft Brings old trees
+  raised_left trees left = record { was_open = found.same.0.was_open; db = left.db; sound = left.sound; step = inr (office, raised left.db left.step); same = left.same }
+
+-- what a crash leaves of reading and raising
+pub brings_left : (e : AnEdition) (office : State) (changes : List Change) (old mid new : Seen) → IsEarlier e → HasNoneOf (beyond e) old.now.schema → (HasCleanDisk mid → Finds e office changes old mid) → Survives old mid (λ _. ⊥)
+    → Survives mid new (IsLeft (Rises e changes) mid) → Survives old new (IsLeft Brings old)
+brings_left e office changes old mid new earlier alone found one two =
+    survives_then old mid new (λ _. ⊥) (IsLeft (Rises e changes) mid) (IsLeft Brings old) (λ _ db none. absurd none)
+    (λ clean trees left. let early : HasCleanDisk mid = omega (arith, two.clean) in raised_left e office changes old mid earlier alone (found early) trees left) one two
+
+-- reading changed nothing, and a call after it changed nothing
+pub kept_after : (old mid new : Seen) → IsUnchanged old mid → IsKept mid new → IsKept old new
+kept_after old mid new same kept up =
+    let k = kept up in
+    (same.0.was_open, k.1 ∙ same.0.now_is, k.2 ∙ same.0.committed_is)
+
+-- what holds holds where a call fails
+pub on_err : {A E : Type 0} (r : Result A E) (P : Type 0) → P → OnErr r P
+on_err (Ok a) P p = tt
+on_err (Err e) P p = p
+
+-- tables that stand for no fit office in the edition that is there stand for none in any
+pub unfit_all : (e : AnEdition) (db : Database) → HasNoneOf (beyond e) db.schema → (e ≢ First → HasNoneOf (beyond First) db.schema → ⊥) → IsUnfitIn e db → IsDamaged db
+unfit_all First db alone later unfit First office fit stands = unfit office fit stands
+unfit_all First db alone later unfit Second office fit stands = elim (one_or_apart Second First) [
+  | inl same ↦ absurd (cc)
+  | inr (inl apart) ↦ not_beyond Second First db (row_at Second office) stands.holds apart alone
+  | inr (inr apart) ↦ absurd (apart.2)
+]
+unfit_all Second db alone later unfit First office fit stands = later (λ e. cc) stands.alone
+unfit_all Second db alone later unfit Second office fit stands = unfit office fit stands

@@ -1,0 +1,164 @@
+-- Tables of an earlier edition are raised: the number is another, tables come beside those that stand, and rows are added.
+use Rattle.std.proofs.Common.{◌≡◌, ◌≢◌, IsTrue, arith, ◌⊎◌, inl, inr, ℕ, ℤ, pos, Bool, true, false, not, cond, Some, List, [], ◌∷◌, ◌++◌, Option, refl, sym, ap, subst, ◌∙◌}
+use Rattle.std.specs.Prelude.{◌&&◌}
+use Rattle.sqlite.specs.declared.types.Value.TheVariants.{Int}
+use Rattle.sqlite.specs.Collation.TheVariants.{Binary}
+use Rattle.sqlite_schema.specs.Rules.{equal}
+use Rattle.sqlite.specs.Effect.{Database}
+use Rattle.sqlite.specs.Order.{Row as Cells}
+use Rattle.sqlite.specs.Schema.{Schema}
+use Rattle.sqlite.specs.State.{State as Seen, HasCleanDisk, Survives}
+use Rattle.sqlite.specs.Table.{Table as AnyTable}
+use Rattle.sqlite_rules.specs.Lists.{Has}
+use Rattle.sqlite_rules.proofs.ListLemmas.{has_either}
+use Rattle.rolls.specs.declared.row.Row.{Row}
+use Rattle.rolls.specs.declared.row.RowKey.{RowKey}
+use Rattle.rolls.specs.declared.row.Change.{Change}
+use Rattle.editions.specs.declared.Edition.{Edition as AnEdition}
+use Rattle.editions.specs.declared.Edition.TheVariants.{First, Second}
+use Rattle.tables.specs.declared.table.Table.{Table}
+use Rattle.tables.specs.declared.table.Table.TheVariants.{Edition}
+use Rattle.tables.specs.Table.{Place, Lists, table_at}
+use Rattle.tables.specs.Keyed.{Stands}
+use Rattle.tables.specs.Causes.{IsStopped}
+use Rattle.tables.proofs.Causes.{stopped_before}
+use Rattle.tables.specs.Inside.Steps.{Stays}
+use Rattle.tables.specs.Steps.{HasStepped}
+use Rattle.tables.specs.Writes.{Puts, with_row}
+use Rattle.tables.proofs.Runs.{listed_once, stands_kept, stands_apart, stepped_as}
+use Rattle.store.specs.Causes.{latest_number}
+use Rattle.store.specs.Editions.{beyond, latest, number_of, rolls_of}
+use Rattle.store.specs.Rows.{IsAmong, columns_of, rolls}
+use Rattle.store.specs.Saving.{Applies, IsLeftAlone}
+use Rattle.store.specs.Tables.{AreRuledAmong, HoldIn, MakesTables, TablesHold, TablesOf, numbered}
+use Rattle.store.specs.Inside.Raising.{Extends, Lifts, Rises}
+use Rattle.store.proofs.Standing.{stand_as}
+use Rattle.store.proofs.Columns.{among_or_not, fresh_beyond, has_left, int_self, is_among, stands_among}
+
+-- ---- tables more
+
+module _ (tables more : List Table) (number : ℕ) (rows : RowKey → Option Row) (old new : Database) (fresh : (table : Table) → Has more table → IsAmong tables table → ⊥)
+    (t : TablesOf tables number old rows) (m : MakesTables more old new) where
+  -- where a table stands
+  at : (table : Table) → IsAmong more table ⊎ (IsAmong more table → ⊥) → Place
+  at table (inl made) = m.places table
+  at table (inr was) = t.places table
+
+  early : (table : Table) → (IsAmong more table → ⊥) → IsAmong (tables ++ more) table → IsAmong tables table
+  early table was h = elim (has_either tables more table (stands_among (tables ++ more) table h)) [ inl e ↦ is_among tables table e | inr l ↦ absurd (was (is_among more table l)) ]
+
+  -- a table that stood stands
+  kept : (table : Table) (place : Place) (held : List Cells) → Stands (table_at table) place held old → Stands (table_at table) place held new
+  kept table place held stands =
+      let other = m.others (table_at table place) stands.listed in
+      stands_kept (table_at table) place refl held old new other.0 other.1 stands
+
+  -- in another tree than one that was made
+  away : (table : Table) (place : Place) (held : List Cells) → Stands (table_at table) place held old → (q : Table) → IsAmong more q → place.tree ≢ (m.places q).tree
+  away table place held stands q made = (m.others (table_at table place) stands.listed).2 q (stands_among more q made)
+
+  edition_at : (table : Table) (d : IsAmong more table ⊎ (IsAmong more table → ⊥)) → IsAmong (tables ++ more) table → (at table d).tree ≢ t.edition.tree
+  unfolding at
+  edition_at table (inl made) h = λ e. away Edition t.edition (numbered number) t.editions table made (sym e)
+  edition_at table (inr was) h = t.edition_apart table (early table was h)
+
+  apart_at : (x y : Table) (d : IsAmong more x ⊎ (IsAmong more x → ⊥)) (e : IsAmong more y ⊎ (IsAmong more y → ⊥)) → IsAmong (tables ++ more) x → IsAmong (tables ++ more) y → x ≢ y → (at x d).tree ≢ (at y e).tree
+  unfolding at
+  apart_at x y (inl a) (inl b) h k apart = m.apart x y (stands_among more x a) (stands_among more y b) apart
+  apart_at x y (inl a) (inr o) h k apart = λ e. away y (t.places y) (columns_of y t.list) (t.rolls y (early y o k)) x a (sym e)
+  apart_at x y (inr o) (inl b) h k apart = away x (t.places x) (columns_of x t.list) (t.rolls x (early x o h)) y b
+  apart_at x y (inr o) (inr p) h k apart = t.apart x y (early x o h) (early y p k) apart
+
+  stand_at : (table : Table) (d : IsAmong more table ⊎ (IsAmong more table → ⊥)) → IsAmong (tables ++ more) table → Stands (table_at table) (at table d) (columns_of table t.list) new
+  unfolding at
+  stand_at table (inl made) h =
+      subst (λ held. Stands (table_at table) (m.places table) held new) (sym (t.beyond table (fresh table (stands_among more table made)))) (m.stand table (stands_among more table made))
+  stand_at table (inr was) h = kept table (t.places table) (columns_of table t.list) (t.rolls table (early table was h))
+
+  -- the tables are there, with those that were made
+  pub more_tables : TablesOf (tables ++ more) number new rows
+  more_tables = record {
+    edition = t.edition;
+    places = λ table. at table (among_or_not more table);
+    edition_apart = λ table. edition_at table (among_or_not more table);
+    apart = λ x y. apart_at x y (among_or_not more x) (among_or_not more y);
+    list = t.list;
+    at = t.at;
+    beyond = λ table none. t.beyond table (λ h. none (is_among (tables ++ more) table (has_left tables more table (stands_among tables table h))));
+    editions = kept Edition t.edition (numbered number) t.editions;
+    rolls = λ table. stand_at table (among_or_not more table);
+  }
+
+-- tables that were made are as they are made here
+pub made_ruled : (tables : List Table) (old new : Database) → MakesTables tables old new → AreRuledAmong tables new.schema
+unfolding AreRuledAmong
+made_ruled tables old new m table among place listed =
+    let same : table_at table place ≡ table_at table (m.places table) = listed_once new.schema (table_at table) place (m.places table) refl listed (m.stand table among).listed in
+    let tree : (m.places table).tree ≡ place.tree = ap (λ (t : AnyTable). t.tree) (sym same) in
+    same ∙ (λ i. table_at table (record { tree = tree i; rules = m.ruled table among i }))
+
+-- ---- another number
+
+-- the row of the edition with another number
+one_row : (n m : ℕ) → with_row (Int (pos 1) ∷ []) (Int (pos 1) ∷ Int (pos m) ∷ []) (numbered n) ≡ numbered m
+one_row n m = ap (λ (b : Bool). (Int (pos 1) ∷ Int (pos m) ∷ []) ∷ cond (not (b && true)) (numbered n) []) (int_self (pos 1))
+
+other_number : (tables : List Table) (number other : ℕ) (rows : RowKey → Option Row) (old new : Database) → IsLeftAlone Edition old.schema → TablesOf tables number old rows
+    → Puts (table_at Edition) (Int (pos 1) ∷ []) (Int (pos 1) ∷ Int (pos other) ∷ []) old new → TablesOf tables other new rows
+unfolding Puts
+other_number tables number other rows old new alone t puts =
+    let done = puts t.edition (numbered number) (alone t.edition t.editions.listed) t.editions in
+    stand_as tables number other old new rows rows t (λ k. refl) (subst (λ held. Stands (table_at Edition) t.edition held new) (one_row number other) done.0)
+    (λ table h. stands_apart (table_at table) (t.places table) refl (columns_of table t.list) t.edition.tree old new (t.edition_apart table h) done.1 (t.rolls table h))
+
+-- ---- one after the other
+
+-- with those beyond, the tables of an edition are all of them
+all_rolls : (e : AnEdition) → rolls_of e ++ beyond e ≡ rolls
+all_rolls First = refl
+all_rolls Second = refl
+
+extends : (e : AnEdition) (changes : List Change) (a b c : Database) → MakesTables (beyond e) a b → Applies changes b c → Extends e changes a c
+unfolding Extends Applies
+extends e changes a b c made applied nothing rows t =
+    let all : TablesHold b rows = subst (λ tables. TablesOf tables (number_of latest) b rows) (all_rolls e) (more_tables (rolls_of e) (beyond e) (number_of latest) rows a b (fresh_beyond e) t made) in
+    let done = applied (nothing b.schema) rows all in
+    (done.0, subst (AreRuledAmong (beyond e)) (sym done.1.schema) (made_ruled (beyond e) a b made))
+
+lifts : (e : AnEdition) (changes : List Change) (a b c : Database) → Puts (table_at Edition) (Int (pos 1) ∷ []) latest_number a b → Extends e changes b c → Lifts e changes a c
+unfolding Extends Rises Lifts
+lifts e changes a b c puts extended alone nothing rows t = extended nothing rows (other_number (rolls_of e) (number_of e) (number_of latest) rows a b alone t puts)
+
+-- runs of statements, one after another
+pub extends_by : (e : AnEdition) (changes : List Change) (a b c : Seen) → Stays (MakesTables (beyond e)) a b → Stays (Applies changes) b c → Stays (Extends e changes) a c
+extends_by e changes a b c p q = record { shut = q.shut ∙ p.shut; committed = q.committed ∙ p.committed; mode = q.mode ∙ p.mode; sound = λ s. q.sound (p.sound s); step = extends e changes a.now b.now c.now p.step q.step }
+
+pub lifts_by : (e : AnEdition) (changes : List Change) (a b c : Seen) → HasStepped (Puts (table_at Edition) (Int (pos 1) ∷ []) latest_number) a b → Stays (Extends e changes) b c → HasStepped (Lifts e changes) a c
+lifts_by e changes a b c p q = record {
+  inside = p.inside;
+  shown = record {
+    was_open = p.shown.was_open;
+    is_open = subst IsTrue (sym q.shut) p.shown.is_open;
+    now_is = refl;
+    committed_is = q.committed ∙ p.shown.committed_is;
+    mode = q.mode ∙ p.shown.mode;
+  };
+  sound = q.sound p.sound;
+  step = lifts e changes a.now b.now c.now p.step q.step;
+}
+
+-- a transaction that has begun has the schema that was there
+pub begun_alone : (first begun : Seen) → begun ≡ record first { in_transaction = true } → IsLeftAlone Edition first.now.schema → IsLeftAlone Edition begun.now.schema
+begun_alone first begun begins alone = subst (λ (s : Seen). IsLeftAlone Edition s.now.schema) (sym begins) alone
+
+-- where no foreign key acts on the number
+pub rises_by : (e : AnEdition) (changes : List Change) (a b : Seen) → IsLeftAlone Edition a.now.schema → HasStepped (Lifts e changes) a b → HasStepped (Rises e changes) a b
+unfolding Lifts
+rises_by e changes a b alone p = stepped_as (Lifts e changes) (Rises e changes) a b (λ lifted. lifted alone) p
+
+-- a call in a transaction that was stopped, which is then dropped
+pub stopped_within : (H : Option ℕ → Database → Type 0) (first begun mid last : Seen) → begun ≡ record first { in_transaction = true } → (HasCleanDisk mid → IsStopped H begun mid) → Survives mid last (λ _. ⊥) → HasCleanDisk last → IsStopped H first last
+stopped_within H first begun mid last begins it two clean =
+    let early : HasCleanDisk mid = omega (arith, two.clean) in
+    let same : IsStopped H (record first { in_transaction = true }) mid = subst (λ (s : Seen). IsStopped H s mid) begins (it early) in
+    stopped_before H first mid last two.counts (record { why = same.why })

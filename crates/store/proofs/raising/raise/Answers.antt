@@ -1,0 +1,33 @@
+use Rattle.std.proofs.Common.{◌≡◌, Err, inl, inr, ap, subst, rules}
+use Rattle.sqlite.specs.Held.{state}
+use Rattle.tables.specs.declared.table.Table.TheVariants.{Edition}
+use Rattle.store.specs.Saving.{IsActedOnAt, IsLeftAlone}
+use Rattle.store.specs.Inside.Raising.{Rises}
+use Rattle.store.proofs.Commit.{made_one, sound_one, saved_by, left_by, dropped_by}
+use Rattle.sqlite.specs.State.{State as Seen}
+use Rattle.tables.specs.declared.fault.TableFault.TheVariants.{Storage}
+use Rattle.store.specs.Causes.{IsHinderedToRaise}
+use Rattle.store.proofs.Raised.{begun_alone, rises_by, stopped_within}
+use Rattle.store.proofs.raising.raise.Goals as goal
+
+pub returns-then-not-is_left-clause-cause : goal.returns-then-not-is_left-clause-cause
+returns-then-not-is_left-clause-cause g c settled clean h = record { why = inr (inr (inl (subst (IsActedOnAt Edition) c.schema.ensures.value (c.is_left.ensures.exact.0 c.if-not-is_left.true)))) }
+
+pub returns-in_err-lift-clause-cause : goal.returns-in_err-lift-clause-cause
+returns-in_err-lift-clause-cause g c settled clean h =
+    let begins = ap (state g.S.Store) c.transaction-tx.ensures.begun in
+    let was : c.lift.result ≡ Err Storage = search rules in
+    stopped_within (IsHinderedToRaise c.args.edition c.args.changes.now) (state g.S.Store c.args.conn.now) (state g.S.Store c.transaction-tx.result.conn.now) (state g.S.Store c.lift.new.tx.conn.now) _ begins
+    (λ early. c.lift.ensures.cause (ap (λ (s : Seen). s.in_transaction) begins) early was) (search rules) clean
+
+pub returns-in_err-lift-clause-crash : goal.returns-in_err-lift-clause-crash
+returns-in_err-lift-clause-crash g c = dropped_by (state g.S.Store c.args.conn.now) (state g.S.Store c.transaction-tx.result.conn.now) (ap (state g.S.Store) c.transaction-tx.ensures.begun) (state g.S.Store c.lift.new.tx.conn.now) _ (Rises c.args.edition c.args.changes.now) c.lift.ensures.step.survives (search rules)
+
+pub returns-in-Ok-clause-ok : goal.returns-in-Ok-clause-ok
+returns-in-Ok-clause-ok g c clean = saved_by (state g.S.Store c.args.conn.now) (state g.S.Store c.transaction-tx.result.conn.now) (ap (state g.S.Store) c.transaction-tx.ensures.begun) (state g.S.Store c.lift.new.tx.conn.now) _ (Rises c.args.edition c.args.changes.now) (λ clean. made_one _ _ _ (rises_by c.args.edition c.args.changes.now _ _ (begun_alone (state g.S.Store c.args.conn.now) (state g.S.Store c.transaction-tx.result.conn.now) (ap (state g.S.Store) c.transaction-tx.ensures.begun) (subst (IsLeftAlone Edition) c.schema.ensures.value (c.is_left.ensures.sound c.if-not-is_left.false))) (c.in_ok-lift.ensures.step.did clean))) (search rules) (search rules) clean
+
+pub returns-in-Ok-clause-crash : goal.returns-in-Ok-clause-crash
+returns-in-Ok-clause-crash g c = left_by (state g.S.Store c.args.conn.now) (state g.S.Store c.transaction-tx.result.conn.now) (ap (state g.S.Store) c.transaction-tx.ensures.begun) (state g.S.Store c.lift.new.tx.conn.now) _ (Rises c.args.edition c.args.changes.now) (λ clean. made_one _ _ _ (rises_by c.args.edition c.args.changes.now _ _ (begun_alone (state g.S.Store c.args.conn.now) (state g.S.Store c.transaction-tx.result.conn.now) (ap (state g.S.Store) c.transaction-tx.ensures.begun) (subst (IsLeftAlone Edition) c.schema.ensures.value (c.is_left.ensures.sound c.if-not-is_left.false))) (c.in_ok-lift.ensures.step.did clean))) (λ clean. sound_one _ _ _ (c.in_ok-lift.ensures.step.did clean)) c.in_ok-lift.ensures.step.survives (search rules)
+
+pub returns-in-Err-clause-crash : goal.returns-in-Err-clause-crash
+returns-in-Err-clause-crash g c = left_by (state g.S.Store c.args.conn.now) (state g.S.Store c.transaction-tx.result.conn.now) (ap (state g.S.Store) c.transaction-tx.ensures.begun) (state g.S.Store c.lift.new.tx.conn.now) _ (Rises c.args.edition c.args.changes.now) (λ clean. made_one _ _ _ (rises_by c.args.edition c.args.changes.now _ _ (begun_alone (state g.S.Store c.args.conn.now) (state g.S.Store c.transaction-tx.result.conn.now) (ap (state g.S.Store) c.transaction-tx.ensures.begun) (subst (IsLeftAlone Edition) c.schema.ensures.value (c.is_left.ensures.sound c.if-not-is_left.false))) (c.in_ok-lift.ensures.step.did clean))) (λ clean. sound_one _ _ _ (c.in_ok-lift.ensures.step.did clean)) c.in_ok-lift.ensures.step.survives (search rules)

@@ -1,0 +1,91 @@
+//! Raising the tables of an earlier edition.
+
+ghost use Rattle.std.specs.Prelude.{◌≡◌, ◌≢◌, false, map, IfOk, OnOk, OnErr};
+ghost use Rattle.sqlite.specs.State.{HasCleanDisk, Survives};
+ghost use Rattle.sqlite.specs.Held.{state};
+ghost use Rattle.rolls.specs.declared.row.Change.TheVariants.{Add};
+ghost use Rattle.tables.specs.Causes.{IsCaused, IsCausedInside};
+ghost use Rattle.tables.specs.Steps.{Does, HasSaved, HasStepped, IsKept, IsLeft};
+ghost use Rattle.tables.specs.Inside.Steps.{Stays};
+ghost use Rattle.store.specs.Causes.{IsHinderedToExtend, IsHinderedToRaise};
+ghost use Rattle.store.specs.Inside.Raising.{Extends, Lifts, Rises};
+
+use crate::edition::{LATEST, beyond, number_of};
+use crate::fault::StoreFault;
+use crate::founding::make_each;
+use crate::quiet::is_left;
+use crate::saving::apply_all;
+use editions::Edition;
+use rolls::{Change, Row};
+use sqlite::{Alter, Connection, Transaction, params};
+use std::alloc::{AllocError, Global};
+use tables::Table;
+use tables::fault::TableFault;
+use tables::statements::put;
+
+/// The changes that add these rows.
+pub fn added(alloc: Global, rows: Vec<Row>) -> Result<Vec<Change>, AllocError>
+    ensures { IfOk result (λ changes. changes.items ≡ map Add rows.items) }
+{
+    let mut changes = Vec::with_capacity(alloc, rows.len())?;
+    for row in rows {
+        changes.push(Change::Add(row))?;
+    }
+    Ok(changes)
+}
+
+/// Makes the tables that an edition lacks, and then changes that add rows.
+fn extend<S: Alter>(
+    tx: &mut Transaction<'_, S>,
+    edition: Edition,
+    changes: &[Change],
+) -> Result<(), TableFault>
+    ensures same_reference { tx.new.conn.ghost_name ≡ tx.old.conn.ghost_name }
+    ensures step { Does (Stays (Extends edition changes.now)) result (state S.Store tx.old.conn.now) (state S.Store tx.new.conn.now) }
+    ensures cause { IsCausedInside (IsHinderedToExtend edition changes.now) result (state S.Store tx.old.conn.now) (state S.Store tx.new.conn.now) }
+{
+    make_each(tx, beyond(edition))?;
+    apply_all(tx, changes)
+}
+
+/// Puts the number of the latest edition, makes the tables that an edition lacks, and then changes that add rows.
+fn lift<S: Alter>(
+    tx: &mut Transaction<'_, S>,
+    edition: Edition,
+    changes: &[Change],
+) -> Result<(), TableFault>
+    ensures same_reference { tx.new.conn.ghost_name ≡ tx.old.conn.ghost_name }
+    ensures step { Does (HasStepped (Lifts edition changes.now)) result (state S.Store tx.old.conn.now) (state S.Store tx.new.conn.now) }
+    ensures cause { IsCausedInside (IsHinderedToRaise edition changes.now) result (state S.Store tx.old.conn.now) (state S.Store tx.new.conn.now) }
+{
+    put(tx, Table::Edition, params![1, number_of(LATEST)])?;
+    extend(tx, edition, changes)
+}
+
+/// Raises the tables of an earlier edition in one transaction. Where a foreign key of another table acts on the number nothing is
+/// changed.
+pub fn raise<S: Alter>(
+    conn: &mut Connection<S>,
+    edition: Edition,
+    changes: &[Change],
+) -> Result<(), StoreFault>
+    ensures ok { HasCleanDisk (state S.Store conn.new) → OnOk result (HasSaved (Rises edition changes.now) (state S.Store conn.old) (state S.Store conn.new)) }
+    ensures err { HasCleanDisk (state S.Store conn.new) → OnErr result (IsKept (state S.Store conn.old) (state S.Store conn.new)) }
+    ensures faults { result ≢ Err StoreFault.Damaged }
+    ensures cause { conn.old.in_transaction ≡ false → IsCaused StoreFault.Storage (IsHinderedToRaise edition changes.now) result (state S.Store conn.old) (state S.Store conn.new) }
+    ensures crash { Survives (state S.Store conn.old) (state S.Store conn.new) (IsLeft (Rises edition changes.now) (state S.Store conn.old)) }
+    ensures ended { conn.old.in_transaction ≡ false → conn.new.in_transaction ≡ false }
+{
+    if !conn.is_autocommit() {
+        return Err(StoreFault::Storage);
+    }
+    if !is_left(conn.schema(), Table::Edition) {
+        return Err(StoreFault::Storage);
+    }
+    let mut tx = conn.transaction();
+    lift(&mut tx, edition, changes)?;
+    match tx.commit() {
+        Ok(()) => Ok(()),
+        Err(error) => Err(TableFault::from(error).into()),
+    }
+}
