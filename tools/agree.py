@@ -13,18 +13,18 @@ import subprocess
 import sys
 import tempfile
 
-from check_round import checked
+from check_round import RANKS, checked
 
 GENEROUS = "A,generous\n"
 
 
 def round_text(draw):
     """The text of a round with an aim and a few supervisors, projects and students."""
-    supervisors, projects, students = draw.randint(1, 4), draw.randint(1, 7), draw.randint(0, 9)
+    supervisors, projects, students = draw.randint(1, 4), draw.randint(1, RANKS + 2), draw.randint(0, 9)
     lines = [f"S,L{n},{draw.randint(0, 4)}" for n in range(supervisors)]
     lines += [f"P,P{n},L{draw.randrange(supervisors)},{draw.randint(0, 3)}" for n in range(projects)]
     for n in range(students):
-        chosen = draw.sample(range(projects), draw.randint(1, min(projects, 8)))
+        chosen = draw.sample(range(projects), draw.randint(1, min(projects, RANKS)))
         lines.append(f"C,A{n}," + ",".join(f"P{p}" for p in chosen))
     return draw.choice(("", GENEROUS)) + "".join(line + "\n" for line in lines)
 

@@ -4,12 +4,13 @@
 tools/check_round.py FILE     prints what `spadesk check FILE` prints, of a text without a bad line
 
 It knows the format and the five conditions (docs/FORMATS.md, docs/PROOF.md) and nothing else of this repository: who does not
-trust the program can read these lines. Rows of nine numbers are compared as Python compares tuples, the first number first; those
+trust the program can read these lines. Rows of thirteen numbers are compared as Python compares tuples, the first number first; those
 of a generous round in the order size, last rank to first, and at the ranks the smaller number is the better.
 """
 import sys
 
-ZERO = (0,) * 9
+RANKS = 12
+ZERO = (0,) * (1 + RANKS)
 
 
 def added(*rows):
@@ -18,7 +19,7 @@ def added(*rows):
 
 def weight(rank):
     """What a pair weighs: 1 for the size and 1 at its rank."""
-    return tuple(int(place in (0, rank)) for place in range(9))
+    return tuple(int(place in (0, rank)) for place in range(1 + RANKS))
 
 
 def greedy(row):

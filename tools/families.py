@@ -7,13 +7,13 @@
 few        one to five supervisors offer all projects, with a place for nine students in ten; many searches go through a
            supervisor, and on to each of the supervisor's projects
 full       one to five supervisors with few places, and far more projects than places; most projects stay empty
-dense      every student lists 8 of 16 projects, so most projects are reached in each search, with many students on each
+dense      every student lists 12 of 24 projects, so most projects are reached in each search, with many students on each
 clones     50 groups of students with the same list, at one to four supervisors who offer 400 projects; each search walks
            the tree of the one before
 backforth  a line of projects, with students who can hold one of two neighbours, and then students who come to either end
            in turn and push the others along; all projects are one supervisor's
 near       lists of 2 to 4 neighbours on a line, in any order, so that a place moves far before somebody finds room
-stars      each student lists one of eight projects first, and seven of the own corner after it
+stars      each student lists one of eight projects first, and eleven of the own corner after it
 chains     lists of three neighbours in their order, every third at one end of the line
 
 No instance has more than 100 supervisors, 400 projects and 500 students.
@@ -21,7 +21,7 @@ No instance has more than 100 supervisors, 400 projects and 500 students.
 import random
 import sys
 
-MOST_SUPERVISORS, MOST_PROJECTS, LIST = 100, 400, 8
+MOST_SUPERVISORS, MOST_PROJECTS, LIST = 100, 400, 12
 
 
 def spread(rng, total, slots):
@@ -73,7 +73,7 @@ def full(rng, n):
 
 
 def dense(rng, n):
-    supervisors, projects = 8, 16
+    supervisors, projects = 8, 24
     offers = [(l, q) for l, q in zip(owners(rng, supervisors, projects), spread(rng, n, projects))]
     return spread(rng, n * 9 // 10, supervisors), offers, [rng.sample(range(projects), LIST) for _ in range(n)]
 

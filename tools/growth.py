@@ -4,7 +4,7 @@
 tools/growth.py SPADESK > docs/growth.svg     needs rustc and valgrind
 
 Instructions are counted, the start of the process taken off. The round of N students has N/5 supervisors and 4N/5 projects, lists of
-eight drawn evenly, and room for each student; what `solve` prints is what `check` reads. Both programs must come to the same size and
+twelve drawn evenly, and room for each student; what `solve` prints is what `check` reads. Both programs must come to the same size and
 profile. The counts also go to standard error.
 """
 import os
@@ -31,7 +31,7 @@ def round_text(students):
     lines = [f"S,L{l:03},{q}" for l, q in enumerate(spread(rng, students * 6 // 5 + supervisors, supervisors))]
     lines += [f"P,P{p:03},L{owner[p]:03},{rng.choice((1, 1, 2, 2, 3))}" for p in range(projects)]
     for student in range(students):
-        chosen = rng.sample(range(projects), 8)
+        chosen = rng.sample(range(projects), 12)
         lines.append(f"C,A{student:03}," + ",".join(f"P{p:03}" for p in chosen))
     return "\n".join(lines) + "\n"
 

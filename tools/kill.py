@@ -1,6 +1,6 @@
 #!/usr/bin/env python3
 """A served file that is killed in the middle of puts has every answered put when it is opened again, and one of the first edition that is
-killed while it is raised is of the first or the second edition of the same office.
+killed while it is raised is of the first or the latest edition of the same office.
 
 tools/kill.py SPADESK [TIMES]
 
@@ -35,8 +35,11 @@ MADE = [
     "close-round DB",
     "open-round DB",
 ]
-# what makes a file of the first edition, in which rounds had no aim, of one of the second
-FIRST_EDITION = "DROP TABLE round_aim; UPDATE edition SET number = 1;"
+# what makes a file of the first edition, in which rounds had no aim and lists eight places at most, of one of the latest
+FIRST_EDITION = """
+    INSERT INTO choice SELECT * FROM choice12; INSERT INTO placement SELECT * FROM placement12; DROP TABLE choice12; DROP TABLE placement12;
+    DROP TABLE round_aim; UPDATE edition SET number = 1;
+"""
 
 
 def exchange(messages, answered):
@@ -129,7 +132,7 @@ def raised(program, draw, times):
         shutil.copy(start, path)
         first, begun = rows(path), time.monotonic()
         told = line(program, report, path)
-        taken, second = time.monotonic() - begun, rows(path)
+        taken, latest = time.monotonic() - begun, rows(path)
         for _ in range(times):
             for end in ("", "-wal"):
                 if os.path.exists(path + end):
@@ -140,9 +143,9 @@ def raised(program, draw, times):
             it.kill()
             it.wait()
             found = rows(path)
-            if found not in (first, second) or line(program, report, path) != told or rows(path) != second:
+            if found not in (first, latest) or line(program, report, path) != told or rows(path) != latest:
                 sys.exit("a file that was killed while it was raised is of no edition of its office")
-            left["first" if found == first else "second"] += 1
+            left["first" if found == first else "latest"] += 1
     return left
 
 
@@ -150,7 +153,7 @@ def main(program, times="20"):
     draw, program = random.Random(1), os.path.abspath(program)
     print("answered before the kill, and found again:", *(once(program, draw) for _ in range(int(times))))
     left = raised(program, draw, int(times))
-    print("files killed while they are raised, of the first edition:", left["first"], "and of the second:", left["second"])
+    print("files killed while they are raised, of the first edition:", left["first"], "and of the latest:", left["latest"])
 
 
 if __name__ == "__main__":

@@ -42,7 +42,7 @@ class Round:
 
     def told(self):
         """What the round comes to, in two lines."""
-        profile = " ".join(str(list(self.ranks.values()).count(rank)) for rank in range(1, 9))
+        profile = " ".join(str(list(self.ranks.values()).count(rank)) for rank in range(1, 13))
         return f"{self.aim} round: {len(self.pairs)} of {len(self.lists)} students placed", f"profile {profile}"
 
 

@@ -25,7 +25,7 @@ def school(size=500):
     projects = "code,name,supervisor,quota\n" + "".join(f"P{n},Pumps,L{n % offerers},2\n" for n in range(offered))
     students = "code,name\n" + "".join(f"S{n},Ann\n" for n in range(size))
     lists = "student,choices\n" + "".join(
-        f"S{n},{' '.join(f'P{p}' for p in draw.sample(range(offered), 8))}\n" for n in range(size - 2)
+        f"S{n},{' '.join(f'P{p}' for p in draw.sample(range(offered), 12))}\n" for n in range(size - 2)
     )
     return [
         message("POST", "/imports/supervisors/I1", supervisors),
@@ -49,7 +49,8 @@ def counted(program, messages):
 def main(program):
     base = school()
     preview = message("GET", "/preview")
-    puts = [message("PUT", f"/lists/S{n}", '{"choices":["P1","P2","P3","P4","P5","P6","P7","P8"]}') for n in (498, 499)]
+    choices = ",".join(f'"P{n}"' for n in range(1, 13))
+    puts = [message("PUT", f"/lists/S{n}", f'{{"choices":[{choices}]}}') for n in (498, 499)]
     start = counted(program, base)
     first = counted(program, [*base, preview])
     second = counted(program, [*base, preview, preview])

@@ -41,7 +41,7 @@ class School:
         self.write("supervisors", "code,name,quota", (f"L{n},Lee,6" for n in range(100)))
         self.write("projects", "code,name,supervisor,quota", (f"P{n},Pumps,L{n % 100},2" for n in range(400)))
         self.write("students", "code,name", (f"S{n},Student {n}" for n in range(500)))
-        self.write("lists", "student,choices", (f"S{n},{' '.join(draw.sample(projects, 8))}" for n in range(500)))
+        self.write("lists", "student,choices", (f"S{n},{' '.join(draw.sample(projects, 12))}" for n in range(500)))
         self.bring("supervisors", "projects")
         self.settle("rolls.db")
         self.bring("students")

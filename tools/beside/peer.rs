@@ -14,6 +14,7 @@ use std::collections::{BinaryHeap, HashMap};
 use std::ffi::{CStr, CString, c_char, c_int, c_void};
 use std::io::{Read, Write};
 use std::net::{TcpListener, TcpStream};
+use std::ops::{Add, Sub};
 use std::time::{Instant, UNIX_EPOCH};
 
 // ---- SQLite ----
@@ -129,8 +130,8 @@ impl Students {
     fn of(db: &Database) -> Students {
         Students {
             label: db.prepare("SELECT label FROM student WHERE code = ?1"),
-            list: db.prepare("SELECT project FROM round CROSS JOIN choice ON round = number WHERE open = 1 AND student = ?1 ORDER BY place"),
-            placed: db.prepare("SELECT project, rank, round FROM placement WHERE student = ?1"),
+            list: db.prepare("SELECT project FROM round CROSS JOIN choice12 ON round = number WHERE open = 1 AND student = ?1 ORDER BY place"),
+            placed: db.prepare("SELECT project, rank, round FROM placement12 WHERE student = ?1"),
             put: db.prepare("INSERT INTO student VALUES (?1, ?2) ON CONFLICT (code) DO UPDATE SET label = ?2"),
         }
     }
@@ -259,11 +260,39 @@ fn import(db: &Database, id: &str, file: &str) {
 
 // ---- Closing ----
 
-/// A weight: the size, then each rank, in one number, since no place reaches 2^13 either way.
-type Weight = i128;
+/// The ranks of a profile, as many as a list has places at most.
+const RANKS: usize = 12;
+
+/// A weight: the size, then each rank. No place reaches 2^13 either way.
+#[derive(Clone, Copy, PartialEq, Eq, PartialOrd, Ord)]
+struct Weight([i16; RANKS + 1]);
+
+impl Weight {
+    const ZERO: Weight = Weight([0; RANKS + 1]);
+    const MAX: Weight = Weight([i16::MAX; RANKS + 1]);
+}
+
+impl Add for Weight {
+    type Output = Weight;
+
+    fn add(self, other: Weight) -> Weight {
+        Weight(std::array::from_fn(|i| self.0[i] + other.0[i]))
+    }
+}
+
+impl Sub for Weight {
+    type Output = Weight;
+
+    fn sub(self, other: Weight) -> Weight {
+        Weight(std::array::from_fn(|i| self.0[i] - other.0[i]))
+    }
+}
 
 fn weight(rank: usize) -> Weight {
-    (1 << 104) + (1 << (13 * (8 - rank)))
+    let mut places = [0; RANKS + 1];
+    places[0] = 1;
+    places[rank] = 1;
+    Weight(places)
 }
 
 /// A flow of students over projects and supervisors; a best walk for each student in turn, by Dijkstra's algorithm.
@@ -289,7 +318,7 @@ impl Flow {
     fn price(&self, student: usize, place: Option<usize>) -> (usize, Weight) {
         match place {
             Some(k) => (self.lists[student][k], weight(k + 1)),
-            None => (self.height.len() - 1, 0),
+            None => (self.height.len() - 1, Weight::ZERO),
         }
     }
 
@@ -348,7 +377,7 @@ impl Flow {
         }
         let end = label[sink];
         for (node, at) in settled {
-            self.height[node] -= end - at;
+            self.height[node] = self.height[node] - (end - at);
         }
         self.push(student, sink, &by);
     }
@@ -397,7 +426,7 @@ fn positions(codes: &[String]) -> HashMap<&str, usize> {
 fn close(db: &Database) {
     db.run("BEGIN");
     let round = db.prepare("SELECT number FROM round WHERE open = 1").rows(&[], |row| row.number(0))[0];
-    let left = "quota - (SELECT count(*) FROM placement WHERE placement.project";
+    let left = "quota - (SELECT count(*) FROM placement12 WHERE placement12.project";
     let supervisors = db
         .prepare(&format!("SELECT code, {left} IN (SELECT code FROM project WHERE supervisor = supervisor.code)) FROM supervisor"))
         .rows(&[], |row| (row.text(0), row.number(1)));
@@ -405,7 +434,7 @@ fn close(db: &Database) {
         .prepare(&format!("SELECT code, supervisor, {left} = project.code) FROM project"))
         .rows(&[], |row| (row.text(0), row.text(1), row.number(2)));
     let choices = db
-        .prepare("SELECT student, project FROM choice WHERE round = ?1 ORDER BY student, place")
+        .prepare("SELECT student, project FROM choice12 WHERE round = ?1 ORDER BY student, place")
         .rows(&[Number(round)], |row| (row.text(0), row.text(1)));
     let supervisor_codes: Vec<String> = supervisors.iter().map(|s| s.0.clone()).collect();
     let project_codes: Vec<String> = projects.iter().map(|p| p.0.clone()).collect();
@@ -424,7 +453,7 @@ fn close(db: &Database) {
     }
     let mut flow = Flow {
         seated: vec![Vec::new(); owner.len()],
-        height: vec![0; owner.len() + offers.len() + 1],
+        height: vec![Weight::ZERO; owner.len() + offers.len() + 1],
         place: vec![None; lists.len()],
         project_room: projects.iter().map(|p| p.2).collect(),
         supervisor_room: supervisors.iter().map(|s| s.1).collect(),
@@ -433,8 +462,8 @@ fn close(db: &Database) {
         lists,
     };
     (0..students.len()).for_each(|student| flow.admit(student));
-    let mut profile = [0; 8];
-    let put = db.prepare("INSERT INTO placement VALUES (?1, ?2, ?3, ?4)");
+    let mut profile = [0; RANKS];
+    let put = db.prepare("INSERT INTO placement12 VALUES (?1, ?2, ?3, ?4)");
     for (student, place) in flow.place.iter().enumerate() {
         if let Some(k) = *place {
             profile[k] += 1;

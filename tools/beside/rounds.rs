@@ -2,7 +2,7 @@
 //! labels of whole numbers in lexicographic order, a binary heap, labels cut at the best end found so far. It reads its text laxly:
 //! neither limits nor the order of lines are tested.
 //!
-//! RANKS in the environment of rustc is the number of places of a list, 8 where it is not set.
+//! RANKS in the environment of rustc is the number of places of a list, 12 where it is not set.
 
 use std::cmp::Reverse;
 use std::collections::{BinaryHeap, HashMap};
@@ -12,7 +12,7 @@ use std::ops::{Add, Sub};
 
 const RANKS: usize = match option_env!("RANKS") {
     Some(text) => number(text.as_bytes(), 0, 0),
-    None => 8,
+    None => 12,
 };
 const fn number(text: &[u8], at: usize, n: usize) -> usize {
     if at == text.len() {

@@ -28,8 +28,11 @@ EXAMPLE = os.path.join(HERE, "..", "..", "examples", "first-round")
 PORT = 18081
 PUT = ["-X", "PUT", "-d", '{"choices":["SYMMETRY","CIPHER"]}', f"http://127.0.0.1:{PORT}/lists/S16"]
 REOPEN = ["-X", "POST", f"http://127.0.0.1:{PORT}/rounds/reopen"]
-# what makes a file of the first edition, in which rounds had no aim, of one of the second
-FIRST_EDITION = "DROP TABLE round_aim; UPDATE edition SET number = 1;"
+# what makes a file of the first edition, in which rounds had no aim and lists eight places at most, of one of the latest
+FIRST_EDITION = """
+    INSERT INTO choice SELECT * FROM choice12; INSERT INTO placement SELECT * FROM placement12; DROP TABLE choice12; DROP TABLE placement12;
+    DROP TABLE round_aim; UPDATE edition SET number = 1;
+"""
 # the words, the request over the one connection that the line serves, and what is done to the file before
 LINES = [
     ("import DB supervisors I1 supervisors.csv", None, ""),

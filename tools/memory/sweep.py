@@ -6,7 +6,7 @@ tools/memory/sweep.py SPADESK [MOST]     needs gcc and sqlite3
 For each allocation (of more than MOST, 400, so many spread evenly) one of these must hold: the line prints what it prints undisturbed,
 and leaves the same rows; or it prints `refused 1: Memory` with status 1, and leaves the rows from before; or nothing could be printed
 at all, since the text of the answer itself found no memory: then the status is 1, and the rows are those from before or after. The rows
-from before are those of the file as it stood, or as it is once it was opened: with tables, of the last edition. A
+from before are those of the file as it stood, or as it is once it was opened: with tables, of the latest edition. A
 database error (`refused 2`) or damage (`refused 30`) is never the word for want of memory.
 """
 import os
@@ -18,8 +18,11 @@ import tempfile
 HERE = os.path.dirname(os.path.abspath(__file__))
 EXAMPLE = os.path.join(HERE, "..", "..", "examples", "first-round")
 OUT_OF_MEMORY = ("", "refused 1: Memory\n", 1)
-# what makes a file of the first edition, in which rounds had no aim, of one of the second
-FIRST_EDITION = "DROP TABLE round_aim; UPDATE edition SET number = 1;"
+# what makes a file of the first edition, in which rounds had no aim and lists eight places at most, of one of the latest
+FIRST_EDITION = """
+    INSERT INTO choice SELECT * FROM choice12; INSERT INTO placement SELECT * FROM placement12; DROP TABLE choice12; DROP TABLE placement12;
+    DROP TABLE round_aim; UPDATE edition SET number = 1;
+"""
 # the words, and what is done to the file before
 LINES = [
     ("import DB supervisors I1 supervisors.csv", ""),

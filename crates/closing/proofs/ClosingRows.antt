@@ -90,6 +90,8 @@ module _ (M : List CodePair) (o : State) (fit : IsFit o) (may : MayClose o M) wh
   closed_at (key.Student code) = others_stay (map (kept o) M) round_put (key.Student code) (λ s. refl)
   closed_at (key.RoundAim n) = others_stay (map (kept o) M) round_put (key.RoundAim n) (λ s. refl)
   closed_at (key.Import id) = others_stay (map (kept o) M) round_put (key.Import id) (λ s. refl)
+  closed_at (key.OldChoice n s place) = others_stay (map (kept o) M) round_put (key.OldChoice n s place) (λ s. refl)
+  closed_at (key.OldPlacement s) = others_stay (map (kept o) M) round_put (key.OldPlacement s) (λ s. refl)
   closed_at (key.Round n) = others_stay (map (kept o) M) round_put (key.Round n) (λ s. refl) ∙ round_turned n
   closed_at (key.Choice round student place) =
       others_stay (map (kept o) M) round_put (key.Choice round student place) (λ s. refl)

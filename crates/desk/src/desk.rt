@@ -87,7 +87,8 @@ fn made(alloc: Global, office: &mut Office, request: Request) -> Result<Done, Re
 
 impl<S: Alter> Desk<S> {
     /// Opens the office that the tables of a database stand for. Where none of the tables is there they are made, and the
-    /// office is the empty one. With a refusal the connection is given back and its database is as before.
+    /// office is the empty one; those of an earlier edition are raised. With a refusal the connection is given back and its
+    /// database is as before.
     pub fn open(
         alloc: Global,
         connection: Connection<S>,
@@ -108,7 +109,7 @@ impl<S: Alter> Desk<S> {
         // Tables that are there and are not listed as they are made here are damaged.
         ensures unlisted { connection.in_transaction ≡ false → (HasNone (state S.Store connection).now.schema → ⊥) → (AreListed (state S.Store connection).now.schema → ⊥) → IsErr result × IfErr result (λ e. e.0 ≡ Refusal.Damaged) }
 
-        // What a crash leaves: what it could leave before, or tables of the empty office where none was there.
+        // What a crash leaves: what it could leave before, tables of the empty office where none was there, or raised tables.
         ensures crash_ok { IfOk result (λ desk. Survives (state S.Store connection) (state S.Store desk.store) (IsLeft Brings (state S.Store connection))) }
         ensures crash_err { IfErr result (λ e. Survives (state S.Store connection) (state S.Store e.1) (IsLeft Brings (state S.Store connection))) }
         ensures alone { IfOk result (λ desk. HasCleanDisk (state S.Store desk.store) → LeavesAlone (state S.Store desk.store)) }

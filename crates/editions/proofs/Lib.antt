@@ -1,2 +1,4 @@
 pub mod RowsMore
+pub mod Swapping
 pub mod Renewing
+pub mod Upgrading

@@ -10,7 +10,6 @@ use Rattle.rolls.specs.declared.row.Change.TheVariants.{Add}
 use Rattle.rolls.specs.Rows.{key_of, same_row, after_change, after_changes}
 use Rattle.rolls.specs.From.{row_in, are_apart}
 use Rattle.rolls.proofs.RowKeys.{same_row_is, same_row_self}
-use Rattle.editions.specs.Editions.{AddedRowsStand}
 
 or_some : (b : Bool) (r : Row) (x y : Option Row) → cond b (Some r) (option_map_or Some x y) ≡ option_map_or Some (cond b (Some r) x) y
 or_some true r x y = refl
@@ -73,13 +72,9 @@ apart_first (x ∷ xs) ys h =
     let none = first_none x (xs ++ ys) h in
     apart_more x xs (left_none (row_in xs (key_of x)) (row_in ys (key_of x)) (sym (in_both xs ys (key_of x)) ∙ none)) (apart_first xs ys (and_parts _ _ h).1)
 
-apart_second : (xs ys : List Row) → are_apart (xs ++ ys) ≡ true → are_apart ys ≡ true
-apart_second [] ys h = h
-apart_second (x ∷ xs) ys h = apart_second xs ys (and_parts _ _ h).1
-
 -- what stands at a key once rows are added
 module _ (k : RowKey) where
-  added : (ys : List Row) (f : RowKey → Option Row) → are_apart ys ≡ true → after_changes (map Add ys) f k ≡ option_map_or Some (row_in ys k) (f k)
+  pub added : (ys : List Row) (f : RowKey → Option Row) → are_apart ys ≡ true → after_changes (map Add ys) f k ≡ option_map_or Some (row_in ys k) (f k)
   added [] f apart = refl
   added (y ∷ ys) f apart =
       added ys (after_change (Add y) f) (and_parts _ _ apart).1
@@ -87,30 +82,3 @@ module _ (k : RowKey) where
         | true ↦ λ is. ap (λ x. option_map_or Some x (Some y)) (ap (row_in ys) (same_row_is k (key_of y) is) ∙ first_none y ys apart)
         | false ↦ λ is. refl
       ] refl
-
--- where only one of two stands, it is found whichever is looked at first
-one_of : (a b : Option Row) → ((r : Row) → b ≡ Some r → a ≡ None) → option_map_or Some b a ≡ option_map_or Some a b
-one_of None None apart = refl
-one_of (Some r) None apart = refl
-one_of None (Some s) apart = refl
-one_of (Some r) (Some s) apart = absurd (let e : Some r ≡ None = apart s refl in cc)
-
--- what is found among the second of rows that are apart is not found among the first
-second_alone : (xs ys : List Row) → are_apart (xs ++ ys) ≡ true → (k : RowKey) (r : Row) → row_in ys k ≡ Some r → row_in xs k ≡ None
-second_alone xs [] apart k r found = cc
-second_alone [] ys apart k r found = refl
-second_alone (x ∷ xs) ys apart k r found =
-    elim (same_row k (key_of x)) as (λ b. same_row k (key_of x) ≡ b → cond b (Some x) (row_in xs k) ≡ None) [
-      | true ↦ λ is.
-          let none : row_in (xs ++ ys) k ≡ None = ap (row_in (xs ++ ys)) (same_row_is k (key_of x) is) ∙ first_none x (xs ++ ys) apart in
-          absurd (never (row_in xs k) (ap (λ z. option_map_or Some (row_in xs k) z) (sym found) ∙ sym (in_both xs ys k) ∙ none))
-      | false ↦ λ is. second_alone xs ys (and_parts _ _ apart).1 k r found
-    ] refl
-  where
-    never : (a : Option Row) → option_map_or Some a (Some r) ≡ None → ⊥
-    never None e = cc
-    never (Some s) e = cc
-
-pub added_stand : AddedRowsStand
-added_stand rows more apart k =
-    added k more (row_in rows) (apart_second rows more apart) ∙ one_of (row_in rows k) (row_in more k) (second_alone rows more apart k) ∙ sym (in_both rows more k)

@@ -28,4 +28,4 @@ pub use round::{RoundFault, RoundParts};
 pub use write::write_round;
 
 /// The longest round text that is read, in bytes.
-pub const MOST_BYTES: usize = 262_144;
+pub const MOST_BYTES: usize = 524_288;

@@ -203,4 +203,6 @@ turns_with o (row.Choice n s p c) form free k =
 turns_with o (row.Placement student round project rank) form free (key.Placement k) = turned placement_key placement_row (record { student = student; round = round; project = project; rank = rank }) o.placements (0, k) (same_parts (k ∷ []) (student ∷ [])) (code_alone k student)
 turns_with o (row.RoundAim round aim) form free (key.RoundAim k) = turned aim_key aim_row (record { round = round; aim = aim }) o.aims (k, []) (same_parts ((k ∷ []) ∷ []) ((round ∷ []) ∷ [])) (number_alone k round)
 turns_with o (row.Import id kind bytes rows) form free (key.Import k) = turned import_key import_row (record { id = id; kind = kind; bytes = bytes; rows = rows }) o.imports (0, k) (same_parts (k ∷ []) (id ∷ [])) (code_alone k id)
+turns_with o (row.OldChoice n s p c) form free k = absurd (let e : false ≡ true = form in cc)
+turns_with o (row.OldPlacement student round project rank) form free k = absurd (let e : false ≡ true = form in cc)
 turns_with o r form free k = refl

@@ -221,6 +221,8 @@ drafted_with o (row.Choice n s p c) form free = drafted_choice o n s p c form
 drafted_with o (row.Placement student round project rank) form free = drafted_placement o student round project rank
 drafted_with o (row.RoundAim round aim) form free = drafted_aim o round aim
 drafted_with o (row.Import id kind bytes rows) form free = drafted_import o id kind bytes rows form
+drafted_with o (row.OldChoice n s p c) form free = absurd (let e : false ≡ true = form in cc)
+drafted_with o (row.OldPlacement student round project rank) form free = absurd (let e : false ≡ true = form in cc)
 
 -- ---- any row
 

@@ -197,3 +197,5 @@ form_of w fit o (row.Choice n s p c) there behind free = form_of_choice w fit o 
 form_of w fit o (row.Placement student round project rank) there behind free = form_of_placement w fit o student round project rank there
 form_of w fit o (row.RoundAim round aim) there behind free = refl
 form_of w fit o (row.Import id kind bytes rows) there behind free = form_of_import w fit o id kind bytes rows there
+form_of w fit o (row.OldChoice n s p c) there behind free = cc
+form_of w fit o (row.OldPlacement student round project rank) there behind free = cc

@@ -7,8 +7,8 @@ ghost use Rattle.loading.specs.Inside.Gathering.{taken_in, choices_among, with_c
 
 use crate::fault::RowsFault;
 use rolls::{
-    Bytes, Choices, Import, ImportKind, Listed, MOST_IMPORT_BYTES, Placement, Project, Round, RoundAim, Row,
-    Student, Supervisor, Table, Text,
+    Bytes, Choices, Import, ImportKind, Listed, MOST_IMPORT_BYTES, Placement, Project, Round,
+    RoundAim, Row, Student, Supervisor, Table, Text,
 };
 use spa::{Aim, Code, Label, MOST_PLACES, RANKS};
 use std::alloc::{AllocError, Global};
@@ -307,6 +307,7 @@ impl Draft {
                 bytes,
                 rows,
             } => self.take_import(id, *kind, bytes, *rows),
+            Row::OldChoice { .. } | Row::OldPlacement { .. } => Err(RowsFault::Unfit),
         }
     }
 }

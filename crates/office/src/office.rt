@@ -19,8 +19,8 @@ ghost use Rattle.row_changes.specs.Changes.{changes_of};
 
 use loading::{RowsFault, gather};
 use rolls::{
-    Done, Import, Placement, Plain, Project, Refusal, Reply, Request, Round, RoundAim, Row, Student,
-    Supervisor, Table,
+    Done, Import, Placement, Plain, Project, Refusal, Reply, Request, Round, RoundAim, Row,
+    Student, Supervisor, Table,
 };
 use std::alloc::{AllocError, Global};
 use std::marker::Model;

@@ -37,6 +37,8 @@ of_table (suc (suc (suc zero))) ((number ∷ _) ∷ _) = key.Round number
 of_table (suc (suc (suc (suc zero)))) ((round ∷ _) ∷ student ∷ (place ∷ _) ∷ _) = key.Choice round student place
 of_table (suc (suc (suc (suc (suc zero))))) (student ∷ _) = key.Placement student
 of_table (suc (suc (suc (suc (suc (suc (suc zero))))))) ((round ∷ _) ∷ _) = key.RoundAim round
+of_table (suc (suc (suc (suc (suc (suc (suc (suc zero)))))))) ((round ∷ _) ∷ student ∷ (place ∷ _) ∷ _) = key.OldChoice round student place
+of_table (suc (suc (suc (suc (suc (suc (suc (suc (suc zero))))))))) (student ∷ _) = key.OldPlacement student
 of_table _ (id ∷ _) = key.Import id
 of_table _ _ = key.Supervisor []
 
@@ -53,6 +55,8 @@ parts_back (key.Choice round student place) = refl
 parts_back (key.Placement student) = refl
 parts_back (key.RoundAim round) = refl
 parts_back (key.Import id) = refl
+parts_back (key.OldChoice round student place) = refl
+parts_back (key.OldPlacement student) = refl
 
 -- keys that are the same are one
 pub same_row_is : (k l : RowKey) → same_row k l ≡ true → k ≡ l

@@ -27,6 +27,8 @@ key_of (row.Choice round student place project) = key.Choice round student place
 key_of (row.Placement student round project rank) = key.Placement student
 key_of (row.RoundAim round aim) = key.RoundAim round
 key_of (row.Import id kind bytes rows) = key.Import id
+key_of (row.OldChoice round student place project) = key.OldChoice round student place
+key_of (row.OldPlacement student round project rank) = key.OldPlacement student
 
 -- the parts of a key: the number of its table first; a number is written as a list of one
 abbrev pub parts_of : RowKey → List (List ℕ)
@@ -38,6 +40,8 @@ parts_of (key.Choice round student place) = (4 ∷ []) ∷ (round ∷ []) ∷ st
 parts_of (key.Placement student) = (5 ∷ []) ∷ student ∷ []
 parts_of (key.RoundAim round) = (7 ∷ []) ∷ (round ∷ []) ∷ []
 parts_of (key.Import id) = (6 ∷ []) ∷ id ∷ []
+parts_of (key.OldChoice round student place) = (8 ∷ []) ∷ (round ∷ []) ∷ student ∷ (place ∷ []) ∷ []
+parts_of (key.OldPlacement student) = (9 ∷ []) ∷ student ∷ []
 
 -- whether two keys have the same parts
 abbrev pub same_parts : List (List ℕ) → List (List ℕ) → Bool
@@ -81,7 +85,7 @@ import_row i = row.Import i.id i.kind i.bytes i.rows
 abbrev pub choice_in : List (List ℕ) → ℕ → Option (List ℕ)
 choice_in choices place = if nat_le 1 place then slice_get choices (place - 1) else None
 
--- the row that an office has at a key
+-- the row that an office has at a key; none has one of the tables of earlier editions
 abbrev pub row_of : State → RowKey → Option Row
 row_of o (key.Supervisor code) = option_map supervisor_row (supervisor_of o code)
 row_of o (key.Project code) = option_map project_row (project_of o code)
@@ -91,6 +95,8 @@ row_of o (key.Choice round student place) = option_map (row.Choice round student
 row_of o (key.Placement student) = option_map placement_row (placement_of o student)
 row_of o (key.RoundAim round) = option_map aim_row (round_aim_of o round)
 row_of o (key.Import id) = option_map import_row (import_of o id)
+row_of o (key.OldChoice round student place) = None
+row_of o (key.OldPlacement student) = None
 
 -- whether a key is of a choice in this student's list in this round
 abbrev pub is_in_list : ℕ → List ℕ → RowKey → Bool

@@ -91,7 +91,7 @@ impl Plain {
 pub enum Request {
     /// One that needs nothing but the office.
     Plain(Plain),
-    /// Closes the open round with a greedy maximum matching of its instance.
+    /// Closes the open round with a matching of its instance that is best by its aim.
     Close,
     /// What closing the open round now would answer.
     Preview,

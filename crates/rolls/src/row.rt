@@ -30,14 +30,14 @@ pub enum Row {
         number: u32,
         is_open: bool,
     },
-    /// Of the table `choice`. Places count from 1.
+    /// Of the table `choice12`. Places count from 1.
     Choice {
         round: u32,
         student: Text,
         place: u32,
         project: Text,
     },
-    /// Of the table `placement`.
+    /// Of the table `placement12`.
     Placement {
         student: Text,
         round: u32,
@@ -56,6 +56,20 @@ pub enum Row {
         bytes: Bytes,
         rows: u32,
     },
+    /// Of the table `choice`, which held the choices of earlier editions of the tables. No office has such a row.
+    OldChoice {
+        round: u32,
+        student: Text,
+        place: u32,
+        project: Text,
+    },
+    /// Of the table `placement`, which held the placements of earlier editions of the tables. No office has such a row.
+    OldPlacement {
+        student: Text,
+        round: u32,
+        project: Text,
+        rank: u32,
+    },
 }
 
 /// The key of a row, and its table.
@@ -69,14 +83,18 @@ pub enum RowKey {
     Student(Text),
     /// A number in the table `round`.
     Round(u32),
-    /// A round, a student's code and a place in the table `choice`.
+    /// A round, a student's code and a place in the table `choice12`.
     Choice(u32, Text, u32),
-    /// A student's code in the table `placement`.
+    /// A student's code in the table `placement12`.
     Placement(Text),
     /// A round's number in the table `round_aim`.
     RoundAim(u32),
     /// An id in the table `import`.
     Import(Text),
+    /// A round, a student's code and a place in the table `choice`.
+    OldChoice(u32, Text, u32),
+    /// A student's code in the table `placement`.
+    OldPlacement(Text),
 }
 
 /// A change of the tables.

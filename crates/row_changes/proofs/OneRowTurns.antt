@@ -64,6 +64,8 @@ supervisor_turned o s (key.Choice n student place) = refl
 supervisor_turned o s (key.Placement student) = refl
 supervisor_turned o s (key.RoundAim n) = refl
 supervisor_turned o s (key.Import id) = refl
+supervisor_turned o s (key.OldChoice n student place) = refl
+supervisor_turned o s (key.OldPlacement student) = refl
 
 pub turns_supervisor : (o : State) (s : Supervisor) → Turns (put_or_added (has_supervisor o s.code) (supervisor_row s) ∷ []) o (with_supervisor o s)
 turns_supervisor o s = record {
@@ -80,6 +82,8 @@ project_turned o p (key.Choice n student place) = refl
 project_turned o p (key.Placement student) = refl
 project_turned o p (key.RoundAim n) = refl
 project_turned o p (key.Import id) = refl
+project_turned o p (key.OldChoice n student place) = refl
+project_turned o p (key.OldPlacement student) = refl
 
 pub turns_project : (o : State) (p : Project) → Turns (put_or_added (has_project o p.code) (project_row p) ∷ []) o (with_project o p)
 turns_project o p = record {
@@ -96,6 +100,8 @@ student_turned o s (key.Choice n student place) = refl
 student_turned o s (key.Placement student) = refl
 student_turned o s (key.RoundAim n) = refl
 student_turned o s (key.Import id) = refl
+student_turned o s (key.OldChoice n student place) = refl
+student_turned o s (key.OldPlacement student) = refl
 
 pub turns_student : (o : State) (s : Student) → Turns (put_or_added (has_student o s.code) (student_row s) ∷ []) o (with_student o s)
 turns_student o s = record {
@@ -112,6 +118,8 @@ import_turned o i (key.Choice n student place) = refl
 import_turned o i (key.Placement student) = refl
 import_turned o i (key.RoundAim n) = refl
 import_turned o i (key.Import id) = turned import_key import_row i o.imports (0, id) _ (code_test id i.id)
+import_turned o i (key.OldChoice n student place) = refl
+import_turned o i (key.OldPlacement student) = refl
 
 pub turns_import : KeepingTurns
 turns_import i o = record {
@@ -144,6 +152,8 @@ turns_opened aim o numbered aimed = record {
     opened (key.Placement student) = refl
     opened (key.RoundAim n) = turned aim_key aim_row (record { round = last_round o + 1; aim = aim }) o.aims (n, []) _ (round_test n (last_round o + 1))
     opened (key.Import id) = refl
+    opened (key.OldChoice n student place) = refl
+    opened (key.OldPlacement student) = refl
 
 -- ---- a list of the last round
 
@@ -204,6 +214,8 @@ module _ (g : List Listed → List Listed) (student : List ℕ) (has : Bool) (ne
   lists_turned (key.Placement s) = elsewhere (key.Placement s) refl
   lists_turned (key.RoundAim n) = elsewhere (key.RoundAim n) refl
   lists_turned (key.Import id) = elsewhere (key.Import id) refl
+  lists_turned (key.OldChoice n s place) = elsewhere (key.OldChoice n s place) refl
+  lists_turned (key.OldPlacement s) = elsewhere (key.OldPlacement s) refl
   lists_turned (key.Choice n s place) = elim (cases_eq n (last_round o)) [
     | inl last ↦ subst (λ m. after_changes changes (row_of o) (key.Choice m s place) ≡ row_of (with_lists g o) (key.Choice m s place)) (sym last) (in_last s place)
     | inr other ↦
@@ -258,6 +270,8 @@ module _ (o : State) (fit : IsFit o) (some : 1 ≤ last_round o) where
   reopened (key.Student code) = stays (last_round o) student_row (λ e. refl) (student_of o code)
   reopened (key.RoundAim n) = stays (last_round o) aim_row (λ e. refl) (round_aim_of o n)
   reopened (key.Import id) = stays (last_round o) import_row (λ e. refl) (import_of o id)
+  reopened (key.OldChoice n s place) = refl
+  reopened (key.OldPlacement s) = refl
   reopened (key.Round n) = ap (unless (is_placement_in (last_round o))) (round_there n) ∙ stays (last_round o) round_row (λ e. refl) (round_of (after_reopening o) n)
   reopened (key.Choice n s place) =
       stays (last_round o) (row.Choice n s place) (λ e. refl) (choice_in (choices_in o n s) place)

@@ -67,7 +67,7 @@ pub const MOST_CODE_BYTES: usize = 16;
 pub const MOST_LABEL_BYTES: usize = 200;
 
 /// The longest list, and so the ranks that a pair can have.
-pub const RANKS: usize = 8;
+pub const RANKS: usize = 12;
 
 /// The places of a worth: the size, and one for each rank.
 pub const PLACES: usize = RANKS + 1;

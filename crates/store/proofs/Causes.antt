@@ -14,7 +14,7 @@ use Rattle.rolls.specs.declared.row.Row.{Row}
 use Rattle.tables.specs.Causes.{IsCausedInside, IsStopped, IsUnread}
 use Rattle.store.specs.Inside.Reading.{ReadsSome}
 use Rattle.editions.specs.declared.Edition.{Edition as AnEdition}
-use Rattle.editions.specs.declared.Edition.TheVariants.{First, Second}
+use Rattle.editions.specs.declared.Edition.TheVariants.{First, Second, Third}
 use Rattle.store.specs.Editions.{beyond, rolls_of}
 use Rattle.store.specs.Rows.{columns, kept, table_of}
 use Rattle.store.proofs.Columns.{has_left}
@@ -52,7 +52,8 @@ hindered_reading table a b among = stopped_as (IsUnread (sql_of table).select) I
 -- the tables of an edition are kept
 is_kept : (e : AnEdition) (table : Table) → Has (rolls_of e) table → Has kept table
 is_kept First table h = inr (has_left (rolls_of First) (beyond First) table h)
-is_kept Second table h = inr h
+is_kept Second table h = inr (has_left (rolls_of Second) (beyond Second) table h)
+is_kept Third table h = inr h
 
 -- one of the tables of an edition cannot be read, where those before it were
 pub table_unread : (e : AnEdition) (tables : List Table) → tables ≡ rolls_of e → (i : ℕ) (rows : List Row) (a b c : Seen) (d : Table) → i < length tables → ReadsSome tables i rows a b → Survives a b (λ _. ⊥) → HasCleanDisk b → b.faults ≤ c.faults

@@ -18,6 +18,8 @@ use Rattle.sqlite_rules.specs.Lists.{Has}
 use Rattle.tables.specs.Table.{Lists, table_at}
 use Rattle.store.specs.Saving.{AddsNew, AllNeed, AreInert, Applies, LeavesOthers, Needs, Saves, Spares}
 use Rattle.store.specs.Inside.Saving.{AppliesOne}
+use Rattle.store.specs.Rows.{table_at_key}
+use Rattle.store.proofs.Columns.{in_rolls}
 
 -- no change applies nothing
 pub applies_none : (db : Database) → Applies [] db db
@@ -55,7 +57,7 @@ all_needed (c ∷ cs) s inert = (one c, all_needed cs s inert)
     one : (c : Change) → Needs c s
     one (Add row) = tt
     one (Put row) = inert
-    one (Take k) = inert
+    one (Take k) = inert (table_at_key k) (in_rolls k)
     one (TakeList n t) = inert
     one (TakePlacements n) = inert
 

@@ -32,7 +32,7 @@ use Rattle.tables.proofs.Runs.{decide_table, same_table_is, same_table_self}
 use Rattle.tables.proofs.KeyTests.{equal_int}
 use Rattle.rolls.proofs.RowKeys.{apart_back, same_row_is}
 use Rattle.editions.specs.declared.Edition.{Edition as AnEdition}
-use Rattle.editions.specs.declared.Edition.TheVariants.{First, Second}
+use Rattle.editions.specs.declared.Edition.TheVariants.{First, Second, Third}
 use Rattle.editions.specs.Editions.{HaveNoLater}
 use Rattle.store.specs.Editions.{beyond, rolls_of}
 use Rattle.store.specs.Rows.{IsAmong, IsRoll, columns, is_in, columns_of, key_columns, list_columns, rolls, round_columns, table_at_key, table_of}
@@ -61,10 +61,12 @@ in_rolls (key.Supervisor code) = inl refl
 in_rolls (key.Project code) = inr (inl refl)
 in_rolls (key.Student code) = inr (inr (inl refl))
 in_rolls (key.Round number) = inr (inr (inr (inl refl)))
-in_rolls (key.Choice round student place) = inr (inr (inr (inr (inl refl))))
-in_rolls (key.Placement student) = inr (inr (inr (inr (inr (inl refl)))))
+in_rolls (key.OldChoice round student place) = inr (inr (inr (inr (inl refl))))
+in_rolls (key.OldPlacement student) = inr (inr (inr (inr (inr (inl refl)))))
 in_rolls (key.Import id) = inr (inr (inr (inr (inr (inr (inl refl))))))
 in_rolls (key.RoundAim round) = inr (inr (inr (inr (inr (inr (inr (inl refl)))))))
+in_rolls (key.Choice round student place) = inr (inr (inr (inr (inr (inr (inr (inr (inl refl))))))))
+in_rolls (key.Placement student) = inr (inr (inr (inr (inr (inr (inr (inr (inr (inl refl)))))))))
 
 unfoldable pub are_once : List Table → Bool
 are_once [] = true
@@ -83,6 +85,7 @@ pub once : (e : AnEdition) → are_once (rolls_of e) ≡ true
 unfolding are_once
 once First = refl
 once Second = refl
+once Third = refl
 
 -- no table comes twice
 pub not_before : (tables : List Table) → are_once tables ≡ true → (d : Table) (i : ℕ) → i < length tables → Has (take i tables) (get_or tables i d) → ⊥
@@ -92,6 +95,7 @@ not_before tables alone d i low h = once_in tables d alone i low h
 pub some_tables : (e : AnEdition) → length (rolls_of e) ≢ 0
 some_tables First none = cc
 some_tables Second none = cc
+some_tables Third none = cc
 
 -- a row in a table is of it
 pub is_of : (table : Table) (r : Row) → is_in table r ≡ true → table ≡ table_of r
@@ -126,6 +130,8 @@ drops_own (key.Round number) (row.Round n o) h = ap (λ t. not (t && true)) (sym
 drops_own (key.Choice round student place) (row.Choice n s k p) h = λ i. not (sym (equal_number n round) i && (sym (equal_text s student) i && (sym (equal_number k place) i && true)))
 drops_own (key.Placement student) (row.Placement s n p k) h = ap (λ t. not (t && true)) (sym (equal_text s student))
 drops_own (key.RoundAim round) (row.RoundAim n a) h = ap (λ t. not (t && true)) (sym (equal_number n round))
+drops_own (key.OldChoice round student place) (row.OldChoice n s k p) h = λ i. not (sym (equal_number n round) i && (sym (equal_text s student) i && (sym (equal_number k place) i && true)))
+drops_own (key.OldPlacement student) (row.OldPlacement s n p k) h = ap (λ t. not (t && true)) (sym (equal_text s student))
 drops_own (key.Import id) (row.Import i w b n) h = ap (λ t. not (t && true)) (sym (equal_text i id))
 drops_own _ _ h = absurd (cc)
 
@@ -297,10 +303,16 @@ has_left (q ∷ tables) more table (inr h) = inr (has_left tables more table h)
 pub fresh_beyond : (e : AnEdition) (table : Table) → Has (beyond e) table → IsAmong (rolls_of e) table → ⊥
 unfolding IsAmong
 fresh_beyond First table (inl is) there = not_among RoundAim (rolls_of First) refl table there is
-fresh_beyond First table (inr h) there = absurd h
-fresh_beyond Second table h there = absurd h
+fresh_beyond First table (inr (inl is)) there = not_among Choice (rolls_of First) refl table there is
+fresh_beyond First table (inr (inr (inl is))) there = not_among Placement (rolls_of First) refl table there is
+fresh_beyond First table (inr (inr (inr h))) there = absurd h
+fresh_beyond Second table (inl is) there = not_among Choice (rolls_of Second) refl table there is
+fresh_beyond Second table (inr (inl is)) there = not_among Placement (rolls_of Second) refl table there is
+fresh_beyond Second table (inr (inr h)) there = absurd h
+fresh_beyond Third table h there = absurd h
 
 -- rows of the tables of an edition alone have none of a later one
 pub none_later : (e : AnEdition) (rows : List Row) → ((table : Table) → (IsAmong (rolls_of e) table → ⊥) → columns_of table rows ≡ []) → HaveNoLater e rows
 none_later First rows none = λ n. none_there (key.RoundAim n) rows (ap (filter (begins_with (key_columns (key.RoundAim n)))) (none RoundAim (fresh_beyond First RoundAim (inl refl))))
 none_later Second rows none = tt
+none_later Third rows none = tt

@@ -24,8 +24,10 @@ use Rattle.rolls.specs.Rows.{key_of, same_row, row_of, supervisor_row, project_r
 use Rattle.rolls.specs.From.{row_in, are_apart}
 use Rattle.tables.specs.declared.table.Table.{Table}
 use Rattle.editions.specs.declared.Edition.{Edition as AnEdition}
-use Rattle.editions.specs.declared.Edition.TheVariants.{First, Second}
-use Rattle.editions.specs.Editions.{row_at}
+use Rattle.editions.specs.declared.Edition.TheVariants.{First, Second, Third}
+use Rattle.editions.specs.Editions.{row_at, swapped, swapped_key}
+use Rattle.editions.proofs.Swapping.{key_swapped, row_twice}
+use Rattle.editions.proofs.Renewing.{by_aim, first_else}
 use Rattle.rolls.specs.declared.row.RowKey.TheVariants as key
 use Rattle.store.specs.Rows.{columns, is_in, columns_of, AreRowsAt}
 use Rattle.store.specs.Inside.Reading.{IsTyped}
@@ -161,22 +163,41 @@ typed_at o fit (row.Import id kind bytes rows) h =
     let i = it.0 in
     let fits = holds_of_found import_key ImportFits (0, id) o.imports i fit.imports.each it.1 in
     subst IsTyped it.2 (code_utf8 i.id fits.id, omega (arith, fits.rows))
+typed_at o fit (row.OldChoice round student place project) h = cc
+typed_at o fit (row.OldPlacement student round project rank) h = cc
 
--- a row that an office has in an edition it has in the last one
-in_last : (e : AnEdition) (o : State) (k : RowKey) (r : Row) → row_at e o k ≡ Some r → row_of o k ≡ Some r
-in_last First o (key.RoundAim n) r h = cc
-in_last First o (key.Supervisor code) r h = h
-in_last First o (key.Project code) r h = h
-in_last First o (key.Student code) r h = h
-in_last First o (key.Round n) r h = h
-in_last First o (key.Choice n s p) r h = h
-in_last First o (key.Placement s) r h = h
-in_last First o (key.Import id) r h = h
-in_last Second o k r h = h
+-- a row is as the program has it where the one by its other name is
+typed_swapped : (r : Row) → IsTyped (swapped r) → IsTyped r
+typed_swapped (row.Supervisor c l q) h = h
+typed_swapped (row.Project c l s q) h = h
+typed_swapped (row.Student c l) h = h
+typed_swapped (row.Round n o) h = h
+typed_swapped (row.Choice n s k p) h = h
+typed_swapped (row.Placement s n p k) h = h
+typed_swapped (row.RoundAim n a) h = h
+typed_swapped (row.Import i k b n) h = h
+typed_swapped (row.OldChoice n s k p) h = h
+typed_swapped (row.OldPlacement s n p k) h = h
+
+-- the row that an office has in the last edition, where it has this one in an earlier one
+unswapped : (o : State) (r : Row) (x : Option Row) → option_map swapped x ≡ Some r → x ≡ Some (swapped r)
+unswapped o r None h = cc
+unswapped o r (Some s) h = ap Some (sym (row_twice s) ∙ ap swapped (let same : swapped s ≡ r = cc in same))
+
+-- a row that an office has in an edition is as the program has it
+typed_second : (o : State) → IsFit o → (r : Row) → row_at Second o (key_of r) ≡ Some r → IsTyped r
+typed_second o fit r h = typed_swapped r (typed_at o fit (swapped r) (ap (row_of o) (key_swapped r) ∙ unswapped o r (row_of o (swapped_key (key_of r))) h))
+
+typed_in : (e : AnEdition) (o : State) → IsFit o → (r : Row) → row_at e o (key_of r) ≡ Some r → IsTyped r
+typed_in Third o fit r h = typed_at o fit r h
+typed_in Second o fit r h = typed_second o fit r h
+typed_in First o fit r h = by_aim (λ k. row_at First o k ≡ Some r → k ≡ key_of r → IsTyped r) (key_of r)
+    (λ n there same. cc)
+    (λ other there same. typed_second o fit r (sym (first_else o (key_of r) other) ∙ there)) h refl
 
 -- each row of a fit office has UTF-8 texts and a small quota
 pub is_typed : (e : AnEdition) (o : State) (list : List Row) (r : Row) → IsFit o → AreRowsAt list (row_at e o) → Has list r → IsTyped r
-is_typed e o list r fit at h = typed_at o fit r (in_last e o (key_of r) r (sym (at.each (key_of r)) ∙ row_stands list r at.apart h))
+is_typed e o list r fit at h = typed_in e o fit r (sym (at.each (key_of r)) ∙ row_stands list r at.apart h)
 
 filtered_go : (p : Row → Bool) (s r : Row) (rest : List Row) (b : Bool) → p s ≡ b → (Has (filter p rest) r → Has rest r × (p r ≡ true)) → Has (cond b (s ∷ filter p rest) (filter p rest)) r → Has (s ∷ rest) r × (p r ≡ true)
 filtered_go p s r rest true is later (inl same) = (inl same, ap p same ∙ is)

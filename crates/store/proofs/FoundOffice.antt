@@ -1,41 +1,72 @@
 -- The office of rows that were read in an edition, and the changes that raise its tables.
-use Rattle.std.proofs.Common.{◌≡◌, cond, List, [], ◌∷◌, ◌++◌, map, Option, Some, sym, ap, ◌∙◌}
+use Rattle.std.proofs.Common.{◌≡◌, Bool, true, false, cond, List, [], ◌∷◌, ◌++◌, map, filter, Option, inl, inr, refl, ◌∙◌}
 use Rattle.sqlite.specs.Effect.{Database}
+use Rattle.sqlite.specs.Schema.{Schema}
 use Rattle.sqlite.specs.State.{State as Seen}
 use Rattle.rolls.specs.declared.row.Row.{Row}
+use Rattle.rolls.specs.declared.row.Row.TheVariants as row
 use Rattle.rolls.specs.declared.row.RowKey.{RowKey}
+use Rattle.rolls.specs.declared.row.Change.{Change}
 use Rattle.rolls.specs.declared.row.Change.TheVariants.{Add}
 use Rattle.rolls.specs.Fit.{IsFit}
 use Rattle.rolls.specs.From as from
 use Rattle.rolls.specs.From.{row_in}
-use Rattle.rolls.specs.Rows.{key_of, same_row, row_of, after_change, after_changes}
 use Rattle.rolls.specs.State.{State}
 use Rattle.editions.specs.declared.Edition.{Edition as AnEdition}
-use Rattle.editions.specs.Editions.{AddedRowsStand, Renews, more_rows, row_at}
-use Rattle.store.specs.Editions.{number_of, rolls_of}
-use Rattle.store.specs.Inside.Raising.{NeedNothing}
+use Rattle.editions.specs.declared.Edition.TheVariants.{First, Second, Third}
+use Rattle.editions.specs.Editions.{Renews, Upgrades, aims_of, is_old, moves, renewed, row_at, swapped, taken, upgrade}
+use Rattle.tables.specs.declared.table.Table.TheVariants.{OldChoice, OldPlacement}
+use Rattle.store.specs.Editions.{number_of, raised, rolls_of}
+use Rattle.store.specs.Rows.{IsAmong, table_of}
+use Rattle.store.specs.Saving.{AllNeed, AreLeftAmong, IsLeftAlone}
+use Rattle.store.specs.Inside.Raising.{AskRaised}
 use Rattle.store.specs.Inside.Reading.{Finds, HoldsRows}
 use Rattle.store.proofs.Standing.{hold_same}
 
--- rows that are added leave the same where the same stood
-same_added : (more : List Row) (f g : RowKey → Option Row) → ((k : RowKey) → f k ≡ g k) → (k : RowKey) → after_changes (map Add more) f k ≡ after_changes (map Add more) g k
-same_added [] f g same k = same k
-same_added (r ∷ more) f g same k = same_added more (after_change (Add r) f) (after_change (Add r) g) (λ k. ap (λ x. cond (same_row k (key_of r)) (Some r) x) (same k)) k
+-- ---- what the changes of an upgrade ask of the schema
 
--- they ask nothing of the schema
-adds_need_nothing : (more : List Row) → NeedNothing (map Add more)
-adds_need_nothing [] schema = tt
-adds_need_nothing (r ∷ more) schema = (tt, adds_need_nothing more schema)
+-- a row of earlier editions is of a table of which rows are taken out
+taken_asks : (schema : Schema) → AreLeftAmong raised schema → (r : Row) → is_old r ≡ true → IsLeftAlone (table_of r) schema
+unfolding IsAmong
+taken_asks schema left (row.OldChoice n s p c) is = left OldChoice (inr (inl refl))
+taken_asks schema left (row.OldPlacement s n c k) is = left OldPlacement (inr (inr (inl refl)))
+taken_asks schema left _ is = absurd (cc)
 
-pub found_in : Renews → AddedRowsStand → (e : AnEdition) (rows : List Row) (office : State) (old new : Seen) → HoldsRows e rows old new → IsFit office → from.AreRowsOf (rows ++ more_rows e rows) office
-    → Finds e office (map Add (more_rows e rows)) old new
-found_in renews stand e rows office old new h fit of =
+module _ (schema : Schema) (left : AreLeftAmong raised schema) where
+  takes_by : (r : Row) (rows : List Row) → AllNeed (map taken (filter is_old rows)) schema → (b : Bool) → is_old r ≡ b → AllNeed (map taken (cond b (r ∷ filter is_old rows) (filter is_old rows))) schema
+  takes_by r rows rest true is = (taken_asks schema left r is, rest)
+  takes_by r rows rest false is = rest
+
+  takes_ask : (rows : List Row) → AllNeed (map taken (filter is_old rows)) schema
+  takes_ask [] = tt
+  takes_ask (r ∷ rows) = takes_by r rows (takes_ask rows) (is_old r) refl
+
+  adds_ask : (rows : List Row) → AllNeed (map Add rows) schema
+  adds_ask [] = tt
+  adds_ask (r ∷ rows) = (tt, adds_ask rows)
+
+  both_ask : (xs ys : List Change) → AllNeed xs schema → AllNeed ys schema → AllNeed (xs ++ ys) schema
+  both_ask [] ys p q = q
+  both_ask (x ∷ xs) ys p q = (p.0, both_ask xs ys p.1 q)
+
+  moves_ask : (rows more : List Row) → AllNeed (moves rows more) schema
+  moves_ask rows more = both_ask (map taken (filter is_old rows)) (map Add (map swapped (filter is_old rows) ++ more)) (takes_ask rows) (adds_ask (map swapped (filter is_old rows) ++ more))
+
+upgrade_asks : (e : AnEdition) (rows : List Row) → AskRaised (upgrade e rows)
+upgrade_asks First rows schema left = moves_ask schema left rows (aims_of rows)
+upgrade_asks Second rows schema left = moves_ask schema left rows []
+upgrade_asks Third rows schema left = tt
+
+-- the office of the rows that were read, and what raises them
+pub found_in : Renews → Upgrades → (e : AnEdition) (rows : List Row) (office : State) (old new : Seen) → HoldsRows e rows old new → IsFit office → from.AreRowsOf (renewed e rows) office
+    → Finds e office (upgrade e rows) old new
+found_in renews upgrades e rows office old new h fit of =
     let in_it = (renews e rows office h.none_later fit).1 of in
     record {
       same = h.same;
       holds = hold_same (rolls_of e) (number_of e) old.now (row_in rows) (row_at e office) in_it.each (h.holds in_it.apart);
       allowed = in_it.allowed;
       fit = fit;
-      nothing = adds_need_nothing (more_rows e rows);
-      turned = λ k. same_added (more_rows e rows) (row_at e office) (row_in rows) (λ k. sym (in_it.each k)) k ∙ stand rows (more_rows e rows) of.apart k ∙ of.each k;
+      asks = upgrade_asks e rows;
+      turned = upgrades e rows office fit in_it;
     }

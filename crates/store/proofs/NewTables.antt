@@ -43,7 +43,7 @@ no_rows = record { apart = refl; each = no_row }
 
 -- no table was made yet
 pub made_none : (s : Seen) → Stays (MakesTables []) s s
-made_none s = stays_none (MakesTables []) s (record { places = λ table. record { tree = 0; rules = rules_of table }; ruled = λ table h. absurd h; stand = λ table h. absurd h; apart = λ a b h. absurd h; others = λ t listed. (listed, refl, λ table h. absurd h) })
+made_none s = stays_none (MakesTables []) s (record { places = λ table. record { tree = 0; rules = rules_of table }; ruled = λ table h. absurd h; stand = λ table h. absurd h; apart = λ a b h. absurd h; others = λ t listed. (listed, refl, λ table h. absurd h); quiet = λ t listed acts. acts })
 
 module _ (done : List Table) (q : Table) (a b c : Database) (m : MakesTables done a b) (n : Makes (table_at q) (rules_of q) [] b c) where
   -- where a table stands: the last one at its new place
@@ -91,6 +91,7 @@ module _ (done : List Table) (q : Table) (a b c : Database) (m : MakesTables don
         let was = m.others t listed in
         let is = n.others t was.0 in
         (is.0, is.1 ∙ was.1, λ table. other_at t is.2 was.2 table (decide_table table q));
+    quiet = λ t listed acts. m.quiet t listed (n.quiet t (m.others t listed).0 acts);
   }
 
 -- the same of the statements that make them

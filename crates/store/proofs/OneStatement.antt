@@ -21,7 +21,7 @@ use Rattle.store.specs.Tables.{TablesHold, numbered}
 use Rattle.sqlite_rules.proofs.ListLemmas.{all_has}
 use Rattle.store.specs.Inside.Saving.{AppliesOne, Enters, entering}
 use Rattle.sqlite.specs.Schema.{Schema}
-use Rattle.store.specs.Saving.{AreInert, Needs, Spares}
+use Rattle.store.specs.Saving.{IsLeftAlone, Needs, Spares}
 use Rattle.store.specs.declared.saving.Way.{Way}
 use Rattle.store.specs.declared.saving.Way.TheVariants.{InPlace, New}
 use Rattle.store.proofs.Keys.{dropped, left, rows_left, rows_put, rows_taken}
@@ -103,12 +103,12 @@ hold_enter InPlace r old new = hold_put r old new
 hold_enter New r old new = hold_add r old new
 
 -- rows that were taken out of one table
-module _ (c : Change) (inert_where : (s : Schema) → Needs c s → AreInert s) (q : Table) (kept : IsRoll q) (goes : Row → Bool) (found : Cells → Bool) (leave : Leave q goes found)
+module _ (c : Change) (q : Table) (kept : IsRoll q) (left_where : (s : Schema) → Needs c s → IsLeftAlone q s) (goes : Row → Bool) (found : Cells → Bool) (leave : Leave q goes found)
     (rows_after : (list : List Row) (rows : RowKey → Option Row) → AreRowsAt list rows → AreRowsAt (left goes list) (after_change c rows)) (fresh : (rows : RowKey → Option Row) → IsFresh c rows) where
   hold_left : (old new : Database) → Removes (table_at q) found old new → AppliesOne c old new
   unfolding AppliesOne Removes
   hold_left old new removes need rows t =
-      let done = removes (t.places q) (columns_of q t.list) (inert_where old.schema need q kept (t.places q) (t.rolls q kept).listed) (t.rolls q kept) in (
+      let done = removes (t.places q) (columns_of q t.list) (left_where old.schema need (t.places q) (t.rolls q kept).listed) (t.rolls q kept) in (
         held_by old new rows t q kept done.1 (left goes t.list) (filter (λ v. not (found v)) (columns_of q t.list)) _ (rows_after t.list rows t.at) done.0 (columns_there q goes found leave t.list) (columns_elsewhere q goes found leave t.list),
         spared old new rows t q kept done.1,
         fresh rows,
@@ -116,12 +116,12 @@ module _ (c : Change) (inert_where : (s : Schema) → Needs c s → AreInert s) 
 
 -- the row with a key
 pub hold_take : (k : RowKey) (old new : Database) → Removes (table_at (table_at_key k)) (begins_with (key_columns k)) old new → AppliesOne (Take k) old new
-hold_take k = hold_left (Take k) (λ s h. h) (table_at_key k) (in_rolls k) _ _ (key_leaves k) (rows_taken (λ l. same_row l k)) (λ rows. tt)
+hold_take k = hold_left (Take k) (table_at_key k) (in_rolls k) (λ s h. h) _ _ (key_leaves k) (rows_taken (λ l. same_row l k)) (λ rows. tt)
 
 -- a list
 pub hold_list : (round : ℕ) (student : List ℕ) (old new : Database) → Removes (table_at Choice) (begins_with (list_columns round student)) old new → AppliesOne (TakeList round student) old new
-hold_list round student = hold_left (TakeList round student) (λ s h. h) Choice (in_rolls (key.Choice round student 0)) _ _ (list_leaves round student) (rows_taken (is_in_list round student)) (λ rows. tt)
+hold_list round student = hold_left (TakeList round student) Choice (in_rolls (key.Choice round student 0)) (λ s h. h Choice (in_rolls (key.Choice round student 0))) _ _ (list_leaves round student) (rows_taken (is_in_list round student)) (λ rows. tt)
 
 -- the placements of a round
 pub hold_placed : (round : ℕ) (old new : Database) → Removes (table_at Placement) (goes_on 1 (round_columns round)) old new → AppliesOne (TakePlacements round) old new
-hold_placed round = hold_left (TakePlacements round) (λ s h. h) Placement (in_rolls (key.Placement [])) _ _ (placements_leave round) (rows_left (is_placement_in round)) (λ rows. tt)
+hold_placed round = hold_left (TakePlacements round) Placement (in_rolls (key.Placement [])) (λ s h. h Placement (in_rolls (key.Placement []))) _ _ (placements_leave round) (rows_left (is_placement_in round)) (λ rows. tt)

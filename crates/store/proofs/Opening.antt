@@ -1,5 +1,5 @@
 -- What comes of an opening: the office that was read, in the latest edition or raised to it.
-use Rattle.std.proofs.Common.{◌≡◌, ◌≢◌, Result, Ok, Err, OnErr, List, inl, inr, refl, sym, subst, ◌∙◌, arith}
+use Rattle.std.proofs.Common.{◌≡◌, ◌≢◌, ◌<◌, Result, Ok, Err, OnErr, List, inl, inr, refl, sym, subst, ◌∙◌, arith}
 use Rattle.sqlite.specs.State.{State as Seen, HasCleanDisk, IsUnchanged, Survives}
 use Rattle.sqlite.specs.Effect.{Database}
 use Rattle.sqlite.specs.Tree.{Trees}
@@ -7,12 +7,12 @@ use Rattle.sqlite.proofs.StateLemmas.{survives_then}
 use Rattle.rolls.specs.declared.row.Change.{Change}
 use Rattle.rolls.specs.State.{State}
 use Rattle.editions.specs.declared.Edition.{Edition as AnEdition}
-use Rattle.editions.specs.declared.Edition.TheVariants.{First, Second}
+use Rattle.editions.specs.declared.Edition.TheVariants.{First, Second, Third}
 use Rattle.editions.specs.Editions.{row_at}
 use Rattle.tables.specs.Steps.{HasSaved, IsKept, IsLeft}
 use Rattle.store.specs.Editions.{IsEarlier, beyond, latest, number_of, rolls_of}
 use Rattle.store.specs.Reading.{IsDamaged, IsUnfitIn}
-use Rattle.store.specs.Tables.{Brings, HasNoneOf, HoldIn, Opens, Raises}
+use Rattle.store.specs.Tables.{Brings, HasNoneOf, HoldIn, Opens, Raises, StandsIn}
 use Rattle.store.specs.Inside.Raising.{Rises}
 use Rattle.store.specs.Inside.Reading.{Finds}
 use Rattle.store.proofs.Standing.{hold_same}
@@ -21,7 +21,8 @@ use Rattle.store.proofs.SameTrees.{not_beyond, one_or_apart}
 -- an edition that is not the latest is an earlier one
 pub earlier_of : (e : AnEdition) → e ≢ latest → IsEarlier e
 earlier_of First other = tt
-earlier_of Second other = absurd (other refl)
+earlier_of Second other = tt
+earlier_of Third other = absurd (other refl)
 
 -- tables of the latest edition were read
 pub opens_found : (e : AnEdition) (office : State) (changes : List Change) (old new : Seen) → e ≡ latest → Finds e office changes old new → Opens old.now new.now office
@@ -32,7 +33,7 @@ module _ (e : AnEdition) (office : State) (changes : List Change) (old mid : See
   raised : (db : Database) → Rises e changes mid.now db → Raises old.now db office
   unfolding Rises
   raised db rises =
-      let done = rises found.nothing (row_at e office) (subst (λ it. HoldIn e it (row_at e office)) (sym found.same.0.now_is) found.holds) in
+      let done = rises found.asks (row_at e office) (subst (λ it. HoldIn e it (row_at e office)) (sym found.same.0.now_is) found.holds) in
       record {
         edition = e;
         earlier = earlier;
@@ -68,12 +69,9 @@ on_err (Ok a) P p = tt
 on_err (Err e) P p = p
 
 -- tables that stand for no fit office in the edition that is there stand for none in any
-pub unfit_all : (e : AnEdition) (db : Database) → HasNoneOf (beyond e) db.schema → (e ≢ First → HasNoneOf (beyond First) db.schema → ⊥) → IsUnfitIn e db → IsDamaged db
-unfit_all First db alone later unfit First office fit stands = unfit office fit stands
-unfit_all First db alone later unfit Second office fit stands = elim (one_or_apart Second First) [
-  | inl same ↦ absurd (cc)
-  | inr (inl apart) ↦ not_beyond Second First db (row_at Second office) stands.holds apart alone
-  | inr (inr apart) ↦ absurd (apart.2)
+pub unfit_all : (e : AnEdition) (db : Database) → HasNoneOf (beyond e) db.schema → ((f : AnEdition) → number_of f < number_of e → HasNoneOf (beyond f) db.schema → ⊥) → IsUnfitIn e db → IsDamaged db
+unfit_all e db alone later unfit f office fit stands = elim (one_or_apart e f) [
+  | inl same ↦ unfit office fit (subst (λ it. StandsIn it db office) (sym same) stands)
+  | inr (inl apart) ↦ later f apart.later stands.alone
+  | inr (inr apart) ↦ not_beyond f e db (row_at f office) stands.holds apart alone
 ]
-unfit_all Second db alone later unfit First office fit stands = later (λ e. cc) stands.alone
-unfit_all Second db alone later unfit Second office fit stands = unfit office fit stands

@@ -20,7 +20,7 @@ use Rattle.spa.specs.declared.aim.Aim.TheVariants.{Greedy, Generous}
 use Rattle.rolls.specs.declared.import.ImportKind.{ImportKind}
 use Rattle.rolls.specs.declared.import.ImportKind.TheVariants as kind
 use Rattle.tables.specs.declared.table.Table.{Table}
-use Rattle.tables.specs.declared.table.Table.TheVariants.{Supervisor, Project, Student, Round, Choice, Placement, RoundAim}
+use Rattle.tables.specs.declared.table.Table.TheVariants.{Supervisor, Project, Student, Round, OldChoice, OldPlacement, RoundAim, Choice, Placement}
 use Rattle.store.specs.Editions.{latest}
 use Rattle.store.specs.Rows.{IsAmong, IsRoll, columns, is_in, columns_of, rolls, table_of, AreRowsAt}
 use Rattle.tables.specs.Table.{same_table}
@@ -145,6 +145,8 @@ row_from Student v = row.Student (text_in (column v 0)) (text_in (column v 1))
 row_from Round v = row.Round (number_in (column v 0)) (number_in (column v 1) == 1)
 row_from Choice v = row.Choice (number_in (column v 0)) (text_in (column v 1)) (number_in (column v 2)) (text_in (column v 3))
 row_from Placement v = row.Placement (text_in (column v 0)) (number_in (column v 1)) (text_in (column v 2)) (number_in (column v 3))
+row_from OldChoice v = row.OldChoice (number_in (column v 0)) (text_in (column v 1)) (number_in (column v 2)) (text_in (column v 3))
+row_from OldPlacement v = row.OldPlacement (text_in (column v 0)) (number_in (column v 1)) (text_in (column v 2)) (number_in (column v 3))
 row_from RoundAim v = row.RoundAim (number_in (column v 0)) (cond (number_in (column v 1) == 1) Generous Greedy)
 row_from _ v = row.Import (text_in (column v 0)) (kind_in (text_in (column v 1))) (blob_in (column v 2)) (number_in (column v 3))
 
@@ -157,6 +159,8 @@ own_columns (row.Round n true) = refl
 own_columns (row.Round n false) = refl
 own_columns (row.Choice n s k p) = refl
 own_columns (row.Placement s n p k) = refl
+own_columns (row.OldChoice n s k p) = refl
+own_columns (row.OldPlacement s n p k) = refl
 own_columns (row.RoundAim n Greedy) = refl
 own_columns (row.RoundAim n Generous) = refl
 own_columns (row.Import i kind.Supervisors b n) = refl

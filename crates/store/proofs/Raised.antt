@@ -1,5 +1,5 @@
 -- Tables of an earlier edition are raised: the number is another, tables come beside those that stand, and rows are added.
-use Rattle.std.proofs.Common.{◌≡◌, ◌≢◌, IsTrue, arith, ◌⊎◌, inl, inr, ℕ, ℤ, pos, Bool, true, false, not, cond, Some, List, [], ◌∷◌, ◌++◌, Option, refl, sym, ap, subst, ◌∙◌}
+use Rattle.std.proofs.Common.{◌≡◌, ◌≢◌, ◌↔◌, IsTrue, arith, ◌⊎◌, inl, inr, ℕ, ℤ, pos, Bool, true, false, not, cond, Some, List, [], ◌∷◌, ◌++◌, Option, refl, sym, ap, subst, ◌∙◌, true≢false}
 use Rattle.std.specs.Prelude.{◌&&◌}
 use Rattle.sqlite.specs.declared.types.Value.TheVariants.{Int}
 use Rattle.sqlite.specs.Collation.TheVariants.{Binary}
@@ -15,21 +15,23 @@ use Rattle.rolls.specs.declared.row.Row.{Row}
 use Rattle.rolls.specs.declared.row.RowKey.{RowKey}
 use Rattle.rolls.specs.declared.row.Change.{Change}
 use Rattle.editions.specs.declared.Edition.{Edition as AnEdition}
-use Rattle.editions.specs.declared.Edition.TheVariants.{First, Second}
+use Rattle.editions.specs.declared.Edition.TheVariants.{First, Second, Third}
 use Rattle.tables.specs.declared.table.Table.{Table}
-use Rattle.tables.specs.declared.table.Table.TheVariants.{Edition}
+use Rattle.tables.specs.declared.table.Table.TheVariants.{Edition, OldChoice, OldPlacement}
 use Rattle.tables.specs.Table.{Place, Lists, table_at}
+use Rattle.tables.specs.Inert.{IsActedOn}
 use Rattle.tables.specs.Keyed.{Stands}
+use Rattle.tables.proofs.Quiet.{inert_so}
 use Rattle.tables.specs.Causes.{IsStopped}
 use Rattle.tables.proofs.Causes.{stopped_before}
 use Rattle.tables.specs.Inside.Steps.{Stays}
 use Rattle.tables.specs.Steps.{HasStepped}
 use Rattle.tables.specs.Writes.{Puts, with_row}
-use Rattle.tables.proofs.Runs.{listed_once, stands_kept, stands_apart, stepped_as}
+use Rattle.tables.proofs.Runs.{listed_at_one, listed_once, stands_kept, stands_apart, stepped_as}
 use Rattle.store.specs.Causes.{latest_number}
-use Rattle.store.specs.Editions.{beyond, latest, number_of, rolls_of}
+use Rattle.store.specs.Editions.{beyond, latest, number_of, raised, rolls_of}
 use Rattle.store.specs.Rows.{IsAmong, columns_of, rolls}
-use Rattle.store.specs.Saving.{Applies, IsLeftAlone}
+use Rattle.store.specs.Saving.{Applies, AreActedOnAmong, AreLeftAmong, IsLeftAlone}
 use Rattle.store.specs.Tables.{AreRuledAmong, HoldIn, MakesTables, TablesHold, TablesOf, numbered}
 use Rattle.store.specs.Inside.Raising.{Extends, Lifts, Rises}
 use Rattle.store.proofs.Standing.{stand_as}
@@ -103,13 +105,50 @@ made_ruled tables old new m table among place listed =
 one_row : (n m : ℕ) → with_row (Int (pos 1) ∷ []) (Int (pos 1) ∷ Int (pos m) ∷ []) (numbered n) ≡ numbered m
 one_row n m = ap (λ (b : Bool). (Int (pos 1) ∷ Int (pos m) ∷ []) ∷ cond (not (b && true)) (numbered n) []) (int_self (pos 1))
 
+-- the tables with another number, under the same schema
 other_number : (tables : List Table) (number other : ℕ) (rows : RowKey → Option Row) (old new : Database) → IsLeftAlone Edition old.schema → TablesOf tables number old rows
-    → Puts (table_at Edition) (Int (pos 1) ∷ []) (Int (pos 1) ∷ Int (pos other) ∷ []) old new → TablesOf tables other new rows
+    → Puts (table_at Edition) (Int (pos 1) ∷ []) (Int (pos 1) ∷ Int (pos other) ∷ []) old new → TablesOf tables other new rows × (new.schema ≡ old.schema)
 unfolding Puts
 other_number tables number other rows old new alone t puts =
-    let done = puts t.edition (numbered number) (alone t.edition t.editions.listed) t.editions in
-    stand_as tables number other old new rows rows t (λ k. refl) (subst (λ held. Stands (table_at Edition) t.edition held new) (one_row number other) done.0)
-    (λ table h. stands_apart (table_at table) (t.places table) refl (columns_of table t.list) t.edition.tree old new (t.edition_apart table h) done.1 (t.rolls table h))
+    let done = puts t.edition (numbered number) (alone t.edition t.editions.listed) t.editions in (
+      stand_as tables number other old new rows rows t (λ k. refl) (subst (λ held. Stands (table_at Edition) t.edition held new) (one_row number other) done.0)
+          (λ table h. stands_apart (table_at table) (t.places table) refl (columns_of table t.list) t.edition.tree old new (t.edition_apart table h) done.1 (t.rolls table h)),
+      done.1.schema,
+    )
+
+-- ---- tables on which no foreign key acts
+
+-- tables on which none acts are left alone
+pub left_so : (tables : List Table) (schema : Schema) → (AreActedOnAmong tables schema → ⊥) → AreLeftAmong tables schema
+left_so tables schema none table among place listed = inert_so schema place.tree (λ acts. none (table, among, (place, listed, acts)))
+
+-- those of which rows are replaced or taken out are there in each edition
+old_choices : (e : AnEdition) → IsAmong (rolls_of e) OldChoice
+unfolding IsAmong
+old_choices First = inr (inr (inr (inr (inl refl))))
+old_choices Second = inr (inr (inr (inr (inl refl))))
+old_choices Third = inr (inr (inr (inr (inl refl))))
+
+old_placements : (e : AnEdition) → IsAmong (rolls_of e) OldPlacement
+unfolding IsAmong
+old_placements First = inr (inr (inr (inr (inr (inl refl)))))
+old_placements Second = inr (inr (inr (inr (inr (inl refl)))))
+old_placements Third = inr (inr (inr (inr (inr (inl refl)))))
+
+module _ (e : AnEdition) (number : ℕ) (rows : RowKey → Option Row) (old new : Database) (t : TablesOf (rolls_of e) number old rows) (m : MakesTables (beyond e) old new) where
+  stood : (table : Table) → IsAmong raised table → (place : Place) × Lists old.schema (table_at table place)
+  unfolding IsAmong
+  stood table (inl is) = (t.edition, subst (λ it. Lists old.schema (table_at it t.edition)) (sym is) t.editions.listed)
+  stood table (inr (inl is)) = (t.places OldChoice, subst (λ it. Lists old.schema (table_at it (t.places OldChoice))) (sym is) (t.rolls OldChoice (old_choices e)).listed)
+  stood table (inr (inr (inl is))) = (t.places OldPlacement, subst (λ it. Lists old.schema (table_at it (t.places OldPlacement))) (sym is) (t.rolls OldPlacement (old_placements e)).listed)
+  stood table (inr (inr (inr none))) = absurd none
+
+  -- where none acted before tables were made, none acts then
+  pub quiet_then : (AreActedOnAmong raised old.schema → ⊥) → AreActedOnAmong raised new.schema → ⊥
+  quiet_then none acted =
+      let was = stood acted.0 acted.1 in
+      let same : acted.2.0.tree ≡ was.0.tree = listed_at_one acted.0 new.schema acted.2.0 was.0 acted.2.1 (m.others (table_at acted.0 was.0) was.1).0 in
+      none (acted.0, acted.1, (was.0, was.1, m.quiet (table_at acted.0 was.0) was.1 (subst (IsActedOn new.schema.tables) same acted.2.2)))
 
 -- ---- one after the other
 
@@ -117,17 +156,20 @@ other_number tables number other rows old new alone t puts =
 all_rolls : (e : AnEdition) → rolls_of e ++ beyond e ≡ rolls
 all_rolls First = refl
 all_rolls Second = refl
+all_rolls Third = refl
 
 extends : (e : AnEdition) (changes : List Change) (a b c : Database) → MakesTables (beyond e) a b → Applies changes b c → Extends e changes a c
 unfolding Extends Applies
-extends e changes a b c made applied nothing rows t =
+extends e changes a b c made applied asks none rows t =
     let all : TablesHold b rows = subst (λ tables. TablesOf tables (number_of latest) b rows) (all_rolls e) (more_tables (rolls_of e) (beyond e) (number_of latest) rows a b (fresh_beyond e) t made) in
-    let done = applied (nothing b.schema) rows all in
+    let done = applied (asks b.schema (left_so raised b.schema (quiet_then e (number_of latest) rows a b t made none))) rows all in
     (done.0, subst (AreRuledAmong (beyond e)) (sym done.1.schema) (made_ruled (beyond e) a b made))
 
 lifts : (e : AnEdition) (changes : List Change) (a b c : Database) → Puts (table_at Edition) (Int (pos 1) ∷ []) latest_number a b → Extends e changes b c → Lifts e changes a c
 unfolding Extends Rises Lifts
-lifts e changes a b c puts extended alone nothing rows t = extended nothing rows (other_number (rolls_of e) (number_of e) (number_of latest) rows a b alone t puts)
+lifts e changes a b c puts extended none asks rows t =
+    let done = other_number (rolls_of e) (number_of e) (number_of latest) rows a b (left_so raised a.schema none Edition (is_among raised Edition (inl refl))) t puts in
+    extended asks (λ acted. none (subst (AreActedOnAmong raised) done.1 acted)) rows done.0
 
 -- runs of statements, one after another
 pub extends_by : (e : AnEdition) (changes : List Change) (a b c : Seen) → Stays (MakesTables (beyond e)) a b → Stays (Applies changes) b c → Stays (Extends e changes) a c
@@ -148,13 +190,17 @@ lifts_by e changes a b c p q = record {
 }
 
 -- a transaction that has begun has the schema that was there
-pub begun_alone : (first begun : Seen) → begun ≡ record first { in_transaction = true } → IsLeftAlone Edition first.now.schema → IsLeftAlone Edition begun.now.schema
-begun_alone first begun begins alone = subst (λ (s : Seen). IsLeftAlone Edition s.now.schema) (sym begins) alone
+pub begun_quiet : (first begun : Seen) → begun ≡ record first { in_transaction = true } → (AreActedOnAmong raised first.now.schema → ⊥) → AreActedOnAmong raised begun.now.schema → ⊥
+begun_quiet first begun begins none = subst (λ (s : Seen). AreActedOnAmong raised s.now.schema → ⊥) (sym begins) none
 
--- where no foreign key acts on the number
-pub rises_by : (e : AnEdition) (changes : List Change) (a b : Seen) → IsLeftAlone Edition a.now.schema → HasStepped (Lifts e changes) a b → HasStepped (Rises e changes) a b
+-- tables that pass the test are not acted on
+pub none_acts : (b : Bool) (schema : Schema) → b ≡ true → (b ≡ false) ↔ AreActedOnAmong raised schema → AreActedOnAmong raised schema → ⊥
+none_acts b schema passes exact acted = true≢false (sym passes ∙ exact.1 acted)
+
+-- where no foreign key acts on the tables of which rows are replaced or taken out
+pub rises_by : (e : AnEdition) (changes : List Change) (a b : Seen) → (AreActedOnAmong raised a.now.schema → ⊥) → HasStepped (Lifts e changes) a b → HasStepped (Rises e changes) a b
 unfolding Lifts
-rises_by e changes a b alone p = stepped_as (Lifts e changes) (Rises e changes) a b (λ lifted. lifted alone) p
+rises_by e changes a b none p = stepped_as (Lifts e changes) (Rises e changes) a b (λ lifted. lifted none) p
 
 -- a call in a transaction that was stopped, which is then dropped
 pub stopped_within : (H : Option ℕ → Database → Type 0) (first begun mid last : Seen) → begun ≡ record first { in_transaction = true } → (HasCleanDisk mid → IsStopped H begun mid) → Survives mid last (λ _. ⊥) → HasCleanDisk last → IsStopped H first last

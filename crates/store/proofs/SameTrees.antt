@@ -1,5 +1,5 @@
 -- Two databases with the same trees list the same tables, so these hold the same rows, in one edition, and the rows determine the office.
-use Rattle.std.proofs.Common.{◌≡◌, ◌⊎◌, ◌++◌, ℕ, List, Option, refl, sym, subst, ◌∙◌, map, inl, inr}
+use Rattle.std.proofs.Common.{◌≡◌, ◌⊎◌, ◌<◌, arith, ℕ, List, Option, refl, sym, subst, ◌∙◌, map, inl, inr}
 use Rattle.std.specs.List.Sorted.{IsPermutation}
 use Rattle.std.proofs.lemmas.List.Sorted.{IsPermutation-trans, IsPermutation-sym}
 use Rattle.sqlite.specs.Effect.{Database, IsDatabase}
@@ -7,7 +7,7 @@ use Rattle.sqlite.specs.Order.{Row as Cells}
 use Rattle.sqlite.specs.Table.{Table as AnyTable}
 use Rattle.sqlite_rules.specs.Lists.{Has}
 use Rattle.tables.specs.declared.table.Table.{Table}
-use Rattle.tables.specs.declared.table.Table.TheVariants.{Edition, RoundAim}
+use Rattle.tables.specs.declared.table.Table.TheVariants.{Choice, Edition, RoundAim}
 use Rattle.tables.specs.Table.{Place, cells, table_at}
 use Rattle.tables.specs.Keyed.{Stands}
 use Rattle.tables.proofs.SameTrees.{listed_so, stands_so}
@@ -21,8 +21,8 @@ use Rattle.rolls.specs.Laws.{RowsGiveOffice}
 use Rattle.rolls.specs.Rows.{row_of}
 use Rattle.rolls.specs.State.{State}
 use Rattle.editions.specs.declared.Edition.{Edition as AnEdition}
-use Rattle.editions.specs.declared.Edition.TheVariants.{First, Second}
-use Rattle.editions.specs.Editions.{AreRowsIn, HaveNoLater, Renews, more_rows, row_at}
+use Rattle.editions.specs.declared.Edition.TheVariants.{First, Second, Third}
+use Rattle.editions.specs.Editions.{AreRowsIn, HaveNoLater, Renews, renewed, row_at}
 use Rattle.store.specs.Rows.{columns_of, kept}
 use Rattle.store.specs.Editions.{beyond, latest, number_of, rolls_of}
 use Rattle.store.specs.Tables.{HasNone, HasNoneOf, HoldIn, Opens, StandsFor, StandsIn, TablesOf, numbered}
@@ -57,24 +57,33 @@ listed_there table place held db tables stands among none =
     let there = stands.listed.named in
     absurd (let e = rw there at missing in cc)
 
--- two editions are one, or a table of the one is beyond the other
-abbrev pub Apart : AnEdition → AnEdition → Type 0
-Apart e f = (table : Table) × Has (rolls_of e) table × Has (beyond f) table
+-- two editions are one, or a table of the later one is beyond the other
+pub record Apart (e f : AnEdition) : Type 0 where
+  pub table : Table
+  pub there : Has (rolls_of e) table
+  pub beyond : Has (beyond f) table
+  pub later : number_of f < number_of e
 
 pub one_or_apart : (e f : AnEdition) → (e ≡ f) ⊎ (Apart e f ⊎ Apart f e)
 one_or_apart First First = inl refl
-one_or_apart First Second = inr (inr (RoundAim, inr (inr (inr (inr (inr (inr (inr (inl refl))))))), inl refl))
-one_or_apart Second First = inr (inl (RoundAim, inr (inr (inr (inr (inr (inr (inr (inl refl))))))), inl refl))
+one_or_apart First Second = inr (inr (record { table = RoundAim; there = inr (inr (inr (inr (inr (inr (inr (inl refl))))))); beyond = inl refl; later = omega arith }))
+one_or_apart First Third = inr (inr (record { table = RoundAim; there = inr (inr (inr (inr (inr (inr (inr (inl refl))))))); beyond = inl refl; later = omega arith }))
+one_or_apart Second First = inr (inl (record { table = RoundAim; there = inr (inr (inr (inr (inr (inr (inr (inl refl))))))); beyond = inl refl; later = omega arith }))
 one_or_apart Second Second = inl refl
+one_or_apart Second Third = inr (inr (record { table = Choice; there = inr (inr (inr (inr (inr (inr (inr (inr (inl refl)))))))); beyond = inl refl; later = omega arith }))
+one_or_apart Third First = inr (inl (record { table = RoundAim; there = inr (inr (inr (inr (inr (inr (inr (inl refl))))))); beyond = inl refl; later = omega arith }))
+one_or_apart Third Second = inr (inl (record { table = Choice; there = inr (inr (inr (inr (inr (inr (inr (inr (inl refl)))))))); beyond = inl refl; later = omega arith }))
+one_or_apart Third Third = inl refl
 
 -- tables that hold rows in an edition are not all missing
 pub not_beyond : (e f : AnEdition) (db : Database) (rows : RowKey → Option Row) → HoldIn e db rows → Apart e f → HasNoneOf (beyond f) db.schema → ⊥
-not_beyond e f db rows t apart = listed_there apart.0 (t.places apart.0) (columns_of apart.0 t.list) db (beyond f) (t.rolls apart.0 (is_among (rolls_of e) apart.0 apart.1)) apart.2
+not_beyond e f db rows t apart = listed_there apart.table (t.places apart.table) (columns_of apart.table t.list) db (beyond f) (t.rolls apart.table (is_among (rolls_of e) apart.table apart.there)) apart.beyond
 
 -- no row of an office in an edition is of a later one
 none_later : (e : AnEdition) (list : List Row) (office : State) → ((k : RowKey) → row_in list k ≡ row_at e office k) → HaveNoLater e list
 none_later First list office at = λ n. at (key.RoundAim n)
 none_later Second list office at = tt
+none_later Third list office at = tt
 
 -- the tables stand for one office in an edition
 one_office : RowsGiveOffice → Renews → (e : AnEdition) (db : Database) (office again : State) → StandsIn e db office → StandsIn e db again → IsFit office → IsFit again → again ≡ office
@@ -83,8 +92,8 @@ one_office one renews e db office again s t fit fits =
     let at = s.holds.at in
     let none = none_later e list office at.each in
     let same = one_row e db (row_at e office) (row_at e again) s.holds t.holds in
-    let of : AreRowsOf (list ++ more_rows e list) office = (renews e list office none fit).0 (record { apart = at.apart; each = at.each; allowed = s.allowed }) in
-    let of_again : AreRowsOf (list ++ more_rows e list) again = (renews e list again none fits).0 (record { apart = at.apart; each = λ k. at.each k ∙ same k; allowed = t.allowed }) in
+    let of : AreRowsOf (renewed e list) office = (renews e list office none fit).0 (record { apart = at.apart; each = at.each; allowed = s.allowed }) in
+    let of_again : AreRowsOf (renewed e list) again = (renews e list again none fits).0 (record { apart = at.apart; each = λ k. at.each k ∙ same k; allowed = t.allowed }) in
     one again office fits fit (λ k. sym (of_again.each k) ∙ of.each k)
 
 -- so do those of two databases with the same trees, in any editions

@@ -13,9 +13,9 @@ use Rattle.tables.specs.Writes.{Puts}
 use Rattle.tables.specs.Causes.{IsHindered, IsHinderedToPut, IsUnread, IsUnready}
 use Rattle.sqlite.specs.Order.{Row as Cells}
 use Rattle.editions.specs.declared.Edition.{Edition as AnEdition}
-use Rattle.store.specs.Editions.{IsEarlier, beyond, latest, number_of}
+use Rattle.store.specs.Editions.{IsEarlier, beyond, latest, number_of, raised}
 use Rattle.store.specs.Rows.{columns, kept, key_columns, list_columns, round_columns, table_at_key, table_of}
-use Rattle.store.specs.Saving.{Applies, IsActedOnAt}
+use Rattle.store.specs.Saving.{Applies, AreActedOnAmong}
 use Rattle.store.specs.Tables.{HasNone, MakesTables}
 
 -- a change is refused
@@ -75,9 +75,9 @@ pub record IsHinderedBeyond (e : AnEdition) (changes : List Change) (limit : Opt
 abbrev pub IsHinderedToLift : AnEdition → List Change → Option ℕ → Database → Type 0
 IsHinderedToLift e changes limit db = IsHinderedToPut Edition latest_number limit db ⊎ IsHinderedBeyond e changes limit db
 
--- the tables of an earlier edition cannot be raised by these changes: a foreign key acts on the number, or a statement is refused
+-- the tables of an earlier edition cannot be raised by these changes: a foreign key acts on those that change, or a statement is refused
 abbrev pub IsHinderedToRaise : AnEdition → List Change → Option ℕ → Database → Type 0
-IsHinderedToRaise e changes limit db = IsActedOnAt Edition db.schema ⊎ IsHinderedToLift e changes limit db
+IsHinderedToRaise e changes limit db = AreActedOnAmong raised db.schema ⊎ IsHinderedToLift e changes limit db
 
 -- one of the tables cannot be read
 pub record IsHinderedReading (limit : Option ℕ) (db : Database) : Type 0 where

@@ -1,30 +1,38 @@
 -- The editions of the tables: which tables hold rows in each, and its number.
-use Rattle.std.specs.Prelude.{ℕ, ⊤, List, [], drop, take}
+use Rattle.std.specs.Prelude.{ℕ, ⊤, List, [], ◌∷◌, drop, take}
 use Rattle.editions.specs.declared.Edition.{Edition}
-use Rattle.editions.specs.declared.Edition.TheVariants.{First, Second}
+use Rattle.editions.specs.declared.Edition.TheVariants.{First, Second, Third}
 use Rattle.tables.specs.declared.table.Table.{Table}
+use Rattle.tables.specs.declared.table.Table.TheVariants.{Edition as EditionTable, OldChoice, OldPlacement}
 use Rattle.store.specs.Rows.{rolls}
 
 -- the edition in which tables are made
 abbrev pub latest : Edition
-latest = Second
+latest = Third
 
 -- its number
 abbrev pub number_of : Edition → ℕ
 number_of First = 1
 number_of Second = 2
+number_of Third = 3
 
 -- the tables that hold rows of an office in it; each comes after those that it refers to
 abbrev pub rolls_of : Edition → List Table
 rolls_of First = take 7 rolls
-rolls_of Second = rolls
+rolls_of Second = take 8 rolls
+rolls_of Third = rolls
 
 -- those that later editions have beside them
 abbrev pub beyond : Edition → List Table
 beyond First = drop 7 rolls
-beyond Second = []
+beyond Second = drop 8 rolls
+beyond Third = []
+
+-- the tables of which rows are replaced or taken out where those of an earlier edition are raised
+abbrev pub raised : List Table
+raised = EditionTable ∷ OldChoice ∷ OldPlacement ∷ []
 
 -- it is not the latest
 abbrev pub IsEarlier : Edition → Type 0
-IsEarlier First = ⊤
-IsEarlier Second = ⊥
+IsEarlier Third = ⊥
+IsEarlier _ = ⊤

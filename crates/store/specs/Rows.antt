@@ -4,7 +4,7 @@ use Rattle.sqlite.specs.declared.types.Value.TheVariants.{Int, Text, Blob}
 use Rattle.sqlite.specs.Order.{Row as Cells}
 use Rattle.sqlite_rules.specs.Lists.{Has}
 use Rattle.tables.specs.declared.table.Table.{Table}
-use Rattle.tables.specs.declared.table.Table.TheVariants.{Supervisor, Project, Student, Round, Choice, Placement, Import, RoundAim}
+use Rattle.tables.specs.declared.table.Table.TheVariants.{Supervisor, Project, Student, Round, OldChoice, OldPlacement, Import, RoundAim, Choice, Placement}
 use Rattle.tables.specs.Table.{all_tables, same_table}
 use Rattle.spa.specs.declared.aim.Aim.{Aim}
 use Rattle.spa.specs.declared.aim.Aim.TheVariants.{Greedy, Generous}
@@ -42,6 +42,8 @@ at_key (key.Choice round student place) = (Choice, Int (pos round) ∷ Text stud
 at_key (key.Placement student) = (Placement, Text student ∷ [])
 at_key (key.RoundAim round) = (RoundAim, Int (pos round) ∷ [])
 at_key (key.Import id) = (Import, Text id ∷ [])
+at_key (key.OldChoice round student place) = (OldChoice, Int (pos round) ∷ Text student ∷ Int (pos place) ∷ [])
+at_key (key.OldPlacement student) = (OldPlacement, Text student ∷ [])
 
 abbrev pub table_at_key : RowKey → Table
 table_at_key k = (at_key k).0
@@ -76,6 +78,8 @@ columns (row.Choice round student place project) = Int (pos round) ∷ Text stud
 columns (row.Placement student round project rank) = Text student ∷ Int (pos round) ∷ Text project ∷ Int (pos rank) ∷ []
 columns (row.RoundAim round aim) = Int (pos round) ∷ Int (pos (cond (is_generous aim) 1 0)) ∷ []
 columns (row.Import id kind bytes rows) = Text id ∷ Text (word_of kind) ∷ Blob bytes ∷ Int (pos rows) ∷ []
+columns (row.OldChoice round student place project) = Int (pos round) ∷ Text student ∷ Int (pos place) ∷ Text project ∷ []
+columns (row.OldPlacement student round project rank) = Text student ∷ Int (pos round) ∷ Text project ∷ Int (pos rank) ∷ []
 
 -- whether it is a row of this table
 abbrev pub is_in : Table → Row → Bool

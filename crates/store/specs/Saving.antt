@@ -9,10 +9,10 @@ use Rattle.sqlite.specs.Effect.{Database}
 use Rattle.rolls.specs.declared.row.Row.{Row}
 use Rattle.rolls.specs.declared.row.RowKey.{RowKey}
 use Rattle.rolls.specs.declared.row.Change.{Change}
-use Rattle.rolls.specs.declared.row.Change.TheVariants.{Add}
+use Rattle.rolls.specs.declared.row.Change.TheVariants.{Add, Take}
 use Rattle.rolls.specs.Rows.{AreFresh, after_changes}
 use Rattle.tables.specs.Table.{Place, Lists, table_at}
-use Rattle.store.specs.Rows.{IsRoll}
+use Rattle.store.specs.Rows.{IsAmong, IsRoll, rolls, table_at_key}
 use Rattle.tables.specs.Writes.{IsInert}
 use Rattle.tables.specs.Inert.{IsActedOn}
 use Rattle.store.specs.Tables.{TablesHold}
@@ -21,17 +21,25 @@ use Rattle.store.specs.Tables.{TablesHold}
 abbrev pub IsLeftAlone : Table → Schema → Type 0
 IsLeftAlone table schema = (place : Place) → Lists schema (table_at table place) → IsInert schema place.tree
 
+-- no foreign key acts on these tables
+abbrev pub AreLeftAmong : List Table → Schema → Type 0
+AreLeftAmong tables schema = (table : Table) → IsAmong tables table → IsLeftAlone table schema
+
 -- no foreign key of another table acts on the tables of the rolls
 abbrev pub AreInert : Schema → Type 0
-AreInert schema = (table : Table) → IsRoll table → IsLeftAlone table schema
+AreInert = AreLeftAmong rolls
 
 -- a foreign key acts on this table
 abbrev pub IsActedOnAt : Table → Schema → Type 0
 IsActedOnAt table schema = (place : Place) × Lists schema (table_at table place) × IsActedOn schema.tables place.tree
 
+-- a foreign key acts on one of these tables
+abbrev pub AreActedOnAmong : List Table → Schema → Type 0
+AreActedOnAmong tables schema = (table : Table) × IsAmong tables table × IsActedOnAt table schema
+
 -- a foreign key of another table acts on one of the tables of the rolls
 abbrev pub AreActedOn : Schema → Type 0
-AreActedOn schema = (table : Table) × IsRoll table × IsActedOnAt table schema
+AreActedOn = AreActedOnAmong rolls
 
 -- whatever rows the tables held, they hold those after the changes
 unfoldable pub Saves : List Change → Database → Database → Type 0
@@ -47,9 +55,11 @@ pub record Spares (old new : Database) : Type 0 where
 unfoldable pub LeavesOthers : Database → Database → Type 0
 LeavesOthers old new = (rows : RowKey → Option Row) → TablesHold old rows → Spares old new
 
--- what a change asks of the schema: where it adds a row, nothing, and else that no foreign key acts on the tables
+-- what a change asks of the schema: where it adds a row, nothing; where it takes one out, that no foreign key acts on its table; and
+-- else that none acts on the tables of the rolls
 abbrev pub Needs : Change → Schema → Type 0
 Needs (Add row) schema = ⊤
+Needs (Take at) schema = IsLeftAlone (table_at_key at) schema
 Needs _ schema = AreInert schema
 
 -- what changes ask of it

@@ -16,6 +16,7 @@ use Rattle.rolls.specs.State.{State, empty}
 use Rattle.tables.specs.declared.table.Table.{Table}
 use Rattle.tables.specs.declared.table.Table.TheVariants.{Edition as EditionTable}
 use Rattle.tables.specs.Table.{Place, Lists, made_here, rules_of, shape_of, table_at}
+use Rattle.tables.specs.Inert.{IsActedOn}
 use Rattle.tables.specs.Keyed.{Stands}
 use Rattle.editions.specs.declared.Edition.{Edition}
 use Rattle.editions.specs.Editions.{Allows, row_at}
@@ -76,13 +77,14 @@ pub record StandsIn (e : Edition) (db : Database) (office : State) : Type 0 wher
   pub alone : HasNoneOf (beyond e) db.schema
 
 -- Each of these tables was made, with its rules and no rows, in a tree of its own, while the tables that the schema had are
--- listed as before, with their rows.
+-- listed as before, with their rows, and no further foreign key acts on them.
 pub record MakesTables (tables : List Table) (old new : Database) : Type 0 where
   pub places : Table → Place
   pub ruled : (table : Table) → Has tables table → (places table).rules ≡ rules_of table
   pub stand : (table : Table) → Has tables table → Stands (table_at table) (places table) [] new
   pub apart : (a b : Table) → Has tables a → Has tables b → a ≢ b → (places a).tree ≢ (places b).tree
   pub others : (t : AnyTable) → Lists old.schema t → Lists new.schema t × (new.trees t.tree ≡ old.trees t.tree) × ((table : Table) → Has tables table → t.tree ≢ (places table).tree)
+  pub quiet : (t : AnyTable) → Lists old.schema t → IsActedOn new.schema.tables t.tree → IsActedOn old.schema.tables t.tree
 
 -- a database with none of the tables comes to stand for the empty office
 pub record Founds (old new : Database) : Type 0 where

@@ -1,6 +1,6 @@
 //! The editions of the tables, as tables.
 
-ghost use Rattle.std.specs.Prelude.{◌≡◌, ◌≢◌};
+ghost use Rattle.std.specs.Prelude.{◌≡◌, ◌<◌};
 ghost use Rattle.store.specs.Editions.{beyond, number_of, rolls_of};
 ghost use Rattle.store.specs.Tables.{HasNoneOf};
 
@@ -11,7 +11,7 @@ use sqlite_schema::schema::Schema;
 use tables::Table;
 
 /// The edition in which tables are made.
-pub const LATEST: Edition = Edition::Second;
+pub const LATEST: Edition = Edition::Third;
 
 /// The number of an edition.
 pub fn number_of(edition: Edition) -> u32
@@ -20,6 +20,7 @@ pub fn number_of(edition: Edition) -> u32
     match edition {
         Edition::First => 1,
         Edition::Second => 2,
+        Edition::Third => 3,
     }
 }
 
@@ -29,7 +30,8 @@ pub fn rolls_of(edition: Edition) -> &'static [Table]
 {
     match edition {
         Edition::First => &TABLES[1..8],
-        Edition::Second => &TABLES[1..],
+        Edition::Second => &TABLES[1..9],
+        Edition::Third => &TABLES[1..],
     }
 }
 
@@ -39,17 +41,20 @@ pub fn beyond(edition: Edition) -> &'static [Table]
 {
     match edition {
         Edition::First => &TABLES[8..],
-        Edition::Second => &[],
+        Edition::Second => &TABLES[9..],
+        Edition::Third => &[],
     }
 }
 
 /// The edition of the tables that are there: the earliest beyond which none is.
 pub fn edition_of(schema: &Schema) -> Edition
     ensures alone { HasNoneOf (beyond result) schema.now }
-    ensures later { result ≢ Edition.First → HasNoneOf (beyond Edition.First) schema.now → ⊥ }
+    ensures later { (e : Edition) → number_of e < number_of result → HasNoneOf (beyond e) schema.now → ⊥ }
 {
     if has_none_of(schema, beyond(Edition::First)) {
         Edition::First
+    } else if has_none_of(schema, beyond(Edition::Second)) {
+        Edition::Second
     } else {
         LATEST
     }

@@ -14,7 +14,7 @@ pub enum StoreFault {
     Memory,
     /// The database refused it, or its disk failed.
     Storage,
-    /// The tables stand for no office of this edition.
+    /// The tables stand for no fit office in any edition.
     Damaged,
 }
 

@@ -3,14 +3,19 @@
 use tables::Table;
 
 /// Every table. Each is made after those that it refers to.
-pub const TABLES: [Table; 9] = [
+pub const TABLES: [Table; 11] = [
     Table::Edition,
     Table::Supervisor,
     Table::Project,
     Table::Student,
     Table::Round,
-    Table::Choice,
-    Table::Placement,
+    Table::OldChoice,
+    Table::OldPlacement,
     Table::Import,
     Table::RoundAim,
+    Table::Choice,
+    Table::Placement,
 ];
+
+/// Those of which rows are replaced or taken out where tables of an earlier edition are raised.
+pub const RAISED: [Table; 3] = [Table::Edition, Table::OldChoice, Table::OldPlacement];

@@ -1,7 +1,7 @@
-//! Whether other tables act on those of the rolls.
+//! Whether other tables act on those of the store.
 
 ghost use Rattle.std.specs.Prelude.{◌≡◌, ◌↔◌, IsTrue, false};
-ghost use Rattle.store.specs.Saving.{AreActedOn, AreInert, IsActedOnAt, IsLeftAlone};
+ghost use Rattle.store.specs.Saving.{AreActedOn, AreActedOnAmong, AreInert, AreLeftAmong, IsActedOnAt, IsLeftAlone};
 
 use crate::edition::{LATEST, rolls_of};
 use sqlite_schema::schema::Schema;
@@ -10,7 +10,7 @@ use tables::inert::is_inert;
 use tables::layout::tree_of;
 
 /// Whether no foreign key acts on the rows of a table.
-pub fn is_left(schema: &Schema, table: Table) -> bool
+fn is_left(schema: &Schema, table: Table) -> bool
     ensures sound { IsTrue result → IsLeftAlone table schema.now }
     ensures exact { (result ≡ false) ↔ IsActedOnAt table schema.now }
 {
@@ -20,16 +20,23 @@ pub fn is_left(schema: &Schema, table: Table) -> bool
     }
 }
 
-/// Whether no foreign key of another table acts on the tables of the rolls.
-pub fn are_left(schema: &Schema) -> bool
-    ensures sound { IsTrue result → AreInert schema.now }
-    ensures exact { (result ≡ false) ↔ AreActedOn schema.now }
+/// Whether no foreign key acts on the rows of these tables.
+pub fn are_left_among(schema: &Schema, tables: &[Table]) -> bool
+    ensures sound { IsTrue result → AreLeftAmong tables.now schema.now }
+    ensures exact { (result ≡ false) ↔ AreActedOnAmong tables.now schema.now }
 {
-    let tables = rolls_of(LATEST);
     for table in tables {
         if !is_left(schema, *table) {
             return false;
         }
     }
     true
+}
+
+/// Whether no foreign key of another table acts on the tables of the rolls.
+pub fn are_left(schema: &Schema) -> bool
+    ensures sound { IsTrue result → AreInert schema.now }
+    ensures exact { (result ≡ false) ↔ AreActedOn schema.now }
+{
+    are_left_among(schema, rolls_of(LATEST))
 }

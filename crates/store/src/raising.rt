@@ -1,9 +1,8 @@
 //! Raising the tables of an earlier edition.
 
-ghost use Rattle.std.specs.Prelude.{◌≡◌, ◌≢◌, false, map, IfOk, OnOk, OnErr};
+ghost use Rattle.std.specs.Prelude.{◌≡◌, ◌≢◌, false, OnOk, OnErr};
 ghost use Rattle.sqlite.specs.State.{HasCleanDisk, Survives};
 ghost use Rattle.sqlite.specs.Held.{state};
-ghost use Rattle.rolls.specs.declared.row.Change.TheVariants.{Add};
 ghost use Rattle.tables.specs.Causes.{IsCaused, IsCausedInside};
 ghost use Rattle.tables.specs.Steps.{Does, HasSaved, HasStepped, IsKept, IsLeft};
 ghost use Rattle.tables.specs.Inside.Steps.{Stays};
@@ -13,28 +12,17 @@ ghost use Rattle.store.specs.Inside.Raising.{Extends, Lifts, Rises};
 use crate::edition::{LATEST, beyond, number_of};
 use crate::fault::StoreFault;
 use crate::founding::make_each;
-use crate::quiet::is_left;
+use crate::kept::RAISED;
+use crate::quiet::are_left_among;
 use crate::saving::apply_all;
 use editions::Edition;
-use rolls::{Change, Row};
+use rolls::Change;
 use sqlite::{Alter, Connection, Transaction, params};
-use std::alloc::{AllocError, Global};
 use tables::Table;
 use tables::fault::TableFault;
 use tables::statements::put;
 
-/// The changes that add these rows.
-pub fn added(alloc: Global, rows: Vec<Row>) -> Result<Vec<Change>, AllocError>
-    ensures { IfOk result (λ changes. changes.items ≡ map Add rows.items) }
-{
-    let mut changes = Vec::with_capacity(alloc, rows.len())?;
-    for row in rows {
-        changes.push(Change::Add(row))?;
-    }
-    Ok(changes)
-}
-
-/// Makes the tables that an edition lacks, and then changes that add rows.
+/// Makes the tables that an edition lacks, and then the changes that fill them and empty others.
 fn extend<S: Alter>(
     tx: &mut Transaction<'_, S>,
     edition: Edition,
@@ -48,7 +36,8 @@ fn extend<S: Alter>(
     apply_all(tx, changes)
 }
 
-/// Puts the number of the latest edition, makes the tables that an edition lacks, and then changes that add rows.
+/// Puts the number of the latest edition, makes the tables that an edition lacks, and then the changes that fill them and empty
+/// others.
 fn lift<S: Alter>(
     tx: &mut Transaction<'_, S>,
     edition: Edition,
@@ -62,8 +51,8 @@ fn lift<S: Alter>(
     extend(tx, edition, changes)
 }
 
-/// Raises the tables of an earlier edition in one transaction. Where a foreign key of another table acts on the number nothing is
-/// changed.
+/// Raises the tables of an earlier edition in one transaction. Where a foreign key of another table acts on those that change
+/// nothing is changed.
 pub fn raise<S: Alter>(
     conn: &mut Connection<S>,
     edition: Edition,
@@ -79,7 +68,7 @@ pub fn raise<S: Alter>(
     if !conn.is_autocommit() {
         return Err(StoreFault::Storage);
     }
-    if !is_left(conn.schema(), Table::Edition) {
+    if !are_left_among(conn.schema(), &RAISED) {
         return Err(StoreFault::Storage);
     }
     let mut tx = conn.transaction();

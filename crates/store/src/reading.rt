@@ -21,8 +21,7 @@ ghost use Rattle.store.specs.Inside.Reading.{IsAlone, IsElsewhere, IsListedAlone
 use crate::edition::{number_of, rolls_of};
 use crate::fault::StoreFault;
 use crate::rows::rows_with;
-use crate::raising::added;
-use editions::{Edition, adding_law, more_rows, renewal_law};
+use editions::{Edition, renewal_law, renewed, upgrade, upgrade_law};
 use loading::RowsFault;
 use office::Office;
 use rolls::{Change, Row};
@@ -87,7 +86,6 @@ fn are_all_listed(schema: &Schema, tables: &[Table]) -> bool
     }
     true
 }
-
 
 /// Whether this column is this number.
 fn is_number(cells: &Cells, at: usize, number: u32) -> bool
@@ -207,13 +205,11 @@ pub fn office_in<S: Alter>(
     ensures survives { Survives (state S.Store conn.old) (state S.Store conn.new) (λ _. ⊥) }
 {
     renewal_law();
-    adding_law();
-    let mut rows = rows_in(alloc, conn, edition)?;
-    let more = more_rows(alloc, edition, &rows)?;
-    let changes = added(alloc, more)?;
-    let mut rest = more_rows(alloc, edition, &rows)?;
-    rows.append(&mut rest)?;
-    let office = office_from(alloc, rows)?;
+    upgrade_law();
+    let rows = rows_in(alloc, conn, edition)?;
+    let changes = upgrade(alloc, edition, &rows)?;
+    let all = renewed(alloc, edition, rows)?;
+    let office = office_from(alloc, all)?;
     office.fit();
     Ok((office, changes))
 }

@@ -157,10 +157,12 @@ fn roll_row(alloc: Global, table: Table, cells: &Cells) -> Result<Row, StoreFaul
             label: text_at(alloc, cells, 2)?,
         }),
         Table::Round
-        | Table::Choice
-        | Table::Placement
+        | Table::OldChoice
+        | Table::OldPlacement
         | Table::Import
         | Table::RoundAim
+        | Table::Choice
+        | Table::Placement
         | Table::Edition => Err(StoreFault::Damaged),
     }
 }
@@ -176,9 +178,13 @@ fn row_with(alloc: Global, table: Table, cells: &Cells) -> Result<Row, StoreFaul
     }
     match table {
         Table::Supervisor | Table::Project | Table::Student => roll_row(alloc, table, cells),
-        Table::Round | Table::Choice | Table::Placement | Table::Import | Table::RoundAim => {
-            round_row(alloc, table, cells)
-        }
+        Table::Round
+        | Table::OldChoice
+        | Table::OldPlacement
+        | Table::Import
+        | Table::RoundAim
+        | Table::Choice
+        | Table::Placement => round_row(alloc, table, cells),
         Table::Edition => Err(StoreFault::Damaged),
     }
 }
@@ -206,6 +212,18 @@ fn round_row(alloc: Global, table: Table, cells: &Cells) -> Result<Row, StoreFau
             project: text_at(alloc, cells, 4)?,
         }),
         Table::Placement => Ok(Row::Placement {
+            round: number_at(cells, 2)?,
+            rank: number_at(cells, 4)?,
+            student: text_at(alloc, cells, 1)?,
+            project: text_at(alloc, cells, 3)?,
+        }),
+        Table::OldChoice => Ok(Row::OldChoice {
+            round: number_at(cells, 1)?,
+            place: number_at(cells, 3)?,
+            student: text_at(alloc, cells, 2)?,
+            project: text_at(alloc, cells, 4)?,
+        }),
+        Table::OldPlacement => Ok(Row::OldPlacement {
             round: number_at(cells, 2)?,
             rank: number_at(cells, 4)?,
             student: text_at(alloc, cells, 1)?,

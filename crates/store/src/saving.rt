@@ -127,6 +127,28 @@ fn write_row<S: Alter>(tx: &mut Transaction<'_, S>, way: Way, row: &Row) -> Resu
             Table::Placement,
             params![student.as_str(), *round, project.as_str(), *rank],
         ),
+        Row::OldChoice {
+            round,
+            student,
+            place,
+            project,
+        } => enter(
+            tx,
+            way,
+            Table::OldChoice,
+            params![*round, student.as_str(), *place, project.as_str()],
+        ),
+        Row::OldPlacement {
+            student,
+            round,
+            project,
+            rank,
+        } => enter(
+            tx,
+            way,
+            Table::OldPlacement,
+            params![student.as_str(), *round, project.as_str(), *rank],
+        ),
         Row::RoundAim { round, aim } => enter(
             tx,
             way,
@@ -162,6 +184,14 @@ fn take_row<S: Alter>(tx: &mut Transaction<'_, S>, key: &RowKey) -> Result<(), T
             delete(tx, Table::Choice, params![*round, student.as_str(), *place])
         }
         RowKey::Placement(student) => delete(tx, Table::Placement, params![student.as_str()]),
+        RowKey::OldChoice(round, student, place) => delete(
+            tx,
+            Table::OldChoice,
+            params![*round, student.as_str(), *place],
+        ),
+        RowKey::OldPlacement(student) => {
+            delete(tx, Table::OldPlacement, params![student.as_str()])
+        }
         RowKey::RoundAim(round) => delete(tx, Table::RoundAim, params![*round]),
         RowKey::Import(id) => delete(tx, Table::Import, params![id.as_str()]),
     }

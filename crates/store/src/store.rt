@@ -10,8 +10,8 @@ ghost use Rattle.store.specs.Tables.{Brings, HasNone, LeavesAlone, Opens, Stands
 ghost use Rattle.store.specs.Reading.{AreListed, IsDamaged, IsUnfit};
 ghost use Rattle.store.specs.Saving.{AddsNew, AreActedOn, LeavesOthers, Saves};
 
-use crate::fault::StoreFault;
 use crate::edition::{LATEST, edition_of};
+use crate::fault::StoreFault;
 use crate::founding::{found, has_none};
 use crate::quiet::are_left;
 use crate::raising::raise;

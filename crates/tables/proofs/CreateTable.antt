@@ -1,5 +1,5 @@
 -- CREATE TABLE under any schema.
-use Rattle.std.proofs.Common.{◌≡◌, inl, inr, ℕ, ◌+◌, List, [], length, map, ◌≢◌, slice_get, slice_range, arith, ◌||◌, Option, Some, None, is_some, Ok, Err, Bool, true, false, refl, sym, ap, subst, ◌∙◌, if◌then◌else◌}
+use Rattle.std.proofs.Common.{◌≡◌, inl, inr, ℕ, ◌+◌, List, [], ◌∷◌, length, map, ◌≢◌, slice_get, slice_range, arith, ◌||◌, Option, Some, None, is_some, Ok, Err, Bool, true, false, refl, sym, ap, subst, ◌∙◌, if◌then◌else◌}
 use Rattle.std.proofs.lemmas.Bool.{cases_Bool}
 use Rattle.sqlite.specs.Schema.{Schema}
 use Rattle.sqlite.specs.Compile.{table_defined_by, compiled, first, timed, returning, command, small, creates, is_reserved, is_attached, with_command}
@@ -27,7 +27,12 @@ use Rattle.sqlite_catalog.proofs.StepLemmas.{table_below}
 use Rattle.sqlite_rules.specs.Lists.{Has}
 use Rattle.sqlite_rules.proofs.ListLemmas.{has_got, all_has}
 use Rattle.sqlite_resolve.specs.declared.compiled.Compiled.{Compiled}
-use Rattle.tables.specs.Table.{Place, Rules, Shape, Lists, cells, made_at}
+use Rattle.tables.specs.Table.{Place, Rules, Shape, Lists, all_referring, cells, made_at}
+use Rattle.tables.specs.Inert.{IsActedOn}
+use Rattle.tables.proofs.Quiet.{AreAllPassive, acted_before}
+use Rattle.sqlite_schema.specs.declared.schema.Action.TheVariants.{NoAction}
+use Rattle.sqlite_schema.specs.declared.schema.Reference.{Reference}
+use Rattle.sqlite_tied.specs.Compute.{everything}
 use Rattle.tables.specs.Writes.{Makes}
 use Rattle.tables.proofs.MoreTables.{still_found, new_found, got_front, got_next}
 use Rattle.tables.proofs.InsertKeyed.{went, same_value}
@@ -65,9 +70,37 @@ kept_by schema sql old after new made t listed = (
   all_has _ schema.tables t made.others (has_listed schema t listed),
 )
 
+-- references of the tables of the product write nothing
+pub all_passive : (bare : List Bool) (links : List (ℕ × List ℕ × List ℕ)) (r : Reference) → Has (all_referring bare links) r → (r.on_delete ≡ NoAction) × (r.on_update ≡ NoAction)
+all_passive bare [] r h = absurd h
+all_passive [] (link ∷ links) r (inl is) = (ap (λ (it : Reference). it.on_delete) is, ap (λ (it : Reference). it.on_update) is)
+all_passive [] (link ∷ links) r (inr later) = all_passive [] links r later
+all_passive (b ∷ bare) (link ∷ links) r (inl is) = (ap (λ (it : Reference). it.on_delete) is, ap (λ (it : Reference). it.on_update) is)
+all_passive (b ∷ bare) (link ∷ links) r (inr later) = all_passive bare links r later
+
+-- nor does a table that is made with passive references act on one that was there
+quiet_by : (schema : Schema) (table : Table) (after : Schema) → after ≡ created schema table → AreAllPassive table → (t : Table) → Lists schema t → IsActedOn after.tables t.tree → IsActedOn schema.tables t.tree
+quiet_by schema table after is passive t listed acts =
+    let low = table_below schema t (has_listed schema t listed) in
+    acted_before schema.tables (record table { tree = next_tree schema }) t.tree passive (λ e. omega (arith, e, low)) (subst (λ (s : Schema). IsActedOn s.tables t.tree) is acts)
+
 or_false : (a b : Bool) → (a || b) ≡ false → a ≡ false
 or_false true b h = absurd (cc)
 or_false false b h = refl
+
+-- the references of a table that is defined
+references_in : Checked Table → List Reference
+references_in (Ok t) = t.references
+references_in (Err e) = []
+
+-- the table of sequences refers to none
+sequence_alone : references_in (table_defined_by sequence_text) ≡ []
+unfolding everything references_in
+sequence_alone = refl
+
+sequence_passive : (table : Table) → table_defined_by sequence_text ≡ Ok table → AreAllPassive table
+unfolding references_in
+sequence_passive table is r h = absurd (subst (λ (rs : List Reference). Has rs r) (sym (ap references_in is) ∙ sequence_alone) h)
 
 -- a text that makes a table of this shape by these rules, under any schema
 pub record IsCreate (sql : List ℕ) (shape : Shape) (rules : Rules) : Type 0 where
@@ -116,6 +149,7 @@ module _ (sql : List ℕ) (shape : Shape) (rules : Rules) (it : IsCreate sql sha
     listed : Lists new.schema (made_at shape place)
     empty : new.trees place.tree ≡ []
     others : (t : Table) → Lists old.schema t → Lists new.schema t × (new.trees t.tree ≡ old.trees t.tree) × (t.tree ≢ place.tree)
+    quiet : (t : Table) → Lists old.schema t → IsActedOn new.schema.tables t.tree → IsActedOn old.schema.tables t.tree
 
   made_first : (db mid : Database) → CreatesTable db.schema sql db.trees mid.schema mid.trees → IsMade db mid
   made_first db mid made =
@@ -137,6 +171,7 @@ module _ (sql : List ℕ) (shape : Shape) (rules : Rules) (it : IsCreate sql sha
         others = λ t listed.
             let kept = kept_by db.schema sql db.trees mid.schema mid.trees made t listed in
             (kept.0, kept.1, λ e. let low = table_below db.schema t (has_listed db.schema t listed) in omega (arith, e));
+        quiet = quiet_by db.schema first_made mid.schema is (all_passive rules.bare shape.links);
       }
 
   went_on : (db mid after : Database) → IsMade db mid → MakesSequence mid (Ok after) → IsMade db after
@@ -152,6 +187,7 @@ module _ (sql : List ℕ) (shape : Shape) (rules : Rules) (it : IsCreate sql sha
               let was = made.others t listed in
               let kept = kept_by mid.schema sequence_text mid.trees after.schema after.trees more t was.0 in
               (kept.0, kept.1 ∙ was.1, was.2);
+          quiet = λ t listed acts. made.quiet t listed (quiet_by mid.schema more.table after.schema more.is (sequence_passive more.table more.defined) t (made.others t listed).0 acts);
         }
     | inr none ↦
         let same : after ≡ mid = let e : ◌≡◌ {A = Outcome Database} (Ok after) (Ok mid) = rw none at next in cc in
@@ -175,4 +211,5 @@ module _ (sql : List ℕ) (shape : Shape) (rules : Rules) (it : IsCreate sql sha
           holds = subst (λ all. IsPermutation [] (map (cells (made_at shape made.place)) all)) (sym made.empty) (IsPermutation-refl _);
         };
         others = made.others;
+        quiet = made.quiet;
       }

@@ -1,9 +1,10 @@
 -- Where no reference to a table has an action, none acts.
-use Rattle.std.proofs.Common.{◌≡◌, ◌≢◌, ◌⊎◌, ◌↔◌, inl, inr, ℕ, List, [], ◌∷◌, Bool, true, false, not, ◌&&◌, ◌||◌, ◌==◌, Option, Some, None, option_map, option_and_then, find, length, refl, sym, ap, ◌∙◌, true≢false}
+use Rattle.std.proofs.Common.{◌≡◌, ◌≢◌, ◌⊎◌, ◌↔◌, inl, inr, ℕ, List, [], ◌∷◌, ◌++◌, Bool, true, false, not, ◌&&◌, ◌||◌, ◌==◌, Option, Some, None, option_map, option_and_then, find, length, refl, sym, ap, subst, ◌∙◌, true≢false}
 use Rattle.std.specs.List.{list_all, flat_map, filter_map}
-use Rattle.std.proofs.lemmas.Bool.{and_parts, and_from, and_cases, and_left, and_right, or_parts, or_from, not-false, false_from_ne_true}
+use Rattle.std.proofs.lemmas.Bool.{cases_Bool, and_parts, and_from, and_cases, and_left, and_right, or_parts, or_from, not-false, false_from_ne_true}
 use Rattle.std.proofs.lemmas.Bool.Decides.{Decides-eqb}
-use Rattle.sqlite_rules.proofs.ListLemmas.{has_found, some_has, some_from, fails_has, fails_from}
+use Rattle.sqlite_rules.proofs.ListLemmas.{has_either, has_found, some_has, some_from, fails_has, fails_from}
+use Rattle.sqlite_rules.specs.Lists.{Has}
 use Rattle.sqlite.specs.Order.{Row}
 use Rattle.sqlite.specs.Schema.{Schema}
 use Rattle.sqlite.specs.Table.{Table}
@@ -120,6 +121,38 @@ acting_fails tables tree it =
     elim it.acts [ inl deletes ↦ and_left _ _ (not_passive _ deletes) | inr updates ↦ and_right _ _ (not_passive _ updates) ] in
     fails_from (λ t. list_all (is_quiet tables tree) t.references) tables it.child it.child_listed
     (fails_from (is_quiet tables tree) it.child.references it.reference it.of_child (or_from _ _ acts (ap not refers)))
+
+-- where no foreign key acts on a table, none does at any rows
+pub inert_so : (schema : Schema) (tree : ℕ) → (IsActedOn schema.tables tree → ⊥) → IsInert schema tree
+inert_so schema tree none = elim (cases_Bool (is_inert schema.tables tree)) [ inl passes ↦ inert schema tree passes | inr fails ↦ absurd (none (found_acting schema.tables tree fails)) ]
+
+-- whether every reference of a table writes nothing
+abbrev pub AreAllPassive : Table → Type 0
+AreAllPassive t = (r : Reference) → Has t.references r → (r.on_delete ≡ NoAction) × (r.on_update ≡ NoAction)
+
+-- beside a table more, whose references write nothing, in another tree, only those act that did
+pub acted_before : (tables : List Table) (more : Table) (tree : ℕ) → AreAllPassive more → more.tree ≢ tree → IsActedOn (tables ++ more ∷ []) tree → IsActedOn tables tree
+acted_before tables more tree passive apart it = record {
+  child = it.child;
+  reference = it.reference;
+  parent = it.parent;
+  child_listed = elim (has_either tables (more ∷ []) it.child it.child_listed) [
+    | inl was ↦ was
+    | inr (inl is) ↦
+        let none = passive it.reference (subst (λ (t : Table). Has t.references it.reference) is it.of_child) in
+        absurd (elim it.acts [ inl deletes ↦ deletes none.0 | inr updates ↦ updates none.1 ])
+    | inr (inr none) ↦ absurd none
+  ];
+  parent_listed = elim (has_either tables (more ∷ []) it.parent it.parent_listed) [
+    | inl was ↦ was
+    | inr (inl is) ↦ absurd (apart (ap (λ (t : Table). t.tree) (sym is) ∙ it.here))
+    | inr (inr none) ↦ absurd none
+  ];
+  of_child = it.of_child;
+  to_parent = it.to_parent;
+  here = it.here;
+  acts = it.acts;
+}
 
 -- a schema passes unless a foreign key acts
 pub acted_on : (tables : List Table) (tree : ℕ) → (is_inert tables tree ≡ false) ↔ IsActedOn tables tree

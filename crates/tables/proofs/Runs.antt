@@ -15,7 +15,7 @@ use Rattle.sqlite.proofs.StateLemmas.{survives_then}
 use Rattle.sqlite.specs.Tree.{Trees}
 use Rattle.sqlite_rules.proofs.ListLemmas.{all_has, all_from, has_got}
 use Rattle.tables.specs.declared.table.Table.{Table as Ours}
-use Rattle.tables.specs.declared.table.Table.TheVariants.{Edition, Supervisor, Project, Student, Round, Choice, Placement, Import, RoundAim}
+use Rattle.tables.specs.declared.table.Table.TheVariants.{Edition, Supervisor, Project, Student, Round, OldChoice, OldPlacement, Import, RoundAim, Choice, Placement}
 use Rattle.tables.specs.Table.{Place, Rules, Lists, all_tables, cells, table_at, number_of, same_table}
 use Rattle.std.proofs.lemmas.Bool.{cases_Bool}
 use Rattle.std.proofs.lemmas.Bool.Decides.{Decides-eqb}
@@ -133,10 +133,12 @@ numbered_back Supervisor = refl
 numbered_back Project = refl
 numbered_back Student = refl
 numbered_back Round = refl
-numbered_back Choice = refl
-numbered_back Placement = refl
+numbered_back OldChoice = refl
+numbered_back OldPlacement = refl
 numbered_back Import = refl
 numbered_back RoundAim = refl
+numbered_back Choice = refl
+numbered_back Placement = refl
 
 -- tables that are tested to be one are one
 pub same_table_is : (a b : Ours) → same_table a b ≡ true → a ≡ b

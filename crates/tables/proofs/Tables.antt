@@ -9,8 +9,8 @@ use Rattle.sqlite.specs.Term.{Term, col}
 use Rattle.sqlite.specs.declared.types.Value.TheVariants.{Int, Text as Words}
 use Rattle.sqlite_value.specs.Keys.{first_key}
 use Rattle.tables.specs.declared.table.Table.{Table}
-use Rattle.tables.specs.declared.table.Table.TheVariants.{Edition, Supervisor, Project, Student, Round, Choice, Placement, Import, RoundAim}
-use Rattle.tables.specs.Table.{Place, cells, shape_of, sharing, table_at}
+use Rattle.tables.specs.declared.table.Table.TheVariants.{Edition, Supervisor, Project, Student, Round, OldChoice, OldPlacement, Import, RoundAim, Choice, Placement}
+use Rattle.tables.specs.Table.{Place, cells, choices, made_at, shape_of, sharing, table_at}
 use Rattle.tables.specs.Writes.{begins_with, goes_on}
 use Rattle.tables.specs.declared.table.Group.{Group}
 use Rattle.tables.specs.declared.table.Group.TheVariants as group
@@ -21,12 +21,12 @@ use Rattle.tables.proofs.QueryRows.{hit}
 use Rattle.tables.proofs.UpdateRow.{showing}
 use Rattle.tables.proofs.KeyTests.{rowid_is}
 
--- the rows of the table of choices that begin with a key are found
-choice_found : (is_strict : Bool) (at : Place) (project : List Term) (round : ℤ) (student : List ℕ) (place : ℤ) (more r : Row)
-    → hit (finds_of (shape_of Choice) is_strict 0 3) project (Int round ∷ Words student ∷ Int place ∷ more) r ≡ begins_with (Int round ∷ Words student ∷ Int place ∷ []) (cells (table_at Choice at) r)
+-- the rows of a table of choices that begin with a key are found
+choice_found : (name : List ℕ) (is_strict : Bool) (at : Place) (project : List Term) (round : ℤ) (student : List ℕ) (place : ℤ) (more r : Row)
+    → hit (finds_of (choices name) is_strict 0 3) project (Int round ∷ Words student ∷ Int place ∷ more) r ≡ begins_with (Int round ∷ Words student ∷ Int place ∷ []) (cells (made_at (choices name) at) r)
 unfolding unary
-choice_found true at project round student place more r = refl
-choice_found false at project round student place more r = refl
+choice_found name true at project round student place more r = refl
+choice_found name false at project round student place more r = refl
 
 -- and those of a list, and the placements of a round
 list_found : (is_strict : Bool) (at : Place) (round : ℤ) (student : List ℕ) (r : Row)
@@ -83,17 +83,17 @@ texts Round = record {
   rows = λ at number is_open. record { one = refl; added = λ here. rw (cast_int number, cast_int is_open) refl; shares = λ here r. rw (cast_int number) refl; finds = λ r. refl; set = λ r int same. rw (rowid_is r number int (and_parts _ _ same).0, cast_int number, cast_int is_open) refl };
   keyed = λ at. inl refl;
 }
-texts Choice = record {
+texts OldChoice = record {
   read = record { body = _; create = refl; insert = refl; update = refl; delete = refl; select = refl; defined = refl; unlisted = refl; laid = λ schema place base. refl; shows = λ place r. refl };
-  tested = λ is_strict. either (Anywhere Choice (AreTested Choice)) is_strict (λ schema at tree bare checks there. record { removal = rw there (rw there (rw there refl)); change = rw there (rw there (rw there refl)) }) (λ schema at tree bare checks there. record { removal = rw there (rw there (rw there refl)); change = rw there (rw there (rw there refl)) });
+  tested = λ is_strict. either (Anywhere OldChoice (AreTested OldChoice)) is_strict (λ schema at tree bare checks there. record { removal = rw there (rw there (rw there refl)); change = rw there (rw there (rw there refl)) }) (λ schema at tree bare checks there. record { removal = rw there (rw there (rw there refl)); change = rw there (rw there (rw there refl)) });
   all = λ schema at place there low. rw there (rw low (rw there refl));
-  keys = λ at round student place. choice_found at.rules.is_strict at (col 1 0 ∷ []) round student place [];
-  rows = λ at round student place project. record { one = refl; added = λ here. rw (cast_null, cast_int round, cast_int place) refl; shares = λ here r. rw (cast_null, cast_int round, cast_int place) refl; finds = choice_found at.rules.is_strict at (showing (values_of (shape_of Choice))) round student place (Words project ∷ []); set = λ r int same. rw (cast_int round, cast_int place) refl };
+  keys = λ at round student place. choice_found (shape_of OldChoice).name at.rules.is_strict at (col 1 0 ∷ []) round student place [];
+  rows = λ at round student place project. record { one = refl; added = λ here. rw (cast_null, cast_int round, cast_int place) refl; shares = λ here r. rw (cast_null, cast_int round, cast_int place) refl; finds = choice_found (shape_of OldChoice).name at.rules.is_strict at (showing (values_of (shape_of OldChoice))) round student place (Words project ∷ []); set = λ r int same. rw (cast_int round, cast_int place) refl };
   keyed = λ at. inr (0, refl, refl);
 }
-texts Placement = record {
+texts OldPlacement = record {
   read = record { body = _; create = refl; insert = refl; update = refl; delete = refl; select = refl; defined = refl; unlisted = refl; laid = λ schema place base. refl; shows = λ place r. refl };
-  tested = λ is_strict. either (Anywhere Placement (AreTested Placement)) is_strict (λ schema at tree bare checks there. record { removal = rw there (rw there (rw there refl)); change = rw there (rw there (rw there refl)) }) (λ schema at tree bare checks there. record { removal = rw there (rw there (rw there refl)); change = rw there (rw there (rw there refl)) });
+  tested = λ is_strict. either (Anywhere OldPlacement (AreTested OldPlacement)) is_strict (λ schema at tree bare checks there. record { removal = rw there (rw there (rw there refl)); change = rw there (rw there (rw there refl)) }) (λ schema at tree bare checks there. record { removal = rw there (rw there (rw there refl)); change = rw there (rw there (rw there refl)) });
   all = λ schema at place there low. rw there (rw low (rw there refl));
   keys = λ at student r. refl;
   rows = λ at student round project rank. record { one = refl; added = λ here. rw (cast_null, cast_int round, cast_int rank) refl; shares = λ here r. rw cast_null refl; finds = λ r. refl; set = λ r int same. rw (cast_int round, cast_int rank) refl };
@@ -114,6 +114,22 @@ texts RoundAim = record {
   keys = λ at round r. refl;
   rows = λ at round generous. record { one = refl; added = λ here. rw (cast_int round, cast_int generous) refl; shares = λ here r. rw (cast_int round) refl; finds = λ r. refl; set = λ r int same. rw (rowid_is r round int (and_parts _ _ same).0, cast_int round, cast_int generous) refl };
   keyed = λ at. inl refl;
+}
+texts Choice = record {
+  read = record { body = _; create = refl; insert = refl; update = refl; delete = refl; select = refl; defined = refl; unlisted = refl; laid = λ schema place base. refl; shows = λ place r. refl };
+  tested = λ is_strict. either (Anywhere Choice (AreTested Choice)) is_strict (λ schema at tree bare checks there. record { removal = rw there (rw there (rw there refl)); change = rw there (rw there (rw there refl)) }) (λ schema at tree bare checks there. record { removal = rw there (rw there (rw there refl)); change = rw there (rw there (rw there refl)) });
+  all = λ schema at place there low. rw there (rw low (rw there refl));
+  keys = λ at round student place. choice_found (shape_of Choice).name at.rules.is_strict at (col 1 0 ∷ []) round student place [];
+  rows = λ at round student place project. record { one = refl; added = λ here. rw (cast_null, cast_int round, cast_int place) refl; shares = λ here r. rw (cast_null, cast_int round, cast_int place) refl; finds = choice_found (shape_of Choice).name at.rules.is_strict at (showing (values_of (shape_of Choice))) round student place (Words project ∷ []); set = λ r int same. rw (cast_int round, cast_int place) refl };
+  keyed = λ at. inr (0, refl, refl);
+}
+texts Placement = record {
+  read = record { body = _; create = refl; insert = refl; update = refl; delete = refl; select = refl; defined = refl; unlisted = refl; laid = λ schema place base. refl; shows = λ place r. refl };
+  tested = λ is_strict. either (Anywhere Placement (AreTested Placement)) is_strict (λ schema at tree bare checks there. record { removal = rw there (rw there (rw there refl)); change = rw there (rw there (rw there refl)) }) (λ schema at tree bare checks there. record { removal = rw there (rw there (rw there refl)); change = rw there (rw there (rw there refl)) });
+  all = λ schema at place there low. rw there (rw low (rw there refl));
+  keys = λ at student r. refl;
+  rows = λ at student round project rank. record { one = refl; added = λ here. rw (cast_null, cast_int round, cast_int rank) refl; shares = λ here r. rw cast_null refl; finds = λ r. refl; set = λ r int same. rw (cast_int round, cast_int rank) refl };
+  keyed = λ at. inr (0, refl, refl);
 }
 
 -- and what the text gives that takes a group of rows away

@@ -23,7 +23,7 @@ use Rattle.sqlite_schema.specs.Rules.{kind_code, kind_of}
 use Rattle.sqlite_value.specs.Keys.{plain}
 use Rattle.sqlite_value.specs.declared.keys.Order.{Order}
 use Rattle.tables.specs.declared.table.Table.{Table}
-use Rattle.tables.specs.declared.table.Table.TheVariants.{Edition, Supervisor, Project, Student, Round, Choice, Placement, Import, RoundAim}
+use Rattle.tables.specs.declared.table.Table.TheVariants.{Edition, Supervisor, Project, Student, Round, OldChoice, OldPlacement, Import, RoundAim, Choice, Placement}
 use Rattle.tables.specs.declared.table.Group.{Group}
 use Rattle.tables.specs.declared.table.Group.TheVariants as group
 
@@ -54,6 +54,22 @@ by_text name columns links = record { name = name; columns = columns; key = None
 -- one whose key is its first column, a number: the rowid
 abbrev pub by_rowid : List ℕ → List (List ℕ × Kind) → List (ℕ × List ℕ × List ℕ) → Shape
 by_rowid name columns links = record { name = name; columns = columns; key = Some 0; primary = 0 ∷ []; uniques = []; links = links; named = 1 }
+
+-- a table of choices: its key is a round, a student and a place
+abbrev pub choices : List ℕ → Shape
+choices name = record {
+  name = name;
+  columns = (codes "round", Integer) ∷ (codes "student", Text) ∷ (codes "place", Integer) ∷ (codes "project", Text) ∷ [];
+  key = None;
+  primary = 1 ∷ 2 ∷ 3 ∷ [];
+  uniques = (1 ∷ 2 ∷ 3 ∷ []) ∷ (1 ∷ 2 ∷ 4 ∷ []) ∷ [];
+  links = (1, codes "round", codes "number") ∷ (2, codes "student", codes "code") ∷ (4, codes "project", codes "code") ∷ [];
+  named = 3;
+}
+
+-- a table of placements
+abbrev pub placements : List ℕ → Shape
+placements name = by_text name ((codes "student", Text) ∷ (codes "round", Integer) ∷ (codes "project", Text) ∷ (codes "rank", Integer) ∷ []) ((1, codes "student", codes "code") ∷ (2, codes "round", codes "number") ∷ (3, codes "project", codes "code") ∷ [])
 
 -- the column at a place is compared with this value
 abbrev pub against : CompareOp → ℕ → Value → Term
@@ -132,17 +148,9 @@ telling Round = record {
   };
   checks = op2 Or (against Eq 2 (Int (pos 0))) (against Eq 2 (Int (pos 1))) ∷ [];
 }
-telling Choice = record {
+telling OldChoice = record {
   number = 5;
-  shape = record {
-    name = codes "choice";
-    columns = (codes "round", Integer) ∷ (codes "student", Text) ∷ (codes "place", Integer) ∷ (codes "project", Text) ∷ [];
-    key = None;
-    primary = 1 ∷ 2 ∷ 3 ∷ [];
-    uniques = (1 ∷ 2 ∷ 3 ∷ []) ∷ (1 ∷ 2 ∷ 4 ∷ []) ∷ [];
-    links = (1, codes "round", codes "number") ∷ (2, codes "student", codes "code") ∷ (4, codes "project", codes "code") ∷ [];
-    named = 3;
-  };
+  shape = choices (codes "choice");
   sql = record {
     create = codes "CREATE TABLE choice (round INTEGER NOT NULL REFERENCES round (number), student TEXT NOT NULL REFERENCES student (code), place INTEGER NOT NULL CHECK (place BETWEEN 1 AND 8), project TEXT NOT NULL REFERENCES project (code), PRIMARY KEY (round, student, place), UNIQUE (round, student, project)) STRICT";
     insert = codes "INSERT INTO choice (round, student, place, project) VALUES (?1, ?2, ?3, ?4)";
@@ -152,9 +160,9 @@ telling Choice = record {
   };
   checks = between 3 1 8 ∷ [];
 }
-telling Placement = record {
+telling OldPlacement = record {
   number = 6;
-  shape = by_text (codes "placement") ((codes "student", Text) ∷ (codes "round", Integer) ∷ (codes "project", Text) ∷ (codes "rank", Integer) ∷ []) ((1, codes "student", codes "code") ∷ (2, codes "round", codes "number") ∷ (3, codes "project", codes "code") ∷ []);
+  shape = placements (codes "placement");
   sql = record {
     create = codes "CREATE TABLE placement (student TEXT NOT NULL PRIMARY KEY REFERENCES student (code), round INTEGER NOT NULL REFERENCES round (number), project TEXT NOT NULL REFERENCES project (code), rank INTEGER NOT NULL CHECK (rank BETWEEN 1 AND 8)) STRICT";
     insert = codes "INSERT INTO placement (student, round, project, rank) VALUES (?1, ?2, ?3, ?4)";
@@ -188,10 +196,34 @@ telling RoundAim = record {
   };
   checks = op2 Or (against Eq 2 (Int (pos 0))) (against Eq 2 (Int (pos 1))) ∷ [];
 }
+telling Choice = record {
+  number = 9;
+  shape = choices (codes "choice12");
+  sql = record {
+    create = codes "CREATE TABLE choice12 (round INTEGER NOT NULL REFERENCES round (number), student TEXT NOT NULL REFERENCES student (code), place INTEGER NOT NULL CHECK (place BETWEEN 1 AND 12), project TEXT NOT NULL REFERENCES project (code), PRIMARY KEY (round, student, place), UNIQUE (round, student, project)) STRICT";
+    insert = codes "INSERT INTO choice12 (round, student, place, project) VALUES (?1, ?2, ?3, ?4)";
+    update = codes "UPDATE choice12 SET round = ?1, student = ?2, place = ?3, project = ?4 WHERE round = ?1 AND student = ?2 AND place = ?3";
+    delete = codes "DELETE FROM choice12 WHERE round = ?1 AND student = ?2 AND place = ?3";
+    select = codes "SELECT rowid, * FROM choice12";
+  };
+  checks = between 3 1 12 ∷ [];
+}
+telling Placement = record {
+  number = 10;
+  shape = placements (codes "placement12");
+  sql = record {
+    create = codes "CREATE TABLE placement12 (student TEXT NOT NULL PRIMARY KEY REFERENCES student (code), round INTEGER NOT NULL REFERENCES round (number), project TEXT NOT NULL REFERENCES project (code), rank INTEGER NOT NULL CHECK (rank BETWEEN 1 AND 12)) STRICT";
+    insert = codes "INSERT INTO placement12 (student, round, project, rank) VALUES (?1, ?2, ?3, ?4)";
+    update = codes "UPDATE placement12 SET student = ?1, round = ?2, project = ?3, rank = ?4 WHERE student = ?1";
+    delete = codes "DELETE FROM placement12 WHERE student = ?1";
+    select = codes "SELECT rowid, * FROM placement12";
+  };
+  checks = between 4 1 12 ∷ [];
+}
 
 -- all of them, by their numbers
 abbrev pub all_tables : List Table
-all_tables = Edition ∷ Supervisor ∷ Project ∷ Student ∷ Round ∷ Choice ∷ Placement ∷ Import ∷ RoundAim ∷ []
+all_tables = Edition ∷ Supervisor ∷ Project ∷ Student ∷ Round ∷ OldChoice ∷ OldPlacement ∷ Import ∷ RoundAim ∷ Choice ∷ Placement ∷ []
 
 abbrev pub number_of : Table → ℕ
 number_of table = (telling table).number
@@ -320,8 +352,8 @@ pub record Sharing : Type 0 where
 
 -- the groups, each told once
 abbrev pub sharing : Group → Sharing
-sharing group.List = record { table = Choice; before = 0; shared = 2; removal = codes "DELETE FROM choice WHERE round = ?1 AND student = ?2" }
-sharing group.Placed = record { table = Placement; before = 1; shared = 1; removal = codes "DELETE FROM placement WHERE round = ?1" }
+sharing group.List = record { table = Choice; before = 0; shared = 2; removal = codes "DELETE FROM choice12 WHERE round = ?1 AND student = ?2" }
+sharing group.Placed = record { table = Placement; before = 1; shared = 1; removal = codes "DELETE FROM placement12 WHERE round = ?1" }
 
 -- the kinds of the columns that they share
 abbrev pub kinds_shared : Group → List Kind

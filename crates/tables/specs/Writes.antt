@@ -11,6 +11,7 @@ use Rattle.sqlite_schema.specs.Rules.{equal}
 use Rattle.sqlite_schema.specs.declared.schema.Keys.TheVariants.{Enforced}
 use Rattle.tables.specs.Table.{Place, Rules, Lists}
 use Rattle.tables.specs.Keyed.{Stands}
+use Rattle.tables.specs.Inert.{IsActedOn}
 
 -- the schema is as it was, and of its tables at most the one of this tree has changed
 pub record WritesOnly (tree : ℕ) (old new : Database) : Type 0 where
@@ -22,12 +23,13 @@ abbrev pub IsInert : Schema → ℕ → Type 0
 IsInert schema tree = (olds news : List Row) → works schema Enforced 0 tree olds news ≡ []
 
 -- A table more, by these rules, which say whether it is STRICT, which references name their columns, and its CHECK rules; it holds these
--- rows, while the tables that the schema had are listed as before, with their rows.
+-- rows, while the tables that the schema had are listed as before, with their rows, and no further foreign key acts on them.
 pub record Makes (table : Place → AnyTable) (rules : Rules) (rows : List Row) (old new : Database) : Type 0 where
   pub place : Place
   pub ruled : place.rules ≡ rules
   pub stands : Stands table place rows new
   pub others : (t : AnyTable) → Lists old.schema t → Lists new.schema t × (new.trees t.tree ≡ old.trees t.tree) × (t.tree ≢ place.tree)
+  pub quiet : (t : AnyTable) → Lists old.schema t → IsActedOn new.schema.tables t.tree → IsActedOn old.schema.tables t.tree
 
 -- where no foreign key acts on the table, its rows become what f makes of them, and nothing else changes
 abbrev pub Turns : (Place → AnyTable) → (List Row → List Row) → Database → Database → Type 0

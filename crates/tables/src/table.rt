@@ -14,10 +14,14 @@ pub enum Table {
     Project,
     Student,
     Round,
-    Choice,
-    Placement,
+    /// The choices of earlier editions.
+    OldChoice,
+    /// The placements of earlier editions.
+    OldPlacement,
     Import,
     RoundAim,
+    Choice,
+    Placement,
 }
 
 /// A column of a table, by its name and its kind: NOT NULL, with no default.
@@ -106,6 +110,24 @@ const BY_ROWID: Keys = Keys {
     named: 1,
 };
 
+/// The first three columns are the key: a round, a student and a place. No two rows share a round, a student and a project.
+const BY_PLACE: Keys = Keys {
+    rowid: None,
+    primary: &[1, 2, 3],
+    uniques: &[&[1, 2, 3], &[1, 2, 4]],
+    named: 3,
+};
+
+/// The columns of a choice, and to which tables they refer.
+const CHOICE_COLUMNS: &[Told] = &[ROUND, STUDENT, PLACE, PROJECT];
+
+const CHOICE_LINKS: &[Link] = &[Link(1, ROUNDS), Link(2, STUDENTS), Link(4, PROJECTS)];
+
+/// Those of a placement.
+const PLACEMENT_COLUMNS: &[Told] = &[STUDENT, ROUND, PROJECT, RANK];
+
+const PLACEMENT_LINKS: &[Link] = &[Link(1, STUDENTS), Link(2, ROUNDS), Link(3, PROJECTS)];
+
 /// How a table is told: what it is, and what its statements say.
 pub(crate) struct Shape {
     pub name: &'static str,
@@ -122,7 +144,7 @@ pub(crate) struct Shape {
 /// The tables.
 #[rattlefmt::skip]
 mod rows {
-    use super::{BYTES, BY_ROWID, BY_TEXT, CODE, GENEROUS, ID, IMPORT, KIND, LABEL, NUMBER, OPEN, PLACE, PROJECT, PROJECTS, QUOTA, RANK, ROUND, ROUNDS, ROWS, STUDENT, STUDENTS, SUPERVISOR, SUPERVISORS, Keys, Link, Shape};
+    use super::{BYTES, BY_PLACE, BY_ROWID, BY_TEXT, CHOICE_COLUMNS, CHOICE_LINKS, CODE, GENEROUS, ID, IMPORT, KIND, LABEL, NUMBER, OPEN, PLACEMENT_COLUMNS, PLACEMENT_LINKS, QUOTA, ROUND, ROUNDS, ROWS, SUPERVISOR, SUPERVISORS, Link, Shape};
 
     pub(crate) static EDITION_SHAPE: Shape = Shape { name: "edition", columns: &[ID, NUMBER], keys: BY_ROWID, links: &[],
         create: "CREATE TABLE edition (id INTEGER NOT NULL PRIMARY KEY CHECK (id = 1), number INTEGER NOT NULL) STRICT",
@@ -149,12 +171,12 @@ mod rows {
         insert: "INSERT INTO round (number, open) VALUES (?1, ?2)", update: "UPDATE round SET open = ?2 WHERE number = ?1",
         delete: "DELETE FROM round WHERE number = ?1", select: "SELECT rowid, * FROM round" };
 
-    pub(crate) static CHOICE_SHAPE: Shape = Shape { name: "choice", columns: &[ROUND, STUDENT, PLACE, PROJECT], keys: Keys { rowid: None, primary: &[1, 2, 3], uniques: &[&[1, 2, 3], &[1, 2, 4]], named: 3 }, links: &[Link(1, ROUNDS), Link(2, STUDENTS), Link(4, PROJECTS)],
+    pub(crate) static OLD_CHOICE_SHAPE: Shape = Shape { name: "choice", columns: CHOICE_COLUMNS, keys: BY_PLACE, links: CHOICE_LINKS,
         create: "CREATE TABLE choice (round INTEGER NOT NULL REFERENCES round (number), student TEXT NOT NULL REFERENCES student (code), place INTEGER NOT NULL CHECK (place BETWEEN 1 AND 8), project TEXT NOT NULL REFERENCES project (code), PRIMARY KEY (round, student, place), UNIQUE (round, student, project)) STRICT",
         insert: "INSERT INTO choice (round, student, place, project) VALUES (?1, ?2, ?3, ?4)", update: "UPDATE choice SET round = ?1, student = ?2, place = ?3, project = ?4 WHERE round = ?1 AND student = ?2 AND place = ?3",
         delete: "DELETE FROM choice WHERE round = ?1 AND student = ?2 AND place = ?3", select: "SELECT rowid, * FROM choice" };
 
-    pub(crate) static PLACEMENT_SHAPE: Shape = Shape { name: "placement", columns: &[STUDENT, ROUND, PROJECT, RANK], keys: BY_TEXT, links: &[Link(1, STUDENTS), Link(2, ROUNDS), Link(3, PROJECTS)],
+    pub(crate) static OLD_PLACEMENT_SHAPE: Shape = Shape { name: "placement", columns: PLACEMENT_COLUMNS, keys: BY_TEXT, links: PLACEMENT_LINKS,
         create: "CREATE TABLE placement (student TEXT NOT NULL PRIMARY KEY REFERENCES student (code), round INTEGER NOT NULL REFERENCES round (number), project TEXT NOT NULL REFERENCES project (code), rank INTEGER NOT NULL CHECK (rank BETWEEN 1 AND 8)) STRICT",
         insert: "INSERT INTO placement (student, round, project, rank) VALUES (?1, ?2, ?3, ?4)", update: "UPDATE placement SET student = ?1, round = ?2, project = ?3, rank = ?4 WHERE student = ?1",
         delete: "DELETE FROM placement WHERE student = ?1", select: "SELECT rowid, * FROM placement" };
@@ -168,6 +190,16 @@ mod rows {
         create: "CREATE TABLE round_aim (round INTEGER NOT NULL PRIMARY KEY REFERENCES round (number), generous INTEGER NOT NULL CHECK (generous IN (0, 1))) STRICT",
         insert: "INSERT INTO round_aim (round, generous) VALUES (?1, ?2)", update: "UPDATE round_aim SET generous = ?2 WHERE round = ?1",
         delete: "DELETE FROM round_aim WHERE round = ?1", select: "SELECT rowid, * FROM round_aim" };
+
+    pub(crate) static CHOICE_SHAPE: Shape = Shape { name: "choice12", columns: CHOICE_COLUMNS, keys: BY_PLACE, links: CHOICE_LINKS,
+        create: "CREATE TABLE choice12 (round INTEGER NOT NULL REFERENCES round (number), student TEXT NOT NULL REFERENCES student (code), place INTEGER NOT NULL CHECK (place BETWEEN 1 AND 12), project TEXT NOT NULL REFERENCES project (code), PRIMARY KEY (round, student, place), UNIQUE (round, student, project)) STRICT",
+        insert: "INSERT INTO choice12 (round, student, place, project) VALUES (?1, ?2, ?3, ?4)", update: "UPDATE choice12 SET round = ?1, student = ?2, place = ?3, project = ?4 WHERE round = ?1 AND student = ?2 AND place = ?3",
+        delete: "DELETE FROM choice12 WHERE round = ?1 AND student = ?2 AND place = ?3", select: "SELECT rowid, * FROM choice12" };
+
+    pub(crate) static PLACEMENT_SHAPE: Shape = Shape { name: "placement12", columns: PLACEMENT_COLUMNS, keys: BY_TEXT, links: PLACEMENT_LINKS,
+        create: "CREATE TABLE placement12 (student TEXT NOT NULL PRIMARY KEY REFERENCES student (code), round INTEGER NOT NULL REFERENCES round (number), project TEXT NOT NULL REFERENCES project (code), rank INTEGER NOT NULL CHECK (rank BETWEEN 1 AND 12)) STRICT",
+        insert: "INSERT INTO placement12 (student, round, project, rank) VALUES (?1, ?2, ?3, ?4)", update: "UPDATE placement12 SET student = ?1, round = ?2, project = ?3, rank = ?4 WHERE student = ?1",
+        delete: "DELETE FROM placement12 WHERE student = ?1", select: "SELECT rowid, * FROM placement12" };
 }
 
 /// Rows of a table that go together: those that share some columns.
@@ -185,8 +217,8 @@ impl Group {
         ensures { result.now ≡ (sharing self).removal }
     {
         match self {
-            Group::List => "DELETE FROM choice WHERE round = ?1 AND student = ?2",
-            Group::Placed => "DELETE FROM placement WHERE round = ?1",
+            Group::List => "DELETE FROM choice12 WHERE round = ?1 AND student = ?2",
+            Group::Placed => "DELETE FROM placement12 WHERE round = ?1",
         }
     }
 }
@@ -210,10 +242,12 @@ impl Table {
             Table::Project => &rows::PROJECT_SHAPE,
             Table::Student => &rows::STUDENT_SHAPE,
             Table::Round => &rows::ROUND_SHAPE,
-            Table::Choice => &rows::CHOICE_SHAPE,
-            Table::Placement => &rows::PLACEMENT_SHAPE,
+            Table::OldChoice => &rows::OLD_CHOICE_SHAPE,
+            Table::OldPlacement => &rows::OLD_PLACEMENT_SHAPE,
             Table::Import => &rows::IMPORT_SHAPE,
             Table::RoundAim => &rows::ROUND_AIM_SHAPE,
+            Table::Choice => &rows::CHOICE_SHAPE,
+            Table::Placement => &rows::PLACEMENT_SHAPE,
         }
     }
 }

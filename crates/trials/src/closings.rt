@@ -179,9 +179,33 @@ const FORTY: &str =
 const FORTY_PLACES: &str =
     r#"GET /students/C$ |  | 200 OK | {"list":null,"name":"Ann","placed":{"project":"U$","rank":4,"round":1}}"#;
 
+/// An open round, a student, and two projects that have room.
+#[rattlefmt::skip]
+const OF_TWELVE: &str =
+    r#"PUT /supervisors/L | {"name":"Lee","quota":5}                     | 200 OK | {"ok":true}
+       POST /rounds       |                                              | 200 OK | {"round":1}
+       PUT /students/A    | {"name":"Ann"}                               | 200 OK | {"ok":true}
+       PUT /projects/P12  | {"name":"Pumps","quota":1,"supervisor":"L"}  | 200 OK | {"ok":true}
+       PUT /projects/P13  | {"name":"Pumps","quota":1,"supervisor":"L"}  | 200 OK | {"ok":true}"#;
+
+/// A project that has none.
+#[rattlefmt::skip]
+const NO_ROOM: &str =
+    r#"PUT /projects/P$ | {"name":"Pumps","quota":0,"supervisor":"L"} | 200 OK | {"ok":true}"#;
+
+/// A list of thirteen is none; of one of twelve the last choice has room.
+#[rattlefmt::skip]
+const TWELFTH_CHOICE: &str =
+    r#"PUT /lists/A        | {"choices":["P1","P2","P3","P4","P5","P6","P7","P8","P9","P10","P11","P12","P13"]} | 400 Bad Request | {"fault":"ListLength","number":23}
+       PUT /lists/A        | {"choices":["P1","P2","P3","P4","P5","P6","P7","P8","P9","P10","P11","P12"]}       | 200 OK | {"ok":true}
+       GET /students/A     |                                                                                    | 200 OK | {"list":["P1","P2","P3","P4","P5","P6","P7","P8","P9","P10","P11","P12"],"name":"Ann","placed":null}
+       POST /rounds/close  |                                                                                    | 200 OK | {"profile":[0,0,0,0,0,0,0,0,0,0,0,1],"round":1,"size":1}
+       GET /students/A     |                                                                                    | 200 OK | {"list":null,"name":"Ann","placed":{"project":"P12","rank":12,"round":1}}"#;
+
 /// Each play at tables of its own.
 #[rattlefmt::skip]
-static PLAYS: [&[Sitting]; 9] = [
+static PLAYS: [&[Sitting]; 10] = [
+    &[(&[Part::Lines(OF_TWELVE), Part::Counted(1, 12, NO_ROOM), Part::Lines(TWELFTH_CHOICE)], 1)],
     &[(&[Part::Lines(SCHOOL), Part::Lines(BEFORE), Part::Lines(GREEDY), Part::Lines(TWO_FIRSTS)], 3)],
     &[(&[Part::Lines(SCHOOL), Part::Lines(BEFORE), Part::Lines(GREEDY), Part::Lines(FIRST_AND_FOURTH)], 3)],
     &[(&[Part::Lines(SCHOOL), Part::Lines(BEFORE), Part::Lines(GENEROUS), Part::Lines(TWO_SECONDS)], 3)],

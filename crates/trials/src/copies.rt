@@ -30,7 +30,7 @@ static LINES: &str =
        spadesk import a4.db students I3 students.csv       | 0 | rows 2^n                                 |
        spadesk open-round a5.db                            | 0 | round 1^n                                |
        spadesk import a6.db lists I4 lists.csv             | 0 | rows 2^n                                 |
-       spadesk close-round a7.db                           | 0 | round 1 size 2 profile 1 1 0 0 0 0 0 0^n |
+       spadesk close-round a7.db                           | 0 | round 1 size 2 profile 1 1 0 0 0 0 0 0 0 0 0 0^n |
        spadesk report a8.db unplaced 2                     | 1 |                                          | refused 26: UnknownRound^n
        spadesk report a9.db placements 1                   | 0 | A                Q                 2^nB                P                 1^n |
        spadesk reopen-round a10.db                         | 0 | round 1^n                                |

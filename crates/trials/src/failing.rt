@@ -6,7 +6,7 @@ ghost use Rattle.sqlite_disk.specs.Memory.{memory_is_usable};
 use crate::judged::holds;
 use crate::kept::kept_by;
 use crate::played::{answer_of, asked, play_lines};
-use crate::school::{FIRST_EDITION, LISTED, SCHOOL};
+use crate::school::{FIRST_EDITION, LISTED, SCHOOL, SECOND_EDITION};
 use desk::Desk;
 use rolls::Refusal;
 use sqlite::{Alter, Connection, FileStore, Files, Options};
@@ -25,6 +25,8 @@ enum Before {
     Listed,
     /// Tables of the first edition, which are raised.
     FirstEdition,
+    /// Tables of the second edition, which are raised.
+    SecondEdition,
 }
 
 /// After how many pages of the log these are copied into the database file; what it holds; a request, or none where the database is
@@ -61,13 +63,17 @@ static ROWS: [Row; 10] = [
      r#"GET /students/S1 || 404 Not Found | {"fault":"UnknownStudent","number":15}"#),
 ];
 
-/// The same of files of the first edition.
+/// The same of files of earlier editions.
 #[rattlefmt::skip]
-static FIRST_EDITION_ROWS: [Row; 2] = [
+static EARLIER_ROWS: [Row; 4] = [
     (1_000, Before::FirstEdition, "", ""),
     (1, Before::FirstEdition,
      r#"POST /rounds/close || 200 OK | {"profile":[0,0,0,0^,],"round":2,"size":0}"#,
      r#"GET /rounds/2 || 200 OK | {"aim":"greedy","open":true,"placed":0,"profile":[0,0,0,0^,],"round":2,"students":1}"#),
+    (1_000, Before::SecondEdition, "", ""),
+    (1, Before::SecondEdition,
+     r#"POST /rounds/close || 200 OK | {"profile":[0,0,0,0^,],"round":2,"size":0}"#,
+     r#"GET /rounds/2 || 200 OK | {"aim":"generous","open":true,"placed":0,"profile":[0,0,0,0^,],"round":2,"students":1}"#),
 ];
 
 /// How a database that fails refuses a request.
@@ -239,6 +245,11 @@ fn fill<S: Alter + Drop>(
             connection.execute_batch(FIRST_EDITION)?;
             Ok(connection)
         }
+        Before::SecondEdition => {
+            connection.execute_batch(FIRST_EDITION)?;
+            connection.execute_batch(SECOND_EDITION)?;
+            Ok(connection)
+        }
     }
 }
 
@@ -363,7 +374,7 @@ fn what_is_asked_while_a_file_fails_is_made_or_refused(rt: HostRuntime) -> Resul
 
 #[test]
 fn a_file_that_fails_is_raised_or_stays(rt: HostRuntime) -> Result<(), Fail> {
-    for row in FIRST_EDITION_ROWS {
+    for row in EARLIER_ROWS {
         sweep_both(rt.alloc(), &rt, row)?;
     }
     Ok(())

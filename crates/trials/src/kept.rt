@@ -6,7 +6,7 @@ use std::alloc::{AllocError, Global};
 /// The texts of the schema, and then the rows of each table in the order of their keys, each as one text. Texts of rows stand by
 /// their bytes, since not all need be UTF-8.
 #[rattlefmt::skip]
-static QUERIES: [&str; 11] = [
+static QUERIES: [&str; 13] = [
     "SELECT group_concat(sql) FROM sqlite_schema",
     "SELECT group_concat(a) FROM other",
     "SELECT group_concat(id || ':' || number) FROM edition",
@@ -18,6 +18,8 @@ static QUERIES: [&str; 11] = [
     "SELECT group_concat(it) FROM (SELECT hex(student) || ':' || round || ':' || hex(project) || ':' || rank AS it FROM placement ORDER BY student)",
     "SELECT group_concat(it) FROM (SELECT hex(id) || ':' || hex(kind) || ':' || hex(bytes) || ':' || rows AS it FROM import ORDER BY id)",
     "SELECT group_concat(it) FROM (SELECT round || ':' || generous AS it FROM round_aim ORDER BY round)",
+    "SELECT group_concat(it) FROM (SELECT round || ':' || hex(student) || ':' || place || ':' || hex(project) AS it FROM choice12 ORDER BY round, student, place)",
+    "SELECT group_concat(it) FROM (SELECT hex(student) || ':' || round || ':' || hex(project) || ':' || rank AS it FROM placement12 ORDER BY student)",
 ];
 
 /// The text that a query answers, where it answers one.

@@ -231,8 +231,13 @@ fn what_is_refused_memory_is_made_when_it_is_asked_again(rt: HostRuntime) -> Res
     Ok(())
 }
 
-/// Filled tables as they are, and what makes them tables of the first edition.
-static EDITIONS: [&str; 2] = ["", "DROP TABLE round_aim; UPDATE edition SET number = 1;"];
+/// Filled tables as they are, and what makes them tables of the second edition, and of the first.
+#[rattlefmt::skip]
+static EDITIONS: [&str; 3] = [
+    "",
+    "INSERT INTO choice SELECT * FROM choice12; INSERT INTO placement SELECT * FROM placement12; DROP TABLE choice12; DROP TABLE placement12; UPDATE edition SET number = 2;",
+    "INSERT INTO choice SELECT * FROM choice12; INSERT INTO placement SELECT * FROM placement12; DROP TABLE choice12; DROP TABLE placement12; DROP TABLE round_aim; UPDATE edition SET number = 1;",
+];
 
 /// Opens a desk over tables with the nth request for memory refused: it is opened, or refused and the tables stay. Whether that request
 /// came.

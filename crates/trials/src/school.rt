@@ -38,3 +38,10 @@ pub(crate) static FIRST_EDITION: &str =
      INSERT INTO choice VALUES (1, 'A', 1, 'P'), (1, 'A', 2, 'Q'), (1, 'C', 1, 'Z'), (1, 'C', 2, 'P'), (2, 'B', 1, 'Z');
      INSERT INTO placement VALUES ('A', 1, 'Q', 2), ('C', 1, 'P', 2);
      INSERT INTO import VALUES ('I1', 'students', x'422C426F62', 1);";
+
+/// What makes them tables of the second edition, in which each round has an aim: the open one is generous.
+#[rattlefmt::skip]
+pub(crate) const SECOND_EDITION: &str =
+    "CREATE TABLE round_aim (round INTEGER NOT NULL PRIMARY KEY REFERENCES round (number), generous INTEGER NOT NULL CHECK (generous IN (0, 1))) STRICT;
+     INSERT INTO round_aim SELECT number, open FROM round;
+     UPDATE edition SET number = 2;";

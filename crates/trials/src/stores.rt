@@ -29,10 +29,24 @@ static TABLES: &str =
 
 /// What makes tables of the second edition of them, by hand.
 #[rattlefmt::skip]
-const RAISED: &str =
+const AIMED: &str =
     "CREATE TABLE round_aim (round INTEGER NOT NULL PRIMARY KEY REFERENCES round (number), generous INTEGER NOT NULL CHECK (generous IN (0, 1))) STRICT;
      INSERT INTO round_aim SELECT number, 0 FROM round;
      UPDATE edition SET number = number + 1;";
+
+/// What makes tables of the third edition of those.
+#[rattlefmt::skip]
+const LENGTHENED: &str =
+    "CREATE TABLE choice12 (round INTEGER NOT NULL REFERENCES round (number), student TEXT NOT NULL REFERENCES student (code), place INTEGER NOT NULL CHECK (place BETWEEN 1 AND 12), project TEXT NOT NULL REFERENCES project (code), PRIMARY KEY (round, student, place), UNIQUE (round, student, project)) STRICT;
+     CREATE TABLE placement12 (student TEXT NOT NULL PRIMARY KEY REFERENCES student (code), round INTEGER NOT NULL REFERENCES round (number), project TEXT NOT NULL REFERENCES project (code), rank INTEGER NOT NULL CHECK (rank BETWEEN 1 AND 12)) STRICT;
+     INSERT INTO choice12 SELECT * FROM choice;
+     INSERT INTO placement12 SELECT * FROM placement;
+     DELETE FROM choice;
+     DELETE FROM placement;
+     UPDATE edition SET number = number + 1;";
+
+/// What raises tables by an edition, by hand, one after the other.
+const RAISED: [&str; 2] = [AIMED, LENGTHENED];
 
 /// Rolls and the edition: a name, what is added to the tables, and a line of the office that they are opened as, or the name of the
 /// refusal.
@@ -48,9 +62,14 @@ static OF_ROLLS: &str =
        no code             | INSERT INTO student VALUES ('-A', 'Ann')                                                         | Damaged
        quota of 501        | INSERT INTO supervisor VALUES ('L', 'Lee', 501)                                                  | Damaged
        quota below 0       | INSERT INTO supervisor VALUES ('L', 'Lee', -1)                                                   | Damaged
-       another edition     | UPDATE edition SET number = 9                                                                    | Damaged
-       students missing    | DROP TABLE student                                                                               | Damaged
-       choices missing     | DROP TABLE choice                                                                                | Damaged"#;
+       another edition     | UPDATE edition SET number = 9                                                                    | Damaged"#;
+
+/// Tables that are missing.
+#[rattlefmt::skip]
+static OF_MISSING: &str =
+    r#"students missing | DROP TABLE student | Damaged
+       choices missing  | DROP TABLE choice  | Damaged
+       imports missing  | DROP TABLE import  | Damaged"#;
 
 /// Rolls of one supervisor, two projects and two students, for the tables of rounds.
 static ROLLS: &str =
@@ -77,7 +96,7 @@ static OF_ROUNDS: &str =
        thirteen rounds      | INSERT INTO round VALUES (1, 0), (2, 0), (3, 0), (4, 0), (5, 0), (6, 0), (7, 0), (8, 0), (9, 0), (10, 0), (11, 0), (12, 0), (13, 0) | Damaged
        placed while open    | INSERT INTO round VALUES (1, 1); INSERT INTO choice VALUES (1, 'A', 1, 'P'); INSERT INTO placement VALUES ('A', 1, 'P', 1) | Damaged
        a place is missing   | INSERT INTO round VALUES (1, 1); INSERT INTO choice VALUES (1, 'A', 1, 'P'), (1, 'A', 3, 'Q') | Damaged
-       a place of nine      | INSERT INTO round VALUES (1, 1); INSERT INTO choice VALUES (1, 'A', 9, 'P') | Damaged
+       a place of twelve    | INSERT INTO round VALUES (1, 1); INSERT INTO choice VALUES (1, 'A', 12, 'P') | Damaged
        at another rank      | INSERT INTO round VALUES (1, 0); INSERT INTO choice VALUES (1, 'A', 1, 'P'), (1, 'A', 2, 'Q'); INSERT INTO placement VALUES ('A', 1, 'Q', 1) | Damaged
        not in the list      | INSERT INTO round VALUES (1, 0); INSERT INTO choice VALUES (1, 'A', 1, 'P'); INSERT INTO placement VALUES ('A', 1, 'Q', 2) | Damaged
        listed once placed   | INSERT INTO round VALUES (1, 0), (2, 1); INSERT INTO choice VALUES (1, 'A', 1, 'P'), (2, 'A', 1, 'Q'); INSERT INTO placement VALUES ('A', 1, 'P', 1) | Damaged
@@ -98,7 +117,19 @@ static OF_AIMS: &str =
        aims without table  | DROP TABLE round_aim                              | Damaged
        the first number    | UPDATE edition SET number = 1                     | Damaged"#;
 
-/// Tables of the first edition beside one of the name that the second adds, or beside what cannot stand with it.
+/// Rows in the tables of earlier editions, and others missing, beside those that took their place.
+#[rattlefmt::skip]
+static OF_OLD_ROWS: &str =
+    r#"a choice            | INSERT INTO choice VALUES (3, 'B', 1, 'P')         | Damaged
+       another choice      | INSERT INTO choice VALUES (3, 'A', 1, 'P')         | Damaged
+       a placement         | INSERT INTO placement VALUES ('A', 1, 'Q', 2)      | Damaged
+       another placement   | INSERT INTO placement VALUES ('B', 2, 'Q', 1)      | Damaged
+       those tables go     | DROP TABLE choice; DROP TABLE placement            | Damaged
+       the new ones go     | DROP TABLE choice12; DROP TABLE placement12        | Damaged
+       the second number   | UPDATE edition SET number = 2                      | Damaged
+       a place of nine     | INSERT INTO choice12 VALUES (3, 'B', 9, 'Q')       | Damaged"#;
+
+/// Tables of the first edition beside one of a name that a later one adds, or beside what cannot stand with it.
 #[rattlefmt::skip]
 static OF_LATER_NAMES: &str =
     r#"a table            | CREATE TABLE round_aim (a INTEGER)                   | Damaged
@@ -106,7 +137,12 @@ static OF_LATER_NAMES: &str =
        as it is made      | CREATE TABLE round_aim (round INTEGER NOT NULL PRIMARY KEY REFERENCES round (number), generous INTEGER NOT NULL) STRICT; INSERT INTO round_aim VALUES (1, 0), (2, 0), (3, 0) | Damaged
        of a later number  | UPDATE edition SET number = 2                        | Damaged
        an index           | CREATE INDEX round_aim ON other (a)                  | Storage
-       what is acted on   | CREATE TABLE act (of INTEGER REFERENCES edition ON UPDATE CASCADE) | Storage"#;
+       what is acted on   | CREATE TABLE act (of INTEGER REFERENCES edition ON UPDATE CASCADE) | Storage
+       lists of twelve    | CREATE TABLE choice12 (a INTEGER)                    | Damaged
+       their placements   | CREATE TABLE placement12 (a INTEGER)                 | Damaged
+       their index        | CREATE INDEX placement12 ON other (a)                | Storage
+       lists acted on     | CREATE TABLE act (r INTEGER, s TEXT, p TEXT, FOREIGN KEY (r, s, p) REFERENCES choice (round, student, project) ON DELETE CASCADE) | Storage
+       students acted on  | CREATE TABLE act (of TEXT REFERENCES placement ON DELETE SET NULL) | Storage"#;
 
 /// What tables that were made by the program of the first edition are opened as.
 #[rattlefmt::skip]
@@ -115,7 +151,10 @@ static OF_FIRST_EDITION: &str =
        open round   | | GET /rounds/2   || 200 OK | {"aim":"greedy","open":true,"placed":0,"profile":[0,0,0,0^,],"round":2,"students":1}
        placement    | | GET /students/C || 200 OK | {"list":null,"name":"Cy","placed":{"project":"P","rank":2,"round":1}}
        list         | | GET /students/B || 200 OK | {"list":["Z"],"name":"Bob","placed":null}
-       import       | | POST /imports/students/I1 | B,Bob | 200 OK | {"rows":1}"#;
+       import       | | POST /imports/students/I1 | B,Bob | 200 OK | {"rows":1}
+       loads        | | GET /reports/loads/1      || 200 OK | L                     2    5^n  P                   1    1^n  Q                   1    1^n  Z                   0    0^n
+       placements   | | GET /reports/placements/1 || 200 OK | A                Q                 2^nC                P                 2^n
+       profile      | | GET /reports/profile/1    || 200 OK | ROUND       1 closed^nSTUDENTS    2^nPLACED      2^nRANK 1      0^nRANK 2      2^nRANK 3      0^nRANK 4      0^n^k"#;
 
 /// Two imports.
 const IMPORTS: &str =
@@ -134,8 +173,7 @@ static OF_IMPORTS: &str =
     r#"an unknown kind | INSERT INTO import VALUES ('I1', 'rooms', x'', 0)                                      | Damaged
        no code as id   | INSERT INTO import VALUES ('-A', 'students', x'', 0)                                   | Damaged
        too many rows   | INSERT INTO import VALUES ('I1', 'students', x'', 65537)                               | Damaged
-       rows below 0    | INSERT INTO import VALUES ('I1', 'students', x'', -1)                                  | Damaged
-       imports missing | DROP TABLE import                                                                      | Damaged"#;
+       rows below 0    | INSERT INTO import VALUES ('I1', 'students', x'', -1)                                  | Damaged"#;
 
 /// The tables of an office, with nobody on its rolls: without STRICT, but for one, and with references that name no column, but for
 /// one. A type is what its affinity says.
@@ -260,25 +298,40 @@ fn compare_staying(
     Ok(())
 }
 
-/// The same of a row over tables of the first edition, once as they are and once raised by hand. Where the row has a desk over them, they
-/// are opened as the raised ones.
+/// Tables with what a row adds, raised by hand by so many editions.
+fn raised(
+    alloc: Global,
+    before: &[&str],
+    row: &str,
+    count: usize,
+) -> Result<Connection<MemStore>, Fail> {
+    let mut conn = made(alloc, before, parts(row).0)?;
+    for (edition, text) in RAISED.iter().enumerate() {
+        if edition < count {
+            conn.execute_batch(text)?;
+        }
+    }
+    Ok(conn)
+}
+
+/// The same of a row over tables of the first edition, as they are and raised by hand. Where the row has a desk over them, they are opened
+/// as those of the latest.
 fn compare_editions(
     alloc: Global,
     rt: &impl Abort,
     before: &[&str],
     row: &str,
 ) -> Result<(), Fail> {
-    let (added, line) = parts(row);
-    let mut conn = made(alloc, before, added)?;
-    let mut raised = made(alloc, before, added)?;
-    raised.execute_batch(RAISED)?;
-    let kept = kept_by(alloc, &mut raised)?;
-    compare_opened(alloc, rt, raised, row, &kept)?;
-    if line.contains('|') {
-        return compare_opened(alloc, rt, conn, row, &kept);
+    let is_fit = parts(row).1.contains('|');
+    let mut latest = raised(alloc, before, row, RAISED.len())?;
+    let wanted = kept_by(alloc, &mut latest)?;
+    for count in 0..RAISED.len() + 1 {
+        let mut conn = raised(alloc, before, row, count)?;
+        let kept = kept_by(alloc, &mut conn)?;
+        let kept = if is_fit { &wanted } else { &kept };
+        compare_opened(alloc, rt, conn, row, kept)?;
     }
-    let kept = kept_by(alloc, &mut conn)?;
-    compare_opened(alloc, rt, conn, row, &kept)
+    Ok(())
 }
 
 /// The same of each row.
@@ -297,6 +350,7 @@ fn compare_hand_made(
 #[test]
 fn hand_made_tables_are_judged(rt: HostRuntime) -> Result<(), Fail> {
     compare_hand_made(rt.alloc(), &rt, &[TABLES], OF_ROLLS)?;
+    compare_staying(rt.alloc(), &rt, &[TABLES], OF_MISSING)?;
     compare_hand_made(rt.alloc(), &rt, &[TABLES, ROLLS], OF_ROUNDS)?;
     compare_hand_made(rt.alloc(), &rt, &[TABLES, ROLLS, ROUNDS], OF_FIT_ROUNDS)?;
     compare_hand_made(rt.alloc(), &rt, &[TABLES, IMPORTS], OF_KEPT_IMPORTS)?;
@@ -306,12 +360,13 @@ fn hand_made_tables_are_judged(rt: HostRuntime) -> Result<(), Fail> {
 }
 
 #[test]
-fn tables_of_the_first_edition_are_raised(rt: HostRuntime) -> Result<(), Fail> {
+fn tables_of_earlier_editions_are_raised(rt: HostRuntime) -> Result<(), Fail> {
     compare_hand_made(rt.alloc(), &rt, &[FIRST_EDITION], OF_FIRST_EDITION)?;
     let rounds = &[TABLES, ROLLS, ROUNDS];
     compare_staying(rt.alloc(), &rt, rounds, OF_LATER_NAMES)?;
-    let aimed = &[TABLES, ROLLS, ROUNDS, RAISED];
-    compare_staying(rt.alloc(), &rt, aimed, OF_AIMS)
+    let latest = &[TABLES, ROLLS, ROUNDS, AIMED, LENGTHENED];
+    compare_staying(rt.alloc(), &rt, latest, OF_AIMS)?;
+    compare_staying(rt.alloc(), &rt, latest, OF_OLD_ROWS)
 }
 
 #[test]

@@ -104,19 +104,19 @@ static SHOWN: &str =
        spadesk open-round school.db                            | 0 | round 1^n
        spadesk import school.db lists I4 lists.csv             | 0 | rows 20^n
        spadesk import school.db lists I4 lists.csv             | 0 | rows 20^n
-       spadesk close-round school.db                           | 0 | round 1 size 20 profile 14 4 2 0 0 0 0 0^n
+       spadesk close-round school.db                           | 0 | round 1 size 20 profile 14 4 2 0 0 0 0 0 0 0 0 0^n
        spadesk report school.db placements 1                   | 0 | S01              LOOM              3^nS02              COMPILER          2^nS03              BUGS              3^nS04              CIPHER            1^nS05              CIPHER            1^nS06              CHESS             1^nS07              CHESS             1^nS08              LANDING           1^nS09              PRIORITY          2^nS10              LANDING           1^nS11              SYMMETRY          2^nS12              COMPILER          1^nS13              COMPILER          1^nS14              NOTES             2^nS15              LOOM              1^nS16              SYMMETRY          1^nS17              SYMMETRY          1^nS18              BUGS              1^nS19              PATTERNS          1^nS20              CIPHER            1^n
        spadesk report school.db unplaced 1                     | 0 |
        spadesk report school.db loads 1                        | 0 | HAMILTON              3    4^n  LANDING             2    2^n  PRIORITY            1    3^nHOPPER                5    5^n  BUGS                2    3^n  COMPILER            3    3^nLOVELACE              3    4^n  LOOM                2    2^n  NOTES               1    2^nNOETHER               3    3^n  SYMMETRY            3    3^nTURING                6    6^n  CHESS               2    2^n  CIPHER              3    3^n  PATTERNS            1    2^n
-       spadesk report school.db profile 1                      | 0 | ROUND       1 closed^nSTUDENTS   20^nPLACED     20^nRANK 1     14^nRANK 2      4^nRANK 3      2^nRANK 4      0^nRANK 5      0^nRANK 6      0^nRANK 7      0^nRANK 8      0^n"#;
+       spadesk report school.db profile 1                      | 0 | ROUND       1 closed^nSTUDENTS   20^nPLACED     20^nRANK 1     14^nRANK 2      4^nRANK 3      2^nRANK 4      0^nRANK 5      0^nRANK 6      0^nRANK 7      0^nRANK 8      0^nRANK 9      0^nRANK 10     0^nRANK 11     0^nRANK 12     0^n"#;
 
 /// Requests over HTTP, and their answers.
 #[rattlefmt::skip]
 static SERVED: &str =
-    r#"GET /rounds/1         | {"aim":"greedy","open":false,"placed":20,"profile":[14,4,2,0,0,0,0,0],"round":1,"students":20}
+    r#"GET /rounds/1         | {"aim":"greedy","open":false,"placed":20,"profile":[14,4,2,0,0,0,0,0,0,0,0,0],"round":1,"students":20}
        GET /students/S01     | {"list":null,"name":"Amina","placed":{"project":"LOOM","rank":3,"round":1}}
        POST /rounds/reopen   | {"round":1}
-       GET /preview          | {"profile":[14,4,2,0,0,0,0,0],"size":20}"#;
+       GET /preview          | {"profile":[14,4,2,0,0,0,0,0,0,0,0,0],"size":20}"#;
 
 /// What is told of the connections.
 const TOLD: &str =

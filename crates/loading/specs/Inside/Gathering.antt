@@ -1,5 +1,5 @@
 -- What rows hold, taken in stage by stage.
-use Rattle.std.specs.Prelude.{ℕ, zero, suc, ◌+◌, ◌==◌, nat_le, Bool, true, not, ◌&&◌, List, [], ◌∷◌, ◌++◌, length, Option, Some, None, is_some, if◌then◌else◌}
+use Rattle.std.specs.Prelude.{ℕ, zero, suc, ◌+◌, ◌==◌, nat_le, Bool, true, false, not, ◌&&◌, List, [], ◌∷◌, ◌++◌, length, Option, Some, None, is_some, if◌then◌else◌}
 use Rattle.std.specs.List.{filter}
 use Rattle.std.specs.Option.{option_map_or, option_and_then}
 use Rattle.spa.specs.declared.TheConstants.{RANKS, MOST_PLACES}
@@ -60,8 +60,10 @@ with_row (row.Choice round student place project) o =
 with_row (row.Placement student round project rank) o = record o { placements = put placement_key (record { student = student; round = round; project = project; rank = rank }) o.placements }
 with_row (row.RoundAim round aim) o = record o { aims = put aim_key (record { round = round; aim = aim }) o.aims }
 with_row (row.Import id kind bytes rows) o = record o { imports = put import_key (record { id = id; kind = kind; bytes = bytes; rows = rows }) o.imports }
+with_row (row.OldChoice round student place project) o = o
+with_row (row.OldPlacement student round project rank) o = o
 
--- whether a row has the form of an entry's, and a choice is the next of its list, in a round that is held
+-- whether a row has the form of an entry's, and a choice is the next of its list, in a round that is held; one of the tables of earlier editions has it never
 abbrev pub has_form : State → Row → Bool
 has_form o (row.Supervisor code label quota) = is_code code && (is_label label && nat_le quota MOST_PLACES)
 has_form o (row.Project code label supervisor quota) = is_code code && (is_label label && (is_code supervisor && nat_le quota MOST_PLACES))
@@ -71,6 +73,8 @@ has_form o (row.Choice round student place project) = is_code student && (is_cod
 has_form o (row.Placement student round project rank) = is_code student && is_code project
 has_form o (row.RoundAim round aim) = true
 has_form o (row.Import id kind bytes rows) = is_code id && (nat_le (length bytes) MOST_IMPORT_BYTES && nat_le rows MOST_IMPORT_BYTES)
+has_form o (row.OldChoice round student place project) = false
+has_form o (row.OldPlacement student round project rank) = false
 
 -- whether nothing is held at a row's key
 abbrev pub is_new : State → Row → Bool

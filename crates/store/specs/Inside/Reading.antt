@@ -6,7 +6,7 @@ use Rattle.sqlite.specs.Effect.{Database}
 use Rattle.rolls.specs.declared.row.Row.{Row}
 use Rattle.rolls.specs.declared.row.Row.TheVariants as row
 use Rattle.tables.specs.declared.table.Table.{Table}
-use Rattle.tables.specs.declared.table.Table.TheVariants.{Supervisor, Project, Student, Round, Choice, Placement, Import, RoundAim}
+use Rattle.tables.specs.declared.table.Table.TheVariants.{Supervisor, Project, Student, Round, OldChoice, OldPlacement, Import, RoundAim, Choice, Placement}
 use Rattle.rolls.specs.declared.row.RowKey.{RowKey}
 use Rattle.rolls.specs.declared.row.Change.{Change}
 use Rattle.rolls.specs.Fit.{IsFit}
@@ -16,7 +16,7 @@ use Rattle.rolls.specs.State.{State}
 use Rattle.editions.specs.declared.Edition.{Edition as AnEdition}
 use Rattle.editions.specs.Editions.{Allows, AreRowsIn, HaveNoLater, row_at}
 use Rattle.store.specs.Tables.{HoldIn, StandsIn}
-use Rattle.store.specs.Inside.Raising.{NeedNothing}
+use Rattle.store.specs.Inside.Raising.{AskRaised}
 use Rattle.store.specs.Rows.{IsAmong, columns, is_in, columns_of}
 use Rattle.sqlite.specs.Schema.{Schema}
 use Rattle.sqlite.specs.State.{State as Seen, IsUnchanged}
@@ -34,6 +34,8 @@ IsTyped (row.Choice round student place project) = (round < 2 ^ 32) × IsUtf8 st
 IsTyped (row.Placement student round project rank) = IsUtf8 student × (round < 2 ^ 32) × IsUtf8 project × (rank < 2 ^ 32)
 IsTyped (row.RoundAim round aim) = round < 2 ^ 32
 IsTyped (row.Import id kind bytes rows) = IsUtf8 id × (rows < 2 ^ 32)
+IsTyped (row.OldChoice round student place project) = (round < 2 ^ 32) × IsUtf8 student × (place < 2 ^ 32) × IsUtf8 project
+IsTyped (row.OldPlacement student round project rank) = IsUtf8 student × (round < 2 ^ 32) × IsUtf8 project × (rank < 2 ^ 32)
 
 -- the table is one of supervisors, projects or students
 abbrev pub is_of_rolls : Table → Bool
@@ -49,6 +51,8 @@ is_of_rounds Choice = true
 is_of_rounds Placement = true
 is_of_rounds Import = true
 is_of_rounds RoundAim = true
+is_of_rounds OldChoice = true
+is_of_rounds OldPlacement = true
 is_of_rounds _ = false
 
 -- a row of the table, whose columns these are after its rowid
@@ -124,7 +128,7 @@ pub record Finds (e : AnEdition) (office : State) (changes : List Change) (old n
   pub holds : HoldIn e old.now (row_at e office)
   pub allowed : Allows e office
   pub fit : IsFit office
-  pub nothing : NeedNothing changes
+  pub asks : AskRaised changes
   pub turned : (k : RowKey) → after_changes changes (row_at e office) k ≡ row_of office k
 
 -- one of these tables holds columns that no row has

@@ -1,17 +1,18 @@
-use Rattle.std.proofs.Common.{◌≡◌, Err, inl, inr, ap, subst, rules}
+use Rattle.std.proofs.Common.{◌≡◌, ◌↔◌, false, Err, inl, inr, ap, subst, rules}
 use Rattle.sqlite.specs.Held.{state}
-use Rattle.tables.specs.declared.table.Table.TheVariants.{Edition}
-use Rattle.store.specs.Saving.{IsActedOnAt, IsLeftAlone}
+use Rattle.sqlite.specs.Schema.{Schema}
+use Rattle.store.specs.Editions.{raised}
+use Rattle.store.specs.Saving.{AreActedOnAmong}
 use Rattle.store.specs.Inside.Raising.{Rises}
 use Rattle.store.proofs.Commit.{made_one, sound_one, saved_by, left_by, dropped_by}
 use Rattle.sqlite.specs.State.{State as Seen}
 use Rattle.tables.specs.declared.fault.TableFault.TheVariants.{Storage}
 use Rattle.store.specs.Causes.{IsHinderedToRaise}
-use Rattle.store.proofs.Raised.{begun_alone, rises_by, stopped_within}
+use Rattle.store.proofs.Raised.{begun_quiet, none_acts, rises_by, stopped_within}
 use Rattle.store.proofs.raising.raise.Goals as goal
 
-pub returns-then-not-is_left-clause-cause : goal.returns-then-not-is_left-clause-cause
-returns-then-not-is_left-clause-cause g c settled clean h = record { why = inr (inr (inl (subst (IsActedOnAt Edition) c.schema.ensures.value (c.is_left.ensures.exact.0 c.if-not-is_left.true)))) }
+pub returns-then-not-are_left_among-clause-cause : goal.returns-then-not-are_left_among-clause-cause
+returns-then-not-are_left_among-clause-cause g c settled clean h = record { why = inr (inr (inl (subst (AreActedOnAmong raised) c.schema.ensures.value (c.are_left_among.ensures.exact.0 c.if-not-are_left_among.true)))) }
 
 pub returns-in_err-lift-clause-cause : goal.returns-in_err-lift-clause-cause
 returns-in_err-lift-clause-cause g c settled clean h =
@@ -24,10 +25,10 @@ pub returns-in_err-lift-clause-crash : goal.returns-in_err-lift-clause-crash
 returns-in_err-lift-clause-crash g c = dropped_by (state g.S.Store c.args.conn.now) (state g.S.Store c.transaction-tx.result.conn.now) (ap (state g.S.Store) c.transaction-tx.ensures.begun) (state g.S.Store c.lift.new.tx.conn.now) _ (Rises c.args.edition c.args.changes.now) c.lift.ensures.step.survives (search rules)
 
 pub returns-in-Ok-clause-ok : goal.returns-in-Ok-clause-ok
-returns-in-Ok-clause-ok g c clean = saved_by (state g.S.Store c.args.conn.now) (state g.S.Store c.transaction-tx.result.conn.now) (ap (state g.S.Store) c.transaction-tx.ensures.begun) (state g.S.Store c.lift.new.tx.conn.now) _ (Rises c.args.edition c.args.changes.now) (λ clean. made_one _ _ _ (rises_by c.args.edition c.args.changes.now _ _ (begun_alone (state g.S.Store c.args.conn.now) (state g.S.Store c.transaction-tx.result.conn.now) (ap (state g.S.Store) c.transaction-tx.ensures.begun) (subst (IsLeftAlone Edition) c.schema.ensures.value (c.is_left.ensures.sound c.if-not-is_left.false))) (c.in_ok-lift.ensures.step.did clean))) (search rules) (search rules) clean
+returns-in-Ok-clause-ok g c clean = saved_by (state g.S.Store c.args.conn.now) (state g.S.Store c.transaction-tx.result.conn.now) (ap (state g.S.Store) c.transaction-tx.ensures.begun) (state g.S.Store c.lift.new.tx.conn.now) _ (Rises c.args.edition c.args.changes.now) (λ clean. made_one _ _ _ (rises_by c.args.edition c.args.changes.now _ _ (begun_quiet (state g.S.Store c.args.conn.now) (state g.S.Store c.transaction-tx.result.conn.now) (ap (state g.S.Store) c.transaction-tx.ensures.begun) (none_acts c.are_left_among.result (state g.S.Store c.args.conn.now).now.schema c.if-not-are_left_among.false (subst (λ (s : Schema). (c.are_left_among.result ≡ false) ↔ AreActedOnAmong raised s) c.schema.ensures.value c.are_left_among.ensures.exact))) (c.in_ok-lift.ensures.step.did clean))) (search rules) (search rules) clean
 
 pub returns-in-Ok-clause-crash : goal.returns-in-Ok-clause-crash
-returns-in-Ok-clause-crash g c = left_by (state g.S.Store c.args.conn.now) (state g.S.Store c.transaction-tx.result.conn.now) (ap (state g.S.Store) c.transaction-tx.ensures.begun) (state g.S.Store c.lift.new.tx.conn.now) _ (Rises c.args.edition c.args.changes.now) (λ clean. made_one _ _ _ (rises_by c.args.edition c.args.changes.now _ _ (begun_alone (state g.S.Store c.args.conn.now) (state g.S.Store c.transaction-tx.result.conn.now) (ap (state g.S.Store) c.transaction-tx.ensures.begun) (subst (IsLeftAlone Edition) c.schema.ensures.value (c.is_left.ensures.sound c.if-not-is_left.false))) (c.in_ok-lift.ensures.step.did clean))) (λ clean. sound_one _ _ _ (c.in_ok-lift.ensures.step.did clean)) c.in_ok-lift.ensures.step.survives (search rules)
+returns-in-Ok-clause-crash g c = left_by (state g.S.Store c.args.conn.now) (state g.S.Store c.transaction-tx.result.conn.now) (ap (state g.S.Store) c.transaction-tx.ensures.begun) (state g.S.Store c.lift.new.tx.conn.now) _ (Rises c.args.edition c.args.changes.now) (λ clean. made_one _ _ _ (rises_by c.args.edition c.args.changes.now _ _ (begun_quiet (state g.S.Store c.args.conn.now) (state g.S.Store c.transaction-tx.result.conn.now) (ap (state g.S.Store) c.transaction-tx.ensures.begun) (none_acts c.are_left_among.result (state g.S.Store c.args.conn.now).now.schema c.if-not-are_left_among.false (subst (λ (s : Schema). (c.are_left_among.result ≡ false) ↔ AreActedOnAmong raised s) c.schema.ensures.value c.are_left_among.ensures.exact))) (c.in_ok-lift.ensures.step.did clean))) (λ clean. sound_one _ _ _ (c.in_ok-lift.ensures.step.did clean)) c.in_ok-lift.ensures.step.survives (search rules)
 
 pub returns-in-Err-clause-crash : goal.returns-in-Err-clause-crash
-returns-in-Err-clause-crash g c = left_by (state g.S.Store c.args.conn.now) (state g.S.Store c.transaction-tx.result.conn.now) (ap (state g.S.Store) c.transaction-tx.ensures.begun) (state g.S.Store c.lift.new.tx.conn.now) _ (Rises c.args.edition c.args.changes.now) (λ clean. made_one _ _ _ (rises_by c.args.edition c.args.changes.now _ _ (begun_alone (state g.S.Store c.args.conn.now) (state g.S.Store c.transaction-tx.result.conn.now) (ap (state g.S.Store) c.transaction-tx.ensures.begun) (subst (IsLeftAlone Edition) c.schema.ensures.value (c.is_left.ensures.sound c.if-not-is_left.false))) (c.in_ok-lift.ensures.step.did clean))) (λ clean. sound_one _ _ _ (c.in_ok-lift.ensures.step.did clean)) c.in_ok-lift.ensures.step.survives (search rules)
+returns-in-Err-clause-crash g c = left_by (state g.S.Store c.args.conn.now) (state g.S.Store c.transaction-tx.result.conn.now) (ap (state g.S.Store) c.transaction-tx.ensures.begun) (state g.S.Store c.lift.new.tx.conn.now) _ (Rises c.args.edition c.args.changes.now) (λ clean. made_one _ _ _ (rises_by c.args.edition c.args.changes.now _ _ (begun_quiet (state g.S.Store c.args.conn.now) (state g.S.Store c.transaction-tx.result.conn.now) (ap (state g.S.Store) c.transaction-tx.ensures.begun) (none_acts c.are_left_among.result (state g.S.Store c.args.conn.now).now.schema c.if-not-are_left_among.false (subst (λ (s : Schema). (c.are_left_among.result ≡ false) ↔ AreActedOnAmong raised s) c.schema.ensures.value c.are_left_among.ensures.exact))) (c.in_ok-lift.ensures.step.did clean))) (λ clean. sound_one _ _ _ (c.in_ok-lift.ensures.step.did clean)) c.in_ok-lift.ensures.step.survives (search rules)

@@ -1,11 +1,10 @@
-use Rattle.std.proofs.Common.{◌≡◌, ◌++◌, ◌∙◌, Err, List, ap, map, subst, sym, arith, rules}
+use Rattle.std.proofs.Common.{◌≡◌, Err, List, subst, sym, arith, rules}
 use Rattle.sqlite.specs.State.{HasCleanDisk}
 use Rattle.sqlite.specs.Held.{state}
 use Rattle.rolls.specs.declared.row.Row.{Row}
 use Rattle.rolls.specs.declared.row.Change.{Change}
-use Rattle.rolls.specs.declared.row.Change.TheVariants.{Add}
 use Rattle.rolls.specs.From as from
-use Rattle.editions.specs.Editions.{more_rows}
+use Rattle.editions.specs.Editions.{upgrade}
 use Rattle.store.specs.Inside.Reading.{Finds}
 use Rattle.store.specs.declared.fault.StoreFault.TheVariants.{Damaged}
 use Rattle.store.proofs.FoundOffice.{found_in}
@@ -16,10 +15,9 @@ returns-clause-ok g c clean =
     let e = c.args.edition in
     let rows = c.in_ok-rows.rows.items in
     let office = c.in_ok-office.office in
-    let all = c.in_ok-append.ensures.items ∙ ap (λ (more : List Row). rows ++ more) (rw c.deref-2.ensures.value at c.in_ok-rest.ensures) in
-    let made : c.in_ok-changes.changes.items ≡ map Add (more_rows e rows) = c.in_ok-changes.ensures ∙ ap (map Add) (rw c.deref.ensures.value at c.in_ok-more.ensures) in
+    let made : c.in_ok-changes.changes.items ≡ upgrade e rows = rw c.deref.ensures.value at c.in_ok-changes.ensures in
     subst (λ (changes : List Change). Finds e office changes (state g.S.Store c.args.conn.now) (state g.S.Store c.rows_in.new.conn)) (sym made)
-    (found_in c.renewal_law.ensures c.adding_law.ensures e rows office _ _ (c.in_ok-rows.ensures.rows clean) c.fit.ensures.fit (subst (λ (it : List Row). from.AreRowsOf it office) all c.in_ok-office.ensures.rows))
+    (found_in c.renewal_law.ensures c.upgrade_law.ensures e rows office _ _ (c.in_ok-rows.ensures.rows clean) c.fit.ensures.fit (subst (λ (it : List Row). from.AreRowsOf it office) c.in_ok-all.ensures c.in_ok-office.ensures.rows))
 
 pub returns-clause-same : goal.returns-clause-same
 returns-clause-same g c clean = (c.in_ok-rows.ensures.rows clean).same
@@ -30,5 +28,4 @@ returns-in_err-office-clause-damaged g c clean h o fit stands =
     let rows = c.in_ok-rows.rows.items in
     let was : c.office_from.result ≡ Err Damaged = search rules in
     let held = c.in_ok-rows.ensures.rows clean in
-    let all = c.in_ok-append.ensures.items ∙ ap (λ (more : List Row). rows ++ more) (rw c.deref-2.ensures.value at c.in_ok-rest.ensures) in
-    c.office_from.ensures.unfit was o fit (subst (λ (it : List Row). from.AreRowsOf it o) (sym all) ((c.renewal_law.ensures e rows o held.none_later fit).0 (held.are o stands)))
+    c.office_from.ensures.unfit was o fit (subst (λ (it : List Row). from.AreRowsOf it o) (sym c.in_ok-all.ensures) ((c.renewal_law.ensures e rows o held.none_later fit).0 (held.are o stands)))

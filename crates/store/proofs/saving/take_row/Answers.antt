@@ -51,3 +51,17 @@ returns-in-RoundAim-clause-step g c = rw c.in-RoundAim.is (part_as _ _ _ _ _ (λ
 
 pub returns-in-RoundAim-clause-cause : goal.returns-in-RoundAim-clause-cause
 returns-in-RoundAim-clause-cause g c = rw c.in-RoundAim.is (rw c.params-to_sql-in-RoundAim.ensures at c.delete-in-RoundAim.ensures.cause)
+
+pub returns-in-OldChoice-clause-step : goal.returns-in-OldChoice-clause-step
+returns-in-OldChoice-clause-step g c =
+    rw c.in-OldChoice.is (part_as _ _ _ _ _ (λ _ p. stepped_as _ _ _ _ (hold_take _ _ _) p)
+    (rw (c.params-to_sql-in-OldChoice.ensures, c.params-to_sql-in-OldChoice-2.ensures, c.params-to_sql-in-OldChoice-3.ensures, c.as_str-in-OldChoice.ensures) at c.delete-in-OldChoice.ensures.step))
+
+pub returns-in-OldPlacement-clause-step : goal.returns-in-OldPlacement-clause-step
+returns-in-OldPlacement-clause-step g c = rw c.in-OldPlacement.is (part_as _ _ _ _ _ (λ _ p. stepped_as _ _ _ _ (hold_take _ _ _) p) (rw (c.params-to_sql-in-OldPlacement.ensures, c.as_str-in-OldPlacement.ensures) at c.delete-in-OldPlacement.ensures.step))
+
+pub returns-in-OldChoice-clause-cause : goal.returns-in-OldChoice-clause-cause
+returns-in-OldChoice-clause-cause g c = rw c.in-OldChoice.is (rw (c.params-to_sql-in-OldChoice.ensures, c.params-to_sql-in-OldChoice-2.ensures, c.params-to_sql-in-OldChoice-3.ensures, c.as_str-in-OldChoice.ensures) at c.delete-in-OldChoice.ensures.cause)
+
+pub returns-in-OldPlacement-clause-cause : goal.returns-in-OldPlacement-clause-cause
+returns-in-OldPlacement-clause-cause g c = rw c.in-OldPlacement.is (rw (c.params-to_sql-in-OldPlacement.ensures, c.as_str-in-OldPlacement.ensures) at c.delete-in-OldPlacement.ensures.cause)

@@ -66,3 +66,19 @@ returns-in-RoundAim-clause-step g c =
 
 pub returns-in-RoundAim-clause-cause : goal.returns-in-RoundAim-clause-cause
 returns-in-RoundAim-clause-cause g c = rw c.in-RoundAim.is (refused_entering c.args.way _ _ _ _ (rw (c.params-to_sql-in-RoundAim.ensures, c.params-to_sql-in-RoundAim-2.ensures, c.flag-in-RoundAim.ensures, c.is_generous.ensures) at c.enter-in-RoundAim.ensures.cause))
+
+pub returns-in-OldChoice-clause-step : goal.returns-in-OldChoice-clause-step
+returns-in-OldChoice-clause-step g c =
+    rw c.in-OldChoice.is (part_as _ _ _ _ _ (λ _ p. stepped_as _ _ _ _ (hold_enter c.args.way _ _ _) p)
+    (rw (c.params-to_sql-in-OldChoice.ensures, c.params-to_sql-in-OldChoice-2.ensures, c.params-to_sql-in-OldChoice-3.ensures, c.params-to_sql-in-OldChoice-4.ensures, c.as_str-in-OldChoice.ensures, c.as_str-in-OldChoice-2.ensures) at c.enter-in-OldChoice.ensures.step))
+
+pub returns-in-OldPlacement-clause-step : goal.returns-in-OldPlacement-clause-step
+returns-in-OldPlacement-clause-step g c =
+    rw c.in-OldPlacement.is (part_as _ _ _ _ _ (λ _ p. stepped_as _ _ _ _ (hold_enter c.args.way _ _ _) p)
+    (rw (c.params-to_sql-in-OldPlacement.ensures, c.params-to_sql-in-OldPlacement-2.ensures, c.params-to_sql-in-OldPlacement-3.ensures, c.params-to_sql-in-OldPlacement-4.ensures, c.as_str-in-OldPlacement.ensures, c.as_str-in-OldPlacement-2.ensures) at c.enter-in-OldPlacement.ensures.step))
+
+pub returns-in-OldChoice-clause-cause : goal.returns-in-OldChoice-clause-cause
+returns-in-OldChoice-clause-cause g c = rw c.in-OldChoice.is (refused_entering c.args.way _ _ _ _ (rw (c.params-to_sql-in-OldChoice.ensures, c.params-to_sql-in-OldChoice-2.ensures, c.params-to_sql-in-OldChoice-3.ensures, c.params-to_sql-in-OldChoice-4.ensures, c.as_str-in-OldChoice.ensures, c.as_str-in-OldChoice-2.ensures) at c.enter-in-OldChoice.ensures.cause))
+
+pub returns-in-OldPlacement-clause-cause : goal.returns-in-OldPlacement-clause-cause
+returns-in-OldPlacement-clause-cause g c = rw c.in-OldPlacement.is (refused_entering c.args.way _ _ _ _ (rw (c.params-to_sql-in-OldPlacement.ensures, c.params-to_sql-in-OldPlacement-2.ensures, c.params-to_sql-in-OldPlacement-3.ensures, c.params-to_sql-in-OldPlacement-4.ensures, c.as_str-in-OldPlacement.ensures, c.as_str-in-OldPlacement-2.ensures) at c.enter-in-OldPlacement.ensures.cause))

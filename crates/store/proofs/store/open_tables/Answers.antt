@@ -1,13 +1,13 @@
-use Rattle.std.proofs.Common.{◌≡◌, ◌≢◌, ◌∙◌, Err, inr, sym, subst, arith, rules}
+use Rattle.std.proofs.Common.{◌≡◌, ◌≢◌, ◌<◌, ◌∙◌, Err, inr, sym, subst, arith, rules}
 use Rattle.sqlite.proofs.StateLemmas.{survives_weaker}
 use Rattle.sqlite.specs.State.{HasCleanDisk}
 use Rattle.sqlite.specs.Held.{state}
 use Rattle.sqlite.specs.Schema.{Schema}
-use Rattle.editions.specs.declared.Edition.TheVariants.{First}
+use Rattle.editions.specs.declared.Edition.{Edition}
 use Rattle.store.specs.Causes.{IsHinderedOpening, IsHinderedToRaise}
 use Rattle.tables.specs.Steps.{IsKept}
 use Rattle.store.specs.declared.fault.StoreFault.TheVariants.{Damaged, Storage}
-use Rattle.store.specs.Editions.{beyond, latest}
+use Rattle.store.specs.Editions.{beyond, latest, number_of}
 use Rattle.store.specs.Tables.{HasNone, HasNoneOf}
 use Rattle.store.proofs.Causes.{unchanged_before}
 use Rattle.store.proofs.NewTables.{opens_new, founds_left}
@@ -31,7 +31,7 @@ pub returns-in_err-office-clause-damaged : goal.returns-in_err-office-clause-dam
 returns-in_err-office-clause-damaged g c clean h =
     let was : c.office_in.result ≡ Err Damaged = search rules in
     unfit_all c.edition_of-edition.result (state g.S.Store c.args.conn.now).now (subst (HasNoneOf (beyond c.edition_of-edition.result)) c.schema-2.ensures.value c.edition_of-edition.ensures.alone)
-    (subst (λ (s : Schema). c.edition_of-edition.result ≢ First → HasNoneOf (beyond First) s → ⊥) c.schema-2.ensures.value c.edition_of-edition.ensures.later) (c.office_in.ensures.damaged clean was)
+    (subst (λ (s : Schema). (e : Edition) → number_of e < number_of c.edition_of-edition.result → HasNoneOf (beyond e) s → ⊥) c.schema-2.ensures.value c.edition_of-edition.ensures.later) (c.office_in.ensures.damaged clean was)
 
 pub returns-then-eq-clause-ok : goal.returns-then-eq-clause-ok
 returns-then-eq-clause-ok g c clean =

@@ -3,3 +3,6 @@ use Rattle.tables.proofs.table.Table.shape.Goals as goal
 
 pub returns-in-Choice-clause-texts : goal.returns-in-Choice-clause-texts
 returns-in-Choice-clause-texts c = rw c.in-Choice.is refl
+
+pub returns-in-OldChoice-clause-texts : goal.returns-in-OldChoice-clause-texts
+returns-in-OldChoice-clause-texts c = rw c.in-OldChoice.is refl

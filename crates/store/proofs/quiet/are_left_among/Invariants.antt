@@ -2,7 +2,7 @@ use Rattle.std.proofs.Common.{take}
 use Rattle.sqlite_rules.specs.Lists.{Has}
 use Rattle.tables.specs.declared.table.Table.{Table}
 use Rattle.store.specs.Saving.{IsLeftAlone, IsActedOnAt}
-use Rattle.store.proofs.quiet.are_left.Given as goal
+use Rattle.store.proofs.quiet.are_left_among.Given as goal
 
 abbrev pub invariant-loop-table : goal.invariant-loop-table
 invariant-loop-table l = (table : Table) → Has (take l.table-index l.tables) table → IsLeftAlone table l.schema × (IsActedOnAt table l.schema → ⊥)
