@@ -1,13 +1,13 @@
 //! Benchmarks of the desk. They measure nothing themselves: count the instructions of a run.
 //!
 //! - `bench put N ROUND`: a known student is put N times at full rolls.
-//! - `bench list N ROUND`: the first N students put a list of eight in this round, where all 500 have one in every round
+//! - `bench list N ROUND`: the first N students put a list of twelve in this round, where all 500 have one in every round
 //!   before.
 //! - `bench relist N ROUND`: a student's list is put again N times in this round, where all 500 students have one.
-//! - `bench replace N ROUND`: a student's list is replaced N times by another one, of eight other projects, likewise.
+//! - `bench replace N ROUND`: a student's list is replaced N times by another one, of twelve other projects, likewise.
 //! - `bench import N`: an import of N students is made at a new desk.
 //! - `bench kept N`: a known student is put N times at full rolls, where 200 imports of 65,536 bytes are kept.
-//! - `bench close N ROUND`: a round of 500 lists of eight is closed and opened again N times, at 400 projects of quota 1.
+//! - `bench close N ROUND`: a round of 500 lists of twelve is closed and opened again N times, at 400 projects of quota 1.
 //!
 //! ROUND is 1 where it is left out, and counts for the lists alone. After it may stand FILE: then the database is this file,
 //! which must not be there before, and the log beside it. Else it is in memory.

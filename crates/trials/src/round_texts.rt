@@ -82,6 +82,8 @@ static FAULTY_TEXTS: &str =
        S,L,5^nZ,L,0,-1000001,0,0,0^,^n                                  | spadesk check round.txt | 1 |  | bad line 2^n | a price below the limit
        S,L,5^nZ,L,-0,0,0,0,0^,^n                                        | spadesk check round.txt | 1 |  | bad line 2^n | a zero with a sign
        S,L,5^nZ,L,0,0,0,0^,^n                                           | spadesk check round.txt | 1 |  | bad line 2^n | a number too few
+       S,L,5^nZ,L,0,0,0,0,0,0^,^n                                       | spadesk check round.txt | 1 |  | bad line 2^n | a number too many
+       S,L,5^nZ,L,0,0,0,0,0,0,0,0,0^n                                   | spadesk check round.txt | 1 |  | bad line 2^n | nine numbers, as of eight ranks
        S,L,5^nS,M,5^nZ,M,0,0,0,0,0^,^n                                  | spadesk check round.txt | 1 |  | bad line 3^n | a price of another
        S,L,5^nZ,L,0,0,0,0,0^,^nZ,M,0,0,0,0,0^,^n                        | spadesk check round.txt | 1 |  | bad line 3^n | a price too many
        S,L,5^nP,P,L,1^nC,A,P^nC,B,P^nU,A,0,0,0,0,0^,^nY,P,0,0,0,0,0^,^n | spadesk check round.txt | 1 |  | bad line 6^n | a section that stops early
@@ -130,13 +132,13 @@ fn a_list_is_no_longer_than_the_ranks(rt: HostRuntime) -> Result<(), Fail> {
     prints(&rt, &rt, checked, (b"", bad.as_bytes()), 1)
 }
 
-/// A text of 500 lists of eight projects, each with codes of 16 bytes, and a bad line behind them.
+/// A text of 500 lists of twelve projects, each with codes of 16 bytes, and a bad line behind them.
 fn long_text(alloc: Global) -> Result<String, AllocError> {
     let mut text = String::from_str(alloc, "S,L,5\n")?;
     let mut choices = String::new(alloc);
-    for n in 1..9u32 {
-        text.push_str(&format!(in alloc; "P,PPPPPPPPPPPPPPP{n},L,1\n")?)?;
-        choices.push_str(&format!(in alloc; ",PPPPPPPPPPPPPPP{n}")?)?;
+    for n in 10..22u32 {
+        text.push_str(&format!(in alloc; "P,PPPPPPPPPPPPPP{n},L,1\n")?)?;
+        choices.push_str(&format!(in alloc; ",PPPPPPPPPPPPPP{n}")?)?;
     }
     for n in 100..600u32 {
         text.push_str(&format!(in alloc; "C,S{n}{choices}\n")?)?;
@@ -145,11 +147,11 @@ fn long_text(alloc: Global) -> Result<String, AllocError> {
     Ok(text)
 }
 
-// The bad line stands behind byte 71,000.
+// The bad line stands behind byte 105,000.
 #[test]
 fn a_long_text_is_read_to_its_end(rt: HostRuntime) -> Result<(), Fail> {
     fs::write(&rt, "round.txt", &long_text(rt.alloc())?)?;
-    let bad = b"bad line 510\n";
+    let bad = b"bad line 514\n";
     prints(&rt, &rt, "spadesk solve round.txt", (b"", bad), 1)
 }
 
