@@ -1,20 +1,15 @@
-use Rattle.std.proofs.Common.{ℕ, ◌∙◌, arith, List, Option}
-use Rattle.spa.specs.Shape.{Shape}
+use Rattle.std.proofs.Common.{◌∙◌, arith}
 use Rattle.spa.proofs.Places.{left_none, left_some}
-use Rattle.network.specs.Seen.{shape_of}
 use Rattle.solver.proofs.OneMoreStudent.{place_held}
 use Rattle.solver.proofs.session.placed.Goals as goal
 use Rattle.solver.proofs.session.placed.Goals.{in-Some, in_default}
 
 pub loop-student-preserved : goal.loop-student-preserved
 loop-student-preserved c =
-    let i : Shape = shape_of c.args.network.now in
-    let ks : List (Option ℕ) = c.args.network.now.places in
-    let s : ℕ = c.loop-student.student in
-    let it = place_held c.requires.kept.0 c.args.network.now c.args.students s c.place_of.result c.requires.kept.1 c.requires.places.one_each c.loop-student-test.true c.place_of.ensures in
+    let it = place_held c.requires.kept.0 c.args.network.now c.args.students c.loop-student.student c.place_of.result c.requires.kept.1 c.requires.places.one_each c.loop-student-test.true c.place_of.ensures in
     let so_far = c.loop-student.invariant.so_far in
     let small = c.loop-student.invariant.small in
     elim c.match-place_of.branch [
-      | in-Some w ↦ let r = left_some s _ i.students ks it.known it.held (it.here ∙ w.in-Some.is) in record { so_far = omega (arith, r, so_far, w.placed-is); small = omega (arith, small, w.placed-is) }
-      | in_default w ↦ let r = left_none s i.students ks it.known it.held (it.here ∙ w.in_default.is) in record { so_far = omega (arith, r, so_far, w.placed-is); small = omega (arith, small, w.placed-is) }
+      | in-Some w ↦ let r = left_some _ _ _ _ it.known it.held (it.here ∙ w.in-Some.is) in record { so_far = omega (arith, r, so_far, w.placed-is); small = omega (arith, small, w.placed-is) }
+      | in_default w ↦ let r = left_none _ _ _ it.known it.held (it.here ∙ w.in_default.is) in record { so_far = omega (arith, r, so_far, w.placed-is); small = omega (arith, small, w.placed-is) }
     ]
