@@ -176,25 +176,20 @@ fn put(steps: &mut Vec<Step>, times: usize) -> Result<(), AllocError> {
     Ok(())
 }
 
-/// A student's list is put again so many times in this round.
-fn relist(steps: &mut Vec<Step>, times: usize, round: usize) -> Result<(), AllocError> {
-    fill_rounds(steps, MOST_STUDENTS, round)?;
-    for _ in 0..times {
-        steps.push(Step::List {
-            student: 0,
-            chosen_by: 0,
-        })?;
-    }
-    Ok(())
-}
-
-/// A student's list is replaced so many times in this round, by the choices of the next student and by the first ones in turn.
-fn replace(steps: &mut Vec<Step>, times: usize, round: usize) -> Result<(), AllocError> {
+/// A student's list is put again so many times in this round, or replaced, by the choices of the next student and by the first ones in
+/// turn.
+fn relist(
+    steps: &mut Vec<Step>,
+    times: usize,
+    round: usize,
+    is_replaced: bool,
+) -> Result<(), AllocError> {
     fill_rounds(steps, MOST_STUDENTS, round)?;
     for n in 0..times {
+        let chosen_by = if is_replaced { 1 - n % 2 } else { 0 };
         steps.push(Step::List {
             student: 0,
-            chosen_by: 1 - n % 2,
+            chosen_by,
         })?;
     }
     Ok(())
@@ -230,8 +225,8 @@ fn steps(
     match what {
         "put" => put(&mut steps, times)?,
         "list" => fill_rounds(&mut steps, times, round)?,
-        "relist" => relist(&mut steps, times, round)?,
-        "replace" => replace(&mut steps, times, round)?,
+        "relist" => relist(&mut steps, times, round, false)?,
+        "replace" => relist(&mut steps, times, round, true)?,
         "close" => close(&mut steps, times)?,
         "import" => steps.push(Step::Import(times))?,
         "kept" => kept(&mut steps, times)?,

@@ -30,34 +30,36 @@ const TWO_FIRSTS: &str =
        GET /students/A    |                       | 200 OK | {"list":null,"name":"Ann","placed":{"project":"P","rank":1,"round":1}}
        GET /students/B    |                       | 200 OK | {"list":null,"name":"Bob","placed":{"project":"Q","rank":1,"round":1}}"#;
 
+/// The first choice of A is the second one of C, whose only other choice with a place is the fourth.
+#[rattlefmt::skip]
+const FAR_LISTS: &str =
+    r#"PUT /lists/A | {"choices":["X","V"]}         | 200 OK | {"ok":true}
+       GET /preview |                               | 200 OK | {"profile":[1,0,0,0^,],"size":1}
+       PUT /lists/C | {"choices":["Z","X","Y","U"]} | 200 OK | {"ok":true}"#;
+
 /// A first choice and a fourth come before two second ones.
 #[rattlefmt::skip]
 const FIRST_AND_FOURTH: &str =
-    r#"PUT /lists/A       | {"choices":["X","V"]}         | 200 OK | {"ok":true}
-       PUT /lists/C       | {"choices":["Z","X","Y","U"]} | 200 OK | {"ok":true}
-       POST /rounds/close |                               | 200 OK | {"profile":[1,0,0,1^,],"round":1,"size":2}
-       GET /students/A    |                               | 200 OK | {"list":null,"name":"Ann","placed":{"project":"X","rank":1,"round":1}}
-       GET /students/C    |                               | 200 OK | {"list":null,"name":"Cy","placed":{"project":"U","rank":4,"round":1}}"#;
+    r#"POST /rounds/close | | 200 OK | {"profile":[1,0,0,1^,],"round":1,"size":2}
+       GET /students/A    | | 200 OK | {"list":null,"name":"Ann","placed":{"project":"X","rank":1,"round":1}}
+       GET /students/C    | | 200 OK | {"list":null,"name":"Cy","placed":{"project":"U","rank":4,"round":1}}"#;
 
 /// By the other aim two second choices come before a first and a fourth, also once the round was opened again. The aim stays the round's
 /// own.
 #[rattlefmt::skip]
 const TWO_SECONDS: &str =
-    r#"PUT /lists/A        | {"choices":["X","V"]}         | 200 OK | {"ok":true}
-       GET /preview        |                               | 200 OK | {"profile":[1,0,0,0^,],"size":1}
-       PUT /lists/C        | {"choices":["Z","X","Y","U"]} | 200 OK | {"ok":true}
-       GET /preview        |                               | 200 OK | {"profile":[0,2,0,0^,],"size":2}
-       POST /rounds/close  |                               | 200 OK | {"profile":[0,2,0,0^,],"round":1,"size":2}
-       GET /students/A     |                               | 200 OK | {"list":null,"name":"Ann","placed":{"project":"V","rank":2,"round":1}}
-       GET /students/C     |                               | 200 OK | {"list":null,"name":"Cy","placed":{"project":"X","rank":2,"round":1}}
-       GET /rounds/1       |                               | 200 OK | {"aim":"generous","open":false,"placed":2,"profile":[0,2,0,0^,],"round":1,"students":2}
-       POST /rounds/reopen |                               | 200 OK | {"round":1}
-       GET /rounds/1       |                               | 200 OK | {"aim":"generous","open":true,"placed":0,"profile":[0,0,0,0^,],"round":1,"students":2}
-       GET /preview        |                               | 200 OK | {"profile":[0,2,0,0^,],"size":2}
-       POST /rounds/close  |                               | 200 OK | {"profile":[0,2,0,0^,],"round":1,"size":2}
-       POST /rounds        |                               | 200 OK | {"round":2}
-       GET /rounds/2       |                               | 200 OK | {"aim":"greedy","open":true,"placed":0,"profile":[0,0,0,0^,],"round":2,"students":0}
-       GET /rounds/1       |                               | 200 OK | {"aim":"generous","open":false,"placed":2,"profile":[0,2,0,0^,],"round":1,"students":2}"#;
+    r#"GET /preview        | | 200 OK | {"profile":[0,2,0,0^,],"size":2}
+       POST /rounds/close  | | 200 OK | {"profile":[0,2,0,0^,],"round":1,"size":2}
+       GET /students/A     | | 200 OK | {"list":null,"name":"Ann","placed":{"project":"V","rank":2,"round":1}}
+       GET /students/C     | | 200 OK | {"list":null,"name":"Cy","placed":{"project":"X","rank":2,"round":1}}
+       GET /rounds/1       | | 200 OK | {"aim":"generous","open":false,"placed":2,"profile":[0,2,0,0^,],"round":1,"students":2}
+       POST /rounds/reopen | | 200 OK | {"round":1}
+       GET /rounds/1       | | 200 OK | {"aim":"generous","open":true,"placed":0,"profile":[0,0,0,0^,],"round":1,"students":2}
+       GET /preview        | | 200 OK | {"profile":[0,2,0,0^,],"size":2}
+       POST /rounds/close  | | 200 OK | {"profile":[0,2,0,0^,],"round":1,"size":2}
+       POST /rounds        | | 200 OK | {"round":2}
+       GET /rounds/2       | | 200 OK | {"aim":"greedy","open":true,"placed":0,"profile":[0,0,0,0^,],"round":2,"students":0}
+       GET /rounds/1       | | 200 OK | {"aim":"generous","open":false,"placed":2,"profile":[0,2,0,0^,],"round":1,"students":2}"#;
 
 /// A quota is put below what the preview placed.
 #[rattlefmt::skip]
@@ -116,12 +118,16 @@ const REOPENED: &str =
        PUT /projects/P     | {"name":"Pumps","quota":1,"supervisor":"L"} | 200 OK       | {"ok":true}
        GET /preview        |                                             | 200 OK       | {"profile":[0,0,0,0^,],"size":0}"#;
 
-/// A supervisor of quota 60, an open round, and the last of sixty students.
+/// A supervisor of this quota, and an open round.
+#[rattlefmt::skip]
+const OF_QUOTA: &str =
+    r#"PUT /supervisors/L | {"name":"Lee","quota":$} | 200 OK | {"ok":true}
+       POST /rounds       |                          | 200 OK | {"round":1}"#;
+
+/// The first and the last of sixty projects, and the last student, who lists the first.
 #[rattlefmt::skip]
 const OF_SIXTY: &str =
-    r#"PUT /supervisors/L | {"name":"Lee","quota":60}                   | 200 OK | {"ok":true}
-       POST /rounds       |                                             | 200 OK | {"round":1}
-       PUT /projects/P1   | {"name":"Pumps","quota":1,"supervisor":"L"} | 200 OK | {"ok":true}
+    r#"PUT /projects/P1   | {"name":"Pumps","quota":1,"supervisor":"L"} | 200 OK | {"ok":true}
        PUT /projects/P60  | {"name":"Pumps","quota":1,"supervisor":"L"} | 200 OK | {"ok":true}
        PUT /students/S60  | {"name":"Ann"}                              | 200 OK | {"ok":true}
        PUT /lists/S60     | {"choices":["P1"]}                          | 200 OK | {"ok":true}"#;
@@ -149,12 +155,10 @@ const SIXTY: &str =
 const SIXTY_PLACES: &str =
     r#"GET /students/S$ |  | 200 OK | {"list":null,"name":"Ann","placed":{"project":"P$","rank":2,"round":1}}"#;
 
-/// A supervisor of quota 500, an open round, and two projects that have no room.
+/// Two projects that have no room.
 #[rattlefmt::skip]
 const OF_FORTY: &str =
-    r#"PUT /supervisors/L | {"name":"Lee","quota":500}                  | 200 OK | {"ok":true}
-       POST /rounds       |                                             | 200 OK | {"round":1}
-       PUT /projects/Y    | {"name":"Pumps","quota":0,"supervisor":"L"} | 200 OK | {"ok":true}
+    r#"PUT /projects/Y    | {"name":"Pumps","quota":0,"supervisor":"L"} | 200 OK | {"ok":true}
        PUT /projects/Z    | {"name":"Pumps","quota":0,"supervisor":"L"} | 200 OK | {"ok":true}"#;
 
 /// A pair of students, with projects of their own.
@@ -179,12 +183,10 @@ const FORTY: &str =
 const FORTY_PLACES: &str =
     r#"GET /students/C$ |  | 200 OK | {"list":null,"name":"Ann","placed":{"project":"U$","rank":4,"round":1}}"#;
 
-/// An open round, a student, and two projects that have room.
+/// A student, and two projects that have room.
 #[rattlefmt::skip]
 const OF_TWELVE: &str =
-    r#"PUT /supervisors/L | {"name":"Lee","quota":5}                     | 200 OK | {"ok":true}
-       POST /rounds       |                                              | 200 OK | {"round":1}
-       PUT /students/A    | {"name":"Ann"}                               | 200 OK | {"ok":true}
+    r#"PUT /students/A    | {"name":"Ann"}                               | 200 OK | {"ok":true}
        PUT /projects/P12  | {"name":"Pumps","quota":1,"supervisor":"L"}  | 200 OK | {"ok":true}
        PUT /projects/P13  | {"name":"Pumps","quota":1,"supervisor":"L"}  | 200 OK | {"ok":true}"#;
 
@@ -205,16 +207,16 @@ const TWELFTH_CHOICE: &str =
 /// Each play at tables of its own.
 #[rattlefmt::skip]
 static PLAYS: [&[Sitting]; 10] = [
-    &[(&[Part::Lines(OF_TWELVE), Part::Counted(1, 12, NO_ROOM), Part::Lines(TWELFTH_CHOICE)], 1)],
+    &[(&[Part::Counted(5, 6, OF_QUOTA), Part::Lines(OF_TWELVE), Part::Counted(1, 12, NO_ROOM), Part::Lines(TWELFTH_CHOICE)], 1)],
     &[(&[Part::Lines(SCHOOL), Part::Lines(BEFORE), Part::Lines(GREEDY), Part::Lines(TWO_FIRSTS)], 3)],
-    &[(&[Part::Lines(SCHOOL), Part::Lines(BEFORE), Part::Lines(GREEDY), Part::Lines(FIRST_AND_FOURTH)], 3)],
-    &[(&[Part::Lines(SCHOOL), Part::Lines(BEFORE), Part::Lines(GENEROUS), Part::Lines(TWO_SECONDS)], 3)],
+    &[(&[Part::Lines(SCHOOL), Part::Lines(BEFORE), Part::Lines(GREEDY), Part::Lines(FAR_LISTS), Part::Lines(FIRST_AND_FOURTH)], 3)],
+    &[(&[Part::Lines(SCHOOL), Part::Lines(BEFORE), Part::Lines(GENEROUS), Part::Lines(FAR_LISTS), Part::Lines(TWO_SECONDS)], 3)],
     &[(&[Part::Lines(SCHOOL), Part::Lines(BEFORE), Part::Lines(GREEDY), Part::Lines(QUOTA_GOES)], 3)],
     &[(&[Part::Lines(SCHOOL), Part::Lines(BEFORE), Part::Lines(GREEDY), Part::Lines(EIGHT)], 3)],
     &[(&[Part::Lines(SCHOOL), Part::Lines(BEFORE), Part::Lines(GREEDY), Part::Lines(TWO_LISTS)], 3)],
     &[(&[Part::Lines(SCHOOL), Part::Lines(BEFORE), Part::Lines(GREEDY), Part::Lines(TWO_ROUNDS), Part::Twice("GET /students/B"), Part::Twice("GET /students/C"), Part::Lines(REOPENED)], 3)],
-    &[(&[Part::Lines(OF_SIXTY), Part::Counted(1, 61, SIXTY_PROJECTS), Part::Counted(1, 60, SIXTY_LISTS), Part::Lines(SIXTY), Part::Counted(1, 60, SIXTY_PLACES)], 60)],
-    &[(&[Part::Lines(OF_FORTY), Part::Counted(1, 21, FORTY_LISTS), Part::Lines(FORTY), Part::Counted(1, 21, FORTY_PLACES)], 40)],
+    &[(&[Part::Counted(60, 61, OF_QUOTA), Part::Lines(OF_SIXTY), Part::Counted(1, 61, SIXTY_PROJECTS), Part::Counted(1, 60, SIXTY_LISTS), Part::Lines(SIXTY), Part::Counted(1, 60, SIXTY_PLACES)], 60)],
+    &[(&[Part::Counted(500, 501, OF_QUOTA), Part::Lines(OF_FORTY), Part::Counted(1, 21, FORTY_LISTS), Part::Lines(FORTY), Part::Counted(1, 21, FORTY_PLACES)], 40)],
 ];
 
 #[test]

@@ -4,6 +4,7 @@
 
 use crate::judged::holds;
 use crate::printed::{parted, print_rows, prints, write_files};
+use crate::school::SCHOOL_FILES;
 use cli::line;
 use std::io::Write;
 use std::net::{Ipv4Addr, Shutdown, TcpListener, TcpStream};
@@ -12,38 +13,30 @@ use std::rt::HostRuntime;
 use std::test::Fail;
 use std::{fs, io};
 
-/// The files of these lines.
-#[rattlefmt::skip]
-static FILES: [(&str, &str); 4] = [
-    ("supervisors.csv",  "code,name,quota\nL,Lee,5\n"),
-    ("projects.csv",     "code,name,supervisor,quota\nP,Pumps,L,1\nQ,Quays,L,1\n"),
-    ("students.csv",     "code,name\nA,Ann\nB,Bob\n"),
-    ("lists.csv",        "student,choices\nA,P Q\nB,P\n"),
-];
-
 /// Lines of each kind but one, also refused ones: each is done on a copy of the file that the line before left.
 #[rattlefmt::skip]
 static LINES: &str =
     r#"spadesk import a1.db supervisors I1 supervisors.csv | 0 | rows 1^n                                 |
-       spadesk import a2.db projects I2 projects.csv       | 0 | rows 2^n                                 |
+       spadesk import a2.db projects I2 projects.csv       | 0 | rows 3^n                                 |
        spadesk import a3.db students I1 students.csv       | 1 |                                          | refused 27: ImportIdUsed^n
-       spadesk import a4.db students I3 students.csv       | 0 | rows 2^n                                 |
+       spadesk import a4.db students I3 students.csv       | 0 | rows 3^n                                 |
        spadesk open-round a5.db                            | 0 | round 1^n                                |
-       spadesk import a6.db lists I4 lists.csv             | 0 | rows 2^n                                 |
-       spadesk close-round a7.db                           | 0 | round 1 size 2 profile 1 1 0 0 0 0 0 0 0 0 0 0^n |
+       spadesk import a6.db lists I4 lists.csv             | 0 | rows 3^n                                 |
+       spadesk close-round a7.db                           | 0 | round 1 size 2 profile 0 2 0 0 0 0 0 0 0 0 0 0^n |
        spadesk report a8.db unplaced 2                     | 1 |                                          | refused 26: UnknownRound^n
-       spadesk report a9.db placements 1                   | 0 | A                Q                 2^nB                P                 1^n |
+       spadesk report a9.db placements 1                   | 0 | A                Q                 2^nC                P                 2^n |
        spadesk reopen-round a10.db                         | 0 | round 1^n                                |
        spadesk reopen-round a11.db                         | 1 |                                          | refused 18: RoundIsOpen^n
-       spadesk import a12.db lists I4 lists.csv            | 0 | rows 2^n                                 |"#;
+       spadesk import a12.db lists I4 lists.csv            | 0 | rows 3^n                                 |"#;
 
 /// What the copies are after a connection of the line `serve`, which takes a list away and closes the round.
 #[rattlefmt::skip]
 static SERVED: &str =
-    r#"spadesk report a14.db placements 1 | 0 | B                P                 1^n |
-       spadesk report a14.db unplaced 1   | 0 |                                        |
-       spadesk report a14.db loads 1      | 0 | L                     1    5^n  P                   1    1^n  Q                   0    1^n |
-       spadesk open-round a14.db          | 0 | round 2^n                              |"#;
+    r#"spadesk report a14.db placements 1 | 0 | C                P                 2^n |
+       spadesk report a14.db unplaced 1   | 0 | B                Bob^n                 |
+       spadesk report a14.db loads 1      | 0 | L                     1    5^n  P                   1    1^n  Q                   0    1^n  Z                   0    0^n |
+       spadesk open-round a14.db          | 0 | round 2^n                              |
+       spadesk report a14.db unplaced 2   | 0 |                                        |"#;
 
 /// What a client asks.
 const ASKED: &str = "DELETE /lists/A HTTP/1.1\r\n\r\nPOST /rounds/close HTTP/1.1\r\n\r\n";
@@ -102,7 +95,7 @@ fn serves_caller(rt: &HostRuntime, abort: &impl Abort) -> Result<(), Fail> {
 
 #[test]
 fn a_file_that_is_closed_is_the_whole_database(rt: HostRuntime) -> Result<(), Fail> {
-    write_files(&rt, FILES.as_slice())?;
+    write_files(&rt, SCHOOL_FILES.as_slice())?;
     let mut number = 1;
     for row in LINES.lines() {
         print_rows(&rt, &rt, row)?;

@@ -63,14 +63,19 @@ static ROWS: [Row; 10] = [
      r#"GET /students/S1 || 404 Not Found | {"fault":"UnknownStudent","number":15}"#),
 ];
 
-/// The same of files of earlier editions.
+/// The same of files of earlier editions, which are only opened.
 #[rattlefmt::skip]
-static EARLIER_ROWS: [Row; 4] = [
+static RAISED_ROWS: [Row; 2] = [
     (1_000, Before::FirstEdition, "", ""),
+    (1_000, Before::SecondEdition, "", ""),
+];
+
+/// The same of such files, over which a round closes.
+#[rattlefmt::skip]
+static CLOSED_ROWS: [Row; 2] = [
     (1, Before::FirstEdition,
      r#"POST /rounds/close || 200 OK | {"profile":[0,0,0,0^,],"round":2,"size":0}"#,
      r#"GET /rounds/2 || 200 OK | {"aim":"greedy","open":true,"placed":0,"profile":[0,0,0,0^,],"round":2,"students":1}"#),
-    (1_000, Before::SecondEdition, "", ""),
     (1, Before::SecondEdition,
      r#"POST /rounds/close || 200 OK | {"profile":[0,0,0,0^,],"round":2,"size":0}"#,
      r#"GET /rounds/2 || 200 OK | {"aim":"generous","open":true,"placed":0,"profile":[0,0,0,0^,],"round":2,"students":1}"#),
@@ -364,32 +369,27 @@ fn sweep_both(alloc: Global, rt: &impl Abort, row: Row) -> Result<(), Fail> {
     sweep(alloc, rt, &start, row, false)
 }
 
-#[test]
-fn what_is_asked_while_a_file_fails_is_made_or_refused(rt: HostRuntime) -> Result<(), Fail> {
-    for row in ROWS {
-        sweep_both(rt.alloc(), &rt, row)?;
+/// The same of each row.
+fn sweep_rows(alloc: Global, rt: &impl Abort, rows: &[Row]) -> Result<(), Fail> {
+    for row in rows {
+        sweep_both(alloc, rt, *row)?;
     }
     Ok(())
 }
 
-// Each row of earlier editions is a test of its own, since a test has a minute.
+#[test]
+fn what_is_asked_while_a_file_fails_is_made_or_refused(rt: HostRuntime) -> Result<(), Fail> {
+    sweep_rows(rt.alloc(), &rt, ROWS.as_slice())
+}
+
+// The rows of earlier editions are tests of their own, since a test has a minute.
 
 #[test]
-fn a_file_of_the_first_edition_that_fails_is_raised_or_stays(rt: HostRuntime) -> Result<(), Fail> {
-    sweep_both(rt.alloc(), &rt, EARLIER_ROWS[0])
+fn failing_files_of_earlier_editions_are_raised_or_stay(rt: HostRuntime) -> Result<(), Fail> {
+    sweep_rows(rt.alloc(), &rt, RAISED_ROWS.as_slice())
 }
 
 #[test]
-fn a_round_closes_over_a_failing_file_of_the_first_edition(rt: HostRuntime) -> Result<(), Fail> {
-    sweep_both(rt.alloc(), &rt, EARLIER_ROWS[1])
-}
-
-#[test]
-fn a_file_of_the_second_edition_that_fails_is_raised_or_stays(rt: HostRuntime) -> Result<(), Fail> {
-    sweep_both(rt.alloc(), &rt, EARLIER_ROWS[2])
-}
-
-#[test]
-fn a_round_closes_over_a_failing_file_of_the_second_edition(rt: HostRuntime) -> Result<(), Fail> {
-    sweep_both(rt.alloc(), &rt, EARLIER_ROWS[3])
+fn rounds_close_over_failing_files_of_earlier_editions(rt: HostRuntime) -> Result<(), Fail> {
+    sweep_rows(rt.alloc(), &rt, CLOSED_ROWS.as_slice())
 }

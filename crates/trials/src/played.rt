@@ -232,39 +232,20 @@ pub(crate) fn asked<S: Alter>(
     line: &str,
 ) -> Result<Vec<u8>, AllocError> {
     let message = message_of(alloc, line)?;
-    let got = served(
-        alloc,
-        desk,
-        whole(&message),
-        Vec::new(alloc),
-        (100_000, None),
-    );
-    Ok(got.written)
+    Ok(served_alone(alloc, desk, &message).written)
 }
 
 /// Whether the message gets this one answer, after which the stream is closed.
 fn tells<S: Alter>(alloc: Global, desk: &mut Desk<S>, message: &[u8], want: &[u8]) -> bool {
     let end = End::Closed;
-    let got = served(
-        alloc,
-        desk,
-        whole(message),
-        Vec::new(alloc),
-        (100_000, None),
-    );
+    let got = served_alone(alloc, desk, message);
     got.written.as_slice() == want && got.result == Ok(Served { answered: 1, end })
 }
 
 /// Whether a read is answered with the same bytes twice.
 fn is_same(alloc: Global, desk: &mut Desk<MemStore>, asked: &str) -> Result<bool, AllocError> {
     let message = message(alloc, asked, "")?;
-    let first = served(
-        alloc,
-        desk,
-        whole(&message),
-        Vec::new(alloc),
-        (100_000, None),
-    );
+    let first = served_alone(alloc, desk, &message);
     let is_read = first.written.starts_with(b"HTTP/1.1 200 OK\r\n");
     Ok(is_read && tells(alloc, desk, &message, &first.written))
 }
@@ -308,6 +289,12 @@ pub(crate) fn served<S: Alter>(
         failed_reads,
         failed_writes,
     }
+}
+
+/// The same of a message that comes alone, where there is room for what is written.
+fn served_alone<S: Alter>(alloc: Global, desk: &mut Desk<S>, message: &[u8]) -> Outcome {
+    let taken = Vec::new(alloc);
+    served(alloc, desk, whole(message), taken, (100_000, None))
 }
 
 /// The first bytes.

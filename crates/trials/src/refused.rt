@@ -207,28 +207,20 @@ fn run_again(
     Ok(())
 }
 
-/// Runs a row with each request for memory refused in turn.
-fn sweep(alloc: Global, rt: &impl Abort, row: Row) -> Result<(), Fail> {
-    let all = all_allowed(alloc, rt, row)?;
+/// Does both, where all of these may come of the row. Whether the nth request for memory came.
+fn run_twice(
+    alloc: Global,
+    rt: &impl Abort,
+    row: Row,
+    all: &[Allowed],
+    n: u32,
+) -> Result<bool, Fail> {
     let (Some(made), Some(none)) = (all.first(), all.last()) else {
         return Err(Fail::new("nothing is allowed"));
     };
-    for n in 1..1_000_000 {
-        let is_hit = run(alloc, rt, row, &all, n)?;
-        run_again(alloc, rt, row, (made, none), n)?;
-        if !is_hit {
-            return Ok(());
-        }
-    }
-    Err(Fail::new("the requests for memory have no end"))
-}
-
-#[test]
-fn what_is_refused_memory_is_made_when_it_is_asked_again(rt: HostRuntime) -> Result<(), Fail> {
-    for row in ROWS {
-        sweep(rt.alloc(), &rt, row)?;
-    }
-    Ok(())
+    let is_hit = run(alloc, rt, row, all, n)?;
+    run_again(alloc, rt, row, (made, none), n)?;
+    Ok(is_hit)
 }
 
 /// Filled tables as they are, and what makes them tables of the second edition, and of the first.
@@ -273,10 +265,23 @@ fn open(alloc: Global, rt: &impl Abort, edition: &str, n: u32) -> Result<bool, F
     Ok(is_hit)
 }
 
-/// Opens a desk over tables of an edition with each request for memory refused in turn.
-fn sweep_opening(alloc: Global, rt: &impl Abort, edition: &str) -> Result<(), Fail> {
+/// What memory is refused to.
+#[derive(Clone, Copy)]
+enum Trial<'a> {
+    /// The requests of a row, and what may come of it.
+    Asked(Row, &'a [Allowed]),
+    /// The opening of a desk over filled tables of an edition.
+    Opened(&'a str),
+}
+
+/// Does it with each request for memory refused in turn.
+fn sweep(alloc: Global, rt: &impl Abort, trial: Trial) -> Result<(), Fail> {
     for n in 1..1_000_000 {
-        if !open(alloc, rt, edition, n)? {
+        let is_hit = match trial {
+            Trial::Asked(row, all) => run_twice(alloc, rt, row, all, n)?,
+            Trial::Opened(edition) => open(alloc, rt, edition, n)?,
+        };
+        if !is_hit {
             return Ok(());
         }
     }
@@ -284,9 +289,18 @@ fn sweep_opening(alloc: Global, rt: &impl Abort, edition: &str) -> Result<(), Fa
 }
 
 #[test]
+fn what_is_refused_memory_is_made_when_it_is_asked_again(rt: HostRuntime) -> Result<(), Fail> {
+    for row in ROWS {
+        let all = all_allowed(rt.alloc(), &rt, row)?;
+        sweep(rt.alloc(), &rt, Trial::Asked(row, &all))?;
+    }
+    Ok(())
+}
+
+#[test]
 fn a_desk_is_opened_or_refused_for_want_of_memory(rt: HostRuntime) -> Result<(), Fail> {
     for edition in EDITIONS {
-        sweep_opening(rt.alloc(), &rt, edition)?;
+        sweep(rt.alloc(), &rt, Trial::Opened(edition))?;
     }
     Ok(())
 }

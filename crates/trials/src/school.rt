@@ -11,6 +11,15 @@ pub(crate) const SCHOOL: &str =
        PUT /students/B    | {"name":"Bob"}                              | 200 OK | {"ok":true}
        PUT /students/C    | {"name":"Cy"}                               | 200 OK | {"ok":true}"#;
 
+/// The same school as files of imports, with lists: A lists P and Q, B lists Z, and C lists Z and P.
+#[rattlefmt::skip]
+pub(crate) static SCHOOL_FILES: [(&str, &str); 4] = [
+    ("supervisors.csv", "code,name,quota\nL,Lee,5\n"),
+    ("projects.csv",    "code,name,supervisor,quota\nP,Pumps,L,1\nQ,Quays,L,1\nZ,Zinc,L,0\n"),
+    ("students.csv",    "code,name\nA,Ann\nB,Bob\nC,Cy\n"),
+    ("lists.csv",       "student,choices\nA,P Q\nB,Z\nC,Z P\n"),
+];
+
 /// A round is open, in which A lists P and Q, and C lists Z and P.
 #[rattlefmt::skip]
 pub(crate) const LISTED: &str =
@@ -21,7 +30,7 @@ pub(crate) const LISTED: &str =
 /// The tables of the first edition, as they were made then, in which rounds had no aim: the round is closed, and another is open, in which
 /// B lists Z. B came by an import.
 #[rattlefmt::skip]
-pub(crate) static FIRST_EDITION: &str =
+pub(crate) const FIRST_EDITION: &str =
     "CREATE TABLE edition (id INTEGER NOT NULL PRIMARY KEY CHECK (id = 1), number INTEGER NOT NULL) STRICT;
      CREATE TABLE supervisor (code TEXT NOT NULL PRIMARY KEY, label TEXT NOT NULL, quota INTEGER NOT NULL CHECK (quota BETWEEN 0 AND 500)) STRICT;
      CREATE TABLE project (code TEXT NOT NULL PRIMARY KEY, label TEXT NOT NULL, supervisor TEXT NOT NULL REFERENCES supervisor (code), quota INTEGER NOT NULL CHECK (quota BETWEEN 0 AND 500)) STRICT;

@@ -2,7 +2,7 @@
 
 use crate::judged::holds;
 use crate::printed::{print_rows, prints, write_files};
-use crate::school::FIRST_EDITION;
+use crate::school::{FIRST_EDITION, SCHOOL_FILES};
 use rolls::MOST_IMPORT_BYTES;
 use sqlite::{Connection, FileStore, Unknown};
 use sqlite_disk::Disk;
@@ -11,15 +11,11 @@ use std::process::Abort;
 use std::rt::HostRuntime;
 use std::test::Fail;
 
-/// The files of these lines: two imports of students, a small school with two kinds of projects and lists, and a text that is no database.
+/// The files of these lines beside those of the school: two imports of students, other projects and lists, and a text that is no database.
 #[rattlefmt::skip]
-static FILES: [(&str, &str); 9] = [
+static FILES: [(&str, &str); 5] = [
     ("first.csv",        "code,name\nS1,Ann\nS2,Bob\n"),
     ("second.csv",       "code,name\nS3,Cy\nS4\n"),
-    ("supervisors.csv",  "code,name,quota\nL,Lee,5\n"),
-    ("projects.csv",     "code,name,supervisor,quota\nP,Pumps,L,1\nQ,Quays,L,1\nZ,Zinc,L,0\n"),
-    ("students.csv",     "code,name\nA,Ann\nB,Bob\nC,Cy\n"),
-    ("lists.csv",        "student,choices\nA,P Q\nB,Z\nC,Z P\n"),
     ("far_projects.csv", "code,name,supervisor,quota\nU,Urns,L,1\nV,Vats,L,1\nX,Xenon,L,1\nY,Yards,L,0\nZ,Zinc,L,0\n"),
     ("far_lists.csv",    "student,choices\nA,X V\nC,Z X Y U\n"),
     ("text.db",          "This is a text, and no database at all.\n"),
@@ -83,6 +79,7 @@ static NO_DATABASE: &str =
 
 #[test]
 fn lines_over_files_print_as_they_should(rt: HostRuntime) -> Result<(), Fail> {
+    write_files(&rt, SCHOOL_FILES.as_slice())?;
     write_files(&rt, FILES.as_slice())?;
     print_rows(&rt, &rt, FIRST)?;
     print_rows(&rt, &rt, ROUND)?;

@@ -59,16 +59,20 @@ fn first_lists_join_the_session(rt: HostRuntime) -> Result<(), Fail> {
     compare_steps(rt.alloc(), &rt, &mut desk)
 }
 
-/// Fifty requests, before each of which stands whether a session is kept after it.
+/// A supervisor, a project without a place and two students. Before each request stands whether a session is kept after it.
+#[rattlefmt::skip]
+static BEFORE: &str =
+    r#"none | PUT /supervisors/L | {"name":"Lee","quota":2}                   | 200 OK | {"ok":true}
+       none | PUT /projects/Z    | {"name":"Zinc","quota":0,"supervisor":"L"} | 200 OK | {"ok":true}
+       none | PUT /students/A    | {"name":"Ann"}                             | 200 OK | {"ok":true}
+       none | PUT /students/C    | {"name":"Cy"}                              | 200 OK | {"ok":true}"#;
+
+/// With these, fifty requests.
 #[rattlefmt::skip]
 static MIXED: &str =
-    r#"none | PUT /supervisors/L         | {"name":"Lee","quota":2}                    | 200 OK           | {"ok":true}
-       none | PUT /projects/P            | {"name":"Pumps","quota":1,"supervisor":"L"} | 200 OK           | {"ok":true}
+    r#"none | PUT /projects/P            | {"name":"Pumps","quota":1,"supervisor":"L"} | 200 OK           | {"ok":true}
        none | PUT /projects/Q            | {"name":"Quays","quota":1,"supervisor":"L"} | 200 OK           | {"ok":true}
-       none | PUT /projects/Z            | {"name":"Zinc","quota":0,"supervisor":"L"}  | 200 OK           | {"ok":true}
-       none | PUT /students/A            | {"name":"Ann"}                              | 200 OK           | {"ok":true}
        none | PUT /students/B            | {"name":"Bob"}                              | 200 OK           | {"ok":true}
-       none | PUT /students/C            | {"name":"Cy"}                               | 200 OK           | {"ok":true}
        none | PUT /students/D            | {"name":"Di"}                               | 200 OK           | {"ok":true}
        none | GET /preview               |                                             | 409 Conflict     | {"fault":"NoRoundOpen","number":19}
        none | POST /rounds               |                                             | 200 OK           | {"round":1}
@@ -116,21 +120,17 @@ static MIXED: &str =
 /// The same over a generous round, whose text the session leaves as it is.
 #[rattlefmt::skip]
 static GENEROUS: &str =
-    r#"none | PUT /supervisors/L  | {"name":"Lee","quota":5}                    | 200 OK | {"ok":true}
-       none | PUT /projects/U     | {"name":"Urns","quota":1,"supervisor":"L"}  | 200 OK | {"ok":true}
+    r#"none | PUT /projects/U     | {"name":"Urns","quota":1,"supervisor":"L"}  | 200 OK | {"ok":true}
        none | PUT /projects/V     | {"name":"Vats","quota":1,"supervisor":"L"}  | 200 OK | {"ok":true}
        none | PUT /projects/X     | {"name":"Xenon","quota":1,"supervisor":"L"} | 200 OK | {"ok":true}
        none | PUT /projects/Y     | {"name":"Yards","quota":0,"supervisor":"L"} | 200 OK | {"ok":true}
-       none | PUT /projects/Z     | {"name":"Zinc","quota":0,"supervisor":"L"}  | 200 OK | {"ok":true}
-       none | PUT /students/A     | {"name":"Ann"}                              | 200 OK | {"ok":true}
-       none | PUT /students/C     | {"name":"Cy"}                               | 200 OK | {"ok":true}
        none | POST /rounds        | {"aim":"generous"}                          | 200 OK | {"round":1}
        kept | GET /preview        |                                             | 200 OK | {"profile":[0,0,0,0^,],"size":0}
        kept | PUT /lists/A        | {"choices":["X","V"]}                       | 200 OK | {"ok":true}
        kept | GET /preview        |                                             | 200 OK | {"profile":[1,0,0,0^,],"size":1}
        kept | PUT /lists/C        | {"choices":["Z","X","Y","U"]}               | 200 OK | {"ok":true}
        kept | GET /preview        |                                             | 200 OK | {"profile":[0,2,0,0^,],"size":2}
-       kept | GET /roundtext      |                                             | 200 OK | A,generous^nS,L,5^nP,U,L,1^nP,V,L,1^nP,X,L,1^nP,Y,L,0^nP,Z,L,0^nC,A,X,V^nC,C,Z,X,Y,U^n
+       kept | GET /roundtext      |                                             | 200 OK | A,generous^nS,L,2^nP,U,L,1^nP,V,L,1^nP,X,L,1^nP,Y,L,0^nP,Z,L,0^nC,A,X,V^nC,C,Z,X,Y,U^n
        none | POST /rounds/close  |                                             | 200 OK | {"profile":[0,2,0,0^,],"round":1,"size":2}
        none | POST /rounds/reopen |                                             | 200 OK | {"round":1}
        kept | GET /preview        |                                             | 200 OK | {"profile":[0,2,0,0^,],"size":2}
@@ -182,20 +182,22 @@ fn compare_sessions(
     alloc: Global,
     rt: &impl Abort,
     desk: &mut Desk<MemStore>,
+    mut connection: Connection<MemStore>,
     lines: &'static str,
-) -> Result<(), Fail> {
-    let mut connection = Connection::open_in_memory(alloc)?;
+) -> Result<Connection<MemStore>, Fail> {
     for line in lines.lines() {
         connection = compare_session(alloc, rt, desk, connection, line)?;
     }
-    Ok(())
+    Ok(connection)
 }
 
 #[test]
 fn a_session_is_kept_just_where_it_may_be(rt: HostRuntime) -> Result<(), Fail> {
     for lines in [MIXED, GENEROUS] {
         let mut desk = new_desk(rt.alloc(), &rt)?;
-        compare_sessions(rt.alloc(), &rt, &mut desk, lines)?;
+        let connection = Connection::open_in_memory(rt.alloc())?;
+        let connection = compare_sessions(rt.alloc(), &rt, &mut desk, connection, BEFORE)?;
+        compare_sessions(rt.alloc(), &rt, &mut desk, connection, lines)?;
     }
     Ok(())
 }

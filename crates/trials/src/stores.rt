@@ -15,7 +15,7 @@ use std::test::Fail;
 
 /// Another table and those of an office in the first edition, with nobody on its rolls.
 #[rattlefmt::skip]
-static TABLES: &str =
+const TABLES: &str =
     "CREATE TABLE other (a INTEGER);
      CREATE TABLE edition (id INTEGER NOT NULL PRIMARY KEY CHECK (id = 1), number INTEGER NOT NULL) STRICT;
      CREATE TABLE supervisor (code TEXT NOT NULL PRIMARY KEY, label TEXT NOT NULL, quota INTEGER NOT NULL) STRICT;
@@ -45,13 +45,16 @@ const LENGTHENED: &str =
      DELETE FROM placement;
      UPDATE edition SET number = number + 1;";
 
+/// How many editions there were before the latest.
+const EARLIER: usize = 2;
+
 /// What raises tables by an edition, by hand, one after the other.
-const RAISED: [&str; 2] = [AIMED, LENGTHENED];
+const RAISED: [&str; EARLIER] = [AIMED, LENGTHENED];
 
 /// Rolls and the edition: a name, what is added to the tables, and a line of the office that they are opened as, or the name of the
 /// refusal.
 #[rattlefmt::skip]
-static OF_ROLLS: &str =
+const OF_ROLLS: &str =
     r#"fit supervisor      | INSERT INTO supervisor VALUES ('L', 'Lee', 500)                                                  | GET /supervisors/L | | 200 OK | {"name":"Lee","placed":0,"quota":500}
        fit project         | INSERT INTO supervisor VALUES ('L', 'Lee', 5); INSERT INTO project VALUES ('P', 'Pumps', 'L', 0) | GET /projects/P | | 200 OK | {"name":"Pumps","placed":0,"quota":0,"supervisor":"L"}
        fit student         | INSERT INTO student VALUES ('S1', 'Ann')                                                         | GET /students/S1 | | 200 OK | {"list":null,"name":"Ann","placed":null}
@@ -66,22 +69,22 @@ static OF_ROLLS: &str =
 
 /// Tables that are missing.
 #[rattlefmt::skip]
-static OF_MISSING: &str =
+const OF_MISSING: &str =
     r#"students missing | DROP TABLE student | Damaged
        choices missing  | DROP TABLE choice  | Damaged
        imports missing  | DROP TABLE import  | Damaged"#;
 
 /// Rolls of one supervisor, two projects and two students, for the tables of rounds.
-static ROLLS: &str =
+const ROLLS: &str =
     "INSERT INTO supervisor VALUES ('L', 'Lee', 2); INSERT INTO project VALUES ('P', 'Pumps', 'L', 1); INSERT INTO project VALUES ('Q', 'Quays', 'L', 2); INSERT INTO student VALUES ('A', 'Ann'); INSERT INTO student VALUES ('B', 'Bob');";
 
 /// Two closed rounds and an open one over those rolls.
-static ROUNDS: &str =
+const ROUNDS: &str =
     "INSERT INTO round VALUES (1, 0), (2, 0), (3, 1); INSERT INTO choice VALUES (1, 'A', 1, 'P'), (1, 'A', 2, 'Q'), (2, 'B', 1, 'Q'), (3, 'B', 1, 'P'); INSERT INTO placement VALUES ('A', 1, 'Q', 2);";
 
 /// What is told of them.
 #[rattlefmt::skip]
-static OF_FIT_ROUNDS: &str =
+const OF_FIT_ROUNDS: &str =
     r#"closed round | | GET /rounds/1 || 200 OK | {"aim":"greedy","open":false,"placed":1,"profile":[0,1,0,0^,],"round":1,"students":1}
        nobody there | | GET /rounds/2 || 200 OK | {"aim":"greedy","open":false,"placed":0,"profile":[0,0,0,0^,],"round":2,"students":1}
        open round   | | GET /students/B || 200 OK | {"list":["P"],"name":"Bob","placed":null}
@@ -89,7 +92,7 @@ static OF_FIT_ROUNDS: &str =
 
 /// Rounds over those rolls.
 #[rattlefmt::skip]
-static OF_ROUNDS: &str =
+const OF_ROUNDS: &str =
     r#"a round is missing   | INSERT INTO round VALUES (1, 0), (3, 0) | Damaged
        an earlier one open  | INSERT INTO round VALUES (1, 1), (2, 0) | Damaged
        neither open nor not | INSERT INTO round VALUES (1, 2) | Damaged
@@ -105,7 +108,7 @@ static OF_ROUNDS: &str =
 
 /// Aims of those rounds.
 #[rattlefmt::skip]
-static OF_AIMS: &str =
+const OF_AIMS: &str =
     r#"an aim of each      | UPDATE round_aim SET generous = 1 WHERE round = 3 | GET /rounds/3 || 200 OK | {"aim":"generous","open":true,"placed":0,"profile":[0,0,0,0^,],"round":3,"students":1}
        of a closed round   | UPDATE round_aim SET generous = 1 WHERE round = 1 | GET /rounds/1 || 200 OK | {"aim":"generous","open":false,"placed":1,"profile":[0,1,0,0^,],"round":1,"students":1}
        an aim is missing   | DELETE FROM round_aim WHERE round = 2             | Damaged
@@ -119,7 +122,7 @@ static OF_AIMS: &str =
 
 /// Rows in the tables of earlier editions, and others missing, beside those that took their place.
 #[rattlefmt::skip]
-static OF_OLD_ROWS: &str =
+const OF_OLD_ROWS: &str =
     r#"a choice            | INSERT INTO choice VALUES (3, 'B', 1, 'P')         | Damaged
        another choice      | INSERT INTO choice VALUES (3, 'A', 1, 'P')         | Damaged
        a placement         | INSERT INTO placement VALUES ('A', 1, 'Q', 2)      | Damaged
@@ -131,7 +134,7 @@ static OF_OLD_ROWS: &str =
 
 /// Tables of the first edition beside one of a name that a later one adds, or beside what cannot stand with it.
 #[rattlefmt::skip]
-static OF_LATER_NAMES: &str =
+const OF_LATER_NAMES: &str =
     r#"a table            | CREATE TABLE round_aim (a INTEGER)                   | Damaged
        in other letters   | CREATE TABLE Round_Aim (a INTEGER)                   | Damaged
        as it is made      | CREATE TABLE round_aim (round INTEGER NOT NULL PRIMARY KEY REFERENCES round (number), generous INTEGER NOT NULL) STRICT; INSERT INTO round_aim VALUES (1, 0), (2, 0), (3, 0) | Damaged
@@ -146,7 +149,7 @@ static OF_LATER_NAMES: &str =
 
 /// What tables that were made by the program of the first edition are opened as.
 #[rattlefmt::skip]
-static OF_FIRST_EDITION: &str =
+const OF_FIRST_EDITION: &str =
     r#"closed round | | GET /rounds/1   || 200 OK | {"aim":"greedy","open":false,"placed":2,"profile":[0,2,0,0^,],"round":1,"students":2}
        open round   | | GET /rounds/2   || 200 OK | {"aim":"greedy","open":true,"placed":0,"profile":[0,0,0,0^,],"round":2,"students":1}
        placement    | | GET /students/C || 200 OK | {"list":null,"name":"Cy","placed":{"project":"P","rank":2,"round":1}}
@@ -162,14 +165,14 @@ const IMPORTS: &str =
 
 /// What comes of a text that comes again, or under an id that is used.
 #[rattlefmt::skip]
-static OF_KEPT_IMPORTS: &str =
+const OF_KEPT_IMPORTS: &str =
     r#"kept import    | | POST /imports/students/I1 | A^n | 200 OK | {"rows":65536}
        kept and empty | | POST /imports/lists/I2 || 200 OK | {"rows":0}
        of other bytes | | POST /imports/students/I1 | A | 409 Conflict | {"fault":"ImportIdUsed","number":27}"#;
 
 /// Imports that none is.
 #[rattlefmt::skip]
-static OF_IMPORTS: &str =
+const OF_IMPORTS: &str =
     r#"an unknown kind | INSERT INTO import VALUES ('I1', 'rooms', x'', 0)                                      | Damaged
        no code as id   | INSERT INTO import VALUES ('-A', 'students', x'', 0)                                   | Damaged
        too many rows   | INSERT INTO import VALUES ('I1', 'students', x'', 65537)                               | Damaged
@@ -178,7 +181,7 @@ static OF_IMPORTS: &str =
 /// The tables of an office, with nobody on its rolls: without STRICT, but for one, and with references that name no column, but for
 /// one. A type is what its affinity says.
 #[rattlefmt::skip]
-static LOOSE: &str =
+const LOOSE: &str =
     "CREATE TABLE edition (id INTEGER NOT NULL PRIMARY KEY, number INT NOT NULL);
      CREATE TABLE supervisor (code TEXT NOT NULL PRIMARY KEY, label VARCHAR(80) NOT NULL, quota INTEGER NOT NULL);
      CREATE TABLE project (code TEXT NOT NULL PRIMARY KEY, label TEXT NOT NULL, supervisor TEXT NOT NULL REFERENCES supervisor, quota INTEGER NOT NULL);
@@ -192,7 +195,7 @@ static LOOSE: &str =
 /// What such tables are opened as. A value of another kind than its column's is no row of an office, unless the column makes it one
 /// of its kind.
 #[rattlefmt::skip]
-static OF_LOOSE: &str =
+const OF_LOOSE: &str =
     r#"nobody there         |                                                        | GET /students/S1 | | 404 Not Found | {"fault":"UnknownStudent","number":15}
        digits as a quota    | INSERT INTO supervisor VALUES ('L', 'Lee', '5')        | GET /supervisors/L | | 200 OK | {"name":"Lee","placed":0,"quota":5}
        a number as a label  | INSERT INTO student VALUES ('S1', 7)                   | GET /students/S1 | | 200 OK | {"list":null,"name":"7","placed":null}
@@ -269,6 +272,19 @@ fn opened(
     }
 }
 
+/// Plays the lines at the desk over tables, of which a query then answers this number.
+fn compare_count(
+    alloc: Global,
+    rt: &impl Abort,
+    conn: Connection<MemStore>,
+    lines: &str,
+    (sql, want): (&str, i64),
+) -> Result<(), Fail> {
+    let mut conn = opened(alloc, rt, conn, lines)?;
+    holds(rt, count(&mut conn, sql)? == want, sql);
+    Ok(())
+}
+
 /// Compares what the tables of a row are opened as, and what their schema and their rows are then.
 fn compare_opened(
     alloc: Global,
@@ -280,21 +296,6 @@ fn compare_opened(
     let (_added, line) = parts(row);
     let mut conn = opened(alloc, rt, conn, line)?;
     holds(rt, keeps(alloc, &mut conn, kept)?, row);
-    Ok(())
-}
-
-/// The same of each row, where schema and rows stay.
-fn compare_staying(
-    alloc: Global,
-    rt: &impl Abort,
-    before: &[&str],
-    rows: &str,
-) -> Result<(), Fail> {
-    for row in rows.lines() {
-        let mut conn = made(alloc, before, parts(row).0)?;
-        let kept = kept_by(alloc, &mut conn)?;
-        compare_opened(alloc, rt, conn, row, &kept)?;
-    }
     Ok(())
 }
 
@@ -314,18 +315,20 @@ fn raised(
     Ok(conn)
 }
 
-/// The same of a row over tables of the first edition, as they are and raised by hand. Where the row has a desk over them, they are opened
-/// as those of the latest.
+/// The same of a row over tables that are raised by hand by so many editions, and by fewer. Where the row has a desk over them, all are
+/// opened as those of the latest.
 fn compare_editions(
     alloc: Global,
     rt: &impl Abort,
     before: &[&str],
     row: &str,
+    editions: usize,
 ) -> Result<(), Fail> {
     let is_fit = parts(row).1.contains('|');
-    let mut latest = raised(alloc, before, row, RAISED.len())?;
+    let mut latest = raised(alloc, before, row, editions)?;
     let wanted = kept_by(alloc, &mut latest)?;
-    for count in 0..RAISED.len() + 1 {
+    compare_opened(alloc, rt, latest, row, &wanted)?;
+    for count in 0..editions {
         let mut conn = raised(alloc, before, row, count)?;
         let kept = kept_by(alloc, &mut conn)?;
         let kept = if is_fit { &wanted } else { &kept };
@@ -334,52 +337,60 @@ fn compare_editions(
     Ok(())
 }
 
+/// What makes tables; by how many editions they are raised by hand, besides being opened as they are; and rows over them.
+type HandMade = (&'static [&'static str], usize, &'static str);
+
 /// The same of each row.
-fn compare_hand_made(
-    alloc: Global,
-    rt: &impl Abort,
-    before: &[&str],
-    rows: &str,
-) -> Result<(), Fail> {
-    for row in rows.lines() {
-        compare_editions(alloc, rt, before, row)?;
+fn compare_hand_made(alloc: Global, rt: &impl Abort, all: &[HandMade]) -> Result<(), Fail> {
+    for (before, editions, rows) in all {
+        for row in rows.lines() {
+            compare_editions(alloc, rt, before, row, *editions)?;
+        }
     }
     Ok(())
 }
 
+/// Tables of an office without and with rows, loose ones too.
+#[rattlefmt::skip]
+static JUDGED: [HandMade; 8] = [
+    (&[TABLES],                EARLIER, OF_ROLLS),
+    (&[TABLES],                0,       OF_MISSING),
+    (&[TABLES, ROLLS],         EARLIER, OF_ROUNDS),
+    (&[TABLES, ROLLS, ROUNDS], EARLIER, OF_FIT_ROUNDS),
+    (&[TABLES, IMPORTS],       EARLIER, OF_KEPT_IMPORTS),
+    (&[TABLES],                EARLIER, OF_IMPORTS),
+    (&[LOOSE],                 EARLIER, OF_LOOSE),
+    (&[LOOSE, ROLLS, ROUNDS],  EARLIER, OF_FIT_ROUNDS),
+];
+
 #[test]
 fn hand_made_tables_are_judged(rt: HostRuntime) -> Result<(), Fail> {
-    compare_hand_made(rt.alloc(), &rt, &[TABLES], OF_ROLLS)?;
-    compare_staying(rt.alloc(), &rt, &[TABLES], OF_MISSING)?;
-    compare_hand_made(rt.alloc(), &rt, &[TABLES, ROLLS], OF_ROUNDS)?;
-    compare_hand_made(rt.alloc(), &rt, &[TABLES, ROLLS, ROUNDS], OF_FIT_ROUNDS)?;
-    compare_hand_made(rt.alloc(), &rt, &[TABLES, IMPORTS], OF_KEPT_IMPORTS)?;
-    compare_hand_made(rt.alloc(), &rt, &[TABLES], OF_IMPORTS)?;
-    compare_hand_made(rt.alloc(), &rt, &[LOOSE], OF_LOOSE)?;
-    compare_hand_made(rt.alloc(), &rt, &[LOOSE, ROLLS, ROUNDS], OF_FIT_ROUNDS)
+    compare_hand_made(rt.alloc(), &rt, JUDGED.as_slice())
 }
+
+/// Tables of the first edition, and some that may not be raised or are those of the latest.
+#[rattlefmt::skip]
+static OF_EDITIONS: [HandMade; 4] = [
+    (&[FIRST_EDITION],                            EARLIER, OF_FIRST_EDITION),
+    (&[TABLES, ROLLS, ROUNDS],                    0,       OF_LATER_NAMES),
+    (&[TABLES, ROLLS, ROUNDS, AIMED, LENGTHENED], 0,       OF_AIMS),
+    (&[TABLES, ROLLS, ROUNDS, AIMED, LENGTHENED], 0,       OF_OLD_ROWS),
+];
 
 #[test]
 fn tables_of_earlier_editions_are_raised(rt: HostRuntime) -> Result<(), Fail> {
-    compare_hand_made(rt.alloc(), &rt, &[FIRST_EDITION], OF_FIRST_EDITION)?;
-    let rounds = &[TABLES, ROLLS, ROUNDS];
-    compare_staying(rt.alloc(), &rt, rounds, OF_LATER_NAMES)?;
-    let latest = &[TABLES, ROLLS, ROUNDS, AIMED, LENGTHENED];
-    compare_staying(rt.alloc(), &rt, latest, OF_AIMS)?;
-    compare_staying(rt.alloc(), &rt, latest, OF_OLD_ROWS)
+    compare_hand_made(rt.alloc(), &rt, OF_EDITIONS.as_slice())
 }
+
+/// The import of that round, by the kinds of its values.
+const ONE_IMPORT: &str =
+    "SELECT count(*) FROM import WHERE typeof(bytes) = 'blob' AND typeof(rows) = 'integer'";
 
 #[test]
 fn loose_tables_are_written(rt: HostRuntime) -> Result<(), Fail> {
     let conn = made(rt.alloc(), &[], LOOSE)?;
     let conn = opened(rt.alloc(), &rt, conn, LOOSE_ROUND)?;
-    let mut conn = opened(rt.alloc(), &rt, conn, LOOSE_READ)?;
-    let sum = count(
-        &mut conn,
-        "SELECT count(*) FROM import WHERE typeof(bytes) = 'blob' AND typeof(rows) = 'integer'",
-    )?;
-    holds(&rt, sum == 1, "the import");
-    Ok(())
+    compare_count(rt.alloc(), &rt, conn, LOOSE_READ, (ONE_IMPORT, 1))
 }
 
 /// A table whose rows go with a student's, and Ann.
@@ -390,17 +401,14 @@ const PETS: &str =
 const BOB: &str =
     r#"PUT /students/S2 | {"name":"Bob"} | 503 Service Unavailable | {"fault":"Storage","number":2}"#;
 
+/// The number in another table, and that of students, as one sum.
+const OTHER_AND_STUDENTS: &str = "SELECT a + (SELECT count(*) FROM student) FROM other";
+
 #[test]
 fn other_tables_are_left_alone(rt: HostRuntime) -> Result<(), Fail> {
     let mut conn = Connection::open_in_memory(rt.alloc())?;
     conn.execute_batch("CREATE TABLE other (a INTEGER); INSERT INTO other VALUES (7);")?;
     let mut conn = desk_over(rt.alloc(), &rt, conn).into_connection();
     conn.execute_batch(PETS)?;
-    let mut conn = opened(rt.alloc(), &rt, conn, BOB)?;
-    let sum = count(
-        &mut conn,
-        "SELECT a + (SELECT count(*) FROM student) FROM other",
-    )?;
-    holds(&rt, sum == 8, "another table, and one student");
-    Ok(())
+    compare_count(rt.alloc(), &rt, conn, BOB, (OTHER_AND_STUDENTS, 8))
 }
