@@ -1,13 +1,13 @@
 #!/usr/bin/env python3
-"""A served file that is killed in the middle of puts has every answered put when it is opened again, and one of the first edition that is
-killed while it is raised is of the first or the latest edition of the same office.
+"""A served file that is killed in the middle of puts has every answered put when it is opened again, and one of an earlier edition that is
+killed while it is raised is of that edition or the latest, of the same office.
 
-tools/kill.py SPADESK [TIMES]
+tools/kill.py SPADESK [TIMES [FILE]]
 
 Each time a program serves a new database, students are put over one connection after another, the program is killed by SIGKILL at
 some moment, and another program serves the file and is asked for each student whose put was answered. As often a line opens a file of
-the first edition and is killed at some moment; the rows of the file are those from before or those of the raised file, and another
-line prints what it prints undisturbed.
+the first edition, one of the second that has a generous round, and FILE, as tools/largest.py makes it, and is killed at some moment; the
+rows of the file are those from before or those of the raised file, and another line prints what it prints undisturbed.
 """
 import os
 import random
@@ -23,6 +23,8 @@ import time
 from collections import Counter
 from contextlib import closing
 
+from editions import FIRST_EDITION, SECOND_EDITION
+
 HERE = os.path.dirname(os.path.abspath(__file__))
 EXAMPLE = os.path.join(HERE, "..", "examples", "first-round")
 PORT = 18080
@@ -33,13 +35,8 @@ MADE = [
     "open-round DB",
     "import DB lists I4 lists.csv",
     "close-round DB",
-    "open-round DB",
+    "open-round DB generous",
 ]
-# what makes a file of the first edition, in which rounds had no aim and lists eight places at most, of one of the latest
-FIRST_EDITION = """
-    INSERT INTO choice SELECT * FROM choice12; INSERT INTO placement SELECT * FROM placement12; DROP TABLE choice12; DROP TABLE placement12;
-    DROP TABLE round_aim; UPDATE edition SET number = 1;
-"""
 
 
 def exchange(messages, answered):
@@ -115,20 +112,20 @@ def rows(path):
             return list(looked.iterdump())
 
 
-def first_edition(program, path):
-    """Makes a file of the first edition, whose first round is closed and whose second is open."""
+def made(program, path, edition):
+    """Makes a file of an earlier edition, whose first round is closed and whose second is open, and generous where rounds have an aim."""
     for words in MADE:
         line(program, words, path)
-    with closing(sqlite3.connect(path)) as made:
-        made.executescript(FIRST_EDITION)
+    with closing(sqlite3.connect(path)) as file:
+        file.executescript(edition)
+    return path
 
 
-def raised(program, draw, times):
-    """Kills lines in the middle of an opening of that file; how many files of each edition they left."""
+def raised(program, draw, times, start):
+    """Kills lines in the middle of an opening of copies of a file; how many they left as it was, and how many of the latest edition."""
     report, left = "report DB placements 1", Counter()
     with tempfile.TemporaryDirectory() as folder:
-        start, path = os.path.join(folder, "start.db"), os.path.join(folder, "school.db")
-        first_edition(program, start)
+        path = os.path.join(folder, "school.db")
         shutil.copy(start, path)
         first, begun = rows(path), time.monotonic()
         told = line(program, report, path)
@@ -146,14 +143,22 @@ def raised(program, draw, times):
             if found not in (first, latest) or line(program, report, path) != told or rows(path) != latest:
                 sys.exit("a file that was killed while it was raised is of no edition of its office")
             left["first" if found == first else "latest"] += 1
-    return left
+    return left["first"], left["latest"]
 
 
-def main(program, times="20"):
+def main(program, times="20", largest=None):
     draw, program = random.Random(1), os.path.abspath(program)
     print("answered before the kill, and found again:", *(once(program, draw) for _ in range(int(times))))
-    left = raised(program, draw, int(times))
-    print("files killed while they are raised, of the first edition:", left["first"], "and of the latest:", left["latest"])
+    with tempfile.TemporaryDirectory() as folder:
+        starts = {
+            "a file of the first edition": made(program, os.path.join(folder, "first.db"), FIRST_EDITION),
+            "a file of the second": made(program, os.path.join(folder, "second.db"), SECOND_EDITION),
+        }
+        if largest:
+            starts[largest] = largest
+        for name, start in starts.items():
+            before, latest = raised(program, draw, int(times), start)
+            print(f"{name}, killed while it is raised: {before} times as it was, {latest} of the latest edition", flush=True)
 
 
 if __name__ == "__main__":

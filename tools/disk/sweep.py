@@ -2,10 +2,16 @@
 """Fails each call of the disk of a line in turn, or ends the program there, and looks at what is printed and at what is left.
 
 tools/disk/sweep.py SPADESK [ROW..]     needs gcc, curl and sqlite3
+tools/disk/sweep.py SPADESK --of FILE EACH
 
-The rows are LINES, by their numbers from 1; without a number all are swept. Some begin with a file of the first edition, which the line raises. Each call is failed alone and with all behind it, by EIO and by ENOSPC;
-the program is killed before it, and half-way through it where it is a write; and no file may grow beyond some size, for sizes from none in
-steps of 4,096 bytes, until the line is not hindered. Then one of these must hold, where the office is what the program itself reports of the files, and their rows:
+The rows are LINES, by their numbers from 1; without a number all are swept. Some begin with a file of the first edition or the second,
+which the line raises. With --of a report over a copy of FILE is swept instead, at its first call and each EACH-th after it, and at the five
+before what is printed, which commit, with steps of the sizes EACH times as large; over the file that tools/largest.py makes it has 4,200
+calls, and a run takes some seconds.
+
+Each call is failed alone and with all behind it, by EIO and by ENOSPC; the program is killed before it, and half-way through it where it is
+a write; and no file may grow beyond some size, for sizes from none in steps of 4,096 bytes, until the line is not hindered. Then one of
+these must hold, where the office is what the program itself reports of the files, and their rows:
 - all is printed as ever, and the office is that after the line;
 - the line is refused as a database that fails (over a connection it is the answer), and the office is that before the line, or that
   after it, as a crash may leave it; where it is that before it, the line does its work when it is asked again;
@@ -24,15 +30,15 @@ import tempfile
 from collections import Counter
 
 HERE = os.path.dirname(os.path.abspath(__file__))
+sys.path.append(os.path.join(HERE, ".."))
+from editions import FIRST_EDITION, SECOND_EDITION
+
 EXAMPLE = os.path.join(HERE, "..", "..", "examples", "first-round")
 PORT = 18081
 PUT = ["-X", "PUT", "-d", '{"choices":["SYMMETRY","CIPHER"]}', f"http://127.0.0.1:{PORT}/lists/S16"]
 REOPEN = ["-X", "POST", f"http://127.0.0.1:{PORT}/rounds/reopen"]
-# what makes a file of the first edition, in which rounds had no aim and lists eight places at most, of one of the latest
-FIRST_EDITION = """
-    INSERT INTO choice SELECT * FROM choice12; INSERT INTO placement SELECT * FROM placement12; DROP TABLE choice12; DROP TABLE placement12;
-    DROP TABLE round_aim; UPDATE edition SET number = 1;
-"""
+# what makes the closed round of a file an open one that is generous
+GENEROUS = "DELETE FROM placement12; UPDATE round SET open = 1; UPDATE round_aim SET generous = 1;"
 # the words, the request over the one connection that the line serves, and what is done to the file before
 LINES = [
     ("import DB supervisors I1 supervisors.csv", None, ""),
@@ -47,6 +53,8 @@ LINES = [
     (f"serve DB {PORT} 1", REOPEN, ""),
     ("close-round DB", None, FIRST_EDITION),
     ("report DB placements 1", None, FIRST_EDITION),
+    ("close-round DB", None, GENEROUS + SECOND_EDITION),
+    ("report DB placements 1", None, SECOND_EDITION),
 ]
 MODES = [(mode, fault) for mode in ("once", "on") for fault in ("EIO", "ENOSPC")] + [("kill", ""), ("tear", "")]
 STORAGE = '{"fault":"Storage","number":2}'
@@ -78,7 +86,7 @@ class Sweep:
             answer = ""
             if first.startswith("listening"):
                 answer = subprocess.run(["curl", "-s", *request], capture_output=True, text=True).stdout
-            out, err = it.communicate(timeout=60)
+            out, err = it.communicate(timeout=600)
         return first + out, err, it.returncode, answer
 
     def copy(self, start, to, ends=("", "-wal")):
@@ -134,8 +142,8 @@ class Sweep:
                 sys.exit(f"{words}: asked again: {again}")
         return f"{what}, {where}"
 
-    def of(self, start, words, request):
-        """Sweeps a line over the database that stands in `start`, or a new one; what it leaves is the next start."""
+    def of(self, start, words, request, each=1):
+        """Sweeps a line, at each so many calls and at the last before what is printed, over the database in `start`, or a new one."""
         told = words.replace("DB", "swept.db")
         self.copy(start, "swept.db")
         stood, opened = self.office("swept.db")
@@ -150,11 +158,12 @@ class Sweep:
             sys.exit(f"{words}: the file alone is another office")
         row = told, request, undisturbed, before, after
         came = Counter()
+        calls = sorted({*range(1, last + 1, each), *range(max(1, first - 4), first + 1)})
         for mode in MODES:
-            for at in range(1, last + 1):
+            for at in calls:
                 self.copy(start, "swept.db")
                 came[mode[0], self.judge(row, self.line(told, request, mode, at), at > first)] += 1
-        for size in range(0, 1 << 20, 4096):
+        for size in range(0, each << 20, each << 12):
             self.copy(start, "swept.db")
             what = self.judge(row, self.line(told, request, size=size), False)
             came["size", what] += 1
@@ -164,19 +173,31 @@ class Sweep:
         for (mode, what), count in sorted(came.items()):
             print(f"    {mode:5} {what:40} {count:5}", flush=True)
 
-
-def main(program, *numbers):
-    with tempfile.TemporaryDirectory() as folder:
-        sweep = Sweep(program, folder)
+    def lines(self, numbers):
+        """Sweeps the lines of these numbers, or all, each over what the one before it leaves."""
         start = None
         for number, (words, request, sql) in enumerate(LINES, 1):
-            sweep.alter(start, sql)
+            self.alter(start, sql)
             if not numbers or str(number) in numbers:
-                sweep.of(start, words, request)
-            sweep.copy(start, "after.db")
-            sweep.line(words.replace("DB", "after.db"), request)
+                self.of(start, words, request)
+            self.copy(start, "after.db")
+            self.line(words.replace("DB", "after.db"), request)
             start = f"step{number}.db"
-            sweep.copy("after.db", start)
+            self.copy("after.db", start)
+
+    def file(self, path, each):
+        """Sweeps a report over a copy of a file, at each so many calls."""
+        shutil.copy(path, os.path.join(self.folder, "file.db"))
+        self.of("file.db", "report DB loads 1", None, int(each))
+
+
+def main(program, *words):
+    with tempfile.TemporaryDirectory() as folder:
+        sweep = Sweep(program, folder)
+        if words[:1] == ("--of",):
+            sweep.file(*words[1:])
+        else:
+            sweep.lines(words)
         print(f"{sweep.runs} runs")
 
 

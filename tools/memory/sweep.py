@@ -16,13 +16,11 @@ import sys
 import tempfile
 
 HERE = os.path.dirname(os.path.abspath(__file__))
+sys.path.append(os.path.join(HERE, ".."))
+from editions import FIRST_EDITION
+
 EXAMPLE = os.path.join(HERE, "..", "..", "examples", "first-round")
 OUT_OF_MEMORY = ("", "refused 1: Memory\n", 1)
-# what makes a file of the first edition, in which rounds had no aim and lists eight places at most, of one of the latest
-FIRST_EDITION = """
-    INSERT INTO choice SELECT * FROM choice12; INSERT INTO placement SELECT * FROM placement12; DROP TABLE choice12; DROP TABLE placement12;
-    DROP TABLE round_aim; UPDATE edition SET number = 1;
-"""
 # the words, and what is done to the file before
 LINES = [
     ("import DB supervisors I1 supervisors.csv", ""),

@@ -1,0 +1,106 @@
+#!/usr/bin/env python3
+"""Makes a file of the first edition at all limits, tells what raising it takes, and compares its reports from before and after.
+
+tools/largest.py SPADESK FOLDER [OLDER]     needs valgrind
+
+FOLDER/largest.db has 100 supervisors, 400 projects, 500 students, who list eight projects in each of twelve closed rounds, 400 placements
+by the last of them, and 200 imports of 2,000 bytes. FOLDER/second.db is the same office in the second edition, and FOLDER/raised.db in the
+latest. Told are the instructions and the seconds, the median of five, of a report that raises a copy of the first, and of the same report
+over the raised file. A line that raises a copy of either older file must print the same reports as one over the raised file, and so
+must OLDER, an older program, over a copy of the first.
+"""
+import os
+import random
+import re
+import shutil
+import sqlite3
+import statistics
+import subprocess
+import sys
+import tempfile
+import time
+from contextlib import closing
+
+from editions import FIRST_EDITION, SECOND_EDITION
+
+SUPERVISORS, PROJECTS, STUDENTS, ROUNDS, PLACES, IMPORTS, BYTES = 100, 400, 500, 12, 8, 200, 2000
+REPORTS = [f"loads {ROUNDS}", f"placements {ROUNDS}", "unplaced 1", f"unplaced {ROUNDS}"]
+COUNTED = ["valgrind", "--tool=cachegrind", "--cache-sim=no", "--cachegrind-out-file=/dev/null"]
+
+
+def listed(draw, student):
+    """The projects of a list, and the place of the student's own, which no other student is placed in."""
+    own = student % PROJECTS
+    chosen = draw.sample([project for project in range(PROJECTS) if project != own], PLACES)
+    place = draw.randrange(PLACES)
+    chosen[place] = own
+    return chosen, place
+
+
+def fill(file):
+    """Puts the rows at all limits in the tables of the first edition."""
+    draw = random.Random(1)
+    choices, placements = [], []
+    for number in range(1, ROUNDS + 1):
+        for student in range(STUDENTS):
+            chosen, place = listed(draw, student)
+            choices += [(number, f"S{student:03}", n, f"P{project:03}") for n, project in enumerate(chosen, 1)]
+            if number == ROUNDS and student < PROJECTS:
+                placements.append((f"S{student:03}", number, f"P{student:03}", place + 1))
+    file.executemany("INSERT INTO supervisor VALUES (?, ?, ?)", [(f"L{n:02}", f"Supervisor {n}", PROJECTS // SUPERVISORS) for n in range(SUPERVISORS)])
+    file.executemany("INSERT INTO project VALUES (?, ?, ?, 1)", [(f"P{n:03}", f"Project {n}", f"L{n % SUPERVISORS:02}") for n in range(PROJECTS)])
+    file.executemany("INSERT INTO student VALUES (?, ?)", [(f"S{n:03}", f"Student {n}") for n in range(STUDENTS)])
+    file.executemany("INSERT INTO round VALUES (?, 0)", [(n,) for n in range(1, ROUNDS + 1)])
+    file.executemany("INSERT INTO choice VALUES (?, ?, ?, ?)", choices)
+    file.executemany("INSERT INTO placement VALUES (?, ?, ?, ?)", placements)
+    file.executemany("INSERT INTO import VALUES (?, 'lists', ?, 10)", [(f"I{n:03}", draw.randbytes(BYTES)) for n in range(IMPORTS)])
+
+
+def ran(program, path, report, tool=()):
+    """A report over a file, and its seconds."""
+    begun = time.monotonic()
+    it = subprocess.run([*tool, program, "report", path, *report.split()], capture_output=True, text=True, check=True)
+    return it, time.monotonic() - begun
+
+
+def over_copy(program, start, report, tool=()):
+    """The same over a copy of the file."""
+    with tempfile.TemporaryDirectory() as folder:
+        return ran(program, shutil.copy(start, folder), report, tool)
+
+
+def files(program, folder):
+    """Makes the file in each edition."""
+    first, second, raised = (os.path.join(folder, name) for name in ("largest.db", "second.db", "raised.db"))
+    for path in (first, second, raised):
+        for end in ("", "-wal"):
+            if os.path.exists(path + end):
+                os.remove(path + end)
+    subprocess.run([program, "open-round", first], stdout=subprocess.DEVNULL, check=True)
+    with closing(sqlite3.connect(first)) as file:
+        file.executescript(FIRST_EDITION + "DELETE FROM round;")
+        fill(file)
+        file.commit()
+    ran(program, shutil.copy(first, raised), REPORTS[0])
+    shutil.copy(raised, second)
+    with closing(sqlite3.connect(second)) as file:
+        file.executescript(SECOND_EDITION)
+    return first, second, raised
+
+
+def main(program, folder, older=None):
+    first, second, raised = files(program, folder)
+    for report in REPORTS:
+        told = ran(program, raised, report)[0].stdout
+        texts = [over_copy(by, start, report)[0].stdout for by, start in ((program, first), (program, second), (older, first)) if by]
+        if any(text != told for text in texts):
+            sys.exit(f"{report}: other bytes by a line that raises the file, or by the older program")
+        print(f"{report:13} {len(told):6} bytes, the same {len(texts) + 1} times", flush=True)
+    for what, start in (("raised and reported on", first), ("reported on", raised)):
+        counted = re.search(r"I\s+refs:\s+([\d,]+)", over_copy(program, start, REPORTS[0], COUNTED)[0].stderr)[1]
+        seconds = statistics.median(over_copy(program, start, REPORTS[0])[1] for _ in range(5))
+        print(f"{what:22} {counted:>15} instructions, {seconds:.2f} s", flush=True)
+
+
+if __name__ == "__main__":
+    main(*sys.argv[1:])
