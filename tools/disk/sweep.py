@@ -2,12 +2,13 @@
 """Fails each call of the disk of a line in turn, or ends the program there, and looks at what is printed and at what is left.
 
 tools/disk/sweep.py SPADESK [ROW..]     needs gcc, curl and sqlite3
-tools/disk/sweep.py SPADESK --of FILE EACH
+tools/disk/sweep.py SPADESK --of FILE FIRST LAST EACH [MODE..]
 
 The rows are LINES, by their numbers from 1; without a number all are swept. Some begin with a file of the first edition or the second,
-which the line raises. With --of a report over a copy of FILE is swept instead, at its first call and each EACH-th after it, and at the five
-before what is printed, which commit, with steps of the sizes EACH times as large; over the file that tools/largest.py makes it has 4,200
-calls, and a run takes some seconds.
+which the line raises. With --of a report over a copy of FILE is swept instead, at each EACH-th of its calls from FIRST to LAST, in these
+MODES, or all, with steps of the sizes EACH times as large. Over the file that tools/largest.py makes it has 4,200 calls, of which the
+last five of the 1,740 before what is printed commit what is raised; a run takes up to some seconds. Two lines are served, at one port, so
+sweeps of LINES are not run side by side.
 
 Each call is failed alone and with all behind it, by EIO and by ENOSPC; the program is killed before it, and half-way through it where it is
 a write; and no file may grow beyond some size, for sizes from none in steps of 4,096 bytes, until the line is not hindered. Then one of
@@ -20,6 +21,7 @@ What was printed was done: where a call behind the last text is the first that f
 the office is that after the line. Where all calls went well the file alone is that office. As they stand, before the program opens them, the
 files have the rows from before the line, those that they have once they are opened, or those after the line.
 """
+import hashlib
 import os
 import resource
 import shutil
@@ -56,7 +58,9 @@ LINES = [
     ("close-round DB", None, GENEROUS + SECOND_EDITION),
     ("report DB placements 1", None, SECOND_EDITION),
 ]
-MODES = [(mode, fault) for mode in ("once", "on") for fault in ("EIO", "ENOSPC")] + [("kill", ""), ("tear", "")]
+MODES = ["once-EIO", "once-ENOSPC", "on-EIO", "on-ENOSPC", "kill", "tear"]
+# the bytes of a log without a change
+EMPTY_LOG = 41
 STORAGE = '{"fault":"Storage","number":2}'
 
 
@@ -68,16 +72,18 @@ def limited(size):
 
 class Sweep:
     def __init__(self, program, folder):
-        self.program, self.folder, self.runs = os.path.abspath(program), folder, 0
+        self.program, self.folder, self.runs, self.offices = os.path.abspath(program), folder, 0, {}
+        self.asked = set()
         self.library = os.path.join(folder, "fail.so")
         subprocess.run(["gcc", "-O2", "-shared", "-fPIC", "-o", self.library, os.path.join(HERE, "fail.c"), "-ldl"], check=True)
         for name in os.listdir(EXAMPLE):
             shutil.copy(os.path.join(EXAMPLE, name), folder)
 
-    def line(self, words, request=None, mode=("", ""), at=0, size=None):
+    def line(self, words, request=None, mode="", at=0, size=None):
         """What a line prints on both, its status, and what the one connection that it may serve is answered."""
         counted = os.path.join(self.folder, "counted")
-        env = {**os.environ, "LD_PRELOAD": self.library, "MODE": mode[0], "FAULT": mode[1], "AT": str(at), "COUNTED": counted if size is None else ""}
+        kind, _, fault = mode.partition("-")
+        env = {**os.environ, "LD_PRELOAD": self.library, "MODE": kind, "FAULT": fault, "AT": str(at), "COUNTED": counted if size is None else ""}
         how = {"cwd": self.folder, "env": env, "stdout": subprocess.PIPE, "stderr": subprocess.PIPE, "text": True}
         if size is not None:
             how["preexec_fn"] = lambda: limited(size)
@@ -97,18 +103,32 @@ class Sweep:
             if start and end in ends and os.path.exists(os.path.join(self.folder, start + end)):
                 shutil.copy(os.path.join(self.folder, start + end), path)
 
+    def digest(self, name):
+        """The bytes of a database's files, in short, but for a log that holds no change and has a salt of its own."""
+        digest = hashlib.sha256()
+        for end in ("", "-wal"):
+            path = os.path.join(self.folder, name + end)
+            if os.path.exists(path) and (not end or os.path.getsize(path) > EMPTY_LOG):
+                with open(path, "rb") as file:
+                    digest.update(hashlib.sha256(file.read()).digest() + end.encode())
+        return digest.digest()
+
     def rows(self):
-        """The rows of the database that is looked at."""
-        dump = subprocess.run(["sqlite3", os.path.join(self.folder, "looked.db"), "PRAGMA integrity_check", ".dump"], capture_output=True, text=True)
-        return dump.stdout
+        """The rows of the database that is looked at, in short; no text where SQLite finds no database."""
+        dump = subprocess.run(["sqlite3", os.path.join(self.folder, "looked.db"), "PRAGMA integrity_check", ".dump"], capture_output=True)
+        return dump.stdout and hashlib.sha256(dump.stdout).hexdigest()
 
     def office(self, name, ends=("", "-wal")):
-        """The rows of a database as it stands; a report on it, which the program opens it for and closes it; and the rows that it has then."""
+        """The rows of a database as it stands; a report on it, which the program opens it for and closes it; and the rows that it has then.
+        Files of the same bytes are looked at once."""
         self.copy(name, "looked.db", ends)
-        stood = self.rows()
-        self.copy(name, "looked.db", ends)
-        report = self.line("report looked.db placements 1")
-        return stood, (self.rows(), report)
+        files = self.digest("looked.db")
+        if files not in self.offices:
+            stood = self.rows()
+            self.copy(name, "looked.db", ends)
+            report = self.line("report looked.db placements 1")
+            self.offices[files] = stood, (self.rows(), report)
+        return self.offices[files]
 
     def alter(self, start, sql):
         """Does this to a database."""
@@ -135,20 +155,22 @@ class Sweep:
             what = "refused 2" if refused else "another answer"
         is_undone = where == "before" and what in ("killed", "refused 2") and not is_behind
         if what == "another answer" or not (where == "after" or is_undone):
-            sys.exit(f"{words}: {what}, {where}: {came}")
-        if what == "refused 2" and is_undone:
+            sys.exit(f"{words}: {what}, {where}: {came}, undisturbed {undisturbed}")
+        asked = words, self.digest("swept.db")
+        if what == "refused 2" and is_undone and asked not in self.asked:
+            self.asked.add(asked)
             again = self.line(words, request)
             if again != undisturbed or self.office("swept.db") != after:
                 sys.exit(f"{words}: asked again: {again}")
         return f"{what}, {where}"
 
-    def of(self, start, words, request, each=1):
-        """Sweeps a line, at each so many calls and at the last before what is printed, over the database in `start`, or a new one."""
+    def of(self, start, words, request, calls=(1, sys.maxsize, 1), modes=(*MODES, "size")):
+        """Sweeps a line over the database in `start`, or a new one, at these calls, in these modes."""
         told = words.replace("DB", "swept.db")
         self.copy(start, "swept.db")
         stood, opened = self.office("swept.db")
         # SQLite takes a new file that is not yet whole for no database
-        before = [stood, opened[0]] if start else [stood, opened[0], ""], opened
+        before = [stood, opened[0]] if start else [stood, opened[0], b""], opened
         undisturbed = self.line(told, request)
         with open(os.path.join(self.folder, "counted"), encoding="utf-8") as file:
             first, last = map(int, file.read().split())
@@ -158,12 +180,12 @@ class Sweep:
             sys.exit(f"{words}: the file alone is another office")
         row = told, request, undisturbed, before, after
         came = Counter()
-        calls = sorted({*range(1, last + 1, each), *range(max(1, first - 4), first + 1)})
-        for mode in MODES:
-            for at in calls:
+        begin, end, each = calls
+        for mode in (mode for mode in MODES if mode in modes):
+            for at in range(begin, min(end, last) + 1, each):
                 self.copy(start, "swept.db")
-                came[mode[0], self.judge(row, self.line(told, request, mode, at), at > first)] += 1
-        for size in range(0, each << 20, each << 12):
+                came[mode, self.judge(row, self.line(told, request, mode, at), at > first)] += 1
+        for size in range(0, each << 20, each << 12) if "size" in modes else ():
             self.copy(start, "swept.db")
             what = self.judge(row, self.line(told, request, size=size), False)
             came["size", what] += 1
@@ -171,7 +193,7 @@ class Sweep:
                 break
         print(f"{words:42} {last:4} calls, {last - first:3} behind what is printed")
         for (mode, what), count in sorted(came.items()):
-            print(f"    {mode:5} {what:40} {count:5}", flush=True)
+            print(f"    {mode:11} {what:40} {count:5}", flush=True)
 
     def lines(self, numbers):
         """Sweeps the lines of these numbers, or all, each over what the one before it leaves."""
@@ -185,10 +207,10 @@ class Sweep:
             start = f"step{number}.db"
             self.copy("after.db", start)
 
-    def file(self, path, each):
-        """Sweeps a report over a copy of a file, at each so many calls."""
+    def file(self, path, begin, end, each, *modes):
+        """Sweeps a report over a copy of a file."""
         shutil.copy(path, os.path.join(self.folder, "file.db"))
-        self.of("file.db", "report DB loads 1", None, int(each))
+        self.of("file.db", "report DB loads 1", None, (int(begin), int(end), int(each)), modes or (*MODES, "size"))
 
 
 def main(program, *words):
