@@ -19,7 +19,8 @@ these must hold, where the office is what the program itself reports of the file
 - the program was killed, and the office is that before or that after.
 What was printed was done: where a call behind the last text is the first that fails, the first of these holds, or the program was killed and
 the office is that after the line. Where all calls went well the file alone is that office. As they stand, before the program opens them, the
-files have the rows from before the line, those that they have once they are opened, or those after the line.
+files have the rows from before the line, those that they have once they are opened, or those after the line. Files of the same bytes, but
+for a log that holds no change, are looked at once, and the line is asked again over them once.
 """
 import hashlib
 import os
@@ -73,7 +74,6 @@ def limited(size):
 class Sweep:
     def __init__(self, program, folder):
         self.program, self.folder, self.runs, self.offices = os.path.abspath(program), folder, 0, {}
-        self.asked = set()
         self.library = os.path.join(folder, "fail.so")
         subprocess.run(["gcc", "-O2", "-shared", "-fPIC", "-o", self.library, os.path.join(HERE, "fail.c"), "-ldl"], check=True)
         for name in os.listdir(EXAMPLE):
@@ -156,7 +156,7 @@ class Sweep:
         is_undone = where == "before" and what in ("killed", "refused 2") and not is_behind
         if what == "another answer" or not (where == "after" or is_undone):
             sys.exit(f"{words}: {what}, {where}: {came}, undisturbed {undisturbed}")
-        asked = words, self.digest("swept.db")
+        asked = self.digest("swept.db")
         if what == "refused 2" and is_undone and asked not in self.asked:
             self.asked.add(asked)
             again = self.line(words, request)
@@ -166,7 +166,7 @@ class Sweep:
 
     def of(self, start, words, request, calls=(1, sys.maxsize, 1), modes=(*MODES, "size")):
         """Sweeps a line over the database in `start`, or a new one, at these calls, in these modes."""
-        told = words.replace("DB", "swept.db")
+        told, self.asked = words.replace("DB", "swept.db"), set()
         self.copy(start, "swept.db")
         stood, opened = self.office("swept.db")
         # SQLite takes a new file that is not yet whole for no database
