@@ -14,9 +14,10 @@ ghost use Rattle.solver.specs.Inside.Solved.{IsOf, AreRowsOf, ArePricesOf};
 
 use crate::worths::{admit_weighed, numbers};
 use network::Network;
+use proposal::propose;
 use spa::{Aim, Instance, Lex, Matching, PLACES, RANKS, lex_law, order_law};
 use std::alloc::{AllocError, Global};
-use verdict::{Prices, verdict_law};
+use verdict::{Prices, check, verdict_law};
 
 /// A matching, and prices that prove it best.
 #[derive(Drop)]
@@ -91,11 +92,8 @@ fn prices_of(alloc: Global, aim: Aim, network: &Network<Lex>) -> Result<Prices, 
     })
 }
 
-/// A matching of the instance that is best by the aim, and prices that prove it: `verdict::check` accepts them. No
-/// matching has more pairs, and none with as many has a better profile. An `Err` is want of memory.
-///
-/// It admits the students one by one to a network whose pairs are worth their weights, as the aim reads them.
-pub fn solve(alloc: Global, instance: &Instance, aim: Aim) -> Result<Solved, AllocError>
+/// The matching that is left when all students of the instance were admitted one by one, and the prices that prove it best.
+fn admitted(alloc: Global, instance: &Instance, aim: Aim) -> Result<Solved, AllocError>
     ensures proved { IfOk result (λ s. IsProvedBest (order aim) instance.now.shape s.matching.places.items s.prices) }
     ensures best { IfOk result (λ s. IsBest aim instance.now.shape (pairs instance.now.shape s.matching.places.items)) }
 {
@@ -107,4 +105,37 @@ pub fn solve(alloc: Global, instance: &Instance, aim: Aim) -> Result<Solved, All
     let matching = matching_of(alloc, &network, instance.student_count())?;
     let prices = prices_of(alloc, aim, &network)?;
     Ok(Solved { matching, prices })
+}
+
+/// What is proposed for the instance, if its prices prove its matching best.
+fn accepted(alloc: Global, instance: &Instance, aim: Aim) -> Result<Option<Solved>, AllocError>
+    ensures proved { IfOk result (λ r. IfSome r (λ s. IsProvedBest (order aim) instance.now.shape s.matching.places.items s.prices)) }
+    ensures best { IfOk result (λ r. IfSome r (λ s. IsBest aim instance.now.shape (pairs instance.now.shape s.matching.places.items))) }
+{
+    let proposal = propose(alloc, instance)?;
+    match check(instance, aim, &proposal.matching, &proposal.prices) {
+        Ok(()) => Ok(Some(Solved {
+            matching: proposal.matching,
+            prices: proposal.prices,
+        })),
+        Err(_) => Ok(None),
+    }
+}
+
+/// A matching of the instance that is best by the aim, and prices that prove it: `verdict::check` accepts them. No
+/// matching has more pairs, and none with as many has a better profile. An `Err` is want of memory.
+///
+/// By the greedy aim it admits the students one by one to a network whose pairs are worth their weights. By the generous aim
+/// their walks are long, so what `proposal` finds rank by rank comes first: it is taken where `verdict::check` accepts it, and
+/// only else are the students admitted.
+pub fn solve(alloc: Global, instance: &Instance, aim: Aim) -> Result<Solved, AllocError>
+    ensures proved { IfOk result (λ s. IsProvedBest (order aim) instance.now.shape s.matching.places.items s.prices) }
+    ensures best { IfOk result (λ s. IsBest aim instance.now.shape (pairs instance.now.shape s.matching.places.items)) }
+{
+    if let Aim::Generous = aim {
+        if let Some(solved) = accepted(alloc, instance, aim)? {
+            return Ok(solved);
+        }
+    }
+    admitted(alloc, instance, aim)
 }

@@ -3,6 +3,7 @@
 use crate::judged::holds;
 use crate::rolls_of::{instance, places};
 use crate::rounds::profile_of;
+use proposal::propose;
 use solver::{Audit, audit, solve};
 use spa::{Aim, Instance, Matching, RANKS, profile};
 use std::alloc::Global;
@@ -218,6 +219,18 @@ fn compare_searched(
     Ok(())
 }
 
+/// Whether what is proposed for a generous round is accepted. Else `solve` admits the students one by one, and takes longer.
+fn is_accepted(alloc: Global, instance: &Instance) -> Result<bool, Fail> {
+    let proposal = propose(alloc, instance)?;
+    Ok(check(
+        instance,
+        Aim::Generous,
+        &proposal.matching,
+        &proposal.prices,
+    )
+    .is_ok())
+}
+
 #[test]
 fn a_search_through_all_matchings_finds_none_better(rt: HostRuntime) -> Result<(), Fail> {
     let alloc = rt.alloc();
@@ -227,6 +240,8 @@ fn a_search_through_all_matchings_finds_none_better(rt: HostRuntime) -> Result<(
         let instance = instance(alloc, &supervisors, &projects, &students)?;
         compare_searched(alloc, &rt, &instance, Aim::Greedy, &students)?;
         compare_searched(alloc, &rt, &instance, Aim::Generous, &students)?;
+        let is_accepted = is_accepted(alloc, &instance)?;
+        holds(&rt, is_accepted, &students);
     }
     Ok(())
 }

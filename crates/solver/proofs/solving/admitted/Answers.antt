@@ -10,7 +10,7 @@ use Rattle.solver.proofs.FiveConditions.{proved_best}
 use Rattle.std.proofs.lemmas.Result.{IfOk-from_err}
 use Rattle.std.proofs.lemmas.List.{length-map}
 use Rattle.solver.specs.Inside.Weights.{weighed}
-use Rattle.solver.proofs.solving.solve.Goals as goal
+use Rattle.solver.proofs.solving.admitted.Goals as goal
 
 pub matching_of-requires-clause-small : goal.matching_of-requires-clause-small
 matching_of-requires-clause-small c s k e =
