@@ -43,6 +43,13 @@ def counted(program, line, file):
     return int(re.search(r"I\s+refs:\s+([\d,]+)", ran.stderr).group(1).replace(",", "")), ran.stdout
 
 
+def plain_rust(folder):
+    """The plain Rust program, compiled into a folder."""
+    path = os.path.join(folder, "rounds")
+    subprocess.run(["rustc", "-O", "--edition", "2021", "-o", path, os.path.join(HERE, "beside", "rounds.rs")], check=True)
+    return path
+
+
 def measured(programs, folder):
     """By line and program, the millions of instructions at each size."""
     empty = os.path.join(folder, "empty")
@@ -97,9 +104,7 @@ def panel(line, found, shift):
 def main():
     program = os.path.abspath(sys.argv[1])
     with tempfile.TemporaryDirectory() as folder:
-        plain = os.path.join(folder, "rounds")
-        subprocess.run(["rustc", "-O", "--edition", "2021", "-o", plain, os.path.join(HERE, "beside", "rounds.rs")], check=True)
-        found = measured({"plain Rust": plain, "spadesk": program}, folder)
+        found = measured({"plain Rust": plain_rust(folder), "spadesk": program}, folder)
     for line in LINES:
         for name in COLOURS:
             print(line, name, " ".join(f"{millions:.2f}" for millions in found[line, name]), file=sys.stderr)

@@ -1,8 +1,10 @@
 //! The lines `solve FILE` and `check FILE` in plain Rust, std alone: what `spadesk` is measured beside. Dijkstra with potentials over
-//! labels of whole numbers in lexicographic order, a binary heap, labels cut at the best end found so far. It reads its text laxly:
-//! neither limits nor the order of lines are tested.
+//! labels of whole numbers in lexicographic order, a binary heap, labels cut at the best end found so far; a generous round goes rank by
+//! rank (`ranks.rs`). It reads its text laxly: neither limits nor the order of lines are tested.
 //!
 //! RANKS in the environment of rustc is the number of places of a list, 12 where it is not set.
+
+mod ranks;
 
 use std::cmp::Reverse;
 use std::collections::{BinaryHeap, HashMap};
@@ -66,6 +68,7 @@ impl Worth for Lex {
 }
 #[derive(Default)]
 struct Round<'a> {
+    generous: bool,
     sups: Vec<(&'a str, u32)>,
     projects: Vec<(&'a str, usize, u32)>,
     students: Vec<(&'a str, Vec<usize>)>,
@@ -73,6 +76,19 @@ struct Round<'a> {
     u: Vec<[i64; NP]>,
     y: Vec<[i64; NP]>,
     z: Vec<[i64; NP]>,
+}
+
+impl Round<'_> {
+    /// A row as the aim reads it.
+    fn read(&self, row: [i64; NP]) -> [i64; NP] {
+        let mut read = row;
+        if self.generous {
+            for k in 1..NP {
+                read[k] = -row[NP - k]
+            }
+        }
+        read
+    }
 }
 
 fn prices<'a>(f: impl Iterator<Item = &'a str>) -> Option<[i64; NP]> {
@@ -94,6 +110,7 @@ fn read(text: &str) -> Result<Round<'_>, usize> {
             let kind = f.next()?;
             let code = f.next()?;
             match kind {
+                "A" => r.generous = code == "generous",
                 "S" => {
                     sn.insert(code, r.sups.len());
                     r.sups.push((code, f.next()?.parse().ok()?))
@@ -132,6 +149,14 @@ fn read(text: &str) -> Result<Round<'_>, usize> {
         ok.ok_or(i + 1)?;
     }
     Ok(r)
+}
+
+/// For each student the place in the list, and the prices of students, projects and supervisors.
+struct Solved {
+    places: Vec<Option<usize>>,
+    u: Vec<[i64; NP]>,
+    y: Vec<[i64; NP]>,
+    z: Vec<[i64; NP]>,
 }
 
 #[derive(Clone, Copy)]
@@ -353,8 +378,11 @@ impl<'a, G: Worth> Network<'a, G> {
     }
 }
 
-fn write(r: &Round, n: &Network<impl Worth>) -> String {
+fn write(r: &Round, n: &Solved) -> String {
     let mut o = String::with_capacity(64 * (r.sups.len() + r.projects.len() + 3 * r.students.len()));
+    if r.generous {
+        o.push_str("A,generous\n")
+    }
     for (c, q) in &r.sups {
         let _ = writeln!(o, "S,{c},{q}");
     }
@@ -369,7 +397,7 @@ fn write(r: &Round, n: &Network<impl Worth>) -> String {
         o.push('\n');
     }
     for (s, (c, list)) in r.students.iter().enumerate() {
-        if let Some(k) = n.place[s] {
+        if let Some(k) = n.places[s] {
             let _ = writeln!(o, "M,{c},{}", r.projects[list[k]].0);
         }
     }
@@ -381,14 +409,13 @@ fn write(r: &Round, n: &Network<impl Worth>) -> String {
         o.push('\n');
     };
     for (s, x) in r.students.iter().enumerate() {
-        line('U', x.0, n.u[s].places())
+        line('U', x.0, n.u[s])
     }
     for (p, x) in r.projects.iter().enumerate() {
-        let y = if x.2 == 0 { n.weight[0] } else { n.price(p) - n.z[x.1] };
-        line('Y', x.0, y.places())
+        line('Y', x.0, n.y[p])
     }
     for (l, x) in r.sups.iter().enumerate() {
-        line('Z', x.0, n.z[l].places())
+        line('Z', x.0, n.z[l])
     }
     o
 }
@@ -414,13 +441,13 @@ fn check(r: &Round) -> Result<[i64; NP], String> {
     if all().flatten().any(|x| x.abs() > 1_000_000) {
         return Err("fault 2".into());
     }
-    if all().any(|v| *v < [0; NP]) {
+    if all().any(|v| r.read(*v) < [0; NP]) {
         return Err("fault 3".into());
     }
     for (s, (c, list)) in r.students.iter().enumerate() {
         for (k, p) in list.iter().enumerate() {
             let v = Lex(r.u[s]) + Lex(r.y[*p]) + Lex(r.z[r.projects[*p].1]);
-            if v < Lex::weight(k) {
+            if r.read(v.0) < r.read(Lex::weight(k).0) {
                 return Err(format!("fault 4 {c} {}", k + 1));
             }
         }
@@ -447,12 +474,15 @@ fn check(r: &Round) -> Result<[i64; NP], String> {
     Ok(w)
 }
 
-fn run<'a, G: Worth>(r: &'a Round<'a>) -> Network<'a, G> {
-    let mut n = Network::<G>::new(r);
+fn one_by_one(r: &Round) -> Solved {
+    let mut n = Network::<Lex>::new(r);
     for s in 0..r.students.len() {
         n.admit(s)
     }
-    n
+    let y = |p: usize| if r.projects[p].2 == 0 { n.weight[0] } else { n.price(p) - n.z[r.projects[p].1] };
+    let y = (0..r.projects.len()).map(|p| y(p).places()).collect();
+    let places = |rows: &[Lex]| rows.iter().map(|x| x.places()).collect();
+    Solved { u: places(&n.u), z: places(&n.z), y, places: n.place }
 }
 fn main() {
     let words: Vec<String> = std::env::args().collect();
@@ -462,7 +492,8 @@ fn main() {
         std::process::exit(1)
     });
     if words[1] == "solve" {
-        std::io::stdout().write_all(write(&round, &run::<Lex>(&round)).as_bytes()).expect("an output");
+        let solved = if round.generous { ranks::solve(&round) } else { one_by_one(&round) };
+        std::io::stdout().write_all(write(&round, &solved).as_bytes()).expect("an output");
         return;
     }
     match check(&round) {
