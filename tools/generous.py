@@ -23,6 +23,8 @@ def best(program, folder, text):
 
 
 def main():
+    if len(sys.argv) < 3:
+        sys.exit(__doc__)
     program, files = os.path.abspath(sys.argv[1]), sys.argv[2:]
     with tempfile.TemporaryDirectory() as folder:
         plain = plain_rust(folder)

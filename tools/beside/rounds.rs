@@ -80,7 +80,7 @@ struct Round<'a> {
 
 impl Round<'_> {
     /// A row as the aim reads it.
-    fn read(&self, row: [i64; NP]) -> [i64; NP] {
+    fn as_read(&self, row: [i64; NP]) -> [i64; NP] {
         let mut read = row;
         if self.generous {
             for k in 1..NP {
@@ -441,13 +441,13 @@ fn check(r: &Round) -> Result<[i64; NP], String> {
     if all().flatten().any(|x| x.abs() > 1_000_000) {
         return Err("fault 2".into());
     }
-    if all().any(|v| r.read(*v) < [0; NP]) {
+    if all().any(|v| r.as_read(*v) < [0; NP]) {
         return Err("fault 3".into());
     }
     for (s, (c, list)) in r.students.iter().enumerate() {
         for (k, p) in list.iter().enumerate() {
             let v = Lex(r.u[s]) + Lex(r.y[*p]) + Lex(r.z[r.projects[*p].1]);
-            if r.read(v.0) < r.read(Lex::weight(k).0) {
+            if r.as_read(v.0) < r.as_read(Lex::weight(k).0) {
                 return Err(format!("fault 4 {c} {}", k + 1));
             }
         }
