@@ -85,18 +85,12 @@ module _ (M : List CodePair) (o : State) (fit : IsFit o) (may : MayClose o M) wh
       ]
 
   closed_at : (k : RowKey) → after_changes (close_changes M o) (row_of o) k ≡ row_of (after_close M o) k
-  closed_at (key.Supervisor code) = others_stay (map (kept o) M) round_put (key.Supervisor code) (λ s. refl)
-  closed_at (key.Project code) = others_stay (map (kept o) M) round_put (key.Project code) (λ s. refl)
-  closed_at (key.Student code) = others_stay (map (kept o) M) round_put (key.Student code) (λ s. refl)
-  closed_at (key.RoundAim n) = others_stay (map (kept o) M) round_put (key.RoundAim n) (λ s. refl)
-  closed_at (key.Import id) = others_stay (map (kept o) M) round_put (key.Import id) (λ s. refl)
-  closed_at (key.OldChoice n s place) = others_stay (map (kept o) M) round_put (key.OldChoice n s place) (λ s. refl)
-  closed_at (key.OldPlacement s) = others_stay (map (kept o) M) round_put (key.OldPlacement s) (λ s. refl)
   closed_at (key.Round n) = others_stay (map (kept o) M) round_put (key.Round n) (λ s. refl) ∙ round_turned n
   closed_at (key.Choice round student place) =
       others_stay (map (kept o) M) round_put (key.Choice round student place) (λ s. refl)
       ∙ ap (λ (cs : List (List ℕ)). option_map (row.Choice round student place) (choice_in cs place)) (sym (choices_same M o fit round student))
   closed_at (key.Placement s) = placements_turned (map (kept o) M) o.placements round_put (λ s. refl) s
+  closed_at k = others_stay (map (kept o) M) round_put k (λ s. refl)
 
   -- closing turns the rows
   pub close_turns : Turns (close_changes M o) o (after_close M o)

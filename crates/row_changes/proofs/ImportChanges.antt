@@ -28,9 +28,7 @@ same_changes (c ∷ cs) rows others same k = same_changes cs (after_change c row
 one_fresh : (c : Change) (rows others : RowKey → Option Row) → ((k : RowKey) → rows k ≡ others k) → IsFresh c others → IsFresh c rows
 one_fresh (change.Put r) rows others same fresh = tt
 one_fresh (change.Add r) rows others same fresh = same (key_of r) ∙ fresh
-one_fresh (change.Take at) rows others same fresh = tt
-one_fresh (change.TakeList n s) rows others same fresh = tt
-one_fresh (change.TakePlacements n) rows others same fresh = tt
+one_fresh _ rows others same fresh = tt
 
 all_fresh : (cs : List Change) (rows others : RowKey → Option Row) → ((k : RowKey) → rows k ≡ others k) → AreFresh cs others → AreFresh cs rows
 all_fresh [] rows others same fresh = tt
@@ -44,16 +42,7 @@ turns_follow cs ds o m n first second = record {
 
 one_keeps_none : (p : Plain) (o : State) → (let n = after_plain p o in n.imports) ≡ o.imports
 one_keeps_none (PutSupervisor code label quota) o = refl
-one_keeps_none (PutProject code label supervisor quota) o = refl
-one_keeps_none (PutStudent code label) o = refl
-one_keeps_none (OpenRound aim) o = refl
-one_keeps_none (PutList student choices) o = refl
-one_keeps_none (DropList student) o = refl
-one_keeps_none ReopenRound o = refl
-one_keeps_none (GetSupervisor code) o = refl
-one_keeps_none (GetProject code) o = refl
-one_keeps_none (GetStudent code) o = refl
-one_keeps_none (GetRound round) o = refl
+one_keeps_none _ o = refl
 
 pub keep_none : ImportsStay
 keep_none [] o = refl

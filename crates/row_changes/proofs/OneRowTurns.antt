@@ -57,15 +57,7 @@ no_row to_row (Some e) h = cc
 
 supervisor_turned : (o : State) (s : Supervisor) (k : RowKey) → cond (same_row k (key_of (supervisor_row s))) (Some (supervisor_row s)) (row_of o k) ≡ row_of (with_supervisor o s) k
 supervisor_turned o s (key.Supervisor code) = turned supervisor_key supervisor_row s o.supervisors (0, code) _ (code_test code s.code)
-supervisor_turned o s (key.Project code) = refl
-supervisor_turned o s (key.Student code) = refl
-supervisor_turned o s (key.Round n) = refl
-supervisor_turned o s (key.Choice n student place) = refl
-supervisor_turned o s (key.Placement student) = refl
-supervisor_turned o s (key.RoundAim n) = refl
-supervisor_turned o s (key.Import id) = refl
-supervisor_turned o s (key.OldChoice n student place) = refl
-supervisor_turned o s (key.OldPlacement student) = refl
+supervisor_turned o s _ = refl
 
 pub turns_supervisor : (o : State) (s : Supervisor) → Turns (put_or_added (has_supervisor o s.code) (supervisor_row s) ∷ []) o (with_supervisor o s)
 turns_supervisor o s = record {
@@ -74,16 +66,8 @@ turns_supervisor o s = record {
 }
 
 project_turned : (o : State) (p : Project) (k : RowKey) → cond (same_row k (key_of (project_row p))) (Some (project_row p)) (row_of o k) ≡ row_of (with_project o p) k
-project_turned o p (key.Supervisor code) = refl
 project_turned o p (key.Project code) = turned project_key project_row p o.projects (0, code) _ (code_test code p.code)
-project_turned o p (key.Student code) = refl
-project_turned o p (key.Round n) = refl
-project_turned o p (key.Choice n student place) = refl
-project_turned o p (key.Placement student) = refl
-project_turned o p (key.RoundAim n) = refl
-project_turned o p (key.Import id) = refl
-project_turned o p (key.OldChoice n student place) = refl
-project_turned o p (key.OldPlacement student) = refl
+project_turned o p _ = refl
 
 pub turns_project : (o : State) (p : Project) → Turns (put_or_added (has_project o p.code) (project_row p) ∷ []) o (with_project o p)
 turns_project o p = record {
@@ -92,16 +76,8 @@ turns_project o p = record {
 }
 
 student_turned : (o : State) (s : Student) (k : RowKey) → cond (same_row k (key_of (student_row s))) (Some (student_row s)) (row_of o k) ≡ row_of (with_student o s) k
-student_turned o s (key.Supervisor code) = refl
-student_turned o s (key.Project code) = refl
 student_turned o s (key.Student code) = turned student_key student_row s o.students (0, code) _ (code_test code s.code)
-student_turned o s (key.Round n) = refl
-student_turned o s (key.Choice n student place) = refl
-student_turned o s (key.Placement student) = refl
-student_turned o s (key.RoundAim n) = refl
-student_turned o s (key.Import id) = refl
-student_turned o s (key.OldChoice n student place) = refl
-student_turned o s (key.OldPlacement student) = refl
+student_turned o s _ = refl
 
 pub turns_student : (o : State) (s : Student) → Turns (put_or_added (has_student o s.code) (student_row s) ∷ []) o (with_student o s)
 turns_student o s = record {
@@ -110,16 +86,8 @@ turns_student o s = record {
 }
 
 import_turned : (o : State) (i : Import) (k : RowKey) → cond (same_row k (key_of (import_row i))) (Some (import_row i)) (row_of o k) ≡ row_of (with_import i o) k
-import_turned o i (key.Supervisor code) = refl
-import_turned o i (key.Project code) = refl
-import_turned o i (key.Student code) = refl
-import_turned o i (key.Round n) = refl
-import_turned o i (key.Choice n student place) = refl
-import_turned o i (key.Placement student) = refl
-import_turned o i (key.RoundAim n) = refl
 import_turned o i (key.Import id) = turned import_key import_row i o.imports (0, id) _ (code_test id i.id)
-import_turned o i (key.OldChoice n student place) = refl
-import_turned o i (key.OldPlacement student) = refl
+import_turned o i _ = refl
 
 pub turns_import : KeepingTurns
 turns_import i o = record {
@@ -144,16 +112,10 @@ turns_opened aim o numbered aimed = record {
     none = no_round_above o numbered (last_round o + 1) (omega arith)
 
     opened : (k : RowKey) → after_change (change.Add (row.RoundAim (last_round o + 1) aim)) (after_change (change.Add (row.Round (last_round o + 1) true)) (row_of o)) k ≡ row_of (after_opening aim o) k
-    opened (key.Supervisor code) = refl
-    opened (key.Project code) = refl
-    opened (key.Student code) = refl
     opened (key.Round n) = turned round_key round_row (record { number = last_round o + 1; is_open = true; lists = [] }) o.rounds (n, []) _ (round_test n (last_round o + 1))
     opened (key.Choice n student place) = same_choice o (after_opening aim o) n student place (reading_after_opening aim o numbered (λ (r : Round). r.lists) [] refl n)
-    opened (key.Placement student) = refl
     opened (key.RoundAim n) = turned aim_key aim_row (record { round = last_round o + 1; aim = aim }) o.aims (n, []) _ (round_test n (last_round o + 1))
-    opened (key.Import id) = refl
-    opened (key.OldChoice n student place) = refl
-    opened (key.OldPlacement student) = refl
+    opened _ = refl
 
 -- ---- a list of the last round
 
