@@ -4,12 +4,11 @@ ghost use Rattle.std.specs.Prelude.{◌≡◌, ◌+◌, ◌<◌, ◌≤◌, leng
 ghost use Rattle.spa.specs.Places.{lex_ops};
 ghost use Rattle.spa.specs.declared.TheConstants.{MOST_SUPERVISORS, MOST_PROJECTS, MOST_PLACES, PLACES};
 
-use crate::judged::holds;
 use network::{Admitted, Network};
+use plays::judged::holds;
 use spa::{Lex, MOST_PLACES, MOST_PROJECTS, MOST_STUDENTS, MOST_SUPERVISORS, PLACES, RANKS, Worth};
 use std::alloc::Global;
 use std::marker::Model;
-use std::process::Abort;
 use std::rt::HostRuntime;
 use std::test::Fail;
 
@@ -99,13 +98,8 @@ impl Model for Trial {
 }
 
 impl Trial {
-    fn start(
-        rt: &impl Abort,
-        alloc: Global,
-        supervisors: &[u32],
-        projects: &[(usize, u32)],
-    ) -> Result<Trial, Fail> {
-        holds(rt, are_rolls(supervisors, projects), "rolls");
+    fn start(alloc: Global, supervisors: &[u32], projects: &[(usize, u32)]) -> Result<Trial, Fail> {
+        holds(are_rolls(supervisors, projects), "rolls")?;
         let network = Network::start(alloc, supervisors, projects)?;
         Ok(Trial {
             network,
@@ -115,41 +109,33 @@ impl Trial {
     }
 
     /// Admits a student who ranks these projects.
-    fn admit(
-        &mut self,
-        rt: &impl Abort,
-        alloc: Global,
-        projects: &[usize],
-    ) -> Result<Admitted, Fail> {
+    fn admit(&mut self, alloc: Global, projects: &[usize]) -> Result<Admitted, Fail> {
         let list = ranked(alloc, projects)?;
         let is_next = self.students < MOST_STUDENTS && list.len() <= RANKS;
-        holds(rt, is_next && is_list(&list, self.projects), "a list");
+        holds(is_next && is_list(&list, self.projects), "a list")?;
         let admitted = self.network.admit(&list)?;
         self.students += 1;
         Ok(admitted)
     }
 
     /// The rank of the student's project, which is its place, or 0.
-    fn rank_of(&self, rt: &impl Abort, student: usize) -> usize {
-        holds(rt, student < self.students, "a student");
-        match self.network.place_of(student) {
-            Some(place) => place,
-            None => 0,
-        }
+    fn rank_of(&self, student: usize) -> Result<usize, Fail> {
+        holds(student < self.students, "a student")?;
+        Ok(self.network.place_of(student).unwrap_or(0))
     }
 
     /// How many students have a place, and the sum of their ranks.
-    fn totals(&self, rt: &impl Abort) -> (i64, usize) {
+    fn totals(&self) -> Result<(i64, usize), Fail> {
         let mut placed: i64 = 0;
         let mut ranks: usize = 0;
         for student in 0..self.students {
-            let rank = self.rank_of(rt, student);
+            let rank = self.rank_of(student)?;
             if rank > 0 {
                 placed = placed.wrapping_add(1);
             }
             ranks = ranks.wrapping_add(rank);
         }
-        (placed, ranks)
+        Ok((placed, ranks))
     }
 }
 
@@ -195,36 +181,30 @@ type Case = (
 /// Makes an admission, and compares what comes of it.
 fn compare_admission(
     alloc: Global,
-    rt: &impl Abort,
     trial: &mut Trial,
     (list, placed, ranks, (least, most)): Admission,
 ) -> Result<(), Fail> {
     let student = trial.students;
     let before = trial.network.steps();
-    let admitted = trial.admit(rt, alloc, list)?;
-    holds(rt, trial.totals(rt) == (placed, ranks), "the places");
-    let has_place = trial.rank_of(rt, student) > 0;
-    holds(rt, admitted.placed == has_place, "the new student's place");
+    let admitted = trial.admit(alloc, list)?;
+    holds(trial.totals()? == (placed, ranks), "the places")?;
+    let has_place = trial.rank_of(student)? > 0;
+    holds(admitted.placed == has_place, "the new student's place")?;
     let count = admitted.relaxations;
     let steps = before.wrapping_add(count);
     let is_counted = least <= count && count <= most;
-    holds(
-        rt,
-        is_counted && trial.network.steps() == steps,
-        "the count",
-    );
-    Ok(())
+    holds(is_counted && trial.network.steps() == steps, "the count")
 }
 
 /// Makes the admissions of each case, and compares what comes of them, and that the prices pay for the places after each.
-fn compare_cases(alloc: Global, rt: &impl Abort, cases: &[Case]) -> Result<(), Fail> {
+fn compare_cases(alloc: Global, cases: &[Case]) -> Result<(), Fail> {
     for (quotas, offers, admissions) in cases {
-        let mut trial = Trial::start(rt, alloc, quotas, offers)?;
-        holds(rt, trial.network.steps() == 0, "no steps");
+        let mut trial = Trial::start(alloc, quotas, offers)?;
+        holds(trial.network.steps() == 0, "no steps")?;
         for admission in *admissions {
-            compare_admission(alloc, rt, &mut trial, *admission)?;
+            compare_admission(alloc, &mut trial, *admission)?;
             let paid = paid(&trial, quotas, offers)?;
-            holds(rt, paid == admission.1, "what is paid");
+            holds(paid == admission.1, "what is paid")?;
         }
     }
     Ok(())
@@ -248,7 +228,7 @@ static CASES: [Case; 10] = [
 
 #[test]
 fn admissions_place_as_many_as_can_be(rt: HostRuntime) -> Result<(), Fail> {
-    compare_cases(rt.alloc(), &rt, CASES.as_slice())
+    compare_cases(rt.alloc(), CASES.as_slice())
 }
 
 // How much this search compares, counted by hand. Another search that is right may compare less or more, and then these numbers
@@ -266,5 +246,5 @@ static COUNTED: [Case; 2] = [
 
 #[test]
 fn this_search_compares_so_much(rt: HostRuntime) -> Result<(), Fail> {
-    compare_cases(rt.alloc(), &rt, COUNTED.as_slice())
+    compare_cases(rt.alloc(), COUNTED.as_slice())
 }

@@ -1,14 +1,13 @@
 //! Worked rounds by each aim, audits by each, and a search through all matchings of small instances.
 
-use crate::judged::holds;
 use crate::rolls_of::{instance, places};
 use crate::rounds::profile_of;
+use plays::judged::holds;
 use proposal::propose;
 use solver::{Audit, audit, solve};
 use spa::{Aim, Instance, Matching, RANKS, profile};
 use std::alloc::Global;
 use std::fmt::Write;
-use std::process::Abort;
 use std::rt::HostRuntime;
 use std::test::Fail;
 use verdict::check;
@@ -63,12 +62,11 @@ fn is_profile(counts: &[u32; RANKS], digits: &str) -> bool {
 /// Whether an audit by an aim calls the matching best.
 fn is_best(
     alloc: Global,
-    rt: &impl Abort,
     instance: &Instance,
     aim: Aim,
     matching: &Matching,
 ) -> Result<bool, Fail> {
-    holds(rt, matching.fault(instance).is_none(), "a matching");
+    holds(matching.fault(instance).is_none(), "a matching")?;
     match audit(alloc, instance, aim, matching)? {
         Audit::Best => Ok(true),
         Audit::Better(_) => Ok(false),
@@ -77,38 +75,36 @@ fn is_best(
 
 /// Solves a round by an aim, and compares places and profile; the checker accepts the prices by the aim, and by the other
 /// only where the matching is best by both.
-fn solve_row(alloc: Global, rt: &impl Abort, row: &Round) -> Result<(), Fail> {
+fn solve_row(alloc: Global, row: &Round) -> Result<(), Fail> {
     let (aim, supervisors, projects, students, want, digits, is_both) = *row;
     let instance = instance(alloc, supervisors, projects, students)?;
     let solved = solve(alloc, &instance, aim)?;
     let want = places(alloc, want)?;
-    holds(rt, solved.matching.places == want.places, students);
-    let counts = profile_of(rt, &instance, &solved.matching);
-    holds(rt, is_profile(&counts, digits), students);
+    holds(solved.matching.places == want.places, students)?;
+    let counts = profile_of(&instance, &solved.matching)?;
+    holds(is_profile(&counts, digits), students)?;
     let is_proved = check(&instance, aim, &solved.matching, &solved.prices).is_ok();
-    holds(rt, is_proved, students);
+    holds(is_proved, students)?;
     let is_other = check(&instance, other(aim), &solved.matching, &solved.prices).is_ok();
-    holds(rt, is_both || !is_other, students);
-    Ok(())
+    holds(is_both || !is_other, students)
 }
 
 /// Audits the best matching of a round by its aim and by the other.
-fn audit_row(alloc: Global, rt: &impl Abort, row: &Round) -> Result<(), Fail> {
+fn audit_row(alloc: Global, row: &Round) -> Result<(), Fail> {
     let (aim, supervisors, projects, students, best, _, is_both) = *row;
     let instance = instance(alloc, supervisors, projects, students)?;
     let best = places(alloc, best)?;
-    let by_its_own = is_best(alloc, rt, &instance, aim, &best)?;
-    holds(rt, by_its_own, students);
-    let by_the_other = is_best(alloc, rt, &instance, other(aim), &best)?;
-    holds(rt, by_the_other == is_both, students);
-    Ok(())
+    let by_its_own = is_best(alloc, &instance, aim, &best)?;
+    holds(by_its_own, students)?;
+    let by_the_other = is_best(alloc, &instance, other(aim), &best)?;
+    holds(by_the_other == is_both, students)
 }
 
 #[test]
 fn each_aim_has_its_best_matching(rt: HostRuntime) -> Result<(), Fail> {
     for row in ROUNDS.as_slice() {
-        solve_row(rt.alloc(), &rt, row)?;
-        audit_row(rt.alloc(), &rt, row)?;
+        solve_row(rt.alloc(), row)?;
+        audit_row(rt.alloc(), row)?;
     }
     Ok(())
 }
@@ -205,18 +201,11 @@ fn searched(alloc: Global, instance: &Instance, aim: Aim) -> Result<[u32; RANKS]
 }
 
 /// Compares what is solved by an aim with what the search finds.
-fn compare_searched(
-    alloc: Global,
-    rt: &impl Abort,
-    instance: &Instance,
-    aim: Aim,
-    row: &str,
-) -> Result<(), Fail> {
+fn compare_searched(alloc: Global, instance: &Instance, aim: Aim, row: &str) -> Result<(), Fail> {
     let solved = solve(alloc, instance, aim)?;
-    let counts = profile_of(rt, instance, &solved.matching);
+    let counts = profile_of(instance, &solved.matching)?;
     let found = searched(alloc, instance, aim)?;
-    holds(rt, counts == found, row);
-    Ok(())
+    holds(counts == found, row)
 }
 
 /// Whether what is proposed for a generous round is accepted. Else `solve` admits the students one by one, and takes longer.
@@ -238,10 +227,10 @@ fn a_search_through_all_matchings_finds_none_better(rt: HostRuntime) -> Result<(
     for _round in 0..100 {
         let (supervisors, projects, students) = small_rolls(alloc, &mut random)?;
         let instance = instance(alloc, &supervisors, &projects, &students)?;
-        compare_searched(alloc, &rt, &instance, Aim::Greedy, &students)?;
-        compare_searched(alloc, &rt, &instance, Aim::Generous, &students)?;
+        compare_searched(alloc, &instance, Aim::Greedy, &students)?;
+        compare_searched(alloc, &instance, Aim::Generous, &students)?;
         let is_accepted = is_accepted(alloc, &instance)?;
-        holds(&rt, is_accepted, &students);
+        holds(is_accepted, &students)?;
     }
     Ok(())
 }

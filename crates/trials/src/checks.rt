@@ -1,8 +1,8 @@
 //! The checker over faults that no round text can have.
 
-use crate::cells::body_of;
-use crate::judged::{holds, well};
 use intake::read_round;
+use plays::cells::body_of;
+use plays::judged::{holds, well};
 use spa::{Aim, PLACES};
 use std::rt::HostRuntime;
 use std::test::Fail;
@@ -22,14 +22,9 @@ fn what_no_text_can_say_is_a_fault(rt: HostRuntime) -> Result<(), Fail> {
     price[1] = 1_000_001;
     parts.prices.supervisors = Vec::from_array(alloc, [price])?;
     let fault = check(&parts.instance, Aim::Greedy, &parts.matching, &parts.prices).err();
-    holds(
-        &rt,
-        fault == Some(CheckFault::Shape),
-        "a price of 1,000,001",
-    );
+    holds(fault == Some(CheckFault::Shape), "a price of 1,000,001")?;
     parts.matching.places = Vec::from_array(alloc, [Some(2), Some(3)])?;
     let fault = check(&parts.instance, Aim::Greedy, &parts.matching, &parts.prices).err();
     let is_none = fault == Some(CheckFault::NotMatching);
-    holds(&rt, is_none, "a place behind the list");
-    Ok(())
+    holds(is_none, "a place behind the list")
 }

@@ -1,8 +1,8 @@
 //! Closings at a desk, byte for byte: which matching a round takes, with quotas that change between rounds, and rounds of
 //! sixty and forty lists.
 
-use crate::played::{Part, Sitting, play_all};
-use crate::school::SCHOOL;
+use plays::played::{Part, Sitting, play_all};
+use plays::school::SCHOOL;
 use std::rt::HostRuntime;
 use std::test::Fail;
 
@@ -221,5 +221,5 @@ static PLAYS: [&[Sitting]; 10] = [
 
 #[test]
 fn rounds_close_by_their_lists(rt: HostRuntime) -> Result<(), Fail> {
-    play_all(rt.alloc(), &rt, PLAYS.as_slice())
+    play_all(rt.alloc(), PLAYS.as_slice())
 }

@@ -1,12 +1,12 @@
 //! The lines of the program: what they print, and their statuses.
 
-use crate::cells::{body_of, first_cell};
-use crate::judged::holds;
-use crate::pieces::Narrow;
 use crate::printed::{Printed, parted, print_rows, prints, run_line};
 use cli::{Unread, line, tell_unread};
+use plays::cells::{body_of, first_cell};
+use plays::judged::holds;
+use plays::pieces::Narrow;
+use plays::played::filled;
 use std::alloc::Global;
-use std::process::Abort;
 use std::rt::HostRuntime;
 use std::test::Fail;
 use std::{fs, io};
@@ -28,25 +28,31 @@ fn is_solved(alloc: Global, printed: &Printed, round: &[u8], pairs: &str) -> Res
 }
 
 /// Solves the round of a row, and checks what was printed of it.
-fn solve_and_check(rt: &HostRuntime, abort: &impl Abort, row: &str) -> Result<(), Fail> {
+fn solve_and_check(rt: &HostRuntime, row: &str) -> Result<(), Fail> {
     let (round, rest) = first_cell(row);
     let (pairs, best) = first_cell(rest);
     let round = body_of(rt.alloc(), round)?;
     fs::write(rt, "round.txt", &round)?;
     let solved = run_line(rt, "spadesk solve round.txt")?;
     let is_solved = is_solved(rt.alloc(), &solved, &round, pairs)?;
-    holds(abort, is_solved, row);
+    holds(is_solved, row)?;
     fs::write(rt, "round.txt", &solved.out)?;
     let best = body_of(rt.alloc(), best.trim())?;
-    prints(rt, abort, "spadesk check round.txt", (&best, b""), 0)
+    prints(rt, "spadesk check round.txt", (&best, b""), 0)
 }
+
+/// A round of 500 students, of whom each lists one project.
+#[rattlefmt::skip]
+const FIVE_HUNDRED: &str =
+    "S,L,500^nP,P,L,500^n$ | M,S1000,P^nM,S1001,P^n | best size 500 profile 500 0 0 0^0^n";
 
 #[test]
 fn what_solve_prints_is_accepted(rt: HostRuntime) -> Result<(), Fail> {
     for row in SOLVED.lines() {
-        solve_and_check(&rt, &rt, row)?;
+        solve_and_check(&rt, row)?;
     }
-    Ok(())
+    let row = filled(rt.alloc(), 500, "C,S$,P^n", FIVE_HUNDRED)?;
+    solve_and_check(&rt, &row)
 }
 
 /// What `--help` prints.
@@ -97,20 +103,16 @@ static WORDS_OF_NO_LINE: &str =
 #[test]
 fn help_and_faults_of_the_line_are_told_apart(rt: HostRuntime) -> Result<(), Fail> {
     for words in ["spadesk --help", "spadesk -h", "spadesk help"] {
-        prints(&rt, &rt, words, (HELP.as_bytes(), b""), 0)?;
+        prints(&rt, words, (HELP.as_bytes(), b""), 0)?;
     }
     let help = CHECK_HELP.as_bytes();
-    prints(&rt, &rt, "spadesk check --help", (help, b""), 0)?;
-    print_rows(&rt, &rt, WORDS_OF_NO_LINE)
+    prints(&rt, "spadesk check --help", (help, b""), 0)?;
+    print_rows(&rt, WORDS_OF_NO_LINE)
 }
 
 /// A writer that takes no byte.
 fn shut(alloc: Global) -> Narrow {
-    Narrow {
-        taken: Vec::new(alloc),
-        room: 0,
-        fault: Some(io::ErrorKind::BrokenPipe),
-    }
+    Narrow::new(Vec::new(alloc), 0, Some(io::ErrorKind::BrokenPipe))
 }
 
 // Lines that print a result, a failed check, help, a fault of the line, a bad line and a refusal, with the text of their file.
@@ -130,7 +132,7 @@ fn a_text_that_cannot_be_printed_has_status_1(rt: HostRuntime) -> Result<(), Fai
         fs::write(&rt, "round.txt", &body_of(rt.alloc(), text.trim())?)?;
         let (out, err) = (shut(rt.alloc()), shut(rt.alloc()));
         let status = line(&rt, parted(&rt, words)?, out, err);
-        holds(&rt, status == 1, words);
+        holds(status == 1, words)?;
     }
     Ok(())
 }
@@ -142,22 +144,20 @@ const NOT_UTF8: &str =
 /// Tells why arguments cannot be read, and compares the status and what is printed.
 fn tells_unread(
     rt: &HostRuntime,
-    abort: &impl Abort,
     kind: io::ErrorKind,
     (want, status): (&str, u8),
-) {
+) -> Result<(), Fail> {
     let mut err = Watched::new(Vec::new(rt.alloc()));
     let told = tell_unread(Unread::of(&io::Error::from(kind)), &mut err);
     let is_told = told == status && err.into_inner().as_slice() == want.as_bytes();
-    holds(abort, is_told, want);
+    holds(is_told, want)
 }
 
 #[test]
 fn arguments_that_cannot_be_read_are_told(rt: HostRuntime) -> Result<(), Fail> {
     let memory = ("refused 1: Memory\n", 1);
-    tells_unread(&rt, &rt, io::ErrorKind::OutOfMemory, memory);
-    tells_unread(&rt, &rt, io::ErrorKind::InvalidInput, (NOT_UTF8, 2));
+    tells_unread(&rt, io::ErrorKind::OutOfMemory, memory)?;
+    tells_unread(&rt, io::ErrorKind::InvalidInput, (NOT_UTF8, 2))?;
     let status = tell_unread(Unread::NotUtf8, &mut Watched::new(shut(rt.alloc())));
-    holds(&rt, status == 1, "a writer that is shut");
-    Ok(())
+    holds(status == 1, "a writer that is shut")
 }

@@ -1,13 +1,12 @@
 //! Connections on loopback, served one after another.
 
-use crate::desks::new_desk;
-use crate::judged::holds;
 use crate::printed::prints;
 use desk::Desk;
+use plays::judged::holds;
+use plays::opened::new_desk;
 use sqlite::{Alter, MemStore};
 use std::io::{Read, Write};
 use std::net::{Ipv4Addr, Shutdown, TcpListener, TcpStream};
-use std::process::Abort;
 use std::rt::HostRuntime;
 use std::test::Fail;
 use web::{Watched, serve_on};
@@ -16,10 +15,16 @@ use web::{Watched, serve_on};
 const PUTS: &str =
     "PUT /students/S1 HTTP/1.1\r\nContent-Length: 14\r\n\r\n{\"name\":\"Ann\"}PUT /students/S2 HTTP/1.1\r\nContent-Length: 14\r\n\r\n{\"name\":\"Bob\"}";
 
-/// A client that has sent these bytes and no more.
-fn client(rt: &HostRuntime, port: u16, bytes: &str) -> Result<TcpStream, Fail> {
+/// A client that has sent these bytes, and may send more.
+fn open_client(rt: &HostRuntime, port: u16, bytes: &str) -> Result<TcpStream, Fail> {
     let mut stream = TcpStream::connect(rt, (Ipv4Addr::LOCALHOST, port))?;
     stream.write_all(bytes.as_bytes())?;
+    Ok(stream)
+}
+
+/// A client that has sent these bytes and no more.
+fn client(rt: &HostRuntime, port: u16, bytes: &str) -> Result<TcpStream, Fail> {
+    let stream = open_client(rt, port, bytes)?;
     stream.shutdown(Shutdown::Write)?;
     Ok(stream)
 }
@@ -66,22 +71,69 @@ pub(crate) fn answered<S: Alter>(
 const TWO: &[u8] = b"connection 1: 2 answers, closed\nconnection 2: 0 answers, closed\n";
 
 /// Serves them at a desk.
-fn serve_two(rt: &HostRuntime, abort: &impl Abort, desk: &mut Desk<MemStore>) -> Result<(), Fail> {
+fn serve_two(rt: &HostRuntime, desk: &mut Desk<MemStore>) -> Result<(), Fail> {
     let puts = String::from_str(rt.alloc(), PUTS)?;
     let (told, answers) = answered(rt, desk, &[puts, String::new(rt.alloc())], 2)?;
-    holds(abort, told.as_slice() == TWO, "two connections");
+    holds(told.as_slice() == TWO, "two connections")?;
     let are_answers = match answers.as_slice() {
         [first, second] => first.len() == 164 && second.is_empty(),
         _ => false,
     };
-    holds(abort, are_answers, "two answers");
-    Ok(())
+    holds(are_answers, "two answers")
 }
 
 #[test]
 fn two_connections_are_served_in_turn(rt: HostRuntime) -> Result<(), Fail> {
-    let mut desk = new_desk(rt.alloc(), &rt)?;
-    serve_two(&rt, &rt, &mut desk)
+    let mut desk = new_desk(rt.alloc())?;
+    serve_two(&rt, &mut desk)
+}
+
+/// Messages after which nothing is read, how often they come, and what is told of a client that could send more.
+#[rattlefmt::skip]
+static LEFT_OPEN: [(&str, usize, &[u8]); 3] = [
+    ("GET /rounds/1 HTTP/1.1\r\n\r\n",                               101, b"connection 1: 100 answers, hundred\n"),
+    ("GET /rounds/1 HTTP/1.0\r\n\r\n",                               1,   b"connection 1: 1 answers, bad-head\n"),
+    ("PUT /students/S1 HTTP/1.1\r\nContent-Length: 65537\r\n\r\n", 1,   b"connection 1: 1 answers, too-large\n"),
+];
+
+/// Serves one connection. What is told of it.
+fn told(
+    rt: &HostRuntime,
+    desk: &mut Desk<MemStore>,
+    listener: &TcpListener,
+) -> Result<Vec<u8>, Fail> {
+    let mut out = Watched::new(Vec::new(rt.alloc()));
+    if serve_on(rt.alloc(), desk, listener, 1, &mut out).is_err() {
+        return Err(Fail::new("the lines are not told"));
+    }
+    Ok(out.into_inner())
+}
+
+// Where more were read, the client would be waited for without end.
+#[test]
+fn a_client_that_stays_open_is_not_waited_for(rt: HostRuntime) -> Result<(), Fail> {
+    let mut desk = new_desk(rt.alloc())?;
+    let listener = TcpListener::bind(&rt, (Ipv4Addr::LOCALHOST, 0))?;
+    let port = listener.local_addr()?.port();
+    for (message, times, want) in LEFT_OPEN {
+        let bytes = message.repeat(rt.alloc(), times)?;
+        let client = open_client(&rt, port, &bytes)?;
+        let told = told(&rt, &mut desk, &listener)?;
+        holds(told.as_slice() == want, message)?;
+        drop(client);
+    }
+    Ok(())
+}
+
+// A listener that waits for nobody has no client to accept.
+#[test]
+fn a_connection_that_cannot_be_accepted_counts_as_one(rt: HostRuntime) -> Result<(), Fail> {
+    let mut desk = new_desk(rt.alloc())?;
+    let listener = TcpListener::bind(&rt, (Ipv4Addr::LOCALHOST, 0))?;
+    listener.set_nonblocking(true)?;
+    let told = told(&rt, &mut desk, &listener)?;
+    let want = b"connection 1: read fault\n".as_slice();
+    holds(told.as_slice() == want, "no client")
 }
 
 // A port that a listener has cannot be bound once more; a database that cannot be opened is told before.
@@ -91,7 +143,7 @@ fn a_port_that_is_taken_is_told(rt: HostRuntime) -> Result<(), Fail> {
     let port = listener.local_addr()?.port();
     let words = format!(in rt.alloc(); "spadesk serve taken.db {port} 1")?;
     let message = format!(in rt.alloc(); "no port {port}\n")?;
-    prints(&rt, &rt, &words, (b"", message.as_bytes()), 1)?;
+    prints(&rt, &words, (b"", message.as_bytes()), 1)?;
     let words = format!(in rt.alloc(); "spadesk serve no-such-folder/taken.db {port} 1")?;
-    prints(&rt, &rt, &words, (b"", b"refused 2: Storage\n"), 1)
+    prints(&rt, &words, (b"", b"refused 2: Storage\n"), 1)
 }

@@ -2,13 +2,12 @@
 //!
 //! All tests run in one folder, so no two of them name the same database.
 
-use crate::judged::holds;
 use crate::printed::{parted, print_rows, prints, write_files};
-use crate::school::SCHOOL_FILES;
 use cli::line;
+use plays::judged::holds;
+use plays::school::SCHOOL_FILES;
 use std::io::Write;
 use std::net::{Ipv4Addr, Shutdown, TcpListener, TcpStream};
-use std::process::Abort;
 use std::rt::HostRuntime;
 use std::test::Fail;
 use std::{fs, io};
@@ -38,8 +37,10 @@ static SERVED: &str =
        spadesk open-round a14.db          | 0 | round 2^n                              |
        spadesk report a14.db unplaced 2   | 0 |                                        |"#;
 
-/// What a client asks.
+/// What a client asks, and what another one asks of the round that is closed then: its placements stand.
 const ASKED: &str = "DELETE /lists/A HTTP/1.1\r\n\r\nPOST /rounds/close HTTP/1.1\r\n\r\n";
+
+const ASKED_AFTERWARDS: &str = "GET /rounds/1 HTTP/1.1\r\n\r\nGET /students/C HTTP/1.1\r\n\r\n";
 
 /// Copies a file alone, as it is after the line with this number.
 fn copy_after(rt: &HostRuntime, number: u32) -> Result<(), Fail> {
@@ -54,15 +55,20 @@ fn copy_after(rt: &HostRuntime, number: u32) -> Result<(), Fail> {
 struct Caller<'a> {
     rt: &'a HostRuntime,
     port: u16,
+    asked: &'a str,
     client: Option<TcpStream>,
+    /// Whether the port was open at another address of this machine.
+    is_open_elsewhere: bool,
     told: Vec<u8>,
 }
 
 impl Write for Caller<'_> {
     fn write(&mut self, buf: &[u8]) -> io::Result<usize> {
         if self.client.is_none() {
+            let elsewhere = (Ipv4Addr::new(127, 0, 0, 2), self.port);
+            self.is_open_elsewhere = TcpStream::connect(self.rt, elsewhere).is_ok();
             let mut client = TcpStream::connect(self.rt, (Ipv4Addr::LOCALHOST, self.port))?;
-            client.write_all(ASKED.as_bytes())?;
+            client.write_all(self.asked.as_bytes())?;
             client.shutdown(Shutdown::Write)?;
             self.client = Some(client);
         }
@@ -74,23 +80,25 @@ impl Write for Caller<'_> {
     }
 }
 
-/// Serves one connection of a caller, by the line of these words and a port that is free.
-fn serves_caller(rt: &HostRuntime, abort: &impl Abort) -> Result<(), Fail> {
+/// Serves one connection of a caller who asks this, by a line over this file and a port that is free.
+fn serves_caller(rt: &HostRuntime, database: &str, asked: &str) -> Result<(), Fail> {
     let listener = TcpListener::bind(rt, (Ipv4Addr::LOCALHOST, 0))?;
     let port = listener.local_addr()?.port();
     drop(listener);
-    let words = format!(in rt.alloc(); "spadesk serve a13.db {port} 1")?;
+    let words = format!(in rt.alloc(); "spadesk serve {database} {port} 1")?;
     let mut caller = Caller {
         rt,
         port,
+        asked,
         client: None,
+        is_open_elsewhere: false,
         told: Vec::new(rt.alloc()),
     };
     let status = line(rt, parted(rt, &words)?, &mut caller, Vec::new(rt.alloc()));
     let want = format!(in rt.alloc(); "listening {port}\nconnection 1: 2 answers, closed\n")?;
     let is_told = status == 0 && caller.told.as_slice() == want.as_bytes();
-    holds(abort, is_told, "a caller is served");
-    Ok(())
+    holds(is_told, "a caller is served")?;
+    holds(!caller.is_open_elsewhere, "at one address alone")
 }
 
 #[test]
@@ -98,26 +106,26 @@ fn a_file_that_is_closed_is_the_whole_database(rt: HostRuntime) -> Result<(), Fa
     write_files(&rt, SCHOOL_FILES.as_slice())?;
     let mut number = 1;
     for row in LINES.lines() {
-        print_rows(&rt, &rt, row)?;
+        print_rows(&rt, row)?;
         copy_after(&rt, number)?;
         number = number.wrapping_add(1);
     }
-    serves_caller(&rt, &rt)?;
+    serves_caller(&rt, "a13.db", ASKED)?;
     copy_after(&rt, 13)?;
-    print_rows(&rt, &rt, SERVED)
+    serves_caller(&rt, "a14.db", ASKED_AFTERWARDS)?;
+    print_rows(&rt, SERVED)
 }
 
 /// The first so many bytes of a file, as a file of its own, are refused, and stay as they are.
-fn refuses_beginning(rt: &HostRuntime, abort: &impl Abort, len: usize) -> Result<(), Fail> {
+fn refuses_beginning(rt: &HostRuntime, len: usize) -> Result<(), Fail> {
     let bytes = fs::read(rt, "whole.db")?;
     let name = format!(in rt.alloc(); "cut{len}.db")?;
     let beginning = &bytes[..len.min(bytes.len())];
     fs::write(rt, &name, beginning)?;
     let words = format!(in rt.alloc(); "spadesk open-round {name}")?;
-    prints(rt, abort, &words, (b"", b"refused 2: Storage\n"), 1)?;
+    prints(rt, &words, (b"", b"refused 2: Storage\n"), 1)?;
     let left = fs::read(rt, &name)?;
-    holds(abort, left.as_slice() == beginning, &name);
-    Ok(())
+    holds(left.as_slice() == beginning, &name)
 }
 
 /// Files of no byte and of one become an office.
@@ -128,17 +136,11 @@ static BLANK: &str =
 
 #[test]
 fn a_copy_that_is_cut_off_is_refused(rt: HostRuntime) -> Result<(), Fail> {
-    prints(
-        &rt,
-        &rt,
-        "spadesk open-round whole.db",
-        (b"round 1\n", b""),
-        0,
-    )?;
+    prints(&rt, "spadesk open-round whole.db", (b"round 1\n", b""), 0)?;
     for len in [2, 99, 4_096, 61_440, 65_535] {
-        refuses_beginning(&rt, &rt, len)?;
+        refuses_beginning(&rt, len)?;
     }
     fs::write(&rt, "none.db", "")?;
     fs::write(&rt, "one.db", "S")?;
-    print_rows(&rt, &rt, BLANK)
+    print_rows(&rt, BLANK)
 }

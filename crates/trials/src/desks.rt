@@ -1,38 +1,13 @@
 //! A desk over a database: what is put is read back, also by another desk.
 
-use crate::judged::holds;
 use desk::Desk;
+use plays::judged::holds;
+use plays::opened::{desk_over, new_desk, put_student};
 use rolls::{Plain, Refusal, Reply, Request, Text};
-use sqlite::{Connection, MemStore};
+use sqlite::MemStore;
 use std::alloc::Global;
-use std::process::Abort;
 use std::rt::HostRuntime;
 use std::test::Fail;
-
-/// The desk over a database.
-pub(crate) fn desk_over(
-    alloc: Global,
-    rt: &impl Abort,
-    connection: Connection<MemStore>,
-) -> Desk<MemStore> {
-    match Desk::open(alloc, connection) {
-        Ok(desk) => desk,
-        Err((refusal, _connection)) => panic!(rt; "refused {}", refusal.number()),
-    }
-}
-
-/// The desk over a database of its own, in memory.
-pub(crate) fn new_desk(alloc: Global, rt: &impl Abort) -> Result<Desk<MemStore>, Fail> {
-    let connection = Connection::open_in_memory(alloc)?;
-    Ok(desk_over(alloc, rt, connection))
-}
-
-/// The request that puts a student.
-pub(crate) fn put_student(alloc: Global, code: &str, label: &str) -> Result<Request, Fail> {
-    let code = Text::of(alloc, code)?;
-    let label = Text::of(alloc, label)?;
-    Ok(Request::Plain(Plain::PutStudent { code, label }))
-}
 
 /// The request that reads a student.
 fn get_student(alloc: Global, code: &str) -> Result<Request, Fail> {
@@ -66,24 +41,22 @@ fn are_answers(answers: &[Result<Reply, Refusal>]) -> bool {
 }
 
 /// Asks those requests as one list.
-fn run(alloc: Global, rt: &impl Abort, desk: &mut Desk<MemStore>) -> Result<(), Fail> {
+fn run(alloc: Global, desk: &mut Desk<MemStore>) -> Result<(), Fail> {
     let answers = desk.run(requests(alloc)?)?;
-    holds(rt, are_answers(&answers), "a put and two reads");
-    Ok(())
+    holds(are_answers(&answers), "a put and two reads")
 }
 
 /// Reads the student at another desk.
-fn read(alloc: Global, rt: &impl Abort, desk: &mut Desk<MemStore>) -> Result<(), Fail> {
+fn read(alloc: Global, desk: &mut Desk<MemStore>) -> Result<(), Fail> {
     let answer = desk.ask(get_student(alloc, "S1")?);
-    holds(rt, is_named(&answer, "Ann"), "another desk");
-    Ok(())
+    holds(is_named(&answer, "Ann"), "another desk")
 }
 
 // The student is put, read, and read again by another desk over the same database.
 #[test]
 fn a_student_put_is_read_back(rt: HostRuntime) -> Result<(), Fail> {
-    let mut desk = new_desk(rt.alloc(), &rt)?;
-    run(rt.alloc(), &rt, &mut desk)?;
-    let mut again = desk_over(rt.alloc(), &rt, desk.into_connection());
-    read(rt.alloc(), &rt, &mut again)
+    let mut desk = new_desk(rt.alloc())?;
+    run(rt.alloc(), &mut desk)?;
+    let mut again = desk_over(rt.alloc(), desk.into_connection())?;
+    read(rt.alloc(), &mut again)
 }

@@ -1,6 +1,6 @@
 //! Streams at a desk over a database in memory, byte for byte.
 
-use crate::played::{Part, Sitting, Stream, play_all};
+use plays::played::{Part, Sitting, Stream, play_all};
 use std::io::ErrorKind;
 use std::rt::HostRuntime;
 use std::test::Fail;
@@ -48,7 +48,7 @@ static STREAMS: [&[Sitting]; 12] = [
 
 #[test]
 fn streams_come_in_pieces_and_break_off(rt: HostRuntime) -> Result<(), Fail> {
-    play_all(rt.alloc(), &rt, STREAMS.as_slice())
+    play_all(rt.alloc(), STREAMS.as_slice())
 }
 
 /// Requests, each after those before it.
@@ -160,5 +160,5 @@ static PLAYS: [&[Sitting]; 5] = [
 
 #[test]
 fn requests_are_answered(rt: HostRuntime) -> Result<(), Fail> {
-    play_all(rt.alloc(), &rt, PLAYS.as_slice())
+    play_all(rt.alloc(), PLAYS.as_slice())
 }

@@ -1,10 +1,9 @@
 //! Import texts: what each stands for, request by request, and why a text is none.
 
-use crate::judged::{holds, well};
 use imports::{ImportFault, read_import};
+use plays::judged::{holds, well};
 use rolls::{ImportKind, Plain};
 use std::alloc::{AllocError, Global};
-use std::process::Abort;
 use std::rt::HostRuntime;
 use std::test::Fail;
 
@@ -101,29 +100,29 @@ fn shown(alloc: Global, requests: &[Plain]) -> Result<String, AllocError> {
 /// Reads a text that is no longer than an import may be.
 fn read(
     alloc: Global,
-    rt: &impl Abort,
     kind: ImportKind,
     text: &[u8],
-) -> Result<Vec<Plain>, ImportFault> {
-    holds(rt, text.len() <= 65_536, "a text that may be an import");
-    read_import(alloc, kind, text)
+) -> Result<Result<Vec<Plain>, ImportFault>, Fail> {
+    holds(text.len() <= 65_536, "a text that may be an import")?;
+    Ok(read_import(alloc, kind, text))
 }
 
 #[test]
 fn texts_are_read_request_by_request(rt: HostRuntime) -> Result<(), Fail> {
     let alloc = rt.alloc();
     for (name, kind, text, want) in TEXTS.as_slice() {
-        let requests = well(read(alloc, &rt, *kind, text), *name)?;
+        let requests = well(read(alloc, *kind, text)?, *name)?;
         let shown = shown(alloc, &requests)?;
-        holds(&rt, shown.as_str() == *want, name);
+        holds(shown.as_str() == *want, name)?;
     }
     Ok(())
 }
 
 #[test]
-fn texts_that_are_none_have_their_fault(rt: HostRuntime) {
+fn texts_that_are_none_have_their_fault(rt: HostRuntime) -> Result<(), Fail> {
     for (name, kind, text, want) in FAULTY_TEXTS.as_slice() {
-        let fault = read(rt.alloc(), &rt, *kind, text).err();
-        holds(&rt, fault == Some(*want), name);
+        let fault = read(rt.alloc(), *kind, text)?.err();
+        holds(fault == Some(*want), name)?;
     }
+    Ok(())
 }

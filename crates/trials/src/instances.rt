@@ -1,11 +1,10 @@
 //! Instances, matchings and profiles, worked out by hand.
 
-use crate::cells::ranks;
-use crate::judged::holds;
 use crate::rolls_of::{instance, places, projects, students, supervisors};
+use plays::cells::ranks;
+use plays::judged::holds;
 use spa::{Instance, InstanceFault, MatchFault, RANKS, Roll, profile};
 use std::alloc::Global;
-use std::process::Abort;
 use std::rt::HostRuntime;
 use std::test::Fail;
 
@@ -47,7 +46,7 @@ fn fault_of(
 fn the_first_fault_of_rolls_is_named(rt: HostRuntime) -> Result<(), Fail> {
     for (supervisor_roll, project_roll, student_roll, want) in FAULTS.as_slice() {
         let fault = fault_of(rt.alloc(), supervisor_roll, project_roll, student_roll)?;
-        holds(&rt, fault == Some(*want), student_roll);
+        holds(fault == Some(*want), student_roll)?;
     }
     Ok(())
 }
@@ -59,8 +58,7 @@ fn a_list_has_no_more_choices_than_there_are_ranks(rt: HostRuntime) -> Result<()
         roll.push_str(":P")?;
     }
     let fault = fault_of(rt.alloc(), "L:5", "P:L:1", &roll)?;
-    holds(&rt, fault == Some(InstanceFault::ListLength(0)), &roll);
-    Ok(())
+    holds(fault == Some(InstanceFault::ListLength(0)), &roll)
 }
 
 // A lists P; B lists R, P; C lists Z, P, R; D lists R, Q, P. P has quota 2, Q and R have 1, Z has 0; L, who offers P, Q
@@ -86,17 +84,16 @@ static MATCHINGS: [(&str, Option<MatchFault>, usize, &[u32]); 13] = [
 /// Compares the fault of each row's places, and where they have none their size and profile.
 fn compare_matchings(
     alloc: Global,
-    rt: &impl Abort,
     instance: &Instance,
     rows: &[(&'static str, Option<MatchFault>, usize, &'static [u32])],
 ) -> Result<(), Fail> {
     for (text, want, size, counts) in rows {
         let matching = places(alloc, text)?;
         let fault = matching.fault(instance);
-        holds(rt, fault == *want, text);
+        holds(fault == *want, text)?;
         if fault.is_none() {
-            holds(rt, matching.size(instance) == *size, text);
-            holds(rt, profile(instance, &matching) == ranks(counts), text);
+            holds(matching.size(instance) == *size, text)?;
+            holds(profile(instance, &matching) == ranks(counts), text)?;
         }
     }
     Ok(())
@@ -110,5 +107,5 @@ fn the_first_fault_of_a_matching_is_named(rt: HostRuntime) -> Result<(), Fail> {
         "P:L:2 Q:L:1 R:K:1 Z:L:0",
         "A:P B:R:P C:Z:P:R D:R:Q:P",
     )?;
-    compare_matchings(rt.alloc(), &rt, &instance, MATCHINGS.as_slice())
+    compare_matchings(rt.alloc(), &instance, MATCHINGS.as_slice())
 }

@@ -9,8 +9,6 @@ mod admissions;
 #[cfg(test)]
 mod aims;
 #[cfg(test)]
-mod cells;
-#[cfg(test)]
 mod checks;
 #[cfg(test)]
 mod closings;
@@ -23,39 +21,23 @@ mod copies;
 #[cfg(test)]
 mod desks;
 #[cfg(test)]
-mod disks;
-#[cfg(test)]
 mod exchanges;
-#[cfg(test)]
-mod failing;
 #[cfg(test)]
 mod import_texts;
 #[cfg(test)]
 mod instances;
 #[cfg(test)]
-mod judged;
-#[cfg(test)]
-mod kept;
-#[cfg(test)]
 mod line_words;
 #[cfg(test)]
 mod offices;
 #[cfg(test)]
-mod pieces;
-#[cfg(test)]
-mod played;
-#[cfg(test)]
 mod printed;
-#[cfg(test)]
-mod refused;
 #[cfg(test)]
 mod rolls_of;
 #[cfg(test)]
 mod round_texts;
 #[cfg(test)]
 mod rounds;
-#[cfg(test)]
-mod school;
 #[cfg(test)]
 mod school_lines;
 #[cfg(test)]
@@ -66,6 +48,8 @@ mod sent_reports;
 mod sessions;
 #[cfg(test)]
 mod sittings;
+#[cfg(test)]
+mod sizes;
 #[cfg(test)]
 mod stores;
 #[cfg(test)]

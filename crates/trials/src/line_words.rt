@@ -1,11 +1,10 @@
 //! The words of lines: the line and the values that they stand for, and the texts of help and of faults.
 
-use crate::judged::holds;
 use crate::printed::parted;
 use commands::{Line, LineFault, command};
+use plays::judged::holds;
 use rolls::ReportKind;
 use std::alloc::{AllocError, Global};
-use std::process::Abort;
 use std::rt::HostRuntime;
 use std::test::Fail;
 
@@ -62,7 +61,6 @@ fn told(rt: &HostRuntime, words: &str) -> Result<String, Fail> {
 /// Compares what the words of each row are told as: a text with this beginning and this end.
 fn compare_words(
     rt: &HostRuntime,
-    abort: &impl Abort,
     rows: &[(&'static str, &'static str)],
     start: &str,
     end: &str,
@@ -70,7 +68,7 @@ fn compare_words(
     for (words, want) in rows {
         let want = format!(in rt.alloc(); "{start}{want}{end}")?;
         let told = told(rt, words)?;
-        holds(abort, told == want, words);
+        holds(told == want, words)?;
     }
     Ok(())
 }
@@ -173,7 +171,7 @@ static HELPS: [(&str, &str); 4] = [
 
 #[test]
 fn words_are_lines_or_are_told_why_not(rt: HostRuntime) -> Result<(), Fail> {
-    compare_words(&rt, &rt, LINES.as_slice(), "", "")?;
-    compare_words(&rt, &rt, FAULTS.as_slice(), "Fault ", HINT)?;
-    compare_words(&rt, &rt, HELPS.as_slice(), "", "")
+    compare_words(&rt, LINES.as_slice(), "", "")?;
+    compare_words(&rt, FAULTS.as_slice(), "Fault ", HINT)?;
+    compare_words(&rt, HELPS.as_slice(), "", "")
 }

@@ -1,11 +1,10 @@
 //! An office and its tables without a desk: what is applied is saved, and loaded as it was.
 
-use crate::judged::{holds, well};
 use office::Office;
+use plays::judged::{holds, well};
 use rolls::{Done, Plain, Refusal, Text};
 use sqlite::{Connection, MemStore};
 use std::alloc::Global;
-use std::process::Abort;
 use std::rt::HostRuntime;
 use std::test::Fail;
 use store::Store;
@@ -42,20 +41,19 @@ fn has_student(office: &Office) -> bool {
 }
 
 /// Applies the put, and then a request that is refused and changes nothing.
-fn applied(alloc: Global, rt: &impl Abort, office: &mut Office) -> Result<Done, Fail> {
+fn applied(alloc: Global, office: &mut Office) -> Result<Done, Fail> {
     let put = office.apply(put_student(alloc)?);
-    holds(rt, is_put(&put), "a put");
+    holds(is_put(&put), "a put")?;
     let refused = matches!(office.apply(drop_list(alloc)?), Err(Refusal::NoRoundOpen));
-    holds(rt, refused && has_student(office), "a refused request");
+    holds(refused && has_student(office), "a refused request")?;
     well(put, "a put")
 }
 
 /// Saves what was applied, and loads the office again.
-fn saved(rt: &impl Abort, store: &mut Store<MemStore>, done: &Done) -> Result<(), Fail> {
+fn saved(store: &mut Store<MemStore>, done: &Done) -> Result<(), Fail> {
     well(store.save(&done.changes), "a saving")?;
     let loaded = well(store.load(), "a loading")?;
-    holds(rt, has_student(&loaded), "what is loaded");
-    Ok(())
+    holds(has_student(&loaded), "what is loaded")
 }
 
 #[test]
@@ -64,6 +62,6 @@ fn what_is_applied_and_saved_is_loaded(rt: HostRuntime) -> Result<(), Fail> {
     let Ok((mut store, mut office)) = Store::open(rt.alloc(), connection) else {
         return Err(Fail::new("an opening"));
     };
-    let done = applied(rt.alloc(), &rt, &mut office)?;
-    saved(&rt, &mut store, &done)
+    let done = applied(rt.alloc(), &mut office)?;
+    saved(&mut store, &done)
 }

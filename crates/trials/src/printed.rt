@@ -1,10 +1,9 @@
 //! Lines of the program that are done in turn, and what each prints.
 
-use crate::cells::{body_of, first_cell};
-use crate::judged::holds;
 use cli::line;
+use plays::cells::{body_of, first_cell};
+use plays::judged::holds;
 use std::fs;
-use std::process::Abort;
 use std::rt::HostRuntime;
 use std::test::Fail;
 
@@ -50,19 +49,17 @@ fn is_printed(
 /// Does the line of these words, and compares what it prints.
 pub(crate) fn prints(
     rt: &HostRuntime,
-    abort: &impl Abort,
     words: &str,
     texts: (&[u8], &[u8]),
     status: u8,
 ) -> Result<(), Fail> {
     let is_printed = is_printed(rt, words, texts, status)?;
-    holds(abort, is_printed, words);
-    Ok(())
+    holds(is_printed, words)
 }
 
 /// Does the line of a row, and compares what it prints: its words, its status, and what is printed on standard output and on
 /// standard error. Behind these may stand what the row shows.
-fn print_row(rt: &HostRuntime, abort: &impl Abort, row: &str) -> Result<(), Fail> {
+fn print_row(rt: &HostRuntime, row: &str) -> Result<(), Fail> {
     let (words, rest) = first_cell(row);
     let (status, rest) = first_cell(rest);
     let (out, rest) = first_cell(rest);
@@ -70,24 +67,23 @@ fn print_row(rt: &HostRuntime, abort: &impl Abort, row: &str) -> Result<(), Fail
     let out = body_of(rt.alloc(), out)?;
     let err = body_of(rt.alloc(), err)?;
     let is_printed = is_printed(rt, words, (&out, &err), status.parse()?)?;
-    holds(abort, is_printed, row);
-    Ok(())
+    holds(is_printed, row)
 }
 
 /// The same of each row in turn.
-pub(crate) fn print_rows(rt: &HostRuntime, abort: &impl Abort, rows: &str) -> Result<(), Fail> {
+pub(crate) fn print_rows(rt: &HostRuntime, rows: &str) -> Result<(), Fail> {
     for row in rows.lines() {
-        print_row(rt, abort, row)?;
+        print_row(rt, row)?;
     }
     Ok(())
 }
 
 /// The same of rows before which stands the text of the file `round.txt`.
-pub(crate) fn print_rounds(rt: &HostRuntime, abort: &impl Abort, rows: &str) -> Result<(), Fail> {
+pub(crate) fn print_rounds(rt: &HostRuntime, rows: &str) -> Result<(), Fail> {
     for row in rows.lines() {
         let (text, rest) = first_cell(row);
         fs::write(rt, "round.txt", &body_of(rt.alloc(), text)?)?;
-        print_row(rt, abort, rest)?;
+        print_row(rt, rest)?;
     }
     Ok(())
 }

@@ -1,6 +1,6 @@
 //! Instances and matchings from short texts, for the tests that work out examples.
 
-use crate::judged::well;
+use plays::judged::well;
 use spa::{Code, Instance, Matching};
 use std::alloc::Global;
 use std::test::Fail;

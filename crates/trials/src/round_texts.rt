@@ -3,7 +3,7 @@
 use crate::printed::{print_rounds, prints};
 use intake::MOST_BYTES;
 use spa::RANKS;
-use std::alloc::{AllocError, Global};
+use std::alloc::Global;
 use std::fmt::Write;
 use std::fs;
 use std::rt::HostRuntime;
@@ -102,11 +102,11 @@ static FAULTY_TEXTS: &str =
 
 #[test]
 fn texts_are_checked_or_the_first_bad_line_is_named(rt: HostRuntime) -> Result<(), Fail> {
-    print_rounds(&rt, &rt, CHECKS)?;
-    print_rounds(&rt, &rt, CHECKS_BY_AIM)?;
-    print_rounds(&rt, &rt, OTHER_FILES)?;
-    print_rounds(&rt, &rt, FIT_TEXTS)?;
-    print_rounds(&rt, &rt, FAULTY_TEXTS)
+    print_rounds(&rt, CHECKS)?;
+    print_rounds(&rt, CHECKS_BY_AIM)?;
+    print_rounds(&rt, OTHER_FILES)?;
+    print_rounds(&rt, FIT_TEXTS)?;
+    print_rounds(&rt, FAULTY_TEXTS)
 }
 
 /// A round of so many projects, all of which one student lists.
@@ -126,33 +126,46 @@ fn listed(alloc: Global, count: usize) -> Result<String, Fail> {
 fn a_list_is_no_longer_than_the_ranks(rt: HostRuntime) -> Result<(), Fail> {
     let checked = "spadesk check round.txt";
     fs::write(&rt, "round.txt", &listed(rt.alloc(), RANKS)?)?;
-    prints(&rt, &rt, checked, (b"fault 2\n", b""), 1)?;
+    prints(&rt, checked, (b"fault 2\n", b""), 1)?;
     fs::write(&rt, "round.txt", &listed(rt.alloc(), RANKS + 1)?)?;
     let bad = format!(in rt.alloc(); "bad line {}\n", RANKS + 3)?;
-    prints(&rt, &rt, checked, (b"", bad.as_bytes()), 1)
+    prints(&rt, checked, (b"", bad.as_bytes()), 1)
 }
 
-/// A text of 500 lists of twelve projects, each with codes of 16 bytes, and a bad line behind them.
-fn long_text(alloc: Global) -> Result<String, AllocError> {
-    let mut text = String::from_str(alloc, "S,L,5\n")?;
-    let mut choices = String::new(alloc);
-    for n in 10..22u32 {
-        text.push_str(&format!(in alloc; "P,PPPPPPPPPPPPPP{n},L,1\n")?)?;
-        choices.push_str(&format!(in alloc; ",PPPPPPPPPPPPPP{n}")?)?;
+/// Appends this line for each number from the first on, so many times; `$` stands for the number.
+fn push_lines(text: &mut String, line: &str, first: u32, count: u32) -> Result<(), Fail> {
+    let (start, end) = line.split_once('$').unwrap_or((line, ""));
+    for n in 0..count {
+        write!(text, "{start}{}{end}\n", first.wrapping_add(n))?;
     }
-    for n in 100..600u32 {
-        text.push_str(&format!(in alloc; "C,S{n}{choices}\n")?)?;
-    }
-    text.push_str("X\n")?;
-    Ok(text)
+    Ok(())
 }
 
-// The bad line stands behind byte 105,000.
+/// The lines of the longest text: how they begin, the first number, and how many.
+#[rattlefmt::skip]
+static LONGEST: [(&str, u32, u32); 7] = [
+    ("S,LLLLLLLLLLLLL$,500", 100, 100),
+    ("P,PPPPPPPPPPPPP$,LLLLLLLLLLLLL100,500", 100, 400),
+    ("C,SSSSSSSSSSSSS$,PPPPPPPPPPPPP100,PPPPPPPPPPPPP101,PPPPPPPPPPPPP102,PPPPPPPPPPPPP103,PPPPPPPPPPPPP104,PPPPPPPPPPPPP105,PPPPPPPPPPPPP106,PPPPPPPPPPPPP107,PPPPPPPPPPPPP108,PPPPPPPPPPPPP109,PPPPPPPPPPPPP110,PPPPPPPPPPPPP111", 100, 500),
+    ("M,SSSSSSSSSSSSS$,PPPPPPPPPPPPP100", 100, 500),
+    ("U,SSSSSSSSSSSSS$,-1000000,-1000000,-1000000,-1000000,-1000000,-1000000,-1000000,-1000000,-1000000,-1000000,-1000000,-1000000,-1000000", 100, 500),
+    ("Y,PPPPPPPPPPPPP$,-1000000,-1000000,-1000000,-1000000,-1000000,-1000000,-1000000,-1000000,-1000000,-1000000,-1000000,-1000000,-1000000", 100, 400),
+    ("Z,LLLLLLLLLLLLL$,-1000000,-1000000,-1000000,-1000000,-1000000,-1000000,-1000000,-1000000,-1000000,-1000000,-1000000,-1000000,-1000000", 100, 100),
+];
+
+// No text is longer, but for the line of an aim. Behind it, at byte 283,800, stands a bad line; without that the prices are at fault.
 #[test]
-fn a_long_text_is_read_to_its_end(rt: HostRuntime) -> Result<(), Fail> {
-    fs::write(&rt, "round.txt", &long_text(rt.alloc())?)?;
-    let bad = b"bad line 514\n";
-    prints(&rt, &rt, "spadesk solve round.txt", (b"", bad), 1)
+fn the_longest_text_is_read_to_its_end(rt: HostRuntime) -> Result<(), Fail> {
+    let mut text = String::new(rt.alloc());
+    for (line, first, count) in LONGEST {
+        push_lines(&mut text, line, first, count)?;
+    }
+    fs::write(&rt, "round.txt", &text)?;
+    prints(&rt, "spadesk check round.txt", (b"fault 3\n", b""), 1)?;
+    text.push_str("X\n")?;
+    fs::write(&rt, "round.txt", &text)?;
+    let bad = b"bad line 2501\n";
+    prints(&rt, "spadesk solve round.txt", (b"", bad), 1)
 }
 
 #[test]
@@ -162,15 +175,9 @@ fn the_size_is_judged_first(rt: HostRuntime) -> Result<(), Fail> {
         text.push_str("\n")?;
     }
     fs::write(&rt, "round.txt", &text)?;
-    prints(
-        &rt,
-        &rt,
-        "spadesk check round.txt",
-        (b"", b"bad line 1\n"),
-        1,
-    )?;
+    prints(&rt, "spadesk check round.txt", (b"", b"bad line 1\n"), 1)?;
     text.push_str("\n")?;
     fs::write(&rt, "round.txt", &text)?;
     let refused = b"refused 4: TooLarge\n";
-    prints(&rt, &rt, "spadesk solve round.txt", (b"", refused), 1)
+    prints(&rt, "spadesk solve round.txt", (b"", refused), 1)
 }

@@ -1,24 +1,19 @@
 //! Worked rounds and audits.
 
-use crate::cells::ranks;
-use crate::judged::holds;
 use crate::rolls_of::{instance, places};
+use plays::cells::ranks;
+use plays::judged::holds;
 use solver::{Audit, audit, solve};
 use spa::{Aim, Instance, Matching, RANKS, profile};
 use std::alloc::Global;
-use std::process::Abort;
 use std::rt::HostRuntime;
 use std::test::Fail;
 use verdict::check;
 
 /// The profile of a matching, which is one of the instance.
-pub(crate) fn profile_of(
-    rt: &impl Abort,
-    instance: &Instance,
-    matching: &Matching,
-) -> [u32; RANKS] {
-    holds(rt, matching.fault(instance).is_none(), "a matching");
-    profile(instance, matching)
+pub(crate) fn profile_of(instance: &Instance, matching: &Matching) -> Result<[u32; RANKS], Fail> {
+    holds(matching.fault(instance).is_none(), "a matching")?;
+    Ok(profile(instance, matching))
 }
 
 type Round = (
@@ -43,43 +38,37 @@ static ROUNDS: [Round; 6] = [
 /// Compares the profile of what is solved, and checks it.
 fn compare_solved(
     alloc: Global,
-    rt: &impl Abort,
     rolls: (&str, &str, &str),
     want: &[u32],
 ) -> Result<Matching, Fail> {
     let instance = instance(alloc, rolls.0, rolls.1, rolls.2)?;
     let solved = solve(alloc, &instance, Aim::Greedy)?;
-    let counts = profile_of(rt, &instance, &solved.matching);
-    holds(rt, counts == ranks(want), rolls.2);
+    let counts = profile_of(&instance, &solved.matching)?;
+    holds(counts == ranks(want), rolls.2)?;
     let is_best = check(&instance, Aim::Greedy, &solved.matching, &solved.prices).is_ok();
-    holds(rt, is_best, rolls.2);
+    holds(is_best, rolls.2)?;
     Ok(solved.matching)
 }
 
 /// Compares what is solved with each row.
-fn compare_rounds(alloc: Global, rt: &impl Abort, rows: &[Round]) -> Result<(), Fail> {
+fn compare_rounds(alloc: Global, rows: &[Round]) -> Result<(), Fail> {
     for (supervisors, projects, students, want, counts) in rows {
-        let found = compare_solved(alloc, rt, (supervisors, projects, students), counts)?;
+        let found = compare_solved(alloc, (supervisors, projects, students), counts)?;
         let want = places(alloc, want)?;
-        holds(rt, found.places == want.places, students);
+        holds(found.places == want.places, students)?;
     }
     Ok(())
 }
 
 #[test]
 fn worked_rounds_are_solved(rt: HostRuntime) -> Result<(), Fail> {
-    compare_rounds(rt.alloc(), &rt, ROUNDS.as_slice())
+    compare_rounds(rt.alloc(), ROUNDS.as_slice())
 }
 
 /// The places of a better matching, if an audit has one.
-fn better(
-    rt: &impl Abort,
-    alloc: Global,
-    instance: &Instance,
-    text: &str,
-) -> Result<Option<Vec<Option<u8>>>, Fail> {
+fn better(alloc: Global, instance: &Instance, text: &str) -> Result<Option<Vec<Option<u8>>>, Fail> {
     let matching = places(alloc, text)?;
-    holds(rt, matching.fault(instance).is_none(), text);
+    holds(matching.fault(instance).is_none(), text)?;
     match audit(alloc, instance, Aim::Greedy, &matching)? {
         Audit::Better(better) => Ok(Some(better.places)),
         Audit::Best => Ok(None),
@@ -90,9 +79,8 @@ fn better(
 fn an_audit_shows_a_better_matching(rt: HostRuntime) -> Result<(), Fail> {
     let instance = instance(rt.alloc(), "L:5", "P:L:1 Q:L:1", "A:P:Q B:Q:P")?;
     let best = places(rt.alloc(), "11")?;
-    let shown = better(&rt, rt.alloc(), &instance, "22")?;
-    holds(&rt, shown == Some(best.places), "a worse matching");
-    let none = better(&rt, rt.alloc(), &instance, "11")?;
-    holds(&rt, none.is_none(), "nothing is better");
-    Ok(())
+    let shown = better(rt.alloc(), &instance, "22")?;
+    holds(shown == Some(best.places), "a worse matching")?;
+    let none = better(rt.alloc(), &instance, "11")?;
+    holds(none.is_none(), "nothing is better")
 }

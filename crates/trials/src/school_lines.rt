@@ -1,13 +1,12 @@
 //! The lines over a database file.
 
-use crate::judged::holds;
 use crate::printed::{print_rows, prints, write_files};
-use crate::school::{FIRST_EDITION, SCHOOL_FILES};
+use plays::judged::holds;
+use plays::school::{FIRST_EDITION, SCHOOL_FILES};
 use rolls::MOST_IMPORT_BYTES;
 use sqlite::{Connection, FileStore, Unknown};
 use sqlite_disk::Disk;
 use std::fs;
-use std::process::Abort;
 use std::rt::HostRuntime;
 use std::test::Fail;
 
@@ -29,6 +28,7 @@ static FIRST: &str =
        spadesk import first.db supervisors I1 first.csv | 1 |                                    | refused 27: ImportIdUsed^n
        spadesk import first.db students I2 second.csv   | 1 |                                    | refused 29: Row 2 8^n
        spadesk import first.db students a!b no-such.csv | 1 |                                    | refused 2: Storage^n
+       spadesk import first.db lists I2 first.csv       | 1 |                                    | refused 28: Header^n
        spadesk open-round first.db                      | 0 | round 1^n                          |
        spadesk open-round first.db                      | 1 |                                    | refused 18: RoundIsOpen^n
        spadesk close-round first.db                     | 0 | round 1 size 0 profile 0 0 0 0^0^n |
@@ -77,14 +77,31 @@ static NO_DATABASE: &str =
        spadesk open-round text.db                  | 1 |  | refused 2: Storage^n
        spadesk open-round .                        | 1 |  | refused 2: Storage^n"#;
 
+/// Does these lines over the files.
+fn print_over_files(rt: &HostRuntime, rows: &str) -> Result<(), Fail> {
+    write_files(rt, SCHOOL_FILES.as_slice())?;
+    write_files(rt, FILES.as_slice())?;
+    print_rows(rt, rows)
+}
+
 #[test]
-fn lines_over_files_print_as_they_should(rt: HostRuntime) -> Result<(), Fail> {
-    write_files(&rt, SCHOOL_FILES.as_slice())?;
-    write_files(&rt, FILES.as_slice())?;
-    print_rows(&rt, &rt, FIRST)?;
-    print_rows(&rt, &rt, ROUND)?;
-    print_rows(&rt, &rt, AIMS)?;
-    print_rows(&rt, &rt, NO_DATABASE)
+fn a_file_is_made_and_refuses(rt: HostRuntime) -> Result<(), Fail> {
+    print_over_files(&rt, FIRST)
+}
+
+#[test]
+fn a_round_goes_from_imports_to_reports(rt: HostRuntime) -> Result<(), Fail> {
+    print_over_files(&rt, ROUND)
+}
+
+#[test]
+fn rounds_close_by_their_aims(rt: HostRuntime) -> Result<(), Fail> {
+    print_over_files(&rt, AIMS)
+}
+
+#[test]
+fn names_of_no_database_are_told(rt: HostRuntime) -> Result<(), Fail> {
+    print_over_files(&rt, NO_DATABASE)
 }
 
 /// The last record of a long import file.
@@ -108,12 +125,12 @@ fn an_import_file_is_read_to_its_end_or_is_too_large(rt: HostRuntime) -> Result<
     text.push_str(LAST_RECORD)?;
     fs::write(&rt, "large.csv", &text)?;
     let words = "spadesk import large.db students I1 large.csv";
-    prints(&rt, &rt, words, (b"rows 2\n", b""), 0)?;
+    prints(&rt, words, (b"rows 2\n", b""), 0)?;
     text.push_str("\n")?;
     fs::write(&rt, "large.csv", &text)?;
-    print_rows(&rt, &rt, UNREAD)?;
-    holds(&rt, fs::read(&rt, "unmade.db").is_err(), "no database");
-    prints(&rt, &rt, words, (b"", b"refused 4: TooLarge\n"), 1)
+    print_rows(&rt, UNREAD)?;
+    holds(fs::read(&rt, "unmade.db").is_err(), "no database")?;
+    prints(&rt, words, (b"", b"refused 4: TooLarge\n"), 1)
 }
 
 /// Makes tables in a database, and closes it.
@@ -129,22 +146,16 @@ fn make_tables<D: Disk + Drop>(
 }
 
 /// A file of these tables is refused, and stays as it is.
-fn refuses_tables(
-    rt: &HostRuntime,
-    abort: &impl Abort,
-    name: &str,
-    texts: &[&str],
-) -> Result<(), Fail> {
+fn refuses_tables(rt: &HostRuntime, name: &str, texts: &[&str]) -> Result<(), Fail> {
     match Connection::open_from(rt, name, false, Unknown) {
         Ok(connection) => make_tables(connection, texts)?,
         Err(_) => return Err(Fail::new("the database of the file")),
     }
     let bytes = fs::read(rt, name)?;
     let words = format!(in rt.alloc(); "spadesk open-round {name}")?;
-    prints(rt, abort, &words, (b"", b"refused 30: Damaged\n"), 1)?;
+    prints(rt, &words, (b"", b"refused 30: Damaged\n"), 1)?;
     let left = fs::read(rt, name)?;
-    holds(abort, left.as_slice() == bytes.as_slice(), name);
-    Ok(())
+    holds(left.as_slice() == bytes.as_slice(), name)
 }
 
 /// A table with the name of one that is not in the first edition.
@@ -153,6 +164,6 @@ const LATER: &str = "CREATE TABLE round_aim (a INTEGER)";
 #[test]
 fn a_database_of_other_tables_is_damaged(rt: HostRuntime) -> Result<(), Fail> {
     let other = &["CREATE TABLE student (a INTEGER)"];
-    refuses_tables(&rt, &rt, "other.db", other)?;
-    refuses_tables(&rt, &rt, "later.db", &[FIRST_EDITION, LATER])
+    refuses_tables(&rt, "other.db", other)?;
+    refuses_tables(&rt, "later.db", &[FIRST_EDITION, LATER])
 }

@@ -1,7 +1,7 @@
 //! Imports over a stream, byte for byte: what each answers, that a faulty one changes nothing, and that one which comes twice is
 //! made once.
 
-use crate::played::{Part, Sitting, play_all};
+use plays::played::{Part, Sitting, play_all};
 use rolls::MOST_IMPORT_BYTES;
 use std::rt::HostRuntime;
 use std::test::Fail;
@@ -101,5 +101,5 @@ static PLAYS: [&[Sitting]; 5] = [
 
 #[test]
 fn imports_are_made_whole_and_once(rt: HostRuntime) -> Result<(), Fail> {
-    play_all(rt.alloc(), &rt, PLAYS.as_slice())
+    play_all(rt.alloc(), PLAYS.as_slice())
 }

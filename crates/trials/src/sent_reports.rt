@@ -1,7 +1,7 @@
 //! Reports over a stream, byte for byte, and once more after the desk is opened anew.
 
-use crate::played::{Part, Sitting, play_all};
-use crate::school::SCHOOL;
+use plays::played::{Part, Sitting, play_all};
+use plays::school::SCHOOL;
 use std::rt::HostRuntime;
 use std::test::Fail;
 
@@ -79,5 +79,5 @@ static PLAYS: [&[Sitting]; 1] = [&[
 
 #[test]
 fn reports_are_told(rt: HostRuntime) -> Result<(), Fail> {
-    play_all(rt.alloc(), &rt, PLAYS.as_slice())
+    play_all(rt.alloc(), PLAYS.as_slice())
 }

@@ -2,12 +2,11 @@
 
 ghost use Rattle.std.specs.Prelude.{◌≡◌, IfOk};
 
-use crate::judged::holds;
 use crate::rolls_of::instance;
+use plays::judged::holds;
 use solver::{Session, solve};
 use spa::{Aim, Instance, profile};
 use std::alloc::Global;
-use std::process::Abort;
 use std::rt::HostRuntime;
 use std::test::Fail;
 
@@ -37,27 +36,22 @@ static ROLLS: [Rolls; 6] = [
 
 /// Compares the size and the profile that a session of each row tells with those of the matching that is solved by the
 /// same aim.
-fn compare_with_solved(
-    alloc: Global,
-    rt: &impl Abort,
-    aim: Aim,
-    rows: &[Rolls],
-) -> Result<(), Fail> {
+fn compare_with_solved(alloc: Global, aim: Aim, rows: &[Rolls]) -> Result<(), Fail> {
     for (supervisors, projects, students) in rows {
         let instance = instance(alloc, supervisors, projects, students)?;
         let session = session_of(alloc, &instance, aim)?;
         let matching = solve(alloc, &instance, aim)?.matching;
-        holds(rt, matching.fault(&instance).is_none(), students);
+        holds(matching.fault(&instance).is_none(), students)?;
         let size = matching.size(&instance);
-        holds(rt, session.size() as usize == size, students);
+        holds(session.size() as usize == size, students)?;
         let profile = profile(&instance, &matching);
-        holds(rt, session.profile() == profile, students);
+        holds(session.profile() == profile, students)?;
     }
     Ok(())
 }
 
 #[test]
 fn sessions_tell_what_is_solved(rt: HostRuntime) -> Result<(), Fail> {
-    compare_with_solved(rt.alloc(), &rt, Aim::Greedy, ROLLS.as_slice())?;
-    compare_with_solved(rt.alloc(), &rt, Aim::Generous, ROLLS.as_slice())
+    compare_with_solved(rt.alloc(), Aim::Greedy, ROLLS.as_slice())?;
+    compare_with_solved(rt.alloc(), Aim::Generous, ROLLS.as_slice())
 }

@@ -1,16 +1,15 @@
 //! The session that a desk keeps: where there is one, and that it tells what a new one would.
 
-use crate::cells::first_cell;
-use crate::desks::{desk_over, new_desk};
-use crate::judged::holds;
-use crate::played::{Part, play_at, play_lines};
-use crate::school::SCHOOL;
 use desk::Desk;
+use plays::cells::{first_cell, ranks};
+use plays::judged::holds;
+use plays::opened::{desk_over, new_desk};
+use plays::played::{Part, numbered, play_at, play_lines, play_parts};
+use plays::school::SCHOOL;
 use rolls::{Reply, Request};
 use spa::RANKS;
 use sqlite::{Connection, MemStore};
 use std::alloc::Global;
-use std::process::Abort;
 use std::rt::HostRuntime;
 use std::test::Fail;
 
@@ -28,35 +27,60 @@ const SECOND: &str = r#"PUT /lists/C | {"choices":["Z","P"]} | 200 OK | {"ok":tr
 const PREVIEW: &str = r#"GET /preview || 200 OK | {"profile":[0,2,0,0^,],"size":2}"#;
 
 /// The relaxations of the session that is kept after these lines.
-fn steps_after(
-    alloc: Global,
-    rt: &impl Abort,
-    desk: &mut Desk<MemStore>,
-    lines: &str,
-) -> Result<u64, Fail> {
-    play_lines(alloc, rt, desk, lines)?;
+fn steps_after(alloc: Global, desk: &mut Desk<MemStore>, lines: &str) -> Result<u64, Fail> {
+    play_lines(alloc, desk, lines)?;
     let steps = desk.session_steps();
-    holds(rt, steps.is_some(), "a session is kept");
+    holds(steps.is_some(), "a session is kept")?;
     Ok(steps.unwrap_or(0))
 }
 
 // After A there are 6 nodes and 11 arcs, after C 7 nodes and 14 arcs.
-fn compare_steps(alloc: Global, rt: &impl Abort, desk: &mut Desk<MemStore>) -> Result<(), Fail> {
-    play_lines(alloc, rt, desk, SCHOOL)?;
-    let start = steps_after(alloc, rt, desk, OPEN)?;
-    let first = steps_after(alloc, rt, desk, FIRST)?;
-    let second = steps_after(alloc, rt, desk, SECOND)?;
-    let last = steps_after(alloc, rt, desk, PREVIEW)?;
-    holds(rt, start == 0 && first <= 77, FIRST);
-    holds(rt, second > first && second <= 189, SECOND);
-    holds(rt, last == second, PREVIEW);
-    Ok(())
+fn compare_steps(alloc: Global, desk: &mut Desk<MemStore>) -> Result<(), Fail> {
+    play_lines(alloc, desk, SCHOOL)?;
+    let start = steps_after(alloc, desk, OPEN)?;
+    let first = steps_after(alloc, desk, FIRST)?;
+    let second = steps_after(alloc, desk, SECOND)?;
+    let last = steps_after(alloc, desk, PREVIEW)?;
+    holds(start == 0 && first <= 77, FIRST)?;
+    holds(second > first && second <= 189, SECOND)?;
+    holds(last == second, PREVIEW)
 }
 
 #[test]
 fn first_lists_join_the_session(rt: HostRuntime) -> Result<(), Fail> {
-    let mut desk = new_desk(rt.alloc(), &rt)?;
-    compare_steps(rt.alloc(), &rt, &mut desk)
+    let mut desk = new_desk(rt.alloc())?;
+    compare_steps(rt.alloc(), &mut desk)
+}
+
+/// Twelve students and nine projects, in an open round whose session is begun.
+#[rattlefmt::skip]
+const TWELVE: [Part; 4] = [
+    Part::Lines(r#"POST /imports/supervisors/I1 | code,name,quota^nL,Lee,9^n | 200 OK | {"rows":1}"#),
+    Part::Filled(9, "P$,Pumps,L,1^n", r#"POST /imports/projects/I2 | code,name,supervisor,quota^n$ | 200 OK | {"rows":9}"#),
+    Part::Filled(12, "S$,Ann^n", r#"POST /imports/students/I3 | code,name^n$ | 200 OK | {"rows":12}"#),
+    Part::Lines(OPEN),
+];
+
+/// A first list of nine projects.
+#[rattlefmt::skip]
+const NINE: &str =
+    r#"PUT /lists/S$ | {"choices":["P1000","P1001","P1002","P1003","P1004","P1005","P1006","P1007","P1008"]} | 200 OK | {"ok":true}"#;
+
+/// Each of the twelve lists all nine, and nine are placed, one at each rank.
+fn compare_twelve(alloc: Global, desk: &mut Desk<MemStore>) -> Result<(), Fail> {
+    play_parts(alloc, desk, TWELVE.as_slice())?;
+    for n in 1000..1012 {
+        steps_after(alloc, desk, &numbered(alloc, NINE, n)?)?;
+    }
+    let told = preview(desk);
+    holds(told == Some((9, ranks(&[1; 9]))), "nine of twelve")?;
+    Ok(())
+}
+
+#[test]
+fn all_first_lists_join_the_session(rt: HostRuntime) -> Result<(), Fail> {
+    let mut desk = new_desk(rt.alloc())?;
+    compare_twelve(rt.alloc(), &mut desk)
 }
 
 /// A supervisor, a project without a place and two students. Before each request stands whether a session is kept after it.
@@ -147,32 +171,30 @@ fn preview(desk: &mut Desk<MemStore>) -> Option<(u32, [u32; RANKS])> {
 /// Compares the preview of a desk with that of one which is opened over these tables, whose session is its own.
 fn compare_previews(
     alloc: Global,
-    rt: &impl Abort,
     desk: &mut Desk<MemStore>,
     connection: Connection<MemStore>,
     exchange: &str,
-) -> Connection<MemStore> {
-    let mut other = desk_over(alloc, rt, connection);
+) -> Result<Connection<MemStore>, Fail> {
+    let mut other = desk_over(alloc, connection)?;
     let told = preview(&mut other);
-    holds(rt, told.is_some() && preview(desk) == told, exchange);
-    other.into_connection()
+    holds(told.is_some() && preview(desk) == told, exchange)?;
+    Ok(other.into_connection())
 }
 
 /// Plays a line at a desk, and at one that is opened for it over tables of its own, and compares whether a session is kept.
 fn compare_session(
     alloc: Global,
-    rt: &impl Abort,
     desk: &mut Desk<MemStore>,
     connection: Connection<MemStore>,
     line: &'static str,
 ) -> Result<Connection<MemStore>, Fail> {
     let (mark, exchange) = first_cell(line);
-    play_lines(alloc, rt, desk, exchange)?;
+    play_lines(alloc, desk, exchange)?;
     let is_kept = desk.session_steps().is_some();
-    holds(rt, is_kept == (mark == "kept"), exchange);
-    let connection = play_at(alloc, rt, connection, &[Part::Lines(exchange)])?;
+    holds(is_kept == (mark == "kept"), exchange)?;
+    let connection = play_at(alloc, connection, &[Part::Lines(exchange)])?;
     if is_kept {
-        return Ok(compare_previews(alloc, rt, desk, connection, exchange));
+        return compare_previews(alloc, desk, connection, exchange);
     }
     Ok(connection)
 }
@@ -180,13 +202,12 @@ fn compare_session(
 /// Plays all lines.
 fn compare_sessions(
     alloc: Global,
-    rt: &impl Abort,
     desk: &mut Desk<MemStore>,
     mut connection: Connection<MemStore>,
     lines: &'static str,
 ) -> Result<Connection<MemStore>, Fail> {
     for line in lines.lines() {
-        connection = compare_session(alloc, rt, desk, connection, line)?;
+        connection = compare_session(alloc, desk, connection, line)?;
     }
     Ok(connection)
 }
@@ -194,10 +215,10 @@ fn compare_sessions(
 #[test]
 fn a_session_is_kept_just_where_it_may_be(rt: HostRuntime) -> Result<(), Fail> {
     for lines in [MIXED, GENEROUS] {
-        let mut desk = new_desk(rt.alloc(), &rt)?;
+        let mut desk = new_desk(rt.alloc())?;
         let connection = Connection::open_in_memory(rt.alloc())?;
-        let connection = compare_sessions(rt.alloc(), &rt, &mut desk, connection, BEFORE)?;
-        compare_sessions(rt.alloc(), &rt, &mut desk, connection, lines)?;
+        let connection = compare_sessions(rt.alloc(), &mut desk, connection, BEFORE)?;
+        compare_sessions(rt.alloc(), &mut desk, connection, lines)?;
     }
     Ok(())
 }

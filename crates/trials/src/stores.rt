@@ -1,15 +1,14 @@
 //! Hand-made tables: as which office they are opened, or how they are refused.
 
-use crate::cells::first_cell;
-use crate::desks::desk_over;
-use crate::judged::holds;
-use crate::kept::{keeps, kept_by};
-use crate::played::{count, play_lines};
-use crate::school::FIRST_EDITION;
 use desk::Desk;
+use plays::cells::first_cell;
+use plays::judged::holds;
+use plays::kept::{keeps, kept_by};
+use plays::opened::desk_over;
+use plays::played::{count, play_lines};
+use plays::school::FIRST_EDITION;
 use sqlite::{Connection, MemStore};
 use std::alloc::Global;
-use std::process::Abort;
 use std::rt::HostRuntime;
 use std::test::Fail;
 
@@ -256,17 +255,16 @@ fn made(alloc: Global, before: &[&str], added: &str) -> Result<Connection<MemSto
 /// Plays the line at the desk over tables, or compares the refusal with it where there is no desk.
 fn opened(
     alloc: Global,
-    rt: &impl Abort,
     conn: Connection<MemStore>,
     line: &str,
 ) -> Result<Connection<MemStore>, Fail> {
     match Desk::open(alloc, conn) {
         Ok(mut desk) => {
-            play_lines(alloc, rt, &mut desk, line)?;
+            play_lines(alloc, &mut desk, line)?;
             Ok(desk.into_connection())
         }
         Err((refusal, conn)) => {
-            holds(rt, refusal.name() == line.trim(), line);
+            holds(refusal.name() == line.trim(), line)?;
             Ok(conn)
         }
     }
@@ -275,28 +273,24 @@ fn opened(
 /// Plays the lines at the desk over tables, of which a query then answers this number.
 fn compare_count(
     alloc: Global,
-    rt: &impl Abort,
     conn: Connection<MemStore>,
     lines: &str,
     (sql, want): (&str, i64),
 ) -> Result<(), Fail> {
-    let mut conn = opened(alloc, rt, conn, lines)?;
-    holds(rt, count(&mut conn, sql)? == want, sql);
-    Ok(())
+    let mut conn = opened(alloc, conn, lines)?;
+    holds(count(&mut conn, sql)? == want, sql)
 }
 
 /// Compares what the tables of a row are opened as, and what their schema and their rows are then.
 fn compare_opened(
     alloc: Global,
-    rt: &impl Abort,
     conn: Connection<MemStore>,
     row: &str,
     kept: &str,
 ) -> Result<(), Fail> {
     let (_added, line) = parts(row);
-    let mut conn = opened(alloc, rt, conn, line)?;
-    holds(rt, keeps(alloc, &mut conn, kept)?, row);
-    Ok(())
+    let mut conn = opened(alloc, conn, line)?;
+    holds(keeps(alloc, &mut conn, kept)?, row)
 }
 
 /// Tables with what a row adds, raised by hand by so many editions.
@@ -319,7 +313,6 @@ fn raised(
 /// opened as those of the latest.
 fn compare_editions(
     alloc: Global,
-    rt: &impl Abort,
     before: &[&str],
     row: &str,
     editions: usize,
@@ -327,12 +320,12 @@ fn compare_editions(
     let is_fit = parts(row).1.contains('|');
     let mut latest = raised(alloc, before, row, editions)?;
     let wanted = kept_by(alloc, &mut latest)?;
-    compare_opened(alloc, rt, latest, row, &wanted)?;
+    compare_opened(alloc, latest, row, &wanted)?;
     for count in 0..editions {
         let mut conn = raised(alloc, before, row, count)?;
         let kept = kept_by(alloc, &mut conn)?;
         let kept = if is_fit { &wanted } else { &kept };
-        compare_opened(alloc, rt, conn, row, kept)?;
+        compare_opened(alloc, conn, row, kept)?;
     }
     Ok(())
 }
@@ -341,10 +334,10 @@ fn compare_editions(
 type HandMade = (&'static [&'static str], usize, &'static str);
 
 /// The same of each row.
-fn compare_hand_made(alloc: Global, rt: &impl Abort, all: &[HandMade]) -> Result<(), Fail> {
+fn compare_hand_made(alloc: Global, all: &[HandMade]) -> Result<(), Fail> {
     for (before, editions, rows) in all {
         for row in rows.lines() {
-            compare_editions(alloc, rt, before, row, *editions)?;
+            compare_editions(alloc, before, row, *editions)?;
         }
     }
     Ok(())
@@ -365,7 +358,7 @@ static JUDGED: [HandMade; 8] = [
 
 #[test]
 fn hand_made_tables_are_judged(rt: HostRuntime) -> Result<(), Fail> {
-    compare_hand_made(rt.alloc(), &rt, JUDGED.as_slice())
+    compare_hand_made(rt.alloc(), JUDGED.as_slice())
 }
 
 /// Tables of the first edition, and some that may not be raised or are those of the latest.
@@ -379,7 +372,7 @@ static OF_EDITIONS: [HandMade; 4] = [
 
 #[test]
 fn tables_of_earlier_editions_are_raised(rt: HostRuntime) -> Result<(), Fail> {
-    compare_hand_made(rt.alloc(), &rt, OF_EDITIONS.as_slice())
+    compare_hand_made(rt.alloc(), OF_EDITIONS.as_slice())
 }
 
 /// The import of that round, by the kinds of its values.
@@ -389,8 +382,8 @@ const ONE_IMPORT: &str =
 #[test]
 fn loose_tables_are_written(rt: HostRuntime) -> Result<(), Fail> {
     let conn = made(rt.alloc(), &[], LOOSE)?;
-    let conn = opened(rt.alloc(), &rt, conn, LOOSE_ROUND)?;
-    compare_count(rt.alloc(), &rt, conn, LOOSE_READ, (ONE_IMPORT, 1))
+    let conn = opened(rt.alloc(), conn, LOOSE_ROUND)?;
+    compare_count(rt.alloc(), conn, LOOSE_READ, (ONE_IMPORT, 1))
 }
 
 /// A table whose rows go with a student's, and Ann.
@@ -408,7 +401,7 @@ const OTHER_AND_STUDENTS: &str = "SELECT a + (SELECT count(*) FROM student) FROM
 fn other_tables_are_left_alone(rt: HostRuntime) -> Result<(), Fail> {
     let mut conn = Connection::open_in_memory(rt.alloc())?;
     conn.execute_batch("CREATE TABLE other (a INTEGER); INSERT INTO other VALUES (7);")?;
-    let mut conn = desk_over(rt.alloc(), &rt, conn).into_connection();
+    let mut conn = desk_over(rt.alloc(), conn)?.into_connection();
     conn.execute_batch(PETS)?;
-    compare_count(rt.alloc(), &rt, conn, BOB, (OTHER_AND_STUDENTS, 8))
+    compare_count(rt.alloc(), conn, BOB, (OTHER_AND_STUDENTS, 8))
 }

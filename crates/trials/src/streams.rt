@@ -2,12 +2,11 @@
 //! end by an exclamation mark.
 ghost use Rattle.std.specs.Prelude.{◌≡◌, ⊤, [], ◌∷◌};
 
-use crate::cells::{body_of, first_cell};
-use crate::judged::holds;
-use crate::pieces::Pieces;
 use arrayvec::ArrayVec;
+use plays::cells::{body_of, first_cell};
+use plays::judged::holds;
+use plays::pieces::Pieces;
 use std::alloc::{AllocError, Global};
-use std::process::Abort;
 use std::rt::HostRuntime;
 use std::test::Fail;
 use wire::{Answer, End, Handler, ShortText, Watched, serve_messages};
@@ -42,33 +41,25 @@ impl Handler<u32> for Marks {
 /// Compares what is written for the bytes, so many at a time: a mark for each answer, and the end.
 fn compare(
     alloc: Global,
-    rt: &impl Abort,
     name: &str,
     (bytes, piece): (&[u8], usize),
     marks: &str,
     end: End,
-) {
-    let fault = None;
-    let first = piece;
-    let mut reader = Watched::new(Pieces {
-        bytes,
-        first,
-        piece,
-        fault,
-    });
+) -> Result<(), Fail> {
+    let mut reader = Watched::new(Pieces::new(bytes, (piece, piece), None));
     let mut writer = Watched::new(Vec::new(alloc));
     let mut desk = 0;
     let result = serve_messages(alloc, &Marks, &mut desk, &mut reader, &mut writer);
     let written = writer.into_inner();
+    let late = reader.into_inner().late;
     let is_served = match &result {
         Ok(served) => served.answered as usize == marks.len() && served.end == end,
         Err(_) => false,
     };
     holds(
-        rt,
-        is_served && written.as_slice() == marks.as_bytes(),
+        is_served && late == 0 && written.as_slice() == marks.as_bytes(),
         name,
-    );
+    )
 }
 
 /// Two messages, of 63 bytes each.
@@ -88,20 +79,21 @@ fn end_of(n: usize) -> (&'static str, End) {
 }
 
 /// Compares each beginning of the bytes, one byte at a time.
-fn compare_prefixes(alloc: Global, rt: &impl Abort, bytes: &[u8]) {
+fn compare_prefixes(alloc: Global, bytes: &[u8]) -> Result<(), Fail> {
     for n in 0..bytes.len() + 1 {
         let (marks, end) = end_of(n);
-        compare(alloc, rt, "a beginning", (&bytes[..n], 1), marks, end);
+        compare(alloc, "a beginning", (&bytes[..n], 1), marks, end)?;
     }
+    Ok(())
 }
 
 #[test]
-fn prefixes(rt: HostRuntime) {
-    compare_prefixes(rt.alloc(), &rt, TWO);
+fn prefixes(rt: HostRuntime) -> Result<(), Fail> {
+    compare_prefixes(rt.alloc(), TWO)
 }
 
 /// A start of bytes, a piece and how many times it comes, and a rest; then how the stream ends, and the marks.
-// A head of 8,192 bytes and one of 8,193; 32 fields and 33; a body of 65,536 bytes; a hundred messages and one more.
+// A head of 8,192 bytes, and one that is a byte longer; 32 fields and 33; a body of 65,536 bytes; a hundred messages and one more.
 #[rattlefmt::skip]
 static STREAMS: &str =
     r#"PUT /a HTTP/1.1^r^nContent-Length: 65537^r^n^r^n                          |                        | 0     |          | TooLarge   | !
@@ -152,7 +144,7 @@ fn repeated(
 }
 
 /// Compares a row: one byte at a time, and of a repeated piece a thousand.
-fn compare_row(alloc: Global, rt: &impl Abort, row: &str) -> Result<(), Fail> {
+fn compare_row(alloc: Global, row: &str) -> Result<(), Fail> {
     let (start, cells) = first_cell(row);
     let (piece, cells) = first_cell(cells);
     let (times, cells) = first_cell(cells);
@@ -161,14 +153,13 @@ fn compare_row(alloc: Global, rt: &impl Abort, row: &str) -> Result<(), Fail> {
     let times = times.parse()?;
     let bytes = repeated(alloc, start, piece, times, rest)?;
     let size = if times == 0 { 1 } else { 1000 };
-    compare(alloc, rt, row, (&bytes, size), marks.trim(), end_named(end));
-    Ok(())
+    compare(alloc, row, (&bytes, size), marks.trim(), end_named(end))
 }
 
 #[test]
 fn heads_and_limits(rt: HostRuntime) -> Result<(), Fail> {
     for row in STREAMS.lines() {
-        compare_row(rt.alloc(), &rt, row)?;
+        compare_row(rt.alloc(), row)?;
     }
     Ok(())
 }

@@ -1,8 +1,8 @@
 //! Rounds at a desk, byte for byte: lists, closings, placements and reopenings, through streams and after the desk is opened
 //! anew.
 
-use crate::played::{Part, Sitting, play_all};
-use crate::school::SCHOOL;
+use plays::played::{Part, Sitting, play_all};
+use plays::school::SCHOOL;
 use spa::RANKS;
 use std::rt::HostRuntime;
 use std::test::Fail;
@@ -151,7 +151,7 @@ const AIMED: &str =
 
 /// Twelve rounds.
 #[rattlefmt::skip]
-const EACH_ROUND: &str =
+pub(crate) const EACH_ROUND: &str =
     r#"POST /rounds       |  | 200 OK | {"round":$}
        POST /rounds/close |  | 200 OK | {"profile":[0,0,0,0^,],"round":$,"size":0}"#;
 
@@ -176,5 +176,5 @@ static PLAYS: [&[Sitting]; 4] = [
 
 #[test]
 fn rounds_open_close_and_open_again(rt: HostRuntime) -> Result<(), Fail> {
-    play_all(rt.alloc(), &rt, PLAYS.as_slice())
+    play_all(rt.alloc(), PLAYS.as_slice())
 }

@@ -1,15 +1,14 @@
 //! The walkthrough of `examples/first-round`: each of its lines over its files, and what it serves. `tools/walkthrough.py` sees
 //! that the texts here are those of the example, and runs there what only a shell can do.
 
-use crate::cells::first_cell;
 use crate::connections::answered;
-use crate::judged::holds;
-use crate::played::answer;
 use crate::printed::{print_rows, write_files};
 use desk::Desk;
+use plays::cells::first_cell;
+use plays::judged::holds;
+use plays::played::answer;
 use sqlite::{Alter, Connection, Unknown};
 use std::alloc::Global;
-use std::process::Abort;
 use std::rt::HostRuntime;
 use std::test::Fail;
 
@@ -134,44 +133,36 @@ fn messages(rt: &HostRuntime) -> Result<Vec<String>, Fail> {
 }
 
 /// Compares the answers.
-fn compare_answers(alloc: Global, rt: &impl Abort, answers: &[Vec<u8>]) -> Result<(), Fail> {
+fn compare_answers(alloc: Global, answers: &[Vec<u8>]) -> Result<(), Fail> {
     for (line, got) in SERVED.lines().zip(answers.iter()) {
         let (_asked, body) = first_cell(line);
         let want = answer(alloc, "200 OK", body.trim())?;
-        holds(rt, got.as_slice() == want.as_slice(), line);
+        holds(got.as_slice() == want.as_slice(), line)?;
     }
     Ok(())
 }
 
 /// Serves each request to a connection of its own.
-fn serve_shown<S: Alter>(
-    rt: &HostRuntime,
-    abort: &impl Abort,
-    desk: &mut Desk<S>,
-) -> Result<(), Fail> {
+fn serve_shown<S: Alter>(rt: &HostRuntime, desk: &mut Desk<S>) -> Result<(), Fail> {
     let messages = messages(rt)?;
     let (told, answers) = answered(rt, desk, &messages, 4)?;
     let is_told = told.as_slice() == TOLD.as_bytes();
-    holds(abort, is_told && answers.len() == 4, TOLD);
-    compare_answers(rt.alloc(), abort, &answers)
+    holds(is_told && answers.len() == 4, TOLD)?;
+    compare_answers(rt.alloc(), &answers)
 }
 
 /// Serves them at the office of a database.
-fn serve_over<S: Alter + Drop>(
-    rt: &HostRuntime,
-    abort: &impl Abort,
-    connection: Connection<S>,
-) -> Result<(), Fail> {
+fn serve_over<S: Alter + Drop>(rt: &HostRuntime, connection: Connection<S>) -> Result<(), Fail> {
     match Desk::open(rt.alloc(), connection) {
-        Ok(mut desk) => serve_shown(rt, abort, &mut desk),
+        Ok(mut desk) => serve_shown(rt, &mut desk),
         Err(_) => Err(Fail::new("the desk of the file")),
     }
 }
 
 /// Serves them at the office of a file.
-fn serve_file(rt: &HostRuntime, abort: &impl Abort, database: &str) -> Result<(), Fail> {
+fn serve_file(rt: &HostRuntime, database: &str) -> Result<(), Fail> {
     match Connection::open_from(rt, database, false, Unknown) {
-        Ok(connection) => serve_over(rt, abort, connection),
+        Ok(connection) => serve_over(rt, connection),
         Err(_) => Err(Fail::new("the database of the file")),
     }
 }
@@ -179,6 +170,6 @@ fn serve_file(rt: &HostRuntime, abort: &impl Abort, database: &str) -> Result<()
 #[test]
 fn the_first_round_is_as_it_is_shown(rt: HostRuntime) -> Result<(), Fail> {
     write_files(&rt, FILES.as_slice())?;
-    print_rows(&rt, &rt, SHOWN)?;
-    serve_file(&rt, &rt, "school.db")
+    print_rows(&rt, SHOWN)?;
+    serve_file(&rt, "school.db")
 }

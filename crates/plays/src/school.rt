@@ -2,7 +2,7 @@
 
 /// A supervisor of quota 5 with projects P and Q of quota 1 and Z of quota 0, and students A, B and C.
 #[rattlefmt::skip]
-pub(crate) const SCHOOL: &str =
+pub const SCHOOL: &str =
     r#"PUT /supervisors/L | {"name":"Lee","quota":5}                    | 200 OK | {"ok":true}
        PUT /projects/P    | {"name":"Pumps","quota":1,"supervisor":"L"} | 200 OK | {"ok":true}
        PUT /projects/Q    | {"name":"Quays","quota":1,"supervisor":"L"} | 200 OK | {"ok":true}
@@ -13,7 +13,7 @@ pub(crate) const SCHOOL: &str =
 
 /// The same school as files of imports, with lists: A lists P and Q, B lists Z, and C lists Z and P.
 #[rattlefmt::skip]
-pub(crate) static SCHOOL_FILES: [(&str, &str); 4] = [
+pub static SCHOOL_FILES: [(&str, &str); 4] = [
     ("supervisors.csv", "code,name,quota\nL,Lee,5\n"),
     ("projects.csv",    "code,name,supervisor,quota\nP,Pumps,L,1\nQ,Quays,L,1\nZ,Zinc,L,0\n"),
     ("students.csv",    "code,name\nA,Ann\nB,Bob\nC,Cy\n"),
@@ -22,7 +22,7 @@ pub(crate) static SCHOOL_FILES: [(&str, &str); 4] = [
 
 /// A round is open, in which A lists P and Q, and C lists Z and P.
 #[rattlefmt::skip]
-pub(crate) const LISTED: &str =
+pub const LISTED: &str =
     r#"POST /rounds | | 200 OK | {"round":1}
        PUT /lists/A | {"choices":["P","Q"]} | 200 OK | {"ok":true}
        PUT /lists/C | {"choices":["Z","P"]} | 200 OK | {"ok":true}"#;
@@ -30,7 +30,7 @@ pub(crate) const LISTED: &str =
 /// The tables of the first edition, as they were made then, in which rounds had no aim: the round is closed, and another is open, in which
 /// B lists Z. B came by an import.
 #[rattlefmt::skip]
-pub(crate) const FIRST_EDITION: &str =
+pub const FIRST_EDITION: &str =
     "CREATE TABLE edition (id INTEGER NOT NULL PRIMARY KEY CHECK (id = 1), number INTEGER NOT NULL) STRICT;
      CREATE TABLE supervisor (code TEXT NOT NULL PRIMARY KEY, label TEXT NOT NULL, quota INTEGER NOT NULL CHECK (quota BETWEEN 0 AND 500)) STRICT;
      CREATE TABLE project (code TEXT NOT NULL PRIMARY KEY, label TEXT NOT NULL, supervisor TEXT NOT NULL REFERENCES supervisor (code), quota INTEGER NOT NULL CHECK (quota BETWEEN 0 AND 500)) STRICT;
@@ -50,7 +50,7 @@ pub(crate) const FIRST_EDITION: &str =
 
 /// What makes them tables of the second edition, in which each round has an aim: the open one is generous.
 #[rattlefmt::skip]
-pub(crate) const SECOND_EDITION: &str =
+pub const SECOND_EDITION: &str =
     "CREATE TABLE round_aim (round INTEGER NOT NULL PRIMARY KEY REFERENCES round (number), generous INTEGER NOT NULL CHECK (generous IN (0, 1))) STRICT;
      INSERT INTO round_aim SELECT number, open FROM round;
      UPDATE edition SET number = 2;";

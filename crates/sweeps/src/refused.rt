@@ -4,18 +4,17 @@
 //! request from here on. It grants the `ASK` bytes where that request came, as no other does. So with the system's allocator each
 //! row runs undisturbed, and under `tools/memory/every.py` once for each request for memory that it makes.
 
-use crate::desks::{desk_over, new_desk};
-use crate::judged::holds;
-use crate::kept::{keeps, kept_by};
-use crate::played::{
+use desk::Desk;
+use plays::judged::holds;
+use plays::kept::{keeps, kept_by};
+use plays::opened::{desk_over, new_desk};
+use plays::played::{
     Outcome, Part, answer_of, asked, message_of, play_lines, play_parts, served, whole,
 };
-use crate::school::{LISTED, SCHOOL};
-use desk::Desk;
+use plays::school::{LISTED, SCHOOL};
 use rolls::Refusal;
 use sqlite::{Connection, MemStore};
 use std::alloc::{AllocError, Global};
-use std::process::Abort;
 use std::rt::HostRuntime;
 use std::test::Fail;
 use web::StreamFault;
@@ -96,15 +95,15 @@ struct Allowed {
 }
 
 /// A desk at which the parts of a row were played.
-fn desk_of(alloc: Global, rt: &impl Abort, parts: &[Part]) -> Result<Desk<MemStore>, Fail> {
-    let mut desk = new_desk(alloc, rt)?;
-    play_parts(alloc, rt, &mut desk, parts)?;
+fn desk_of(alloc: Global, parts: &[Part]) -> Result<Desk<MemStore>, Fail> {
+    let mut desk = new_desk(alloc)?;
+    play_parts(alloc, &mut desk, parts)?;
     Ok(desk)
 }
 
 /// What comes of a row where the requests that have a bit in `refused` are refused for want of memory, so as if they were not asked.
-fn played_without(alloc: Global, rt: &impl Abort, row: Row, refused: u32) -> Result<Allowed, Fail> {
-    let mut desk = desk_of(alloc, rt, row.0)?;
+fn played_without(alloc: Global, row: Row, refused: u32) -> Result<Allowed, Fail> {
+    let mut desk = desk_of(alloc, row.0)?;
     let mut written = Vec::new(alloc);
     let mut bit = 1;
     for line in row.1.lines() {
@@ -120,14 +119,14 @@ fn played_without(alloc: Global, rt: &impl Abort, row: Row, refused: u32) -> Res
 }
 
 /// What may come of a row: first where nothing is refused, last where each request is.
-fn all_allowed(alloc: Global, rt: &impl Abort, row: Row) -> Result<Vec<Allowed>, Fail> {
+fn all_allowed(alloc: Global, row: Row) -> Result<Vec<Allowed>, Fail> {
     let mut count = 1u32;
     for _line in row.1.lines() {
         count = count.wrapping_mul(2);
     }
     let mut all = Vec::new(alloc);
     for refused in 0..count {
-        all.push(played_without(alloc, rt, row, refused)?)?;
+        all.push(played_without(alloc, row, refused)?)?;
     }
     Ok(all)
 }
@@ -176,50 +175,42 @@ fn is_allowed(all: &[Allowed], got: &Outcome, kept: &str) -> bool {
 }
 
 /// Runs a row, and looks at its tables. Whether the nth request for memory came.
-fn run(alloc: Global, rt: &impl Abort, row: Row, all: &[Allowed], n: u32) -> Result<bool, Fail> {
-    let mut desk = desk_of(alloc, rt, row.0)?;
+fn run(alloc: Global, row: Row, all: &[Allowed], n: u32) -> Result<bool, Fail> {
+    let mut desk = desk_of(alloc, row.0)?;
     let (got, is_hit) = refused(alloc, &mut desk, row, n)?;
     let kept = kept_by(alloc, &mut desk.into_connection())?;
-    holds(rt, is_allowed(all, &got, &kept), row.1);
+    holds(is_allowed(all, &got, &kept), row.1)?;
     Ok(is_hit)
 }
 
 /// Runs a row, and asks its requests again where one was refused.
 fn run_again(
     alloc: Global,
-    rt: &impl Abort,
     row: Row,
     (made, none): (&Allowed, &Allowed),
     n: u32,
 ) -> Result<(), Fail> {
-    let mut desk = desk_of(alloc, rt, row.0)?;
+    let mut desk = desk_of(alloc, row.0)?;
     let (mut got, _is_hit) = refused(alloc, &mut desk, row, n)?;
     if got.written.is_empty() || got.written.as_slice() == none.written.as_slice() {
-        play_lines(alloc, rt, &mut desk, row.2)?;
+        play_lines(alloc, &mut desk, row.2)?;
     }
     if got.written.as_slice() != made.written.as_slice() {
         got = refused(alloc, &mut desk, row, 0)?.0;
     }
-    holds(rt, got.written.as_slice() == made.written.as_slice(), row.1);
-    play_lines(alloc, rt, &mut desk, row.3)?;
+    holds(got.written.as_slice() == made.written.as_slice(), row.1)?;
+    play_lines(alloc, &mut desk, row.3)?;
     let is_kept = keeps(alloc, &mut desk.into_connection(), &made.kept)?;
-    holds(rt, is_kept, row.1);
-    Ok(())
+    holds(is_kept, row.1)
 }
 
 /// Does both, where all of these may come of the row. Whether the nth request for memory came.
-fn run_twice(
-    alloc: Global,
-    rt: &impl Abort,
-    row: Row,
-    all: &[Allowed],
-    n: u32,
-) -> Result<bool, Fail> {
+fn run_twice(alloc: Global, row: Row, all: &[Allowed], n: u32) -> Result<bool, Fail> {
     let (Some(made), Some(none)) = (all.first(), all.last()) else {
         return Err(Fail::new("nothing is allowed"));
     };
-    let is_hit = run(alloc, rt, row, all, n)?;
-    run_again(alloc, rt, row, (made, none), n)?;
+    let is_hit = run(alloc, row, all, n)?;
+    run_again(alloc, row, (made, none), n)?;
     Ok(is_hit)
 }
 
@@ -235,7 +226,6 @@ static EDITIONS: [&str; 3] = [
 /// came.
 fn open_once(
     alloc: Global,
-    rt: &impl Abort,
     mut connection: Connection<MemStore>,
     n: u32,
 ) -> Result<(Connection<MemStore>, bool), Fail> {
@@ -248,20 +238,20 @@ fn open_once(
         Err((refusal, mut connection)) => {
             let is_left = keeps(alloc, &mut connection, &kept)?;
             let is_memory = refusal == Refusal::Memory;
-            holds(rt, is_memory && is_left, "an opening without memory");
+            holds(is_memory && is_left, "an opening without memory")?;
             Ok((connection, is_hit))
         }
     }
 }
 
 /// The same over filled tables, with those of an edition made of them; then a desk is opened over them. Whether that request came.
-fn open(alloc: Global, rt: &impl Abort, edition: &str, n: u32) -> Result<bool, Fail> {
-    let mut connection = desk_of(alloc, rt, TWENTY)?.into_connection();
+fn open(alloc: Global, edition: &str, n: u32) -> Result<bool, Fail> {
+    let mut connection = desk_of(alloc, TWENTY)?.into_connection();
     let kept = kept_by(alloc, &mut connection)?;
     connection.execute_batch(edition)?;
-    let (connection, is_hit) = open_once(alloc, rt, connection, n)?;
-    let mut connection = desk_over(alloc, rt, connection).into_connection();
-    holds(rt, keeps(alloc, &mut connection, &kept)?, "filled tables");
+    let (connection, is_hit) = open_once(alloc, connection, n)?;
+    let mut connection = desk_over(alloc, connection)?.into_connection();
+    holds(keeps(alloc, &mut connection, &kept)?, "filled tables")?;
     Ok(is_hit)
 }
 
@@ -275,11 +265,11 @@ enum Trial<'a> {
 }
 
 /// Does it with each request for memory refused in turn.
-fn sweep(alloc: Global, rt: &impl Abort, trial: Trial) -> Result<(), Fail> {
+fn sweep(alloc: Global, trial: Trial) -> Result<(), Fail> {
     for n in 1..1_000_000 {
         let is_hit = match trial {
-            Trial::Asked(row, all) => run_twice(alloc, rt, row, all, n)?,
-            Trial::Opened(edition) => open(alloc, rt, edition, n)?,
+            Trial::Asked(row, all) => run_twice(alloc, row, all, n)?,
+            Trial::Opened(edition) => open(alloc, edition, n)?,
         };
         if !is_hit {
             return Ok(());
@@ -291,8 +281,8 @@ fn sweep(alloc: Global, rt: &impl Abort, trial: Trial) -> Result<(), Fail> {
 #[test]
 fn what_is_refused_memory_is_made_when_it_is_asked_again(rt: HostRuntime) -> Result<(), Fail> {
     for row in ROWS {
-        let all = all_allowed(rt.alloc(), &rt, row)?;
-        sweep(rt.alloc(), &rt, Trial::Asked(row, &all))?;
+        let all = all_allowed(rt.alloc(), row)?;
+        sweep(rt.alloc(), Trial::Asked(row, &all))?;
     }
     Ok(())
 }
@@ -300,7 +290,7 @@ fn what_is_refused_memory_is_made_when_it_is_asked_again(rt: HostRuntime) -> Res
 #[test]
 fn a_desk_is_opened_or_refused_for_want_of_memory(rt: HostRuntime) -> Result<(), Fail> {
     for edition in EDITIONS {
-        sweep(rt.alloc(), &rt, Trial::Opened(edition))?;
+        sweep(rt.alloc(), Trial::Opened(edition))?;
     }
     Ok(())
 }

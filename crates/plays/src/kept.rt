@@ -28,10 +28,7 @@ fn told<S: Alter>(conn: &mut Connection<S>, sql: &str) -> Result<Option<String>,
 }
 
 /// What a database keeps. Of a table that is not there nothing is told, and of one without rows an empty line.
-pub(crate) fn kept_by<S: Alter>(
-    alloc: Global,
-    conn: &mut Connection<S>,
-) -> Result<String, AllocError> {
+pub fn kept_by<S: Alter>(alloc: Global, conn: &mut Connection<S>) -> Result<String, AllocError> {
     let mut all = String::new(alloc);
     for sql in QUERIES.as_slice() {
         if let Ok(text) = told(conn, sql) {
@@ -45,7 +42,7 @@ pub(crate) fn kept_by<S: Alter>(
 }
 
 /// Whether a database keeps this.
-pub(crate) fn keeps<S: Alter>(
+pub fn keeps<S: Alter>(
     alloc: Global,
     conn: &mut Connection<S>,
     want: &str,

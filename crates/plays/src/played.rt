@@ -3,25 +3,25 @@
 //! A line has four cells: the method and the path of a request, its body, and the status and the body of the answer.
 
 use crate::cells::{body_of, first_cell};
-use crate::desks::desk_over;
 use crate::judged::holds;
+use crate::opened::desk_over;
 use crate::pieces::{Narrow, Pieces};
 use desk::Desk;
 use sqlite::{Alter, Connection, MemStore};
 use std::alloc::{AllocError, Global};
 use std::io;
-use std::process::Abort;
 use std::test::Fail;
 use web::{End, Served, StreamFault, Watched, serve_stream};
 
 /// What is played at a desk.
 #[derive(Clone, Copy)]
-pub(crate) enum Part {
+pub enum Part {
     /// Lines, each of which is one message and its answer.
     Lines(&'static str),
     /// Such lines for each number from the first up to the second, for which `$` stands; `&` stands for the number after it.
     Counted(u32, u32, &'static str),
-    /// Such a line, where `$` stands for so many copies of this piece, in each of which `$` stands for its number, from 0.
+    /// Such a line, where `$` stands for so many copies of each of these pieces, which `/` parts. In a copy `$` stands for its
+    /// number, from 1000, so that codes rise.
     Filled(u32, &'static str, &'static str),
     /// A read that is answered with the same bytes when it is asked again.
     Twice(&'static str),
@@ -33,7 +33,7 @@ pub(crate) enum Part {
 
 /// A stream: its reader and its writer, and what comes of it.
 #[derive(Clone, Copy)]
-pub(crate) struct Stream {
+pub struct Stream {
     pub name: &'static str,
     /// The bytes, and how many of them come.
     pub bytes: (&'static [u8], usize),
@@ -49,72 +49,62 @@ pub(crate) struct Stream {
 }
 
 /// What is played at a desk, and how many students its tables have after it.
-pub(crate) type Sitting = (&'static [Part], i64);
+pub type Sitting = (&'static [Part], i64);
 
 /// The number that a query answers.
-pub(crate) fn count(conn: &mut Connection<MemStore>, sql: &str) -> Result<i64, Fail> {
+pub fn count(conn: &mut Connection<MemStore>, sql: &str) -> Result<i64, Fail> {
     Ok(conn.query_row(sql, &[])?.get(0)?)
 }
 
 /// Plays each of these at tables of its own.
-pub(crate) fn play_all(
-    alloc: Global,
-    rt: &impl Abort,
-    plays: &[&'static [Sitting]],
-) -> Result<(), Fail> {
+pub fn play_all(alloc: Global, plays: &[&'static [Sitting]]) -> Result<(), Fail> {
     for sittings in plays {
-        play(alloc, rt, sittings)?;
+        play(alloc, sittings)?;
     }
     Ok(())
 }
 
 /// Plays sittings one after another, each at a desk that is opened anew over the tables of the one before.
-fn play(alloc: Global, rt: &impl Abort, sittings: &[Sitting]) -> Result<(), Fail> {
+fn play(alloc: Global, sittings: &[Sitting]) -> Result<(), Fail> {
     let mut connection = Connection::open_in_memory(alloc)?;
     for (parts, students) in sittings {
-        connection = play_at(alloc, rt, connection, parts)?;
+        connection = play_at(alloc, connection, parts)?;
         let found = count(&mut connection, "SELECT count(*) FROM student")?;
-        holds(rt, found == *students, "the number of students");
+        holds(found == *students, "the number of students")?;
     }
     Ok(())
 }
 
 /// Plays all parts at a desk over these tables.
-pub(crate) fn play_at(
+pub fn play_at(
     alloc: Global,
-    rt: &impl Abort,
     connection: Connection<MemStore>,
     parts: &[Part],
 ) -> Result<Connection<MemStore>, Fail> {
-    let mut desk = desk_over(alloc, rt, connection);
-    play_parts(alloc, rt, &mut desk, parts)?;
+    let mut desk = desk_over(alloc, connection)?;
+    play_parts(alloc, &mut desk, parts)?;
     Ok(desk.into_connection())
 }
 
 /// Plays all parts.
-pub(crate) fn play_parts(
-    alloc: Global,
-    rt: &impl Abort,
-    desk: &mut Desk<MemStore>,
-    parts: &[Part],
-) -> Result<(), Fail> {
+pub fn play_parts(alloc: Global, desk: &mut Desk<MemStore>, parts: &[Part]) -> Result<(), Fail> {
     for part in parts {
         match part {
-            Part::Lines(lines) => play_lines(alloc, rt, desk, lines)?,
+            Part::Lines(lines) => play_lines(alloc, desk, lines)?,
             Part::Counted(first, end, lines) => {
-                play_counted(alloc, rt, desk, (*first, *end), lines)?;
+                play_counted(alloc, desk, (*first, *end), lines)?;
             }
             Part::Filled(copies, piece, line) => {
                 let line = filled(alloc, *copies, piece, line)?;
-                play_line(alloc, rt, desk, &line)?;
+                play_line(alloc, desk, &line)?;
             }
             Part::Twice(asked) => {
                 let is_same = is_same(alloc, desk, asked)?;
-                holds(rt, is_same, asked);
+                holds(is_same, asked)?;
             }
-            Part::Stream(stream) => play_stream(alloc, rt, desk, stream),
+            Part::Stream(stream) => play_stream(alloc, desk, stream)?,
             Part::Cuts(bytes, written, answers) => {
-                play_cuts(alloc, rt, desk, bytes, written, *answers);
+                play_cuts(alloc, desk, bytes, written, *answers)?;
             }
         }
     }
@@ -122,14 +112,9 @@ pub(crate) fn play_parts(
 }
 
 /// Plays each line.
-pub(crate) fn play_lines<S: Alter>(
-    alloc: Global,
-    rt: &impl Abort,
-    desk: &mut Desk<S>,
-    lines: &str,
-) -> Result<(), Fail> {
+pub fn play_lines<S: Alter>(alloc: Global, desk: &mut Desk<S>, lines: &str) -> Result<(), Fail> {
     for line in lines.lines() {
-        play_line(alloc, rt, desk, line)?;
+        play_line(alloc, desk, line)?;
     }
     Ok(())
 }
@@ -137,20 +122,19 @@ pub(crate) fn play_lines<S: Alter>(
 /// Plays the lines for each number.
 fn play_counted(
     alloc: Global,
-    rt: &impl Abort,
     desk: &mut Desk<MemStore>,
     (first, end): (u32, u32),
     lines: &str,
 ) -> Result<(), Fail> {
     for n in first..end {
         let lines = numbered(alloc, lines, n)?;
-        play_lines(alloc, rt, desk, &lines)?;
+        play_lines(alloc, desk, &lines)?;
     }
     Ok(())
 }
 
 /// The lines for one number.
-fn numbered(alloc: Global, lines: &str, n: u32) -> Result<String, AllocError> {
+pub fn numbered(alloc: Global, lines: &str, n: u32) -> Result<String, AllocError> {
     let after = format!(in alloc; "{}", n.saturating_add(1))?;
     let number = format!(in alloc; "{n}")?;
     lines
@@ -158,11 +142,13 @@ fn numbered(alloc: Global, lines: &str, n: u32) -> Result<String, AllocError> {
         .replace(alloc, "$", &number)
 }
 
-/// The line with its copies of a piece.
-fn filled(alloc: Global, copies: u32, piece: &str, line: &str) -> Result<String, AllocError> {
+/// The line with its copies of each piece.
+pub fn filled(alloc: Global, copies: u32, pieces: &str, line: &str) -> Result<String, AllocError> {
     let mut all = String::new(alloc);
-    for n in 0..copies {
-        all.push_str(&numbered(alloc, piece, n)?)?;
+    for piece in pieces.split('/') {
+        for n in 0..copies {
+            all.push_str(&numbered(alloc, piece, n.saturating_add(1000))?)?;
+        }
     }
     line.replace(alloc, "$", &all)
 }
@@ -183,14 +169,14 @@ fn message(alloc: Global, asked: &str, body: &str) -> Result<Vec<u8>, AllocError
 }
 
 /// The message of a line.
-pub(crate) fn message_of(alloc: Global, line: &str) -> Result<Vec<u8>, AllocError> {
+pub fn message_of(alloc: Global, line: &str) -> Result<Vec<u8>, AllocError> {
     let (asked, rest) = first_cell(line);
     let (body, _answer) = first_cell(rest);
     message(alloc, asked, body)
 }
 
 /// The answer with this status and body, which is JSON where it begins with a brace, and else a text.
-pub(crate) fn answer(alloc: Global, status: &str, body: &str) -> Result<Vec<u8>, AllocError> {
+pub fn answer(alloc: Global, status: &str, body: &str) -> Result<Vec<u8>, AllocError> {
     let kind = if body.starts_with('{') {
         "application/json"
     } else {
@@ -204,7 +190,7 @@ pub(crate) fn answer(alloc: Global, status: &str, body: &str) -> Result<Vec<u8>,
 }
 
 /// The answer of a line.
-pub(crate) fn answer_of(alloc: Global, line: &str) -> Result<Vec<u8>, AllocError> {
+pub fn answer_of(alloc: Global, line: &str) -> Result<Vec<u8>, AllocError> {
     let (_asked, rest) = first_cell(line);
     let (_body, rest) = first_cell(rest);
     let (status, told) = first_cell(rest);
@@ -212,21 +198,15 @@ pub(crate) fn answer_of(alloc: Global, line: &str) -> Result<Vec<u8>, AllocError
 }
 
 /// Plays a line.
-fn play_line<S: Alter>(
-    alloc: Global,
-    rt: &impl Abort,
-    desk: &mut Desk<S>,
-    line: &str,
-) -> Result<(), Fail> {
+fn play_line<S: Alter>(alloc: Global, desk: &mut Desk<S>, line: &str) -> Result<(), Fail> {
     let message = message_of(alloc, line)?;
     let want = answer_of(alloc, line)?;
     let is_told = tells(alloc, desk, &message, &want);
-    holds(rt, is_told, line);
-    Ok(())
+    holds(is_told, line)
 }
 
 /// What is written when the message of a line is served.
-pub(crate) fn asked<S: Alter>(
+pub fn asked<S: Alter>(
     alloc: Global,
     desk: &mut Desk<S>,
     line: &str,
@@ -251,26 +231,23 @@ fn is_same(alloc: Global, desk: &mut Desk<MemStore>, asked: &str) -> Result<bool
 }
 
 /// All the bytes, a thousand at a time.
-pub(crate) fn whole(bytes: &[u8]) -> Pieces<'_> {
-    Pieces {
-        bytes,
-        first: 1000,
-        piece: 1000,
-        fault: None,
-    }
+pub fn whole(bytes: &[u8]) -> Pieces<'_> {
+    Pieces::new(bytes, (1000, 1000), None)
 }
 
 /// What came of a stream.
 #[derive(Drop)]
-pub(crate) struct Outcome {
+pub struct Outcome {
     pub written: Vec<u8>,
     pub result: Result<Served, StreamFault>,
     failed_reads: u64,
     failed_writes: u64,
+    /// How many calls came after a reader or a writer had failed or ended.
+    late: u32,
 }
 
 /// Serves what the reader gives, to a writer with so much room that keeps what it takes here.
-pub(crate) fn served<S: Alter>(
+pub fn served<S: Alter>(
     alloc: Global,
     desk: &mut Desk<S>,
     reader: Pieces,
@@ -278,31 +255,33 @@ pub(crate) fn served<S: Alter>(
     (room, fault): (usize, Option<io::ErrorKind>),
 ) -> Outcome {
     let mut reader = Watched::new(reader);
-    let mut writer = Watched::new(Narrow { taken, room, fault });
+    let mut writer = Watched::new(Narrow::new(taken, room, fault));
     let result = serve_stream(alloc, desk, &mut reader, &mut writer);
     let failed_reads = reader.failures();
     let failed_writes = writer.failures();
-    let Narrow { taken, .. } = writer.into_inner();
+    let Pieces { late: read, .. } = reader.into_inner();
+    let Narrow { taken, late, .. } = writer.into_inner();
     Outcome {
         written: taken,
         result,
         failed_reads,
         failed_writes,
+        late: read.saturating_add(late),
     }
 }
 
 /// The same of a message that comes alone, where there is room for what is written.
 fn served_alone<S: Alter>(alloc: Global, desk: &mut Desk<S>, message: &[u8]) -> Outcome {
     let taken = Vec::new(alloc);
-    served(alloc, desk, whole(message), taken, (100_000, None))
+    served(alloc, desk, whole(message), taken, (200_000, None))
 }
 
-/// The first bytes.
-fn beginning(bytes: &[u8], count: usize) -> &[u8] {
-    &bytes[..count.min(bytes.len())]
+/// The first bytes, and the others.
+fn parted_at(bytes: &[u8], count: usize) -> (&[u8], &[u8]) {
+    bytes.split_at(count.min(bytes.len()))
 }
 
-/// Whether the outcome has these bytes and this result, and as many calls failed as the result says.
+/// Whether the outcome has these bytes and this result, as many calls failed as the result says, and none came afterwards.
 fn is_outcome(got: &Outcome, written: &[u8], want: &Result<Served, StreamFault>) -> bool {
     let failed_read = matches!(want, Err(StreamFault::Read));
     let failed_write = matches!(want, Err(StreamFault::Write));
@@ -310,41 +289,33 @@ fn is_outcome(got: &Outcome, written: &[u8], want: &Result<Served, StreamFault>)
         && got.result == *want
         && got.failed_reads == u64::from(failed_read)
         && got.failed_writes == u64::from(failed_write)
+        && got.late == 0
 }
 
 /// Plays a stream.
-fn play_stream(alloc: Global, rt: &impl Abort, desk: &mut Desk<MemStore>, stream: &Stream) {
-    let (first, piece) = stream.pieces;
-    let reader = Pieces {
-        bytes: beginning(stream.bytes.0, stream.bytes.1),
-        first,
-        piece,
-        fault: stream.broken,
-    };
+fn play_stream(alloc: Global, desk: &mut Desk<MemStore>, stream: &Stream) -> Result<(), Fail> {
+    let (bytes, rest) = parted_at(stream.bytes.0, stream.bytes.1);
+    let fault = stream.broken.map(|fault| (fault, rest));
+    let reader = Pieces::new(bytes, stream.pieces, fault);
     let got = served(alloc, desk, reader, Vec::new(alloc), stream.room);
-    let written = beginning(stream.written.0, stream.written.1);
-    holds(rt, is_outcome(&got, written, &stream.result), stream.name);
+    let (written, _) = parted_at(stream.written.0, stream.written.1);
+    holds(is_outcome(&got, written, &stream.result), stream.name)
 }
 
 /// Plays the stream of these bytes, cut after each byte in turn.
 fn play_cuts(
     alloc: Global,
-    rt: &impl Abort,
     desk: &mut Desk<MemStore>,
     bytes: &[u8],
     written: &[u8],
     answered: u32,
-) {
+) -> Result<(), Fail> {
     let end = End::Closed;
     for cut in 1..bytes.len() {
-        let reader = Pieces {
-            bytes,
-            first: cut,
-            piece: 200,
-            fault: None,
-        };
+        let reader = Pieces::new(bytes, (cut, 200), None);
         let got = served(alloc, desk, reader, Vec::new(alloc), (100_000, None));
         let is_well = is_outcome(&got, written, &Ok(Served { answered, end }));
-        holds(rt, is_well, "cut into two pieces");
+        holds(is_well, "cut into two pieces")?;
     }
+    Ok(())
 }

@@ -1,14 +1,13 @@
 //! A desk over disks in memory, of which one fails from some call on.
 
-use crate::desks::put_student;
-use crate::judged::holds;
-use crate::played::play_lines;
 use desk::Desk;
+use plays::judged::holds;
+use plays::opened::put_student;
+use plays::played::play_lines;
 use rolls::Refusal;
 use sqlite::{Alter, Connection, FileStore, Files, Options};
 use sqlite_disk::{Fuse, Memory};
 use std::alloc::Global;
-use std::process::Abort;
 use std::rt::HostRuntime;
 use std::test::Fail;
 
@@ -29,35 +28,31 @@ const AFTER_ANN: &str =
        GET /students/S2 |                | 404 Not Found           | {"fault":"UnknownStudent","number":15}"#;
 
 /// Puts Ann, which is a storage error where the calls are too few. Whether she was put, and what came after was answered.
-fn is_put<S: Alter>(alloc: Global, rt: &impl Abort, desk: &mut Desk<S>) -> Result<bool, Fail> {
+fn is_put<S: Alter>(alloc: Global, desk: &mut Desk<S>) -> Result<bool, Fail> {
     match desk.ask(put_student(alloc, "S1", "Ann")?) {
         Ok(_done) => {
-            play_lines(alloc, rt, desk, AFTER_ANN)?;
+            play_lines(alloc, desk, AFTER_ANN)?;
             Ok(true)
         }
         Err(refusal) => {
-            holds(rt, refusal == Refusal::Storage, "too few calls");
+            holds(refusal == Refusal::Storage, "too few calls")?;
             Ok(false)
         }
     }
 }
 
 /// The same at a desk over this database. There is no desk where the calls are too few to open it.
-fn is_put_over<S: Alter + Drop>(
-    alloc: Global,
-    rt: &impl Abort,
-    connection: Connection<S>,
-) -> Result<bool, Fail> {
+fn is_put_over<S: Alter + Drop>(alloc: Global, connection: Connection<S>) -> Result<bool, Fail> {
     match Desk::open(alloc, connection) {
-        Ok(mut desk) => is_put(alloc, rt, &mut desk),
+        Ok(mut desk) => is_put(alloc, &mut desk),
         Err(_) => Ok(false),
     }
 }
 
 /// The same at a desk whose log passes so many calls.
-fn is_put_with(alloc: Global, rt: &impl Abort, calls: u64) -> Result<bool, Fail> {
+fn is_put_with(alloc: Global, calls: u64) -> Result<bool, Fail> {
     match database_with(alloc, calls) {
-        Some(connection) => is_put_over(alloc, rt, connection),
+        Some(connection) => is_put_over(alloc, connection),
         None => Ok(false),
     }
 }
@@ -66,10 +61,9 @@ fn is_put_with(alloc: Global, rt: &impl Abort, calls: u64) -> Result<bool, Fail>
 #[test]
 fn a_database_that_fails_after_a_put_still_answers(rt: HostRuntime) -> Result<(), Fail> {
     for calls in 0..1_000 {
-        if is_put_with(rt.alloc(), &rt, calls)? {
+        if is_put_with(rt.alloc(), calls)? {
             return Ok(());
         }
     }
-    holds(&rt, false, "the put is made with enough calls");
-    Ok(())
+    holds(false, "the put is made with enough calls")
 }

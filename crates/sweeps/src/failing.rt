@@ -3,16 +3,15 @@
 ghost use Rattle.std.specs.Prelude.{IfOk, IsTrue};
 ghost use Rattle.sqlite_disk.specs.Memory.{memory_is_usable};
 
-use crate::judged::holds;
-use crate::kept::kept_by;
-use crate::played::{answer_of, asked, play_lines};
-use crate::school::{FIRST_EDITION, LISTED, SCHOOL, SECOND_EDITION};
 use desk::Desk;
+use plays::judged::holds;
+use plays::kept::kept_by;
+use plays::played::{answer_of, asked, play_lines};
+use plays::school::{FIRST_EDITION, LISTED, SCHOOL, SECOND_EDITION};
 use rolls::Refusal;
 use sqlite::{Alter, Connection, FileStore, Files, Options};
 use sqlite_disk::{Crash, Disk, Fuse, Memory};
 use std::alloc::Global;
-use std::process::Abort;
 use std::rt::HostRuntime;
 use std::test::Fail;
 
@@ -156,47 +155,36 @@ fn has_calls(file: &mut Fuse<Memory>) -> bool {
 }
 
 /// Asks the request of a row once. Whether it was made; else it was refused.
-fn is_made_once<S: Alter>(
-    alloc: Global,
-    rt: &impl Abort,
-    desk: &mut Desk<S>,
-    line: &str,
-) -> Result<bool, Fail> {
+fn is_made_once<S: Alter>(alloc: Global, desk: &mut Desk<S>, line: &str) -> Result<bool, Fail> {
     let answered = asked(alloc, desk, line)?;
     let is_made = answered.as_slice() == answer_of(alloc, line)?.as_slice();
     let is_refused = answered.as_slice() == answer_of(alloc, REFUSED)?.as_slice();
-    holds(rt, is_made || is_refused, line);
+    holds(is_made || is_refused, line)?;
     Ok(is_made)
 }
 
 /// Asks the request of a row, if it has one, and once more where it was refused, which changed nothing. Whether it was made.
-fn is_made<S: Alter>(
-    alloc: Global,
-    rt: &impl Abort,
-    desk: &mut Desk<S>,
-    row: Row,
-) -> Result<bool, Fail> {
-    if row.2.is_empty() || is_made_once(alloc, rt, desk, row.2)? {
+fn is_made<S: Alter>(alloc: Global, desk: &mut Desk<S>, row: Row) -> Result<bool, Fail> {
+    if row.2.is_empty() || is_made_once(alloc, desk, row.2)? {
         return Ok(true);
     }
-    play_lines(alloc, rt, desk, row.3)?;
-    is_made_once(alloc, rt, desk, row.2)
+    play_lines(alloc, desk, row.3)?;
+    is_made_once(alloc, desk, row.2)
 }
 
 /// The same at the desk over a database, which is handed back.
 fn is_made_over<S: Alter + Drop>(
     alloc: Global,
-    rt: &impl Abort,
     connection: Connection<S>,
     row: Row,
 ) -> Result<(bool, Connection<S>), Fail> {
     match Desk::open(alloc, connection) {
         Ok(mut desk) => {
-            let is_made = is_made(alloc, rt, &mut desk, row)?;
+            let is_made = is_made(alloc, &mut desk, row)?;
             Ok((is_made, desk.into_connection()))
         }
         Err((refusal, connection)) => {
-            holds(rt, refusal == Refusal::Storage, row.2);
+            holds(refusal == Refusal::Storage, row.2)?;
             Ok((false, connection))
         }
     }
@@ -205,7 +193,6 @@ fn is_made_over<S: Alter + Drop>(
 /// Plays lines at the desk over a database. What its tables keep before and then.
 fn kept_after<S: Alter + Drop>(
     alloc: Global,
-    rt: &impl Abort,
     mut connection: Connection<S>,
     lines: &[&'static str],
 ) -> Result<(Kept, Connection<S>), Fail> {
@@ -213,7 +200,7 @@ fn kept_after<S: Alter + Drop>(
     match Desk::open(alloc, connection) {
         Ok(mut desk) => {
             for line in lines {
-                play_lines(alloc, rt, &mut desk, line)?;
+                play_lines(alloc, &mut desk, line)?;
             }
             let mut connection = desk.into_connection();
             let after = kept_by(alloc, &mut connection)?;
@@ -224,14 +211,9 @@ fn kept_after<S: Alter + Drop>(
 }
 
 /// The same of the files that hold these bytes.
-fn kept_in(
-    alloc: Global,
-    rt: &impl Abort,
-    bytes: &Bytes,
-    lines: &[&'static str],
-) -> Result<Kept, Fail> {
+fn kept_in(alloc: Global, bytes: &Bytes, lines: &[&'static str]) -> Result<Kept, Fail> {
     match opened(alloc, bytes, ALL, 1_000)? {
-        Ok(connection) => Ok(kept_after(alloc, rt, connection, lines)?.0),
+        Ok(connection) => Ok(kept_after(alloc, connection, lines)?.0),
         Err(_files) => Err(Fail::new("the files are no database")),
     }
 }
@@ -239,13 +221,12 @@ fn kept_in(
 /// Fills a new database.
 fn fill<S: Alter + Drop>(
     alloc: Global,
-    rt: &impl Abort,
     mut connection: Connection<S>,
     before: Before,
 ) -> Result<Connection<S>, Fail> {
     match before {
         Before::Nothing => Ok(connection),
-        Before::Listed => Ok(kept_after(alloc, rt, connection, &[SCHOOL, LISTED])?.1),
+        Before::Listed => Ok(kept_after(alloc, connection, &[SCHOOL, LISTED])?.1),
         Before::FirstEdition => {
             connection.execute_batch(FIRST_EDITION)?;
             Ok(connection)
@@ -260,14 +241,14 @@ fn fill<S: Alter + Drop>(
 
 /// The files of a database that was filled, where each change is copied into the database file at the next one, so that the log is
 /// short, or all stand in the log.
-fn filled(alloc: Global, rt: &impl Abort, before: Before, is_copied: bool) -> Result<Bytes, Fail> {
+fn filled(alloc: Global, before: Before, is_copied: bool) -> Result<Bytes, Fail> {
     if matches!(before, Before::Nothing) {
         return Ok(empty(alloc));
     }
     let frames = if is_copied { 1 } else { 1_000 };
     match opened(alloc, &empty(alloc), ALL, frames)? {
         Ok(connection) => {
-            let connection = fill(alloc, rt, connection, before)?;
+            let connection = fill(alloc, connection, before)?;
             bytes_of(alloc, &connection.into_store().close())
         }
         Err(_files) => Err(Fail::new("no new database")),
@@ -293,103 +274,83 @@ fn may_be_left(start: &Start, found: &Kept, is_made: bool) -> bool {
 }
 
 /// The files with these bytes are those of the office after the request, or, where it was not made, of that before.
-fn find(
-    alloc: Global,
-    rt: &impl Abort,
-    bytes: &Bytes,
-    start: &Start,
-    is_made: bool,
-) -> Result<(), Fail> {
+fn find(alloc: Global, bytes: &Bytes, start: &Start, is_made: bool) -> Result<(), Fail> {
     let is_found = if are_same(bytes, &start.bytes) {
         // These were opened at the start.
         !is_made || start.old.stood == start.new
     } else {
-        may_be_left(start, &kept_in(alloc, rt, bytes, &[])?, is_made)
+        may_be_left(start, &kept_in(alloc, bytes, &[])?, is_made)
     };
-    holds(rt, is_found, "the office of the files");
-    Ok(())
+    holds(is_found, "the office of the files")
 }
 
 /// Asks the request of a row where the files pass so many calls; what came of it is found in them as they stand, and as a crash leaves
 /// them. Whether calls are left. Files that are not opened are looked at in the rows without a request.
-fn run(
-    alloc: Global,
-    rt: &impl Abort,
-    start: &Start,
-    row: Row,
-    calls: (u64, u64),
-) -> Result<bool, Fail> {
+fn run(alloc: Global, start: &Start, row: Row, calls: (u64, u64)) -> Result<bool, Fail> {
     let (is_made, mut files) = match opened(alloc, &start.bytes, calls, row.0)? {
         Ok(connection) => {
-            let (is_made, connection) = is_made_over(alloc, rt, connection, row)?;
+            let (is_made, connection) = is_made_over(alloc, connection, row)?;
             (is_made, connection.into_store().close())
         }
         Err(_files) if !row.2.is_empty() => return Ok(false),
         Err(files) => (false, files),
     };
     let are_left = has_calls(&mut files.log) && has_calls(&mut files.db);
-    holds(rt, is_made || !are_left, row.2);
-    find(alloc, rt, &bytes_of(alloc, &files)?, start, is_made)?;
+    holds(is_made || !are_left, row.2)?;
+    find(alloc, &bytes_of(alloc, &files)?, start, is_made)?;
     files.log.crash();
     files.db.crash();
-    find(alloc, rt, &bytes_of(alloc, &files)?, start, is_made)?;
+    find(alloc, &bytes_of(alloc, &files)?, start, is_made)?;
     Ok(are_left)
 }
 
 /// Runs a row for each number of calls of the log, or of the database file, until calls are left.
-fn sweep(
-    alloc: Global,
-    rt: &impl Abort,
-    start: &Start,
-    row: Row,
-    is_log: bool,
-) -> Result<(), Fail> {
+fn sweep(alloc: Global, start: &Start, row: Row, is_log: bool) -> Result<(), Fail> {
     for calls in 0..10_000 {
         let calls = if is_log {
             (calls, u64::MAX)
         } else {
             (u64::MAX, calls)
         };
-        if run(alloc, rt, start, row, calls)? {
+        if run(alloc, start, row, calls)? {
             return Ok(());
         }
     }
-    holds(rt, false, "the calls have no end");
-    Ok(())
+    holds(false, "the calls have no end")
 }
 
 /// Runs a row with a log that fails, and with a database file that fails.
-fn sweep_both(alloc: Global, rt: &impl Abort, row: Row) -> Result<(), Fail> {
-    let bytes = filled(alloc, rt, row.1, !row.2.is_empty())?;
-    let old = kept_in(alloc, rt, &bytes, &[])?;
-    let new = kept_in(alloc, rt, &bytes, &[row.2])?.after;
-    holds(rt, (old.after == new) == row.2.is_empty(), row.2);
+fn sweep_both(alloc: Global, row: Row) -> Result<(), Fail> {
+    let bytes = filled(alloc, row.1, !row.2.is_empty())?;
+    let old = kept_in(alloc, &bytes, &[])?;
+    let new = kept_in(alloc, &bytes, &[row.2])?.after;
+    holds((old.after == new) == row.2.is_empty(), row.2)?;
     let start = Start { bytes, old, new };
-    sweep(alloc, rt, &start, row, true)?;
-    sweep(alloc, rt, &start, row, false)
+    sweep(alloc, &start, row, true)?;
+    sweep(alloc, &start, row, false)
 }
 
 /// The same of each row.
-fn sweep_rows(alloc: Global, rt: &impl Abort, rows: &[Row]) -> Result<(), Fail> {
+fn sweep_rows(alloc: Global, rows: &[Row]) -> Result<(), Fail> {
     for row in rows {
-        sweep_both(alloc, rt, *row)?;
+        sweep_both(alloc, *row)?;
     }
     Ok(())
 }
 
 #[test]
 fn what_is_asked_while_a_file_fails_is_made_or_refused(rt: HostRuntime) -> Result<(), Fail> {
-    sweep_rows(rt.alloc(), &rt, ROWS.as_slice())
+    sweep_rows(rt.alloc(), ROWS.as_slice())
 }
 
 // The rows of earlier editions are tests of their own, since a test has a minute.
 
 #[test]
 fn failing_files_of_earlier_editions_are_raised_or_stay(rt: HostRuntime) -> Result<(), Fail> {
-    sweep_rows(rt.alloc(), &rt, RAISED_ROWS.as_slice())
+    sweep_rows(rt.alloc(), RAISED_ROWS.as_slice())
 }
 
 #[test]
 fn rounds_close_over_failing_files_of_earlier_editions(rt: HostRuntime) -> Result<(), Fail> {
-    sweep_rows(rt.alloc(), &rt, CLOSED_ROWS.as_slice())
+    sweep_rows(rt.alloc(), CLOSED_ROWS.as_slice())
 }

@@ -1,0 +1,22 @@
+//! What is compared.
+
+ghost use Rattle.std.specs.Prelude.{◌≡◌, IfOk, IsTrue, Ok};
+
+use std::test::Fail;
+
+/// What is compared in a row of a table, or in a step that is named; where it does not hold the test fails with that row.
+pub fn holds(is_well: bool, row: &str) -> Result<(), Fail>
+    ensures { IfOk result (λ _. IsTrue is_well) }
+{
+    if is_well { Ok(()) } else { Err(Fail::new(row)) }
+}
+
+/// What went well; else the test fails, and tells what did not.
+pub fn well<T, E: Drop>(outcome: Result<T, E>, step: &'static str) -> Result<T, Fail>
+    ensures { IfOk result (λ value. outcome ≡ Ok value) }
+{
+    match outcome {
+        Ok(value) => Ok(value),
+        Err(_) => Err(Fail::new(step)),
+    }
+}

@@ -1,0 +1,28 @@
+//! Desks that are opened for a test, and a first request.
+
+use desk::Desk;
+use rolls::{Plain, Request, Text};
+use sqlite::{Connection, MemStore};
+use std::alloc::Global;
+use std::test::Fail;
+
+/// The desk over a database.
+pub fn desk_over(alloc: Global, connection: Connection<MemStore>) -> Result<Desk<MemStore>, Fail> {
+    match Desk::open(alloc, connection) {
+        Ok(desk) => Ok(desk),
+        Err((refusal, _connection)) => Err(Fail::new(format_args!("refused {}", refusal.number()))),
+    }
+}
+
+/// The desk over a database of its own, in memory.
+pub fn new_desk(alloc: Global) -> Result<Desk<MemStore>, Fail> {
+    let connection = Connection::open_in_memory(alloc)?;
+    desk_over(alloc, connection)
+}
+
+/// The request that puts a student.
+pub fn put_student(alloc: Global, code: &str, label: &str) -> Result<Request, Fail> {
+    let code = Text::of(alloc, code)?;
+    let label = Text::of(alloc, label)?;
+    Ok(Request::Plain(Plain::PutStudent { code, label }))
+}
