@@ -1,16 +1,23 @@
 #!/usr/bin/env python3
 """Checks by its prices that the matching of a round text is best by the aim of the text.
 
-tools/check_round.py FILE     prints what `spadesk check FILE` prints, of a text without a bad line
+tools/check_round.py FILE     prints what `spadesk check FILE` prints, also of a text with a bad line
 
 It knows the format and the five conditions (docs/FORMATS.md, docs/PROOF.md) and nothing else of this repository: who does not
 trust the program can read these lines. Rows of thirteen numbers are compared as Python compares tuples, the first number first; those
 of a generous round in the order size, last rank to first, and at the ranks the smaller number is the better.
 """
+import functools
+import re
 import sys
 
 RANKS = 12
 ZERO = (0,) * (1 + RANKS)
+MOST_BYTES = 524_288
+# the sections in their order, the roll that each section of prices goes along with, and how many lines a roll may have
+SECTIONS = "ASPCMUYZ"
+ROLL = {"U": "C", "Y": "P", "Z": "S"}
+MOST = {"S": 100, "P": 400, "C": 500}
 
 
 def added(*rows):
@@ -32,39 +39,115 @@ def generous(row):
     return row[:1] + tuple(-number for number in row[:0:-1])
 
 
-def checked(text):
-    quota, offerer, lists, pairs, price = {}, {}, {}, {}, {}
-    read = greedy
-    for kind, code, *rest in (line.split(",") for line in text.splitlines()):
+class BadLine(Exception):
+    """A line with which no round text goes on."""
+
+
+def need(holds):
+    if not holds:
+        raise BadLine
+
+
+def number(word, least, most):
+    need(re.fullmatch("0|-?[1-9][0-9]{0,6}", word))
+    need(least <= int(word) <= most)
+    return int(word)
+
+
+class Round:
+    """What the lines of a round text say so far: quotas by (kind of price, code), each project's supervisor, lists, pairs, prices."""
+
+    def __init__(self):
+        self.read, self.section = greedy, None
+        self.quota, self.offerer, self.lists, self.pairs, self.price = {}, {}, {}, {}, {}
+        self.codes = {kind: [] for kind in SECTIONS}
+
+    def is_whole(self, kinds="UYZ"):
+        """Whether these sections of prices are each empty, or have a line for every entry of their roll."""
+        return all(self.codes[kind] in ([], self.codes[ROLL[kind]]) for kind in kinds)
+
+    def add(self, line):
+        kind, *fields = line.split(",")
+        need(kind in SECTIONS and len(fields) >= 1)
         if kind == "A":
-            read = generous
-        elif kind == "S":
-            quota["Z", code] = int(rest[0])
-        elif kind == "P":
-            offerer[code], quota["Y", code] = rest[0], int(rest[1])
-        elif kind == "C":
-            lists[code] = rest
-        elif kind == "M":
-            pairs[code] = rest[0]
+            need(self.section is None and fields == ["generous"])
+            self.read = generous
         else:
-            price[kind, code] = tuple(map(int, rest))
-    owed = [*quota, *(("U", student) for student in lists)]
-    taken = [("Y", project) for project in pairs.values()] + [("Z", offerer[project]) for project in pairs.values()]
-    if any(taken.count(node) > quota[node] for node in set(taken)):
+            self.enter(kind, fields[0])
+            getattr(self, "add_" + kind)(*fields)
+        self.section = kind
+
+    def enter(self, kind, code):
+        """The next code of a section: each rises, and those of prices go along with their roll."""
+        before = SECTIONS.index(self.section or "A")
+        need(SECTIONS.index(kind) >= before and self.is_whole(set("UYZ") - {kind}))
+        codes = self.codes[kind]
+        need(re.fullmatch("[A-Z0-9][A-Z0-9-]{0,15}", code) and (not codes or code > codes[-1]))
+        codes.append(code)
+        if kind in MOST:
+            need(len(codes) <= MOST[kind])
+        if kind in ROLL:
+            need(self.codes[ROLL[kind]][: len(codes)] == codes)
+
+    def add_S(self, code, *quota):
+        need(len(quota) == 1)
+        self.quota["Z", code] = number(quota[0], 0, 500)
+
+    def add_P(self, code, *fields):
+        need(len(fields) == 2 and ("Z", fields[0]) in self.quota)
+        self.offerer[code], self.quota["Y", code] = fields[0], number(fields[1], 0, 500)
+
+    def add_C(self, code, *choices):
+        need(1 <= len(choices) <= RANKS and len(set(choices)) == len(choices) and set(choices) <= set(self.offerer))
+        self.lists[code] = choices
+
+    def add_M(self, code, *project):
+        need(len(project) == 1 and project[0] in self.lists.get(code, ()))
+        self.pairs[code] = project[0]
+
+    def add_price(self, code, *numbers, kind):
+        need(len(numbers) == len(ZERO))
+        self.price[kind, code] = tuple(number(word, -1_000_000, 1_000_000) for word in numbers)
+
+    add_U = functools.partialmethod(add_price, kind="U")
+    add_Y = functools.partialmethod(add_price, kind="Y")
+    add_Z = functools.partialmethod(add_price, kind="Z")
+
+
+def checked(text):
+    """What is told of a text, whose bytes stand as the characters below 256."""
+    if len(text) > MOST_BYTES:
+        return "refused 4: TooLarge"
+    it = Round()
+    *lines, rest = text.split("\n")
+    for at, line in enumerate(lines, 1):
+        try:
+            it.add(line)
+        except BadLine:
+            return f"bad line {at}"
+    if rest or not it.is_whole():
+        return f"bad line {len(lines) + 1}"
+    return judged(it)
+
+
+def judged(it):
+    """The first of the five conditions that fails, or what the matching is."""
+    taken = [("Y", project) for project in it.pairs.values()] + [("Z", it.offerer[project]) for project in it.pairs.values()]
+    if any(taken.count(node) > it.quota[node] for node in set(taken)):
         return "fault 1"
-    if set(price) != set(owed):
+    if set(it.price) != {*it.quota, *(("U", student) for student in it.lists)}:
         return "fault 2"
-    if any(read(row) < ZERO for row in price.values()):
+    if any(it.read(row) < ZERO for row in it.price.values()):
         return "fault 3"
-    for student, choices in lists.items():
+    for student, choices in it.lists.items():
         for rank, project in enumerate(choices, 1):
-            cost = added(price["U", student], price["Y", project], price["Z", offerer[project]])
-            if read(cost) < read(weight(rank)):
+            cost = added(it.price["U", student], it.price["Y", project], it.price["Z", it.offerer[project]])
+            if it.read(cost) < it.read(weight(rank)):
                 return f"fault 4 {student} {rank}"
-    worth = added(*(weight(lists[student].index(project) + 1) for student, project in pairs.items()))
-    paid = added(*(tuple(quota.get(node, 1) * number for number in row) for node, row in price.items()))
+    worth = added(*(weight(it.lists[student].index(project) + 1) for student, project in it.pairs.items()))
+    paid = added(*(tuple(it.quota.get(node, 1) * number for number in row) for node, row in it.price.items()))
     return "fault 5" if worth != paid else f"best size {worth[0]} profile {' '.join(map(str, worth[1:]))}"
 
 
 if __name__ == "__main__":
-    print(checked(open(sys.argv[1], encoding="ascii").read()))
+    print(checked(open(sys.argv[1], "rb").read().decode("latin-1")))

@@ -2,10 +2,12 @@
 """Runs every command of the walkthroughs, and compares what it prints with what they show.
 
 tools/walkthrough.py SPADESK [--write] [TEXT..]     needs curl, jq and sqlite3
-tools/walkthrough.py                                only compares the texts of the test with those of the example
+tools/walkthrough.py                                only compares the texts of the test with those of the example, and finds names of what
+                                                    is not there (tools/named.py)
 
 Each TEXT is one of WALKTHROUGHS, and without any all of them are run. The commands are the lines after a `$` in its console blocks;
-those of `rt`, which prove or build, stand in other blocks and are not run. Without any TEXT the snippet for nginx is tried too.
+those of `rt`, which prove or build, stand in other blocks and are not run. Without any TEXT the snippet for nginx is tried too, and
+what only clients and shells can see (tools/clients.py).
 They run from the top to the end in a folder of their own, beside the files of the walkthrough and links to this folder and to docs.
 With --write the text shows what was printed. After each line, and once `serve` has ended, a copy of the database file alone is held beside one with
 its log: each report on each must be the same, and each row that SQLite reads.
@@ -14,6 +16,7 @@ The lines of the first round, and what is served there, are also a test of the g
 texts of the example for its own. Here each of them is compared with the example, file by file, line by line and request by request,
 up to the title behind which the test has nothing.
 """
+import contextlib
 import difflib
 import os
 import re
@@ -24,6 +27,8 @@ import sys
 import tempfile
 import time
 
+import clients
+import named
 import nginx
 
 TOP = os.path.dirname(os.path.dirname(os.path.abspath(__file__)))
@@ -116,9 +121,15 @@ class Shell:
             it.wait(timeout=60)
         self.left = []
 
-    def compare_copies(self, command):
-        """Ends where the database file alone is not what it is with its log, though nothing has it open."""
-        if self.left or not os.path.exists(f"{self.folder}/school.db-wal"):
+    def log(self):
+        """When the log was last written, if there is one."""
+        with contextlib.suppress(FileNotFoundError):
+            return os.stat(f"{self.folder}/school.db-wal").st_mtime_ns
+
+    def compare_copies(self, command, log):
+        """Ends where the database file alone is not what it is with its log, though nothing has it open. A line that left the log as it was
+        did not open the database."""
+        if self.left or self.log() in (None, log):
             return
         if seen(self.folder, ["school.db"], self.env) != seen(self.folder, ["school.db", "school.db-wal"], self.env):
             sys.exit(f"after this a copy of the file alone is another office: {command}")
@@ -131,11 +142,12 @@ class Shell:
         if command == "kill $!":
             self.end(True)
             return ""
+        log = self.log()
         if command == "cat served.txt":
             self.end(False)
         ran = subprocess.run(command, shell=True, cwd=self.folder, env=self.env, stdout=subprocess.PIPE, stderr=subprocess.STDOUT, timeout=60)
         if command.startswith("spadesk ") or command == "cat served.txt":
-            self.compare_copies(command)
+            self.compare_copies(command, log)
         text = ran.stdout.decode().replace("\r\n", "\n")
         return text if text.endswith("\n") or not text else text + "\n"
 
@@ -168,6 +180,8 @@ def main(program=None, *words):
     is_written = "--write" in words
     if not is_written:
         compare_test()
+        if named.main():
+            sys.exit(1)
     if program is None:
         return
     differing = False
@@ -185,6 +199,7 @@ def main(program=None, *words):
     if differing:
         sys.exit(1)
     if not words:
+        clients.main(program)
         nginx.main(program)
 
 
