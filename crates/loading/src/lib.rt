@@ -5,7 +5,7 @@
 //! What was taken in is then tested as a whole.
 //!
 //! Promised: `gather` gives the fit office of these rows, and calls rows unfit only where no fit office has them. Begin
-//! with `specs/Gathering.antt` and `specs/Whole.antt`.
+//! with `specs/Inside/Gathering.antt` and `specs/Inside/Whole.antt`.
 #![tactic(auto)]
 
 mod draft;
