@@ -12,12 +12,11 @@ ghost use Rattle.intake.specs.Lines.{round_lines};
 ghost use Rattle.intake.specs.View.{parts_of};
 
 use crate::fields::{pieces, read_price, read_quota};
-use crate::guesses::Guesses;
 use crate::lookup::{Coded, next_code, position_at, position_in};
 use crate::round::RoundParts;
 use crate::section::{SectionName, section_of};
 use spa::{
-    Aim, Code, Instance, InstanceFault, MOST_PROJECTS, MOST_STUDENTS, MOST_SUPERVISORS, Matching,
+    Aim, Code, Guesses, Instance, InstanceFault, MOST_PROJECTS, MOST_STUDENTS, MOST_SUPERVISORS, Matching,
     PLACES, RANKS,
 };
 use std::alloc::{AllocError, Global};

@@ -12,7 +12,6 @@
 
 mod draft;
 mod fields;
-mod guesses;
 mod laws;
 mod lines;
 mod lookup;

@@ -18,7 +18,7 @@ fn may_end(draft: &Draft, last: &[u8]) -> bool
     last.is_empty() && draft.is_whole()
 }
 
-/// Reads a round text. A text of more than 262,144 bytes is too large, whatever its lines; else the first bad line is
+/// Reads a round text. A text of more than 524,288 bytes is too large, whatever its lines; else the first bad line is
 /// named, counted from 1. Whether the matching keeps the quotas is not judged.
 pub fn read_round(alloc: Global, text: &[u8]) -> Result<RoundParts, RoundFault>
     ensures reading { IsReading text.now result }

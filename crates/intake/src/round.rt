@@ -23,7 +23,7 @@ pub struct RoundParts {
 pub enum RoundFault {
     /// A growth of memory was refused.
     Memory,
-    /// The text has more than 262,144 bytes. This is judged before any line.
+    /// The text has more than 524,288 bytes. This is judged before any line.
     TooLarge,
     /// The first line, from 1, up to which the lines begin no round text; one more than the number of lines where the text
     /// ends too early.
