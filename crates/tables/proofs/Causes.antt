@@ -16,7 +16,7 @@ use Rattle.tables.specs.Faults.{fault_of}
 use Rattle.std.proofs.lemmas.Bool.{cases_Bool}
 use Rattle.tables.specs.Table.{Shape}
 use Rattle.tables.specs.Keyed.{have_ids, rises}
-use Rattle.tables.specs.Causes.{Moment, at_moment, IsHindered, IsRefused, IsStopped, IsTooLarge, IsUnread, showing}
+use Rattle.tables.specs.Causes.{Moment, at_moment, IsHindered, IsRefused, IsStopped, IsTooLarge, IsUnread, ShowsInOrder, showing}
 
 -- the connection was shut, or the disk failed once more, or this
 abbrev Ended : State → State → Type 0 → Type 0
@@ -109,14 +109,20 @@ module _ (sql : List ℕ) (shape : Shape) (it : IsSelect sql shape) (old new : S
       let again : FailsToShow here here sql h.0 (timed [] h.0.formats h.1.now) e h.0.returning = rw none (seen.0, seen.1, seen.2, at_rest old new sql []) in
       record { why = inr (inr (inl (refused old new sql [] (λ s e. FailsToQuery sql [] s s e) e other (inr (h.0, meant old new sql [] h.0 h.1, again))))) }
 
-  -- rowids that do not rise
-  pub unordered : (rows : List Row) → have_ids rows && rises rows ≡ false → Shown sql [] old new rows → IsStopped (IsUnread sql) old new
+  -- the same query again
+  shown_again : (rows : List Row) → Shown sql [] old new rows → Shown sql [] here here rows
   unfolding Shown meant
-  unordered rows mixed h =
+  shown_again rows h =
       let none = no_returning sql shape it old.now.schema h.0 h.1.is in
       let seen = rw none at h.2 in
       let again : ShowsRows here here sql h.0 (timed [] h.0.formats h.1.now) rows h.0.returning = rw none (seen.0, seen.1, seen.2, at_rest old new sql []) in
-      record { why = inr (inr (inr (record { limit = old.step_limit; in_transaction = old.in_transaction; marks = old.marks; rows = rows; shown = (h.0, meant old new sql [] h.0 h.1, again); unordered = mixed }))) }
+      (h.0, meant old new sql [] h.0 h.1, again)
+
+  -- rows that their rowids do not tell apart
+  pub unordered : (rows : List Row) → have_ids rows && rises rows ≡ false → ShowsInOrder sql rows old new → IsStopped (IsUnread sql) old new
+  unordered rows unkeyed h =
+      let again : ShowsInOrder sql rows here here = record { seen = h.seen; shown = shown_again h.seen h.shown; same = h.same; sorted = h.sorted } in
+      record { why = inr (inr (inr (record { limit = old.step_limit; in_transaction = old.in_transaction; marks = old.marks; rows = rows; shown = again; unkeyed = unkeyed }))) }
 
 -- one reason for another
 pub stopped_as : (H K : Option ℕ → Database → Type 0) (old new : State) → (H old.step_limit old.now → K old.step_limit old.now) → IsStopped H old new → IsStopped K old new

@@ -3,10 +3,9 @@ use Rattle.std.proofs.Common.{◌≡◌, arith, ℕ, List, [], ◌∷◌, ◌++�
 use Rattle.sqlite.specs.Order.{Row}
 use Rattle.sqlite.specs.Table.{Table}
 use Rattle.sqlite.specs.State.{State}
-use Rattle.sqlite.specs.Effect.{Database}
 use Rattle.tables.specs.Table.{Place}
 use Rattle.tables.specs.Keyed.{Stands}
-use Rattle.tables.specs.Writes.{Adds, Puts, Removes, Replaces, begins_with, without}
+use Rattle.tables.specs.Writes.{Adds, Puts, Replaces, begins_with, without}
 use Rattle.tables.specs.Steps.{HasStepped}
 use Rattle.tables.proofs.Runs.{writes_then}
 
@@ -52,11 +51,3 @@ module _ (table : Place → Table) (key : Row) (given : Row) where
         let then = q.step place (without key rows) mid in
         (then.0, writes_then place.tree a.now b.now c.now it.1 then.1);
   }
-
--- where there was none it is as if those with the key had been taken out
-pub finds_none : (table : Place → Table) (key given : Row) (count : ℕ) (a b : Database) → count ≡ 0 → Replaces table key given count a b → Removes table (begins_with key) a b
-unfolding Removes
-finds_none table key given count a b zero p place rows inert stands =
-    let it = p place rows inert stands in
-    let empty = none (filter (begins_with key) rows) (sym zero ∙ it.2) in
-    (subst (λ (first : List Row). Stands table place (map (λ (_ : Row). given) first ++ without key rows) b) empty it.0, it.1)

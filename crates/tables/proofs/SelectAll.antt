@@ -1,5 +1,5 @@
 -- SELECT of the columns of a whole table, under any schema that lists it.
-use Rattle.std.proofs.Common.{◌≡◌, ℕ, List, [], ◌∷◌, codes, slice_get, slice_range, Some, None, Ok, Err, Result, refl, sym, ap, subst, ◌∙◌, false, true, drop, pos, negsuc, Bool, if◌then◌else◌, map, unwrap_or, nat_le, nat_lt, ◌-◌, ◌^◌, subst₂, append-nil}
+use Rattle.std.proofs.Common.{◌≡◌, ℕ, List, [], ◌∷◌, codes, slice_get, slice_range, Some, None, Ok, Err, refl, sym, ap, subst, ◌∙◌, false, true, drop, pos, negsuc, Bool, if◌then◌else◌, map, unwrap_or, nat_le, nat_lt, ◌-◌, ◌^◌, subst₂, append-nil}
 use Rattle.sqlite.specs.Schema.{Schema}
 use Rattle.sqlite.specs.Compile.{compiled, first, timed, returning, command, read}
 use Rattle.sqlite_syntax.specs.declared.statement.Parsed.{Parsed}
@@ -35,7 +35,7 @@ use Rattle.sqlite.specs.State.{State, Shown as HasShown, IsUnchanged, text_of}
 use Rattle.sqlite_resolve.specs.declared.compiled.Compiled.{Compiled}
 use Rattle.tables.proofs.Understood.{planned_of, compiled_of, Means}
 use Rattle.std.specs.List.Sorted.{IsPermutation}
-use Rattle.std.proofs.lemmas.List.Sorted.{IsPermutation-map, IsPermutation-sym}
+use Rattle.std.proofs.lemmas.List.Sorted.{IsPermutation-map, IsPermutation-sym, IsPermutation-trans}
 use Rattle.std.proofs.lemmas.List.Concat.{flat_map_single}
 use Rattle.sqlite.specs.Tree.{Trees}
 use Rattle.sqlite.specs.Order.{Row}
@@ -47,10 +47,8 @@ use Rattle.tables.specs.Table.{Place, Shape, Lists, made_at}
 use Rattle.tables.specs.Keyed.{IsKeyed, Stands}
 use Rattle.tables.specs.Steps.{Shows, Rests}
 use Rattle.tables.specs.Inside.Steps.{RanQuery}
-use Rattle.tables.specs.declared.fault.TableFault.{TableFault}
-use Rattle.std.specs.declared.alloc.Global.{Global}
-use Rattle.std.proofs.Common.{Vec, IfOk, inl, inr}
-use Rattle.tables.proofs.Rowids.{keyed_by_ids}
+use Rattle.std.proofs.Common.{inl, inr}
+use Rattle.tables.proofs.Rowids.{keyed_by_ids, keyed_permuted}
 use Rattle.sqlite_keyed.proofs.ListLemmas.{map-map}
 use Rattle.sqlite.specs.State.{CommitsShowing, IsRolledBack, FailsToQuery, IsNotRun}
 use Rattle.sqlite.specs.declared.error.Error.{Error}
@@ -316,14 +314,14 @@ module _ (sql : List ℕ) (shape : Shape) (it : IsSelect sql shape) where
       let seen = rw (no_returning old.now.schema h.0 h.1.is) at h.2 in
       seen.3
 
-  -- the same of a call that answers them
-  pub read_shows : (old new : State) (result : Result (Vec Row Global) TableFault) → IfOk result (λ rows. IsKeyed rows.items) → IfOk result (λ rows. HasShown sql [] old new rows.items)
-      → IfOk result (λ rows. Shows (made_at shape) rows.items old new)
-  read_shows old new (Ok rows) keyed seen = record {
-    same = select_unchanged old new rows.items seen;
-    stands = λ place listed low. (select_reads old new rows.items place listed low keyed seen).0;
+  -- the same of a call that answers them in another order
+  pub read_shows : (old new : State) (seen rows : List Row) → IsPermutation seen rows → IsKeyed rows → HasShown sql [] old new seen → Shows (made_at shape) rows old new
+  read_shows old new seen rows same keyed shown = record {
+    same = select_unchanged old new seen shown;
+    stands = λ place listed low.
+        let stood = (select_reads old new seen place listed low (keyed_permuted rows seen (IsPermutation-sym _ _ same) keyed) shown).0 in
+        record { listed = stood.listed; keyed = stood.keyed; holds = IsPermutation-trans _ _ _ (IsPermutation-sym _ _ (IsPermutation-map (drop 1) _ _ same)) stood.holds };
   }
-  read_shows old new (Err fault) keyed seen = seen
 
   -- the text commits nothing
   pub select_commits : (old : State) (params : Row) (db : Trees) → CommitsShowing sql params old db → ⊥

@@ -1,5 +1,5 @@
 -- What the statements of each table do.
-use Rattle.std.proofs.Common.{◌≡◌, ◌<◌, ◌≤◌, inl, inr, sym, ◌∙◌, ℕ, List, [], refl, subst, length, take, Result, Ok, Err, IfOk, IfErr, Vec}
+use Rattle.std.proofs.Common.{◌≡◌, ◌<◌, ◌≤◌, inl, inr, sym, ◌∙◌, ℕ, List, [], refl, subst, length, take, Result, Ok, Err, IfOk, IfErr, OnOk, Vec}
 use Rattle.std.specs.declared.alloc.Global.{Global}
 use Rattle.sqlite.specs.Order.{Row}
 use Rattle.sqlite.specs.State.{State, HasCleanDisk, Survives, Shown, CommitsShowing}
@@ -18,11 +18,11 @@ use Rattle.tables.proofs.UpdateRow.{update_replaces, update_writes}
 use Rattle.tables.proofs.DeleteRows.{delete_removes, delete_writes}
 use Rattle.tables.proofs.SelectAll.{read_shows, select_commits, select_rests}
 use Rattle.tables.proofs.Runs.{stepped_by}
+use Rattle.tables.proofs.Understood.{written}
 use Rattle.tables.proofs.Texts.{create_is, insert_is, update_is, delete_is, select_is, removal_is}
 use Rattle.tables.proofs.Tables.{group_text, texts}
-use Rattle.tables.proofs.PutRow.{finds_none}
 use Rattle.tables.proofs.Causes.{inside_so, moment_of, stopped_after, stopped_as, unordered, unread}
-use Rattle.tables.specs.Causes.{FailsToPut, FailsToRead, FailsToWrite, IsHindered, IsHinderedToPut, IsStopped, IsUnread}
+use Rattle.tables.specs.Causes.{FailsToPut, FailsToRead, FailsToWrite, IsHindered, IsHinderedToPut, IsStopped, IsUnread, ShowsInOrder, Went, WentPutting, WentThrough}
 use Rattle.tables.specs.declared.fault.TableFault.TheVariants.{Storage}
 
 module _ (table : Table) (told : Sql) (is : told ≡ sql_of table) (old new : State) (count : ℕ) where
@@ -46,6 +46,28 @@ module _ (table : Table) (told : Sql) (is : told ≡ sql_of table) (old new : St
       stepped_by _ _ _ _ _ _ (delete_writes (sql_of table).delete (shape_of table) (take (shape_of table).named (kinds_of table)) begins_with (delete_is table (texts table))) (delete_removes (sql_of table).delete (shape_of table) (take (shape_of table).named (kinds_of table)) begins_with (delete_is table (texts table)) old new key count fits)
       (subst (λ (sql : Sql). HasRun sql.delete key count old new) is run)
 
+  -- and as statements
+  pub went_creating : HasRun told.create [] count old new → Went (sql_of table).create [] old.step_limit old.now new.now
+  went_creating run =
+      let writes = create_writes (sql_of table).create (shape_of table) (rules_of table) (create_is table (texts table)) in
+      (count, written _ _ old new count writes (subst (λ (sql : Sql). HasRun sql.create [] count old new) is run).ran)
+
+  pub went_inserting : (row : Row) → HasRun told.insert row count old new → Went (sql_of table).insert row old.step_limit old.now new.now
+  went_inserting row run =
+      let writes = insert_writes (sql_of table).insert (shape_of table) (kinds_of table) (insert_is table (texts table)) in
+      (count, written _ _ old new count writes (subst (λ (sql : Sql). HasRun sql.insert row count old new) is run).ran)
+
+  pub went_updating : (row : Row) → HasRun told.update row count old new → WentThrough (sql_of table).update row count old.step_limit old.now new.now
+  went_updating row run =
+      let writes = update_writes (sql_of table).update (shape_of table) (kinds_of table) (length (shape_of table).primary) (update_is table (texts table)) in
+      written _ _ old new count writes (subst (λ (sql : Sql). HasRun sql.update row count old new) is run).ran
+
+  pub went_deleting : (key : Row) → HasRun told.delete key count old new → Went (sql_of table).delete key old.step_limit old.now new.now
+  went_deleting key run =
+      let kinds = take (shape_of table).named (kinds_of table) in
+      let writes = delete_writes (sql_of table).delete (shape_of table) kinds begins_with (delete_is table (texts table)) in
+      (count, written _ _ old new count writes (subst (λ (sql : Sql). HasRun sql.delete key count old new) is run).ran)
+
 -- a group of rows was taken away
 module _ (rows : Group) (text : List ℕ) (is : text ≡ (sharing rows).removal) (old new : State) (count : ℕ) (key : Row) (fits : IsNamed rows key) where
   abbrev s : Sharing
@@ -58,12 +80,21 @@ module _ (rows : Group) (text : List ℕ) (is : text ≡ (sharing rows).removal)
       (delete_removes s.removal (shape_of s.table) (kinds_shared rows) (goes_on s.before) it old new key count fits)
       (subst (λ sql. HasRun sql key count old new) is run)
 
+  pub went_removing : HasRun text key count old new → Went s.removal key old.step_limit old.now new.now
+  went_removing run =
+      let it = removal_is s.table (texts s.table) s.removal s.before s.shared (group_text rows) in
+      let writes = delete_writes s.removal (shape_of s.table) (kinds_shared rows) (goes_on s.before) it in
+      (count, written _ _ old new count writes (subst (λ sql. HasRun sql key count old new) is run).ran)
+
 module _ (table : Table) (told : Sql) (is : told ≡ sql_of table) (old new : State) where
   -- what a reading shows of the table
-  pub rows_are : (result : Result (Vec Row Global) TableFault) → IfOk result (λ rows. IsKeyed rows.items) → IfOk result (λ rows. Shown told.select [] old new rows.items)
+  pub rows_are : (result : Result (Vec Row Global) TableFault) → IfOk result (λ rows. IsKeyed rows.items)
+      → IfOk result (λ rows. ShowsInOrder told.select rows.items old new)
       → IfOk result (λ rows. Shows (table_at table) rows.items old new)
-  rows_are result keyed seen =
-      read_shows (sql_of table).select (shape_of table) (select_is table (texts table)) old new result keyed (subst (λ (sql : Sql). IfOk result (λ rows. Shown sql.select [] old new rows.items)) is seen)
+  rows_are (Ok rows) keyed seen =
+      let shown = subst (λ (sql : Sql). Shown sql.select [] old new seen.seen) is seen.shown in
+      read_shows (sql_of table).select (shape_of table) (select_is table (texts table)) old new seen.seen rows.items seen.same keyed shown
+  rows_are (Err fault) keyed seen = seen
 
   -- it commits nothing
   pub commits_none : (params : Row) (db : Trees) → CommitsShowing told.select params old db → ⊥
@@ -81,6 +112,11 @@ module _ (table : Table) (told : Sql) (is : told ≡ sql_of table) (old new : St
       go (inl (e, fails, is)) = unread (sql_of table).select (shape_of table) (select_is table (texts table)) old new e (sym is ∙ storage) fails
       go (inr (rows, shown, mixed, is)) = unordered (sql_of table).select (shape_of table) (select_is table (texts table)) old new rows mixed shown
 
+-- what holds where a call answers brings another
+pub on_ok : {A E : Type 0} (r : Result A E) (P Q : Type 0) → (P → Q) → OnOk r P → OnOk r Q
+on_ok (Ok a) P Q f p = f p
+on_ok (Err e) P Q f p = tt
+
 -- why a row cannot be put
 module _ (table : Table) (row : Row) (old new : State) where
   abbrev Unput : Type 0
@@ -89,9 +125,23 @@ module _ (table : Table) (row : Row) (old new : State) where
   pub unreplaced : IsStopped (IsHindered (sql_of table).update row) old new → Unput
   unreplaced = stopped_as _ _ old new (λ h. inl h)
 
-  pub unadded : (mid : State) (count : ℕ) → count ≡ 0 → Survives old mid (λ _. ⊥) → HasCleanDisk mid → mid.faults ≤ new.faults → HasStepped (Replaces (table_at table) (key_in table row) row count) old mid → IsStopped (IsHindered (sql_of table).insert row) mid new → Unput
+  pub unadded : (mid : State) (count : ℕ) → count ≡ 0 → Survives old mid (λ _. ⊥) → HasCleanDisk mid → mid.faults ≤ new.faults
+      → WentThrough (sql_of table).update row count old.step_limit old.now mid.now → IsStopped (IsHindered (sql_of table).insert row) mid new → Unput
   unadded mid count zero survives clean up did =
-      stopped_after _ _ old mid new survives clean up (λ h. inr (inl (record { between = mid.now; none = finds_none (table_at table) _ _ count _ _ zero did.step; hindered = h })))
+      let none = subst (λ n. WentThrough (sql_of table).update row n old.step_limit old.now mid.now) zero did in
+      stopped_after _ _ old mid new survives clean up (λ h. inr (inl (record { between = mid.now; none = none; hindered = h })))
+
+  -- a put went through in one statement, or in two
+  pub went_once : (count : ℕ) → count ≡ 1 → WentThrough (sql_of table).update row count old.step_limit old.now new.now
+      → WentPutting table row old.step_limit old.now new.now
+  went_once count one did = inl (subst (λ n. WentThrough (sql_of table).update row n old.step_limit old.now new.now) one did)
+
+  pub went_twice : (mid : State) (count : ℕ) → count ≡ 0 → mid.step_limit ≡ old.step_limit
+      → WentThrough (sql_of table).update row count old.step_limit old.now mid.now → Went (sql_of table).insert row mid.step_limit mid.now new.now
+      → WentPutting table row old.step_limit old.now new.now
+  went_twice mid count zero limit did then =
+      let none = subst (λ n. WentThrough (sql_of table).update row n old.step_limit old.now mid.now) zero did in
+      inr (record { between = mid.now; none = none; added = subst (λ l. Went (sql_of table).insert row l mid.now new.now) limit then })
 
   pub several : (count : ℕ) → 1 < count → HasStepped (Replaces (table_at table) (key_in table row) row count) old new → Unput
   several count many did = record { why = inr (inr (inr (inr (record { count = count; several = many; after = new.now; replaced = did.step })))) }

@@ -1,12 +1,15 @@
 -- Why a statement is not carried out, for another cause than want of memory.
-use Rattle.std.specs.Prelude.{◌≡◌, ◌⊎◌, ◌<◌, ◌&&◌, ℕ, ℤ, pos, Bool, true, false, codes, List, [], Option, None, Result, Err, IfErr}
+use Rattle.std.specs.Prelude.{◌≡◌, ◌⊎◌, ◌<◌, ◌&&◌, ℕ, ℤ, pos, Bool, true, false, codes, List, [], Option, None, unwrap_or, Result, Ok, Err, IfErr, OnOk}
+use Rattle.std.specs.List.Sorted.{IsPermutation, IsSorted}
+use Rattle.std.specs.declared.cmp.Ordering.{Ordering}
 use Rattle.sqlite_disk.specs.Disk.{MoreFaults}
 use Rattle.sqlite_resolve.specs.declared.compiled.Compiled.{Compiled}
 use Rattle.sqlite.specs.declared.error.Error.{Error}
-use Rattle.sqlite.specs.Order.{Row}
+use Rattle.sqlite.specs.Order.{Row, value_cmp}
+use Rattle.sqlite.specs.Tree.{rowid}
 use Rattle.sqlite.specs.Clock.{timed}
-use Rattle.sqlite.specs.Effect.{Database}
-use Rattle.sqlite.specs.Does.{Does}
+use Rattle.sqlite.specs.Effect.{Database, IsDatabase, SparesFrozen}
+use Rattle.sqlite.specs.Does.{Does, Tally}
 use Rattle.sqlite.specs.State.{State, HasCleanDisk, Savepoint, IsStatement, IsNotRun, ExecutesInside, FailsToQuery, Shown, mode_of, text_of}
 use Rattle.tables.specs.declared.fault.TableFault.{TableFault}
 use Rattle.tables.specs.declared.fault.TableFault.TheVariants.{Storage}
@@ -14,7 +17,7 @@ use Rattle.tables.specs.declared.table.Table.{Table}
 use Rattle.tables.specs.Faults.{fault_of}
 use Rattle.tables.specs.Keyed.{have_ids, rises}
 use Rattle.tables.specs.Table.{sql_of, table_at, key_in}
-use Rattle.tables.specs.Writes.{Removes, Replaces, begins_with}
+use Rattle.tables.specs.Writes.{Replaces}
 
 -- an open connection that shows this database
 abbrev pub showing : Option ℕ → Bool → List Savepoint → Database → State
@@ -50,27 +53,62 @@ pub record IsTooLarge (sql : List ℕ) (params : Row) (limit : Option ℕ) (db :
   pub is : IsStatement (showing limit in_transaction marks db) sql params meant
   pub large : Does limit (mode_of (showing limit in_transaction marks db)) (timed params meant.formats is.now) db (text_of sql meant) meant.returning meant.command (Err None)
 
+-- over an open connection that shows this database a statement of this text goes through, writes so many rows, and leaves this database
+pub record WentThrough (sql : List ℕ) (params : Row) (count : ℕ) (limit : Option ℕ) (db now : Database) : Type 0 where
+  pub meant : Compiled
+  pub is : IsStatement (showing limit true [] db) sql params meant
+  pub tally : Tally
+  pub does : Does limit (mode_of (showing limit true [] db)) (timed params meant.formats is.now) db (text_of sql meant) meant.returning meant.command (Ok (tally, now))
+  pub counted : count ≡ unwrap_or tally.rows 0
+  pub frozen : SparesFrozen db now
+  pub sound : IsDatabase now
+
+-- the same, over however many rows
+abbrev pub Went : List ℕ → Row → Option ℕ → Database → Database → Type 0
+Went sql params limit db now = (count : ℕ) × WentThrough sql params count limit db now
+
+-- a row more, after an update by its key that found none
+pub record WentAdding (table : Table) (row : Row) (limit : Option ℕ) (db now : Database) : Type 0 where
+  pub between : Database
+  pub none : WentThrough (sql_of table).update row 0 limit db between
+  pub added : Went (sql_of table).insert row limit between now
+
+-- a put of the row goes through: the one with its key is replaced, or it is added
+abbrev pub WentPutting : Table → Row → Option ℕ → Database → Database → Type 0
+WentPutting table row limit db now = WentThrough (sql_of table).update row 1 limit db now ⊎ WentAdding table row limit db now
+
 -- a statement of this text is refused
 abbrev pub IsHindered : List ℕ → Row → Option ℕ → Database → Type 0
 IsHindered sql params limit db = IsRefused (λ s e. ExecutesInside 0 sql params s s (Err e)) limit db ⊎ IsTooLarge sql params limit db
 
--- the rowids that a query of this text shows are no integers, or do not rise
-pub record ShowsUnordered (sql : List ℕ) (db : Database) : Type 0 where
+-- rows in the order of their rowids
+abbrev pub by_rowid : Row → Row → Ordering
+by_rowid a b = value_cmp (rowid a) (rowid b)
+
+-- a query of this text showed these rows, which are put in the order of their rowids here
+pub record ShowsInOrder (sql : List ℕ) (rows : List Row) (old new : State) : Type 0 where
+  pub seen : List Row
+  pub shown : Shown sql [] old new seen
+  pub same : IsPermutation seen rows
+  pub sorted : IsSorted by_rowid rows
+
+-- the rowids that a query of this text shows are no integers, or two of them are one: in their order they do not rise
+pub record ShowsUnkeyed (sql : List ℕ) (db : Database) : Type 0 where
   pub limit : Option ℕ
   pub in_transaction : Bool
   pub marks : List Savepoint
   pub rows : List Row
-  pub shown : let s = showing limit in_transaction marks db in Shown sql [] s s rows
-  pub unordered : have_ids rows && rises rows ≡ false
+  pub shown : let s = showing limit in_transaction marks db in ShowsInOrder sql rows s s
+  pub unkeyed : have_ids rows && rises rows ≡ false
 
--- a query of this text is refused, or shows rows in another order
+-- a query of this text is refused, or shows rows that their rowids do not tell apart
 abbrev pub IsUnread : List ℕ → Option ℕ → Database → Type 0
-IsUnread sql limit db = IsRefused (λ s e. FailsToQuery sql [] s s e) limit db ⊎ ShowsUnordered sql db
+IsUnread sql limit db = IsRefused (λ s e. FailsToQuery sql [] s s e) limit db ⊎ ShowsUnkeyed sql db
 
--- a query failed with an error that is this fault, or it showed rows in another order
+-- a query failed with an error that is this fault, or it showed rows that their rowids do not tell apart
 abbrev pub FailsToRead : List ℕ → TableFault → State → State → Type 0
 FailsToRead sql fault old new =
-    ((e : Error) × FailsToQuery sql [] old new e × (fault ≡ fault_of e)) ⊎ ((rows : List Row) × Shown sql [] old new rows × (have_ids rows && rises rows ≡ false) × (fault ≡ Storage))
+    ((e : Error) × FailsToQuery sql [] old new e × (fault ≡ fault_of e)) ⊎ ((rows : List Row) × ShowsInOrder sql rows old new × (have_ids rows && rises rows ≡ false) × (fault ≡ Storage))
 
 -- a statement of this text failed with an error that is this fault
 abbrev pub FailsToWrite : List ℕ → Row → TableFault → State → State → Type 0
@@ -131,7 +169,7 @@ FailsToPut table row fault old new = FailsToWrite (sql_of table).update row faul
 -- the row can't be added, where there is none with its key
 pub record IsHinderedToAdd (table : Table) (row : Row) (limit : Option ℕ) (db : Database) : Type 0 where
   pub between : Database
-  pub none : Removes (table_at table) (begins_with (key_in table row)) db between
+  pub none : WentThrough (sql_of table).update row 0 limit db between
   pub hindered : IsHindered (sql_of table).insert row limit between
 
 -- a put of the row is refused: as it replaces the row with its key, or as it is added, or since several rows have its key
@@ -154,3 +192,7 @@ IsCausedInside Hinders result old new = old.in_transaction ≡ true → IsCaused
 -- where a call in a transaction fails, it tells a fault of this kind, unless the disk gave back other bytes than it was given
 abbrev pub IsToldInside : {A : Type 0} → (TableFault → State → State → Type 0) → Result A TableFault → State → State → Type 0
 IsToldInside Fails result old new = HasCleanDisk new → old.in_transaction ≡ true → IfErr result (λ fault. Fails fault old new)
+
+-- where a call in a transaction answers, it went so, unless the disk gave back other bytes than it was given
+abbrev pub IsRunInside : {A : Type 0} → (Option ℕ → Database → Database → Type 0) → Result A TableFault → State → State → Type 0
+IsRunInside Ran result old new = HasCleanDisk new → OnOk result (Ran old.step_limit old.now new.now)

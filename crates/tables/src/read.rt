@@ -1,12 +1,13 @@
 //! Reading a whole table.
 
 ghost use Rattle.std.specs.Prelude.{◌≡◌, ◌&&◌, IfOk, IfErr, IsTrue, false, []};
-ghost use Rattle.sqlite.specs.State.{HasCleanDisk, Shown, Survives, CommitsShowing};
+ghost use Rattle.std.specs.List.Sorted.{IsPermutation, IsSorted};
+ghost use Rattle.sqlite.specs.State.{HasCleanDisk, Survives, CommitsShowing};
 ghost use Rattle.sqlite.specs.Held.{state};
 ghost use Rattle.sqlite_value.specs.Value.{owned};
 ghost use Rattle.sqlite_trees.specs.Tree.{rowid};
 ghost use Rattle.sqlite_trees.specs.View.{is_int};
-ghost use Rattle.tables.specs.Causes.{FailsToRead};
+ghost use Rattle.tables.specs.Causes.{FailsToRead, ShowsInOrder, by_rowid};
 ghost use Rattle.tables.specs.Inside.Steps.{RanQuery};
 ghost use Rattle.tables.specs.Keyed.{IsKeyed, comes_first, rises, have_ids};
 
@@ -32,11 +33,17 @@ fn has_id(row: &Row) -> bool
     matches!(id_of(row), ValueRef::Int(_))
 }
 
+fn by_rowid(a: &Row, b: &Row) -> Ordering
+    ensures { result ≡ by_rowid a.now b.now }
+{
+    compare(id_of(a), id_of(b))
+}
+
 fn comes_first(row: &Row, more: &[Row]) -> bool
     ensures { result ≡ comes_first row.now more.now }
 {
     match more {
-        [next, ..] => compare(id_of(row), id_of(next)) == Ordering::Less,
+        [next, ..] => by_rowid(row, next) == Ordering::Less,
         [] => true,
     }
 }
@@ -69,21 +76,30 @@ fn are_keyed(rows: &[Row]) -> bool
     have_ids(rows) && rise(rows)
 }
 
-/// The rows that a query shows, each after its rowid.
+/// Puts the rows in the order of their rowids.
+fn put_in_order(rows: &mut Vec<Row>)
+    ensures same { IsPermutation rows.old.items rows.new.items }
+    ensures sorted { IsSorted by_rowid rows.new.items }
+{
+    rows.sort_unstable_by(by_rowid);
+}
+
+/// The rows that a query shows, each after its rowid, in the order of these.
 pub(crate) fn read_text<S: Alter>(
     conn: &mut Connection<S>,
     sql: &str,
 ) -> Result<Vec<Row>, TableFault>
     ensures keyed { IfOk result (λ rows. IsKeyed rows.items) }
-    ensures shown { HasCleanDisk (state S.Store conn.new) → IfOk result (λ rows. Shown sql.now [] (state S.Store conn.old) (state S.Store conn.new) rows.items) }
+    ensures shown { HasCleanDisk (state S.Store conn.new) → IfOk result (λ rows. ShowsInOrder sql.now rows.items (state S.Store conn.old) (state S.Store conn.new)) }
     ensures ran { HasCleanDisk (state S.Store conn.new) → RanQuery sql.now (state S.Store conn.old) (state S.Store conn.new) }
 
-    // Why it fails: the query fails, and the fault is that of its error, or its rows are in another order.
+    // Why it fails: the query fails, and the fault is that of its error, or two of its rows have one rowid, or one has none.
     ensures told { HasCleanDisk (state S.Store conn.new) → IfErr result (λ fault. FailsToRead sql.now fault (state S.Store conn.old) (state S.Store conn.new)) }
     ensures mode { conn.old.in_transaction ≡ false → conn.new.in_transaction ≡ false }
     ensures survives { Survives (state S.Store conn.old) (state S.Store conn.new) (CommitsShowing sql.now [] (state S.Store conn.old)) }
 {
-    let rows = conn.query_all(sql, &[])?;
+    let mut rows = conn.query_all(sql, &[])?;
+    put_in_order(&mut rows);
     if !are_keyed(rows.as_slice()) {
         return Err(TableFault::Storage);
     }

@@ -5,7 +5,7 @@ ghost use Rattle.sqlite.specs.State.{HasCleanDisk, Survives};
 ghost use Rattle.sqlite.specs.Values.{bound};
 ghost use Rattle.sqlite.specs.Held.{state};
 ghost use Rattle.tables.specs.declared.fault.TableFault.TheVariants.{Storage};
-ghost use Rattle.tables.specs.Causes.{FailsToPut, FailsToRead, FailsToWrite, IsCaused, IsCausedInside, IsHindered, IsHinderedToPut, IsToldInside, IsUnread};
+ghost use Rattle.tables.specs.Causes.{FailsToPut, FailsToRead, FailsToWrite, IsCaused, IsCausedInside, IsHindered, IsHinderedToPut, IsRunInside, IsToldInside, IsUnread, Went, WentPutting};
 ghost use Rattle.tables.specs.Table.{IsKeyOf, IsNamed, IsRowOf, key_in, rules_of, sharing, sql_of, table_at};
 ghost use Rattle.tables.specs.Writes.{Adds, Makes, Puts, Removes, begins_with, goes_on};
 ghost use Rattle.tables.specs.Steps.{Does, HasStepped, Rests, Shows};
@@ -21,6 +21,7 @@ use sqlite_value::value::ValueRef;
 pub fn make<S: Alter>(tx: &mut Transaction<'_, S>, table: Table) -> Wrote
     ensures same_reference { tx.new.conn.ghost_name ≡ tx.old.conn.ghost_name }
     ensures step { Does (HasStepped (Makes (table_at table) (rules_of table) [])) result (state S.Store tx.old.conn.now) (state S.Store tx.new.conn.now) }
+    ensures ran { IsRunInside (Went (sql_of table).create []) result (state S.Store tx.old.conn.now) (state S.Store tx.new.conn.now) }
     ensures told { IsToldInside (FailsToWrite (sql_of table).create []) result (state S.Store tx.old.conn.now) (state S.Store tx.new.conn.now) }
     ensures cause { IsCausedInside (IsHindered (sql_of table).create []) result (state S.Store tx.old.conn.now) (state S.Store tx.new.conn.now) }
 {
@@ -34,6 +35,7 @@ pub fn insert<S: Alter>(tx: &mut Transaction<'_, S>, table: Table, row: &[ValueR
 
     ensures same_reference { tx.new.conn.ghost_name ≡ tx.old.conn.ghost_name }
     ensures step { Does (HasStepped (Adds (table_at table) (key_in table (bound row.now)) (bound row.now))) result (state S.Store tx.old.conn.now) (state S.Store tx.new.conn.now) }
+    ensures ran { IsRunInside (Went (sql_of table).insert (bound row.now)) result (state S.Store tx.old.conn.now) (state S.Store tx.new.conn.now) }
     ensures told { IsToldInside (FailsToWrite (sql_of table).insert (bound row.now)) result (state S.Store tx.old.conn.now) (state S.Store tx.new.conn.now) }
     ensures cause { IsCausedInside (IsHindered (sql_of table).insert (bound row.now)) result (state S.Store tx.old.conn.now) (state S.Store tx.new.conn.now) }
 {
@@ -47,6 +49,7 @@ pub fn put<S: Alter>(tx: &mut Transaction<'_, S>, table: Table, row: &[ValueRef<
 
     ensures same_reference { tx.new.conn.ghost_name ≡ tx.old.conn.ghost_name }
     ensures step { Does (HasStepped (Puts (table_at table) (key_in table (bound row.now)) (bound row.now))) result (state S.Store tx.old.conn.now) (state S.Store tx.new.conn.now) }
+    ensures ran { IsRunInside (WentPutting table (bound row.now)) result (state S.Store tx.old.conn.now) (state S.Store tx.new.conn.now) }
     ensures told { IsToldInside (FailsToPut table (bound row.now)) result (state S.Store tx.old.conn.now) (state S.Store tx.new.conn.now) }
     ensures cause { IsCausedInside (IsHinderedToPut table (bound row.now)) result (state S.Store tx.old.conn.now) (state S.Store tx.new.conn.now) }
 {
@@ -63,6 +66,7 @@ pub fn delete<S: Alter>(tx: &mut Transaction<'_, S>, table: Table, key: &[ValueR
 
     ensures same_reference { tx.new.conn.ghost_name ≡ tx.old.conn.ghost_name }
     ensures step { Does (HasStepped (Removes (table_at table) (begins_with (bound key.now)))) result (state S.Store tx.old.conn.now) (state S.Store tx.new.conn.now) }
+    ensures ran { IsRunInside (Went (sql_of table).delete (bound key.now)) result (state S.Store tx.old.conn.now) (state S.Store tx.new.conn.now) }
     ensures told { IsToldInside (FailsToWrite (sql_of table).delete (bound key.now)) result (state S.Store tx.old.conn.now) (state S.Store tx.new.conn.now) }
     ensures cause { IsCausedInside (IsHindered (sql_of table).delete (bound key.now)) result (state S.Store tx.old.conn.now) (state S.Store tx.new.conn.now) }
 {
@@ -80,6 +84,7 @@ pub fn delete_group<S: Alter>(
 
     ensures same_reference { tx.new.conn.ghost_name ≡ tx.old.conn.ghost_name }
     ensures step { Does (HasStepped (let rows = sharing group in Removes (table_at rows.table) (goes_on rows.before (bound key.now)))) result (state S.Store tx.old.conn.now) (state S.Store tx.new.conn.now) }
+    ensures ran { IsRunInside (Went (sharing group).removal (bound key.now)) result (state S.Store tx.old.conn.now) (state S.Store tx.new.conn.now) }
     ensures told { IsToldInside (FailsToWrite (sharing group).removal (bound key.now)) result (state S.Store tx.old.conn.now) (state S.Store tx.new.conn.now) }
     ensures cause { IsCausedInside (IsHindered (sharing group).removal (bound key.now)) result (state S.Store tx.old.conn.now) (state S.Store tx.new.conn.now) }
 {

@@ -1,6 +1,6 @@
 use Rattle.std.proofs.Common.{rules}
 use Rattle.tables.proofs.Runs.{part_ok}
-use Rattle.tables.proofs.Told.{group_removed}
+use Rattle.tables.proofs.Told.{group_removed, went_removing}
 use Rattle.tables.proofs.Causes.{stopped_by}
 use Rattle.tables.proofs.statements.delete_group.Goals as goal
 
@@ -9,3 +9,6 @@ returns-clause-step g c = part_ok _ _ _ _ _ _ (group_removed c.args.group _ c.re
 
 pub returns-in_err-write-clause-cause : goal.returns-in_err-write-clause-cause
 returns-in_err-write-clause-cause g c inside clean h = stopped_by _ _ (λ sql. sql) _ _ _ c.removal.ensures (c.write.ensures.cause inside clean (search rules))
+
+pub returns-clause-ran : goal.returns-clause-ran
+returns-clause-ran g c clean = went_removing c.args.group _ c.removal.ensures _ _ _ _ c.requires (c.in_ok-write.ensures.step.did clean)
