@@ -1,13 +1,22 @@
 -- What a fault tells of the kinds by which `clap` fails.
-use Rattle.std.proofs.Common.{◌≡◌, ◌⊎◌, inl, inr, subst, refl}
+use Rattle.std.proofs.Common.{◌≡◌, ◌⊎◌, inl, inr, subst, refl, sym, Result, Ok, Err, MatchResult, String}
+use Rattle.std.specs.declared.alloc.Global.{Global}
 use Rattle.clap.specs.Words.{IsAmong}
 use Rattle.clap.specs.Words.{Kinds as ErrorKinds}
 use Rattle.clap.specs.declared.error.kind.ErrorKind.{ErrorKind}
 use Rattle.clap.specs.declared.error.kind.ErrorKind.TheVariants.{OutOfMemory}
 use Rattle.commands.specs.Reading.{IsFaultOf}
-use Rattle.commands.specs.Inside.Reading.{IsToldBy}
+use Rattle.commands.specs.Inside.Reading.{IsFaultAs, IsToldBy}
 use Rattle.commands.specs.declared.line.LineFault.{LineFault}
 use Rattle.commands.specs.declared.line.LineFault.TheVariants.{Memory, Help, Fault}
+
+-- the fault of an error tells its kind
+pub told_by : {E : Type 0} (kind : ErrorKind) (text : Result (String Global) E) (fault : LineFault) → MatchResult text (λ t. IsFaultAs kind t fault) (λ _. fault ≡ Memory)
+    → IsToldBy kind fault
+told_by kind (Err e) fault is = subst (IsToldBy kind) (sym is) tt
+told_by kind (Ok t) fault (inl memory) = subst (IsToldBy kind) (sym memory.1) tt
+told_by kind (Ok t) fault (inr (inl help)) = subst (IsToldBy kind) (sym help.1) help.0
+told_by kind (Ok t) fault (inr (inr other)) = subst (IsToldBy kind) (sym other.2) (other.0, other.1)
 
 -- a fault that tells one of the kinds
 pub is_fault : (kinds : ErrorKinds) (kind : ErrorKind) (fault : LineFault) → (kind ≡ OutOfMemory) ⊎ IsAmong kind kinds → IsToldBy kind fault → IsFaultOf kinds fault

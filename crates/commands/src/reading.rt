@@ -1,12 +1,12 @@
 //! The line that words stand for.
 
-ghost use Rattle.std.specs.Prelude.{◌≡◌, ◌^◌, IfOk, IsSomeAnd, Some, codes, map, option_map, string_bytes, true};
+ghost use Rattle.std.specs.Prelude.{◌≡◌, ◌^◌, IfOk, IsSomeAnd, MatchResult, Some, codes, map, option_map, string_bytes, true};
 ghost use Rattle.rolls.specs.Kinds.{word_of};
 ghost use Rattle.clap.specs.Words.{found_of, kind_of, rows_of, subcommand_rows_of};
 ghost use Rattle.commands.specs.Kinds.{report_word};
 ghost use Rattle.commands.specs.Program.{AreWords};
 ghost use Rattle.commands.specs.Reading.{AreGiven, IsAimOf, IsAnswer, IsGiven, IsLineOf, fits, number_in, word_in};
-ghost use Rattle.commands.specs.Inside.Reading.{IsNumberBelow, IsToldBy};
+ghost use Rattle.commands.specs.Inside.Reading.{IsFaultAs, IsNumberBelow, IsToldBy};
 ghost use Rattle.commands.specs.Table;
 ghost use Rattle.commands.specs.Inside.Table.{argument_by};
 
@@ -168,18 +168,23 @@ fn line_in(alloc: Global, matches: &ArgMatches<'_>) -> Result<Line, AllocError>
     line_of(alloc, name, given)
 }
 
+/// The fault of an error of this kind, whose text this is, where there was memory for one.
+fn fault_as(kind: ErrorKind, text: Result<String, AllocError>) -> LineFault
+    ensures { MatchResult text (λ text. IsFaultAs kind text result) (λ _. result ≡ LineFault.Memory) }
+{
+    match text {
+        Err(_) => LineFault::Memory,
+        Ok(_) if kind == ErrorKind::OutOfMemory => LineFault::Memory,
+        Ok(text) if kind == ErrorKind::DisplayHelp => LineFault::Help(text),
+        Ok(text) => LineFault::Fault(text),
+    }
+}
+
 /// Why the words were not taken.
 fn fault_by(alloc: Global, error: &Error) -> LineFault
     ensures { IsToldBy (kind_of error.now) result }
 {
-    if error.kind() == ErrorKind::OutOfMemory {
-        return LineFault::Memory;
-    }
-    match error.to_string(alloc) {
-        Err(_) => LineFault::Memory,
-        Ok(text) if error.kind() == ErrorKind::DisplayHelp => LineFault::Help(text),
-        Ok(text) => LineFault::Fault(text),
-    }
+    fault_as(error.kind(), error.to_string(alloc))
 }
 
 /// What the program's command makes of the words.

@@ -1,5 +1,6 @@
 -- For proofs alone. The line that words stand for, and the faults of words that are none.
-use Rattle.std.specs.Prelude.{◌≡◌, ◌≢◌, ◌<◌, ℕ}
+use Rattle.std.specs.Prelude.{◌≡◌, ◌≢◌, ◌⊎◌, ◌<◌, ℕ, String}
+use Rattle.std.specs.declared.alloc.Global.{Global}
 use Rattle.clap.specs.declared.error.kind.ErrorKind.{ErrorKind}
 use Rattle.clap.specs.declared.error.kind.ErrorKind.TheVariants.{DisplayHelp, OutOfMemory}
 use Rattle.commands.specs.declared.line.LineFault.{LineFault}
@@ -17,3 +18,8 @@ abbrev pub IsToldBy : ErrorKind → LineFault → Type 0
 IsToldBy kind Memory = Unit {0}
 IsToldBy kind (Help text) = kind ≡ DisplayHelp
 IsToldBy kind (Fault text) = (kind ≢ OutOfMemory) × (kind ≢ DisplayHelp)
+
+-- an error of this kind with this text is this fault
+abbrev pub IsFaultAs : ErrorKind → String Global → LineFault → Type 0
+IsFaultAs kind text fault =
+    ((kind ≡ OutOfMemory) × (fault ≡ Memory)) ⊎ (((kind ≡ DisplayHelp) × (fault ≡ Help text)) ⊎ ((kind ≢ OutOfMemory) × (kind ≢ DisplayHelp) × (fault ≡ Fault text)))
