@@ -1,5 +1,5 @@
--- A run at a desk is a run of what is seen of it.
-use Rattle.std.proofs.Common.{ℕ, List, [], ◌∷◌, Option, Result, Ok, Err, IfOk, IfErr, ap}
+-- A run at a desk is a run of what is seen of it, and what a step gives back a run does.
+use Rattle.std.proofs.Common.{ℕ, List, [], ◌∷◌, Option, Result, Ok, Err, IfOk, IfErr, ap, sym, subst}
 use Rattle.wire.specs.Messages.{Message}
 use Rattle.wire.specs.Run.{Said, said, Run}
 use Rattle.wire.specs.Served.{ServedTo, BrokeOff}
@@ -7,16 +7,16 @@ use Rattle.wire.specs.declared.outcome.End.{End}
 use Rattle.wire.specs.declared.outcome.Served.{Served}
 use Rattle.wire.specs.declared.outcome.StreamFault.{StreamFault}
 
-module _ {D S : Type 0} (see : D → S) (step : S → Said → List ℕ → S → Type 0) (refusal : End → List ℕ) where
-  -- the step as it is seen
-  abbrev pub seen : D → Said → List ℕ → D → Type 0
-  seen before said bytes after = step (see before) said bytes (see after)
+-- a step that does as much as is seen
+abbrev pub Shows : {D S : Type 0} → (D → S) → (S → Said → List ℕ → S → Type 0) → (D → Said → List ℕ → D → Type 0) → Type 0
+Shows {D} see step seen = (before : D) (words : Said) (bytes : List ℕ) (after : D) → seen before words bytes after → step (see before) words bytes (see after)
 
+module _ {D S : Type 0} (see : D → S) (step : S → Said → List ℕ → S → Type 0) (refusal : End → List ℕ) (seen : D → Said → List ℕ → D → Type 0) (shows : Shows see step seen) where
   pub run_seen : (before after : D) (messages : List Message) (answers : List (List ℕ)) → Run seen before messages answers after → Run step (see before) messages answers (see after)
   run_seen before after [] [] r = ap see r
   run_seen before after [] (a ∷ answers) r = absurd r
   run_seen before after (m ∷ messages) [] r = absurd r
-  run_seen before after (m ∷ messages) (a ∷ answers) r = (see r.0, r.1, run_seen r.0 after messages answers r.2)
+  run_seen before after (m ∷ messages) (a ∷ answers) r = (see r.0, shows before (said m) a r.0 r.1, run_seen r.0 after messages answers r.2)
 
   pub serves_seen : (before after : D) (left0 w0 left w : Option (List ℕ)) (served : Served)
       → ServedTo seen refusal before left0 w0 left w served after → ServedTo step refusal (see before) left0 w0 left w served (see after)
@@ -59,3 +59,20 @@ module _ {D S : Type 0} (see : D → S) (step : S → Said → List ℕ → S �
       → IfErr result (λ fault. BrokeOff seen refusal before left0 w0 left w now fault) → IfErr result (λ fault. BrokeOff step refusal (see before) left0 w0 left w (see now) fault)
   broken_seen before now left0 w0 left w (Ok served) b = tt
   broken_seen before now left0 w0 left w (Err fault) b = broke_seen before now left0 w0 left w fault b
+
+-- a step that gives back what holds behind it
+abbrev pub GivesBack : {D : Type 0} → (D → Type 0) → (D → Said → List ℕ → D → Type 0) → Type 0
+GivesBack {D} P step = (before : D) (words : Said) (bytes : List ℕ) (after : D) → step before words bytes after → P after → P before
+
+module _ {D : Type 0} (P : D → Type 0) (step : D → Said → List ℕ → D → Type 0) (refusal : End → List ℕ) (back : GivesBack P step) where
+  run_back : (before after : D) (messages : List Message) (answers : List (List ℕ)) → Run step before messages answers after → P after → P before
+  run_back before after [] [] r p = subst P (sym r) p
+  run_back before after [] (a ∷ answers) r p = absurd r
+  run_back before after (m ∷ messages) [] r p = absurd r
+  run_back before after (m ∷ messages) (a ∷ answers) r p = back before (said m) a r.0 r.1 (run_back r.0 after messages answers r.2 p)
+
+  -- for whatever came of a stream
+  pub served_back : (before after : D) (left0 w0 left w : Option (List ℕ)) (result : Result Served StreamFault) → IfOk result (λ served. ServedTo step refusal before left0 w0 left w served after)
+      → IfErr result (λ fault. BrokeOff step refusal before left0 w0 left w after fault) → P after → P before
+  served_back before after left0 w0 left w (Ok served) s b = run_back before after s.serves.messages s.serves.answers s.serves.ran
+  served_back before after left0 w0 left w (Err fault) s b = run_back before after b.messages b.answers b.ran

@@ -1,11 +1,14 @@
 //! Connections of a listener, served at a desk one after another.
 ghost use Rattle.std.specs.Io.KnownBytes.{Appends};
+ghost use Rattle.sqlite.specs.Held.{state};
+ghost use Rattle.sqlite.specs.State.{HasCleanDisk};
 ghost use Rattle.std.specs.Prelude.{◌≡◌, ℕ, ◌+◌, ◌≤◌, ◌<◌, ◌-◌, ◌^◌, ◌++◌, length, take, Err, IfOk, IfErr, OnOk, OnErr};
 ghost use Rattle.wire.specs.declared.TheConstants.{MOST_SHORT_BODY};
 ghost use Rattle.arrayvec.specs.ArrayVec.{array_vec_len};
 ghost use Rattle.web.specs.Inside.Connections.{IsStreamed};
 ghost use Rattle.web.specs.Connections.{Connects, AllServed, SomeServed, end_word, fault_word, told_of, connection_line};
-ghost use Rattle.web.specs.Serving.{at_desk};
+ghost use Rattle.web.specs.Serving.{AnswersMessage, at_desk, end_text};
+ghost use Rattle.wire.specs.Served.{BrokeOff, ServedTo};
 
 use crate::service::serve_stream;
 use api::{push, push_labelled};
@@ -14,6 +17,7 @@ use desk::Desk;
 use sqlite::Alter;
 use std::alloc::Global;
 use std::io;
+use std::io::{Read, Write};
 use std::net::{SocketAddr, TcpListener, TcpStream};
 use wire::{End, Served, ShortText, Sink, StreamFault, Watched, write_all};
 
@@ -98,6 +102,25 @@ fn write_line<O: Sink>(
     }
 }
 
+/// Serves what a reader gives, answers to a writer, and gives both back.
+fn serve_over<S: Alter, R: Read + Drop, W: Write + Drop>(
+    alloc: Global,
+    desk: &mut Desk<S>,
+    reader: R,
+    writer: W,
+) -> (Result<Served, StreamFault>, R, W)
+    ensures served { IfOk result.0 (λ served. ServedTo AnswersMessage end_text (at_desk desk.old)
+        (R.remaining reader) (W.contents writer) (R.remaining result.1) (W.contents result.2) served (at_desk desk.new)) }
+    ensures broken { IfErr result.0 (λ fault. BrokeOff AnswersMessage end_text (at_desk desk.old)
+        (R.remaining reader) (W.contents writer) (R.remaining result.1) (W.contents result.2) (at_desk desk.new) fault) }
+    ensures clean { HasCleanDisk (state S.Store desk.new.store) → HasCleanDisk (state S.Store desk.old.store) }
+{
+    let mut reader = Watched::new(reader);
+    let mut writer = Watched::new(writer);
+    let came = serve_stream(alloc, desk, &mut reader, &mut writer);
+    (came, reader.into_inner(), writer.into_inner())
+}
+
 /// Serves the stream of a connection that was accepted, or could not be, and tells what became of it.
 fn serve_accepted<S: Alter>(
     alloc: Global,
@@ -106,13 +129,13 @@ fn serve_accepted<S: Alter>(
 ) -> Result<Served, StreamFault>
     ensures served { IfOk accepted (λ _. IsStreamed (at_desk desk.old) result (at_desk desk.new)) }
     ensures unaccepted { IfErr accepted (λ _. (result ≡ Err StreamFault.Read) × (desk.new ≡ desk.old)) }
+    ensures clean { HasCleanDisk (state S.Store desk.new.store) → HasCleanDisk (state S.Store desk.old.store) }
 {
     let Ok((stream, _)) = accepted else {
         return Err(StreamFault::Read);
     };
-    let mut reader = Watched::new(&stream);
-    let mut writer = Watched::new(&stream);
-    serve_stream(alloc, desk, &mut reader, &mut writer)
+    let (came, _, _) = serve_over(alloc, desk, &stream, &stream);
+    came
 }
 
 /// Serves the stream of the next connection, and tells what became of it.
@@ -121,7 +144,8 @@ fn serve_next<S: Alter>(
     desk: &mut Desk<S>,
     listener: &TcpListener,
 ) -> Result<Served, StreamFault>
-    ensures { Connects (at_desk desk.old) result (at_desk desk.new) }
+    ensures came { Connects (at_desk desk.old) result (at_desk desk.new) }
+    ensures clean { HasCleanDisk (state S.Store desk.new.store) → HasCleanDisk (state S.Store desk.old.store) }
 {
     serve_accepted(alloc, desk, listener.accept())
 }
@@ -140,6 +164,7 @@ pub fn serve_on<S: Alter, O: Sink>(
     requires { O.failures out.old < 2 ^ 64 - 1 }
     ensures served { OnOk result (AllServed (at_desk desk.old) count (O.written out.old) (O.written out.new) (at_desk desk.new)) }
     ensures broken { OnErr result (SomeServed (at_desk desk.old) count (O.written out.old) (O.written out.new) (at_desk desk.new)) }
+    ensures clean { HasCleanDisk (state S.Store desk.new.store) → HasCleanDisk (state S.Store desk.old.store) }
     ensures count_ok { OnOk result (O.failures out.new ≡ O.failures out.old) }
     ensures count_err { OnErr result (O.failures out.new ≡ O.failures out.old + 1) }
 {

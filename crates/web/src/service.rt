@@ -1,5 +1,7 @@
 //! The service of a stream at a desk.
 ghost use Rattle.std.specs.Prelude.{◌≡◌, ◌-◌, ◌^◌, ◌+◌, ◌<◌, false, Err, IfOk, IfErr};
+ghost use Rattle.sqlite.specs.Held.{state};
+ghost use Rattle.sqlite.specs.State.{HasCleanDisk};
 ghost use Rattle.wire.specs.Run.{read_failed, write_failed};
 ghost use Rattle.wire.specs.Served.{BrokeOff, ServedTo};
 ghost use Rattle.web.specs.Serving.{AnswersMessage, at_desk, refusal_at, end_text};
@@ -29,7 +31,9 @@ fn refusal_at(end: End) -> Refusal
 }
 
 impl<S: Alter> Handler<Desk<S>> for Clerk {
-    ghost step = { λ before said bytes after. AnswersMessage (at_desk before) said bytes (at_desk after) };
+    // A disk that is clean behind a message was clean before it.
+    ghost step = { λ before said bytes after. AnswersMessage (at_desk before) said bytes (at_desk after)
+        × (HasCleanDisk (state S.Store after.store) → HasCleanDisk (state S.Store before.store)) };
 
     ghost refusal = { end_text };
 
@@ -67,6 +71,9 @@ pub fn serve_stream<S: Alter, R: Source, W: Sink>(
     ensures broken { IfErr result (λ fault. BrokeOff AnswersMessage end_text (at_desk desk.old)
         (R.left reader.old) (W.written writer.old) (R.left reader.new) (W.written writer.new)
         (at_desk desk.new) fault) }
+
+    // A disk that is clean behind the stream was clean before it.
+    ensures clean { HasCleanDisk (state S.Store desk.new.store) → HasCleanDisk (state S.Store desk.old.store) }
 
     // Want of memory comes before anything is read, asked or written.
     ensures early { result ≡ Err StreamFault.Memory → (desk.new ≡ desk.old)

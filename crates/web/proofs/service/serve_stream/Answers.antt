@@ -1,7 +1,9 @@
 use Rattle.std.proofs.Common.{◌≡◌, ℕ, ◌+◌, arith}
+use Rattle.sqlite.specs.Held.{state}
+use Rattle.sqlite.specs.State.{HasCleanDisk}
 use Rattle.web.specs.Serving.{AnswersMessage, at_desk, end_text}
 use Rattle.wire.proofs.Turns.{nothing_broken}
-use Rattle.web.proofs.Seen.{served_seen, broken_seen}
+use Rattle.web.proofs.Seen.{served_seen, broken_seen, served_back}
 use Rattle.web.proofs.service.serve_stream.Goals as goal
 
 pub returns-in_default-clause-broken : goal.returns-in_default-clause-broken
@@ -10,13 +12,17 @@ returns-in_default-clause-broken g c =
 
 pub returns-clause-served : goal.returns-clause-served
 returns-clause-served g c =
-    served_seen at_desk AnswersMessage end_text c.args.desk.now c.serve_messages.new.desk (g.R.Source.left c.args.reader.now) (g.W.Sink.written c.args.writer.now)
+    served_seen at_desk AnswersMessage end_text _ (λ before words bytes after step. step.0) c.args.desk.now c.serve_messages.new.desk (g.R.Source.left c.args.reader.now) (g.W.Sink.written c.args.writer.now)
     (g.R.Source.left c.serve_messages.new.reader) (g.W.Sink.written c.serve_messages.new.writer) c.serve_messages.result c.serve_messages.ensures.served
 
 pub returns-clause-broken : goal.returns-clause-broken
 returns-clause-broken g c =
-    broken_seen at_desk AnswersMessage end_text c.args.desk.now c.serve_messages.new.desk (g.R.Source.left c.args.reader.now) (g.W.Sink.written c.args.writer.now)
+    broken_seen at_desk AnswersMessage end_text _ (λ before words bytes after step. step.0) c.args.desk.now c.serve_messages.new.desk (g.R.Source.left c.args.reader.now) (g.W.Sink.written c.args.writer.now)
     (g.R.Source.left c.serve_messages.new.reader) (g.W.Sink.written c.serve_messages.new.writer) c.serve_messages.result c.serve_messages.ensures.broken
+
+pub returns-clause-clean : goal.returns-clause-clean
+returns-clause-clean g c =
+    served_back (λ desk. HasCleanDisk (state g.S.Store desk.store)) _ end_text (λ before words bytes after step. step.1) c.args.desk.now c.serve_messages.new.desk _ _ _ _ c.serve_messages.result c.serve_messages.ensures.served c.serve_messages.ensures.broken
 
 -- a count that stays
 stays : (n : ℕ) → n ≡ n + 0
