@@ -7,7 +7,7 @@ use Rattle.rolls.specs.declared.refusal.Refusal.TheVariants as no
 use Rattle.rolls.specs.declared.request.Request.{Request}
 use Rattle.cli.specs.declared.tasks.Task.TheVariants as task
 use Rattle.cli.specs.Outcomes.{Imports, ImportsFile, MayDo, Outcome, refused}
-use Rattle.cli.specs.Inside.Imports.{IsImportOf, IsImportOfFile}
+use Rattle.cli.specs.Imports.{IsImportOf, IsImportOfFile}
 
 -- the request of what was read of a file, where the reading may be refused so
 pub of_read : (id : List ℕ) (kind : ImportKind) (read : Result (Vec ℕ Global) Refusal) (made : Result Request Refusal) → IfErr read (λ r. (r ≡ no.Memory) ⊎ (r ≡ no.Storage))

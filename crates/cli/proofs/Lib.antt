@@ -1,4 +1,5 @@
 mod Anew
 mod Imports
 mod Opened
+mod Lines
 mod Writers

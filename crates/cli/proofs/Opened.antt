@@ -1,7 +1,13 @@
 -- What comes of a task where its office was opened or the opening refused, and what is left.
-use Rattle.std.proofs.Common.{◌≡◌, ◌⊎◌, inl, inr, ℕ, false, Option, None, Result, Ok, Err, IfOk, IfErr, MatchResult, sym, subst, ap}
+use Rattle.std.proofs.Common.{◌≡◌, ◌⊎◌, inl, inr, ℕ, false, Option, None, Result, Ok, Err, IfOk, IfErr, MatchResult, sym, subst, ap, ◌∙◌, arith}
 use Rattle.sqlite.specs.Effect.{Database}
-use Rattle.sqlite.specs.State.{State as Seen, HasCleanDisk}
+use Rattle.sqlite.specs.State.{State as Seen, HasCleanDisk, Survives}
+use Rattle.sqlite_trees.specs.Tree.{Trees}
+use Rattle.sqlite.specs.Files.{IsOpened, file_state}
+use Rattle.sqlite.specs.Start.{FindsIn}
+use Rattle.sqlite_wal.specs.Recovery.{Image}
+use Rattle.sqlite_disk.specs.declared.Disk as disk
+use Rattle.sqlite_store.specs.declared.store.FileStore.{FileStore}
 use Rattle.sqlite.specs.Held.{Held, state}
 use Rattle.sqlite_trees.specs.declared.store.Store.{Ghosts}
 use Rattle.rolls.specs.declared.refusal.Refusal.{Refusal}
@@ -18,9 +24,8 @@ use Rattle.desk.specs.Kept.{Kept}
 use Rattle.desk.specs.Keeping.{Keeps}
 use Rattle.web.specs.Serving.{AtDesk, at_desk, just_opened}
 use Rattle.cli.specs.declared.tasks.Task.{Task}
-use Rattle.cli.specs.declared.tasks.Task.TheVariants as task
 use Rattle.cli.specs.Outcomes.{ComesOf, IsUnopened, MayDo, Outcome, refused}
-use Rattle.cli.specs.Inside.Databases.{DoesOver, IsFoundFor, IsOfficeOf, IsWhyUnopened, LeftBy, StandsAfter, StaysSo, WasClean}
+use Rattle.cli.specs.Databases.{DoesOver, IsFoundFor, IsOfficeIn, IsOfficeOf, IsWhyUnopened, LeftBy, StandsAfter, StaysSo, WasClean}
 use Rattle.cli.proofs.Writers.{TellsOf, Took, refused_ends}
 
 -- what was opened is the office of the database before
@@ -30,9 +35,8 @@ of_opened old new office (inr (inl found)) = inr (latest, in_latest found.1)
 of_opened old new office (inr (inr raised)) = inr (raised.edition, raised.stood)
 
 -- a disk that is clean behind the task was clean when the office was opened
-found_for : (done : Task) (before opened after : Seen) (office : State) → WasClean done opened after → (HasCleanDisk opened → Opens before.now opened.now office) → IsFoundFor done before after office
-found_for (task.Ask asked) before opened after office was opens = λ clean. of_opened before.now opened.now office (opens (was clean))
-found_for (task.Serve serving) before opened after office was opens = tt
+found_for : (before opened after : Seen) (office : State) → WasClean opened after → (HasCleanDisk opened → HasCleanDisk before) → (HasCleanDisk opened → Opens before.now opened.now office) → IsFoundFor before after office
+found_for before opened after office was first opens = λ clean. (first (was clean), of_opened before.now opened.now office (opens (was clean)))
 
 -- why an office was not opened
 pub why_unopened : (refusal : Refusal) (before after : Seen) → ((refusal ≡ no.Memory) ⊎ ((refusal ≡ no.Storage) ⊎ (refusal ≡ no.Damaged)))
@@ -58,16 +62,23 @@ pub no_sitting : {S : Type 0} (desk : Kept S) → desk.session ≡ None → at_d
 no_sitting desk none = ap (λ (session : Option Sitting). let at : AtDesk = record { office = desk.office; session = session } in at) none
 
 module _ {S : Type 0} (ghosts : Ghosts S) where
+  -- what survived was clean before
+  pub was_early : {E : Type 0} (first : Held S) (P : Trees → Type 0) (opened : Result (Kept S) E) → IfOk opened (λ desk. Survives (state ghosts first) (state ghosts desk.store) P)
+      → IfOk opened (λ desk. HasCleanDisk (state ghosts desk.store) → HasCleanDisk (state ghosts first))
+  was_early first P (Ok d) it = λ clean. omega (arith, clean, it.clean)
+  was_early first P (Err e) it = tt
+
   -- the office of a connection was opened or not, and a task was done at it, which left the last connection
   pub record WasOpened (done : Task) (first last : Held S) (opened : Result (Kept S) (Refusal × Held S)) : Type 0 where
     pub no_session : IfOk opened (λ desk. desk.session ≡ None)
+    pub early : IfOk opened (λ desk. HasCleanDisk (state ghosts desk.store) → HasCleanDisk (state ghosts first))
     pub office : IfOk opened (λ desk. HasCleanDisk (state ghosts desk.store) → Opens (state ghosts first).now (state ghosts desk.store).now desk.office)
     pub refused : IfErr opened (λ e. (e.0 ≡ no.Memory) ⊎ ((e.0 ≡ no.Storage) ⊎ (e.0 ≡ no.Damaged)))
     pub damaged : IfErr opened (λ e. HasCleanDisk (state ghosts e.1) → e.0 ≡ no.Damaged → IsDamaged (state ghosts first).now × (HasNone (state ghosts first).now.schema → ⊥))
     pub cause : IfErr opened (λ e. first.in_transaction ≡ false → HasCleanDisk (state ghosts e.1) → e.0 ≡ no.Storage → IsStopped IsHinderedOpening (state ghosts first) (state ghosts e.1))
     pub kept : IfErr opened (λ e. StaysSo (state ghosts first) (state ghosts e.1))
     pub left : MatchResult opened (λ desk. StandsAfter done (at_desk desk) (state ghosts last)) (λ e. last ≡ e.1)
-    pub clean : IfOk opened (λ desk. WasClean done (state ghosts desk.store) (state ghosts last))
+    pub clean : IfOk opened (λ desk. WasClean (state ghosts desk.store) (state ghosts last))
 
   -- what is told at a desk that was opened, or of the refusal
   abbrev pub ToldOf : Task → Held S → Result (Kept S) (Refusal × Held S) → Outcome → Type 0
@@ -81,7 +92,7 @@ module _ {S : Type 0} (ghosts : Ghosts S) where
   pub told_of : (done : Task) (first last : Held S) (opened : Result (Kept S) (Refusal × Held S)) (o : Outcome) → WasOpened done first last opened → ToldOf done last opened o → DoesOver done (state ghosts first) (state ghosts last) o
   told_of done first last (Ok d) o was is = inr (record {
     office = d.office;
-    found = found_for done (state ghosts first) (state ghosts d.store) (state ghosts last) d.office was.clean was.office;
+    found = found_for (state ghosts first) (state ghosts d.store) (state ghosts last) d.office was.clean was.early was.office;
     fit = was.left.fit;
     next = is.0;
     comes = subst (λ (before : AtDesk). ComesOf done before is.0 o) (no_sitting d was.no_session) is.1;
@@ -99,7 +110,14 @@ module _ {S : Type 0} (ghosts : Ghosts S) where
       → TellsOf (ToldOf done last opened) old new status → LeftBy done status (state ghosts first) (state ghosts last)
   left_by done first last (Ok d) was old new status told = inl (
     d.office,
-    found_for done (state ghosts first) (state ghosts d.store) (state ghosts last) d.office was.clean was.office,
+    found_for (state ghosts first) (state ghosts d.store) (state ghosts last) d.office was.clean was.early was.office,
     subst (λ (before : AtDesk). StandsAfter done before (state ghosts last)) (no_sitting d was.no_session) was.left,
   )
   left_by done first last (Err e) was old new status told = inr (refused_ends e.0 old new status told, stays_so first last e.1 was.left was.kept)
+
+-- the office that was found is the one that the tables of the file stood for, unless the disk has given back what was not written
+pub of_file : {D : Type 0} {g : disk.Ghosts D} (image : Image) (first : Held (FileStore D g)) (after : Seen) → (HasCleanDisk (file_state first) → FindsIn image (file_state first))
+    → (HasCleanDisk (file_state first) → IsOpened first) → (office : State) → IsFoundFor (file_state first) after office → HasCleanDisk after → IsOfficeIn image office
+of_file image first after found opened office is clean db holds =
+    let it = is clean in
+    ((file_state first).now, ap (λ (d : Database). d.trees) (opened it.0).0.clean ∙ (found it.0).holds db holds, it.1)

@@ -1,11 +1,16 @@
 -- What is told is told of more, and what one of the two writers took is told.
-use Rattle.std.proofs.Common.{◌≡◌, ◌⊎◌, inl, inr, ℕ, ◌+◌, List, ◌++◌, Option, Result, Ok, Err, IfErr, MatchResult, Vec, String, refl, ap, ◌∙◌, sym, subst, arith}
+use Rattle.std.proofs.Common.{◌≡◌, ◌⊎◌, inl, inr, ℕ, ◌+◌, List, ◌++◌, Option, None, Result, Ok, Err, IfErr, MatchResult, Vec, String, refl, ap, ◌∙◌, sym, subst, arith}
 use Rattle.std.specs.Io.KnownBytes.{Appends}
 use Rattle.std.specs.declared.alloc.Global.{Global}
 use Rattle.wire.proofs.Known.{appends_compose, appends_none}
 use Rattle.rolls.specs.declared.refusal.Refusal.{Refusal}
 use Rattle.rolls.specs.declared.refusal.Refusal.TheVariants as no
+use Rattle.rolls.specs.declared.request.Reply.{Reply}
+use Rattle.rolls.specs.declared.request.Request.{Request}
+use Rattle.rolls.specs.State.{State}
 use Rattle.rolls.specs.Told.{number_of, name_of}
+use Rattle.desk.specs.Keeping.{AnswersKept, AnswersRound}
+use Rattle.desk.specs.Sessions.{AnswersAtOnce}
 use Rattle.web.specs.Connections.{AllServed, lines_after}
 use Rattle.web.specs.Serving.{AtDesk}
 use Rattle.round_files.specs.declared.rounds.Trouble.{Trouble}
@@ -70,6 +75,10 @@ served_told before after port count w0 w v f0 f g ends (inl s) =
     inl (s.0, s.1, ap (λ n. n + g) s.2, s.3, subst (λ (o : Outcome). Appends v v o.err) (sym printed) (appends_none v), s.4 ∙ sym (ap (λ (o : Outcome). o.status) printed))
 served_told before after port count w0 w v f0 f g ends (inr s) = let more : f ≡ f0 + 1 = s.0 in inr (omega (arith, more), s.1)
 
+-- where no session is kept no preview is read of one
+pub at_once : (o : State) (q : Request) (a : Result Reply Refusal) → AnswersRound o q a → AnswersKept o q a → AnswersAtOnce o None q a
+at_once o q a round repeated = record { round = round; repeated = repeated; preview = λ is allowed kept. cc }
+
 -- a refusal of a file that is read is told
 pub unread : (r : Refusal) → ((r ≡ no.Memory) ⊎ (r ≡ no.Storage)) → IsUnread (refused r)
 unread r (inl memory) = inl (ap refused memory)
@@ -80,13 +89,6 @@ pub of_file : (Is : List ℕ → Result (String Global) Trouble → Type 0) (rea
     → MatchResult read (λ bytes. Is bytes.items came) (λ r. came ≡ Err (Refused r)) → o ≡ of_round came → OnFile Is o
 of_file Is (Ok bytes) came o why is told = inr (bytes.items, came, is, told)
 of_file Is (Err r) came o why is told = inl (subst IsUnread (sym (told ∙ ap of_round is)) (unread r why))
-
--- what comes of a connection is an outcome of the task, where the opening may be refused so
-pub of_connection : {C : Type 0} (done : Task) (opened : Result C Refusal) (o : Outcome) → IfErr opened (λ r. (r ≡ no.Memory) ⊎ (r ≡ no.Storage))
-    → MatchResult opened (λ _. MayDo done o) (λ r. o ≡ refused r) → MayDo done o
-of_connection done (Ok c) o why is = is
-of_connection done (Err r) o (inl memory) is = inl (inl (is ∙ ap refused memory))
-of_connection done (Err r) o (inr storage) is = inl (inr (inl (is ∙ ap refused storage)))
 
 -- a refusal that is not of a record is told by its number and name
 pub named_alone : (r : Refusal) → ((n inner : ℕ) → r ≡ no.Row n inner → ⊥) → refusal_line r ≡ named_line (number_of r) (name_of r)

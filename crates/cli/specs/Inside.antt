@@ -1,6 +1,4 @@
 -- What proofs need and no public clause says.
-pub mod Databases
 pub mod Outputs
-pub mod Imports
 pub mod Outcomes
 pub mod Rounds

@@ -1,5 +1,5 @@
 -- What a line of the program comes to: what it prints where, and its status.
-use Rattle.std.specs.Prelude.{◌≡◌, ◌⊎◌, ℕ, ◌+◌, ◌<◌, ◌≤◌, List, [], ◌∷◌, ◌++◌, length, flat_map, codes, decimal, string_bytes, Option, Result, Ok, Err, String}
+use Rattle.std.specs.Prelude.{◌≡◌, ◌⊎◌, ℕ, ◌+◌, ◌<◌, ◌≤◌, List, [], ◌∷◌, ◌++◌, length, flat_map, codes, decimal, string_bytes, Option, None, Result, Ok, Err, String}
 use Rattle.std.specs.declared.alloc.Global.{Global}
 use Rattle.std.specs.Io.KnownBytes.{Appends}
 use Rattle.rolls.specs.declared.import.ImportKind.{ImportKind}
@@ -16,7 +16,7 @@ use Rattle.rolls.specs.Fit.{IsFit}
 use Rattle.rolls.specs.Run.{Step}
 use Rattle.rolls.specs.Told.{number_of, name_of}
 use Rattle.allotment.specs.Layers.{layers}
-use Rattle.desk.specs.Sessions.{IsToldRight}
+use Rattle.desk.specs.Sessions.{AnswersAtOnce, IsToldRight}
 use Rattle.web.specs.Connections.{Connect, lines_after}
 use Rattle.web.specs.Serving.{AtDesk, just_opened}
 use Rattle.round_files.specs.Rounds.{IsSolved, IsChecked}
@@ -107,12 +107,13 @@ OnFile Is o = IsUnread o ⊎ ((bytes : List ℕ) × (came : Result (String Globa
 abbrev pub IsUnopened : Outcome → Type 0
 IsUnopened o = (o ≡ refused no.Memory) ⊎ ((o ≡ refused no.Storage) ⊎ (o ≡ refused no.Damaged))
 
--- A request was asked of an office, and this is what comes of the answer. A refusal by name is told as itself, and a fault of the storage only
--- of what changes the office.
+-- A request was asked of an office, and this is what comes of the answer. A refusal by name is told as itself, a fault of the storage only
+-- of what changes the office, and what takes no memory is answered.
 pub record IsAsked (asked : Request) (before after : State) (o : Outcome) : Type 0 where
   pub answer : Result Reply Refusal
   pub step : Step layers before asked answer after
   pub told : IsToldRight before asked answer
+  pub at_once : AnswersAtOnce before None asked answer
   pub is : o ≡ of_answer answer
 
 -- the line that is printed once a port is bound

@@ -1,15 +1,18 @@
 //! The request of an import of a file, and the asking of it at the office of a database.
 
 ghost use Rattle.std.specs.Prelude.{◌≡◌, IfOk, MatchResult};
+ghost use Rattle.sqlite_wal.specs.Files.{image_at};
 ghost use Rattle.cli.specs.Outputs.{CanFail};
-ghost use Rattle.cli.specs.Outcomes.{Tells, MayDo, refused};
-ghost use Rattle.cli.specs.Inside.Imports.{IsImportOf, IsImportOfFile};
+ghost use Rattle.cli.specs.Databases.{AskedAt};
+ghost use Rattle.cli.specs.Imports.{IsImportOf, IsImportOfFile};
 
 use crate::files::read_file;
 use crate::named::do_on;
+use crate::opening::Closing;
 use crate::outputs::Outputs;
 use crate::tasks::Task;
 use rolls::{Bytes, ImportKind, MOST_IMPORT_BYTES, Refusal, Request, Text};
+use sqlite::{FileFrom, Start};
 use std::alloc::AllocError;
 use std::rt::HostRuntime;
 use web::Sink;
@@ -70,18 +73,19 @@ pub(crate) fn import_file(
     import_read(rt, kind, id, read_file(rt, file, MOST_IMPORT_BYTES))
 }
 
-/// Asks a request of the office of a database, or tells why it was not made.
-pub(crate) fn ask_made<O: Sink, E: Sink>(
+/// Asks a request of the office of a database file, as `do_on` does, or tells why it was not made.
+pub(crate) fn ask_made<S: Start, O: Sink, E: Sink>(
     rt: &HostRuntime,
     database: &str,
+    start: S,
     made: Result<Request, Refusal>,
     outputs: &mut Outputs<O, E>,
-) -> u8
+) -> (u8, Option<Closing<FileFrom<S>>>)
     requires { CanFail outputs.old }
-    ensures { Tells (λ o. MatchResult made (λ asked. MayDo (Task.Ask asked) o) (λ refusal. o ≡ refused refusal)) outputs.old outputs.new result }
+    ensures { AskedAt (image_at S.Start) made result.1 outputs.old outputs.new result.0 }
 {
     match made {
-        Ok(asked) => do_on(rt, database, Task::Ask(asked), outputs),
-        Err(refusal) => outputs.refuse(refusal),
+        Ok(asked) => do_on(rt, database, start, Task::Ask(asked), outputs),
+        Err(refusal) => (outputs.refuse(refusal), None),
     }
 }

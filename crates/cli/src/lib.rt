@@ -25,6 +25,7 @@ mod tasks;
 mod texts;
 mod unread;
 
+pub use opening::Closing;
 pub use outputs::Outputs;
 pub use program::{begin, serve_anew, start};
 pub use run::{line, tell_line, tell_unread};

@@ -1,53 +1,40 @@
 //! What a line does at the database file with a name.
 
-ghost use Rattle.std.specs.Prelude.{◌≡◌, MatchResult};
 ghost use Rattle.cli.specs.Outputs.{CanFail};
-ghost use Rattle.cli.specs.Outcomes.{Tells, MayDo, refused};
+ghost use Rattle.cli.specs.Databases.{DoneAt};
+ghost use Rattle.sqlite_wal.specs.Files.{image_at};
 
 use crate::databases::do_and_close;
-use crate::opening::open_file;
+use crate::opening::{Closing, open_file};
 use crate::outputs::Outputs;
 use crate::tasks::Task;
-use rolls::Refusal;
-use sqlite::{Connection, FileStore};
-use sqlite_disk::Disk;
+use sqlite::{FileFrom, Start};
 use std::rt::HostRuntime;
 use web::Sink;
 
-/// Does a task at the office of a database file that was opened, and closes it then, or tells the refusal of the opening.
+/// Does a task at the office of the database file with this name, whose first contents these are, or tells the refusal of the opening.
+/// Closes the file then, and gives back what came of it.
 ///
 /// A closing that fails changes neither what was told nor the status: what was changed is in the log beside the file, where
 /// the next opening finds it.
-fn do_found<D: Disk + Drop, O: Sink, E: Sink>(
+pub(crate) fn do_on<S: Start, O: Sink, E: Sink>(
     rt: &HostRuntime,
-    opened: Result<Connection<FileStore<D>>, Refusal>,
+    database: &str,
+    start: S,
     task: Task,
     outputs: &mut Outputs<O, E>,
-) -> u8
+) -> (u8, Option<Closing<FileFrom<S>>>)
     requires { CanFail outputs.old }
-    ensures { Tells (λ o. MatchResult opened (λ _. MayDo task o) (λ refusal. o ≡ refused refusal)) outputs.old outputs.new result }
+    ensures { DoneAt (image_at S.Start) task result.1 outputs.old outputs.new result.0 }
 {
-    match opened {
+    match open_file(rt, database, start) {
         Ok(connection) => {
-            let (status, _closing) = do_and_close(rt, connection, task, outputs);
-            status
+            let (status, closing) = do_and_close(rt, connection, task, outputs);
+            (status, Some(closing))
         }
         Err(refusal) => {
             drop(task);
-            outputs.refuse(refusal)
+            (outputs.refuse(refusal), None)
         }
     }
-}
-
-/// Does a task at the office of the database file with this name, tells what comes of it, and closes the file then.
-pub(crate) fn do_on<O: Sink, E: Sink>(
-    rt: &HostRuntime,
-    database: &str,
-    task: Task,
-    outputs: &mut Outputs<O, E>,
-) -> u8
-    requires { CanFail outputs.old }
-    ensures { Tells (MayDo task) outputs.old outputs.new result }
-{
-    do_found(rt, open_file(rt, database), task, outputs)
 }

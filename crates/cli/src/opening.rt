@@ -4,19 +4,19 @@ ghost use Rattle.std.specs.Prelude.{◌≡◌, ◌⊎◌, IfOk, IfErr};
 ghost use Rattle.sqlite_wal.specs.Reads.{AreClean};
 ghost use Rattle.sqlite_trees.specs.View.{IsClean};
 ghost use Rattle.sqlite_store.specs.FileStore.{view};
-ghost use Rattle.sqlite.specs.Files.{IsClosed, FailsToClose};
+ghost use Rattle.sqlite.specs.Files.{IsClosed, IsOpened, FailsToClose, file_state};
+ghost use Rattle.sqlite.specs.Start.{FindsIn};
+ghost use Rattle.sqlite.specs.State.{HasCleanDisk};
+ghost use Rattle.sqlite_wal.specs.Files.{image_at};
 ghost use Rattle.sqlite.specs.Closing.{IsCopied};
 
 use rolls::Refusal;
-use sqlite::{Connection, Error, ErrorCode, FileFrom, FileStore, Files, Unknown};
+use sqlite::{Connection, Error, ErrorCode, FileFrom, FileStore, Files, Start};
 use sqlite_disk::Disk;
 use std::rt::HostRuntime;
 
-/// The database of a file.
-pub(crate) type Kept = FileStore<FileFrom<Unknown>>;
-
 /// What comes of closing a database file: its files, or why it is not closed, and what is left of it.
-pub(crate) type Closing<D> = Result<Files<D>, (Error, FileStore<D>)>;
+pub type Closing<D> = Result<Files<D>, (Error, FileStore<D>)>;
 
 /// The refusal of a database that cannot be opened.
 fn refusal_of(error: Error) -> Refusal
@@ -30,10 +30,16 @@ fn refusal_of(error: Error) -> Refusal
 }
 
 /// Opens the database file with this name; a file that is not there is made.
-pub(crate) fn open_file(rt: &HostRuntime, database: &str) -> Result<Connection<Kept>, Refusal>
-    ensures { IfErr result (λ r. (r ≡ Refusal.Memory) ⊎ (r ≡ Refusal.Storage)) }
+pub(crate) fn open_file<S: Start>(
+    rt: &HostRuntime,
+    database: &str,
+    start: S,
+) -> Result<Connection<FileStore<FileFrom<S>>>, Refusal>
+    ensures kinds { IfErr result (λ r. (r ≡ Refusal.Memory) ⊎ (r ≡ Refusal.Storage)) }
+    ensures found { IfOk result (λ c. HasCleanDisk (file_state c) → FindsIn (image_at S.Start) (file_state c)) }
+    ensures opened { IfOk result (λ c. HasCleanDisk (file_state c) → IsOpened c) }
 {
-    match Connection::open_from(rt, database, false, Unknown) {
+    match Connection::open_from(rt, database, false, start) {
         Ok(connection) => Ok(connection),
         Err((error, _)) => Err(refusal_of(error)),
     }

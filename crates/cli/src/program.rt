@@ -1,17 +1,20 @@
 //! The program: a line where there are arguments, or else standard input served over a new database in memory.
 
-ghost use Rattle.std.specs.Prelude.{◌≡◌, ◌-◌, ◌^◌, ◌<◌, ◌≤◌, IsTrue, false, length, map, string_bytes, IfOk, MatchResult};
+ghost use Rattle.std.specs.Prelude.{◌≡◌, ◌-◌, ◌^◌, ◌<◌, ◌≤◌, IsTrue, None, false, length, map, string_bytes, IfOk, MatchResult};
 ghost use Rattle.std.specs.IoError.{error_kind};
+ghost use Rattle.sqlite_wal.specs.Files.{image_at};
 ghost use Rattle.cli.specs.Outputs.{CanFail};
+ghost use Rattle.cli.specs.Databases.{WordsAt};
 ghost use Rattle.cli.specs.Anew.{ServedAnew, BrokenAnew, StreamsAnew};
 ghost use Rattle.cli.specs.Outcomes.{Tells, ComesTo};
 ghost use Rattle.cli.specs.Inside.Outcomes.{OfUnread};
 
+use crate::opening::Closing;
 use crate::outputs::Outputs;
 use crate::run::{tell_line, tell_unread};
 use crate::unread::Unread;
 use desk::Desk;
-use sqlite::Connection;
+use sqlite::{Connection, FileFrom, Start, Unknown};
 use std::alloc::Global;
 use std::rt::HostRuntime;
 use std::{env, io};
@@ -41,26 +44,34 @@ pub fn serve_anew<R: Source, W: Sink>(alloc: Global, reader: &mut R, writer: &mu
 
 /// Does the line of these words, of which the first is the program's name, as `tell_line` does; where there is no other word,
 /// serves the reader's stream to standard output, as `serve_anew` does. Gives the status of the program: 0 for a stream that was served to
-/// its end, and 1 for one that was not.
-pub fn begin<R: Source, O: Sink, E: Sink>(
+/// its end, and 1 for one that was not. What came of closing a database file is given back beside it.
+pub fn begin<S: Start, R: Source, O: Sink, E: Sink>(
     rt: &HostRuntime,
+    start: S,
     words: &[String],
     reader: &mut R,
     outputs: &mut Outputs<O, E>,
-) -> u8
+) -> (u8, Option<Closing<FileFrom<S>>>)
     requires reader { R.failures reader.old < 2 ^ 64 - 1 }
     requires open { R.ended reader.old ≡ false }
     requires outputs { CanFail outputs.old }
-    ensures line { 1 < length words.now → Tells (ComesTo (map string_bytes words.now)) outputs.old outputs.new result }
+    ensures line { 1 < length words.now → Tells (ComesTo (map string_bytes words.now)) outputs.old outputs.new result.0 }
+    ensures file { 1 < length words.now → WordsAt (image_at S.Start) (map string_bytes words.now) result.1 outputs.old outputs.new result.0 }
     ensures unread { 1 < length words.now → reader.new ≡ reader.old }
-    ensures stream { length words.now ≤ 1 → StreamsAnew (R.left reader.old) outputs.old.out.written (R.left reader.new) outputs.new.out.written result }
+    ensures stream { length words.now ≤ 1 → StreamsAnew (R.left reader.old) outputs.old.out.written (R.left reader.new) outputs.new.out.written result.0 }
     ensures silent { length words.now ≤ 1 → outputs.new.err ≡ outputs.old.err }
-    ensures status { result ≤ 2 }
+
+    // A stream opens no file.
+    ensures no_file { length words.now ≤ 1 → result.1 ≡ None }
+    ensures status { result.0 ≤ 2 }
 {
     if words.len() > 1 {
-        return tell_line(rt, words, outputs);
+        return tell_line(rt, start, words, outputs);
     }
-    u8::from(!serve_anew(rt.alloc(), reader, &mut outputs.out))
+    (
+        u8::from(!serve_anew(rt.alloc(), reader, &mut outputs.out)),
+        None,
+    )
 }
 
 /// The words of the command line, the program's name first.
@@ -69,26 +80,28 @@ fn given(rt: &HostRuntime) -> io::Result<Vec<String>> {
 }
 
 /// Does as `begin` does with the words that were given, or tells why they cannot be read, as `tell_unread` does.
-fn begin_given<R: Source, O: Sink, E: Sink>(
+fn begin_given<S: Start, R: Source, O: Sink, E: Sink>(
     rt: &HostRuntime,
+    start: S,
     given: io::Result<Vec<String>>,
     reader: &mut R,
     outputs: &mut Outputs<O, E>,
-) -> u8
+) -> (u8, Option<Closing<FileFrom<S>>>)
     requires reader { R.failures reader.old < 2 ^ 64 - 1 }
     requires open { R.ended reader.old ≡ false }
     requires outputs { CanFail outputs.old }
-    ensures told { MatchResult given (λ words. 1 < length words.items → Tells (ComesTo (map string_bytes words.items)) outputs.old outputs.new result) (λ error. Tells (OfUnread (error_kind error)) outputs.old outputs.new result) }
-    ensures stream { IfOk given (λ words. length words.items ≤ 1 → StreamsAnew (R.left reader.old) outputs.old.out.written (R.left reader.new) outputs.new.out.written result) }
+    ensures told { MatchResult given (λ words. 1 < length words.items → Tells (ComesTo (map string_bytes words.items)) outputs.old outputs.new result.0) (λ error. Tells (OfUnread (error_kind error)) outputs.old outputs.new result.0) }
+    ensures file { MatchResult given (λ words. 1 < length words.items → WordsAt (image_at S.Start) (map string_bytes words.items) result.1 outputs.old outputs.new result.0) (λ _. result.1 ≡ None) }
+    ensures stream { IfOk given (λ words. length words.items ≤ 1 → StreamsAnew (R.left reader.old) outputs.old.out.written (R.left reader.new) outputs.new.out.written result.0) }
     ensures silent { IfOk given (λ words. length words.items ≤ 1 → outputs.new.err ≡ outputs.old.err) }
 
     // Where the words cannot be read nothing else is.
     ensures unread { MatchResult given (λ words. 1 < length words.items → reader.new ≡ reader.old) (λ _. reader.new ≡ reader.old) }
-    ensures status { result ≤ 2 }
+    ensures status { result.0 ≤ 2 }
 {
     match given {
-        Ok(words) => begin(rt, &words, reader, outputs),
-        Err(error) => tell_unread(Unread::of(&error), &mut outputs.err),
+        Ok(words) => begin(rt, start, &words, reader, outputs),
+        Err(error) => (tell_unread(Unread::of(&error), &mut outputs.err), None),
     }
 }
 
@@ -101,5 +114,6 @@ pub fn start(rt: &HostRuntime) -> u8
 {
     let mut reader = Watched::new(rt.stdin());
     let mut outputs = Outputs::new(Watched::new(rt.stdout()), Watched::new(rt.stderr()));
-    begin_given(rt, given(rt), &mut reader, &mut outputs)
+    let (status, _closing) = begin_given(rt, Unknown, given(rt), &mut reader, &mut outputs);
+    status
 }

@@ -2,10 +2,13 @@
 
 ghost use Rattle.std.specs.Prelude.{◌-◌, ◌^◌, ◌<◌, ◌≤◌, map, string_bytes};
 ghost use Rattle.cli.specs.Outputs.{CanFail};
-ghost use Rattle.cli.specs.Outcomes.{Printed, Tells, MayCome, ComesTo, of_unread};
+ghost use Rattle.sqlite_wal.specs.Files.{image_at};
+ghost use Rattle.cli.specs.Outcomes.{Printed, Tells, ComesTo, of_unread};
+ghost use Rattle.cli.specs.Databases.{LineAt, WordsAt};
 
 use crate::importing::{ask_made, import_file};
 use crate::named::do_on;
+use crate::opening::Closing;
 use crate::outputs::Outputs;
 use crate::printing::{print, refuse};
 use crate::rounds::{Way, do_file};
@@ -14,68 +17,108 @@ use crate::texts::NOT_UTF8;
 use crate::unread::Unread;
 use commands::{Line, LineFault, command};
 use rolls::{Plain, Refusal, Request};
+use sqlite::{FileFrom, Start, Unknown};
 use std::io::Write;
 use std::rt::HostRuntime;
 use web::{Sink, Watched};
 
 /// Does a line, and tells what comes of it. A file is read first, then a database is opened, then a port is bound, and then the
 /// request is judged.
-fn do_line<O: Sink, E: Sink>(rt: &HostRuntime, line: Line, outputs: &mut Outputs<O, E>) -> u8
+fn do_line<S: Start, O: Sink, E: Sink>(
+    rt: &HostRuntime,
+    start: S,
+    line: Line,
+    outputs: &mut Outputs<O, E>,
+) -> (u8, Option<Closing<FileFrom<S>>>)
     requires { CanFail outputs.old }
-    ensures { Tells (MayCome line) outputs.old outputs.new result }
+    ensures { LineAt (image_at S.Start) line result.1 outputs.old outputs.new result.0 }
 {
     match line {
         Line::Serve {
             database,
             port,
             count,
-        } => do_on(rt, &database, Task::Serve(Serving { port, count }), outputs),
+        } => do_on(
+            rt,
+            &database,
+            start,
+            Task::Serve(Serving { port, count }),
+            outputs,
+        ),
         Line::Import {
             database,
             kind,
             id,
             file,
-        } => ask_made(rt, &database, import_file(rt, kind, &id, &file), outputs),
+        } => ask_made(
+            rt,
+            &database,
+            start,
+            import_file(rt, kind, &id, &file),
+            outputs,
+        ),
         Line::OpenRound { database, aim } => {
             let asked = Request::Plain(Plain::OpenRound { aim });
-            do_on(rt, &database, Task::Ask(asked), outputs)
+            do_on(rt, &database, start, Task::Ask(asked), outputs)
         }
         Line::ReopenRound(database) => {
             let asked = Request::Plain(Plain::ReopenRound);
-            do_on(rt, &database, Task::Ask(asked), outputs)
+            do_on(rt, &database, start, Task::Ask(asked), outputs)
         }
-        Line::CloseRound(database) => do_on(rt, &database, Task::Ask(Request::Close), outputs),
+        Line::CloseRound(database) => do_on(
+            rt,
+            &database,
+            start,
+            Task::Ask(Request::Close),
+            outputs,
+        ),
         Line::Report {
             database,
             kind,
             round,
         } => {
             let asked = Request::Report { kind, round };
-            do_on(rt, &database, Task::Ask(asked), outputs)
+            do_on(rt, &database, start, Task::Ask(asked), outputs)
         }
-        Line::Solve(file) => do_file(rt, Way::Solve, &file, outputs),
-        Line::Check(file) => do_file(rt, Way::Check, &file, outputs),
+        Line::Solve(file) => (do_file(rt, Way::Solve, &file, outputs), None),
+        Line::Check(file) => (do_file(rt, Way::Check, &file, outputs), None),
     }
 }
 
-/// Does the line of these words, of which the first is the program's name, and gives the status of the program.
+/// Does the line of these words, or tells their fault.
+fn do_words<S: Start, O: Sink, E: Sink>(
+    rt: &HostRuntime,
+    start: S,
+    words: &[String],
+    outputs: &mut Outputs<O, E>,
+) -> (u8, Option<Closing<FileFrom<S>>>)
+    requires { CanFail outputs.old }
+    ensures { WordsAt (image_at S.Start) (map string_bytes words.now) result.1 outputs.old outputs.new result.0 }
+{
+    match command(rt.alloc(), words) {
+        Ok(line) => do_line(rt, start, line, outputs),
+        Err(LineFault::Memory) => (outputs.refuse(Refusal::Memory), None),
+        Err(LineFault::Help(text)) => (outputs.print(text.as_bytes(), 0), None),
+        Err(LineFault::Fault(text)) => (outputs.tell(text.as_bytes(), 2), None),
+    }
+}
+
+/// Does the line of these words, of which the first is the program's name, and gives the status of the program, and what came of
+/// closing the database file, where one was opened. These are its first contents.
 ///
 /// A result is printed with status 0, and a check that failed with status 1. A refusal, a bad line of a round text or a port
 /// that cannot be bound is told with status 1, a fault of the line with status 2, and help is printed with status 0. Where a writer fails, the status is 1, and what was done stays done.
-pub fn tell_line<O: Sink, E: Sink>(
+pub fn tell_line<S: Start, O: Sink, E: Sink>(
     rt: &HostRuntime,
+    start: S,
     words: &[String],
     outputs: &mut Outputs<O, E>,
-) -> u8
+) -> (u8, Option<Closing<FileFrom<S>>>)
     requires { CanFail outputs.old }
-    ensures { Tells (ComesTo (map string_bytes words.now)) outputs.old outputs.new result }
+    ensures told { Tells (ComesTo (map string_bytes words.now)) outputs.old outputs.new result.0 }
+    ensures file { WordsAt (image_at S.Start) (map string_bytes words.now) result.1 outputs.old outputs.new result.0 }
 {
-    match command(rt.alloc(), words) {
-        Ok(line) => do_line(rt, line, outputs),
-        Err(LineFault::Memory) => outputs.refuse(Refusal::Memory),
-        Err(LineFault::Help(text)) => outputs.print(text.as_bytes(), 0),
-        Err(LineFault::Fault(text)) => outputs.tell(text.as_bytes(), 2),
-    }
+    do_words(rt, start, words, outputs)
 }
 
 /// Tells on `err` why the arguments of the program cannot be read, and gives the status of the program: 1 where there was no
@@ -100,5 +143,6 @@ pub fn line<O: Write + Drop, E: Write + Drop>(
     ensures { result ≤ 2 }
 {
     let mut outputs = Outputs::new(Watched::new(out), Watched::new(err));
-    tell_line(rt, &words, &mut outputs)
+    let (status, _closing) = tell_line(rt, Unknown, &words, &mut outputs);
+    status
 }

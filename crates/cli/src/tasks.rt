@@ -3,7 +3,6 @@
 ghost use Rattle.std.specs.Prelude.{◌≡◌, ◌-◌, ◌^◌, ◌<◌, [], ◌∷◌, IfErr, MatchResult};
 ghost use Rattle.std.specs.Net.Addr.{ipv4_octets};
 ghost use Rattle.std.specs.Net.Socket.{v4_ip, v4_port};
-ghost use Rattle.sqlite.specs.State.{HasCleanDisk};
 ghost use Rattle.sqlite.specs.Held.{state};
 ghost use Rattle.rolls.specs.Run.{Step};
 ghost use Rattle.allotment.specs.Layers.{layers};
@@ -12,7 +11,7 @@ ghost use Rattle.web.specs.Serving.{at_desk};
 ghost use Rattle.cli.specs.Outputs.{CanFail};
 ghost use Rattle.cli.specs.Outcomes.{Tells, IsAsked, IsServed, IsUnbound, ComesOf};
 ghost use Rattle.cli.specs.Inside.Outcomes.{IsCutOff, Serves};
-ghost use Rattle.cli.specs.Inside.Databases.{TakesTo, WasClean};
+ghost use Rattle.cli.specs.Databases.{TakesTo, WasClean};
 
 use crate::outputs::Outputs;
 use crate::texts::labelled;
@@ -52,7 +51,7 @@ fn ask_at<S: Alter, O: Sink, E: Sink>(
     requires { CanFail outputs.old }
     ensures told { Tells (IsAsked asked desk.old.office desk.new.office) outputs.old outputs.new result }
     ensures step { (answer : _) × Step layers desk.old.office asked answer desk.new.office }
-    ensures clean { HasCleanDisk (state S.Store desk.new.store) → HasCleanDisk (state S.Store desk.old.store) }
+    ensures clean { WasClean (state S.Store desk.old.store) (state S.Store desk.new.store) }
 {
     match desk.ask(asked) {
         Ok(reply) => outputs.print_reply(&reply),
@@ -74,6 +73,7 @@ fn serve_at<S: Alter, O: Sink>(
     // Nothing is served before the line of the port is out.
     ensures cut { result ≡ 1 → IsCutOff (at_desk desk.old) serving.port serving.count (O.written out.old) (O.written out.new) (at_desk desk.new) }
     ensures served { (came : _) × Connect (at_desk desk.old) came (at_desk desk.new) }
+    ensures clean { WasClean (state S.Store desk.old.store) (state S.Store desk.new.store) }
 {
     let Ok(()) = write_all(
         out,
@@ -106,6 +106,7 @@ fn serve_bound<S: Alter, O: Sink, E: Sink>(
     requires { CanFail outputs.old }
     ensures told { Tells (λ o. MatchResult bound (λ _. IsServed serving.port serving.count (at_desk desk.old) (at_desk desk.new) o) (λ _. IsUnbound serving.port (at_desk desk.old) (at_desk desk.new) o)) outputs.old outputs.new result }
     ensures served { (came : _) × Connect (at_desk desk.old) came (at_desk desk.new) }
+    ensures clean { WasClean (state S.Store desk.old.store) (state S.Store desk.new.store) }
 
     // Where no port is bound nothing is done at the desk.
     ensures unbound { IfErr bound (λ _. desk.new ≡ desk.old) }
@@ -126,6 +127,7 @@ fn serve_from<S: Alter, O: Sink, E: Sink>(
     requires { CanFail outputs.old }
     ensures told { Tells (ComesOf (Task.Serve serving) (at_desk desk.old) (at_desk desk.new)) outputs.old outputs.new result }
     ensures served { (came : _) × Connect (at_desk desk.old) came (at_desk desk.new) }
+    ensures clean { WasClean (state S.Store desk.old.store) (state S.Store desk.new.store) }
 {
     let bound = TcpListener::bind(rt, loopback(serving.port));
     serve_bound(rt.alloc(), desk, bound, serving, outputs)
@@ -141,7 +143,7 @@ pub(crate) fn do_at<S: Alter, O: Sink, E: Sink>(
     requires { CanFail outputs.old }
     ensures told { Tells (ComesOf task (at_desk desk.old) (at_desk desk.new)) outputs.old outputs.new result }
     ensures taken { TakesTo task (at_desk desk.old) (at_desk desk.new) }
-    ensures clean { WasClean task (state S.Store desk.old.store) (state S.Store desk.new.store) }
+    ensures clean { WasClean (state S.Store desk.old.store) (state S.Store desk.new.store) }
 {
     match task {
         Task::Ask(asked) => ask_at(desk, asked, outputs),

@@ -5,7 +5,7 @@ use Rattle.desk.specs.Kept.{Kept}
 use Rattle.desk.specs.Keeping.{Keeps}
 use Rattle.web.specs.Serving.{AtDesk, at_desk}
 use Rattle.cli.specs.Outcomes.{ComesOf, refused}
-use Rattle.cli.specs.Inside.Databases.{WasClean}
+use Rattle.cli.specs.Databases.{WasClean}
 use Rattle.cli.proofs.Writers.{at_ok, err_told, ok_told, tells_more}
 use Rattle.cli.proofs.databases.do_opened.Goals as goal
 
@@ -28,8 +28,8 @@ returns-in-Ok-clause-left g c =
 
 pub returns-in-Ok-clause-clean : goal.returns-in-Ok-clause-clean
 returns-in-Ok-clause-clean g c =
-    subst (λ (r : Result (Kept g.row.S.Denot) (Refusal × Held g.row.S.Denot)). IfOk r (λ d. WasClean c.args.task (state g.S.Store d.store) (state g.S.Store c.into_connection.result))) (sym c.in-Ok.is)
-    (subst (λ (k : Held g.row.S.Denot). WasClean c.args.task (state g.S.Store c.in-Ok.desk.store) (state g.S.Store k)) (sym c.into_connection.ensures.same) c.do_at-status.ensures.clean)
+    subst (λ (r : Result (Kept g.row.S.Denot) (Refusal × Held g.row.S.Denot)). IfOk r (λ d. WasClean (state g.S.Store d.store) (state g.S.Store c.into_connection.result))) (sym c.in-Ok.is)
+    (subst (λ (k : Held g.row.S.Denot). WasClean (state g.S.Store c.in-Ok.desk.store) (state g.S.Store k)) (sym c.into_connection.ensures.same) c.do_at-status.ensures.clean)
 
 pub returns-in-Err-clause-told : goal.returns-in-Err-clause-told
 returns-in-Err-clause-told g c =

@@ -1,0 +1,52 @@
+-- What was done at a file is an outcome of the task, of the line, and of the words.
+use Rattle.std.proofs.Common.{◌≡◌, ◌⊎◌, inl, inr, ℕ, List, string_bytes, Option, Some, None, Result, Ok, Err, MatchResult}
+use Rattle.sqlite_disk.specs.declared.Disk.{Ghosts}
+use Rattle.sqlite_wal.specs.Recovery.{Image}
+use Rattle.rolls.specs.declared.refusal.Refusal.{Refusal}
+use Rattle.rolls.specs.declared.request.Request.{Request}
+use Rattle.commands.specs.declared.line.Line.{Line}
+use Rattle.commands.specs.declared.line.Line.TheVariants as line
+use Rattle.commands.specs.declared.line.LineFault.{LineFault}
+use Rattle.commands.specs.Reading.{IsAnswer}
+use Rattle.cli.specs.declared.tasks.Task.{Task}
+use Rattle.cli.specs.declared.tasks.Task.TheVariants as task
+use Rattle.cli.specs.Outputs.{Both}
+use Rattle.cli.specs.Outcomes.{ComesTo, ImportsFile, IsUnread, MayCome, MayDo, Outcome, Tells, refused}
+use Rattle.cli.specs.Databases.{AskedAt, Came, CommandAt, DoneAt, LineAt, WordsAt}
+use Rattle.cli.proofs.Imports.{imports_file}
+use Rattle.cli.proofs.Opened.{may_do}
+use Rattle.cli.proofs.Writers.{tells_more}
+
+-- a file that cannot be opened is an outcome of its task
+unopened : (done : Task) (o : Outcome) → IsUnread o → MayDo done o
+unopened done o (inl memory) = inl (inl memory)
+unopened done o (inr storage) = inl (inr (inl storage))
+
+module _ {D : Type 0} {g : Ghosts D} {O E : Type 0} (image : Image) where
+  done_comes : (done : Task) (came : Came D g) (old new : Both O E) (status : ℕ) → DoneAt image done came old new status → Tells (MayDo done) old new status
+  done_comes done (Some came) old new status at = tells_more _ (MayDo done) (λ o is. may_do done _ _ o is) _ _ _ at.told
+  done_comes done None old new status at = tells_more IsUnread (MayDo done) (unopened done) _ _ _ at
+
+  asked_comes : (made : Result Request Refusal) (came : Came D g) (old new : Both O E) (status : ℕ) → AskedAt image made came old new status
+      → Tells (λ o. MatchResult made (λ asked. MayDo (task.Ask asked) o) (λ refusal. o ≡ refused refusal)) old new status
+  asked_comes (Ok asked) came old new status at = done_comes (task.Ask asked) came old new status at
+  asked_comes (Err refusal) came old new status at = at.1
+
+  line_comes : (l : Line) (came : Came D g) (old new : Both O E) (status : ℕ) → LineAt image l came old new status → Tells (MayCome l) old new status
+  line_comes (line.Serve database port count) came old new status at = done_comes _ came old new status at
+  line_comes (line.Import database kind id file) came old new status at =
+      tells_more _ (ImportsFile (string_bytes id) kind) (λ o is. imports_file (string_bytes id) kind at.0 o at.1 is) _ _ _ (asked_comes at.0 came old new status at.2)
+  line_comes (line.OpenRound database aim) came old new status at = done_comes _ came old new status at
+  line_comes (line.ReopenRound database) came old new status at = done_comes _ came old new status at
+  line_comes (line.CloseRound database) came old new status at = done_comes _ came old new status at
+  line_comes (line.Report database kind round) came old new status at = done_comes _ came old new status at
+  line_comes (line.Solve file) came old new status at = at.1
+  line_comes (line.Check file) came old new status at = at.1
+
+  command_comes : (words : List (List ℕ)) (command : Result Line LineFault) (came : Came D g) (old new : Both O E) (status : ℕ) → IsAnswer words command
+      → CommandAt image command came old new status → Tells (ComesTo words) old new status
+  command_comes words (Ok l) came old new status is at = tells_more (MayCome l) (ComesTo words) (λ o may. (Ok l, is, may)) _ _ _ (line_comes l came old new status at)
+  command_comes words (Err fault) came old new status is at = tells_more _ (ComesTo words) (λ o told. (Err fault, is, told)) _ _ _ at.1
+
+  pub words_come : (words : List (List ℕ)) (came : Came D g) (old new : Both O E) (status : ℕ) → WordsAt image words came old new status → Tells (ComesTo words) old new status
+  words_come words came old new status at = command_comes words at.0 came old new status at.1 at.2

@@ -1,0 +1,168 @@
+-- What a line does at a database and leaves of it, and what comes of closing the file.
+use Rattle.std.specs.Prelude.{◌≡◌, ◌⊎◌, ℕ, false, List, string_bytes, Option, Some, None, Result, Ok, Err, IfOk, IfErr}
+use Rattle.sqlite_disk.specs.declared.Disk.{Ghosts}
+use Rattle.sqlite_disk.specs.declared.Files.{Files}
+use Rattle.sqlite_wal.specs.Reads.{AreClean}
+use Rattle.sqlite_trees.specs.View.{IsClean}
+use Rattle.sqlite_store.specs.declared.store.FileStore.{FileStore}
+use Rattle.sqlite_store.specs.FileStore.{view}
+use Rattle.sqlite.specs.declared.error.Error.{Error}
+use Rattle.sqlite.specs.Effect.{Database}
+use Rattle.sqlite.specs.State.{State as Seen, HasCleanDisk}
+use Rattle.sqlite.specs.Held.{Held}
+use Rattle.sqlite.specs.Files.{HoldsDatabase, IsClosed, IsOpened, FailsToClose, file_state}
+use Rattle.sqlite.specs.Start.{FindsIn}
+use Rattle.sqlite_wal.specs.Recovery.{Image}
+use Rattle.sqlite_trees.specs.Tree.{Trees}
+use Rattle.sqlite.specs.Closing.{IsCopied}
+use Rattle.rolls.specs.declared.refusal.Refusal.{Refusal}
+use Rattle.rolls.specs.declared.refusal.Refusal.TheVariants as no
+use Rattle.rolls.specs.declared.request.Plain.TheVariants as plain
+use Rattle.rolls.specs.declared.request.Reply.{Reply}
+use Rattle.rolls.specs.declared.request.Request.{Request}
+use Rattle.rolls.specs.declared.request.Request.TheVariants as request
+use Rattle.rolls.specs.State.{State, empty}
+use Rattle.rolls.specs.Fit.{IsFit}
+use Rattle.rolls.specs.Run.{Step}
+use Rattle.allotment.specs.Layers.{layers}
+use Rattle.tables.specs.Causes.{IsStopped}
+use Rattle.tables.specs.Steps.{IsKept}
+use Rattle.store.specs.Causes.{IsHinderedOpening}
+use Rattle.store.specs.Reading.{IsDamaged}
+use Rattle.editions.specs.declared.Edition.{Edition}
+use Rattle.store.specs.Tables.{HasNone, StandsIn}
+use Rattle.desk.specs.Keeping.{Keeps}
+use Rattle.web.specs.Connections.{Connect}
+use Rattle.web.specs.Serving.{AtDesk, just_opened}
+use Rattle.wire.specs.declared.outcome.Served.{Served}
+use Rattle.wire.specs.declared.outcome.StreamFault.{StreamFault}
+use Rattle.round_files.specs.Rounds.{IsSolved, IsChecked}
+use Rattle.commands.specs.declared.line.Line.{Line}
+use Rattle.commands.specs.declared.line.Line.TheVariants as line
+use Rattle.commands.specs.declared.line.LineFault.{LineFault}
+use Rattle.commands.specs.Reading.{IsAnswer}
+use Rattle.cli.specs.declared.tasks.Task.{Task}
+use Rattle.cli.specs.declared.tasks.Task.TheVariants as task
+use Rattle.cli.specs.Outputs.{Both}
+use Rattle.cli.specs.Imports.{IsImportOfFile}
+use Rattle.cli.specs.Outcomes.{ComesOf, IsUnread, MayComeOf, OnFile, Outcome, Tells, refused}
+
+-- what a task makes of what is at a desk: one step of its request, or what its connections make
+abbrev pub TakesTo : Task → AtDesk → AtDesk → Type 0
+TakesTo (task.Ask asked) before after = (answer : Result Reply Refusal) × Step layers before.office asked answer after.office
+TakesTo (task.Serve serving) before after = (came : List (Result Served StreamFault)) × Connect before came after
+
+-- the tables stand for what a task makes of the office at this desk, which is fit
+pub record StandsAfter (done : Task) (before : AtDesk) (seen : Seen) : Type 0 where
+  pub fit : IsFit before.office
+  pub after : AtDesk
+  pub taken : TakesTo done before after
+  pub stands : Keeps seen after.office
+
+-- a disk that is clean behind a task was clean before it
+abbrev pub WasClean : Seen → Seen → Type 0
+WasClean before after = HasCleanDisk after → HasCleanDisk before
+
+-- the office that is opened of a database: the empty one where none of the tables is there, and else the one that they stand for in some edition
+abbrev pub IsOfficeOf : Database → State → Type 0
+IsOfficeOf db office = (HasNone db.schema × (office ≡ empty)) ⊎ ((e : Edition) × StandsIn e db office)
+
+-- a task is done at the office of the database before, unless the disk has given back what was not written
+abbrev pub IsFoundFor : Seen → Seen → State → Type 0
+IsFoundFor before after office = HasCleanDisk after → HasCleanDisk before × IsOfficeOf before.now office
+
+-- why the office of a database is not opened: for want of memory, by a fault of the storage, or since its tables are damaged
+abbrev pub IsWhyUnopened : Refusal → Seen → Seen → Type 0
+IsWhyUnopened refusal before after =
+    (refusal ≡ no.Memory)
+    ⊎ (((refusal ≡ no.Storage) × (before.in_transaction ≡ false → HasCleanDisk after → IsStopped IsHinderedOpening before after))
+    ⊎ ((refusal ≡ no.Damaged) × (HasCleanDisk after → IsDamaged before.now × (HasNone before.now.schema → ⊥))))
+
+-- the database is as before
+abbrev pub StaysSo : Seen → Seen → Type 0
+StaysSo before after = HasCleanDisk after → IsKept before after
+
+-- The office of the database is not opened: why is told, and the database stays.
+pub record IsNotDone (before after : Seen) (o : Outcome) : Type 0 where
+  pub refusal : Refusal
+  pub why : IsWhyUnopened refusal before after
+  pub told : o ≡ refused refusal
+  pub stays : StaysSo before after
+
+-- The task is done at the office of the database: what comes of it is told, and the tables stand for the office after it.
+pub record IsDone (done : Task) (before after : Seen) (o : Outcome) : Type 0 where
+  pub office : State
+  pub found : IsFoundFor before after office
+  pub fit : IsFit office
+  pub next : AtDesk
+  pub comes : ComesOf done (just_opened office) next o
+  pub stands : Keeps after next.office
+
+-- what a task at a database comes to, and what the database is then
+abbrev pub DoesOver : Task → Seen → Seen → Outcome → Type 0
+DoesOver done before after o = IsNotDone before after o ⊎ IsDone done before after o
+
+-- What a task with this status leaves of a database, whether or not it could be told: what it makes of the office, or, where that was not
+-- opened, with status 1, the database as it was.
+abbrev pub LeftBy : Task → ℕ → Seen → Seen → Type 0
+LeftBy done status before after =
+    ((office : State) × IsFoundFor before after office × StandsAfter done (just_opened office) after) ⊎ ((status ≡ 1) × StaysSo before after)
+
+-- What comes of closing a database file: the last commit is in the file alone, or there was no memory or the disk failed, and the two
+-- files hold it as before.
+pub record IsClosing {D : Type 0} {g : Ghosts D} (last : Held (FileStore D g)) (came : Result (Files D) (Error × FileStore D g)) : Type 0 where
+  pub closed : IfOk came (λ files. AreClean g files.log files.db → IsCopied last files)
+  pub failed : IfErr came (λ e. IsClosed last e.1 × (IsClean (view e.1) → FailsToClose last e.1 e.0))
+
+-- the office that the one database stands for which these first contents hold
+abbrev pub IsOfficeIn : Image → State → Type 0
+IsOfficeIn image office = (db : Trees) → HoldsDatabase image db → (it : Database) × (it.trees ≡ db) × IsOfficeOf it office
+
+-- what came of closing a database file, where one was opened
+abbrev pub Came : (D : Type 0) → Ghosts D → Type 0
+Came D g = Option (Result (Files D) (Error × FileStore D g))
+
+-- A database file with these first contents was opened, a task was done over it, told and left, and the file was closed, which came to this.
+-- The office that was found is the one of the file.
+pub record DoneOver {D : Type 0} {g : Ghosts D} {O E : Type 0} (image : Image) (done : Task) (came : Result (Files D) (Error × FileStore D g))
+    (old new : Both O E) (status : ℕ) : Type 0 where
+  pub first : Held (FileStore D g)
+  pub last : Held (FileStore D g)
+  pub found : HasCleanDisk (file_state first) → FindsIn image (file_state first)
+  pub opened : HasCleanDisk (file_state first) → IsOpened first
+  pub of_file : (office : State) → IsFoundFor (file_state first) (file_state last) office → HasCleanDisk (file_state last) → IsOfficeIn image office
+  pub told : Tells (DoesOver done (file_state first) (file_state last)) old new status
+  pub left : LeftBy done status (file_state first) (file_state last)
+  pub closing : IsClosing last came
+
+module _ {D : Type 0} {g : Ghosts D} {O E : Type 0} (image : Image) where
+  -- a task was done over the file, or it could not be opened
+  abbrev pub DoneAt : Task → Came D g → Both O E → Both O E → ℕ → Type 0
+  DoneAt done (Some came) old new status = DoneOver image done came old new status
+  DoneAt done None old new status = Tells IsUnread old new status
+
+  -- what was made of an import file was asked over the file, or was refused, and nothing was opened
+  abbrev pub AskedAt : Result Request Refusal → Came D g → Both O E → Both O E → ℕ → Type 0
+  AskedAt (Ok asked) came old new status = DoneAt (task.Ask asked) came old new status
+  AskedAt (Err refusal) came old new status = (came ≡ None) × Tells (λ o. o ≡ refused refusal) old new status
+
+  -- a line was done at the database file that it names, if it names one
+  abbrev pub LineAt : Line → Came D g → Both O E → Both O E → ℕ → Type 0
+  LineAt (line.Serve database port count) came old new status = DoneAt (task.Serve (record { port = port; count = count })) came old new status
+  LineAt (line.Import database kind id file) came old new status =
+      (made : Result Request Refusal) × IsImportOfFile (string_bytes id) kind made × AskedAt made came old new status
+  LineAt (line.OpenRound database aim) came old new status = DoneAt (task.Ask (request.Plain (plain.OpenRound aim))) came old new status
+  LineAt (line.ReopenRound database) came old new status = DoneAt (task.Ask (request.Plain plain.ReopenRound)) came old new status
+  LineAt (line.CloseRound database) came old new status = DoneAt (task.Ask request.Close) came old new status
+  LineAt (line.Report database kind round) came old new status = DoneAt (task.Ask (request.Report kind round)) came old new status
+  LineAt (line.Solve file) came old new status = (came ≡ None) × Tells (OnFile IsSolved) old new status
+  LineAt (line.Check file) came old new status = (came ≡ None) × Tells (OnFile IsChecked) old new status
+
+  -- the line of the words was done so, or their fault was told, and nothing was opened
+  abbrev pub CommandAt : Result Line LineFault → Came D g → Both O E → Both O E → ℕ → Type 0
+  CommandAt (Ok line) came old new status = LineAt line came old new status
+  CommandAt (Err fault) came old new status = (came ≡ None) × Tells (MayComeOf (Err fault)) old new status
+
+  -- the same of any words that are read so
+  abbrev pub WordsAt : List (List ℕ) → Came D g → Both O E → Both O E → ℕ → Type 0
+  WordsAt words came old new status = (command : Result Line LineFault) × IsAnswer words command × CommandAt command came old new status
