@@ -1,5 +1,6 @@
 -- What comes of a message.
-use Rattle.std.proofs.Common.{◌≡◌, ◌⊎◌, inl, inr, ℕ, List, Option, None, IfSome, Result, Ok, Err, refl, sym, subst}
+use Rattle.std.proofs.Common.{◌≡◌, ◌⊎◌, inl, inr, ℕ, List, Option, None, IfSome, Result, Ok, Err, refl, sym, subst, ap}
+use Rattle.sqlite_trees.specs.declared.store.Store.{Ghosts}
 use Rattle.rolls.specs.declared.refusal.Refusal.{Refusal}
 use Rattle.rolls.specs.declared.refusal.Refusal.TheVariants.{Memory}
 use Rattle.rolls.specs.declared.request.Plain.TheVariants.{PutSupervisor, PutProject, PutStudent, OpenRound, PutList, DropList, ReopenRound, GetSupervisor, GetProject, GetStudent, GetRound}
@@ -11,9 +12,11 @@ use Rattle.rolls.specs.Refusing.{refusal_of}
 use Rattle.rolls.specs.Run.{Makes, Step, refusal}
 use Rattle.allotment.specs.Layers.{layers}
 use Rattle.desk.specs.Keeping.{repeated_rows}
+use Rattle.desk.specs.Kept.{Kept}
 use Rattle.desk.specs.Sessions.{GoesOn}
+use Rattle.wire.specs.Run.{Said}
 use Rattle.api.specs.Texts.{IsRead, refusal_text, text_of}
-use Rattle.web.specs.Serving.{Answers, AtDesk, Gets}
+use Rattle.web.specs.Serving.{Answers, AnswersAt, AnswersFrom, AnswersMessage, AtDesk, Gets, GetsAt, at_desk}
 
 -- an answer that is the one of a change has no text of the office in it
 no_read : (a b : Reply) → a ≡ b → IsRead (Ok a) → IsRead (Ok b)
@@ -57,9 +60,19 @@ text_wants o n request.RoundText a read allowed made goes = wants_memory o n _ a
 text_wants o n (request.Report kind round) a read allowed made goes = wants_memory o n _ allowed (λ number is. cc) refl (λ is. cc) made.1 goes
 text_wants o n (request.Import id kind bytes) a read allowed made goes = absurd (no_read a _ made.0 read)
 
--- a request that gets an answer is answered by its text, or as one that wants memory
-pub answered_here : (o n : AtDesk) (bytes : List ℕ) (q : Request) (a : Result Reply Refusal) → Gets o q a n → (bytes ≡ text_of a) ⊎ (IsRead a × (bytes ≡ refusal_text Memory))
-    → Answers o (Ok q) bytes n
-answered_here o n bytes q a gets (inl told) = (a, gets, told)
-answered_here o n bytes q (Ok reply) gets (inr told) = (Err Memory, text_wants o n q reply told.0 gets.step.0 gets.step.1 gets.goes, told.1)
-answered_here o n bytes q (Err refused) gets (inr told) = absurd told.0
+module _ {S : Type 0} (ghosts : Ghosts S) where
+  -- a request that gets an answer is answered by its text, or as one that wants memory
+  pub answered_from : (o n : Kept S) (bytes : List ℕ) (q : Request) (a : Result Reply Refusal) → GetsAt ghosts o q a n
+      → (bytes ≡ text_of a) ⊎ (IsRead a × (bytes ≡ refusal_text Memory)) → AnswersAt ghosts o (Ok q) bytes n
+  answered_from o n bytes q a at (inl told) = (a, at, told)
+  answered_from o n bytes q (Ok reply) at (inr told) =
+      (Err Memory, record { gets = text_wants (at_desk o) (at_desk n) q reply told.0 at.gets.step.0 at.gets.step.1 at.gets.goes; cause = λ alone clean is. cc }, told.1)
+  answered_from o n bytes q (Err refused) at (inr told) = absurd told.0
+
+  -- a desk with its tables answers as what is seen of it
+  answers_seen : (o n : Kept S) (read : Result Request Refusal) (bytes : List ℕ) → AnswersAt ghosts o read bytes n → Answers (at_desk o) read bytes (at_desk n)
+  answers_seen o n (Ok q) bytes at = (at.0, at.1.gets, at.2)
+  answers_seen o n (Err refusal) bytes at = (at.0, ap at_desk at.1)
+
+  pub message_seen : (o : Kept S) (words : Said) (bytes : List ℕ) (n : Kept S) → AnswersFrom ghosts o words bytes n → AnswersMessage (at_desk o) words bytes (at_desk n)
+  message_seen o words bytes n from = (from.read, from.is_read, answers_seen o n from.read bytes from.answers)

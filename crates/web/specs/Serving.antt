@@ -1,5 +1,8 @@
 -- What the office answers to a message.
 use Rattle.std.specs.Prelude.{◌≡◌, ℕ, List, Option, None, Result, Ok, Err}
+use Rattle.sqlite.specs.Held.{state}
+use Rattle.sqlite.specs.State.{HasCleanDisk}
+use Rattle.sqlite_trees.specs.declared.store.Store.{Ghosts}
 use Rattle.rolls.specs.declared.refusal.Refusal.{Refusal}
 use Rattle.rolls.specs.declared.refusal.Refusal.TheVariants as no
 use Rattle.rolls.specs.declared.request.Reply.{Reply}
@@ -8,6 +11,9 @@ use Rattle.rolls.specs.declared.request.Request.{Request}
 use Rattle.rolls.specs.Run.{Step}
 use Rattle.solver.specs.Sitting.{Sitting}
 use Rattle.allotment.specs.Layers.{layers}
+use Rattle.tables.specs.Causes.{IsCaused}
+use Rattle.store.specs.Saving.{AreActedOn}
+use Rattle.desk.specs.Causes.{IsHinderedToAsk}
 use Rattle.desk.specs.Kept.{Kept}
 use Rattle.desk.specs.Sessions.{AnswersAtOnce, GoesOn, IsToldRight}
 use Rattle.wire.specs.declared.outcome.End.{End}
@@ -47,6 +53,25 @@ Answers before (Err refusal) bytes after = (bytes ≡ refusal_text refusal) × (
 -- else only where it may be the answer of the request; never after a change.
 abbrev pub AnswersMessage : AtDesk → Said → List ℕ → AtDesk → Type 0
 AnswersMessage before said bytes after = (read : Result Request Refusal) × IsReadAs said read × Answers before read bytes after
+
+module _ {S : Type 0} (ghosts : Ghosts S) where
+  -- the same where its tables are kept: a fault of the storage has its cause in them, unless a foreign key of another table acts there
+  pub record GetsAt (before : Kept S) (asked : Request) (answer : Result Reply Refusal) (after : Kept S) : Type 0 where
+    pub gets : Gets (at_desk before) asked answer (at_desk after)
+    pub cause : (AreActedOn (state ghosts before.store).now.schema → ⊥)
+        → IsCaused no.Storage (IsHinderedToAsk before.office asked) answer (state ghosts before.store) (state ghosts after.store)
+
+  -- a request is answered so, or what is no request
+  abbrev pub AnswersAt : Kept S → Result Request Refusal → List ℕ → Kept S → Type 0
+  AnswersAt before (Ok asked) bytes after = (answer : Result Reply Refusal) × GetsAt before asked answer after × (bytes ≡ text_of answer)
+  AnswersAt before (Err refusal) bytes after = (bytes ≡ refusal_text refusal) × (after ≡ before)
+
+  -- a message is answered so, and a disk that is clean behind it was clean before it
+  pub record AnswersFrom (before : Kept S) (said : Said) (bytes : List ℕ) (after : Kept S) : Type 0 where
+    pub read : Result Request Refusal
+    pub is_read : IsReadAs said read
+    pub answers : AnswersAt before read bytes after
+    pub clean : HasCleanDisk (state ghosts after.store) → HasCleanDisk (state ghosts before.store)
 
 -- the refusal of an end that is answered: one that is not above a limit is a bad head
 abbrev pub refusal_at : End → Refusal

@@ -4,7 +4,7 @@ ghost use Rattle.sqlite.specs.Held.{state};
 ghost use Rattle.sqlite.specs.State.{HasCleanDisk};
 ghost use Rattle.wire.specs.Run.{read_failed, write_failed};
 ghost use Rattle.wire.specs.Served.{BrokeOff, ServedTo};
-ghost use Rattle.web.specs.Serving.{AnswersMessage, at_desk, refusal_at, end_text};
+ghost use Rattle.web.specs.Serving.{AnswersFrom, AnswersMessage, at_desk, refusal_at, end_text};
 
 use api::{Routes, answer_of, refusal_answer};
 use desk::Desk;
@@ -31,9 +31,7 @@ fn refusal_at(end: End) -> Refusal
 }
 
 impl<S: Alter> Handler<Desk<S>> for Clerk {
-    // A disk that is clean behind a message was clean before it.
-    ghost step = { λ before said bytes after. AnswersMessage (at_desk before) said bytes (at_desk after)
-        × (HasCleanDisk (state S.Store after.store) → HasCleanDisk (state S.Store before.store)) };
+    ghost step = { AnswersFrom S.Store };
 
     ghost refusal = { end_text };
 
@@ -71,6 +69,12 @@ pub fn serve_stream<S: Alter, R: Source, W: Sink>(
     ensures broken { IfErr result (λ fault. BrokeOff AnswersMessage end_text (at_desk desk.old)
         (R.left reader.old) (W.written writer.old) (R.left reader.new) (W.written writer.new)
         (at_desk desk.new) fault) }
+
+    // The same of the desk with its tables: each fault of the storage has its cause in them.
+    ensures served_from { IfOk result (λ served. ServedTo (AnswersFrom S.Store) end_text desk.old
+        (R.left reader.old) (W.written writer.old) (R.left reader.new) (W.written writer.new) served desk.new) }
+    ensures broken_from { IfErr result (λ fault. BrokeOff (AnswersFrom S.Store) end_text desk.old
+        (R.left reader.old) (W.written writer.old) (R.left reader.new) (W.written writer.new) desk.new fault) }
 
     // A disk that is clean behind the stream was clean before it.
     ensures clean { HasCleanDisk (state S.Store desk.new.store) → HasCleanDisk (state S.Store desk.old.store) }
