@@ -1,5 +1,6 @@
 -- Why a call of the store failed, from why the statement did on which it ended.
-use Rattle.std.proofs.Common.{◌≡◌, ◌≤◌, ◌<◌, inl, inr, ℕ, true, List, [], take, get_or, length, Option, Some, Result, slice_get, refl, subst}
+use Rattle.std.proofs.Common.{◌≡◌, ◌≤◌, ◌<◌, ◌+◌, inl, inr, ℕ, true, List, [], ◌∷◌, ◌++◌, take, get_or, length, Option, Some, Result, slice_get, refl, sym, ap, subst, ◌∙◌}
+use Rattle.std.proofs.lemmas.List.{take_more, take_all}
 use Rattle.sqlite.specs.declared.error.Error.{Error}
 use Rattle.sqlite.specs.Effect.{Database}
 use Rattle.sqlite.specs.Steps.{FailsToCommit}
@@ -11,7 +12,7 @@ use Rattle.tables.specs.Faults.{fault_of}
 use Rattle.std.proofs.lemmas.Bool.{cases_Bool}
 use Rattle.sqlite_rules.specs.Lists.{Has}
 use Rattle.rolls.specs.declared.row.Row.{Row}
-use Rattle.tables.specs.Causes.{IsCausedInside, IsStopped, IsUnread}
+use Rattle.tables.specs.Causes.{IsCausedInside, IsRunInside, IsStopped, IsUnread}
 use Rattle.store.specs.Inside.Reading.{ReadsSome}
 use Rattle.editions.specs.declared.Edition.{Edition as AnEdition}
 use Rattle.editions.specs.declared.Edition.TheVariants.{First, Second, Third}
@@ -19,7 +20,6 @@ use Rattle.store.specs.Editions.{beyond, rolls_of}
 use Rattle.store.specs.Rows.{columns, kept, table_of}
 use Rattle.store.proofs.Columns.{has_left}
 use Rattle.store.proofs.ListedTables.{is_next}
-use Rattle.tables.specs.Inside.Steps.{Stays}
 use Rattle.tables.specs.Table.{sql_of}
 use Rattle.tables.proofs.Causes.{stopped_after, stopped_as, stopped_before, uncommitted}
 use Rattle.store.specs.declared.fault.StoreFault.TheVariants.{Storage}
@@ -27,19 +27,35 @@ use Rattle.store.specs.Inside.Faults.{of_table}
 use Rattle.store.specs.Inside.Saving.{entering}
 use Rattle.store.specs.declared.saving.Way.{Way}
 use Rattle.store.specs.declared.saving.Way.TheVariants.{InPlace, New}
-use Rattle.store.specs.Causes.{IsHinderedAfter, IsHinderedChange, IsHinderedReading}
-use Rattle.store.specs.Inside.Causes.{IsHinderedToEnter}
+use Rattle.store.specs.Causes.{GoesThrough, IsHinderedAfter, IsHinderedChange, IsHinderedReading, Ran}
+use Rattle.store.specs.Inside.Causes.{IsHinderedToEnter, WentEntering}
 
 -- a fault of the storage is one of a statement
 pub of_storage : (f : TableFault) → of_table f ≡ Storage → f ≡ fault.Storage
 of_storage fault.Memory h = cc
 of_storage fault.Storage h = refl
 
+-- several went through, and one more
+went_more : {X : Type 0} (Goes : X → Option ℕ → Database → Database → Type 0) (done : List X) (x : X) (limit : Option ℕ) (a b c : Database) → Ran Goes done limit a b → Goes x limit b c → Ran Goes (done ++ x ∷ []) limit a c
+went_more Goes [] x limit a b c same goes = (c, subst (λ (d : Database). Goes x limit d c) same goes, refl)
+went_more Goes (y ∷ done) x limit a b c ran goes = (ran.0, ran.1, went_more Goes done x limit ran.0 b c ran.2 goes)
+
+-- the same of calls
+pub ran_more : {X : Type 0} (Goes : X → Option ℕ → Database → Database → Type 0) (i : ℕ) (all : List X) (x d : X) (a b c : Seen) → i < length all → x ≡ get_or all i d → b.step_limit ≡ a.step_limit → Ran Goes (take i all) a.step_limit a.now b.now
+    → Goes x b.step_limit b.now c.now → Ran Goes (take (i + 1) all) a.step_limit a.now c.now
+ran_more Goes i all x d a b c low is limit ran goes =
+    let more : take i all ++ x ∷ [] ≡ take (i + 1) all = ap (λ y. take i all ++ y ∷ []) is ∙ sym (take_more all i d low) in
+    subst (λ xs. Ran Goes xs a.step_limit a.now c.now) more (went_more Goes (take i all) x a.step_limit a.now b.now c.now ran (subst (λ l. Goes x l b.now c.now) limit goes))
+
+-- all of them
+pub ran_all : {X : Type 0} (Goes : X → Option ℕ → Database → Database → Type 0) (i : ℕ) (all : List X) (a b : Seen) → length all ≤ i → Ran Goes (take i all) a.step_limit a.now b.now → Ran Goes all a.step_limit a.now b.now
+ran_all Goes i all a b end = subst (λ xs. Ran Goes xs a.step_limit a.now b.now) (take_all i all end)
+
 -- one of several was refused
-pub one_refused : {X : Type 0} (Makes : List X → Database → Database → Type 0) (H : X → Option ℕ → Database → Type 0) (i : ℕ) (all : List X) (one : X) (a b c : Seen) → slice_get all i ≡ Some one → Survives a b (λ _. ⊥) → HasCleanDisk b → b.faults ≤ c.faults
-    → Stays (Makes (take i all)) a b → IsStopped (H one) b c → IsStopped (IsHinderedAfter Makes H all) a c
-one_refused Makes H i all one a b c there survives clean up made =
-    stopped_after (H one) (IsHinderedAfter Makes H all) a b c survives clean up (λ h. record { count = i; one = one; there = there; between = b.now; made = made.step; hindered = h })
+pub one_refused : {X : Type 0} (Goes : X → Option ℕ → Database → Database → Type 0) (H : X → Option ℕ → Database → Type 0) (i : ℕ) (all : List X) (one : X) (a b c : Seen) → slice_get all i ≡ Some one → Survives a b (λ _. ⊥) → HasCleanDisk b → b.faults ≤ c.faults
+    → Ran Goes (take i all) a.step_limit a.now b.now → IsStopped (H one) b c → IsStopped (IsHinderedAfter Goes H all) a c
+one_refused Goes H i all one a b c there survives clean up ran =
+    stopped_after (H one) (IsHinderedAfter Goes H all) a b c survives clean up (λ h. record { count = i; one = one; there = there; between = b.now; ran = ran; hindered = h })
 
 -- a call after another that changed nothing
 pub unchanged_before : (H K : Option ℕ → Database → Type 0) (a b c : Seen) → IsUnchanged a b → Survives a b (λ _. ⊥) → HasCleanDisk b → b.faults ≤ c.faults → ((limit : Option ℕ) (db : Database) → H limit db → K limit db) → IsStopped H b c → IsStopped K a c
@@ -68,3 +84,8 @@ table_unread e tables are i rows a b c d low some survives clean up stops = elim
 pub refused_entering : {A : Type 0} (way : Way) (r : Row) (result : Result A TableFault) (a b : Seen) → IsCausedInside (IsHinderedToEnter way (table_of r) (columns r)) result a b → IsCausedInside (IsHinderedChange (entering way r)) result a b
 refused_entering InPlace r result a b h = h
 refused_entering New r result a b h = h
+
+-- and one that is brought into its table is a change that goes through
+pub went_entering : {A : Type 0} (way : Way) (r : Row) (result : Result A TableFault) (a b : Seen) → IsRunInside (WentEntering way (table_of r) (columns r)) result a b → IsRunInside (GoesThrough (entering way r)) result a b
+went_entering InPlace r result a b h = h
+went_entering New r result a b h = h

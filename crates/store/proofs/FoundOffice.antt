@@ -69,4 +69,7 @@ found_in renews upgrades e rows office old new h fit of =
       fit = fit;
       asks = upgrade_asks e rows;
       turned = upgrades e rows office fit in_it;
+      rows = rows;
+      are = in_it;
+      raise = refl;
     }

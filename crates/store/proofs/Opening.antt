@@ -1,5 +1,5 @@
 -- What comes of an opening: the office that was read, in the latest edition or raised to it.
-use Rattle.std.proofs.Common.{◌≡◌, ◌≢◌, ◌<◌, Result, Ok, Err, OnErr, List, inl, inr, refl, sym, subst, ◌∙◌, arith}
+use Rattle.std.proofs.Common.{◌≡◌, ◌≢◌, ◌<◌, ◌≤◌, Result, Ok, Err, OnErr, List, inl, inr, refl, sym, subst, ◌∙◌, arith}
 use Rattle.sqlite.specs.State.{State as Seen, HasCleanDisk, IsUnchanged, Survives}
 use Rattle.sqlite.specs.Effect.{Database}
 use Rattle.sqlite.specs.Tree.{Trees}
@@ -10,6 +10,9 @@ use Rattle.editions.specs.declared.Edition.{Edition as AnEdition}
 use Rattle.editions.specs.declared.Edition.TheVariants.{First, Second, Third}
 use Rattle.editions.specs.Editions.{row_at}
 use Rattle.tables.specs.Steps.{HasSaved, IsKept, IsLeft}
+use Rattle.tables.specs.Causes.{IsStopped}
+use Rattle.tables.proofs.Causes.{stopped_after}
+use Rattle.store.specs.Causes.{IsHinderedOpening, IsHinderedToRaise}
 use Rattle.store.specs.Editions.{IsEarlier, beyond, latest, number_of, rolls_of}
 use Rattle.store.specs.Reading.{IsDamaged, IsUnfitIn}
 use Rattle.store.specs.Tables.{Brings, HasNoneOf, HoldIn, Opens, Raises, StandsIn}
@@ -75,3 +78,18 @@ unfit_all e db alone later unfit f office fit stands = elim (one_or_apart e f) [
   | inr (inl apart) ↦ later f apart.later stands.alone
   | inr (inr apart) ↦ not_beyond f e db (row_at f office) stands.holds apart alone
 ]
+
+-- tables of an earlier edition were read, and are not raised
+pub raise_refused : (e : AnEdition) (office : State) (changes : List Change) (old mid new : Seen) → IsEarlier e → HasNoneOf (beyond e) old.now.schema → Finds e office changes old mid → IsUnchanged old mid → Survives old mid (λ _. ⊥) → HasCleanDisk mid
+    → mid.faults ≤ new.faults → IsStopped (IsHinderedToRaise e changes) mid new → IsStopped IsHinderedOpening old new
+raise_refused e office changes old mid new earlier alone found same survives clean up stops =
+    stopped_after (IsHinderedToRaise e changes) IsHinderedOpening old mid new survives clean up (λ h.
+    inr (inr (record {
+      edition = e;
+      earlier = earlier;
+      office = office;
+      stands = record { holds = found.holds; allowed = found.allowed; alone = alone };
+      rows = found.rows;
+      are = found.are;
+      hindered = subst (λ (cs : List Change). IsHinderedToRaise e cs old.step_limit old.now) found.raise (subst (IsHinderedToRaise e changes old.step_limit) same.0.now_is h);
+    }))) stops

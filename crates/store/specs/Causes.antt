@@ -8,15 +8,17 @@ use Rattle.rolls.specs.declared.row.Change.TheVariants.{Add, Put, Take, TakeList
 use Rattle.tables.specs.declared.table.Table.{Table}
 use Rattle.tables.specs.declared.table.Table.TheVariants.{Edition}
 use Rattle.tables.specs.declared.table.Group.TheVariants as group
-use Rattle.tables.specs.Table.{Sharing, key_in, sharing, sql_of, table_at}
-use Rattle.tables.specs.Writes.{Puts}
-use Rattle.tables.specs.Causes.{IsHindered, IsHinderedToPut, IsUnread, IsUnready}
+use Rattle.tables.specs.Table.{Sharing, sharing, sql_of}
+use Rattle.tables.specs.Causes.{IsHindered, IsHinderedToPut, IsUnread, IsUnready, Went, WentPutting}
 use Rattle.sqlite.specs.Order.{Row as Cells}
 use Rattle.editions.specs.declared.Edition.{Edition as AnEdition}
 use Rattle.store.specs.Editions.{IsEarlier, beyond, latest, number_of, raised}
 use Rattle.store.specs.Rows.{columns, kept, key_columns, list_columns, round_columns, table_at_key, table_of}
-use Rattle.store.specs.Saving.{Applies, AreActedOnAmong}
-use Rattle.store.specs.Tables.{HasNone, MakesTables}
+use Rattle.store.specs.Saving.{AreActedOnAmong}
+use Rattle.store.specs.Tables.{HasNone, StandsIn}
+use Rattle.rolls.specs.declared.row.Row.{Row}
+use Rattle.rolls.specs.State.{State}
+use Rattle.editions.specs.Editions.{AreRowsIn, upgrade}
 
 -- a change is refused
 abbrev pub IsHinderedChange : Change → Option ℕ → Database → Type 0
@@ -26,22 +28,39 @@ IsHinderedChange (Take key) = IsHindered (sql_of (table_at_key key)).delete (key
 IsHinderedChange (TakeList round student) = IsHindered (sharing group.List).removal (list_columns round student)
 IsHinderedChange (TakePlacements round) = IsHindered (sharing group.Placed).removal (round_columns round)
 
+-- a change goes through
+abbrev pub GoesThrough : Change → Option ℕ → Database → Database → Type 0
+GoesThrough (Put row) = WentPutting (table_of row) (columns row)
+GoesThrough (Add row) = Went (sql_of (table_of row)).insert (columns row)
+GoesThrough (Take key) = Went (sql_of (table_at_key key)).delete (key_columns key)
+GoesThrough (TakeList round student) = Went (sharing group.List).removal (list_columns round student)
+GoesThrough (TakePlacements round) = Went (sharing group.Placed).removal (round_columns round)
+
+-- several go through one after another
+abbrev pub Ran : {X : Type 0} → (X → Option ℕ → Database → Database → Type 0) → List X → Option ℕ → Database → Database → Type 0
+Ran Goes [] limit db now = now ≡ db
+Ran Goes (x ∷ more) limit db now = (mid : Database) × Goes x limit db mid × Ran Goes more limit mid now
+
+-- these tables are made one after another
+abbrev pub RanTables : List Table → Option ℕ → Database → Database → Type 0
+RanTables = Ran (λ table. Went (sql_of table).create [])
+
 -- the row of the latest edition
 abbrev pub latest_number : Cells
 latest_number = Int (pos 1) ∷ Int (pos (number_of latest)) ∷ []
 
--- one of several is refused, once those before it are made
-pub record IsHinderedAfter {X : Type 0} (Makes : List X → Database → Database → Type 0) (IsHinderedAt : X → Option ℕ → Database → Type 0) (all : List X) (limit : Option ℕ) (db : Database) : Type 0 where
+-- one of several is refused, once those before it went through
+pub record IsHinderedAfter {X : Type 0} (Goes : X → Option ℕ → Database → Database → Type 0) (IsHinderedAt : X → Option ℕ → Database → Type 0) (all : List X) (limit : Option ℕ) (db : Database) : Type 0 where
   pub count : ℕ
   pub one : X
   pub there : slice_get all count ≡ Some one
   pub between : Database
-  pub made : Makes (take count all) db between
+  pub ran : Ran Goes (take count all) limit db between
   pub hindered : IsHinderedAt one limit between
 
 -- one of the changes is refused, once those before it are made
 abbrev pub IsHinderedAmong : List Change → Option ℕ → Database → Type 0
-IsHinderedAmong = IsHinderedAfter Applies IsHinderedChange
+IsHinderedAmong = IsHinderedAfter GoesThrough IsHinderedChange
 
 -- a transaction of these changes is refused
 abbrev pub IsHinderedToSave : List Change → Option ℕ → Database → Type 0
@@ -49,12 +68,12 @@ IsHinderedToSave changes limit db = IsUnready limit db ⊎ IsHinderedAmong chang
 
 -- one of these tables is refused, once those before it are made
 abbrev pub IsHinderedMaking : List Table → Option ℕ → Database → Type 0
-IsHinderedMaking = IsHinderedAfter MakesTables (λ table. IsHindered (sql_of table).create [])
+IsHinderedMaking = IsHinderedAfter (λ table. Went (sql_of table).create []) (λ table. IsHindered (sql_of table).create [])
 
 -- the number of the edition is refused, once the tables are made
 pub record IsHinderedNumbering (limit : Option ℕ) (db : Database) : Type 0 where
   pub between : Database
-  pub made : MakesTables kept db between
+  pub ran : RanTables kept limit db between
   pub hindered : IsHindered (sql_of Edition).insert latest_number limit between
 
 -- the tables cannot be made
@@ -63,12 +82,12 @@ IsHinderedFounding limit db = IsHinderedMaking kept limit db ⊎ IsHinderedNumbe
 
 -- a table that an edition lacks is refused, or, once they are made, a change
 abbrev pub IsHinderedToExtend : AnEdition → List Change → Option ℕ → Database → Type 0
-IsHinderedToExtend e changes limit db = IsHinderedMaking (beyond e) limit db ⊎ ((made : Database) × MakesTables (beyond e) db made × IsHinderedAmong changes limit made)
+IsHinderedToExtend e changes limit db = IsHinderedMaking (beyond e) limit db ⊎ ((made : Database) × RanTables (beyond e) limit db made × IsHinderedAmong changes limit made)
 
 -- what comes after the number is refused
 pub record IsHinderedBeyond (e : AnEdition) (changes : List Change) (limit : Option ℕ) (db : Database) : Type 0 where
   pub between : Database
-  pub numbered : Puts (table_at Edition) (key_in Edition latest_number) latest_number db between
+  pub numbered : WentPutting Edition latest_number limit db between
   pub hindered : IsHinderedToExtend e changes limit between
 
 -- the number of the latest edition is refused, or what comes after it
@@ -85,6 +104,16 @@ pub record IsHinderedReading (limit : Option ℕ) (db : Database) : Type 0 where
   pub kept : Has kept table
   pub hindered : IsUnread (sql_of table).select limit db
 
+-- the tables stand for an office in an earlier edition, and the changes that bring its rows to the latest are refused
+pub record IsHinderedRaising (limit : Option ℕ) (db : Database) : Type 0 where
+  pub edition : AnEdition
+  pub earlier : IsEarlier edition
+  pub office : State
+  pub stands : StandsIn edition db office
+  pub rows : List Row
+  pub are : AreRowsIn edition rows office
+  pub hindered : IsHinderedToRaise edition (upgrade edition rows) limit db
+
 -- the tables are not there and cannot be made, one cannot be read, or those of an earlier edition cannot be raised
 abbrev pub IsHinderedOpening : Option ℕ → Database → Type 0
-IsHinderedOpening limit db = (HasNone db.schema × IsHinderedFounding limit db) ⊎ (IsHinderedReading limit db ⊎ ((e : AnEdition) × IsEarlier e × (changes : List Change) × IsHinderedToRaise e changes limit db))
+IsHinderedOpening limit db = (HasNone db.schema × IsHinderedFounding limit db) ⊎ (IsHinderedReading limit db ⊎ IsHinderedRaising limit db)

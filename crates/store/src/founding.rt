@@ -5,8 +5,8 @@ ghost use Rattle.sqlite.specs.State.{HasCleanDisk, Survives};
 ghost use Rattle.sqlite.specs.Held.{state};
 ghost use Rattle.tables.specs.Steps.{Does, HasSaved, HasStepped, IsKept, IsLeft};
 ghost use Rattle.tables.specs.Inside.Steps.{Stays};
-ghost use Rattle.tables.specs.Causes.{IsCaused, IsCausedInside};
-ghost use Rattle.store.specs.Causes.{IsHinderedFounding, IsHinderedMaking};
+ghost use Rattle.tables.specs.Causes.{IsCaused, IsCausedInside, IsRunInside};
+ghost use Rattle.store.specs.Causes.{IsHinderedFounding, IsHinderedMaking, RanTables};
 ghost use Rattle.store.specs.Inside.Tables.{Empties};
 ghost use Rattle.store.specs.Tables.{HasNone, HasNoneOf, MakesTables};
 
@@ -45,6 +45,7 @@ pub fn has_none(schema: &Schema) -> bool
 pub fn make_each<S: Alter>(tx: &mut Transaction<'_, S>, tables: &[Table]) -> Result<(), TableFault>
     ensures same_reference { tx.new.conn.ghost_name ≡ tx.old.conn.ghost_name }
     ensures step { Does (Stays (MakesTables tables.now)) result (state S.Store tx.old.conn.now) (state S.Store tx.new.conn.now) }
+    ensures ran { IsRunInside (RanTables tables.now) result (state S.Store tx.old.conn.now) (state S.Store tx.new.conn.now) }
     ensures cause { IsCausedInside (IsHinderedMaking tables.now) result (state S.Store tx.old.conn.now) (state S.Store tx.new.conn.now) }
 {
     for table in tables {

@@ -14,7 +14,7 @@ use Rattle.rolls.specs.From.{are_apart, row_in}
 use Rattle.rolls.specs.Rows.{after_changes, row_of}
 use Rattle.rolls.specs.State.{State}
 use Rattle.editions.specs.declared.Edition.{Edition as AnEdition}
-use Rattle.editions.specs.Editions.{Allows, AreRowsIn, HaveNoLater, row_at}
+use Rattle.editions.specs.Editions.{Allows, AreRowsIn, HaveNoLater, row_at, upgrade}
 use Rattle.store.specs.Tables.{HoldIn, StandsIn}
 use Rattle.store.specs.Inside.Raising.{AskRaised}
 use Rattle.store.specs.Rows.{IsAmong, columns, is_in, columns_of}
@@ -130,6 +130,9 @@ pub record Finds (e : AnEdition) (office : State) (changes : List Change) (old n
   pub fit : IsFit office
   pub asks : AskRaised changes
   pub turned : (k : RowKey) → after_changes changes (row_at e office) k ≡ row_of office k
+  pub rows : List Row
+  pub are : AreRowsIn e rows office
+  pub raise : changes ≡ upgrade e rows
 
 -- one of these tables holds columns that no row has
 abbrev pub HoldsUnread : List Table → Seen → Type 0

@@ -1,7 +1,11 @@
-use Rattle.std.proofs.Common.{ap, rules}
+use Rattle.std.proofs.Common.{◌≡◌, Err, ap, rules}
 use Rattle.sqlite.specs.Held.{state}
 use Rattle.store.specs.Inside.Tables.{Empties}
 use Rattle.store.proofs.Commit.{made_one, sound_one, saved_by, left_by, dropped_by}
+use Rattle.sqlite.specs.State.{State as Seen}
+use Rattle.tables.specs.declared.fault.TableFault.TheVariants.{Storage}
+use Rattle.store.specs.Causes.{IsHinderedFounding}
+use Rattle.store.proofs.Raised.{stopped_within}
 use Rattle.store.proofs.founding.found.Goals as goal
 
 pub returns-in_err-make_tables-clause-crash : goal.returns-in_err-make_tables-clause-crash
@@ -15,3 +19,10 @@ returns-in-Ok-clause-crash g c = left_by (state g.S.Store c.args.conn.now) (stat
 
 pub returns-in-Err-clause-crash : goal.returns-in-Err-clause-crash
 returns-in-Err-clause-crash g c = left_by (state g.S.Store c.args.conn.now) (state g.S.Store c.transaction-tx.result.conn.now) (ap (state g.S.Store) c.transaction-tx.ensures.begun) (state g.S.Store c.make_tables.new.tx.conn.now) _ Empties (λ clean. made_one _ _ _ (c.in_ok-make_tables.ensures.step.did clean)) (λ clean. sound_one _ _ _ (c.in_ok-make_tables.ensures.step.did clean)) c.in_ok-make_tables.ensures.step.survives (search rules)
+
+pub returns-in_err-make_tables-clause-cause : goal.returns-in_err-make_tables-clause-cause
+returns-in_err-make_tables-clause-cause g c settled clean h =
+    let begins = ap (state g.S.Store) c.transaction-tx.ensures.begun in
+    let was : c.make_tables.result ≡ Err Storage = search rules in
+    stopped_within IsHinderedFounding (state g.S.Store c.args.conn.now) (state g.S.Store c.transaction-tx.result.conn.now) (state g.S.Store c.make_tables.new.tx.conn.now) _ begins
+    (λ early. c.make_tables.ensures.cause (ap (λ (s : Seen). s.in_transaction) begins) early was) (search rules) clean

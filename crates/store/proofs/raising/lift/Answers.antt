@@ -22,6 +22,7 @@ pub returns-clause-cause : goal.returns-clause-cause
 returns-clause-cause g c inside clean h =
     let early : HasCleanDisk (state g.S.Store c.put.new.tx.conn.now) = omega (arith, c.extend.ensures.step.survives.clean) in
     let done = (rw (c.params-to_sql.ensures, c.params-to_sql-2.ensures, c.number_of.ensures) at c.in_ok-put.ensures.step) in
+    let ran = (rw (c.params-to_sql.ensures, c.params-to_sql-2.ensures, c.number_of.ensures) at c.in_ok-put.ensures.ran) in
     let made = done.did early in
     stopped_after (IsHinderedToExtend c.args.edition c.args.changes.now) (IsHinderedToRaise c.args.edition c.args.changes.now) _ _ _ done.survives early c.extend.ensures.step.survives.counts
-    (λ it. inr (inr (record { between = (state g.S.Store c.put.new.tx.conn.now).now; numbered = made.step; hindered = it }))) (c.extend.ensures.cause made.shown.mode clean h)
+    (λ it. inr (inr (record { between = (state g.S.Store c.put.new.tx.conn.now).now; numbered = ran early; hindered = it }))) (c.extend.ensures.cause made.shown.mode clean h)

@@ -65,3 +65,33 @@ returns-in-OldChoice-clause-cause g c = rw c.in-OldChoice.is (rw (c.params-to_sq
 
 pub returns-in-OldPlacement-clause-cause : goal.returns-in-OldPlacement-clause-cause
 returns-in-OldPlacement-clause-cause g c = rw c.in-OldPlacement.is (rw (c.params-to_sql-in-OldPlacement.ensures, c.as_str-in-OldPlacement.ensures) at c.delete-in-OldPlacement.ensures.cause)
+
+pub returns-in-Supervisor-clause-ran : goal.returns-in-Supervisor-clause-ran
+returns-in-Supervisor-clause-ran g c = rw c.in-Supervisor.is (rw (c.params-to_sql.ensures, c.as_str.ensures) at c.delete.ensures.ran)
+
+pub returns-in-Project-clause-ran : goal.returns-in-Project-clause-ran
+returns-in-Project-clause-ran g c = rw c.in-Project.is (rw (c.params-to_sql-in-Project.ensures, c.as_str-in-Project.ensures) at c.delete-in-Project.ensures.ran)
+
+pub returns-in-Student-clause-ran : goal.returns-in-Student-clause-ran
+returns-in-Student-clause-ran g c = rw c.in-Student.is (rw (c.params-to_sql-in-Student.ensures, c.as_str-in-Student.ensures) at c.delete-in-Student.ensures.ran)
+
+pub returns-in-Round-clause-ran : goal.returns-in-Round-clause-ran
+returns-in-Round-clause-ran g c = rw c.in-Round.is (rw c.params-to_sql-in-Round.ensures at c.delete-in-Round.ensures.ran)
+
+pub returns-in-Choice-clause-ran : goal.returns-in-Choice-clause-ran
+returns-in-Choice-clause-ran g c = rw c.in-Choice.is (rw (c.params-to_sql-in-Choice.ensures, c.params-to_sql-in-Choice-2.ensures, c.params-to_sql-in-Choice-3.ensures, c.as_str-in-Choice.ensures) at c.delete-in-Choice.ensures.ran)
+
+pub returns-in-Placement-clause-ran : goal.returns-in-Placement-clause-ran
+returns-in-Placement-clause-ran g c = rw c.in-Placement.is (rw (c.params-to_sql-in-Placement.ensures, c.as_str-in-Placement.ensures) at c.delete-in-Placement.ensures.ran)
+
+pub returns-in-Import-clause-ran : goal.returns-in-Import-clause-ran
+returns-in-Import-clause-ran g c = rw c.in-Import.is (rw (c.params-to_sql-in-Import.ensures, c.as_str-in-Import.ensures) at c.delete-in-Import.ensures.ran)
+
+pub returns-in-RoundAim-clause-ran : goal.returns-in-RoundAim-clause-ran
+returns-in-RoundAim-clause-ran g c = rw c.in-RoundAim.is (rw c.params-to_sql-in-RoundAim.ensures at c.delete-in-RoundAim.ensures.ran)
+
+pub returns-in-OldChoice-clause-ran : goal.returns-in-OldChoice-clause-ran
+returns-in-OldChoice-clause-ran g c = rw c.in-OldChoice.is (rw (c.params-to_sql-in-OldChoice.ensures, c.params-to_sql-in-OldChoice-2.ensures, c.params-to_sql-in-OldChoice-3.ensures, c.as_str-in-OldChoice.ensures) at c.delete-in-OldChoice.ensures.ran)
+
+pub returns-in-OldPlacement-clause-ran : goal.returns-in-OldPlacement-clause-ran
+returns-in-OldPlacement-clause-ran g c = rw c.in-OldPlacement.is (rw (c.params-to_sql-in-OldPlacement.ensures, c.as_str-in-OldPlacement.ensures) at c.delete-in-OldPlacement.ensures.ran)

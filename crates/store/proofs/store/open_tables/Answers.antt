@@ -1,17 +1,18 @@
-use Rattle.std.proofs.Common.{◌≡◌, ◌≢◌, ◌<◌, ◌∙◌, Err, inr, sym, subst, arith, rules}
+use Rattle.std.proofs.Common.{IsTrue, ap, ◌≡◌, ◌≢◌, ◌<◌, ◌∙◌, Err, inl, inr, sym, subst, arith, rules}
 use Rattle.sqlite.proofs.StateLemmas.{survives_weaker}
 use Rattle.sqlite.specs.State.{HasCleanDisk}
+use Rattle.sqlite.specs.Effect.{Database}
 use Rattle.sqlite.specs.Held.{state}
 use Rattle.sqlite.specs.Schema.{Schema}
 use Rattle.editions.specs.declared.Edition.{Edition}
-use Rattle.store.specs.Causes.{IsHinderedOpening, IsHinderedToRaise}
 use Rattle.tables.specs.Steps.{IsKept}
 use Rattle.store.specs.declared.fault.StoreFault.TheVariants.{Damaged, Storage}
 use Rattle.store.specs.Editions.{beyond, latest, number_of}
 use Rattle.store.specs.Tables.{HasNone, HasNoneOf}
-use Rattle.store.proofs.Causes.{unchanged_before}
 use Rattle.store.proofs.NewTables.{opens_new, founds_left}
-use Rattle.store.proofs.Opening.{brings_left, earlier_of, kept_after, on_err, opens_found, opens_raised, unfit_all}
+use Rattle.store.proofs.Opening.{brings_left, earlier_of, kept_after, on_err, opens_found, opens_raised, raise_refused, unfit_all}
+use Rattle.tables.proofs.Causes.{stopped_as}
+use Rattle.store.specs.Causes.{IsHinderedFounding, IsHinderedOpening}
 use Rattle.store.proofs.store.open_tables.Goals as goal
 
 pub returns-in_err-found-clause-crash : goal.returns-in_err-found-clause-crash
@@ -54,8 +55,10 @@ returns-in_err-raise-clause-cause g c settled clean h =
     let early : HasCleanDisk (state g.S.Store c.office_in.new.conn) = omega (arith, c.raise.ensures.crash.clean) in
     let mode = c.office_in.ensures.mode settled in
     let other : c.edition_of-edition.result ≢ latest = search rules in
-    unchanged_before (IsHinderedToRaise c.edition_of-edition.result c.in_ok-office.changes.items) IsHinderedOpening _ _ _ (c.in_ok-office.ensures.same early) c.in_ok-office.ensures.survives early c.raise.ensures.crash.counts
-    (λ limit db it. inr (inr (c.edition_of-edition.result, earlier_of c.edition_of-edition.result other, c.in_ok-office.changes.items, it))) (rw c.deref.ensures.value at (c.raise.ensures.cause mode clean was))
+    let found = c.in_ok-office.ensures.ok early in
+    let alone = subst (HasNoneOf (beyond c.edition_of-edition.result)) c.schema-2.ensures.value c.edition_of-edition.ensures.alone in
+    raise_refused c.edition_of-edition.result c.in_ok-office.office c.in_ok-office.changes.items (state g.S.Store c.args.conn.now) (state g.S.Store c.office_in.new.conn) (state g.S.Store c.raise.new.conn) (earlier_of c.edition_of-edition.result other) alone found
+    (c.in_ok-office.ensures.same early) c.in_ok-office.ensures.survives early c.raise.ensures.crash.counts (rw c.deref.ensures.value at (c.raise.ensures.cause mode clean was))
 
 pub returns-in_err-raise-clause-crash : goal.returns-in_err-raise-clause-crash
 returns-in_err-raise-clause-crash g c =
@@ -75,3 +78,18 @@ returns-clause-crash g c =
     let other : c.edition_of-edition.result ≢ latest = search rules in
     brings_left c.edition_of-edition.result c.in_ok-office.office c.in_ok-office.changes.items _ _ _ (earlier_of c.edition_of-edition.result other)
     (subst (HasNoneOf (beyond c.edition_of-edition.result)) c.schema-2.ensures.value c.edition_of-edition.ensures.alone) c.in_ok-office.ensures.ok c.in_ok-office.ensures.survives (rw c.deref.ensures.value at c.raise.ensures.crash)
+
+pub returns-in_err-found-clause-cause : goal.returns-in_err-found-clause-cause
+returns-in_err-found-clause-cause g c settled clean h =
+    let was : c.found.result ≡ Err Storage = search rules in
+    stopped_as IsHinderedFounding IsHinderedOpening _ _ (λ it. inl (subst HasNone c.schema.ensures.value (c.has_none.ensures.right c.if-has_none.true), it)) (c.found.ensures.cause settled clean was)
+
+pub returns-then-eq-clause-alone : goal.returns-then-eq-clause-alone
+returns-then-eq-clause-alone g c clean trees h = search rules
+
+pub returns-clause-alone : goal.returns-clause-alone
+returns-clause-alone g c clean trees h =
+    let shown = (c.in_ok-raise.ensures.ok clean).shown in
+    let up : IsTrue (state g.S.Store c.raise.new.conn).is_open = shown.is_open in
+    let settled : trees ≡ (state g.S.Store c.raise.new.conn).committed.trees = g.met.S.Store.settled c.raise.new.conn.store trees up h in
+    settled ∙ ap (λ (db : Database). db.trees) shown.committed_is
