@@ -1,7 +1,7 @@
 //! The five conditions, in their order.
 #![tactic(auto)]
 
-ghost use Rattle.std.specs.Prelude.{◌↔◌, ℕ, List, Option, IsOk, OnOk, IfErr};
+ghost use Rattle.std.specs.Prelude.{◌≡◌, ◌↔◌, ℕ, List, Option, Some, IsOk, OnOk, IfErr, IfSome};
 ghost use Rattle.spa.specs.declared.aim.Aim.{Aim};
 ghost use Rattle.spa.specs.Order.{order};
 ghost use Rattle.spa.specs.Matching.{IsBest};
@@ -70,4 +70,25 @@ pub fn verdict_law(instance: &Instance)
 {
     aim_law(instance);
     price_law(instance);
+}
+
+/// A matching, and prices that prove it best.
+#[derive(Drop)]
+pub struct Proved {
+    pub matching: Matching,
+    pub prices: Prices,
+}
+
+/// The matching with the prices, if they prove it best by the aim, whoever made them. Takes no memory.
+pub fn accept(instance: &Instance, aim: Aim, matching: Matching, prices: Prices) -> Option<Proved>
+    ensures proved { IfSome result (λ s. IsProvedBest (order aim) instance.now.shape s.matching.places.items s.prices) }
+    ensures best { IfSome result (λ s. IsBest aim instance.now.shape (pairs instance.now.shape s.matching.places.items)) }
+
+    // What proves is not turned away, and comes back as it is.
+    ensures exact { IsProvedBest (order aim) instance.now.shape matching.places.items prices → result ≡ Some (record { matching = matching; prices = prices }) }
+{
+    match check(instance, aim, &matching, &prices) {
+        Ok(()) => Some(Proved { matching, prices }),
+        Err(_) => None,
+    }
 }
