@@ -1,6 +1,7 @@
 -- What comes of a task where its office was opened or the opening refused, and what is left.
-use Rattle.std.proofs.Common.{◌≡◌, ◌⊎◌, inl, inr, ℕ, false, Option, None, Result, Ok, Err, IfOk, IfErr, MatchResult, sym, subst, ap, ◌∙◌, arith}
+use Rattle.std.proofs.Common.{◌≡◌, ◌⊎◌, ◌≤◌, inl, inr, ℕ, IsTrue, false, Option, None, Result, Ok, Err, IfOk, IfErr, MatchResult, sym, subst, ap, ◌∙◌, arith}
 use Rattle.sqlite.specs.Effect.{Database}
+use Rattle.sqlite_disk.specs.Disk.{MoreFaults}
 use Rattle.sqlite.specs.State.{State as Seen, HasCleanDisk, Survives}
 use Rattle.sqlite_trees.specs.Tree.{Trees}
 use Rattle.sqlite.specs.Files.{IsOpened, file_state}
@@ -16,6 +17,7 @@ use Rattle.rolls.specs.State.{State}
 use Rattle.solver.specs.Sitting.{Sitting}
 use Rattle.tables.specs.Causes.{IsStopped}
 use Rattle.store.specs.Causes.{IsHinderedOpening}
+use Rattle.desk.specs.Causes.{IsHinderedToAsk}
 use Rattle.store.specs.Reading.{IsDamaged}
 use Rattle.store.specs.Editions.{latest}
 use Rattle.store.proofs.Standing.{in_latest}
@@ -24,8 +26,9 @@ use Rattle.desk.specs.Kept.{Kept}
 use Rattle.desk.specs.Keeping.{Keeps}
 use Rattle.web.specs.Serving.{AtDesk, at_desk, just_opened}
 use Rattle.cli.specs.declared.tasks.Task.{Task}
+use Rattle.cli.specs.declared.tasks.Task.TheVariants as task
 use Rattle.cli.specs.Outcomes.{ComesOf, IsUnopened, MayDo, Outcome, refused}
-use Rattle.cli.specs.Databases.{DoesOver, IsFoundFor, IsOfficeIn, IsOfficeOf, IsWhyUnopened, LeftBy, StandsAfter, StaysSo, WasClean}
+use Rattle.cli.specs.Databases.{ComesFrom, DoesOver, HasCause, HasCauseOver, IsFoundFor, IsOfficeIn, IsOfficeOf, IsWhyUnopened, LeftBy, StandsAfter, StaysSo, WasClean}
 use Rattle.cli.proofs.Writers.{TellsOf, Took, refused_ends}
 
 -- what was opened is the office of the database before
@@ -61,7 +64,32 @@ may_do done before after o (inr is) = inr (is.office, is.fit, is.next, is.comes)
 pub no_sitting : {S : Type 0} (desk : Kept S) → desk.session ≡ None → at_desk desk ≡ just_opened desk.office
 no_sitting desk none = ap (λ (session : Option Sitting). let at : AtDesk = record { office = desk.office; session = session } in at) none
 
+-- why a database that was opened refuses
+why_hindered : (H : Option ℕ → Database → Type 0) (first opened last : Seen) → first.faults ≤ opened.faults → opened.step_limit ≡ first.step_limit → IsTrue opened.is_open
+    → (opened.is_open ≡ false) ⊎ (MoreFaults opened.faults last.faults ⊎ H opened.step_limit opened.now) → MoreFaults first.faults last.faults ⊎ H first.step_limit opened.now
+why_hindered H first opened last counts limit live (inl shut) = cc
+why_hindered H first opened last counts limit live (inr (inl more)) = inl (omega (arith, counts, more))
+why_hindered H first opened last counts limit live (inr (inr hinders)) = inr (subst (λ l. H l opened.now) limit hinders)
+
+caused : (done : Task) (before after : AtDesk) (o : Outcome) (comes : ComesOf done before after o) (first opened last : Seen) → first.faults ≤ opened.faults → opened.step_limit ≡ first.step_limit
+    → (HasCleanDisk last → IsTrue opened.is_open) → HasCause done before after o comes opened last → HasCauseOver done before after o comes first opened.now last
+caused (task.Ask asked) before after o comes first opened last counts limit live cause =
+    λ alone clean is. why_hindered (IsHinderedToAsk before.office asked) first opened last counts limit (live clean) (cause alone clean is).why
+caused (task.Serve serving) before after o comes first opened last counts limit live cause = tt
+
 module _ {S : Type 0} (ghosts : Ghosts S) where
+  -- no fault is taken back
+  pub grows : {E : Type 0} (first : Held S) (P : Trees → Type 0) (opened : Result (Kept S) E) → IfOk opened (λ desk. Survives (state ghosts first) (state ghosts desk.store) P)
+      → IfOk opened (λ desk. (state ghosts first).faults ≤ (state ghosts desk.store).faults)
+  grows first P (Ok d) it = it.counts
+  grows first P (Err e) it = tt
+
+  -- the limit of a statement stays
+  pub limits : {E : Type 0} (first : Held S) (P : Trees → Type 0) (opened : Result (Kept S) E) → IfOk opened (λ desk. Survives (state ghosts first) (state ghosts desk.store) P)
+      → IfOk opened (λ desk. (state ghosts desk.store).step_limit ≡ (state ghosts first).step_limit)
+  limits first P (Ok d) it = it.limit
+  limits first P (Err e) it = tt
+
   -- what survived was clean before
   pub was_early : {E : Type 0} (first : Held S) (P : Trees → Type 0) (opened : Result (Kept S) E) → IfOk opened (λ desk. Survives (state ghosts first) (state ghosts desk.store) P)
       → IfOk opened (λ desk. HasCleanDisk (state ghosts desk.store) → HasCleanDisk (state ghosts first))
@@ -72,6 +100,9 @@ module _ {S : Type 0} (ghosts : Ghosts S) where
   pub record WasOpened (done : Task) (first last : Held S) (opened : Result (Kept S) (Refusal × Held S)) : Type 0 where
     pub no_session : IfOk opened (λ desk. desk.session ≡ None)
     pub early : IfOk opened (λ desk. HasCleanDisk (state ghosts desk.store) → HasCleanDisk (state ghosts first))
+    pub counts : IfOk opened (λ desk. (state ghosts first).faults ≤ (state ghosts desk.store).faults)
+    pub limit : IfOk opened (λ desk. (state ghosts desk.store).step_limit ≡ (state ghosts first).step_limit)
+    pub is_open : IfOk opened (λ desk. HasCleanDisk (state ghosts desk.store) → IsTrue (state ghosts desk.store).is_open)
     pub office : IfOk opened (λ desk. HasCleanDisk (state ghosts desk.store) → Opens (state ghosts first).now (state ghosts desk.store).now desk.office)
     pub refused : IfErr opened (λ e. (e.0 ≡ no.Memory) ⊎ ((e.0 ≡ no.Storage) ⊎ (e.0 ≡ no.Damaged)))
     pub damaged : IfErr opened (λ e. HasCleanDisk (state ghosts e.1) → e.0 ≡ no.Damaged → IsDamaged (state ghosts first).now × (HasNone (state ghosts first).now.schema → ⊥))
@@ -82,7 +113,7 @@ module _ {S : Type 0} (ghosts : Ghosts S) where
 
   -- what is told at a desk that was opened, or of the refusal
   abbrev pub ToldOf : Task → Held S → Result (Kept S) (Refusal × Held S) → Outcome → Type 0
-  ToldOf done last opened o = MatchResult opened (λ desk. (after : AtDesk) × ComesOf done (at_desk desk) after o × Keeps (state ghosts last) after.office) (λ e. o ≡ refused e.0)
+  ToldOf done last opened o = MatchResult opened (λ desk. (after : AtDesk) × ComesFrom done (at_desk desk) after (state ghosts desk.store) (state ghosts last) o × Keeps (state ghosts last) after.office) (λ e. o ≡ refused e.0)
 
   -- where the opening was refused the database is as before
   stays_so : (first last back : Held S) → last ≡ back → StaysSo (state ghosts first) (state ghosts back) → StaysSo (state ghosts first) (state ghosts last)
@@ -90,14 +121,20 @@ module _ {S : Type 0} (ghosts : Ghosts S) where
 
   -- it is told of the office of the database
   pub told_of : (done : Task) (first last : Held S) (opened : Result (Kept S) (Refusal × Held S)) (o : Outcome) → WasOpened done first last opened → ToldOf done last opened o → DoesOver done (state ghosts first) (state ghosts last) o
-  told_of done first last (Ok d) o was is = inr (record {
-    office = d.office;
-    found = found_for (state ghosts first) (state ghosts d.store) (state ghosts last) d.office was.clean was.early was.office;
-    fit = was.left.fit;
-    next = is.0;
-    comes = subst (λ (before : AtDesk). ComesOf done before is.0 o) (no_sitting d was.no_session) is.1;
-    stands = is.2;
-  })
+  told_of done first last (Ok d) o was is =
+      let from : ComesFrom done (just_opened d.office) is.0 (state ghosts d.store) (state ghosts last) o =
+      subst (λ (before : AtDesk). ComesFrom done before is.0 (state ghosts d.store) (state ghosts last) o) (no_sitting d was.no_session) is.1 in
+      inr (record {
+        office = d.office;
+        found = found_for (state ghosts first) (state ghosts d.store) (state ghosts last) d.office was.clean was.early was.office;
+        fit = was.left.fit;
+        next = is.0;
+        opened = (state ghosts d.store).now;
+        opens = λ clean. was.office (was.clean clean);
+        comes = from.0;
+        cause = caused done (just_opened d.office) is.0 o from.0 (state ghosts first) (state ghosts d.store) (state ghosts last) was.counts was.limit (λ clean. was.is_open (was.clean clean)) from.1;
+        stands = is.2;
+      })
   told_of done first last (Err e) o was is = inl (record {
     refusal = e.0;
     why = subst (λ (k : Held S). IsWhyUnopened e.0 (state ghosts first) (state ghosts k)) (sym was.left) (why_unopened e.0 (state ghosts first) (state ghosts e.1) was.refused was.damaged was.cause);

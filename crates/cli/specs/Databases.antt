@@ -1,5 +1,6 @@
 -- What a line does at a database and leaves of it, and what comes of closing the file.
-use Rattle.std.specs.Prelude.{◌≡◌, ◌⊎◌, ℕ, false, List, string_bytes, Option, Some, None, Result, Ok, Err, IfOk, IfErr}
+use Rattle.std.specs.Prelude.{◌≡◌, ◌⊎◌, ℕ, false, ⊤, List, string_bytes, Option, Some, None, Result, Ok, Err, IfOk, IfErr}
+use Rattle.sqlite_disk.specs.Disk.{MoreFaults}
 use Rattle.sqlite_disk.specs.declared.Disk.{Ghosts}
 use Rattle.sqlite_disk.specs.declared.Files.{Files}
 use Rattle.sqlite_wal.specs.Reads.{AreClean}
@@ -25,12 +26,14 @@ use Rattle.rolls.specs.State.{State, empty}
 use Rattle.rolls.specs.Fit.{IsFit}
 use Rattle.rolls.specs.Run.{Step}
 use Rattle.allotment.specs.Layers.{layers}
-use Rattle.tables.specs.Causes.{IsStopped}
+use Rattle.tables.specs.Causes.{IsCaused, IsStopped}
 use Rattle.tables.specs.Steps.{IsKept}
 use Rattle.store.specs.Causes.{IsHinderedOpening}
 use Rattle.store.specs.Reading.{IsDamaged}
 use Rattle.editions.specs.declared.Edition.{Edition}
-use Rattle.store.specs.Tables.{HasNone, StandsIn}
+use Rattle.store.specs.Saving.{AreActedOn}
+use Rattle.store.specs.Tables.{HasNone, Opens, StandsIn}
+use Rattle.desk.specs.Causes.{IsHinderedToAsk}
 use Rattle.desk.specs.Keeping.{Keeps}
 use Rattle.web.specs.Connections.{Connect}
 use Rattle.web.specs.Serving.{AtDesk, just_opened}
@@ -46,6 +49,23 @@ use Rattle.cli.specs.declared.tasks.Task.TheVariants as task
 use Rattle.cli.specs.Outputs.{Both}
 use Rattle.cli.specs.Imports.{IsImportOfFile}
 use Rattle.cli.specs.Outcomes.{ComesOf, IsUnread, MayComeOf, OnFile, Outcome, Tells, refused}
+
+-- at a desk a request that is told as a fault of the storage has its cause, unless a foreign key of another table acts there
+abbrev pub HasCause : (done : Task) (before after : AtDesk) (o : Outcome) → ComesOf done before after o → Seen → Seen → Type 0
+HasCause (task.Ask asked) before after o comes opened last =
+    (AreActedOn opened.now.schema → ⊥) → IsCaused no.Storage (IsHinderedToAsk before.office asked) comes.answer opened last
+HasCause (task.Serve serving) before after o comes opened last = ⊤
+
+-- what a task comes to at a desk, from this database to that one
+abbrev pub ComesFrom : Task → AtDesk → AtDesk → Seen → Seen → Outcome → Type 0
+ComesFrom done before after opened last o = (comes : ComesOf done before after o) × HasCause done before after o comes opened last
+
+-- over a database that was opened the cause is the disk, which has failed or refused once more, or a change that the database as it was opened refuses
+abbrev pub HasCauseOver : (done : Task) (before after : AtDesk) (o : Outcome) → ComesOf done before after o → Seen → Database → Seen → Type 0
+HasCauseOver (task.Ask asked) before after o comes first opened last =
+    (AreActedOn opened.schema → ⊥) → HasCleanDisk last → comes.answer ≡ Err no.Storage
+    → MoreFaults first.faults last.faults ⊎ IsHinderedToAsk before.office asked first.step_limit opened
+HasCauseOver (task.Serve serving) before after o comes first opened last = ⊤
 
 -- what a task makes of what is at a desk: one step of its request, or what its connections make
 abbrev pub TakesTo : Task → AtDesk → AtDesk → Type 0
@@ -95,7 +115,10 @@ pub record IsDone (done : Task) (before after : Seen) (o : Outcome) : Type 0 whe
   pub found : IsFoundFor before after office
   pub fit : IsFit office
   pub next : AtDesk
+  pub opened : Database
+  pub opens : HasCleanDisk after → Opens before.now opened office
   pub comes : ComesOf done (just_opened office) next o
+  pub cause : HasCauseOver done (just_opened office) next o comes before opened after
   pub stands : Keeps after next.office
 
 -- what a task at a database comes to, and what the database is then

@@ -6,8 +6,8 @@ ghost use Rattle.sqlite.specs.Files.{file_state};
 ghost use Rattle.desk.specs.Keeping.{Keeps};
 ghost use Rattle.web.specs.Serving.{at_desk};
 ghost use Rattle.cli.specs.Outputs.{CanFail};
-ghost use Rattle.cli.specs.Outcomes.{Tells, ComesOf, refused};
-ghost use Rattle.cli.specs.Databases.{WasClean, StandsAfter, DoesOver, LeftBy, IsClosing};
+ghost use Rattle.cli.specs.Outcomes.{Tells, refused};
+ghost use Rattle.cli.specs.Databases.{ComesFrom, WasClean, StandsAfter, DoesOver, LeftBy, IsClosing};
 
 use crate::opening::{Closing, close_file};
 use crate::outputs::Outputs;
@@ -29,7 +29,7 @@ fn do_opened<S: Alter + Drop, O: Sink, E: Sink>(
     outputs: &mut Outputs<O, E>,
 ) -> (u8, Connection<S>)
     requires { CanFail outputs.old }
-    ensures told { Tells (λ o. MatchResult opened (λ desk. (after : _) × ComesOf task (at_desk desk) after o × Keeps (state S.Store result.1) after.office) (λ e. o ≡ refused e.0)) outputs.old outputs.new result.0 }
+    ensures told { Tells (λ o. MatchResult opened (λ desk. (after : _) × ComesFrom task (at_desk desk) after (state S.Store desk.store) (state S.Store result.1) o × Keeps (state S.Store result.1) after.office) (λ e. o ≡ refused e.0)) outputs.old outputs.new result.0 }
     ensures left { MatchResult opened (λ desk. StandsAfter task (at_desk desk) (state S.Store result.1)) (λ e. result.1 ≡ e.1) }
     ensures clean { IfOk opened (λ desk. WasClean (state S.Store desk.store) (state S.Store result.1)) }
 {

@@ -9,9 +9,9 @@ ghost use Rattle.allotment.specs.Layers.{layers};
 ghost use Rattle.web.specs.Connections.{Connect};
 ghost use Rattle.web.specs.Serving.{at_desk};
 ghost use Rattle.cli.specs.Outputs.{CanFail};
-ghost use Rattle.cli.specs.Outcomes.{Tells, IsAsked, IsServed, IsUnbound, ComesOf};
+ghost use Rattle.cli.specs.Outcomes.{Tells, IsServed, IsUnbound, ComesOf};
 ghost use Rattle.cli.specs.Inside.Outcomes.{IsCutOff, Serves};
-ghost use Rattle.cli.specs.Databases.{TakesTo, WasClean};
+ghost use Rattle.cli.specs.Databases.{ComesFrom, TakesTo, WasClean};
 
 use crate::outputs::Outputs;
 use crate::texts::labelled;
@@ -49,7 +49,7 @@ fn ask_at<S: Alter, O: Sink, E: Sink>(
     outputs: &mut Outputs<O, E>,
 ) -> u8
     requires { CanFail outputs.old }
-    ensures told { Tells (IsAsked asked desk.old.office desk.new.office) outputs.old outputs.new result }
+    ensures told { Tells (ComesFrom (Task.Ask asked) (at_desk desk.old) (at_desk desk.new) (state S.Store desk.old.store) (state S.Store desk.new.store)) outputs.old outputs.new result }
     ensures step { (answer : _) × Step layers desk.old.office asked answer desk.new.office }
     ensures clean { WasClean (state S.Store desk.old.store) (state S.Store desk.new.store) }
 {
@@ -141,7 +141,7 @@ pub(crate) fn do_at<S: Alter, O: Sink, E: Sink>(
     outputs: &mut Outputs<O, E>,
 ) -> u8
     requires { CanFail outputs.old }
-    ensures told { Tells (ComesOf task (at_desk desk.old) (at_desk desk.new)) outputs.old outputs.new result }
+    ensures told { Tells (ComesFrom task (at_desk desk.old) (at_desk desk.new) (state S.Store desk.old.store) (state S.Store desk.new.store)) outputs.old outputs.new result }
     ensures taken { TakesTo task (at_desk desk.old) (at_desk desk.new) }
     ensures clean { WasClean (state S.Store desk.old.store) (state S.Store desk.new.store) }
 {

@@ -1,5 +1,5 @@
 use Rattle.cli.proofs.Writers.{tells_more}
-use Rattle.cli.proofs.Opened.{WasOpened, was_early, ToldOf, told_of, left_by}
+use Rattle.cli.proofs.Opened.{WasOpened, grows, limits, was_early, ToldOf, told_of, left_by}
 use Rattle.cli.proofs.databases.do_over.Given as given
 use Rattle.cli.proofs.databases.do_over.Goals as goal
 use Rattle.cli.proofs.databases.do_over.Goals.{After-do_opened}
@@ -9,6 +9,9 @@ was : (g : given.Over) (c : goal.After-do_opened g) → WasOpened g.S.Store c.ar
 was g c = record {
   no_session = c.open.ensures.no_session;
   early = was_early g.S.Store c.args.connection _ c.open.result c.open.ensures.crash_ok;
+  counts = grows g.S.Store c.args.connection _ c.open.result c.open.ensures.crash_ok;
+  limit = limits g.S.Store c.args.connection _ c.open.result c.open.ensures.crash_ok;
+  is_open = c.open.ensures.is_open;
   office = c.open.ensures.office;
   refused = c.open.ensures.refused;
   damaged = c.open.ensures.damaged;
