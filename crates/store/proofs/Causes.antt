@@ -8,17 +8,17 @@ use Rattle.sqlite.specs.State.{State as Seen, HasCleanDisk, Survives, IsUnchange
 use Rattle.tables.specs.declared.fault.TableFault.{TableFault}
 use Rattle.tables.specs.declared.fault.TableFault.TheVariants as fault
 use Rattle.tables.specs.declared.table.Table.{Table}
+use Rattle.tables.specs.declared.table.Table.TheVariants.{Edition}
 use Rattle.tables.specs.Faults.{fault_of}
 use Rattle.std.proofs.lemmas.Bool.{cases_Bool}
 use Rattle.sqlite_rules.specs.Lists.{Has}
 use Rattle.rolls.specs.declared.row.Row.{Row}
-use Rattle.tables.specs.Causes.{IsCausedInside, IsRunInside, IsStopped, IsUnread}
+use Rattle.tables.specs.Causes.{IsCausedInside, IsRunInside, IsStopped, IsToldInside, IsUnread}
 use Rattle.store.specs.Inside.Reading.{ReadsSome}
 use Rattle.editions.specs.declared.Edition.{Edition as AnEdition}
-use Rattle.editions.specs.declared.Edition.TheVariants.{First, Second, Third}
-use Rattle.store.specs.Editions.{beyond, rolls_of}
-use Rattle.store.specs.Rows.{columns, kept, table_of}
-use Rattle.store.proofs.Columns.{has_left}
+use Rattle.store.specs.Editions.{rolls_of}
+use Rattle.store.specs.Reading.{AreAllListed}
+use Rattle.store.specs.Rows.{columns, table_of}
 use Rattle.store.proofs.ListedTables.{is_next}
 use Rattle.tables.specs.Table.{sql_of}
 use Rattle.tables.proofs.Causes.{stopped_after, stopped_as, stopped_before, uncommitted}
@@ -28,7 +28,7 @@ use Rattle.store.specs.Inside.Saving.{entering}
 use Rattle.store.specs.declared.saving.Way.{Way}
 use Rattle.store.specs.declared.saving.Way.TheVariants.{InPlace, New}
 use Rattle.store.specs.Causes.{GoesThrough, IsHinderedAfter, IsHinderedChange, IsHinderedReading, Ran}
-use Rattle.store.specs.Inside.Causes.{IsHinderedToEnter, WentEntering}
+use Rattle.store.specs.Inside.Causes.{FailsToChange, FailsToEnter, IsHinderedReadingIn, IsHinderedToEnter, WentEntering}
 
 -- a fault of the storage is one of a statement
 pub of_storage : (f : TableFault) → of_table f ≡ Storage → f ≡ fault.Storage
@@ -61,24 +61,38 @@ one_refused Goes H i all one a b c there survives clean up ran =
 pub unchanged_before : (H K : Option ℕ → Database → Type 0) (a b c : Seen) → IsUnchanged a b → Survives a b (λ _. ⊥) → HasCleanDisk b → b.faults ≤ c.faults → ((limit : Option ℕ) (db : Database) → H limit db → K limit db) → IsStopped H b c → IsStopped K a c
 unchanged_before H K a b c same survives clean up f = stopped_after H K a b c survives clean up (λ h. f a.step_limit a.now (subst (H a.step_limit) same.0.now_is h))
 
--- a table that cannot be read is one of the tables
-pub hindered_reading : (table : Table) (a b : Seen) → Has kept table → IsStopped (IsUnread (sql_of table).select) a b → IsStopped IsHinderedReading a b
-hindered_reading table a b among = stopped_as (IsUnread (sql_of table).select) IsHinderedReading a b (λ h. record { table = table; kept = among; hindered = h })
-
--- the tables of an edition are kept
-is_kept : (e : AnEdition) (table : Table) → Has (rolls_of e) table → Has kept table
-is_kept First table h = inr (has_left (rolls_of First) (beyond First) table h)
-is_kept Second table h = inr (has_left (rolls_of Second) (beyond Second) table h)
-is_kept Third table h = inr h
+-- a table that cannot be read is one of those of an edition
+pub hindered_reading : (e : AnEdition) (table : Table) (a b : Seen) → AreAllListed (rolls_of e) a.now.schema → Has (Edition ∷ rolls_of e) table
+    → IsStopped (IsUnread (sql_of table).select) a b → IsStopped IsHinderedReading a b
+hindered_reading e table a b listed among =
+    stopped_as (IsUnread (sql_of table).select) IsHinderedReading a b (λ h. record { edition = e; listed = listed; table = table; among = among; hindered = h })
 
 -- one of the tables of an edition cannot be read, where those before it were
-pub table_unread : (e : AnEdition) (tables : List Table) → tables ≡ rolls_of e → (i : ℕ) (rows : List Row) (a b c : Seen) (d : Table) → i < length tables → ReadsSome tables i rows a b → Survives a b (λ _. ⊥) → HasCleanDisk b → b.faults ≤ c.faults
-    → IsStopped (IsUnread (sql_of (get_or tables i d)).select) b c → IsStopped IsHinderedReading a c
+pub table_unread : (e : AnEdition) (tables : List Table) → tables ≡ rolls_of e → (i : ℕ) (rows : List Row) (a b c : Seen) (d : Table) → i < length tables
+    → ReadsSome tables i rows a b → Survives a b (λ _. ⊥) → HasCleanDisk b → b.faults ≤ c.faults
+    → IsStopped (IsUnread (sql_of (get_or tables i d)).select) b c → IsStopped (IsHinderedReadingIn e) a c
 table_unread e tables are i rows a b c d low some survives clean up stops = elim (cases_Bool a.is_open) [
-  | inl open_before ↦ stopped_after (IsUnread (sql_of (get_or tables i d)).select) IsHinderedReading a b c survives clean up
-      (λ h. record { table = get_or tables i d; kept = is_kept e _ (subst (λ ts. Has ts (get_or tables i d)) are (is_next tables i d low)); hindered = subst (IsUnread (sql_of (get_or tables i d)).select a.step_limit) (some.same open_before).0.now_is h }) stops
+  | inl open_before ↦ stopped_after (IsUnread (sql_of (get_or tables i d)).select) (IsHinderedReadingIn e) a b c survives clean up
+      (λ h. record {
+        table = get_or tables i d;
+        among = subst (λ ts. Has ts (get_or tables i d)) are (is_next tables i d low);
+        hindered = subst (IsUnread (sql_of (get_or tables i d)).select a.step_limit) (some.same open_before).0.now_is h;
+      }) stops
   | inr shut ↦ record { why = inl shut }
 ]
+
+-- and after the number was read
+pub rows_unread : (e : AnEdition) (a b c : Seen) → AreAllListed (rolls_of e) a.now.schema → IsUnchanged a b → Survives a b (λ _. ⊥) → HasCleanDisk b
+    → b.faults ≤ c.faults → IsStopped (IsHinderedReadingIn e) b c → IsStopped IsHinderedReading a c
+rows_unread e a b c listed same survives clean up =
+    stopped_after (IsHinderedReadingIn e) IsHinderedReading a b c survives clean up
+    (λ h. record {
+      edition = e;
+      listed = listed;
+      table = h.table;
+      among = inr h.among;
+      hindered = subst (IsUnread (sql_of h.table).select a.step_limit) same.0.now_is h.hindered;
+    })
 
 -- a row that is refused as it is brought into its table is a change that is refused
 pub refused_entering : {A : Type 0} (way : Way) (r : Row) (result : Result A TableFault) (a b : Seen) → IsCausedInside (IsHinderedToEnter way (table_of r) (columns r)) result a b → IsCausedInside (IsHinderedChange (entering way r)) result a b
@@ -89,3 +103,9 @@ refused_entering New r result a b h = h
 pub went_entering : {A : Type 0} (way : Way) (r : Row) (result : Result A TableFault) (a b : Seen) → IsRunInside (WentEntering way (table_of r) (columns r)) result a b → IsRunInside (GoesThrough (entering way r)) result a b
 went_entering InPlace r result a b h = h
 went_entering New r result a b h = h
+
+-- and one that fails, with the fault of its statement
+pub failed_entering : {A : Type 0} (way : Way) (r : Row) (result : Result A TableFault) (a b : Seen)
+    → IsToldInside (FailsToEnter way (table_of r) (columns r)) result a b → IsToldInside (FailsToChange (entering way r)) result a b
+failed_entering InPlace r result a b h = h
+failed_entering New r result a b h = h

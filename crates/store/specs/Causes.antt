@@ -12,7 +12,8 @@ use Rattle.tables.specs.Table.{Sharing, sharing, sql_of}
 use Rattle.tables.specs.Causes.{IsHindered, IsHinderedToPut, IsUnread, IsUnready, Went, WentPutting}
 use Rattle.sqlite.specs.Order.{Row as Cells}
 use Rattle.editions.specs.declared.Edition.{Edition as AnEdition}
-use Rattle.store.specs.Editions.{IsEarlier, beyond, latest, number_of, raised}
+use Rattle.store.specs.Editions.{IsEarlier, beyond, latest, number_of, raised, rolls_of}
+use Rattle.store.specs.Reading.{AreAllListed}
 use Rattle.store.specs.Rows.{columns, kept, key_columns, list_columns, round_columns, table_at_key, table_of}
 use Rattle.store.specs.Saving.{AreActedOnAmong}
 use Rattle.store.specs.Tables.{HasNone, StandsIn}
@@ -98,10 +99,12 @@ IsHinderedToLift e changes limit db = IsHinderedToPut Edition latest_number limi
 abbrev pub IsHinderedToRaise : AnEdition → List Change → Option ℕ → Database → Type 0
 IsHinderedToRaise e changes limit db = AreActedOnAmong raised db.schema ⊎ IsHinderedToLift e changes limit db
 
--- one of the tables cannot be read
+-- one of the tables of an edition cannot be read, where all of them are listed with their columns and rules
 pub record IsHinderedReading (limit : Option ℕ) (db : Database) : Type 0 where
+  pub edition : AnEdition
+  pub listed : AreAllListed (rolls_of edition) db.schema
   pub table : Table
-  pub kept : Has kept table
+  pub among : Has (Edition ∷ rolls_of edition) table
   pub hindered : IsUnread (sql_of table).select limit db
 
 -- the tables stand for an office in an earlier edition, and the changes that bring its rows to the latest are refused

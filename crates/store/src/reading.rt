@@ -8,6 +8,7 @@ ghost use Rattle.sqlite.specs.Held.{state};
 ghost use Rattle.tables.specs.Causes.{IsCaused, IsUnread};
 ghost use Rattle.tables.specs.Table.{sql_of, table_at};
 ghost use Rattle.store.specs.Causes.{IsHinderedReading};
+ghost use Rattle.store.specs.Inside.Causes.{IsHinderedReadingIn};
 ghost use Rattle.tables.specs.Steps.{Rests};
 ghost use Rattle.rolls.specs.State.{State};
 ghost use Rattle.rolls.specs.Fit.{IsFit};
@@ -138,7 +139,7 @@ fn read_rows<S: Alter>(
     ensures rows { HasCleanDisk (state S.Store conn.new) → IfOk result (λ rows. ReadsAll (rolls_of edition) rows.items (state S.Store conn.old) (state S.Store conn.new)) }
     ensures damaged { HasCleanDisk (state S.Store conn.new) → result ≡ Err StoreFault.Damaged → HoldsUnread (rolls_of edition) (state S.Store conn.old) }
     ensures rests { HasCleanDisk (state S.Store conn.new) → Rests (state S.Store conn.old) (state S.Store conn.new) }
-    ensures cause { IsCaused StoreFault.Storage IsHinderedReading result (state S.Store conn.old) (state S.Store conn.new) }
+    ensures cause { IsCaused StoreFault.Storage (IsHinderedReadingIn edition) result (state S.Store conn.old) (state S.Store conn.new) }
     ensures mode { conn.old.in_transaction ≡ false → conn.new.in_transaction ≡ false }
     ensures survives { Survives (state S.Store conn.old) (state S.Store conn.new) (λ _. ⊥) }
 {

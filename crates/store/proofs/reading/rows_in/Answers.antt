@@ -8,10 +8,9 @@ use Rattle.tables.specs.declared.table.Table.TheVariants.{Edition}
 use Rattle.store.specs.declared.fault.StoreFault.TheVariants.{Damaged, Storage}
 use Rattle.store.specs.Editions.{number_of, rolls_of}
 use Rattle.store.specs.Tables.{numbered}
-use Rattle.store.specs.Causes.{IsHinderedReading}
 use Rattle.store.specs.Reading.{AreAllListed}
 use Rattle.store.proofs.AllRows.{none_back, holds_back, unchanged_then}
-use Rattle.store.proofs.Causes.{of_storage, hindered_reading, unchanged_before}
+use Rattle.store.proofs.Causes.{hindered_reading, of_storage, rows_unread}
 use Rattle.store.proofs.Columns.{none_later}
 use Rattle.store.proofs.ReadRows.{are_in, other_number, stood, unlisted, unread}
 use Rattle.store.proofs.reading.rows_in.Goals as goal
@@ -72,11 +71,13 @@ returns-clause-survives g c = survives_both _ _ _ c.in_ok-number.ensures.survive
 pub returns-in_err-number-clause-cause : goal.returns-in_err-number-clause-cause
 returns-in_err-number-clause-cause g c clean h =
     let gives = rw h at c.from_residual.ensures.1 in
-    hindered_reading Edition _ _ (inl refl) (c.read.ensures.cause clean (c.in_err-number.was ∙ ap Err (of_storage _ (sym gives))))
+    let listed = subst (AreAllListed (rolls_of c.args.edition)) c.schema.ensures.value (subst (λ tables. AreAllListed tables c.schema.result.now) c.rolls_of.ensures (c.are_all_listed.ensures.right c.if-not-are_all_listed.false)) in
+    hindered_reading c.args.edition Edition (state g.S.Store c.args.conn.now) _ listed (inl refl) (c.read.ensures.cause clean (c.in_err-number.was ∙ ap Err (of_storage _ (sym gives))))
 
 pub returns-in_err-rows-clause-cause : goal.returns-in_err-rows-clause-cause
 returns-in_err-rows-clause-cause g c clean h =
     let was : c.read_rows.result ≡ Err Storage = search rules in
     let early : HasCleanDisk (state g.S.Store c.read.new.conn) = omega (arith, c.read_rows.ensures.survives.clean) in
     let shows = c.in_ok-number.ensures.rows early in
-    unchanged_before IsHinderedReading IsHinderedReading _ _ _ shows.same c.in_ok-number.ensures.survives early c.read_rows.ensures.survives.counts (λ limit db it. it) (c.read_rows.ensures.cause clean was)
+    let listed = subst (AreAllListed (rolls_of c.args.edition)) c.schema.ensures.value (subst (λ tables. AreAllListed tables c.schema.result.now) c.rolls_of.ensures (c.are_all_listed.ensures.right c.if-not-are_all_listed.false)) in
+    rows_unread c.args.edition (state g.S.Store c.args.conn.now) _ _ listed shows.same c.in_ok-number.ensures.survives early c.read_rows.ensures.survives.counts (c.read_rows.ensures.cause clean was)

@@ -9,3 +9,9 @@ returns-in-TakeList-clause-step g c =
 pub returns-in-TakePlacements-clause-step : goal.returns-in-TakePlacements-clause-step
 returns-in-TakePlacements-clause-step g c =
     rw c.in-TakePlacements.is (part_as _ _ _ _ _ (λ _ p. stepped_as _ _ _ _ (hold_placed _ _ _) p) (rw c.params-to_sql-in-TakePlacements.ensures at c.delete_group-in-TakePlacements.ensures.step))
+
+pub returns-in-Put-clause-cause : goal.returns-in-Put-clause-cause
+returns-in-Put-clause-cause g c = rw c.in-Put.is c.write_row.ensures.cause
+
+pub returns-in-Put-clause-told : goal.returns-in-Put-clause-told
+returns-in-Put-clause-told g c = rw c.in-Put.is c.write_row.ensures.told

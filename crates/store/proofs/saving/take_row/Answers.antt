@@ -95,3 +95,33 @@ returns-in-OldChoice-clause-ran g c = rw c.in-OldChoice.is (rw (c.params-to_sql-
 
 pub returns-in-OldPlacement-clause-ran : goal.returns-in-OldPlacement-clause-ran
 returns-in-OldPlacement-clause-ran g c = rw c.in-OldPlacement.is (rw (c.params-to_sql-in-OldPlacement.ensures, c.as_str-in-OldPlacement.ensures) at c.delete-in-OldPlacement.ensures.ran)
+
+pub returns-in-Supervisor-clause-told : goal.returns-in-Supervisor-clause-told
+returns-in-Supervisor-clause-told g c = rw c.in-Supervisor.is (rw (c.params-to_sql.ensures, c.as_str.ensures) at c.delete.ensures.told)
+
+pub returns-in-Project-clause-told : goal.returns-in-Project-clause-told
+returns-in-Project-clause-told g c = rw c.in-Project.is (rw (c.params-to_sql-in-Project.ensures, c.as_str-in-Project.ensures) at c.delete-in-Project.ensures.told)
+
+pub returns-in-Student-clause-told : goal.returns-in-Student-clause-told
+returns-in-Student-clause-told g c = rw c.in-Student.is (rw (c.params-to_sql-in-Student.ensures, c.as_str-in-Student.ensures) at c.delete-in-Student.ensures.told)
+
+pub returns-in-Round-clause-told : goal.returns-in-Round-clause-told
+returns-in-Round-clause-told g c = rw c.in-Round.is (rw c.params-to_sql-in-Round.ensures at c.delete-in-Round.ensures.told)
+
+pub returns-in-Choice-clause-told : goal.returns-in-Choice-clause-told
+returns-in-Choice-clause-told g c = rw c.in-Choice.is (rw (c.params-to_sql-in-Choice.ensures, c.params-to_sql-in-Choice-2.ensures, c.params-to_sql-in-Choice-3.ensures, c.as_str-in-Choice.ensures) at c.delete-in-Choice.ensures.told)
+
+pub returns-in-Placement-clause-told : goal.returns-in-Placement-clause-told
+returns-in-Placement-clause-told g c = rw c.in-Placement.is (rw (c.params-to_sql-in-Placement.ensures, c.as_str-in-Placement.ensures) at c.delete-in-Placement.ensures.told)
+
+pub returns-in-Import-clause-told : goal.returns-in-Import-clause-told
+returns-in-Import-clause-told g c = rw c.in-Import.is (rw (c.params-to_sql-in-Import.ensures, c.as_str-in-Import.ensures) at c.delete-in-Import.ensures.told)
+
+pub returns-in-RoundAim-clause-told : goal.returns-in-RoundAim-clause-told
+returns-in-RoundAim-clause-told g c = rw c.in-RoundAim.is (rw c.params-to_sql-in-RoundAim.ensures at c.delete-in-RoundAim.ensures.told)
+
+pub returns-in-OldChoice-clause-told : goal.returns-in-OldChoice-clause-told
+returns-in-OldChoice-clause-told g c = rw c.in-OldChoice.is (rw (c.params-to_sql-in-OldChoice.ensures, c.params-to_sql-in-OldChoice-2.ensures, c.params-to_sql-in-OldChoice-3.ensures, c.as_str-in-OldChoice.ensures) at c.delete-in-OldChoice.ensures.told)
+
+pub returns-in-OldPlacement-clause-told : goal.returns-in-OldPlacement-clause-told
+returns-in-OldPlacement-clause-told g c = rw c.in-OldPlacement.is (rw (c.params-to_sql-in-OldPlacement.ensures, c.as_str-in-OldPlacement.ensures) at c.delete-in-OldPlacement.ensures.told)

@@ -1,6 +1,6 @@
 use Rattle.sqlite.specs.Held.{state}
 use Rattle.tables.proofs.Runs.{part_as, stepped_as}
-use Rattle.store.proofs.Causes.{refused_entering, went_entering}
+use Rattle.store.proofs.Causes.{failed_entering, refused_entering, went_entering}
 use Rattle.store.proofs.OneStatement.{hold_enter}
 use Rattle.store.proofs.saving.write_row.Goals as goal
 
@@ -113,3 +113,33 @@ returns-in-OldChoice-clause-ran g c = rw c.in-OldChoice.is (went_entering c.args
 
 pub returns-in-OldPlacement-clause-ran : goal.returns-in-OldPlacement-clause-ran
 returns-in-OldPlacement-clause-ran g c = rw c.in-OldPlacement.is (went_entering c.args.way _ _ (state g.S.Store c.args.tx.now.conn.now) (state g.S.Store c.enter-in-OldPlacement.new.tx.conn.now) (rw (c.params-to_sql-in-OldPlacement.ensures, c.params-to_sql-in-OldPlacement-2.ensures, c.params-to_sql-in-OldPlacement-3.ensures, c.params-to_sql-in-OldPlacement-4.ensures, c.as_str-in-OldPlacement.ensures, c.as_str-in-OldPlacement-2.ensures) at c.enter-in-OldPlacement.ensures.ran))
+
+pub returns-in-Supervisor-clause-told : goal.returns-in-Supervisor-clause-told
+returns-in-Supervisor-clause-told g c = rw c.in-Supervisor.is (failed_entering c.args.way _ _ _ _ (rw (c.params-to_sql.ensures, c.params-to_sql-in-Supervisor.ensures, c.params-to_sql-in-Supervisor-2.ensures, c.as_str.ensures, c.as_str-in-Supervisor.ensures) at c.enter.ensures.told))
+
+pub returns-in-Project-clause-told : goal.returns-in-Project-clause-told
+returns-in-Project-clause-told g c = rw c.in-Project.is (failed_entering c.args.way _ _ _ _ (rw (c.params-to_sql-in-Project.ensures, c.params-to_sql-in-Project-2.ensures, c.params-to_sql-in-Project-3.ensures, c.params-to_sql-in-Project-4.ensures, c.as_str-in-Project.ensures, c.as_str-in-Project-2.ensures, c.as_str-in-Project-3.ensures) at c.enter-in-Project.ensures.told))
+
+pub returns-in-Student-clause-told : goal.returns-in-Student-clause-told
+returns-in-Student-clause-told g c = rw c.in-Student.is (failed_entering c.args.way _ _ _ _ (rw (c.params-to_sql-in-Student.ensures, c.params-to_sql-in-Student-2.ensures, c.as_str-in-Student.ensures, c.as_str-in-Student-2.ensures) at c.enter-in-Student.ensures.told))
+
+pub returns-in-Round-clause-told : goal.returns-in-Round-clause-told
+returns-in-Round-clause-told g c = rw c.in-Round.is (failed_entering c.args.way _ _ _ _ (rw (c.params-to_sql-in-Round.ensures, c.params-to_sql-in-Round-2.ensures, c.flag.ensures) at c.enter-in-Round.ensures.told))
+
+pub returns-in-Choice-clause-told : goal.returns-in-Choice-clause-told
+returns-in-Choice-clause-told g c = rw c.in-Choice.is (failed_entering c.args.way _ _ _ _ (rw (c.params-to_sql-in-Choice.ensures, c.params-to_sql-in-Choice-2.ensures, c.params-to_sql-in-Choice-3.ensures, c.params-to_sql-in-Choice-4.ensures, c.as_str-in-Choice.ensures, c.as_str-in-Choice-2.ensures) at c.enter-in-Choice.ensures.told))
+
+pub returns-in-Placement-clause-told : goal.returns-in-Placement-clause-told
+returns-in-Placement-clause-told g c = rw c.in-Placement.is (failed_entering c.args.way _ _ _ _ (rw (c.params-to_sql-in-Placement.ensures, c.params-to_sql-in-Placement-2.ensures, c.params-to_sql-in-Placement-3.ensures, c.params-to_sql-in-Placement-4.ensures, c.as_str-in-Placement.ensures, c.as_str-in-Placement-2.ensures) at c.enter-in-Placement.ensures.told))
+
+pub returns-in-Import-clause-told : goal.returns-in-Import-clause-told
+returns-in-Import-clause-told g c = rw c.in-Import.is (failed_entering c.args.way _ _ _ _ (rw (c.params-to_sql-in-Import.ensures, c.params-to_sql-in-Import-2.ensures, c.params-to_sql-in-Import-3.ensures, c.params-to_sql-in-Import-4.ensures, c.as_str-in-Import.ensures, c.word.ensures, c.as_slice.ensures) at c.enter-in-Import.ensures.told))
+
+pub returns-in-RoundAim-clause-told : goal.returns-in-RoundAim-clause-told
+returns-in-RoundAim-clause-told g c = rw c.in-RoundAim.is (failed_entering c.args.way _ _ _ _ (rw (c.params-to_sql-in-RoundAim.ensures, c.params-to_sql-in-RoundAim-2.ensures, c.flag-in-RoundAim.ensures, c.is_generous.ensures) at c.enter-in-RoundAim.ensures.told))
+
+pub returns-in-OldChoice-clause-told : goal.returns-in-OldChoice-clause-told
+returns-in-OldChoice-clause-told g c = rw c.in-OldChoice.is (failed_entering c.args.way _ _ _ _ (rw (c.params-to_sql-in-OldChoice.ensures, c.params-to_sql-in-OldChoice-2.ensures, c.params-to_sql-in-OldChoice-3.ensures, c.params-to_sql-in-OldChoice-4.ensures, c.as_str-in-OldChoice.ensures, c.as_str-in-OldChoice-2.ensures) at c.enter-in-OldChoice.ensures.told))
+
+pub returns-in-OldPlacement-clause-told : goal.returns-in-OldPlacement-clause-told
+returns-in-OldPlacement-clause-told g c = rw c.in-OldPlacement.is (failed_entering c.args.way _ _ _ _ (rw (c.params-to_sql-in-OldPlacement.ensures, c.params-to_sql-in-OldPlacement-2.ensures, c.params-to_sql-in-OldPlacement-3.ensures, c.params-to_sql-in-OldPlacement-4.ensures, c.as_str-in-OldPlacement.ensures, c.as_str-in-OldPlacement-2.ensures) at c.enter-in-OldPlacement.ensures.told))
