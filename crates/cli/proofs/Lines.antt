@@ -1,5 +1,5 @@
 -- What was done at a file is an outcome of the task, of the line, and of the words.
-use Rattle.std.proofs.Common.{◌≡◌, ◌⊎◌, inl, inr, ℕ, List, string_bytes, Option, Some, None, Result, Ok, Err, MatchResult}
+use Rattle.std.proofs.Common.{◌≡◌, inl, inr, ℕ, List, string_bytes, Some, None, Result, Ok, Err, MatchResult}
 use Rattle.sqlite_disk.specs.declared.Disk.{Ghosts}
 use Rattle.sqlite_wal.specs.Recovery.{Image}
 use Rattle.rolls.specs.declared.refusal.Refusal.{Refusal}

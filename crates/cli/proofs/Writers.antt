@@ -15,8 +15,7 @@ use Rattle.web.specs.Connections.{AllServed, lines_after}
 use Rattle.web.specs.Serving.{AtDesk}
 use Rattle.round_files.specs.declared.rounds.Trouble.{Trouble}
 use Rattle.round_files.specs.declared.rounds.Trouble.TheVariants.{Refused}
-use Rattle.cli.specs.declared.tasks.Task.{Task}
-use Rattle.cli.specs.Outcomes.{MayDo, OnFile, Outcome, of_round, prints, refused, refusal_line, named_line, listening, IsUnread, IsServed}
+use Rattle.cli.specs.Outcomes.{OnFile, Outcome, of_round, prints, refused, refusal_line, named_line, listening, IsUnread, IsServed}
 use Rattle.cli.specs.Inside.Outcomes.{Serves}
 
 -- what the two writers took, and how many of their calls failed

@@ -9,7 +9,7 @@ use Rattle.rolls.specs.declared.request.Reply.TheVariants as reply
 use Rattle.rolls.specs.declared.request.Request.{Request}
 use Rattle.rolls.specs.declared.request.Request.TheVariants as request
 use Rattle.rolls.specs.Refusing.{refusal_of}
-use Rattle.rolls.specs.Run.{Makes, Step, refusal}
+use Rattle.rolls.specs.Run.{Makes, refusal}
 use Rattle.allotment.specs.Layers.{layers}
 use Rattle.desk.specs.Keeping.{repeated_rows}
 use Rattle.desk.specs.Kept.{Kept}

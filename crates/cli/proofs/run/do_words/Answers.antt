@@ -1,8 +1,8 @@
 use Rattle.std.proofs.Common.{ap, subst, rules, refl, Ok, Err, map, string_bytes, ◌∙◌}
 use Rattle.commands.specs.Reading.{IsAnswer}
 use Rattle.commands.specs.declared.line.LineFault.{LineFault}
-use Rattle.commands.specs.declared.line.LineFault.TheVariants.{Memory, Help, Fault}
-use Rattle.cli.specs.Outcomes.{prints, tells}
+use Rattle.commands.specs.declared.line.LineFault.TheVariants.{Memory, Help}
+use Rattle.cli.specs.Outcomes.{prints}
 use Rattle.cli.proofs.Writers.{tells_more}
 use Rattle.cli.proofs.run.do_words.Goals as goal
 

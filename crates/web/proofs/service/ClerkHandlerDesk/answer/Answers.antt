@@ -1,7 +1,5 @@
-use Rattle.std.proofs.Common.{Ok, Err, refl, sym, subst, arith}
+use Rattle.std.proofs.Common.{Ok, Err, refl, arith}
 use Rattle.wire.specs.Answers.{answer_bytes}
-use Rattle.api.specs.Requests.{IsReadAs}
-use Rattle.web.specs.Serving.{at_desk}
 use Rattle.web.proofs.OneMessage.{answered_from}
 use Rattle.web.proofs.service.ClerkHandlerDesk.answer.Goals as goal
 
