@@ -1,0 +1,50 @@
+//! Searches for a matching that is best by an aim, with prices that prove it.
+//!
+//! Nobody has to believe the search: what leaves this crate is what `verdict::accept` took. Of its parts it is promised that they
+//! are safe and end, so a mistake there costs time, and never a better matching.
+//!
+//! The students are admitted one by one, in an order drawn by lot from the round (`order.rt`), each along a cheapest augmenting
+//! walk of the residual network (`walk.rt`): E. W. Dijkstra's search over labels that potentials keep from being negative, which
+//! stops at the best end. The potentials are the prices, each packed into one whole number (`labels.rt`).
+//!
+//! Read on in `state.rt` (who is where, and what it costs), then `heap.rt` (what a search has reached), `walk.rt` and `admit.rt`
+//! (what a walk changes).
+#![tactic(auto)]
+
+mod admit;
+mod endless;
+mod heap;
+mod labels;
+mod order;
+mod state;
+mod walk;
+
+ghost use Rattle.std.specs.Prelude.{IfOk, IfSome};
+ghost use Rattle.spa.specs.Order.{order};
+ghost use Rattle.spa.specs.Matching.{IsBest};
+ghost use Rattle.spa.specs.Matched.{pairs};
+ghost use Rattle.verdict.specs.Verdict.{IsProvedBest};
+
+use crate::admit::admit;
+use crate::heap::Frontier;
+use crate::order::drawn;
+use crate::state::Network;
+use spa::{Aim, Instance};
+use std::alloc::{AllocError, Global};
+use verdict::{Proved, accept};
+
+/// A matching of the instance that is best by the aim, and prices that prove it, if the search came to one: its prices are
+/// checked. An `Err` is want of memory.
+pub fn search(alloc: Global, instance: &Instance, aim: Aim) -> Result<Option<Proved>, AllocError>
+    ensures proved { IfOk result (λ r. IfSome r (λ s. IsProvedBest (order aim) instance.now.shape s.matching.places.items s.prices)) }
+    ensures best { IfOk result (λ r. IfSome r (λ s. IsBest aim instance.now.shape (pairs instance.now.shape s.matching.places.items))) }
+{
+    let mut network = Network::start(alloc, instance, aim)?;
+    let mut frontier = Frontier::start(alloc, network.nodes.items.len())?;
+    for student in drawn(alloc, instance)? {
+        admit(&mut network, &mut frontier, student)?;
+    }
+    let matching = network.matching(alloc)?;
+    let prices = network.prices(alloc)?;
+    Ok(accept(instance, aim, matching, prices))
+}
