@@ -17,7 +17,7 @@ use Rattle.intake.specs.Reading.{IsReading}
 use Rattle.intake.specs.View.{proved}
 use Rattle.intake.specs.declared.round.RoundParts.{RoundParts}
 use Rattle.intake.specs.declared.round.RoundFault.TheVariants.{TooLarge, Line}
-use Rattle.solver.specs.declared.solving.Solved.{Solved}
+use Rattle.verdict.specs.declared.conditions.Proved.{Proved}
 use Rattle.rolls.specs.declared.refusal.Refusal.TheVariants.{Memory as NoMemory, TooLarge as AboveLimit}
 use Rattle.round_files.specs.declared.rounds.Trouble.{Trouble}
 use Rattle.round_files.specs.declared.rounds.Trouble.TheVariants.{Refused, BadLine, Failed}
@@ -25,7 +25,7 @@ use Rattle.round_files.specs.declared.rounds.Trouble.TheVariants.{Refused, BadLi
 -- what is printed is the round of the text, its aim with it, with a matching and prices that prove it best by this aim
 pub record IsSolution (text printed : List ℕ) : Type 0 where
   pub round : RoundParts
-  pub solved : Solved
+  pub solved : Proved
   pub read : IsReading text (Ok round)
   pub best : IsProvedBest (order round.aim) round.instance.shape solved.matching.places.items solved.prices
   pub is : printed ≡ round_text (proved round.instance round.aim solved.matching.places.items solved.prices)

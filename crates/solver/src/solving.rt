@@ -14,17 +14,10 @@ ghost use Rattle.solver.specs.Inside.Solved.{IsOf, AreRowsOf, ArePricesOf};
 
 use crate::worths::{admit_weighed, numbers};
 use network::Network;
-use proposal::propose;
+use search::search;
 use spa::{Aim, Instance, Lex, Matching, PLACES, RANKS, lex_law, order_law};
 use std::alloc::{AllocError, Global};
-use verdict::{Prices, check, verdict_law};
-
-/// A matching, and prices that prove it best.
-#[derive(Drop)]
-pub struct Solved {
-    pub matching: Matching,
-    pub prices: Prices,
-}
+use verdict::{Prices, Proved as Solved, verdict_law};
 
 /// A network of the instance's rolls that has admitted all its students, with the weight of each pair, as the aim reads
 /// it, as its worth.
@@ -107,35 +100,31 @@ fn admitted(alloc: Global, instance: &Instance, aim: Aim) -> Result<Solved, Allo
     Ok(Solved { matching, prices })
 }
 
-/// What is proposed for the instance, if its prices prove its matching best.
-fn accepted(alloc: Global, instance: &Instance, aim: Aim) -> Result<Option<Solved>, AllocError>
-    ensures proved { IfOk result (λ r. IfSome r (λ s. IsProvedBest (order aim) instance.now.shape s.matching.places.items s.prices)) }
-    ensures best { IfOk result (λ r. IfSome r (λ s. IsBest aim instance.now.shape (pairs instance.now.shape s.matching.places.items))) }
+/// What was found, if it was accepted. Else the students are admitted one by one to a network whose pairs are worth their
+/// weights, which is proved to come to the best.
+pub fn found_or_admitted(
+    alloc: Global,
+    instance: &Instance,
+    aim: Aim,
+    found: Option<Solved>,
+) -> Result<Solved, AllocError>
+    requires { IfSome found (λ s. IsProvedBest (order aim) instance.now.shape s.matching.places.items s.prices) }
+    ensures proved { IfOk result (λ s. IsProvedBest (order aim) instance.now.shape s.matching.places.items s.prices) }
+    ensures best { IfOk result (λ s. IsBest aim instance.now.shape (pairs instance.now.shape s.matching.places.items)) }
 {
-    let proposal = propose(alloc, instance)?;
-    match check(instance, aim, &proposal.matching, &proposal.prices) {
-        Ok(()) => Ok(Some(Solved {
-            matching: proposal.matching,
-            prices: proposal.prices,
-        })),
-        Err(_) => Ok(None),
+    verdict_law(instance);
+    match found {
+        Some(solved) => Ok(solved),
+        None => admitted(alloc, instance, aim),
     }
 }
 
 /// A matching of the instance that is best by the aim, and prices that prove it: `verdict::check` accepts them. No
 /// matching has more pairs, and none with as many has a better profile. An `Err` is want of memory.
-///
-/// By the greedy aim it admits the students one by one to a network whose pairs are worth their weights. By the generous aim
-/// their walks are long, so what `proposal` finds rank by rank comes first: it is taken where `verdict::check` accepts it, and
-/// only else are the students admitted.
 pub fn solve(alloc: Global, instance: &Instance, aim: Aim) -> Result<Solved, AllocError>
     ensures proved { IfOk result (λ s. IsProvedBest (order aim) instance.now.shape s.matching.places.items s.prices) }
     ensures best { IfOk result (λ s. IsBest aim instance.now.shape (pairs instance.now.shape s.matching.places.items)) }
 {
-    if let Aim::Generous = aim {
-        if let Some(solved) = accepted(alloc, instance, aim)? {
-            return Ok(solved);
-        }
-    }
-    admitted(alloc, instance, aim)
+    let found = search(alloc, instance, aim)?;
+    found_or_admitted(alloc, instance, aim, found)
 }

@@ -3,14 +3,14 @@
 use crate::rolls_of::{instance, places};
 use crate::rounds::profile_of;
 use plays::judged::holds;
-use proposal::propose;
-use solver::{Audit, audit, solve};
-use spa::{Aim, Instance, Matching, RANKS, profile};
+use search::search;
+use solver::{Audit, audit, found_or_admitted, solve};
+use spa::{AIMS, Aim, Instance, Matching, RANKS, profile};
 use std::alloc::Global;
 use std::fmt::Write;
 use std::rt::HostRuntime;
 use std::test::Fail;
-use verdict::check;
+use verdict::{accept, check};
 
 type Round = (
     Aim,
@@ -105,6 +105,30 @@ fn each_aim_has_its_best_matching(rt: HostRuntime) -> Result<(), Fail> {
     for row in ROUNDS.as_slice() {
         solve_row(rt.alloc(), row)?;
         audit_row(rt.alloc(), row)?;
+    }
+    Ok(())
+}
+
+/// Closes a round although what was found is spoiled: prices are missing, so it is not accepted, and the students are
+/// admitted one by one.
+fn close_spoiled(alloc: Global, row: &Round) -> Result<(), Fail> {
+    let (aim, supervisors, projects, students, _, digits, _) = *row;
+    let instance = instance(alloc, supervisors, projects, students)?;
+    let mut spoiled = solve(alloc, &instance, aim)?;
+    spoiled.prices.supervisors.clear();
+    let found = accept(&instance, aim, spoiled.matching, spoiled.prices);
+    holds(found.is_none(), students)?;
+    let solved = found_or_admitted(alloc, &instance, aim, found)?;
+    let is_proved = check(&instance, aim, &solved.matching, &solved.prices).is_ok();
+    holds(is_proved, students)?;
+    let counts = profile_of(&instance, &solved.matching)?;
+    holds(is_profile(&counts, digits), students)
+}
+
+#[test]
+fn a_round_whose_search_is_spoiled_is_closed(rt: HostRuntime) -> Result<(), Fail> {
+    for row in ROUNDS.as_slice() {
+        close_spoiled(rt.alloc(), row)?;
     }
     Ok(())
 }
@@ -208,18 +232,6 @@ fn compare_searched(alloc: Global, instance: &Instance, aim: Aim, row: &str) -> 
     holds(counts == found, row)
 }
 
-/// Whether what is proposed for a generous round is accepted. Else `solve` admits the students one by one, and takes longer.
-fn is_accepted(alloc: Global, instance: &Instance) -> Result<bool, Fail> {
-    let proposal = propose(alloc, instance)?;
-    Ok(check(
-        instance,
-        Aim::Generous,
-        &proposal.matching,
-        &proposal.prices,
-    )
-    .is_ok())
-}
-
 #[test]
 fn a_search_through_all_matchings_finds_none_better(rt: HostRuntime) -> Result<(), Fail> {
     let alloc = rt.alloc();
@@ -227,10 +239,11 @@ fn a_search_through_all_matchings_finds_none_better(rt: HostRuntime) -> Result<(
     for _round in 0..100 {
         let (supervisors, projects, students) = small_rolls(alloc, &mut random)?;
         let instance = instance(alloc, &supervisors, &projects, &students)?;
-        compare_searched(alloc, &instance, Aim::Greedy, &students)?;
-        compare_searched(alloc, &instance, Aim::Generous, &students)?;
-        let is_accepted = is_accepted(alloc, &instance)?;
-        holds(is_accepted, &students)?;
+        for aim in AIMS {
+            compare_searched(alloc, &instance, aim, &students)?;
+            let is_found = search(alloc, &instance, aim)?.is_some();
+            holds(is_found, &students)?;
+        }
     }
     Ok(())
 }

@@ -1,0 +1,4 @@
+use Rattle.solver.proofs.solving.found_or_admitted.Goals as goal
+
+pub returns-in-Some-clause-best : goal.returns-in-Some-clause-best
+returns-in-Some-clause-best c = c.verdict_law.ensures c.args.aim c.in-Some.solved.matching.places.items c.in-Some.solved.prices (rw c.in-Some.is at c.requires)
