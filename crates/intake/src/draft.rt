@@ -16,8 +16,8 @@ use crate::lookup::{Coded, next_code, position_at, position_in};
 use crate::round::RoundParts;
 use crate::section::{SectionName, section_of};
 use spa::{
-    Aim, Code, Guesses, Instance, InstanceFault, MOST_PROJECTS, MOST_STUDENTS, MOST_SUPERVISORS, Matching,
-    PLACES, RANKS,
+    Aim, Code, Guesses, Instance, InstanceFault, MOST_PROJECTS, MOST_STUDENTS, MOST_SUPERVISORS,
+    Matching, PLACES, RANKS,
 };
 use std::alloc::{AllocError, Global};
 use verdict::Prices;
