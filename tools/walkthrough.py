@@ -185,8 +185,8 @@ def main(program=None, *words):
     if program is None:
         return
     differing = False
-    named = [word for word in words if word != "--write"]
-    for text in named or WALKTHROUGHS:
+    texts = [word for word in words if word != "--write"]
+    for text in texts or WALKTHROUGHS:
         shown = read(text)
         told, count = play(text, program)
         if is_written:
