@@ -1,10 +1,10 @@
 #!/usr/bin/env python3
-"""What `solve FILE` takes for a generous round, beside the greedy round of the same lists and beside plain Rust.
+"""What `solve FILE` takes by each aim, beside plain Rust with labels that are rows of numbers, and with labels packed into one number.
 
 tools/generous.py SPADESK FILE..     needs rustc and valgrind
 
-Each FILE is a round text without an aim, such as `tools/families.py` writes. Instructions are counted, the start of the process taken
-off. Both programs must come to the same size and profile, and the program must accept what plain Rust has found.
+Each FILE is a round text without an aim, such as `tools/families.py` writes. Instructions are counted in millions, the start of the
+process taken off. All must come to the same size and profile, and the program must accept what plain Rust has found.
 """
 import os
 import subprocess
@@ -12,6 +12,8 @@ import sys
 import tempfile
 
 from growth import counted, plain_rust
+
+AIMS = {"greedy": "", "generous": "A,generous\n"}
 
 
 def best(program, folder, text):
@@ -28,21 +30,25 @@ def main():
     program, files = os.path.abspath(sys.argv[1]), sys.argv[2:]
     with tempfile.TemporaryDirectory() as folder:
         plain = plain_rust(folder)
-        empty, generous = os.path.join(folder, "empty"), os.path.join(folder, "generous")
+        lines = ((program, "solve"), (plain, "solve"), (plain, "solve-packed"))
+        empty, round_text = os.path.join(folder, "empty"), os.path.join(folder, "round")
         open(empty, "w").close()
         starts = {path: counted(path, "solve", empty)[0] for path in (program, plain)}
-        print(f"{'file':16} {'greedy':>12} {'generous':>12} {'ratio':>6} {'plain Rust':>12} {'ratio':>6}")
+        print(f"{'file':16} {'aim':9} {'solve':>8} {'rows':>8} {'ratio':>6} {'packed':>8} {'ratio':>6}")
         for file in files:
-            with open(file) as text, open(generous, "w") as out:
-                out.write("A,generous\n" + text.read())
-            greedy = counted(program, "solve", file)[0] - starts[program]
-            ours, solved = counted(program, "solve", generous)
-            theirs, beside = counted(plain, "solve", generous)
-            ours, theirs = ours - starts[program], theirs - starts[plain]
-            told = best(program, folder, solved)
-            if not told.startswith("best") or told != best(program, folder, beside):
-                sys.exit(f"generous.py: {file}: the programs differ")
-            print(f"{os.path.basename(file):16} {greedy:12,} {ours:12,} {ours / greedy:6.2f} {theirs:12,} {ours / theirs:6.2f}")
+            for aim, front in AIMS.items():
+                with open(file) as text, open(round_text, "w") as out:
+                    out.write(front + text.read())
+                counts, told = [], set()
+                for path, line in lines:
+                    count, solved = counted(path, line, round_text)
+                    counts.append((count - starts[path]) / 1e6)
+                    told.add(best(program, folder, solved))
+                if len(told) != 1 or not told.pop().startswith("best"):
+                    sys.exit(f"generous.py: {file}: the programs differ")
+                ours, rows, packed = counts
+                name = os.path.basename(file)
+                print(f"{name:16} {aim:9} {ours:8.2f} {rows:8.2f} {ours / rows:6.2f} {packed:8.2f} {ours / packed:6.2f}")
 
 
 if __name__ == "__main__":

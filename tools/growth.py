@@ -4,8 +4,8 @@
 tools/growth.py SPADESK > docs/growth.svg     needs rustc and valgrind
 
 Instructions are counted, the start of the process taken off. The round of N students has N/5 supervisors and 4N/5 projects, lists of
-twelve drawn evenly, and room for each student; what `solve` prints is what `check` reads. Both programs must come to the same size and
-profile. The counts also go to standard error.
+twelve drawn evenly, and room for each student; what `solve` prints is what `check` reads. Plain Rust has labels that are rows of numbers,
+and labels packed into one number. All must come to the same size and profile. The counts also go to standard error.
 """
 import os
 import random
@@ -20,7 +20,9 @@ HERE = os.path.dirname(os.path.abspath(__file__))
 SIZES = [60, 125, 250, 500]
 LINES = ["solve", "check"]
 WIDTH, HEIGHT, LEFT, RIGHT, BOTTOM, TOP = 420, 300, 36, 110, 44, 46
-COLOURS = {"plain Rust": "#b0552f", "spadesk": "#1f5f8b"}
+COLOURS = {"plain Rust": "#b0552f", "packed": "#c8963e", "spadesk": "#1f5f8b"}
+# valgrind counts a copied block as one instruction a byte, unless the blocks are copied by words
+TUNABLES = "glibc.cpu.x86_rep_stosb_threshold=100000000:glibc.cpu.x86_rep_movsb_threshold=100000000"
 
 
 def round_text(students):
@@ -39,7 +41,8 @@ def round_text(students):
 def counted(program, line, file):
     """The instructions of a whole process, and what it prints."""
     tool = ["valgrind", "--tool=cachegrind", "--cache-sim=no", "--cachegrind-out-file=/dev/null"]
-    ran = subprocess.run([*tool, program, line, file], capture_output=True, text=True)
+    env = {**os.environ, "GLIBC_TUNABLES": TUNABLES}
+    ran = subprocess.run([*tool, program, line, file], capture_output=True, text=True, env=env)
     return int(re.search(r"I\s+refs:\s+([\d,]+)", ran.stderr).group(1).replace(",", "")), ran.stdout
 
 
@@ -51,23 +54,23 @@ def plain_rust(folder):
 
 
 def measured(programs, folder):
-    """By line and program, the millions of instructions at each size."""
+    """By line and name, the millions of instructions at each size. A name has its program and the line that solves."""
     empty = os.path.join(folder, "empty")
     open(empty, "w").close()
-    starts = {name: counted(path, "solve", empty)[0] for name, path in programs.items()}
+    starts = {path: counted(path, "solve", empty)[0] for path, _ in programs.values()}
     found = {(line, name): [] for line in LINES for name in programs}
     for students in SIZES:
         file, solved = os.path.join(folder, "round"), os.path.join(folder, "solved")
         with open(file, "w") as out:
             out.write(round_text(students))
         results = set()
-        for name, path in programs.items():
-            count, text = counted(path, "solve", file)
-            found["solve", name].append((count - starts[name]) / 1e6)
+        for name, (path, solve) in programs.items():
+            count, text = counted(path, solve, file)
+            found["solve", name].append((count - starts[path]) / 1e6)
             with open(solved, "w") as out:
                 out.write(text)
             count, told = counted(path, "check", solved)
-            found["check", name].append((count - starts[name]) / 1e6)
+            found["check", name].append((count - starts[path]) / 1e6)
             results.add(told)
         if len(results) != 1:
             sys.exit(f"growth.py: {students} students: the programs differ: {sorted(results)}")
@@ -104,7 +107,8 @@ def panel(line, found, shift):
 def main():
     program = os.path.abspath(sys.argv[1])
     with tempfile.TemporaryDirectory() as folder:
-        found = measured({"plain Rust": plain_rust(folder), "spadesk": program}, folder)
+        plain = plain_rust(folder)
+        found = measured({"plain Rust": (plain, "solve"), "packed": (plain, "solve-packed"), "spadesk": (program, "solve")}, folder)
     for line in LINES:
         for name in COLOURS:
             print(line, name, " ".join(f"{millions:.2f}" for millions in found[line, name]), file=sys.stderr)

@@ -1,10 +1,11 @@
 //! The lines `solve FILE` and `check FILE` in plain Rust, std alone: what `spadesk` is measured beside. Dijkstra with potentials over
-//! labels of whole numbers in lexicographic order, a binary heap, labels cut at the best end found so far; a generous round goes rank by
-//! rank (`ranks.rs`). It reads its text laxly: neither limits nor the order of lines are tested.
+//! labels that are rows of whole numbers in lexicographic order, a binary heap, labels cut at the best end found so far. It reads its
+//! text laxly: neither limits nor the order of lines are tested.
+//!
+//! By the line `solve-packed FILE` a label is one whole number: its places are digits, without the last, which the others leave of the
+//! size.
 //!
 //! RANKS in the environment of rustc is the number of places of a list, 12 where it is not set.
-
-mod ranks;
 
 use std::cmp::Reverse;
 use std::collections::{BinaryHeap, HashMap};
@@ -27,8 +28,10 @@ const NP: usize = RANKS + 1;
 
 trait Worth: Copy + Ord + Add<Output = Self> + Sub<Output = Self> {
     fn zero() -> Self;
-    fn weight(rank: usize) -> Self;
-    fn places(self) -> [i64; NP];
+    /// The weight of a pair as the aim reads it.
+    fn weight(generous: bool, rank: usize) -> Self;
+    /// The places of a row that was read by the aim.
+    fn places(self, generous: bool) -> [i64; NP];
 }
 #[derive(Clone, Copy, PartialEq, Eq, PartialOrd, Ord)]
 struct Lex([i64; NP]);
@@ -56,14 +59,60 @@ impl Worth for Lex {
     fn zero() -> Lex {
         Lex([0; NP])
     }
-    fn weight(rank: usize) -> Lex {
+    fn weight(generous: bool, rank: usize) -> Lex {
         let mut r = [0; NP];
         r[0] = 1;
         r[rank + 1] = 1;
-        Lex(r)
+        Lex(as_read(generous, r))
     }
-    fn places(self) -> [i64; NP] {
-        self.0
+    fn places(self, generous: bool) -> [i64; NP] {
+        as_read(generous, self.0)
+    }
+}
+/// A row as the aim reads it, and once more, which gives the row again.
+fn as_read(generous: bool, row: [i64; NP]) -> [i64; NP] {
+    let mut read = row;
+    if generous {
+        for k in 1..NP {
+            read[k] = -row[NP - k]
+        }
+    }
+    read
+}
+
+/// A row as one whole number, its places digits of ten bits.
+#[derive(Clone, Copy, PartialEq, Eq, PartialOrd, Ord)]
+struct Packed(i128);
+const BITS: usize = 10;
+impl Add for Packed {
+    type Output = Packed;
+    fn add(self, o: Packed) -> Packed {
+        Packed(self.0 + o.0)
+    }
+}
+impl Sub for Packed {
+    type Output = Packed;
+    fn sub(self, o: Packed) -> Packed {
+        Packed(self.0 - o.0)
+    }
+}
+impl Worth for Packed {
+    fn zero() -> Packed {
+        Packed(0)
+    }
+    fn weight(generous: bool, rank: usize) -> Packed {
+        Packed(Lex::weight(generous, rank).0[..RANKS].iter().fold(0, |sum, place| (sum << BITS) + *place as i128))
+    }
+    fn places(self, generous: bool) -> [i64; NP] {
+        let (mut rest, mut r) = (self.0, [0; NP]);
+        for place in (0..RANKS).rev() {
+            let digit = ((rest + (1 << (BITS - 1))) & ((1 << BITS) - 1)) as i64 - (1 << (BITS - 1));
+            r[place] = digit;
+            rest = (rest - digit as i128) >> BITS;
+        }
+        let others: i64 = r[1..RANKS].iter().sum();
+        r[RANKS] = if generous { -r[0] - others } else { r[0] - others };
+        as_read(generous, r)
     }
 }
 #[derive(Default)]
@@ -76,19 +125,6 @@ struct Round<'a> {
     u: Vec<[i64; NP]>,
     y: Vec<[i64; NP]>,
     z: Vec<[i64; NP]>,
-}
-
-impl Round<'_> {
-    /// A row as the aim reads it.
-    fn as_read(&self, row: [i64; NP]) -> [i64; NP] {
-        let mut read = row;
-        if self.generous {
-            for k in 1..NP {
-                read[k] = -row[NP - k]
-            }
-        }
-        read
-    }
 }
 
 fn prices<'a>(f: impl Iterator<Item = &'a str>) -> Option<[i64; NP]> {
@@ -196,7 +232,7 @@ impl<'a, G: Worth> Network<'a, G> {
         for (p, x) in r.projects.iter().enumerate() {
             offers[x.1].push(p)
         }
-        let weight: Vec<G> = (0..RANKS).map(G::weight).collect();
+        let weight: Vec<G> = (0..RANKS).map(|rank| G::weight(r.generous, rank)).collect();
         let z: Vec<G> = r.sups.iter().map(|x| if x.1 == 0 { weight[0] } else { G::zero() }).collect();
         Network {
             r,
@@ -441,13 +477,13 @@ fn check(r: &Round) -> Result<[i64; NP], String> {
     if all().flatten().any(|x| x.abs() > 1_000_000) {
         return Err("fault 2".into());
     }
-    if all().any(|v| r.as_read(*v) < [0; NP]) {
+    if all().any(|v| as_read(r.generous, *v) < [0; NP]) {
         return Err("fault 3".into());
     }
     for (s, (c, list)) in r.students.iter().enumerate() {
         for (k, p) in list.iter().enumerate() {
             let v = Lex(r.u[s]) + Lex(r.y[*p]) + Lex(r.z[r.projects[*p].1]);
-            if r.as_read(v.0) < r.as_read(Lex::weight(k).0) {
+            if as_read(r.generous, v.0) < Lex::weight(r.generous, k).0 {
                 return Err(format!("fault 4 {c} {}", k + 1));
             }
         }
@@ -474,14 +510,14 @@ fn check(r: &Round) -> Result<[i64; NP], String> {
     Ok(w)
 }
 
-fn one_by_one(r: &Round) -> Solved {
-    let mut n = Network::<Lex>::new(r);
+fn solve<G: Worth>(r: &Round) -> Solved {
+    let mut n = Network::<G>::new(r);
     for s in 0..r.students.len() {
         n.admit(s)
     }
     let y = |p: usize| if r.projects[p].2 == 0 { n.weight[0] } else { n.price(p) - n.z[r.projects[p].1] };
-    let y = (0..r.projects.len()).map(|p| y(p).places()).collect();
-    let places = |rows: &[Lex]| rows.iter().map(|x| x.places()).collect();
+    let y = (0..r.projects.len()).map(|p| y(p).places(r.generous)).collect();
+    let places = |rows: &[G]| rows.iter().map(|x| x.places(r.generous)).collect();
     Solved { u: places(&n.u), z: places(&n.z), y, places: n.place }
 }
 fn main() {
@@ -491,8 +527,8 @@ fn main() {
         eprintln!("bad line {line}");
         std::process::exit(1)
     });
-    if words[1] == "solve" {
-        let solved = if round.generous { ranks::solve(&round) } else { one_by_one(&round) };
+    if words[1] != "check" {
+        let solved = if words[1] == "solve" { solve::<Lex>(&round) } else { solve::<Packed>(&round) };
         std::io::stdout().write_all(write(&round, &solved).as_bytes()).expect("an output");
         return;
     }
