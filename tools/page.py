@@ -1,0 +1,987 @@
+#!/usr/bin/env python3
+"""Runs the pages of page/ in a browser, behind nginx, in front of `spadesk serve`, and compares what they show with what the program prints.
+
+tools/page.py SPADESK [--shots FOLDER] [--seal] [--only PART,..]     needs nginx, chromium and chromedriver (Debian: chromium-driver); where one is missing it says so
+
+It needs no other package: chromedriver is spoken to by HTTP. --shots keeps pictures of the pages. --seal writes into the pages the hashes
+of their style and script, by which alone the browser takes them; without it other hashes are a difference. --only runs some of the parts.
+Three things of page/nginx.conf are others here: there is no certificate, and so no `ssl`; the ports; the folders.
+"""
+import base64
+import contextlib
+import csv
+import hashlib
+import http.client
+import io
+import json
+import os
+import random
+import re
+import shutil
+import socket
+import sqlite3
+import subprocess
+import sys
+import tempfile
+import time
+
+from nginx import started
+
+TOP = os.path.dirname(os.path.dirname(os.path.abspath(__file__)))
+ELEMENT = "element-6066-11e4-a52e-4f735466cecf"
+KEEPER = "keeper:secret"
+FIRST, TERM = (
+    [os.path.join(TOP, "examples", folder, f"{kind}.csv") for kind in ("lists", "students", "projects", "supervisors")]
+    for folder in ("first-round", "term")
+)
+# The rows of the guide that speak of a terminal, for which the page has words of its own.
+OWN_WORDS = {2, 3, 4, 5, 6, 7, 8, 9, 12, 27, 28, 29, 30}
+
+
+def free_port():
+    with socket.socket() as it:
+        it.bind(("127.0.0.1", 0))
+        return it.getsockname()[1]
+
+
+PARTS = ("first_round", "term", "hostile", "refusals", "mistakes", "drawn", "greatest", "student")
+SERVICE, WEB, DRIVER = free_port(), free_port(), free_port()
+
+
+def read(*path):
+    with open(os.path.join(TOP, *path), encoding="utf-8") as file:
+        return file.read()
+
+
+def sealed(page):
+    """The page with the hashes of its style and its script."""
+    for tag in ("style", "script"):
+        inner = re.search(rf"<{tag}>(.*?)</{tag}>", page, re.S)[1]
+        page = re.sub(
+            rf"({tag}-src 'sha256-)[^']*", lambda it: it[1] + base64.b64encode(hashlib.sha256(inner.encode()).digest()).decode(), page
+        )
+    return page
+
+
+def drawn(text):
+    """The students of a round text in the order of the lot, drawn anew: a hash of quotas and lists, SplitMix64, a shuffle."""
+    rows, word = [line.split(",") for line in text.splitlines()], (1 << 64) - 1
+    supervisors, projects, students = ([row[1:] for row in rows if row[0] == kind] for kind in "SPC")
+    owner, offer = ({row[0]: at for at, row in enumerate(rows)} for rows in (supervisors, projects))
+    numbers = [number for _, by, quota in projects for number in (owner[by], int(quota))] + [int(quota) for _, quota in supervisors]
+    for _, *choices in students:
+        numbers += [len(choices), *(offer[code] for code in choices)]
+    state = 0xCBF29CE484222325
+    for number in numbers:
+        state = (state ^ number) * 0x100000001B3 & word
+    order = [row[0] for row in students]
+    for last in range(len(order) - 1, 0, -1):
+        state = state + 0x9E3779B97F4A7C15 & word
+        mixed = (state ^ state >> 30) * 0xBF58476D1CE4E5B9 & word
+        mixed = (mixed ^ mixed >> 27) * 0x94D049BB133111EB & word
+        chosen = (mixed ^ mixed >> 31) % (last + 1)
+        order[last], order[chosen] = order[chosen], order[last]
+    return order
+
+
+def config(folder):
+    """The whole file of nginx around page/nginx.conf."""
+    text = re.sub(r" *ssl_certificate.*\n", "", read("page", "nginx.conf")).replace("listen 443 ssl;", f"listen 127.0.0.1:{WEB};")
+    for old, new in (
+        ("127.0.0.1:8080", f"127.0.0.1:{SERVICE}"),
+        ("/usr/share/spadesk", f"{TOP}/page"),
+        ("https://office.school.example", f"http://127.0.0.1:{WEB}"),
+        ("/etc/nginx", folder),
+        ("/var/lib/nginx/spadesk", f"{folder}/cache"),
+    ):
+        text = text.replace(old, new)
+    paths = "".join(f"{it}_temp_path {folder}/{it};\n" for it in ("client_body", "proxy", "fastcgi", "uwsgi", "scgi"))
+    main = f"daemon off;\nmaster_process off;\npid {folder}/nginx.pid;\nerror_log stderr;\nevents {{}}\n"
+    return f"{main}http {{\ntypes {{ text/html html; }}\naccess_log {folder}/asked;\n{paths}{text}}}\n"
+
+
+def asked(method, path, user=KEEPER, body=None, **fields):
+    """Status and body of an answer of the web server."""
+    connection = http.client.HTTPConnection("127.0.0.1", WEB, timeout=60)
+    fields["Authorization"] = "Basic " + base64.b64encode(user.encode()).decode()
+    connection.request(method, path, body, fields)
+    answer = connection.getresponse()
+    return answer.status, answer.read().decode()
+
+
+class Browser:
+    """A browser without a window, by the words of WebDriver."""
+
+    def __init__(self, folder):
+        words = [
+            "--headless=new",
+            "--no-sandbox",
+            "--disable-dev-shm-usage",
+            "--disable-gpu",
+            "--window-size=1200,900",
+            f"--user-data-dir={folder}/profile",
+        ]
+        wanted = {
+            "goog:chromeOptions": {"args": words, "prefs": {"download.default_directory": f"{folder}/saved"}},
+            "goog:loggingPrefs": {"browser": "ALL"},
+        }
+        self.path = "/session"
+        self.path += "/" + self.send("POST", "", {"capabilities": {"alwaysMatch": wanted}})["sessionId"]
+
+    def send(self, method, path, body=None):
+        connection = http.client.HTTPConnection("127.0.0.1", DRIVER, timeout=180)
+        connection.request(method, self.path + path, json.dumps(body) if method == "POST" else None, {"Content-Type": "application/json"})
+        value = json.loads(connection.getresponse().read())["value"]
+        if isinstance(value, dict) and "error" in value:
+            raise SystemExit(f"page.py: {path}: {value['message'][:300]}")
+        return value
+
+    def run(self, script, *words):
+        return self.send("POST", "/execute/sync", {"script": script, "args": list(words)})
+
+    def rest(self):
+        """Waits until nothing is under way but a question."""
+        for _ in range(1200):
+            time.sleep(0.05)
+            if self.run(
+                "return document.readyState === 'complete' && (!document.body.classList.contains('busy') || !!document.querySelector('dialog[open]'))"
+            ):
+                return
+        raise SystemExit("page.py: the page stays busy")
+
+    def go(self, path="/", user=KEEPER):
+        self.send("POST", "/url", {"url": f"http://{user}@127.0.0.1:{WEB}{path}"})
+        self.rest()
+
+    def found(self, css):
+        return self.send("POST", "/element", {"using": "css selector", "value": css})[ELEMENT]
+
+    def press(self, css):
+        self.run("document.querySelector(arguments[0]).scrollIntoView({ block: 'center' })", css)
+        self.send("POST", f"/element/{self.found(css)}/click", {})
+        self.rest()
+
+    def write(self, css, text):
+        self.run("document.querySelector(arguments[0]).value = ''", css)
+        self.send("POST", f"/element/{self.found(css)}/value", {"text": text})
+        self.rest()
+
+    def choose(self, *files, field="#files"):
+        """Files for a field, in the place of those that it has: WebDriver would add them."""
+        self.run("document.querySelector(arguments[0]).value = ''", field)
+        self.send("POST", f"/element/{self.found(field)}/value", {"text": "\n".join(files)})
+        self.rest()
+
+    def pick(self, css, value):
+        self.run(
+            "const it = document.querySelector(arguments[0]); it.value = arguments[1]; it.dispatchEvent(new Event('change'))", css, value
+        )
+        self.rest()
+
+    def text(self, css):
+        return self.run("return document.querySelector(arguments[0])?.innerText", css)
+
+    def marks(self, css=".wrong"):
+        return self.run("return [...document.querySelectorAll(arguments[0] + ' mark')].map(it => it.textContent)", css)
+
+    def table(self, css="#table"):
+        return self.run(
+            "return [...document.querySelectorAll(arguments[0] + ' tbody tr')].filter(it => !it.hidden).map(it => [...it.cells].map(cell => cell.textContent))",
+            css,
+        )
+
+    def chrome(self, word, **more):
+        return self.send("POST", "/goog/cdp/execute", {"cmd": word, "params": more})
+
+    def errors(self):
+        """What the browser's console has, but the statuses of refusals."""
+        return [it["message"] for it in self.send("POST", "/se/log", {"type": "browser"}) if "Failed to load resource" not in it["message"]]
+
+
+class Trial:
+    def __init__(self, program, folder, shots):
+        self.program, self.folder, self.shots, self.came = program, folder, shots, []
+
+    def check(self, name, told, wanted=True):
+        self.came.append((name, told, wanted))
+        print(f"{name}: {'as wanted' if told == wanted else f'{told!r}, and not {wanted!r}'}", flush=True)
+
+    def serve(self, database):
+        self.database = f"{self.folder}/{database}"
+        self.served = started(SERVICE, *self.program, "serve", self.database, str(SERVICE), "1000000", stdout=subprocess.DEVNULL)
+
+    def stop(self):
+        self.served.terminate()
+        self.served.wait(60)
+
+    def anew(self, database):
+        self.stop()
+        self.serve(database)
+        shutil.rmtree(f"{self.folder}/cache", ignore_errors=True)
+        self.it.go()
+
+    def line(self, *words):
+        """What a line prints, of a copy of the database and its log where it has one."""
+        copy = f"{self.folder}/copy.db"
+        for end in ("", "-wal"):
+            if os.path.exists(copy + end):
+                os.remove(copy + end)
+            if os.path.exists(self.database + end):
+                shutil.copy(self.database + end, copy + end)
+        return subprocess.run([*self.program, *(copy if it == "DB" else it for it in words)], capture_output=True, text=True).stdout
+
+    def file(self, name, content):
+        with open(f"{self.folder}/{name}", "wb") as file:
+            file.write(content if isinstance(content, bytes) else content.encode())
+        return f"{self.folder}/{name}"
+
+    def saved(self, name):
+        """A file that the page saves, once it is whole."""
+        for _ in range(100):
+            time.sleep(0.1)
+            if os.path.exists(f"{self.folder}/saved/{name}"):
+                with open(f"{self.folder}/saved/{name}", "rb") as file:
+                    content = file.read()
+                os.remove(f"{self.folder}/saved/{name}")
+                return content
+        return b""
+
+    def shot(self, name, dark=False):
+        if self.shots:
+            it = self.it
+            it.chrome("Emulation.setEmulatedMedia", features=[{"name": "prefers-color-scheme", "value": "dark" if dark else "light"}])
+            size = it.chrome("Page.getLayoutMetrics")["cssContentSize"]
+            it.run("scrollTo(0, 0)")
+            with open(f"{self.shots}/{name}.png", "wb") as file:
+                file.write(
+                    base64.b64decode(
+                        it.chrome("Page.captureScreenshot", captureBeyondViewport=True, clip={**size, "x": 0, "y": 0, "scale": 1})["data"]
+                    )
+                )
+
+    def refused(self, name, content, number, inner=None, row=1):
+        """A sheet of one's own is refused, and told with its words; the row counts from 1 under the first."""
+        it = self.it
+        it.choose(self.file(name, content))
+        it.press("#send")
+        words, told = it.run("return REFUSALS[arguments[0]]", inner or number), it.text("#told") or ""
+        if inner in (None, 19):
+            self.check(
+                f"refusal {number} {inner or ''}",
+                told.startswith(f"Refused {number}: ")
+                and words[1] in told
+                and words[2] in told
+                and (not inner or f"Row {row + 1} of {name}" in told),
+            )
+        else:
+            told += it.text(".wrong") or ""
+            self.check(
+                f"refusal {number} {inner}",
+                told.startswith(f"1 row of {name} is refused.") and " ".join(words[1:]) in told and f"{inner} {words[0]}. " in told,
+            )
+            self.check("its row", [cells[0] for cells in it.table(".wrong")], [str(row + 1)])
+
+    def refused_alone(self, name, content):
+        """The first refused row is told alone, in the words at the top."""
+        it = self.it
+        it.choose(self.file(name, content))
+        it.press("#send")
+        self.check(
+            f"{name}, the first row alone",
+            (it.text("#told").startswith("Refused 29: Row\n") and f"Row 2 of {name}" in it.text("#told"), it.text(".wrong")),
+            (True, None),
+        )
+
+    def reports(self, number):
+        """Each report of the page against that of the program."""
+        it = self.it
+        it.pick("#number", str(number))
+        for kind, picked in (("placements", (0, 2, 5)), ("loads", None), ("profile", (0, 1)), ("unplaced", (0, 1))):
+            it.pick("#kind", kind)
+            wanted = [
+                re.split(r" {2,}|(?<=\d) +(?=\d)|(?<!RANK) (?=\d+$)", line.strip())
+                for line in self.line("report", "DB", kind, str(number)).splitlines()
+            ]
+            rows = it.table()
+            if kind == "loads":
+                rows, picked = [[row[0] or row[1], row[3], row[4]] for row in rows], (0, 1, 2)
+            self.check(
+                f"report {kind} of round {number}",
+                [[row[at] for at in picked] for row in rows],
+                [[*row] for row in (wanted[1:] if kind == "profile" else wanted)],
+            )
+
+    def proof(self, number):
+        """The saved proof, by the page, the program and the page of Python."""
+        it = self.it
+        it.press(f"#proof{number}")
+        name = self.file(f"proof{number}.txt", self.saved(f"proof{number}.txt"))
+        told = self.line("check", name)
+        self.check(f"the proof of round {number}, by check", told.startswith("best size "))
+        self.check(
+            "by check_round.py",
+            subprocess.run([sys.executable, f"{TOP}/tools/check_round.py", name], capture_output=True, text=True).stdout,
+            told,
+        )
+        it.choose(name, field="#opened")
+        self.check("by the page, opened again", it.text("#verdict").startswith(f"proof{number}.txt: checked here"))
+        shown = it.run("return document.querySelector(arguments[0]).textContent.split(' ')", f"#lot{number} p:last-child")
+        with open(name) as file:
+            self.check("the lot, drawn anew", shown, drawn(file.read()))
+        return name
+
+    def first_round(self):
+        it = self.it
+        self.check("at first", it.text("#state"), "There has been no round yet.")
+        it.choose(*FIRST)
+        self.shot("sheets")
+        it.press("#send")
+        self.check("lists before a round", "19 NoRoundOpen" in it.text("#told") and "Bring in 1 sheet" in it.text("#chosen"))
+        self.shot("refused")
+        it.press("#open")
+        it.run("const it = document.querySelector('#send'); it.click(); it.click()")
+        it.rest()
+        self.check("lists in a round, pressed twice", it.text("#state"), "Round 1 is open, greedy, with 20 lists.")
+        seen = json.loads(asked("GET", "/preview")[1])
+        self.check(
+            "the preview", [row[1] for row in it.table("#doing")], [str(number) for number in [*seen["profile"][:3], 20 - seen["size"]]]
+        )
+        self.shot("open")
+        it.press("#close")
+        it.press("#sure button:not(.main)")
+        self.check("not closed", it.text("#state").startswith("Round 1 is open"))
+        it.press("#close")
+        self.check(
+            "the question", "20 of 20 students, 14 with the 1st choice, 4 with the 2nd choice, 2 with the 3rd choice" in it.text("#sure")
+        )
+        it.press("#sure button.main")
+        self.check("closed", it.text("#state"), "Round 1 is closed, greedy: 20 of 20 students placed.")
+        it.press("#drawing summary")
+        self.shot("closed")
+        self.shot("closed-dark", dark=True)
+        lines = lambda: it.run(
+            "return ['r1', 'r2', 'r3', 'r4', 'wish'].map(it => document.querySelectorAll(`#picture path.${it}:not(.away)`).length)"
+        )
+        self.check("the picture", lines(), [14, 4, 2, 0, 45])
+        name = self.proof(1)
+        other = re.sub(rb"(?m)^M,S04,CIPHER$", b"M,S04,PATTERNS", open(name, "rb").read())
+        it.choose(self.file("other.txt", other), field="#opened")
+        self.check("another pair in the proof", it.text("#verdict"), "other.txt: not proved (fault 5).")
+        it.choose(self.file("none.txt", "M,x,y\nU,x,1\n"), field="#opened")
+        self.check("no proof", it.text("#verdict"), "none.txt: not proved (fault 1).")
+        self.reports(1)
+        it.pick("#kind", "placements")
+        it.write("#filter", "hopper")
+        self.check("the filter", {row[4] for row in it.table()}, {"Grace Hopper"})
+        self.check("in the picture", sum(lines()[:4]), len(it.table()))
+        it.write("#filter", " ")
+        it.press("#save")
+        rows = list(csv.reader(io.StringIO(self.saved("placements-1.csv").decode("utf-8-sig"))))
+        self.check("saved as CSV", rows[1:], [row for row in it.table()])
+        self.room(1)
+        self.shot("room")
+        it.go()
+        self.check(
+            "loaded anew, without the text of the round", it.text("#proofs").startswith("Round 1 was closed before this page was loaded")
+        )
+        it.press("#drawing summary")
+        self.check("a picture of the places alone", lines(), [14, 4, 2, 0, 0])
+        it.press("#reopen")
+        it.press("#sure button.main")
+        self.check("reopened", it.text("#state"), "Round 1 is open, greedy, with 20 lists.")
+        self.check("the lists", it.table()[0], ["S01", "Amina", "CIPHER CHESS LOOM"])
+        self.stop()
+        it.press("#again")
+        self.check("the service is down", it.text("#told").startswith("The web server answers 502"))
+        it.choose(FIRST[1])
+        self.check(
+            "a sheet that cannot be compared",
+            (it.text("#told").startswith("The web server answers 502"), it.text("#chosen").endswith("students, 20 rows\nBring in 1 sheet")),
+            (True, True),
+        )
+        self.serve("first_round.db")
+        it.press("#again")
+        self.check("and up again", it.text("#state"), "Round 1 is open, greedy, with 20 lists.")
+        with open(f"{self.folder}/asked") as file:
+            self.check("imports sent, one of them twice", file.read().count('"POST /imports/'), 5)
+
+    def term(self):
+        it, folder = self.it, os.path.dirname(TERM[0])
+        it.choose(*TERM[1:])
+        it.press("#send")
+        it.press("#open")
+        it.choose(TERM[0], f"{folder}/more-lists.csv")
+        it.press("#send")
+        it.write("#code", "s11")
+        it.press("#asked button")
+        it.write("#list input", "plates")
+        it.press("#list button")
+        self.check("a list by hand", asked("GET", "/students/S11")[1], '{"list":["PLATES"],"name":"José","placed":null}')
+        it.write("#code", "S12")
+        it.press("#asked button")
+        it.write("#keep input", "Zoë")
+        it.press("#keep button")
+        it.write("#list input", "PRIMES DOSE")
+        it.press("#list button")
+        self.shot("entry")
+        it.press("#drop")
+        self.check(
+            "a late student, with a list that is taken away", asked("GET", "/students/S12")[1], '{"list":null,"name":"Zoë","placed":null}'
+        )
+        it.choose(self.file("students.csv", read("examples", "term", "students.csv") + "S12,Zoë\n"))
+        it.pick("#kind", "missing")
+        self.check("who has no list", it.table(), [["S12", "Zoë"]])
+        it.press("#close")
+        it.press("#sure button.main")
+        self.reports(1)
+        it.pick("#kind", "placements")
+        self.check("names", it.table()[1], ["S02", "Björn", "RADIUM", "Radium, then and now", "Curie, Marie", "1"])
+        it.choose(self.file("renamed.csv", "code,name\nS02,Björn Ek\n"))
+        it.press("#send")
+        self.check("a name that a sheet has changed", it.table()[1][1], "Björn Ek")
+        self.refused("withdrawn.csv", read("examples", "term", "withdrawn.csv"), 29, 17)
+        self.check("the row that is refused", it.table(".wrong"), [["2", "NEURONS", "Counting neurons", "RAMON", "0"]])
+        self.check("the cell", it.marks(), ["0"])
+        it.press("#reopen")
+        it.press("#sure button.main")
+        it.choose(f"{folder}/withdrawn.csv")
+        it.press("#send")
+        self.check("withdrawn", json.loads(asked("GET", "/projects/NEURONS")[1])["quota"], 0)
+        it.choose(TERM[2])
+        asked("PUT", "/projects/PLATES", KEEPER, '{"name":"An archive of plates","supervisor":"MERIAN","quota":3}')
+        it.choose(TERM[2])
+        self.check(
+            "what an older file would change",
+            (it.table("#chosen details[open]"), "8 rows: 2 with a change, 6 as before" in it.text("#chosen")),
+            ([["7", "PLATES", "quota", "3", "1"], ["8", "NEURONS", "quota", "0", "2"]], True),
+        )
+        self.shot("older")
+        it.press("#send")
+        self.check("it is told no more", it.table("#chosen details[open]"), [])
+        self.check("an older file, chosen again, is another import", json.loads(asked("GET", "/projects/NEURONS")[1])["quota"], 2)
+        it.choose(f"{folder}/withdrawn.csv")
+        it.press("#send")
+        it.press("#close")
+        it.press("#sure button.main")
+        self.proof(1)
+        it.choose(*(f"{folder}/{name}.csv" for name in ("more-places", "more-supervision", "late")))
+        it.press("#send")
+        it.press("input[value=generous]")
+        it.press("#open")
+        waiting = [line.split()[0] for line in self.line("report", "DB", "unplaced", "1").splitlines()] + ["S12", "S13"]
+        it.choose(self.file("second.csv", "student,choices\n" + "".join(f"{code},PLATES DOSE MEMORY\n" for code in waiting)))
+        it.press("#send")
+        it.press("#close")
+        it.press("#sure button.main")
+        self.check("a generous round", it.text("#state"), "Round 2 is closed, generous: 3 of 3 students placed.")
+        self.reports(2)
+        self.proof(2)
+
+    def hostile(self):
+        labels = [
+            "<script>window.hit = 1</script>",
+            "<img src=x onerror='window.hit = 1'>",
+            '"><svg onload=window.hit=1>',
+            "=1+1",
+            "\u202eevil\u2066",
+            "a\u2028b\u0085c",
+            "&lt;b&gt;",
+            "😀" * 50,
+            " x ",
+            "__proto__",
+            "</table>",
+        ]
+        rows = [[f"S{at}", label] for at, label in enumerate(labels)]
+        text = io.StringIO()
+        csv.writer(text).writerows([["code", "name"], *rows])
+        it = self.it
+        it.choose(
+            self.file("supervisors.csv", 'code,name,quota\nCONSTRUCTOR,"<b>Lee</b>, ""X""",500\n'),
+            self.file(
+                "projects.csv",
+                'code,name,supervisor,quota\nTOSTRING,"<a href=""javascript:window.hit=1"">x</a>",CONSTRUCTOR,500\nU,None,CONSTRUCTOR,0\n',
+            ),
+            self.file("students.csv", text.getvalue()),
+        )
+        it.press("#send")
+        it.press("#open")
+        it.choose(
+            self.file("lists.csv", "student,choices\n" + "".join(f"S{at},{'U' if at == 1 else 'TOSTRING'}\n" for at in range(len(labels))))
+        )
+        it.press("#send")
+        self.check("hostile names in the lists", [row[1] for row in it.table()], [label for _, label in sorted(rows)])
+        it.press("#close")
+        it.press("#sure button.main")
+        self.shot("hostile")
+        self.check(
+            "in the placements",
+            {tuple(row[1:5:2]) for row in it.table()},
+            {(label, '<a href="javascript:window.hit=1">x</a>') for at, (_, label) in enumerate(rows) if at != 1},
+        )
+        it.press("#save")
+        self.check(
+            "a formula when saved",
+            ["S3", "'=1+1"] in [row[:2] for row in csv.reader(io.StringIO(self.saved("placements-1.csv").decode("utf-8-sig"), newline=""))],
+        )
+        it.pick("#kind", "unplaced")
+        self.check("in those without a place", it.table(), [rows[1]])
+        it.write("#code", "S0")
+        it.press("#asked button")
+        it.run(
+            "document.body.insertAdjacentHTML('beforeend', '<img alt=y src=y onerror=\"window.hit = 2\"><a id=link href=\"javascript:window.hit=3\">x</a>'); document.querySelector('#link').click()"
+        )
+        time.sleep(0.5)
+        self.check("what was run", it.run("return window.hit ?? null"), None)
+
+    def refusals(self):
+        it = self.it
+        guide = {
+            int(number): (name, *(re.sub(r"\[([^]]*)\]\([^)]*\)", r"\1", cell).replace("`", "") for cell in cells))
+            for number, name, *cells in re.findall(r"^\| (\d+) (\w+)[^|]*\| ([^|]+) \| ([^|]+) \|$", read("docs", "GUIDE.md"), re.M)
+        }
+        own = {int(number): tuple(row) for number, row in it.run("return REFUSALS").items()}
+        self.check("the words of the guide", ({number for number in guide if own.get(number) != guide[number]}, len(own)), (OWN_WORDS, 30))
+        self.check("the names", [own[number][0] for number in sorted(own)], [row[0] for row in guide.values()])
+        it.choose(*(os.path.join(TOP, "examples", "refusals", f"{kind}.csv") for kind in ("supervisors", "projects", "students")))
+        it.press("#send")
+        for name, text, *numbers in (
+            ("quote.csv", 'code,name\nS4,"Dev\n', 28),
+            ("cells.csv", "code,name\nS4,Dev,Pune\n", 29, 8),
+            ("small.csv", "code,name\ns4,Dev\n", 29, 9),
+            ("nameless.csv", "code,name\nS4,\n", 29, 10),
+            ("half.csv", "code,name,quota\nM,May,2.5\n", 29, 11),
+            ("many.csv", "code,name,quota\n" + "".join(f"V{n},Name,1\n" for n in range(99)), 29, 12, 99),
+            ("rails.csv", "code,name,supervisor,quota\nR,Rails,M,1\n", 29, 13),
+            ("moved.csv", "code,name,supervisor,quota\nP,Pumps,K,1\n", 29, 16),
+            ("early.csv", "student,choices\nS1,P\n", 29, 19),
+        ):
+            self.refused(name, text, *numbers)
+        it.choose(
+            self.file("half.csv", "code,name,quota\nM,May,2.5\n"),
+            self.file("rails.csv", "code,name,supervisor,quota\nR,Rails,L,1\n"),
+            self.file("late.csv", "code,name\nS7,Ida\n"),
+            self.file("later.csv", "code,name\nS8,\n"),
+        )
+        it.press("#send")
+        self.check(
+            "what needs a refused sheet waits, and another does not",
+            ([asked("GET", path)[0] for path in ("/projects/R", "/students/S7")], it.text("#send")),
+            ([404, 200], "Bring in 3 sheets"),
+        )
+        self.check(
+            "both refused sheets are told",
+            (it.text("#told").splitlines()[:3:2], it.table(".wrong")),
+            (["1 row of half.csv is refused.", "1 row of later.csv is refused."], [["2", "M", "May", "2.5"], ["2", "S8", "empty"]]),
+        )
+        it.press("#open")
+        for name, text, inner in (
+            ("unknown.csv", "S1,P X", 14),
+            ("stranger.csv", "S9,P", 15),
+            ("empty.csv", "S1,", 23),
+            ("twice.csv", "S1,P P", 24),
+        ):
+            self.refused(name, f"student,choices\n{text}\n", 29, inner)
+        asked("POST", "/rounds/close")
+        it.press("#close")
+        self.check(
+            "closed by somebody else",
+            (it.text("#told")[:24], it.text("#state"), "closed before this page" in it.text("#proofs")),
+            ("Refused 19: NoRoundOpen\n", "Round 1 is closed, greedy: 0 of 0 students placed.", True),
+        )
+        it.choose(self.file("german.csv", "Code;Name\r\nS4;Jörg; Müller\r\n".replace("; M", ", M").encode("cp1252")))
+        self.check("a sheet of Excel in German", "It is not in UTF-8" in it.text("#chosen") and "semicolons" in it.text("#chosen"))
+        it.press("#send")
+        self.check("came in", asked("GET", "/students/S4")[1], '{"list":null,"name":"Jörg, Müller","placed":null}')
+        it.choose(self.file("large.csv", "code,name\n" + "S1,Ann\n" * 10000), self.file("other.csv", "a,b\n1,2\n"))
+        told = it.text("#chosen")
+        self.check(
+            "too large, and no sheet",
+            ("more than 65,536 bytes" in told, "none of the four sheets" in told, it.run("return !document.querySelector('#send')")),
+            (True, True, True),
+        )
+
+    def looked(self, kind, name, content, rows, marks, empty=()):
+        """A sheet is refused: each of its wrong rows is told with its reason, by the page and by tools/sheets.py, and nothing came in."""
+        it, before = self.it, self.kept()
+        it.choose(self.file(name, content))
+        start = self.sent()
+        it.press("#send")
+        told = [
+            (int(number[0]), reason)
+            for reason, cells in it.run(
+                "return [...document.querySelectorAll('.wrong table')].map(it => [Number(it.closest('div').previousSibling.querySelector('b').textContent.split(' ')[0]), [...it.tBodies[0].rows].map(row => [row.cells[0].textContent])])"
+            )
+            for number in cells
+        ]
+        self.check(f"{name}: the rows", sorted(told), rows)
+        self.check("marks", it.marks(), marks)
+        self.check("requests", self.sent() - start, len(rows) + 2)
+        self.check("nothing came in", self.kept(), before)
+        words = self.sheets(kind, f"{self.folder}/{name}")
+        found = [
+            (int(row), int(reason))
+            for reason, cells in re.findall(r"(?m)^(\d+) [A-Z].*\n((?:  row .*\n)+)", words)
+            for row in re.findall(r"  row (\d+):", cells)
+        ]
+        self.check(
+            "by tools/sheets.py", (sorted(found), words.count(f"{len(found)} rows are refused: nothing of ")), (sorted([*rows, *empty]), 1)
+        )
+        return words
+
+    def kept(self):
+        """The tables of the office."""
+        self.line("report", "DB", "profile", "1")  # on a copy, into which it brings the log
+        with contextlib.closing(sqlite3.connect(f"{self.folder}/copy.db")) as it:
+            return list(it.iterdump())
+
+    def sent(self):
+        with open(f"{self.folder}/asked") as file:
+            return file.read().count('"POST /imports/')
+
+    def sheets(self, kind, name):
+        return subprocess.run(
+            [sys.executable, f"{TOP}/tools/sheets.py", self.program[-1], self.database, kind, name], capture_output=True, text=True
+        ).stdout
+
+    def mistakes(self):
+        it, head = self.it, "code,name,supervisor,quota\n"
+        it.choose(*FIRST[1:])
+        self.check(
+            "all new", [line.split(": ")[-1] for line in it.text("#chosen").splitlines() if ".csv" in line], ["5 new", "10 new", "20 new"]
+        )
+        it.press("#send")
+        # Thirteen mistakes, among empty rows, cells with a line break, quotes and a code that is there three times. The program refuses a row of empty cells, which the page leaves out.
+        words = self.looked(
+            "projects",
+            "projects.csv",
+            head
+            + 'CHESS,"Chess, and\nmore",TURING,1\n\nchess,Chess,TURING,1\nNEW1,,TURING,1\nNEW2,New,turing,1\nNEW3,New,NOBODY,1\n,,,\nNEW4,New,TURING,2.0\nNEW5,New,TURING,501\nNEW6,New\n"NEW7","A ""new"", one",TURING,1\nCHESS,Chess,LOVELACE,1\n'
+            + "NEW7,Twice,TURING,2\nNEW8,New, TURING,1\nA-CODE-OF-17-CHAR,New,TURING,1\nNEW9,New,TURING,1,\nNEW7,Thrice,LOVELACE,2\n\nGOOD,Good,TURING,2\n",
+            [(2, 10), (4, 9), (5, 10), (6, 9), (7, 13), (9, 11), (10, 11), (11, 8), (13, 16), (15, 9), (16, 9), (17, 8), (18, 16)],
+            [
+                "empty",
+                "chess",
+                "turing",
+                " TURING",
+                "A-CODE-OF-17-CHAR",
+                "Chess, and\nmore",
+                "empty",
+                "2.0",
+                "501",
+                "NOBODY",
+                "LOVELACE",
+                "LOVELACE",
+            ],
+            [(8, 9)],
+        )
+        self.check(
+            "more than once", "NEW7 in the rows 12 and 14 and 18" in it.text("#chosen") and "NEW7 stands in the rows 12, 14, 18" in words
+        )
+        self.shot("mistakes")
+        it.press(".wrong button")
+        self.check(
+            "the others came in",
+            (
+                it.text("#chosen summary").split(": ")[-1],
+                "Left out: the rows 2, 4, 5, 6, 7, 9, 10, 11, 12, 13, 14, 15, 16, 17, 18." in it.text("#chosen"),
+                asked("GET", "/projects/NEW7")[0],
+                asked("GET", "/projects/GOOD")[1],
+            ),
+            ("1 came in", True, 404, '{"name":"Good","placed":0,"quota":2,"supervisor":"TURING"}'),
+        )
+        start = self.sent()
+        self.refused("lists.csv", "student,choices\nS01,CHES\nS02,CHESS\nS99,CHESS\n", 29, 19)
+        self.check("without a round, once", self.sent() - start, 1)
+        it.press("#open")
+        self.looked(
+            "lists",
+            "lists.csv",
+            "student,choices\nS01,CHES LOOM CIFER\nS02,CHESS LOOM\nS99,CHESS\nS03,\nS04,LOOM  CHESS\nS05,CHESS LOOM CHESS LOOM\nS06,CHESS \nS02,LOOM\nS07,CHESS\nS07,NONE\nS08,NO\nS08,LOOM\n",
+            [(2, 14), (4, 15), (5, 23), (6, 14), (7, 24), (8, 14), (11, 14), (12, 14)],
+            ["CHES", "CIFER", "a space too many", "a space too many", "NONE", "NO", "S99", "empty", "CHESS", "LOOM"],
+        )
+        self.shot("mistakes-lists")
+        self.check(
+            "who has two lists", "S02 in the rows 3 and 9; S07 in the rows 10 and 11; S08 in the rows 12 and 13." in it.text("#chosen")
+        )
+        it.press(".wrong button")
+        self.check("left out", "Left out: the rows 2, 4, 5, 6, 7, 8, 10, 11, 12." in it.text("#chosen"))
+        self.check(
+            "the last of them counts, and none before a refused one",
+            [json.loads(asked("GET", f"/students/{code}")[1])["list"] for code in ("S02", "S07", "S08")],
+            [["LOOM"], None, ["LOOM"]],
+        )
+        asked("PUT", "/lists/S09", KEEPER, '{"choices":["CHESS","LOOM"]}')
+        it.choose(self.file("lists.csv", "student,choices\nS02,CHESS\nS10,LOOM\n,\nS09,CHESS LOOM\nS08,LOOM CHESS\n"))
+        self.check(
+            "what lists would change",
+            (it.text("#chosen summary").split(": ")[-1], it.table("#chosen details[open]")),
+            (
+                "1 new, 2 with a change, 1 as before",
+                [["2", "S02", "choices", "LOOM", "CHESS"], ["6", "S08", "choices", "LOOM", "LOOM CHESS"]],
+            ),
+        )
+        self.check("an empty row", "Its empty rows are left out." in it.text("#chosen"))
+        it.press("#send")
+        self.check("without it", it.text("#chosen summary").endswith(": 4 came in"))
+        # One mistake many times: fifty rows are told, and no others may come in.
+        many, start = self.file("many.csv", "code,name\n" + "".join(f"s{at},Name\n" for at in range(51)) + "S90,Name\n"), self.sent()
+        it.choose(many)
+        it.press("#send")
+        self.check(
+            "fifty and more",
+            (
+                len(it.table(".wrong")),
+                "50 rows of many.csv are refused, and there may be more." in it.text("#told"),
+                it.text(".wrong button"),
+                self.sent() - start,
+            ),
+            (50, True, None, 52),
+        )
+        self.check("by tools/sheets.py", "50 rows are refused, and there may be more" in self.sheets("students", many))
+        it.choose(self.file("fifty.csv", "code,name\n" + "".join(f"s{at},Name\n" for at in range(50)) + "S90,Name\n"))
+        it.press("#send")
+        self.check("fifty and no more", it.text(".wrong button"), "Leave 50 rows out, and bring in 1 row")
+        it.choose(self.file("all.csv", "code,name\ns1,Name\n"))
+        it.press("#send")
+        self.check("no other row", (it.text("#told").splitlines()[0], it.text(".wrong button")), ("1 row of all.csv is refused.", None))
+        # A full roll is told at each row that it has no room for, and a row of a wrong code does not fill it.
+        self.looked(
+            "supervisors",
+            "full.csv",
+            "code,name,quota\n" + "x,Name,1\n" + "".join(f"V{at},Name,1\n" for at in range(97)) + "TURING,Alan Turing,6\n",
+            [(2, 9), (98, 12), (99, 12)],
+            ["x", "V95", "V96"],
+        )
+        # As long as it may be: there is no room for the last row, and the first wrong row alone is told.
+        long = "code,name\nS01,\nS02,\n" + "S03,Clara\n" * 6550
+        self.refused_alone("long.csv", long + "S03," + "C" * (65536 - len(long) - 5) + "\n")
+        self.looked(
+            "students",
+            "quotes.csv",
+            'code,name\r"S"x"01",Name\r""\rS02,\r\nS01,"A"",\n""B"\r"S04",a"b"\r\r,\rs5,""\n',
+            [(2, 9), (4, 10), (5, 10), (9, 9)],
+            ['Sx"01"', "s5", "empty", 'A",\n"B'],
+            [(3, 8), (8, 9)],
+        )
+        start = self.sent()
+        it.choose(self.file("quotes.csv", 'code,name\nS01,A"\ns2,B\n'))
+        it.press("#send")
+        self.check("quotes that are no pairs, once", (it.text("#told").splitlines()[0], self.sent() - start), ("Refused 28: Header", 1))
+        it.pick("#kind", "room")
+        self.room(1)
+        # No answer in the midst of the asking, and an office that has kept 200 imports.
+        it.run(
+            "const real = fetch; let asked = 0; window.fetch = (path, more) => (path.includes('/LOOK-') && ++asked > 2 ? Promise.reject(new TypeError()) : real(path, more))"
+        )
+        it.choose(self.file("lost.csv", "code,name\ns1,Name\ns2,Name\ns3,Name\nS91,Name\n"))
+        it.press("#send")
+        self.check(
+            "some of the rows",
+            (it.text("#told").splitlines()[0], [row[0] for row in it.table(".wrong")], it.text(".wrong button")),
+            ("2 rows of lost.csv are refused, and there may be more.", ["2", "3"], None),
+        )
+        for at in range(200):
+            asked("POST", f"/imports/students/N{at}", body="code,name\n")
+        start = self.sent()
+        self.refused("lost.csv", "code,name\ns1,Name\nS91,Name\n", 12)
+        self.check("no room for an import, once", self.sent() - start, 1)
+
+    def room(self, number):
+        """The places that are left, from the report of loads."""
+        rows, owner = [], None
+        for line in self.line("report", "DB", "loads", str(number)).splitlines():
+            code, left = line.split()[0], int(line.split()[2]) - int(line.split()[1])
+            if line[0] != " ":
+                owner = [code, left, 0]
+                rows.append((owner, []))
+            else:
+                rows[-1][1].append((code, left))
+        self.it.pick("#kind", "room")
+        wanted = [
+            [code, str(left), str(owner[1]), str(min(left, owner[1]))]
+            for owner, projects in rows
+            for code, left in projects
+            if min(left, owner[1]) > 0
+        ]
+        self.check(f"places left in round {number}", [[row[0], *row[3:]] for row in self.it.table()], wanted)
+        whole = sum(min(owner[1], sum(left for _, left in projects)) for owner, projects in rows)
+        self.check("in all", self.it.text("#table caption").startswith(f"Places left, round {number}: {whole} in all for "))
+
+    def drawn(self):
+        """A school drawn by lot, with lists of up to twelve projects and too few places: a round of each aim, and what is left for the second."""
+        it, lot = self.it, random.Random(12)
+        students, projects = [f"S{at:02}" for at in range(60)], [f"P{at:02}" for at in range(25)]
+
+        def lists(name, students):
+            return self.file(
+                name,
+                "student,choices\n"
+                + "".join(f"{student},{' '.join(lot.sample(projects, lot.choice((1, 3, 12))))}\n" for student in students),
+            )
+
+        it.choose(
+            self.file("supervisors.csv", "code,name,quota\n" + "".join(f"L{at},Lee {at},{lot.randint(2, 7)}\n" for at in range(8))),
+            self.file(
+                "projects.csv",
+                "code,name,supervisor,quota\n"
+                + "".join(f"{code},Title,L{at % 8},{lot.randint(0, 3)}\n" for at, code in enumerate(projects)),
+            ),
+            self.file("students.csv", "code,name\n" + "".join(f"{code},Name\n" for code in students)),
+        )
+        it.press("#send")
+        for number, aim in ((1, "generous"), (2, "greedy")):
+            it.press(f"input[value={aim}]")
+            it.press("#open")
+            left = (
+                students
+                if number == 1
+                else [line.split()[0] for line in self.line("report", "DB", "unplaced", "1").splitlines()] + students[40:]
+            )
+            it.choose(lists("lists.csv", left[:40]))
+            it.press("#send")
+            it.press("#close")
+            it.press("#sure button.main")
+            self.reports(number)
+            self.room(number)
+            self.proof(number)
+
+    def greatest(self):
+        """A school at all limits: 500 students with lists of twelve, 400 projects, 100 supervisors."""
+        it, lot = self.it, random.Random(7)
+        projects, students = [f"P{at:03}" for at in range(400)], [f"S{at:03}" for at in range(500)]
+        sheets = {
+            "supervisors": ["code,name,quota", *(f"L{at:02},Lee {at},5" for at in range(100))],
+            "projects": ["code,name,supervisor,quota", *(f"{code},Title,L{at % 100:02},2" for at, code in enumerate(projects))],
+            "students": ["code,name", *(f"{code},Name" for code in students)],
+            "lists": ["student,choices", *(f"{code},{' '.join(lot.sample(projects[:240], 12))}" for code in students)],
+        }
+        *first, lists = [self.file(f"{kind}.csv", "\n".join(rows) + "\n") for kind, rows in sheets.items()]
+        it.choose(*first)
+        it.press("#send")
+        it.press("#open")
+        it.choose(lists)
+        it.press("#send")
+        self.check("all lists", it.text("#state"), "Round 1 is open, greedy, with 500 lists.")
+        it.press("#close")
+        it.press("#sure button.main")
+        self.reports(1)
+        self.proof(1)
+
+    def named(self):
+        """What a reader of the screen is told: each field and button has a name."""
+        nodes = self.it.chrome("Accessibility.getFullAXTree")["nodes"]
+        roles = ("button", "textbox", "searchbox", "combobox", "radio", "link", "spinbutton", "img", "image")
+        without = [
+            node["role"]["value"]
+            for node in nodes
+            if not node.get("ignored") and node["role"]["value"] in roles and not node.get("name", {}).get("value")
+        ]
+        self.check("without a name for a reader", without, [])
+
+    def student(self):
+        it, user = self.it, "S02:s02"
+        for kind in ("supervisors", "projects", "students"):
+            asked("POST", f"/imports/{kind}/{kind[:2].upper()}", KEEPER, read("examples", "first-round", f"{kind}.csv").encode())
+        it.go("/student/", user)
+        self.check("a student before a round", "No round is open" in it.text("#me"))
+        asked("POST", "/rounds", KEEPER, '{"aim":"generous"}')
+        it.go("/student/", user)
+        self.check(
+            "projects",
+            sorted(row[0] for row in it.table("#all")),
+            sorted(row["name"] for row in csv.DictReader(io.StringIO(read("examples", "first-round", "projects.csv")))),
+        )
+        for title in ("Breaking an old cipher", "Notes on the engine", "A history of bugs"):
+            it.press(f"button[aria-label='Add {title}']")
+        it.press("button[aria-label='A history of bugs: up']")
+        self.shot("student")
+        self.check("not handed in", it.text("#state"), "This is not handed in yet.")
+        it.press("#save")
+        self.check("handed in", json.loads(asked("GET", "/students/S02")[1])["list"], ["CIPHER", "BUGS", "NOTES"])
+        self.named()
+        it.press("#drop")
+        self.check("taken away", json.loads(asked("GET", "/students/S02")[1])["list"], None)
+        none = (401, 403, 404, 405)
+        for method, path, other in (
+            ("GET", "/preview", user),
+            ("GET", "/students/S03", user),
+            ("GET", "/student/students/S03", user),
+            ("PUT", "/student/lists/S03", user),
+            ("GET", "/student/list", user),
+            ("PUT", "/student/me", user),
+            ("GET", "/student/../roundtext", user),
+            ("GET", "/student/%2e%2e/roundtext", user),
+            ("GET", "/student/projects/..%2froundtext", user),
+            ("POST", "/student/rounds/1", user),
+            ("GET", "/student/rounds/close", user),
+            ("GET", "/", user),
+            ("GET", "/student/me", KEEPER),
+            ("GET", "/student/me", "guest:guest"),
+            ("GET", "/student/me", "S02:wrong"),
+        ):
+            self.check(f"{method} {path} as {other}", asked(method, path, other)[0] in none)
+        self.check(
+            "a page of another site", asked("PUT", "/student/list", user, '{"choices":["CHESS"]}', Origin="https://other.example")[0], 403
+        )
+        asked("PUT", "/lists/S02", KEEPER, '{"choices":["CIPHER"]}')
+        asked("POST", "/rounds/close")
+        it.go("/student/", user)
+        self.check("a place", "You have “Breaking an old cipher”, with Alan Turing." in it.text("#me"))
+
+    def all(self, parts):
+        self.it = Browser(self.folder)
+        try:
+            self.it.go()
+            for part in parts:
+                print(f"-- {part}")
+                self.anew(f"{part}.db")
+                getattr(self, part)()
+                self.named()
+                blocked = [it for it in self.it.errors() if part != "hostile" or "Content Security Policy" not in it]
+                self.check("errors in the console", blocked, [])
+        finally:
+            self.it.send("DELETE", "")  # without it the browser stays
+
+
+def main(*words):
+    shots = words[words.index("--shots") + 1] if "--shots" in words else None
+    for name in ("office.html", "student.html"):
+        page = read("page", name)
+        if "--seal" in words and sealed(page) != page:
+            with open(os.path.join(TOP, "page", name), "w", encoding="utf-8") as file:
+                file.write(sealed(page))
+        elif sealed(page) != page:
+            sys.exit(f"page.py: {name} has other hashes than its style and script: --seal writes them")
+    missing = [it for it in ("nginx", "chromium", "chromedriver") if not shutil.which(it)]
+    if missing:
+        print(f"there is no {missing[0]} here: the pages were not tried")
+        return
+    program = [sys.executable, words[0]] if words[0].endswith(".py") else [os.path.abspath(words[0])]
+    with tempfile.TemporaryDirectory() as folder:
+        os.mkdir(f"{folder}/saved")
+        for name, text in (
+            ("office.users", "keeper:{PLAIN}secret\n"),
+            ("students.users", "S02:{PLAIN}s02\nguest:{PLAIN}guest\n"),
+            ("nginx.conf", config(folder)),
+        ):
+            with open(f"{folder}/{name}", "w") as file:
+                file.write(text)
+        trial, running = Trial(program, folder, shots), []
+        trial.serve("start.db")
+        try:
+            running.append(started(WEB, "nginx", "-p", folder, "-c", f"{folder}/nginx.conf"))
+            running.append(started(DRIVER, "chromedriver", f"--port={DRIVER}", stdout=subprocess.DEVNULL))
+            trial.all(words[words.index("--only") + 1].split(",") if "--only" in words else PARTS)
+        finally:
+            for it in (trial.served, *running):
+                it.terminate()
+                it.wait(timeout=60)
+    failed = [it for it in trial.came if it[1] != it[2]]
+    print(f"{len(trial.came)} trials, {len(failed)} otherwise")
+    if failed:
+        sys.exit(1)
+
+
+if __name__ == "__main__":
+    main(*sys.argv[1:])
