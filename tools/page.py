@@ -1,11 +1,12 @@
 #!/usr/bin/env python3
-"""Runs the pages of page/ in a browser, behind nginx, in front of `spadesk serve`, and compares what they show with what the program prints.
+"""Runs the pages of page/ in a browser, behind nginx, in front of `spadesk serve`: what they show is what the program prints.
 
-tools/page.py SPADESK [--shots FOLDER] [--seal] [--only PART,..]     needs nginx, chromium and chromedriver (Debian: chromium-driver); where one is missing it says so
+tools/page.py SPADESK [--shots FOLDER] [--seal] [--only PART,..]     needs nginx, chromium and chromedriver (Debian: chromium-driver)
 
-It needs no other package: chromedriver is spoken to by HTTP. --shots keeps pictures of the pages. --seal writes into the pages the hashes
-of their style and script, by which alone the browser takes them; without it other hashes are a difference. --only runs some of the parts.
-Three things of page/nginx.conf are others here: there is no certificate, and so no `ssl`; the ports; the folders.
+It needs no other package: chromedriver is spoken to by HTTP; where one of the three is missing it says so. --shots keeps pictures of the
+pages, of which docs/office.png is one. --seal writes into the pages the hashes of their style and script, by which alone the browser takes
+them; without it other hashes are a difference. --only runs some of the parts. Three things of page/nginx.conf are others here: there is
+no certificate, and so no `ssl`; the ports; the folders.
 """
 import base64
 import contextlib
@@ -144,7 +145,8 @@ class Browser:
         for _ in range(1200):
             time.sleep(0.05)
             if self.run(
-                "return document.readyState === 'complete' && (!document.body.classList.contains('busy') || !!document.querySelector('dialog[open]'))"
+                "return document.readyState === 'complete'"
+                " && (!document.body.classList.contains('busy') || !!document.querySelector('dialog[open]'))"
             ):
                 return
         raise SystemExit("page.py: the page stays busy")
@@ -186,7 +188,8 @@ class Browser:
 
     def table(self, css="#table"):
         return self.run(
-            "return [...document.querySelectorAll(arguments[0] + ' tbody tr')].filter(it => !it.hidden).map(it => [...it.cells].map(cell => cell.textContent))",
+            "const rows = [...document.querySelectorAll(arguments[0] + ' tbody tr')].filter(it => !it.hidden);"
+            "return rows.map(it => [...it.cells].map(cell => cell.textContent))",
             css,
         )
 
@@ -246,18 +249,16 @@ class Trial:
                 return content
         return b""
 
-    def shot(self, name, dark=False):
+    def shot(self, name, dark=False, **part):
+        """Keeps a picture of the page, or of a part of it."""
         if self.shots:
             it = self.it
             it.chrome("Emulation.setEmulatedMedia", features=[{"name": "prefers-color-scheme", "value": "dark" if dark else "light"}])
-            size = it.chrome("Page.getLayoutMetrics")["cssContentSize"]
+            clip = {**it.chrome("Page.getLayoutMetrics")["cssContentSize"], "x": 0, "y": 0, "scale": 1, **part}
             it.run("scrollTo(0, 0)")
+            picture = it.chrome("Page.captureScreenshot", captureBeyondViewport=True, clip=clip)["data"]
             with open(f"{self.shots}/{name}.png", "wb") as file:
-                file.write(
-                    base64.b64decode(
-                        it.chrome("Page.captureScreenshot", captureBeyondViewport=True, clip={**size, "x": 0, "y": 0, "scale": 1})["data"]
-                    )
-                )
+                file.write(base64.b64decode(picture))
 
     def refused(self, name, content, number, inner=None, row=1):
         """A sheet of one's own is refused, and told with its words; the row counts from 1 under the first."""
@@ -356,6 +357,7 @@ class Trial:
         )
         it.press("#sure button.main")
         self.check("closed", it.text("#state"), "Round 1 is closed, greedy: 20 of 20 students placed.")
+        self.shot("office", height=1180, scale=0.75)
         it.press("#drawing summary")
         self.shot("closed")
         self.shot("closed-dark", dark=True)
@@ -528,7 +530,9 @@ class Trial:
         it.write("#code", "S0")
         it.press("#asked button")
         it.run(
-            "document.body.insertAdjacentHTML('beforeend', '<img alt=y src=y onerror=\"window.hit = 2\"><a id=link href=\"javascript:window.hit=3\">x</a>'); document.querySelector('#link').click()"
+            "document.body.insertAdjacentHTML('beforeend',"
+            '\'<img alt=y src=y onerror="window.hit = 2"><a id=link href="javascript:window.hit=3">x</a>\');'
+            "document.querySelector('#link').click()"
         )
         time.sleep(0.5)
         self.check("what was run", it.run("return window.hit ?? null"), None)
@@ -609,7 +613,9 @@ class Trial:
         told = [
             (int(number[0]), reason)
             for reason, cells in it.run(
-                "return [...document.querySelectorAll('.wrong table')].map(it => [Number(it.closest('div').previousSibling.querySelector('b').textContent.split(' ')[0]), [...it.tBodies[0].rows].map(row => [row.cells[0].textContent])])"
+                "const reason = it => Number.parseInt(it.closest('div').previousSibling.querySelector('b').textContent);"
+                "const numbers = it => [...it.tBodies[0].rows].map(row => [row.cells[0].textContent]);"
+                "return [...document.querySelectorAll('.wrong table')].map(it => [reason(it), numbers(it)])"
             )
             for number in cells
         ]
@@ -650,13 +656,16 @@ class Trial:
             "all new", [line.split(": ")[-1] for line in it.text("#chosen").splitlines() if ".csv" in line], ["5 new", "10 new", "20 new"]
         )
         it.press("#send")
-        # Thirteen mistakes, among empty rows, cells with a line break, quotes and a code that is there three times. The program refuses a row of empty cells, which the page leaves out.
+        # Thirteen mistakes, among empty rows, cells with a line break, quotes and a code that is there three times. The program refuses a
+        # row of empty cells, which the page leaves out.
         words = self.looked(
             "projects",
             "projects.csv",
             head
-            + 'CHESS,"Chess, and\nmore",TURING,1\n\nchess,Chess,TURING,1\nNEW1,,TURING,1\nNEW2,New,turing,1\nNEW3,New,NOBODY,1\n,,,\nNEW4,New,TURING,2.0\nNEW5,New,TURING,501\nNEW6,New\n"NEW7","A ""new"", one",TURING,1\nCHESS,Chess,LOVELACE,1\n'
-            + "NEW7,Twice,TURING,2\nNEW8,New, TURING,1\nA-CODE-OF-17-CHAR,New,TURING,1\nNEW9,New,TURING,1,\nNEW7,Thrice,LOVELACE,2\n\nGOOD,Good,TURING,2\n",
+            + 'CHESS,"Chess, and\nmore",TURING,1\n\nchess,Chess,TURING,1\nNEW1,,TURING,1\nNEW2,New,turing,1\nNEW3,New,NOBODY,1\n,,,\n'
+            + 'NEW4,New,TURING,2.0\nNEW5,New,TURING,501\nNEW6,New\n"NEW7","A ""new"", one",TURING,1\nCHESS,Chess,LOVELACE,1\n'
+            + "NEW7,Twice,TURING,2\nNEW8,New, TURING,1\nA-CODE-OF-17-CHAR,New,TURING,1\nNEW9,New,TURING,1,\nNEW7,Thrice,LOVELACE,2\n\n"
+            + "GOOD,Good,TURING,2\n",
             [(2, 10), (4, 9), (5, 10), (6, 9), (7, 13), (9, 11), (10, 11), (11, 8), (13, 16), (15, 9), (16, 9), (17, 8), (18, 16)],
             [
                 "empty",
@@ -696,7 +705,8 @@ class Trial:
         self.looked(
             "lists",
             "lists.csv",
-            "student,choices\nS01,CHES LOOM CIFER\nS02,CHESS LOOM\nS99,CHESS\nS03,\nS04,LOOM  CHESS\nS05,CHESS LOOM CHESS LOOM\nS06,CHESS \nS02,LOOM\nS07,CHESS\nS07,NONE\nS08,NO\nS08,LOOM\n",
+            "student,choices\nS01,CHES LOOM CIFER\nS02,CHESS LOOM\nS99,CHESS\nS03,\nS04,LOOM  CHESS\nS05,CHESS LOOM CHESS LOOM\n"
+            "S06,CHESS \nS02,LOOM\nS07,CHESS\nS07,NONE\nS08,NO\nS08,LOOM\n",
             [(2, 14), (4, 15), (5, 23), (6, 14), (7, 24), (8, 14), (11, 14), (12, 14)],
             ["CHES", "CIFER", "a space too many", "a space too many", "NONE", "NO", "S99", "empty", "CHESS", "LOOM"],
         )
@@ -772,7 +782,8 @@ class Trial:
         self.room(1)
         # No answer in the midst of the asking, and an office that has kept 200 imports.
         it.run(
-            "const real = fetch; let asked = 0; window.fetch = (path, more) => (path.includes('/LOOK-') && ++asked > 2 ? Promise.reject(new TypeError()) : real(path, more))"
+            "const real = fetch; let asked = 0; const isLost = path => path.includes('/LOOK-') && ++asked > 2;"
+            "window.fetch = (path, more) => (isLost(path) ? Promise.reject(new TypeError()) : real(path, more))"
         )
         it.choose(self.file("lost.csv", "code,name\ns1,Name\ns2,Name\ns3,Name\nS91,Name\n"))
         it.press("#send")
@@ -809,7 +820,7 @@ class Trial:
         self.check("in all", self.it.text("#table caption").startswith(f"Places left, round {number}: {whole} in all for "))
 
     def drawn(self):
-        """A school drawn by lot, with lists of up to twelve projects and too few places: a round of each aim, and what is left for the second."""
+        """A school drawn by lot, with lists of up to twelve projects and too few places: a round of each aim, and what is left."""
         it, lot = self.it, random.Random(12)
         students, projects = [f"S{at:02}" for at in range(60)], [f"P{at:02}" for at in range(25)]
 

@@ -3,9 +3,9 @@
 
 tools/sheets.py SPADESK DB KIND FILE     KIND is supervisors, projects, students or lists
 
-The program's own `import` is asked, on a copy of the database that is thrown away. It tells the first refused row alone. So a row that it always
-refuses is put at the end, the row that it tells is left out, and it is asked again until it tells that last row. Rows have the numbers of the
-spreadsheet, in which the first row is 1. Status 0: the sheet would come in. 1: it would not.
+The program's own `import` is asked, on a copy of the database that is thrown away. It tells the first refused row alone. So a row that it
+always refuses is put at the end, the row that it tells is left out, and it is asked again until it tells that last row. Rows have the
+numbers of the spreadsheet, in which the first row is 1. Status 0: the sheet would come in. 1: it would not.
 """
 import csv
 import io
@@ -33,63 +33,83 @@ def words():
     return {}
 
 
+def copied(database, folder):
+    """A copy of the database, and of its log where it has one."""
+    for end in ("", "-wal"):
+        if os.path.exists(database + end):
+            shutil.copy(database + end, f"{folder}/office.db{end}")
+    if not os.listdir(folder):
+        print(f"there is no {database}: the sheet is tried on an empty office")
+
+
+class Office:
+    """The program on a copy, asked for one kind of sheet."""
+
+    def __init__(self, program, folder, kind):
+        self.line = [sys.executable, program] if program.endswith(".py") else [program]
+        self.sheet = f"{folder}/sheet.csv"
+        self.line += ["import", f"{folder}/office.db", kind, f"LOOK-{int(time.time()):X}", self.sheet]
+
+    def told(self, content):
+        """The words of `import`, and of a refusal the row and the reason."""
+        with open(self.sheet, "wb") as file:
+            file.write(content)
+        it = subprocess.run(self.line, capture_output=True, text=True)
+        refused = re.match(r"refused (\d+): (?:Row (\d+) (\d+))?", it.stderr)
+        number, record, inner = (int(group or 0) for group in refused.groups()) if refused else (0, 0, 0)
+        return (it.stdout or it.stderr).strip(), record, inner or number
+
+    def asked(self, rows):
+        """The row that is told, and the reason, where a row of `-`, which is no code, stands at the end."""
+        out = io.StringIO()
+        csv.writer(out, lineterminator="\n").writerows([*(row for _, row in rows), ["-"] * len(rows[0][1])])
+        return self.told(out.getvalue().encode(errors="surrogateescape"))[1:]
+
+    def wrong(self, rows):
+        """The refused rows with their numbers and reasons, and whether there may be more."""
+        found = []
+        while True:
+            record, inner = self.asked(rows)
+            if record == len(rows):
+                return found, False
+            if not record or len(found) == MOST:
+                return found, True
+            found.append((*rows.pop(record), inner))
+
+
+def show(found, is_more, name, said):
+    """Prints the refused rows by their reasons."""
+    for reason in sorted({inner for *_, inner in found}):
+        print(reason, said.get(reason, ""))
+        for number, row in sorted((number, row) for number, row, inner in found if inner == reason):
+            print(f"  row {number}:", " | ".join(row).replace("\n", "\\n").encode(errors="replace").decode())
+    rows = "row is" if len(found) == 1 else "rows are"
+    print(f"{len(found)} {rows} refused{', and there may be more' if is_more else ''}: nothing of {name} would come in")
+
+
 def main(program, database, kind, name):
     with open(name, "rb") as file:
         content = file.read()
-    text = content.decode(errors="surrogateescape").removeprefix("\ufeff")
-    rows = [
-        row for row in enumerate(csv.reader(io.StringIO(text, newline=None)), 1) if row[1]
-    ]  # a line of nothing is no row for the office
+    text, said = content.decode(errors="surrogateescape").removeprefix("\ufeff"), words()
+    lines = enumerate(csv.reader(io.StringIO(text, newline=None)), 1)
+    rows = [it for it in lines if it[1]]  # a line of nothing is no row for the office
     places = {}
-    for number, row in rows[1:]:
-        places.setdefault(row[0], []).append(str(number))
+    for number, (code, *_) in rows[1:]:
+        places.setdefault(code, []).append(str(number))
     with tempfile.TemporaryDirectory() as folder:
-        for end in ("", "-wal"):
-            if os.path.exists(database + end):
-                shutil.copy(database + end, f"{folder}/office.db{end}")
-        if not os.listdir(folder):
-            print(f"there is no {database}: the sheet is tried on an empty office")
-
-        def told(content):
-            """The words of `import`, and of a refusal the row and the reason."""
-            with open(f"{folder}/sheet.csv", "wb") as file:
-                file.write(content)
-            line = [program, "import", f"{folder}/office.db", kind, f"LOOK-{int(time.time()):X}", f"{folder}/sheet.csv"]
-            it = subprocess.run([sys.executable, *line] if program.endswith(".py") else line, capture_output=True, text=True)
-            refused = re.match(r"refused (\d+): (?:Row (\d+) (\d+))?", it.stderr)
-            number, record, inner = (int(group or 0) for group in refused.groups()) if refused else (0, 0, 0)
-            return (it.stdout or it.stderr).strip(), record, inner or number
-
-        def asked(rows):
-            out = io.StringIO()
-            csv.writer(out, lineterminator="\n").writerows(
-                [row for _, row in rows] + [["-"] * len(rows[0][1])]
-            )  # `-` is no code of any roll
-            return told(out.getvalue().encode(errors="surrogateescape"))
-
-        first, wrong, is_more = told(content), [], False
-        while first[1] and first[2] != 19 and not is_more:  # without an open round each list is refused, and nothing else can be asked
-            _, record, inner = asked(rows)
-            if record == len(rows):
-                break
-            is_more = not record or len(wrong) == MOST
-            if not is_more:
-                wrong.append((*rows.pop(record), inner))
-    said = words()
-    for inner in sorted({inner for *_, inner in wrong}):
-        print(inner, said.get(inner, ""))
-        for number, row, _ in sorted(it for it in wrong if it[2] == inner):
-            print(f"  row {number}:", " | ".join(row).replace("\n", "\\n").encode(errors="replace").decode())
-    if wrong:
-        print(
-            f"{len(wrong)} {'row is' if len(wrong) == 1 else 'rows are'} refused{', and there may be more' if is_more else ''}: nothing of {name} would come in"
-        )
+        copied(database, folder)
+        office = Office(program, folder, kind)
+        answer, record, reason = office.told(content)
+        # Without an open round each list is refused, and nothing else can be asked.
+        found, is_more = office.wrong(rows) if record and reason != 19 else ([], False)
+    if found:
+        show(found, is_more, name, said)
     else:
-        print(first[0], *([f"{first[2]} {said[first[2]]}"] if first[2] in said else []), sep="\n")
+        print(answer, *([f"{reason} {said[reason]}"] if reason in said else []), sep="\n")
     for code, numbers in places.items():
         if len(numbers) > 1 and code:
             print(f"{code} stands in the rows {', '.join(numbers)}: the last of them counts")
-    return int(not first[0].startswith("rows "))
+    return int(not answer.startswith("rows "))
 
 
 if __name__ == "__main__":
