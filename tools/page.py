@@ -39,6 +39,24 @@ FIRST, TERM = (
 OWN_WORDS = {2, 3, 4, 5, 6, 7, 8, 9, 12, 27, 28, 29, 30}
 
 
+AIMS = {
+    "greedy": "the most first choices, then the most second, and so on",
+    "generous": "the fewest twelfth choices, then the fewest eleventh, and so on",
+}
+REPORTS = {
+    "placements": ("Placements", "Student,Name,Project,Title,Supervisor,Choice"),
+    "loads": ("Loads", "Supervisor,Project,Name or title,Placed,Quota"),
+    "profile": ("Profile", "Choice,Students"),
+    "unplaced": ("Without a place", "Student,Name"),
+}
+# Whether the browser would ask before the page is left.
+LEAVING = "const it = new Event('beforeunload', { cancelable: true }); dispatchEvent(it); return it.defaultPrevented"
+
+
+def ordinal(rank):
+    return f"{rank}{({1: 'st', 2: 'nd', 3: 'rd'}).get(rank, 'th')}"
+
+
 def free_port():
     with socket.socket() as it:
         it.bind(("127.0.0.1", 0))
@@ -183,6 +201,10 @@ class Browser:
     def text(self, css):
         return self.run("return document.querySelector(arguments[0])?.innerText", css)
 
+    def numbers(self):
+        """The numbers of the bars."""
+        return [int(row[1]) for row in self.table("#doing")]
+
     def marks(self, css=".wrong"):
         return self.run("return [...document.querySelectorAll(arguments[0] + ' mark')].map(it => it.textContent)", css)
 
@@ -293,12 +315,76 @@ class Trial:
             (True, None),
         )
 
+    def profile(self, number):
+        """The numbers of a round: its students, those who are placed, and how many at each rank."""
+        students, placed, *ranks = [int(line.split()[-1]) for line in self.line("report", "DB", "profile", str(number)).splitlines()[1:]]
+        return students, placed, ranks
+
+    def bars(self, name, caption, students, ranks):
+        """What the bars of the round say, and how long they are."""
+        it = self.it
+        used = max([3, *(at for at, number in enumerate(ranks, 1) if number)])
+        numbers = [*ranks[:used], students - sum(ranks)]
+        widths = it.run("return [...document.querySelectorAll('.bar')].map(it => Math.round(Number.parseFloat(it.style.width)))")
+        wanted = [int(100 * number / max(1, *numbers) + 0.5) for number in numbers]
+        words = [*(ordinal(at) + " choice" for at in range(1, used + 1)), "no place"]
+        shown = it.run("return [...document.querySelectorAll('.bars th')].map(it => it.textContent)")
+        self.check(name, (it.text(".bars caption"), shown, it.numbers(), widths), (caption, words, numbers, wanted))
+
+    def preview(self, number, students):
+        """The bars of an open round."""
+        seen = json.loads(asked("GET", "/preview")[1])
+        caption = f"If round {number} closed now, {seen['size']} of {students} students with a list would be placed:"
+        self.bars("the preview", caption, students, seen["profile"])
+
+    def closed(self, number, aim):
+        """All that is told of a round that was closed just now."""
+        it, (students, placed, ranks) = self.it, self.profile(number)
+        all = f"{placed} of {students} student{'s' * (students != 1)}"
+        self.check("closed", it.text("#state"), f"Round {number} is closed, {aim}: {all} placed.")
+        self.bars("its bars", f"Round {number} has placed {all} with a list:", students, ranks)
+        choices = "".join(f", {count} with the {ordinal(at)} choice" for at, count in enumerate(ranks, 1) if count)
+        words = f"Round {number} is closed. It placed {all}{choices}. Now save its proof, below."
+        self.check("told", it.text("#told").splitlines()[0], words)
+        best = f"no placing has more students than {placed}, and none of {placed} has a better profile than {' '.join(map(str, ranks))}."
+        words = f"Round {number}: checked here. It is the best: {best}"
+        self.check("proved", it.run("return [...document.querySelectorAll('#proofs .proved')].pop().textContent"), words)
+        self.check("the proof is to be saved", it.run(LEAVING), True)
+
+    def picture(self, number, listed):
+        """The picture of a round, against its reports."""
+        it, (_, placed, ranks) = self.it, self.profile(number)
+        loads = [line.split() for line in self.line("report", "DB", "loads", str(number)).splitlines()]
+        places = {line.split()[0]: line.split()[2] for line in self.line("report", "DB", "placements", str(number)).splitlines()}
+        owners = [line.split()[0] for line in self.line("report", "DB", "loads", str(number)).splitlines() if line[0] != " "]
+        boxes = [[code, f"{taken}/{quota}"] for code, taken, quota in loads]
+        boxes = sorted(boxes, key=lambda box: box[0] in owners)
+        students = [[code, places.get(code, "–")] for code in sorted(listed)]
+        texts = it.run("return [...document.querySelectorAll('#picture text')].map(it => it.textContent)")
+        wanted = ["students", "projects: placed/quota", "supervisors", *(word for pair in [*boxes, *students] for word in pair)]
+        self.check(f"the picture of round {number}", texts, wanted)
+        self.check("full", it.run("return document.querySelectorAll('#picture rect.full').length"), sum(it[1] == it[2] for it in loads))
+        self.check("lines", self.lines()[:4], [*ranks[:3], sum(ranks[3:])])
+        words = f"Round {number}: {placed} of {len(listed)} students have a place."
+        self.check("for a reader", it.run("return document.querySelector('#picture svg').getAttribute('aria-label')").startswith(words))
+
+    def lines(self):
+        """The lines of the picture that are seen, by the look of the choice."""
+        looks = "['r1', 'r2', 'r3', 'r4', 'wish']"
+        return self.it.run(f"return {looks}.map(it => document.querySelectorAll(`#picture path.${{it}}:not(.away)`).length)")
+
     def reports(self, number):
         """Each report of the page against that of the program."""
         it = self.it
         it.pick("#number", str(number))
         for kind, picked in (("placements", (0, 2, 5)), ("loads", None), ("profile", (0, 1)), ("unplaced", (0, 1))):
             it.pick("#kind", kind)
+            words, head = REPORTS[kind]
+            self.check(
+                f"the head of {kind}",
+                (it.text("#table caption"), it.run("return [...document.querySelectorAll('#table th')].map(it => it.textContent)")),
+                (f"{words}, round {number}", head.split(",")),
+            )
             wanted = [
                 re.split(r" {2,}|(?<=\d) +(?=\d)|(?<!RANK) (?=\d+$)", line.strip())
                 for line in self.line("report", "DB", kind, str(number)).splitlines()
@@ -334,19 +420,26 @@ class Trial:
     def first_round(self):
         it = self.it
         self.check("at first", it.text("#state"), "There has been no round yet.")
+        self.check("the aims", all(f"{aim}: {words}" in it.text("#doing") for aim, words in AIMS.items()))
         it.choose(*FIRST)
+        saved = time.strftime("%Y, %H:%M", time.localtime(os.path.getmtime(FIRST[1])))
+        self.check("when it was saved", f"{saved}: students, 20 rows: 20 new" in it.text("#chosen"))
         self.shot("sheets")
         it.press("#send")
         self.check("lists before a round", "19 NoRoundOpen" in it.text("#told") and "Bring in 1 sheet" in it.text("#chosen"))
+        self.check("as a refusal", it.run("return document.querySelector('#told').className"), "bad")
         self.shot("refused")
         it.press("#open")
         it.run("const it = document.querySelector('#send'); it.click(); it.click()")
         it.rest()
         self.check("lists in a round, pressed twice", it.text("#state"), "Round 1 is open, greedy, with 20 lists.")
-        seen = json.loads(asked("GET", "/preview")[1])
-        self.check(
-            "the preview", [row[1] for row in it.table("#doing")], [str(number) for number in [*seen["profile"][:3], 20 - seen["size"]]]
-        )
+        self.check("all came in", it.text("#told").startswith("All came in: supervisors.csv, 5 rows; projects.csv, 10 rows; "))
+        self.check("as no refusal", it.run("return document.querySelector('#told').className"), "")
+        self.preview(1, 20)
+        self.check("its aim", f"it takes one with {AIMS['greedy']}" in it.text("#doing"))
+        it.press("#text1")
+        self.check("its text", self.saved("round1.txt").decode(), asked("GET", "/roundtext")[1])
+        self.check("nothing is to be saved", it.run(LEAVING), False)
         self.shot("open")
         it.press("#close")
         it.press("#sure button:not(.main)")
@@ -356,15 +449,12 @@ class Trial:
             "the question", "20 of 20 students, 14 with the 1st choice, 4 with the 2nd choice, 2 with the 3rd choice" in it.text("#sure")
         )
         it.press("#sure button.main")
-        self.check("closed", it.text("#state"), "Round 1 is closed, greedy: 20 of 20 students placed.")
+        self.closed(1, "greedy")
         self.shot("office", height=1180, scale=0.75)
         it.press("#drawing summary")
         self.shot("closed")
         self.shot("closed-dark", dark=True)
-        lines = lambda: it.run(
-            "return ['r1', 'r2', 'r3', 'r4', 'wish'].map(it => document.querySelectorAll(`#picture path.${it}:not(.away)`).length)"
-        )
-        self.check("the picture", lines(), [14, 4, 2, 0, 45])
+        self.check("the picture", self.lines(), [14, 4, 2, 0, 45])
         name = self.proof(1)
         other = re.sub(rb"(?m)^M,S04,CIPHER$", b"M,S04,PATTERNS", open(name, "rb").read())
         it.choose(self.file("other.txt", other), field="#opened")
@@ -375,7 +465,8 @@ class Trial:
         it.pick("#kind", "placements")
         it.write("#filter", "hopper")
         self.check("the filter", {row[4] for row in it.table()}, {"Grace Hopper"})
-        self.check("in the picture", sum(lines()[:4]), len(it.table()))
+        self.check("in the picture", sum(self.lines()[:4]), len(it.table()))
+        self.check("how many", it.text("#about"), f"{len(it.table())} of 20 rows")
         it.write("#filter", " ")
         it.press("#save")
         rows = list(csv.reader(io.StringIO(self.saved("placements-1.csv").decode("utf-8-sig"))))
@@ -387,7 +478,7 @@ class Trial:
             "loaded anew, without the text of the round", it.text("#proofs").startswith("Round 1 was closed before this page was loaded")
         )
         it.press("#drawing summary")
-        self.check("a picture of the places alone", lines(), [14, 4, 2, 0, 0])
+        self.check("a picture of the places alone", self.lines(), [14, 4, 2, 0, 0])
         it.press("#reopen")
         it.press("#sure button.main")
         self.check("reopened", it.text("#state"), "Round 1 is open, greedy, with 20 lists.")
@@ -475,7 +566,18 @@ class Trial:
         it.press("#send")
         it.press("#close")
         it.press("#sure button.main")
-        self.check("a generous round", it.text("#state"), "Round 2 is closed, generous: 3 of 3 students placed.")
+        self.closed(2, "generous")
+        for kind, code in (("student", "S02"), ("student", "S10"), ("project", "PLATES")):
+            it.pick("#what", kind)
+            it.write("#code", code)
+            it.press("#asked button")
+            told = json.loads(asked("GET", f"/{kind}s/{code}")[1])
+            place = told["placed"]
+            if kind == "project":
+                words = f"{told['name']}: {place} of {told['quota']} places taken."
+            else:
+                words = f"{told['name']} has {place['project']}, the {ordinal(place['rank'])} choice, from round {place['round']}."
+            self.check(f"the entry {code}", it.text("#found p"), words)
         self.reports(2)
         self.proof(2)
 
@@ -603,6 +705,7 @@ class Trial:
             ("more than 65,536 bytes" in told, "none of the four sheets" in told, it.run("return !document.querySelector('#send')")),
             (True, True, True),
         )
+        self.statuses()
 
     def looked(self, kind, name, content, rows, marks, empty=()):
         """A sheet is refused: each of its wrong rows is told with its reason, by the page and by tools/sheets.py, and nothing came in."""
@@ -851,9 +954,14 @@ class Trial:
             )
             it.choose(lists("lists.csv", left[:40]))
             it.press("#send")
+            self.preview(number, len(left[:40]))
             it.press("#close")
             it.press("#sure button.main")
+            self.closed(number, aim)
             self.reports(number)
+            if number == 1:
+                it.press("#drawing summary")
+            self.picture(number, left[:40])
             self.room(number)
             self.proof(number)
 
@@ -879,6 +987,20 @@ class Trial:
         self.reports(1)
         self.proof(1)
 
+    def statuses(self):
+        """What is told where the web server answers in the place of the service."""
+        for status, words in (
+            (401, "You are not signed in any more. Load this page again."),
+            (403, "You may not do this here."),
+            (413, "The file has more than 65,536 bytes."),
+            (504, "what was sent may still be done. Load this page again and look before you send it again."),
+        ):
+            self.it.run("const status = arguments[0]; window.fetch = () => Promise.resolve(new Response('', { status }))", status)
+            self.it.write("#code", "S1")
+            self.it.press("#asked button")
+            title = "Refused 4: TooLarge" if status == 413 else f"The web server answers {status}"
+            self.check(f"status {status}", (self.it.text("#told").splitlines()[0], words in self.it.text("#told")), (title, True))
+
     def named(self):
         """What a reader of the screen is told: each field and button has a name."""
         nodes = self.it.chrome("Accessibility.getFullAXTree")["nodes"]
@@ -897,12 +1019,21 @@ class Trial:
         it.go("/student/", user)
         self.check("a student before a round", "No round is open" in it.text("#me"))
         asked("POST", "/rounds", KEEPER, '{"aim":"generous"}')
+        asked("PUT", "/supervisors/HOPPER", KEEPER, '{"name":"Grace Hopper","quota":1}')
+        asked("PUT", "/projects/LANDING", KEEPER, '{"name":"Software for a landing","supervisor":"HAMILTON","quota":0}')
         it.go("/student/", user)
-        self.check(
-            "projects",
-            sorted(row[0] for row in it.table("#all")),
-            sorted(row["name"] for row in csv.DictReader(io.StringIO(read("examples", "first-round", "projects.csv")))),
-        )
+        rows = lambda kind: csv.DictReader(io.StringIO(read("examples", "first-round", f"{kind}.csv")))
+        names = {row["code"]: row["name"] for row in rows("supervisors")}
+        wanted = [
+            [row["name"], names[row["supervisor"]], "1" if row["supervisor"] == "HOPPER" else row["quota"], "Add"]
+            for row in sorted(rows("projects"), key=lambda row: row["name"])
+            if row["code"] != "LANDING"
+        ]
+        self.check("projects with a place", it.table("#all"), wanted)
+        self.check("the aim", f"this round takes one with {AIMS['generous'].split(',')[0]}" in it.text("#me"))
+        it.write("#filter", "turing")
+        self.check("the filter", it.table("#all"), [row for row in wanted if row[1] == "Alan Turing"])
+        it.run("const it = document.querySelector('#filter'); it.value = ''; it.dispatchEvent(new Event('input'))")
         for title in ("Breaking an old cipher", "Notes on the engine", "A history of bugs"):
             it.press(f"button[aria-label='Add {title}']")
         it.press("button[aria-label='A history of bugs: up']")
@@ -910,6 +1041,13 @@ class Trial:
         self.check("not handed in", it.text("#state"), "This is not handed in yet.")
         it.press("#save")
         self.check("handed in", json.loads(asked("GET", "/students/S02")[1])["list"], ["CIPHER", "BUGS", "NOTES"])
+        self.check("it is told", (it.text("#state"), it.text("#told")[:23]), ("This list is handed in.", "Your list is handed in."))
+        it.press("button[aria-label='Breaking an old cipher: down']")
+        it.press("button[aria-label='Notes on the engine: strike out']")
+        shown = it.run("return [...document.querySelectorAll('#list span')].map(it => it.textContent)")
+        self.check("changed", shown, ["A history of bugs", "Breaking an old cipher"])
+        it.press("#save")
+        self.check("handed in again", json.loads(asked("GET", "/students/S02")[1])["list"], ["BUGS", "CIPHER"])
         self.named()
         it.press("#drop")
         self.check("taken away", json.loads(asked("GET", "/students/S02")[1])["list"], None)
@@ -935,10 +1073,13 @@ class Trial:
         self.check(
             "a page of another site", asked("PUT", "/student/list", user, '{"choices":["CHESS"]}', Origin="https://other.example")[0], 403
         )
-        asked("PUT", "/lists/S02", KEEPER, '{"choices":["CIPHER"]}')
+        asked("PUT", "/lists/S02", KEEPER, '{"choices":["BUGS","CIPHER"]}')
+        asked("PUT", "/supervisors/HOPPER", KEEPER, '{"name":"Grace Hopper","quota":0}')
         asked("POST", "/rounds/close")
         it.go("/student/", user)
         self.check("a place", "You have “Breaking an old cipher”, with Alan Turing." in it.text("#me"))
+        self.check("which", "It is your 2nd choice, from round 1." in it.text("#me"))
+        self.check("no list any more", it.run("return document.querySelector('#mine').hidden"), True)
 
     def all(self, parts):
         self.it = Browser(self.folder)
