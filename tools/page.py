@@ -48,6 +48,8 @@ REPORTS = {
     "loads": ("Loads", "Supervisor,Project,Name or title,Placed,Quota"),
     "profile": ("Profile", "Choice,Students"),
     "unplaced": ("Without a place", "Student,Name"),
+    "room": ("Places left", "Project,Title,Supervisor,Project has,Supervisor has,Places left"),
+    "lists": ("Lists", "Student,Name,Choices"),
 }
 # Whether the browser would ask before the page is left.
 LEAVING = "const it = new Event('beforeunload', { cancelable: true }); dispatchEvent(it); return it.defaultPrevented"
@@ -364,6 +366,8 @@ class Trial:
         wanted = ["students", "projects: placed/quota", "supervisors", *(word for pair in [*boxes, *students] for word in pair)]
         self.check(f"the picture of round {number}", texts, wanted)
         self.check("full", it.run("return document.querySelectorAll('#picture rect.full').length"), sum(it[1] == it[2] for it in loads))
+        bold = "return [...document.querySelectorAll('#picture text')].filter(it => getComputedStyle(it).fontWeight === '700').length"
+        self.check("who has none is bold", it.run(bold), len(listed) - placed)
         self.check("lines", self.lines()[:4], [*ranks[:3], sum(ranks[3:])])
         words = f"Round {number}: {placed} of {len(listed)} students have a place."
         self.check("for a reader", it.run("return document.querySelector('#picture svg').getAttribute('aria-label')").startswith(words))
@@ -373,24 +377,28 @@ class Trial:
         looks = "['r1', 'r2', 'r3', 'r4', 'wish']"
         return self.it.run(f"return {looks}.map(it => document.querySelectorAll(`#picture path.${{it}}:not(.away)`).length)")
 
+    def head(self, kind, number):
+        """What a report is called, and its first row."""
+        words, head = REPORTS[kind]
+        self.check(f"the caption of {kind}", self.it.text("#table caption").split(":")[0], f"{words}, round {number}")
+        heads = self.it.run("return [...document.querySelectorAll('#table th')].map(it => it.textContent)")
+        self.check("its head", heads, head.split(","))
+
     def reports(self, number):
         """Each report of the page against that of the program."""
         it = self.it
         it.pick("#number", str(number))
         for kind, picked in (("placements", (0, 2, 5)), ("loads", None), ("profile", (0, 1)), ("unplaced", (0, 1))):
             it.pick("#kind", kind)
-            words, head = REPORTS[kind]
-            self.check(
-                f"the head of {kind}",
-                (it.text("#table caption"), it.run("return [...document.querySelectorAll('#table th')].map(it => it.textContent)")),
-                (f"{words}, round {number}", head.split(",")),
-            )
+            self.head(kind, number)
             wanted = [
                 re.split(r" {2,}|(?<=\d) +(?=\d)|(?<!RANK) (?=\d+$)", line.strip())
                 for line in self.line("report", "DB", kind, str(number)).splitlines()
             ]
             rows = it.table()
             if kind == "loads":
+                bold = "return [...document.querySelectorAll('#table td')].filter(it => getComputedStyle(it).fontWeight === '600').length"
+                self.check("supervisors are bold", it.run(bold), 5 * sum(row[0] != "" for row in rows))
                 rows, picked = [[row[0] or row[1], row[3], row[4]] for row in rows], (0, 1, 2)
             self.check(
                 f"report {kind} of round {number}",
@@ -430,6 +438,7 @@ class Trial:
         self.check("as a refusal", it.run("return document.querySelector('#told').className"), "bad")
         self.shot("refused")
         it.press("#open")
+        self.check("opened", it.text("#told").splitlines()[0], "Round 1 is open, greedy. Now the lists may come in.")
         it.run("const it = document.querySelector('#send'); it.click(); it.click()")
         it.rest()
         self.check("lists in a round, pressed twice", it.text("#state"), "Round 1 is open, greedy, with 20 lists.")
@@ -445,9 +454,9 @@ class Trial:
         it.press("#sure button:not(.main)")
         self.check("not closed", it.text("#state").startswith("Round 1 is open"))
         it.press("#close")
-        self.check(
-            "the question", "20 of 20 students, 14 with the 1st choice, 4 with the 2nd choice, 2 with the 3rd choice" in it.text("#sure")
-        )
+        places = "20 of 20 students, 14 with the 1st choice, 4 with the 2nd choice, 2 with the 3rd choice"
+        words = "They keep their places in later rounds. As long as round 1 is the last, it can be reopened."
+        self.check("the question", it.text("#sure p"), f"Close round 1? It would place {places}. {words}")
         it.press("#sure button.main")
         self.closed(1, "greedy")
         self.shot("office", height=1180, scale=0.75)
@@ -483,9 +492,11 @@ class Trial:
         it.press("#sure button.main")
         self.check("reopened", it.text("#state"), "Round 1 is open, greedy, with 20 lists.")
         self.check("the lists", it.table()[0], ["S01", "Amina", "CIPHER CHESS LOOM"])
+        self.head("lists", 1)
         self.stop()
         it.press("#again")
-        self.check("the service is down", it.text("#told").startswith("The web server answers 502"))
+        told = "The web server answers 502\n\nThe service cannot be reached. Wait a moment, then send it again: "
+        self.check("the service is down", it.text("#told").startswith(told))
         it.choose(FIRST[1])
         self.check(
             "a sheet that cannot be compared",
@@ -567,7 +578,8 @@ class Trial:
         it.press("#close")
         it.press("#sure button.main")
         self.closed(2, "generous")
-        for kind, code in (("student", "S02"), ("student", "S10"), ("project", "PLATES")):
+        second = next(line.split()[0] for line in self.line("report", "DB", "placements", "1").splitlines() if line.endswith(" 2"))
+        for kind, code in (("student", "S02"), ("student", second), ("project", "PLATES")):
             it.pick("#what", kind)
             it.write("#code", code)
             it.press("#asked button")
@@ -919,6 +931,11 @@ class Trial:
             if min(left, owner[1]) > 0
         ]
         self.check(f"places left in round {number}", [[row[0], *row[3:]] for row in self.it.table()], wanted)
+        self.head("room", number)
+        read = lambda path: json.loads(asked("GET", path)[1])
+        found = [read(f"/projects/{code}") for code, *_ in wanted]
+        names = [[it["name"], read(f"/supervisors/{it['supervisor']}")["name"]] for it in found]
+        self.check("the names of their projects and supervisors", [row[1:3] for row in self.it.table()], names)
         whole = sum(min(owner[1], sum(left for _, left in projects)) for owner, projects in rows)
         self.check("in all", self.it.text("#table caption").startswith(f"Places left, round {number}: {whole} in all for "))
 
@@ -935,10 +952,12 @@ class Trial:
             )
 
         it.choose(
-            self.file("supervisors.csv", "code,name,quota\n" + "".join(f"L{at},Lee {at},{lot.randint(2, 7)}\n" for at in range(8))),
+            self.file(
+                "supervisors.csv", "code,name,quota\nZ,Zoe,1\n" + "".join(f"L{at},Lee {at},{lot.randint(2, 7)}\n" for at in range(8))
+            ),
             self.file(
                 "projects.csv",
-                "code,name,supervisor,quota\n"
+                "code,name,supervisor,quota\nZERO,Nobody lists it,Z,3\n"
                 + "".join(f"{code},Title,L{at % 8},{lot.randint(0, 3)}\n" for at, code in enumerate(projects)),
             ),
             self.file("students.csv", "code,name\n" + "".join(f"{code},Name\n" for code in students)),
@@ -1043,11 +1062,11 @@ class Trial:
         self.check("handed in", json.loads(asked("GET", "/students/S02")[1])["list"], ["CIPHER", "BUGS", "NOTES"])
         self.check("it is told", (it.text("#state"), it.text("#told")[:23]), ("This list is handed in.", "Your list is handed in."))
         it.press("button[aria-label='Breaking an old cipher: down']")
-        it.press("button[aria-label='Notes on the engine: strike out']")
+        it.press("button[aria-label='Breaking an old cipher: strike out']")
         shown = it.run("return [...document.querySelectorAll('#list span')].map(it => it.textContent)")
-        self.check("changed", shown, ["A history of bugs", "Breaking an old cipher"])
+        self.check("changed", shown, ["A history of bugs", "Notes on the engine"])
         it.press("#save")
-        self.check("handed in again", json.loads(asked("GET", "/students/S02")[1])["list"], ["BUGS", "CIPHER"])
+        self.check("handed in again", json.loads(asked("GET", "/students/S02")[1])["list"], ["BUGS", "NOTES"])
         self.named()
         it.press("#drop")
         self.check("taken away", json.loads(asked("GET", "/students/S02")[1])["list"], None)
