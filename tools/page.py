@@ -329,6 +329,8 @@ class Trial:
         numbers = [*ranks[:used], students - sum(ranks)]
         widths = it.run("return [...document.querySelectorAll('.bar')].map(it => Math.round(Number.parseFloat(it.style.width)))")
         wanted = [int(100 * number / max(1, *numbers) + 0.5) for number in numbers]
+        looks = it.run("return [...document.querySelectorAll('.bar')].map(it => it.className)")
+        self.check("looks of the bars", looks, [*(f"bar r{min(at, 4)}" for at in range(1, used + 1)), "bar none"])
         words = [*(ordinal(at) + " choice" for at in range(1, used + 1)), "no place"]
         shown = it.run("return [...document.querySelectorAll('.bars th')].map(it => it.textContent)")
         self.check(name, (it.text(".bars caption"), shown, it.numbers(), widths), (caption, words, numbers, wanted))
@@ -478,7 +480,9 @@ class Trial:
         self.check("how many", it.text("#about"), f"{len(it.table())} of 20 rows")
         it.write("#filter", " ")
         it.press("#save")
-        rows = list(csv.reader(io.StringIO(self.saved("placements-1.csv").decode("utf-8-sig"))))
+        content = self.saved("placements-1.csv")
+        self.check("in UTF-8 with its mark", content[:3], b"\xef\xbb\xbf")
+        rows = list(csv.reader(io.StringIO(content.decode("utf-8-sig"))))
         self.check("saved as CSV", rows[1:], [row for row in it.table()])
         self.room(1)
         self.shot("room")
@@ -489,6 +493,8 @@ class Trial:
         it.press("#drawing summary")
         self.check("a picture of the places alone", self.lines(), [14, 4, 2, 0, 0])
         it.press("#reopen")
+        words = "Reopen round 1? Its placements go, and its lists stay. Another closing may place other students."
+        self.check("the question", it.text("#sure p"), words)
         it.press("#sure button.main")
         self.check("reopened", it.text("#state"), "Round 1 is open, greedy, with 20 lists.")
         self.check("the lists", it.table()[0], ["S01", "Amina", "CIPHER CHESS LOOM"])
@@ -523,6 +529,7 @@ class Trial:
         self.check("a list by hand", asked("GET", "/students/S11")[1], '{"list":["PLATES"],"name":"José","placed":null}')
         it.write("#code", "S12")
         it.press("#asked button")
+        self.check("not known yet", it.text("#found p"), "No student has the code S12. Fill this in to add one.")
         it.write("#keep input", "Zoë")
         it.press("#keep button")
         it.write("#list input", "PRIMES DOSE")
@@ -575,6 +582,8 @@ class Trial:
         waiting = [line.split()[0] for line in self.line("report", "DB", "unplaced", "1").splitlines()] + ["S12", "S13"]
         it.choose(self.file("second.csv", "student,choices\n" + "".join(f"{code},PLATES DOSE MEMORY\n" for code in waiting)))
         it.press("#send")
+        it.pick("#kind", "missing")
+        self.check("nobody is without a list or a place", it.table(), [])
         it.press("#close")
         it.press("#sure button.main")
         self.closed(2, "generous")
@@ -717,6 +726,15 @@ class Trial:
             ("more than 65,536 bytes" in told, "none of the four sheets" in told, it.run("return !document.querySelector('#send')")),
             (True, True, True),
         )
+        it.press("#open")
+        it.run(
+            "const real = fetch, more = { method: 'PUT', body: '{\"choices\":[\"P\"]}' };"
+            "const list = () => real(location.origin + '/lists/S1', more);"
+            "window.fetch = async (path, more) => { if (path.endsWith('/close')) await list(); return real(path, more); }"
+        )
+        it.press("#close")
+        it.press("#sure button.main")
+        self.check("a list in the midst of closing", "something came between its text and its closing" in it.text("#proofs"))
         self.statuses()
 
     def looked(self, kind, name, content, rows, marks, empty=()):
@@ -799,7 +817,9 @@ class Trial:
             [(8, 9)],
         )
         self.check(
-            "more than once", "NEW7 in the rows 12 and 14 and 18" in it.text("#chosen") and "NEW7 stands in the rows 12, 14, 18" in words
+            "more than once",
+            "More than once, and the last row counts: CHESS in the rows 2 and 13; NEW7 in the rows 12 and 14 and 18." in it.text("#chosen")
+            and "NEW7 stands in the rows 12, 14, 18" in words,
         )
         self.shot("mistakes")
         it.press(".wrong button")
@@ -1057,7 +1077,7 @@ class Trial:
             it.press(f"button[aria-label='Add {title}']")
         it.press("button[aria-label='A history of bugs: up']")
         self.shot("student")
-        self.check("not handed in", it.text("#state"), "This is not handed in yet.")
+        self.check("not handed in", (it.text("#state"), it.run(LEAVING)), ("This is not handed in yet.", True))
         it.press("#save")
         self.check("handed in", json.loads(asked("GET", "/students/S02")[1])["list"], ["CIPHER", "BUGS", "NOTES"])
         self.check("it is told", (it.text("#state"), it.text("#told")[:23]), ("This list is handed in.", "Your list is handed in."))
@@ -1066,9 +1086,15 @@ class Trial:
         shown = it.run("return [...document.querySelectorAll('#list span')].map(it => it.textContent)")
         self.check("changed", shown, ["A history of bugs", "Notes on the engine"])
         it.press("#save")
+        self.check("it may be left", it.run(LEAVING), False)
+        it.run("window.fetch = () => Promise.resolve(new Response('', { status: 504 }))")
+        it.press("#drop")
+        self.check("no answer in time", it.text("#told").startswith("No answer in time: it may still be done."))
+        it.go("/student/", user)
         self.check("handed in again", json.loads(asked("GET", "/students/S02")[1])["list"], ["BUGS", "NOTES"])
         self.named()
         it.press("#drop")
+        self.check("that is told", it.text("#told"), "You have no list now.")
         self.check("taken away", json.loads(asked("GET", "/students/S02")[1])["list"], None)
         none = (401, 403, 404, 405)
         for method, path, other in (
