@@ -1,7 +1,7 @@
 //! Matchings that are best by an aim, with prices that prove them.
 #![tactic(auto)]
 
-ghost use Rattle.std.specs.Prelude.{◌≡◌, ℕ, ◌<◌, ◌≤◌, length, slice_get, Some, IfOk, IfSome};
+ghost use Rattle.std.specs.Prelude.{◌≡◌, ℕ, ◌<◌, ◌≤◌, length, slice_get, Some, Ok, IfOk, IfSome};
 ghost use Rattle.spa.specs.Order.{order};
 ghost use Rattle.spa.specs.Matching.{IsBest};
 ghost use Rattle.spa.specs.Matched.{pairs};
@@ -100,8 +100,8 @@ fn admitted(alloc: Global, instance: &Instance, aim: Aim) -> Result<Solved, Allo
     Ok(Solved { matching, prices })
 }
 
-/// What was found, if it was accepted. Else the students are admitted one by one to a network whose pairs are worth their
-/// weights, which is proved to come to the best.
+/// What was found, if anything was. Else the students are admitted one by one to a network whose pairs are worth their
+/// weights, which is proved to come to the best. An `Err` is want of memory, and comes only where nothing was found.
 pub fn found_or_admitted(
     alloc: Global,
     instance: &Instance,
@@ -111,6 +111,7 @@ pub fn found_or_admitted(
     requires { IfSome found (λ s. IsProvedBest (order aim) instance.now.shape s.matching.places.items s.prices) }
     ensures proved { IfOk result (λ s. IsProvedBest (order aim) instance.now.shape s.matching.places.items s.prices) }
     ensures best { IfOk result (λ s. IsBest aim instance.now.shape (pairs instance.now.shape s.matching.places.items)) }
+    ensures taken { IfSome found (λ s. result ≡ Ok s) }
 {
     verdict_law(instance);
     match found {
