@@ -1,15 +1,16 @@
 -- A list of projects, read field by field.
-use Rattle.std.proofs.Common.{◌≡◌, ℕ, zero, suc, ◌+◌, ◌<◌, Bool, true, false, not, List, [], ◌∷◌, ◌++◌, length, map, get_or, take, slice_get, Option, Some, None, refl, sym, ap, ◌∙◌, arith}
-use Rattle.std.specs.Prelude.{is_some}
+use Rattle.std.proofs.Common.{◌≡◌, ◌≢◌, ℕ, zero, suc, ◌+◌, ◌<◌, Bool, true, false, not, List, [], ◌∷◌, ◌++◌, length, map, get_or, take, slice_get, Option, Some, None, refl, sym, ap, ◌∙◌, arith}
 use denote.Ref.{Bor}
-use Rattle.std.proofs.lemmas.List.{take_more, length-take-le}
+use Rattle.std.proofs.lemmas.List.{take_more, length-take-le, length-map, map-append}
 use Rattle.std.specs.Str.{bytes_eq}
 use Rattle.std.proofs.lemmas.Bool.Decides.{not_from_Decides}
 use Rattle.std.proofs.lemmas.Slice.Eq.{bytes_eq-Decides}
 use Rattle.spa.specs.Inside.Codes.{Finds}
 use Rattle.spa.specs.Made.{IsSoundUpTo, IsSoundList}
 use Rattle.intake.proofs.Order.{get_found}
+use Rattle.intake.proofs.PairLine.{one_place}
 use Rattle.intake.proofs.Rolls.{known_more, apart_more, contained, standing}
+use Rattle.intake.specs.Parts.{Rise}
 
 -- what a look-up past the end gives
 abbrev pub blank : Bor (List ℕ)
@@ -20,16 +21,6 @@ pub field_at : (fs : List (Bor (List ℕ))) (k : ℕ) → k < length fs → (k <
 field_at [] k h = absurd (omega arith)
 field_at (f ∷ fs) zero h = (omega arith, refl)
 field_at (f ∷ fs) (suc k) h = (let at = field_at fs k (omega arith) in (omega (arith, at.0), at.1))
-
--- a look-up that found nothing
-pub found_none : (r : Option ℕ) → is_some r ≡ false → r ≡ None
-found_none None h = refl
-found_none (Some x) h = cc
-
--- a look-up that found something
-pub found_some : (r : Option ℕ) → is_some r ≡ true → (x : ℕ) × (r ≡ Some x)
-found_some None h = cc
-found_some (Some x) h = (x, refl)
 
 -- a list with an unknown code is not sound
 pub unknown_code : (codes list : List (List ℕ)) (n k : ℕ) (code : List ℕ) → n ≡ length codes → IsSoundList codes list → k < length list → slice_get list k ≡ Some code → Finds codes n code None → ⊥
@@ -64,6 +55,34 @@ sound_more codes list seen n k p code h here e so_far known fresh =
 -- and of what was read
 pub read_more : (list seen new : List (List ℕ)) (k : ℕ) (code : List ℕ) → k < length list → slice_get list k ≡ Some code → seen ≡ take k list → new ≡ seen ++ code ∷ [] → new ≡ take (k + 1) list
 read_more list seen new k code h here e f = f ∙ ap (λ (l : List (List ℕ)). l ++ code ∷ []) e ∙ ap (λ (c : List ℕ). take k list ++ c ∷ []) (sym (get_found list k code [] here)) ∙ sym (take_more list k [] h)
+
+-- the codes that were read stand at these positions
+abbrev pub StandAt : List (List ℕ) → List ℕ → List (List ℕ) → Type 0
+StandAt codes ps seen = map (slice_get codes) ps ≡ map Some seen
+
+-- what was read stands where it was found
+pub at_position : (codes : List (List ℕ)) (ps : List ℕ) (seen : List (List ℕ)) (j : ℕ) → StandAt codes ps seen → j < length ps
+    → slice_get seen j ≡ slice_get codes (get_or ps j 0)
+at_position codes [] seen j e h = absurd (omega arith)
+at_position codes (p ∷ ps) [] j e h = cc
+at_position codes (p ∷ ps) (c ∷ seen) zero e h = (let first : slice_get codes p ≡ Some c = cc in sym first)
+at_position codes (p ∷ ps) (c ∷ seen) (suc j) e h = (let rest : StandAt codes ps seen = cc in at_position codes ps seen j rest (omega arith))
+
+-- one more
+pub stand_more : (codes : List (List ℕ)) (ps qs : List ℕ) (seen read : List (List ℕ)) (p : ℕ) (code : List ℕ) → StandAt codes ps seen
+    → slice_get codes p ≡ Some code → qs ≡ ps ++ p ∷ [] → read ≡ seen ++ code ∷ [] → StandAt codes qs read
+stand_more codes ps qs seen read p code e found more grown =
+    ap (map (slice_get codes)) more ∙ map-append (slice_get codes) ps (p ∷ [])
+    ∙ ap (λ (l : List (Option (List ℕ))). l ++ slice_get codes p ∷ []) e ∙ ap (λ (x : Option (List ℕ)). map Some seen ++ x ∷ []) found
+    ∙ sym (map-append Some seen (code ∷ [])) ∙ ap (map Some) (sym grown)
+
+-- a code at another position is none of them: in codes that rise each stands once
+pub fresh_code : (codes : List (List ℕ)) (ps : List ℕ) (seen : List (List ℕ)) (p : ℕ) (code : List ℕ) → Rise codes → StandAt codes ps seen
+    → slice_get codes p ≡ Some code → ((j : ℕ) → j < length ps → get_or ps j 0 ≢ p) → Finds seen (length seen) code None
+fresh_code codes ps seen p code rise e found fresh q h same =
+    let many : length ps ≡ length seen = sym (length-map ps (slice_get codes)) ∙ ap length e ∙ length-map seen Some in
+    let within : q < length ps = omega (arith, many, h) in
+    fresh q within (one_place codes (get_or ps q 0) p code rise (sym (at_position codes ps seen q e within) ∙ same) found)
 
 -- texts that test as different are
 pub differs : (a b : List ℕ) → not (bytes_eq a b) ≡ true → a ≡ b → ⊥

@@ -15,6 +15,7 @@ use crate::fields::{pieces, read_price, read_quota};
 use crate::lookup::{Coded, next_code, position_at, position_in};
 use crate::round::RoundParts;
 use crate::section::{SectionName, section_of};
+use arrayvec::ArrayVec;
 use spa::{
     Aim, Code, Guesses, Instance, InstanceFault, MOST_PROJECTS, MOST_STUDENTS, MOST_SUPERVISORS,
     Matching, PLACES, RANKS,
@@ -50,14 +51,16 @@ fn read_list(
         return Ok(None);
     }
     let mut list = Vec::with_capacity(alloc, fields.len())?;
+    let mut positions: ArrayVec<usize, RANKS> = ArrayVec::new();
     for field in fields {
         let Some(position) = position_at(projects, field, guesses.guess(field)) else {
             return Ok(None);
         };
-        if position_in(&list, field).is_some() {
+        if positions.contains(&position) {
             return Ok(None);
         }
         list.push(projects[position].0.copy())?;
+        positions.push(position);
     }
     Ok(Some(list))
 }
