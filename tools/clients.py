@@ -14,6 +14,8 @@ import subprocess
 import sys
 import tempfile
 
+from office import serving
+
 GET = b"GET /rounds/1 HTTP/1.1\r\n\r\n"
 SHUT, RESET = "shut", "reset"
 
@@ -77,12 +79,7 @@ def play(port, steps):
 
 def serve_clients(program, folder):
     """Serves all clients by one `serve`. Gives what went otherwise."""
-    with socket.socket() as free:
-        free.bind(("127.0.0.1", 0))
-        port = free.getsockname()[1]
-    words = [program, "serve", "school.db", str(port), str(len(CLIENTS))]
-    with subprocess.Popen(words, cwd=folder, stdout=subprocess.PIPE, text=True) as served:
-        served.stdout.readline()
+    with serving(program, "school.db", len(CLIENTS), cwd=folder) as (served, port):
         try:
             with socket.socket() as other:
                 if other.connect_ex(("127.0.0.2", port)) == 0:
@@ -96,8 +93,6 @@ def serve_clients(program, folder):
                 yield f"serve ended with {served.returncode}"
         except (OSError, EOFError, subprocess.TimeoutExpired) as error:
             yield f"a client that {name}: {error}"
-        finally:
-            served.kill()
 
 
 def run_lines(program, folder):

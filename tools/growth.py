@@ -9,20 +9,17 @@ and labels packed into one number. All must come to the same size and profile. T
 """
 import os
 import random
-import re
 import subprocess
 import sys
 import tempfile
 
 from families import owners, spread
+from office import TOP, counted
 
-HERE = os.path.dirname(os.path.abspath(__file__))
 SIZES = [60, 125, 250, 500]
 LINES = ["solve", "check"]
 WIDTH, HEIGHT, LEFT, RIGHT, BOTTOM, TOP = 420, 300, 36, 110, 44, 46
 COLOURS = {"plain Rust": "#b0552f", "packed": "#c8963e", "spadesk": "#1f5f8b"}
-# valgrind counts a copied block as one instruction a byte, unless the blocks are copied by words
-TUNABLES = "glibc.cpu.x86_rep_stosb_threshold=100000000:glibc.cpu.x86_rep_movsb_threshold=100000000"
 
 
 def round_text(students):
@@ -38,18 +35,10 @@ def round_text(students):
     return "\n".join(lines) + "\n"
 
 
-def counted(program, line, file):
-    """The instructions of a whole process, and what it prints."""
-    tool = ["valgrind", "--tool=cachegrind", "--cache-sim=no", "--cachegrind-out-file=/dev/null"]
-    env = {**os.environ, "GLIBC_TUNABLES": TUNABLES}
-    ran = subprocess.run([*tool, program, line, file], capture_output=True, text=True, env=env)
-    return int(re.search(r"I\s+refs:\s+([\d,]+)", ran.stderr).group(1).replace(",", "")), ran.stdout
-
-
 def plain_rust(folder):
     """The plain Rust program, compiled into a folder."""
     path = os.path.join(folder, "rounds")
-    subprocess.run(["rustc", "-O", "--edition", "2021", "-o", path, os.path.join(HERE, "beside", "rounds.rs")], check=True)
+    subprocess.run(["rustc", "-O", "--edition", "2021", "-o", path, os.path.join(TOP, "tools", "beside", "rounds.rs")], check=True)
     return path
 
 
@@ -65,13 +54,13 @@ def measured(programs, folder):
             out.write(round_text(students))
         results = set()
         for name, (path, solve) in programs.items():
-            count, text = counted(path, solve, file)
+            count, ran = counted(path, solve, file)
             found["solve", name].append((count - starts[path]) / 1e6)
             with open(solved, "w") as out:
-                out.write(text)
-            count, told = counted(path, "check", solved)
+                out.write(ran.stdout)
+            count, ran = counted(path, "check", solved)
             found["check", name].append((count - starts[path]) / 1e6)
-            results.add(told)
+            results.add(ran.stdout)
         if len(results) != 1:
             sys.exit(f"growth.py: {students} students: the programs differ: {sorted(results)}")
     return found

@@ -1,5 +1,5 @@
 #!/usr/bin/env python3
-"""Runs nginx with the snippet of the README in front of `spadesk serve`, and compares what comes through.
+"""Runs nginx with the snippet of docs/SERVING.md in front of `spadesk serve`, and compares what comes through.
 
 tools/nginx.py SPADESK [NGINX]     without NGINX the one of the PATH; where there is none it says so
 
@@ -8,7 +8,6 @@ users. The ports 8080 and 8081 must be free.
 """
 import base64
 import http.client
-import os
 import re
 import shutil
 import socket
@@ -17,15 +16,15 @@ import sys
 import tempfile
 import time
 
-TOP = os.path.dirname(os.path.dirname(os.path.abspath(__file__)))
+from office import read, serving
+
 USER = {"Authorization": "Basic " + base64.b64encode(b"keeper:secret").decode()}
 OWN, FOREIGN = {"Origin": "https://office.school.example"}, {"Origin": "https://other.example"}
 
 
 def config(folder):
     """The whole file of nginx around the snippet."""
-    with open(os.path.join(TOP, "README.md"), encoding="utf-8") as file:
-        snippet = re.search(r"```nginx\n(.*?)```", file.read(), re.S)[1]
+    snippet = re.search(r"```nginx\n(.*?)```", read("docs", "SERVING.md"), re.S)[1]
     snippet = re.sub(r" *ssl_certificate.*\n", "", snippet).replace("listen 443 ssl;", "listen 127.0.0.1:8081;")
     snippet = re.sub(r"(auth_basic_user_file +)\S+;", rf"\1{folder}/users;", snippet)
     paths = "".join(f"{it}_temp_path {folder}/{it};\n" for it in ("client_body", "proxy", "fastcgi", "uwsgi", "scgi"))
@@ -82,20 +81,19 @@ def main(program, nginx=shutil.which("nginx")):
     if nginx is None:
         print("there is no nginx here: the snippet was not tried")
         return
-    with tempfile.TemporaryDirectory() as folder, open(f"{folder}/served", "w+") as served:
+    with tempfile.TemporaryDirectory() as folder:
         for name, text in (("users", "keeper:{PLAIN}secret\n"), ("nginx.conf", config(folder))):
             with open(f"{folder}/{name}", "w") as file:
                 file.write(text)
-        running = [started(8080, program, "serve", f"{folder}/school.db", "8080", "1000000", stdout=served)]
-        try:
-            running.append(started(8081, nginx, "-p", folder, "-c", f"{folder}/nginx.conf"))
-            came = list(trials())
-        finally:
-            for it in running:
-                it.terminate()
-                it.wait(timeout=60)
-        served.seek(0)
-        lines = served.read().splitlines()[2:]
+        with serving(program, f"{folder}/school.db", 1_000_000, 8080) as (served, _):
+            front = started(8081, nginx, "-p", folder, "-c", f"{folder}/nginx.conf")
+            try:
+                came = list(trials())
+            finally:
+                front.terminate()
+                front.wait(timeout=60)
+                served.kill()
+            lines = served.stdout.read().splitlines()
     came.append((f"{len(lines)} connections", {line.split(": ")[1] for line in lines}, {"1 answers, closed"}))
     for name, told, wanted in came:
         print(f"{name}: {told}" + ("" if told == wanted else f", and not {wanted}"))

@@ -17,13 +17,11 @@ its schemas: what is refused for its form must not fit, and all else must. Ends 
 import json
 import os
 import re
-import shutil
-import socket
-import subprocess
 import sys
 import tempfile
 
-TOP = os.path.dirname(os.path.dirname(os.path.abspath(__file__)))
+from office import TOP, answered, copy, serving
+
 DOCUMENT = os.path.join(TOP, "docs", "openapi.yaml")
 
 # The refusals that no request brings about, and why.
@@ -225,34 +223,12 @@ def operations(document):
 # What the program answers.
 
 
-def free_port():
-    with socket.socket() as it:
-        it.bind(("127.0.0.1", 0))
-        return it.getsockname()[1]
-
-
-def answered(port, sent):
-    """What a connection is answered, once all was sent."""
-    with socket.create_connection(("127.0.0.1", port), timeout=60) as it:
-        it.sendall(sent)
-        it.shutdown(socket.SHUT_WR)
-        return b"".join(iter(lambda: it.recv(65536), b""))
-
-
 def served(program, database, streams):
     """What the program answers to connections, one after another, and ends."""
-    port = free_port()
-    with subprocess.Popen([program, "serve", database, str(port), str(len(streams))], stdout=subprocess.PIPE) as ran:
-        try:
-            if not ran.stdout.readline().startswith(b"listening"):
-                sys.exit("openapi.py: the program does not serve")
-            answers = [answered(port, stream) for stream in streams]
-            ran.communicate(timeout=60)
-        except BaseException:
-            ran.kill()
-            raise
-    if ran.returncode:
-        sys.exit(f"openapi.py: the program ends with {ran.returncode}")
+    with serving(program, database, len(streams)) as (ran, port):
+        answers = [answered(port, stream) for stream in streams]
+        if ran.wait(timeout=60):
+            sys.exit(f"openapi.py: the program ends with {ran.returncode}")
     return answers
 
 
@@ -264,15 +240,9 @@ class Offices:
 
     def copied(self, lines):
         """A database of one's own after these requests, each of which must be answered with success."""
-        name = os.path.join(self.folder, "copy.db")
-        for old in (name, f"{name}-wal"):
-            if os.path.exists(old):
-                os.remove(old)
-        if lines:
-            if lines not in self.made:
-                self.made[lines] = self.filled(lines, os.path.join(self.folder, f"office{len(self.made)}.db"))
-            shutil.copy(self.made[lines], name)
-        return name
+        if lines and lines not in self.made:
+            self.made[lines] = self.filled(lines, os.path.join(self.folder, f"office{len(self.made)}.db"))
+        return copy(self.made.get(lines), os.path.join(self.folder, "copy.db"))
 
     def filled(self, lines, name):
         streams = [b"".join(message(line) for line in lines[at : at + MOST_MESSAGES]) for at in range(0, len(lines), MOST_MESSAGES)]

@@ -19,7 +19,6 @@ import os
 import random
 import re
 import shutil
-import socket
 import sqlite3
 import subprocess
 import sys
@@ -27,6 +26,8 @@ import tempfile
 import time
 
 from nginx import started
+from office import copy, free_port, serving
+from sheets import guided
 
 TOP = os.path.dirname(os.path.dirname(os.path.abspath(__file__)))
 ELEMENT = "element-6066-11e4-a52e-4f735466cecf"
@@ -57,12 +58,6 @@ LEAVING = "const it = new Event('beforeunload', { cancelable: true }); dispatchE
 
 def ordinal(rank):
     return f"{rank}{({1: 'st', 2: 'nd', 3: 'rd'}).get(rank, 'th')}"
-
-
-def free_port():
-    with socket.socket() as it:
-        it.bind(("127.0.0.1", 0))
-        return it.getsockname()[1]
 
 
 PARTS = ("first_round", "term", "hostile", "refusals", "mistakes", "drawn", "greatest", "student")
@@ -235,11 +230,11 @@ class Trial:
 
     def serve(self, database):
         self.database = f"{self.folder}/{database}"
-        self.served = started(SERVICE, *self.program, "serve", self.database, str(SERVICE), "1000000", stdout=subprocess.DEVNULL)
+        self.served = contextlib.ExitStack()
+        self.served.enter_context(serving(self.program, self.database, 1_000_000, SERVICE, is_read=False))
 
     def stop(self):
-        self.served.terminate()
-        self.served.wait(60)
+        self.served.close()
 
     def anew(self, database):
         self.stop()
@@ -249,13 +244,8 @@ class Trial:
 
     def line(self, *words):
         """What a line prints, of a copy of the database and its log where it has one."""
-        copy = f"{self.folder}/copy.db"
-        for end in ("", "-wal"):
-            if os.path.exists(copy + end):
-                os.remove(copy + end)
-            if os.path.exists(self.database + end):
-                shutil.copy(self.database + end, copy + end)
-        return subprocess.run([*self.program, *(copy if it == "DB" else it for it in words)], capture_output=True, text=True).stdout
+        file = copy(self.database, f"{self.folder}/copy.db")
+        return subprocess.run([*self.program, *(file if it == "DB" else it for it in words)], capture_output=True, text=True).stdout
 
     def file(self, name, content):
         with open(f"{self.folder}/{name}", "wb") as file:
@@ -663,8 +653,8 @@ class Trial:
     def refusals(self):
         it = self.it
         guide = {
-            int(number): (name, *(re.sub(r"\[([^]]*)\]\([^)]*\)", r"\1", cell).replace("`", "") for cell in cells))
-            for number, name, *cells in re.findall(r"^\| (\d+) (\w+)[^|]*\| ([^|]+) \| ([^|]+) \|$", read("docs", "GUIDE.md"), re.M)
+            number: tuple(re.sub(r"\[([^]]*)\]\([^)]*\)", r"\1", cell).replace("`", "") for cell in cells)
+            for number, cells in guided(read("docs", "GUIDE.md")).items()
         }
         own = {int(number): tuple(row) for number, row in it.run("return REFUSALS").items()}
         self.check("the words of the guide", ({number for number in guide if own.get(number) != guide[number]}, len(own)), (OWN_WORDS, 30))
@@ -1171,7 +1161,8 @@ def main(*words):
             running.append(started(DRIVER, "chromedriver", f"--port={DRIVER}", stdout=subprocess.DEVNULL))
             trial.all(words[words.index("--only") + 1].split(",") if "--only" in words else PARTS)
         finally:
-            for it in (trial.served, *running):
+            trial.stop()
+            for it in running:
                 it.terminate()
                 it.wait(timeout=60)
     failed = [it for it in trial.came if it[1] != it[2]]

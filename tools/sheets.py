@@ -11,14 +11,21 @@ import csv
 import io
 import os
 import re
-import shutil
 import subprocess
 import sys
 import tempfile
 import time
 
+from office import copy
+
 TOP = os.path.dirname(os.path.dirname(os.path.abspath(__file__)))
 MOST = 50  # rows that are told: a sheet with more has one mistake many times
+
+
+def guided(text):
+    """Of each refusal in the text of the guide its name, what happened and what to do, by its number."""
+    rows = re.findall(r"^- \*\*(\d+) (\w+).*?\.\*\* (.*?) \*Do:\* (.*)$", re.sub(r"\n  +", " ", text), re.M)
+    return {int(number): cells for number, *cells in rows}
 
 
 def words():
@@ -26,18 +33,14 @@ def words():
     for path in (f"{TOP}/docs/GUIDE.md", f"{TOP}/../docs/GUIDE.md"):
         if os.path.exists(path):
             with open(path, encoding="utf-8") as file:
-                return {
-                    int(it[0]): f"{it[1]}. {it[2]} {it[3]}".replace("`", "")
-                    for it in re.findall(r"^\| (\d+) (\w+)[^|]*\| ([^|]+) \| ([^|]+) \|$", file.read(), re.M)
-                }
+                found = guided(file.read())
+            return {number: f"{name}. {what} {do}".replace("`", "") for number, (name, what, do) in found.items()}
     return {}
 
 
 def copied(database, folder):
     """A copy of the database, and of its log where it has one."""
-    for end in ("", "-wal"):
-        if os.path.exists(database + end):
-            shutil.copy(database + end, f"{folder}/office.db{end}")
+    copy(database, f"{folder}/office.db")
     if not os.listdir(folder):
         print(f"there is no {database}: the sheet is tried on an empty office")
 

@@ -2,8 +2,8 @@
 """Runs every command of the walkthroughs, and compares what it prints with what they show.
 
 tools/walkthrough.py SPADESK [--write] [TEXT..]     needs curl, jq and sqlite3
-tools/walkthrough.py                                only compares the texts of the test with those of the example, and finds names of what
-                                                    is not there (tools/named.py)
+tools/walkthrough.py                                only compares the texts of the test with those of the example, finds names of what
+                                                    is not there (tools/named.py), and what is hard to read (tools/pages.py)
 
 Each TEXT is one of WALKTHROUGHS, and without any all of them are run. The commands are the lines after a `$` in its console blocks;
 those of `rt`, which prove or build, stand in other blocks and are not run. Without any TEXT the snippet for nginx is tried too, and
@@ -21,7 +21,6 @@ import difflib
 import os
 import re
 import shutil
-import sqlite3
 import subprocess
 import sys
 import tempfile
@@ -30,8 +29,9 @@ import time
 import clients
 import named
 import nginx
+import pages
+from office import TOP, copy, line, read, rows
 
-TOP = os.path.dirname(os.path.dirname(os.path.abspath(__file__)))
 TEST = os.path.join(TOP, "crates", "trials", "src", "walkthrough.rt")
 FIRST = "examples/first-round/README.md"
 UNTESTED = "\n## Anyone can check it\n"
@@ -44,11 +44,6 @@ WALKTHROUGHS = {
     "examples/README.md": "examples",
     "examples/refusals/README.md": "examples/refusals",
 }
-
-
-def read(path):
-    with open(os.path.join(TOP, path), encoding="utf-8") as file:
-        return file.read()
 
 
 def shown_commands(text):
@@ -80,20 +75,13 @@ def compare_test():
         sys.exit("the test does not have:\n" + "\n".join(missing))
 
 
-def seen(folder, names, env):
-    """The reports of the office of these files, and the rows of its tables, each seen in a folder of its own."""
-    with tempfile.TemporaryDirectory() as told, tempfile.TemporaryDirectory() as read:
-        for name in names:
-            shutil.copy(os.path.join(folder, name), told)
-            shutil.copy(os.path.join(folder, name), read)
-        reports = []
-        for kind in ("profile", "loads", "unplaced", "placements"):
-            ran = subprocess.run(["spadesk", "report", "school.db", kind, "1"], cwd=told, env=env, capture_output=True, timeout=60)
-            reports.append((ran.stdout, ran.stderr, ran.returncode))
-        database = sqlite3.connect(os.path.join(read, "school.db"))
-        rows = [*database.execute("PRAGMA integrity_check"), *database.iterdump()]
-        database.close()
-    return reports, rows
+def seen(path, ends, env):
+    """The reports of the office of the files of a database with these ends, and the rows of its tables, each seen on a copy of its own."""
+    with tempfile.TemporaryDirectory() as folder:
+        dump = rows(copy(path, f"{folder}/looked.db", ends))
+        told = copy(path, f"{folder}/school.db", ends)
+        reports = [line("spadesk", f"report DB {kind} 1", told, env=env, timeout=60) for kind in ("profile", "loads", "unplaced", "placements")]
+    return [(ran.stdout, ran.stderr, ran.returncode) for ran in reports], dump
 
 
 class Shell:
@@ -131,7 +119,8 @@ class Shell:
         did not open the database."""
         if self.left or self.log() in (None, log):
             return
-        if seen(self.folder, ["school.db"], self.env) != seen(self.folder, ["school.db", "school.db-wal"], self.env):
+        path = f"{self.folder}/school.db"
+        if seen(path, [""], self.env) != seen(path, ["", "-wal"], self.env):
             sys.exit(f"after this a copy of the file alone is another office: {command}")
 
     def run(self, command):
@@ -180,7 +169,7 @@ def main(program=None, *words):
     is_written = "--write" in words
     if not is_written:
         compare_test()
-        if named.main():
+        if named.main() or pages.main():
             sys.exit(1)
     if program is None:
         return

@@ -7,15 +7,18 @@ Each row is what SPADESK takes, what the other program (peer.rs) takes with SQLi
 (`delete`), each commit synced in full, and the two ratios. All take their turn in each of ROUNDS (10), and the least counts. The
 databases lie in FOLDER, by default the one for temporary files: a disk that waits and one in memory give other ratios.
 """
+import contextlib
 import os
 import random
-import shutil
 import subprocess
 import sys
 import tempfile
 import time
 
 HERE = os.path.dirname(os.path.abspath(__file__))
+sys.path.append(os.path.join(HERE, ".."))
+from office import copy, serving
+
 MODES = ["wal", "delete"]
 
 
@@ -62,16 +65,13 @@ class School:
 
     def settle(self, name):
         """Keeps what stands now as one file, with nothing left in a log."""
-        for end in ["", "-wal"]:
-            if os.path.exists(self.path(f"school.db{end}")):
-                shutil.copy(self.path(f"school.db{end}"), self.path(f"{name}{end}"))
-        run("sqlite3", self.path(name), "PRAGMA wal_checkpoint(TRUNCATE); PRAGMA journal_mode = DELETE")
+        run("sqlite3", copy(self.path("school.db"), self.path(name)), "PRAGMA wal_checkpoint(TRUNCATE); PRAGMA journal_mode = DELETE")
 
     def copy(self, name, to):
-        for end in ["", "-wal", "-shm", "-journal"]:
+        for end in ["-shm", "-journal"]:
             if os.path.exists(self.path(f"{to}{end}")):
                 os.remove(self.path(f"{to}{end}"))
-        return shutil.copy(self.path(name), self.path(to))
+        return copy(self.path(name), self.path(to), [""])
 
 
 def lines(school, peer, rounds):
@@ -93,23 +93,17 @@ def lines(school, peer, rounds):
 def served(school, peer, rounds):
     """Requests over a socket, one after another and a hundred in one piece."""
     ports = {"own": 8481, "wal": 8482, "delete": 8483}
-    servers = []
-    for name, port in ports.items():
-        words = [str(port), "1000000"]
-        file = school.copy("round.db", f"{name}.db")
-        command = [school.program, "serve", file, *words] if name == "own" else [peer, "serve", file, *words, name]
-        servers.append(subprocess.Popen(command, stdout=subprocess.DEVNULL))
-    time.sleep(2)
-    try:
+    with contextlib.ExitStack() as servers:
+        for name, port in ports.items():
+            file = school.copy("round.db", f"{name}.db")
+            program, more = (school.program, []) if name == "own" else (peer, [name])
+            servers.enter_context(serving(program, file, 1_000_000, port, more, is_read=False))
         for method, times in [("GET", 2000), ("PUT", 500)]:
             for at_once, how in [(1, "one by one"), (100, "a hundred at once")]:
                 told = []
                 for _ in range(rounds):
                     told.append([int(run(peer, "ask", str(port), str(times), str(at_once), method)) for port in ports.values()])
                 row(f"{method}, {how}", told, times)
-    finally:
-        for server in servers:
-            server.kill()
 
 
 def row(what, told, times):

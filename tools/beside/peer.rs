@@ -69,9 +69,7 @@ impl Database {
 }
 
 impl Drop for Database {
-    fn drop(&mut self) {
-        unsafe { sqlite3_close_v2(self.0) };
-    }
+    fn drop(&mut self) { unsafe { sqlite3_close_v2(self.0) }; }
 }
 
 struct Statement(*mut c_void);
@@ -104,17 +102,11 @@ impl Statement {
         rows
     }
 
-    fn run(&self, values: &[Value]) {
-        self.rows(values, |_| ());
-    }
+    fn run(&self, values: &[Value]) { self.rows(values, |_| ()); }
 
-    fn number(&self, at: c_int) -> i64 {
-        unsafe { sqlite3_column_int64(self.0, at) }
-    }
+    fn number(&self, at: c_int) -> i64 { unsafe { sqlite3_column_int64(self.0, at) } }
 
-    fn text(&self, at: c_int) -> String {
-        unsafe { CStr::from_ptr(sqlite3_column_text(self.0, at)) }.to_str().unwrap().to_string()
-    }
+    fn text(&self, at: c_int) -> String { unsafe { CStr::from_ptr(sqlite3_column_text(self.0, at)) }.to_str().unwrap().to_string() }
 }
 
 // ---- Serving ----
@@ -130,7 +122,8 @@ impl Students {
     fn of(db: &Database) -> Students {
         Students {
             label: db.prepare("SELECT label FROM student WHERE code = ?1"),
-            list: db.prepare("SELECT project FROM round CROSS JOIN choice12 ON round = number WHERE open = 1 AND student = ?1 ORDER BY place"),
+            list: db
+                .prepare("SELECT project FROM round CROSS JOIN choice12 ON round = number WHERE open = 1 AND student = ?1 ORDER BY place"),
             placed: db.prepare("SELECT project, rank, round FROM placement12 WHERE student = ?1"),
             put: db.prepare("INSERT INTO student VALUES (?1, ?2) ON CONFLICT (code) DO UPDATE SET label = ?2"),
         }
@@ -167,10 +160,7 @@ impl Students {
                 let mut words = text.split(' ');
                 let (method, path) = (words.next().unwrap(), words.next().unwrap());
                 let (status, body) = self.answer(method, path.rsplit('/').next().unwrap(), &body);
-                let answer = format!(
-                    "HTTP/1.1 {status}\r\nContent-Type: application/json\r\nContent-Length: {}\r\n\r\n{body}",
-                    body.len()
-                );
+                let answer = format!("HTTP/1.1 {status}\r\nContent-Type: application/json\r\nContent-Length: {}\r\n\r\n{body}", body.len());
                 stream.write_all(answer.as_bytes()).unwrap();
                 buffer.drain(..head + length);
             }
@@ -275,17 +265,13 @@ impl Weight {
 impl Add for Weight {
     type Output = Weight;
 
-    fn add(self, other: Weight) -> Weight {
-        Weight(std::array::from_fn(|i| self.0[i] + other.0[i]))
-    }
+    fn add(self, other: Weight) -> Weight { Weight(std::array::from_fn(|i| self.0[i] + other.0[i])) }
 }
 
 impl Sub for Weight {
     type Output = Weight;
 
-    fn sub(self, other: Weight) -> Weight {
-        Weight(std::array::from_fn(|i| self.0[i] - other.0[i]))
-    }
+    fn sub(self, other: Weight) -> Weight { Weight(std::array::from_fn(|i| self.0[i] - other.0[i])) }
 }
 
 fn weight(rank: usize) -> Weight {
@@ -419,9 +405,7 @@ impl Flow {
 }
 
 /// The positions of codes.
-fn positions(codes: &[String]) -> HashMap<&str, usize> {
-    codes.iter().enumerate().map(|(i, code)| (code.as_str(), i)).collect()
-}
+fn positions(codes: &[String]) -> HashMap<&str, usize> { codes.iter().enumerate().map(|(i, code)| (code.as_str(), i)).collect() }
 
 fn close(db: &Database) {
     db.run("BEGIN");

@@ -18,11 +18,7 @@ const RANKS: usize = match option_env!("RANKS") {
     None => 12,
 };
 const fn number(text: &[u8], at: usize, n: usize) -> usize {
-    if at == text.len() {
-        n
-    } else {
-        number(text, at + 1, 10 * n + (text[at] - b'0') as usize)
-    }
+    if at == text.len() { n } else { number(text, at + 1, 10 * n + (text[at] - b'0') as usize) }
 }
 const NP: usize = RANKS + 1;
 
@@ -56,18 +52,14 @@ impl Sub for Lex {
     }
 }
 impl Worth for Lex {
-    fn zero() -> Lex {
-        Lex([0; NP])
-    }
+    fn zero() -> Lex { Lex([0; NP]) }
     fn weight(generous: bool, rank: usize) -> Lex {
         let mut r = [0; NP];
         r[0] = 1;
         r[rank + 1] = 1;
         Lex(as_read(generous, r))
     }
-    fn places(self, generous: bool) -> [i64; NP] {
-        as_read(generous, self.0)
-    }
+    fn places(self, generous: bool) -> [i64; NP] { as_read(generous, self.0) }
 }
 /// A row as the aim reads it, and once more, which gives the row again.
 fn as_read(generous: bool, row: [i64; NP]) -> [i64; NP] {
@@ -86,20 +78,14 @@ struct Packed(i128);
 const BITS: usize = 10;
 impl Add for Packed {
     type Output = Packed;
-    fn add(self, o: Packed) -> Packed {
-        Packed(self.0 + o.0)
-    }
+    fn add(self, o: Packed) -> Packed { Packed(self.0 + o.0) }
 }
 impl Sub for Packed {
     type Output = Packed;
-    fn sub(self, o: Packed) -> Packed {
-        Packed(self.0 - o.0)
-    }
+    fn sub(self, o: Packed) -> Packed { Packed(self.0 - o.0) }
 }
 impl Worth for Packed {
-    fn zero() -> Packed {
-        Packed(0)
-    }
+    fn zero() -> Packed { Packed(0) }
     fn weight(generous: bool, rank: usize) -> Packed {
         Packed(Lex::weight(generous, rank).0[..RANKS].iter().fold(0, |sum, place| (sum << BITS) + *place as i128))
     }
@@ -254,16 +240,8 @@ impl<'a, G: Worth> Network<'a, G> {
             via: vec![0; nl],
         }
     }
-    fn full(&self, p: usize) -> bool {
-        self.inside[p].len() as u32 >= self.r.projects[p].2
-    }
-    fn price(&self, p: usize) -> G {
-        if self.full(p) {
-            self.price[p]
-        } else {
-            self.z[self.r.projects[p].1]
-        }
-    }
+    fn full(&self, p: usize) -> bool { self.inside[p].len() as u32 >= self.r.projects[p].2 }
+    fn price(&self, p: usize) -> G { if self.full(p) { self.price[p] } else { self.z[self.r.projects[p].1] } }
     fn admit(&mut self, s0: usize) {
         let np = self.r.projects.len();
         let zero = G::zero();

@@ -6,7 +6,7 @@ tools/disk/sweep.py SPADESK --of FILE FIRST LAST EACH [MODE..]
 
 The rows are LINES, by their numbers from 1; without a number all are swept. Some begin with a file of the first edition or the second,
 which the line raises. With --of a report over a copy of FILE is swept instead, at each EACH-th of its calls from FIRST to LAST, in these
-MODES, or all, with steps of the sizes EACH times as large. Over the file that tools/largest.py makes it has 4,200 calls, of which the
+MODES, or all, with steps of the sizes EACH times as large. Over the file that tools/oldest_full_file.py makes it has 4,200 calls, of which the
 last five of the 1,740 before what is printed commit what is raised; a run takes up to some seconds. Two lines are served, at one port, so
 sweeps of LINES are not run side by side.
 
@@ -34,9 +34,8 @@ from collections import Counter
 
 HERE = os.path.dirname(os.path.abspath(__file__))
 sys.path.append(os.path.join(HERE, ".."))
-from editions import FIRST_EDITION, SECOND_EDITION
+from office import FIRST_EDITION, FIRST_ROUND, SECOND_EDITION, Bench, alter
 
-EXAMPLE = os.path.join(HERE, "..", "..", "examples", "first-round")
 PORT = 18081
 PUT = ["-X", "PUT", "-d", '{"choices":["SYMMETRY","CIPHER"]}', f"http://127.0.0.1:{PORT}/lists/S16"]
 REOPEN = ["-X", "POST", f"http://127.0.0.1:{PORT}/rounds/reopen"]
@@ -44,11 +43,7 @@ REOPEN = ["-X", "POST", f"http://127.0.0.1:{PORT}/rounds/reopen"]
 GENEROUS = "DELETE FROM placement12; UPDATE round SET open = 1; UPDATE round_aim SET generous = 1;"
 # the words, the request over the one connection that the line serves, and what is done to the file before
 LINES = [
-    ("import DB supervisors I1 supervisors.csv", None, ""),
-    ("import DB projects I2 projects.csv", None, ""),
-    ("import DB students I3 students.csv", None, ""),
-    ("open-round DB", None, ""),
-    ("import DB lists I4 lists.csv", None, ""),
+    *((words, None, "") for words in FIRST_ROUND[:-1]),
     (f"serve DB {PORT} 1", PUT, ""),
     ("close-round DB", None, ""),
     ("close-round DB", None, ""),
@@ -71,17 +66,14 @@ def limited(size):
     resource.setrlimit(resource.RLIMIT_FSIZE, (size, size))
 
 
-class Sweep:
+class Sweep(Bench):
     def __init__(self, program, folder):
-        self.program, self.folder, self.runs, self.offices = os.path.abspath(program), folder, 0, {}
-        self.library = os.path.join(folder, "fail.so")
-        subprocess.run(["gcc", "-O2", "-shared", "-fPIC", "-o", self.library, os.path.join(HERE, "fail.c"), "-ldl"], check=True)
-        for name in os.listdir(EXAMPLE):
-            shutil.copy(os.path.join(EXAMPLE, name), folder)
+        super().__init__(program, folder, os.path.join(HERE, "fail.c"))
+        self.runs, self.offices = 0, {}
 
     def line(self, words, request=None, mode="", at=0, size=None):
         """What a line prints on both, its status, and what the one connection that it may serve is answered."""
-        counted = os.path.join(self.folder, "counted")
+        counted = self.at("counted")
         kind, _, fault = mode.partition("-")
         env = {**os.environ, "LD_PRELOAD": self.library, "MODE": kind, "FAULT": fault, "AT": str(at), "COUNTED": counted if size is None else ""}
         how = {"cwd": self.folder, "env": env, "stdout": subprocess.PIPE, "stderr": subprocess.PIPE, "text": True}
@@ -95,19 +87,11 @@ class Sweep:
             out, err = it.communicate(timeout=600)
         return first + out, err, it.returncode, answer
 
-    def copy(self, start, to, ends=("", "-wal")):
-        for end in ["", "-wal"]:
-            path = os.path.join(self.folder, to + end)
-            if os.path.exists(path):
-                os.remove(path)
-            if start and end in ends and os.path.exists(os.path.join(self.folder, start + end)):
-                shutil.copy(os.path.join(self.folder, start + end), path)
-
     def digest(self, name):
         """The bytes of a database's files, in short, but for a log that holds no change and has a salt of its own."""
         digest = hashlib.sha256()
         for end in ("", "-wal"):
-            path = os.path.join(self.folder, name + end)
+            path = self.at(name + end)
             if os.path.exists(path) and (not end or os.path.getsize(path) > EMPTY_LOG):
                 with open(path, "rb") as file:
                     digest.update(hashlib.sha256(file.read()).digest() + end.encode())
@@ -115,7 +99,7 @@ class Sweep:
 
     def rows(self):
         """The rows of the database that is looked at, in short; no text where SQLite finds no database."""
-        dump = subprocess.run(["sqlite3", os.path.join(self.folder, "looked.db"), "PRAGMA integrity_check", ".dump"], capture_output=True)
+        dump = subprocess.run(["sqlite3", self.at("looked.db"), "PRAGMA integrity_check", ".dump"], capture_output=True)
         return dump.stdout and hashlib.sha256(dump.stdout).hexdigest()
 
     def office(self, name, ends=("", "-wal")):
@@ -129,11 +113,6 @@ class Sweep:
             report = self.line("report looked.db placements 1")
             self.offices[files] = stood, (self.rows(), report)
         return self.offices[files]
-
-    def alter(self, start, sql):
-        """Does this to a database."""
-        if sql:
-            subprocess.run(["sqlite3", os.path.join(self.folder, start), sql], check=True)
 
     def judge(self, row, came, is_behind):
         """What came of a run, in a word; else an end."""
@@ -172,8 +151,7 @@ class Sweep:
         # SQLite takes a new file that is not yet whole for no database
         before = [stood, opened[0]] if start else [stood, opened[0], b""], opened
         undisturbed = self.line(told, request)
-        with open(os.path.join(self.folder, "counted"), encoding="utf-8") as file:
-            first, last = map(int, file.read().split())
+        first, last = self.counted()
         after = self.office("swept.db")
         self.copy("swept.db", "after.db")
         if self.office("after.db", [""]) != after:
@@ -199,7 +177,8 @@ class Sweep:
         """Sweeps the lines of these numbers, or all, each over what the one before it leaves."""
         start = None
         for number, (words, request, sql) in enumerate(LINES, 1):
-            self.alter(start, sql)
+            if sql:
+                alter(self.at(start), sql)
             if not numbers or str(number) in numbers:
                 self.of(start, words, request)
             self.copy(start, "after.db")
@@ -209,7 +188,7 @@ class Sweep:
 
     def file(self, path, begin, end, each, *modes):
         """Sweeps a report over a copy of a file."""
-        shutil.copy(path, os.path.join(self.folder, "file.db"))
+        shutil.copy(path, self.at("file.db"))
         self.of("file.db", "report DB loads 1", None, (int(begin), int(end), int(each)), modes or (*MODES, "size"))
 
 

@@ -10,25 +10,18 @@ from before are those of the file as it stood, or as it is once it was opened: w
 database error (`refused 2`) or damage (`refused 30`) is never the word for want of memory.
 """
 import os
-import shutil
 import subprocess
 import sys
 import tempfile
 
 HERE = os.path.dirname(os.path.abspath(__file__))
 sys.path.append(os.path.join(HERE, ".."))
-from editions import FIRST_EDITION
+from office import FIRST_EDITION, FIRST_ROUND, Bench, alter, rows
 
-EXAMPLE = os.path.join(HERE, "..", "..", "examples", "first-round")
 OUT_OF_MEMORY = ("", "refused 1: Memory\n", 1)
 # the words, and what is done to the file before
 LINES = [
-    ("import DB supervisors I1 supervisors.csv", ""),
-    ("import DB projects I2 projects.csv", ""),
-    ("import DB students I3 students.csv", ""),
-    ("open-round DB", ""),
-    ("import DB lists I4 lists.csv", ""),
-    ("close-round DB", ""),
+    *((words, "") for words in FIRST_ROUND),
     ("report DB placements 1", ""),
     ("reopen-round DB", ""),
     ("close-round DB", FIRST_EDITION),
@@ -36,40 +29,21 @@ LINES = [
 ]
 
 
-class Sweep:
+class Sweep(Bench):
     def __init__(self, program, folder, most):
-        self.program, self.folder, self.most = os.path.abspath(program), folder, most
-        self.library = os.path.join(folder, "refuse.so")
-        subprocess.run(["gcc", "-O2", "-shared", "-fPIC", "-o", self.library, os.path.join(HERE, "refuse.c"), "-ldl"], check=True)
-        for name in os.listdir(EXAMPLE):
-            shutil.copy(os.path.join(EXAMPLE, name), folder)
+        super().__init__(program, folder, os.path.join(HERE, "refuse.c"))
+        self.most = most
 
     def line(self, words, refuse=None):
         """What a line prints on both, and its status; with one allocation refused where a number is given."""
         env = dict(os.environ)
         if refuse is not None:
-            env |= {"LD_PRELOAD": self.library, "REFUSE": str(refuse), "COUNTED": os.path.join(self.folder, "counted")}
+            env |= {"LD_PRELOAD": self.library, "REFUSE": str(refuse), "COUNTED": self.at("counted")}
         ran = subprocess.run([self.program, *words.split()], cwd=self.folder, env=env, capture_output=True, text=True)
         return ran.stdout, ran.stderr, ran.returncode
 
-    def copy(self, start, to):
-        for end in ["", "-wal"]:
-            path = os.path.join(self.folder, to + end)
-            if os.path.exists(path):
-                os.remove(path)
-            if start and os.path.exists(os.path.join(self.folder, start + end)):
-                shutil.copy(os.path.join(self.folder, start + end), path)
-
     def rows(self, name):
-        """The rows of a database, whatever stands in its log."""
-        self.copy(name, "looked.db")
-        dump = subprocess.run(["sqlite3", os.path.join(self.folder, "looked.db"), ".dump"], capture_output=True, text=True)
-        return [row for row in dump.stdout.splitlines() if row.startswith("INSERT")]
-
-    def alter(self, start, sql):
-        """Does this to a database."""
-        if sql:
-            subprocess.run(["sqlite3", os.path.join(self.folder, start), sql], check=True)
+        return rows(self.at(name))
 
     def of(self, start, words):
         """Sweeps a line over the database that stands in `start`, or a new one, and makes it the next start."""
@@ -81,8 +55,7 @@ class Sweep:
         self.copy(start, "swept.db")
         undisturbed = self.line(told, 0)
         after = self.rows("swept.db") if "DB" in words else []
-        with open(os.path.join(self.folder, "counted"), encoding="utf-8") as file:
-            count = int(file.read())
+        (count,) = self.counted()
         numbers = range(1, count + 1) if count <= self.most else [1 + n * count // self.most for n in range(self.most)]
         refused = 0
         for number in numbers:
@@ -102,7 +75,8 @@ def main(program, most="400"):
         sweep = Sweep(program, folder, int(most))
         start = None
         for n, (words, sql) in enumerate(LINES):
-            sweep.alter(start, sql)
+            if sql:
+                alter(sweep.at(start), sql)
             sweep.of(start, words)
             start = f"step{n}.db"
             sweep.copy("swept.db", "last.db")

@@ -1,7 +1,7 @@
 #!/usr/bin/env python3
 """Compares `check` of the program with tools/check_round.py on a thousand round texts.
 
-tools/agree.py SPADESK [TEXTS [SEED]]
+tools/second_checker.py SPADESK [TEXTS [SEED]]
 
 Each text is a small round, greedy or generous, that the program has solved. Of four texts one stays as it is; in one the aim, a price,
 a pair, a quota or a list is changed; and in two a line stands twice, changes places with another, is missing, or is one of another text.
@@ -93,7 +93,7 @@ def main(program, texts="1000", seed="1"):
             words = answer.split()
             kinds[words[0] if words[0] == "best" else "bad line" if words[0] == "bad" else " ".join(words[:2])] += 1
         else:
-            sys.exit(f"agree.py: the program tells {answer!r} and check_round.py {checked(text)!r} of\n{text}")
+            sys.exit(f"second_checker.py: the program tells {answer!r} and check_round.py {checked(text)!r} of\n{text}")
     print(", ".join(f"{kinds[kind]} {kind}" for kind in sorted(kinds)))
 
 

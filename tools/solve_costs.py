@@ -1,17 +1,17 @@
 #!/usr/bin/env python3
 """What `solve FILE` takes by each aim, beside plain Rust with labels that are rows of numbers, and with labels packed into one number.
 
-tools/generous.py SPADESK FILE..     needs rustc and valgrind
+tools/solve_costs.py SPADESK FILE..     needs rustc and valgrind
 
 Each FILE is a round text without an aim, such as `tools/families.py` writes. Instructions are counted in millions, the start of the
 process taken off. All must come to the same size and profile, and the program must accept what plain Rust has found.
 """
 import os
-import subprocess
 import sys
 import tempfile
 
-from growth import counted, plain_rust
+from growth import plain_rust
+from office import counted, line
 
 AIMS = {"greedy": "", "generous": "A,generous\n"}
 
@@ -21,7 +21,7 @@ def best(program, folder, text):
     file = os.path.join(folder, "solved")
     with open(file, "w") as out:
         out.write(text)
-    return subprocess.run([program, "check", file], capture_output=True, text=True).stdout
+    return line(program, "check DB", file).stdout
 
 
 def main():
@@ -40,12 +40,12 @@ def main():
                 with open(file) as text, open(round_text, "w") as out:
                     out.write(front + text.read())
                 counts, told = [], set()
-                for path, line in lines:
-                    count, solved = counted(path, line, round_text)
+                for path, word in lines:
+                    count, ran = counted(path, word, round_text)
                     counts.append((count - starts[path]) / 1e6)
-                    told.add(best(program, folder, solved))
+                    told.add(best(program, folder, ran.stdout))
                 if len(told) != 1 or not told.pop().startswith("best"):
-                    sys.exit(f"generous.py: {file}: the programs differ")
+                    sys.exit(f"solve_costs.py: {file}: the programs differ")
                 ours, rows, packed = counts
                 name = os.path.basename(file)
                 print(f"{name:16} {aim:9} {ours:8.2f} {rows:8.2f} {ours / rows:6.2f} {packed:8.2f} {ours / packed:6.2f}")

@@ -1,20 +1,16 @@
 #!/usr/bin/env python3
 """Counted instructions of a preview and of a list, with a kept session and without, and how the instance of a round grows.
 
-tools/session.py SPADESK     needs valgrind
+tools/session_costs.py SPADESK     needs valgrind
 
 The program serves streams at the limits: 100 supervisors, 300 projects and 500 students, of whom 498 have a list. Each figure is
 the difference of two streams that differ in their last message; of lists it is the second that is put. A round text is the instance
 of the open round, written; at 250 students there are half as many supervisors, projects and lists.
 """
 import random
-import re
-import subprocess
 import sys
 
-
-def message(method, path, body=""):
-    return f"{method} {path} HTTP/1.1\r\nContent-Length: {len(body)}\r\n\r\n{body}"
+from office import counted, message
 
 
 def school(size=500):
@@ -36,14 +32,12 @@ def school(size=500):
     ]
 
 
-def counted(program, messages):
+def costs(program, messages):
     """How many instructions the program takes to serve these messages, each of which must be answered with success."""
-    tool = ["valgrind", "--tool=cachegrind", "--cache-sim=no", "--cachegrind-out-file=/dev/null", program]
-    ran = subprocess.run(tool, input="".join(messages).encode(), capture_output=True, check=True)
-    answers = ran.stdout.decode()
-    if answers.count("HTTP/1.1 200 OK") != len(messages):
+    count, ran = counted(program, input=b"".join(messages), text=False, check=True)
+    if ran.stdout.count(b"HTTP/1.1 200 OK") != len(messages):
         sys.exit(f"not all of {len(messages)} messages were answered with success")
-    return int(re.search(r"I\s+refs:\s+([\d,]+)", ran.stderr.decode())[1].replace(",", ""))
+    return count
 
 
 def main(program):
@@ -51,13 +45,13 @@ def main(program):
     preview = message("GET", "/preview")
     choices = ",".join(f'"P{n}"' for n in range(1, 13))
     puts = [message("PUT", f"/lists/S{n}", f'{{"choices":[{choices}]}}') for n in (498, 499)]
-    start = counted(program, base)
-    first = counted(program, [*base, preview])
-    second = counted(program, [*base, preview, preview])
-    alone = counted(program, [*base, *puts]) - counted(program, [*base, puts[0]])
-    joined = counted(program, [*base, preview, *puts]) - counted(program, [*base, preview, puts[0]])
+    start = costs(program, base)
+    first = costs(program, [*base, preview])
+    second = costs(program, [*base, preview, preview])
+    alone = costs(program, [*base, *puts]) - costs(program, [*base, puts[0]])
+    joined = costs(program, [*base, preview, *puts]) - costs(program, [*base, preview, puts[0]])
     text = message("GET", "/roundtext")
-    half, whole = (counted(program, [*school(size), text, text]) - counted(program, [*school(size), text]) for size in (250, 500))
+    half, whole = (costs(program, [*school(size), text, text]) - costs(program, [*school(size), text]) for size in (250, 500))
     print(f"preview without a session {first - start}")
     print(f"preview with a session    {second - first}  {(second - first) / (first - start):.4f}")
     print(f"list without a session    {alone}")

@@ -1,7 +1,7 @@
 #!/usr/bin/env python3
 """Tells what the proof of each function weighs: the bytes that the prover keeps of it.
 
-    tools/sizes.py CRATE [COUNT]    after `rt check` in the crate's folder
+    tools/proof_sizes.py CRATE [COUNT]    after `rt check` in the crate's folder
 
 Seconds differ from machine to machine, and from hour to hour on one; these bytes do not, and a check's seconds mostly go with them.
 The sum first, then the COUNT heaviest functions (30 where it is left out), and how much of each is of its paths: of its calls,

@@ -1,7 +1,7 @@
 #!/usr/bin/env python3
 """Runs the tests of refused memory with each of their requests for memory refused in turn: that request alone, and it with all behind it.
 
-tools/memory/every.py [PROGRAM]     needs gcc; PROGRAM is crates/sweeps/out/sweeps_tests, as `rt test` builds it
+tools/memory/refuse_each_in_tests.py [PROGRAM]     needs gcc; PROGRAM is crates/sweeps/out/sweeps_tests, as `rt test` builds it
 
 The tests themselves judge what comes; by the system's allocator each row of theirs runs undisturbed. Printed are the runs of each row,
 and in how many of them a request was refused.
@@ -12,7 +12,10 @@ import sys
 import tempfile
 
 HERE = os.path.dirname(os.path.abspath(__file__))
-PROGRAM = os.path.join(HERE, "..", "..", "crates", "sweeps", "out", "sweeps_tests")
+sys.path.append(os.path.join(HERE, ".."))
+from office import TOP, preloaded
+
+PROGRAM = os.path.join(TOP, "crates", "sweeps", "out", "sweeps_tests")
 TESTS = [
     "refused::a_desk_is_opened_or_refused_for_want_of_memory",
     "refused::what_is_refused_memory_is_made_when_it_is_asked_again",
@@ -31,8 +34,7 @@ def sweep(program, library, test, counted, lasts):
 
 def main(program=PROGRAM):
     with tempfile.TemporaryDirectory() as folder:
-        library, counted = os.path.join(folder, "listen.so"), os.path.join(folder, "counted")
-        subprocess.run(["gcc", "-O2", "-shared", "-fPIC", "-o", library, os.path.join(HERE, "listen.c")], check=True)
+        library, counted = preloaded(os.path.join(HERE, "listen.c"), folder), os.path.join(folder, "counted")
         for test in TESTS:
             for lasts in (False, True):
                 rows = sweep(os.path.abspath(program), library, test, counted, lasts)

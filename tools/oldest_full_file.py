@@ -1,7 +1,7 @@
 #!/usr/bin/env python3
 """Makes a file of the first edition at all limits, tells what raising it takes, and compares its reports from before and after.
 
-tools/largest.py SPADESK FOLDER [OLDER]     needs valgrind
+tools/oldest_full_file.py SPADESK FOLDER [OLDER]     needs valgrind
 
 FOLDER/largest.db has 100 supervisors, 400 projects, 500 students, who list eight projects in each of twelve closed rounds, 400 placements
 by the last of them, and 200 imports of 2,000 bytes. FOLDER/second.db is the same office in the second edition, and FOLDER/raised.db in the
@@ -11,21 +11,17 @@ must OLDER, an older program, over a copy of the first.
 """
 import os
 import random
-import re
-import shutil
 import sqlite3
 import statistics
-import subprocess
 import sys
 import tempfile
 import time
 from contextlib import closing
 
-from editions import FIRST_EDITION, SECOND_EDITION
+from office import FIRST_EDITION, SECOND_EDITION, alter, copy, counted, line
 
 SUPERVISORS, PROJECTS, STUDENTS, ROUNDS, PLACES, IMPORTS, BYTES = 100, 400, 500, 12, 8, 200, 2000
 REPORTS = [f"loads {ROUNDS}", f"placements {ROUNDS}", "unplaced 1", f"unplaced {ROUNDS}"]
-COUNTED = ["valgrind", "--tool=cachegrind", "--cache-sim=no", "--cachegrind-out-file=/dev/null"]
 
 
 def listed(draw, student):
@@ -56,50 +52,49 @@ def fill(file):
     file.executemany("INSERT INTO import VALUES (?, 'lists', ?, 10)", [(f"I{n:03}", draw.randbytes(BYTES)) for n in range(IMPORTS)])
 
 
-def ran(program, path, report, tool=()):
-    """A report over a file, and its seconds."""
-    begun = time.monotonic()
-    it = subprocess.run([*tool, program, "report", path, *report.split()], capture_output=True, text=True, check=True)
-    return it, time.monotonic() - begun
+def report(program, path, words):
+    """What a report over a file prints."""
+    return line(program, f"report DB {words}", path, check=True).stdout
 
 
-def over_copy(program, start, report, tool=()):
-    """The same over a copy of the file."""
+def over_copy(start, what):
+    """What comes of a copy of the file."""
     with tempfile.TemporaryDirectory() as folder:
-        return ran(program, shutil.copy(start, folder), report, tool)
+        return what(copy(start, os.path.join(folder, "copy.db")))
+
+
+def seconds(program, path):
+    begun = time.monotonic()
+    report(program, path, REPORTS[0])
+    return time.monotonic() - begun
 
 
 def files(program, folder):
     """Makes the file in each edition."""
     first, second, raised = (os.path.join(folder, name) for name in ("largest.db", "second.db", "raised.db"))
-    for path in (first, second, raised):
-        for end in ("", "-wal"):
-            if os.path.exists(path + end):
-                os.remove(path + end)
-    subprocess.run([program, "open-round", first], stdout=subprocess.DEVNULL, check=True)
+    copy(None, first)
+    line(program, "open-round DB", first, check=True)
+    alter(first, FIRST_EDITION + "DELETE FROM round;")
     with closing(sqlite3.connect(first)) as file:
-        file.executescript(FIRST_EDITION + "DELETE FROM round;")
         fill(file)
         file.commit()
-    ran(program, shutil.copy(first, raised), REPORTS[0])
-    shutil.copy(raised, second)
-    with closing(sqlite3.connect(second)) as file:
-        file.executescript(SECOND_EDITION)
+    report(program, copy(first, raised), REPORTS[0])
+    alter(copy(raised, second), SECOND_EDITION)
     return first, second, raised
 
 
 def main(program, folder, older=None):
     first, second, raised = files(program, folder)
-    for report in REPORTS:
-        told = ran(program, raised, report)[0].stdout
-        texts = [over_copy(by, start, report)[0].stdout for by, start in ((program, first), (program, second), (older, first)) if by]
-        if any(text != told for text in texts):
-            sys.exit(f"{report}: other bytes by a line that raises the file, or by the older program")
-        print(f"{report:13} {len(told):6} bytes, the same {len(texts) + 1} times", flush=True)
+    for words in REPORTS:
+        told = report(program, raised, words)
+        pairs = [(by, start) for by, start in ((program, first), (program, second), (older, first)) if by]
+        if any(over_copy(start, lambda path, by=by: report(by, path, words)) != told for by, start in pairs):
+            sys.exit(f"{words}: other bytes by a line that raises the file, or by the older program")
+        print(f"{words:13} {len(told):6} bytes, the same {len(pairs) + 1} times", flush=True)
     for what, start in (("raised and reported on", first), ("reported on", raised)):
-        counted = re.search(r"I\s+refs:\s+([\d,]+)", over_copy(program, start, REPORTS[0], COUNTED)[0].stderr)[1]
-        seconds = statistics.median(over_copy(program, start, REPORTS[0])[1] for _ in range(5))
-        print(f"{what:22} {counted:>15} instructions, {seconds:.2f} s", flush=True)
+        count = over_copy(start, lambda path: counted(program, "report", path, *REPORTS[0].split(), check=True)[0])
+        median = statistics.median(over_copy(start, lambda path: seconds(program, path)) for _ in range(5))
+        print(f"{what:22} {count:>15,} instructions, {median:.2f} s", flush=True)
 
 
 if __name__ == "__main__":
