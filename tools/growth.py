@@ -4,8 +4,8 @@
 tools/growth.py SPADESK > docs/growth.svg     needs rustc and valgrind
 
 Instructions are counted, the start of the process taken off. The round of N students has N/5 supervisors and 4N/5 projects, lists of
-twelve drawn evenly, and room for each student; what `solve` prints is what `check` reads. Plain Rust has labels that are rows of numbers,
-and labels packed into one number. All must come to the same size and profile. The counts also go to standard error.
+twelve drawn evenly, and room for each student; what `solve` prints is what `check` reads. Both must come to the same size and profile. The
+counts also go to standard error.
 """
 import os
 import random
@@ -19,7 +19,7 @@ from office import TOP, counted
 SIZES = [60, 125, 250, 500]
 LINES = ["solve", "check"]
 WIDTH, HEIGHT, LEFT, RIGHT, BOTTOM, TOP = 420, 300, 36, 110, 44, 46
-COLOURS = {"plain Rust": "#b0552f", "packed": "#c8963e", "spadesk": "#1f5f8b"}
+COLOURS = {"plain Rust": "#b0552f", "spadesk": "#1f5f8b"}
 
 
 def round_text(students):
@@ -43,18 +43,18 @@ def plain_rust(folder):
 
 
 def measured(programs, folder):
-    """By line and name, the millions of instructions at each size. A name has its program and the line that solves."""
+    """By command and name, the millions of instructions at each size."""
     empty = os.path.join(folder, "empty")
     open(empty, "w").close()
-    starts = {path: counted(path, "solve", empty)[0] for path, _ in programs.values()}
+    starts = {path: counted(path, "solve", empty)[0] for path in programs.values()}
     found = {(line, name): [] for line in LINES for name in programs}
     for students in SIZES:
         file, solved = os.path.join(folder, "round"), os.path.join(folder, "solved")
         with open(file, "w") as out:
             out.write(round_text(students))
         results = set()
-        for name, (path, solve) in programs.items():
-            count, ran = counted(path, solve, file)
+        for name, path in programs.items():
+            count, ran = counted(path, "solve", file)
             found["solve", name].append((count - starts[path]) / 1e6)
             with open(solved, "w") as out:
                 out.write(ran.stdout)
@@ -96,8 +96,7 @@ def panel(line, found, shift):
 def main():
     program = os.path.abspath(sys.argv[1])
     with tempfile.TemporaryDirectory() as folder:
-        plain = plain_rust(folder)
-        found = measured({"plain Rust": (plain, "solve"), "packed": (plain, "solve-packed"), "spadesk": (program, "solve")}, folder)
+        found = measured({"plain Rust": plain_rust(folder), "spadesk": program}, folder)
     for line in LINES:
         for name in COLOURS:
             print(line, name, " ".join(f"{millions:.2f}" for millions in found[line, name]), file=sys.stderr)

@@ -1,5 +1,5 @@
 #!/usr/bin/env python3
-"""What `solve FILE` takes by each aim, beside plain Rust with labels that are rows of numbers, and with labels packed into one number.
+"""What `solve FILE` takes by each aim, beside plain Rust.
 
 tools/solve_costs.py SPADESK FILE..     needs rustc and valgrind
 
@@ -30,25 +30,23 @@ def main():
     program, files = os.path.abspath(sys.argv[1]), sys.argv[2:]
     with tempfile.TemporaryDirectory() as folder:
         plain = plain_rust(folder)
-        lines = ((program, "solve"), (plain, "solve"), (plain, "solve-packed"))
         empty, round_text = os.path.join(folder, "empty"), os.path.join(folder, "round")
         open(empty, "w").close()
         starts = {path: counted(path, "solve", empty)[0] for path in (program, plain)}
-        print(f"{'file':16} {'aim':9} {'solve':>8} {'rows':>8} {'ratio':>6} {'packed':>8} {'ratio':>6}")
+        print(f"{'file':16} {'aim':9} {'solve':>8} {'plain':>8} {'ratio':>6}")
         for file in files:
             for aim, front in AIMS.items():
                 with open(file) as text, open(round_text, "w") as out:
                     out.write(front + text.read())
                 counts, told = [], set()
-                for path, word in lines:
-                    count, ran = counted(path, word, round_text)
+                for path in (program, plain):
+                    count, ran = counted(path, "solve", round_text)
                     counts.append((count - starts[path]) / 1e6)
                     told.add(best(program, folder, ran.stdout))
                 if len(told) != 1 or not told.pop().startswith("best"):
                     sys.exit(f"solve_costs.py: {file}: the programs differ")
-                ours, rows, packed = counts
-                name = os.path.basename(file)
-                print(f"{name:16} {aim:9} {ours:8.2f} {rows:8.2f} {ours / rows:6.2f} {packed:8.2f} {ours / packed:6.2f}")
+                ours, theirs = counts
+                print(f"{os.path.basename(file):16} {aim:9} {ours:8.2f} {theirs:8.2f} {ours / theirs:6.2f}")
 
 
 if __name__ == "__main__":

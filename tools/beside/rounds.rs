@@ -1,9 +1,6 @@
-//! The lines `solve FILE` and `check FILE` in plain Rust, std alone: what `spadesk` is measured beside. Dijkstra with potentials over
-//! labels that are rows of whole numbers in lexicographic order, a binary heap, labels cut at the best end found so far. It reads its
-//! text laxly: neither limits nor the order of lines are tested.
-//!
-//! By the line `solve-packed FILE` a label is one whole number: its places are digits, without the last, which the others leave of the
-//! size.
+//! The commands `solve FILE` and `check FILE` in plain Rust, std alone: what `spadesk` is measured beside. Dijkstra with potentials over
+//! labels that are whole numbers, a binary heap, labels cut at the best end found so far. It reads its text laxly: neither limits nor the
+//! order of lines are tested.
 //!
 //! RANKS in the environment of rustc is the number of places of a list, 12 where it is not set.
 
@@ -11,7 +8,6 @@ use std::cmp::Reverse;
 use std::collections::{BinaryHeap, HashMap};
 use std::fmt::Write as _;
 use std::io::Write as _;
-use std::ops::{Add, Sub};
 
 const RANKS: usize = match option_env!("RANKS") {
     Some(text) => number(text.as_bytes(), 0, 0),
@@ -22,44 +18,16 @@ const fn number(text: &[u8], at: usize, n: usize) -> usize {
 }
 const NP: usize = RANKS + 1;
 
-trait Worth: Copy + Ord + Add<Output = Self> + Sub<Output = Self> {
-    fn zero() -> Self;
-    /// The weight of a pair as the aim reads it.
-    fn weight(generous: bool, rank: usize) -> Self;
-    /// The places of a row that was read by the aim.
-    fn places(self, generous: bool) -> [i64; NP];
-}
-#[derive(Clone, Copy, PartialEq, Eq, PartialOrd, Ord)]
-struct Lex([i64; NP]);
-impl Add for Lex {
-    type Output = Lex;
-    fn add(self, o: Lex) -> Lex {
-        let mut r = self;
-        for i in 0..NP {
-            r.0[i] += o.0[i]
-        }
-        r
-    }
-}
-impl Sub for Lex {
-    type Output = Lex;
-    fn sub(self, o: Lex) -> Lex {
-        let mut r = self;
-        for i in 0..NP {
-            r.0[i] -= o.0[i]
-        }
-        r
-    }
-}
-impl Worth for Lex {
-    fn zero() -> Lex { Lex([0; NP]) }
-    fn weight(generous: bool, rank: usize) -> Lex {
-        let mut r = [0; NP];
-        r[0] = 1;
-        r[rank + 1] = 1;
-        Lex(as_read(generous, r))
-    }
-    fn places(self, generous: bool) -> [i64; NP] { as_read(generous, self.0) }
+/// A row as one whole number, its places digits of ten bits, but for the last, which the others leave of the size.
+type Label = i128;
+const BITS: usize = 10;
+
+/// The weight of a pair.
+fn weight(rank: usize) -> [i64; NP] {
+    let mut row = [0; NP];
+    row[0] = 1;
+    row[rank + 1] = 1;
+    row
 }
 /// A row as the aim reads it, and once more, which gives the row again.
 fn as_read(generous: bool, row: [i64; NP]) -> [i64; NP] {
@@ -71,35 +39,19 @@ fn as_read(generous: bool, row: [i64; NP]) -> [i64; NP] {
     }
     read
 }
-
-/// A row as one whole number, its places digits of ten bits.
-#[derive(Clone, Copy, PartialEq, Eq, PartialOrd, Ord)]
-struct Packed(i128);
-const BITS: usize = 10;
-impl Add for Packed {
-    type Output = Packed;
-    fn add(self, o: Packed) -> Packed { Packed(self.0 + o.0) }
+fn packed(generous: bool, row: [i64; NP]) -> Label {
+    as_read(generous, row)[..RANKS].iter().fold(0, |sum, place| (sum << BITS) + *place as i128)
 }
-impl Sub for Packed {
-    type Output = Packed;
-    fn sub(self, o: Packed) -> Packed { Packed(self.0 - o.0) }
-}
-impl Worth for Packed {
-    fn zero() -> Packed { Packed(0) }
-    fn weight(generous: bool, rank: usize) -> Packed {
-        Packed(Lex::weight(generous, rank).0[..RANKS].iter().fold(0, |sum, place| (sum << BITS) + *place as i128))
+fn places(label: Label, generous: bool) -> [i64; NP] {
+    let (mut rest, mut r) = (label, [0; NP]);
+    for place in (0..RANKS).rev() {
+        let digit = ((rest + (1 << (BITS - 1))) & ((1 << BITS) - 1)) as i64 - (1 << (BITS - 1));
+        r[place] = digit;
+        rest = (rest - digit as i128) >> BITS;
     }
-    fn places(self, generous: bool) -> [i64; NP] {
-        let (mut rest, mut r) = (self.0, [0; NP]);
-        for place in (0..RANKS).rev() {
-            let digit = ((rest + (1 << (BITS - 1))) & ((1 << BITS) - 1)) as i64 - (1 << (BITS - 1));
-            r[place] = digit;
-            rest = (rest - digit as i128) >> BITS;
-        }
-        let others: i64 = r[1..RANKS].iter().sum();
-        r[RANKS] = if generous { -r[0] - others } else { r[0] - others };
-        as_read(generous, r)
-    }
+    let others: i64 = r[1..RANKS].iter().sum();
+    r[RANKS] = if generous { -r[0] - others } else { r[0] - others };
+    as_read(generous, r)
 }
 #[derive(Default)]
 struct Round<'a> {
@@ -192,34 +144,34 @@ enum End {
     Drop(usize),
 }
 
-struct Network<'a, G> {
+struct Network<'a> {
     r: &'a Round<'a>,
     place: Vec<Option<usize>>,
     inside: Vec<Vec<usize>>,
     offers: Vec<Vec<usize>>,
     load: Vec<u32>,
-    price: Vec<G>,
-    z: Vec<G>,
-    u: Vec<G>,
-    weight: Vec<G>,
-    dist: Vec<G>,
+    price: Vec<Label>,
+    z: Vec<Label>,
+    u: Vec<Label>,
+    weight: Vec<Label>,
+    dist: Vec<Label>,
     seen: Vec<u32>,    // the turn in which dist was written; so a turn clears nothing
     settled: Vec<u32>, // the turn in which the node was settled
     turn: u32,
-    heap: BinaryHeap<Reverse<(G, usize)>>,
-    done: Vec<(usize, G)>,
+    heap: BinaryHeap<Reverse<(Label, usize)>>,
+    done: Vec<(usize, Label)>,
     from: Vec<From>,
     via: Vec<usize>,
 }
-impl<'a, G: Worth> Network<'a, G> {
+impl<'a> Network<'a> {
     fn new(r: &'a Round<'a>) -> Self {
         let (np, nl) = (r.projects.len(), r.sups.len());
         let mut offers = vec![vec![]; nl];
         for (p, x) in r.projects.iter().enumerate() {
             offers[x.1].push(p)
         }
-        let weight: Vec<G> = (0..RANKS).map(|rank| G::weight(r.generous, rank)).collect();
-        let z: Vec<G> = r.sups.iter().map(|x| if x.1 == 0 { weight[0] } else { G::zero() }).collect();
+        let weight: Vec<Label> = (0..RANKS).map(|rank| packed(r.generous, weight(rank))).collect();
+        let z: Vec<Label> = r.sups.iter().map(|x| if x.1 == 0 { weight[0] } else { 0 }).collect();
         Network {
             r,
             place: vec![],
@@ -230,7 +182,7 @@ impl<'a, G: Worth> Network<'a, G> {
             z,
             u: vec![],
             weight,
-            dist: vec![G::zero(); np + nl],
+            dist: vec![0; np + nl],
             seen: vec![0; np + nl],
             settled: vec![0; np + nl],
             turn: 0,
@@ -241,10 +193,10 @@ impl<'a, G: Worth> Network<'a, G> {
         }
     }
     fn full(&self, p: usize) -> bool { self.inside[p].len() as u32 >= self.r.projects[p].2 }
-    fn price(&self, p: usize) -> G { if self.full(p) { self.price[p] } else { self.z[self.r.projects[p].1] } }
+    fn price(&self, p: usize) -> Label { if self.full(p) { self.price[p] } else { self.z[self.r.projects[p].1] } }
     fn admit(&mut self, s0: usize) {
         let np = self.r.projects.len();
-        let zero = G::zero();
+        let zero = 0;
         let list = &self.r.students[s0].1;
         let u0 = list.iter().enumerate().map(|(k, p)| self.weight[k] - self.price(*p)).max().unwrap_or(zero).max(zero);
         self.place.push(None);
@@ -460,8 +412,8 @@ fn check(r: &Round) -> Result<[i64; NP], String> {
     }
     for (s, (c, list)) in r.students.iter().enumerate() {
         for (k, p) in list.iter().enumerate() {
-            let v = Lex(r.u[s]) + Lex(r.y[*p]) + Lex(r.z[r.projects[*p].1]);
-            if as_read(r.generous, v.0) < Lex::weight(r.generous, k).0 {
+            let (u, y, z) = (&r.u[s], &r.y[*p], &r.z[r.projects[*p].1]);
+            if as_read(r.generous, std::array::from_fn(|t| u[t] + y[t] + z[t])) < as_read(r.generous, weight(k)) {
                 return Err(format!("fault 4 {c} {}", k + 1));
             }
         }
@@ -488,15 +440,15 @@ fn check(r: &Round) -> Result<[i64; NP], String> {
     Ok(w)
 }
 
-fn solve<G: Worth>(r: &Round) -> Solved {
-    let mut n = Network::<G>::new(r);
+fn solve(r: &Round) -> Solved {
+    let mut n = Network::new(r);
     for s in 0..r.students.len() {
         n.admit(s)
     }
     let y = |p: usize| if r.projects[p].2 == 0 { n.weight[0] } else { n.price(p) - n.z[r.projects[p].1] };
-    let y = (0..r.projects.len()).map(|p| y(p).places(r.generous)).collect();
-    let places = |rows: &[G]| rows.iter().map(|x| x.places(r.generous)).collect();
-    Solved { u: places(&n.u), z: places(&n.z), y, places: n.place }
+    let y = (0..r.projects.len()).map(|p| places(y(p), r.generous)).collect();
+    let rows = |labels: &[Label]| labels.iter().map(|x| places(*x, r.generous)).collect();
+    Solved { u: rows(&n.u), z: rows(&n.z), y, places: n.place }
 }
 fn main() {
     let words: Vec<String> = std::env::args().collect();
@@ -506,8 +458,7 @@ fn main() {
         std::process::exit(1)
     });
     if words[1] != "check" {
-        let solved = if words[1] == "solve" { solve::<Lex>(&round) } else { solve::<Packed>(&round) };
-        std::io::stdout().write_all(write(&round, &solved).as_bytes()).expect("an output");
+        std::io::stdout().write_all(write(&round, &solve(&round)).as_bytes()).expect("an output");
         return;
     }
     match check(&round) {
