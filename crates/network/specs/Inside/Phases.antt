@@ -8,10 +8,9 @@ use Rattle.network.specs.declared.TheConstants.{MOST_ARCS, MOST_RELAXATIONS}
 use Rattle.spa.specs.Laws.{Ops}
 use Rattle.network.specs.Seen.{is_place}
 use Rattle.network.specs.Inside.View.{IsKnownList}
-use Rattle.network.specs.Inside.Arcs.{IsFormed, OfStudent, project_count, sink_of, flow_arcs}
+use Rattle.network.specs.Inside.Arcs.{IsFormed, project_count, sink_of, flow_arcs}
 use Rattle.network.specs.Inside.Fair.{AreStudentsFair, NodesFair, IsFair, IsLow}
 use Rattle.network.specs.Inside.Marks.{is_seen, mark_at}
-use Rattle.network.specs.Inside.Ways.{SearchArc}
 use Rattle.network.specs.Inside.Search.{turn_or, IsFound}
 use Rattle.network.specs.Inside.Labels.{AreLabels, AreBlank, MayCompare}
 use Rattle.network.specs.Inside.Kept.{IsKept}
@@ -113,4 +112,4 @@ pub record MayExpand {G : Type 0} (o : Ops G) (r : Residual G) (l : Labels G) (l
 pub record HasFound {G : Type 0} (o : Ops G) (f : Flow G) (student : ℕ) (l : Labels G) : Type 0 where
   pub labels : AreLabels o l
   pub long : length l.marks.items ≡ length f.potentials.items
-  pub found : IsFound o f (OfStudent o f student o.zero) (SearchArc o f) f.potentials.items l.marks.items (sink_of f)
+  pub found : IsFound o f student l.marks.items
