@@ -1,24 +1,23 @@
 -- The three phases of a flow and of the residual network: between two admissions, searching, pushing. And what an admission asks and does.
 use Rattle.std.specs.Prelude.{◌≡◌, ℕ, ◌+◌, ◌*◌, ◌<◌, ◌≤◌, Bool, true, List, [], ◌∷◌, ◌++◌, length, slice_get, Some, None}
 use Rattle.std.specs.Vec.{vec_len, vec_capacity}
-use Rattle.std.specs.declared.vec.Vec.{Vec}
-use Rattle.std.specs.declared.alloc.Global.{Global}
 use Rattle.spa.specs.declared.TheConstants.{MOST_STUDENTS, RANKS}
 use Rattle.network.specs.declared.TheConstants.{MOST_ARCS, MOST_RELAXATIONS}
 use Rattle.spa.specs.Laws.{Ops}
 use Rattle.network.specs.Seen.{is_place}
 use Rattle.network.specs.Inside.View.{IsKnownList}
-use Rattle.network.specs.Inside.Arcs.{IsFormed, project_count, sink_of, flow_arcs}
+use Rattle.network.specs.Inside.Arcs.{Row, IsFormed, project_count, sink_of, flow_arcs, StudentsAmong, ProjectsAmong}
 use Rattle.network.specs.Inside.Fair.{AreStudentsFair, NodesFair, IsFair, IsLow}
 use Rattle.network.specs.Inside.Marks.{is_seen, mark_at}
 use Rattle.network.specs.Inside.Search.{turn_or, IsFound}
 use Rattle.network.specs.Inside.Labels.{AreLabels, AreBlank, MayCompare}
-use Rattle.network.specs.Inside.Kept.{IsKept}
+use Rattle.network.specs.Inside.Kept.{numbers_at, IsKept}
 use Rattle.network.specs.Inside.Push.{IsCounted, HasSteps}
 use Rattle.network.specs.declared.flow.Flow.{Flow}
 use Rattle.network.specs.declared.residual.Residual.{Residual}
 use Rattle.network.specs.declared.marks.Labels.{Labels}
 use Rattle.network.specs.declared.marks.Mark.{Mark}
+use Rattle.network.specs.declared.marks.Origin.{Origin}
 
 -- between two admissions: nobody waits, each place is counted, and the potentials are fair to all
 pub record BetweenFlow {G : Type 0} (o : Ops G) (f : Flow G) : Type 0 where
@@ -87,7 +86,7 @@ abbrev pub HasSameRolls : {G : Type 0} → Flow G → Flow G → Type 0
 HasSameRolls old new = new ≡ record old { held = new.held; filled = new.filled; load = new.load; potentials = new.potentials }
 
 -- a list that may come in: there is room for it, it is short, and each entry names a known project
-pub record MayEnter {G : Type 0} (o : Ops G) (f : Flow G) (row : Vec (ℕ × G) Global) : Type 0 where
+pub record MayEnter {G : Type 0} (o : Ops G) (f : Flow G) (row : Row G) : Type 0 where
   pub few : length f.lists.items < MOST_STUDENTS
   pub short : length row.items ≤ RANKS
   pub known : IsKnownList o (project_count f) row.items
@@ -95,7 +94,7 @@ pub record MayEnter {G : Type 0} (o : Ops G) (f : Flow G) (row : Vec (ℕ × G) 
   pub held_room : vec_len f.held < vec_capacity f.held
 
 -- a student came with this list and was given a place or not, after so many relaxations
-pub record HasEntered {G : Type 0} (old new : Flow G) (row : Vec (ℕ × G) Global) (has_place : Bool) (relaxations : ℕ) : Type 0 where
+pub record HasEntered {G : Type 0} (old new : Flow G) (row : Row G) (has_place : Bool) (relaxations : ℕ) : Type 0 where
   pub lists : new.lists.items ≡ old.lists.items ++ row ∷ []
   pub projects : new.projects.items ≡ old.projects.items
   pub supervisors : new.supervisors.items ≡ old.supervisors.items
@@ -107,6 +106,14 @@ pub record HasEntered {G : Type 0} (old new : Flow G) (row : Vec (ℕ × G) Glob
 pub record MayExpand {G : Type 0} (o : Ops G) (r : Residual G) (l : Labels G) (label : G) : Type 0 where
   pub compare : MayCompare o r.flow l label 2 MOST_ARCS
   pub kept : IsKept r.flow r.kept
+
+-- the offers of all students who are placed at a project
+abbrev pub OffersOfSeated : {G : Type 0} → Ops G → Residual G → ℕ → G → Origin → G → ℕ → Type 0
+OffersOfSeated o r at label w x b = let students = numbers_at r.kept.seated.items at in StudentsAmong o r.flow at label students (length students) w x b
+
+-- the offers of a supervisor to all of the supervisor's projects
+abbrev pub OffersToOwn : {G : Type 0} → Ops G → Residual G → ℕ → G → Origin → G → ℕ → Type 0
+OffersToOwn o r at label w x b = let projects = numbers_at r.kept.offered.items at in ProjectsAmong o r.flow at label projects (length projects) w x b
 
 -- a search that found a best walk from the student to the sink
 pub record HasFound {G : Type 0} (o : Ops G) (f : Flow G) (student : ℕ) (l : Labels G) : Type 0 where
