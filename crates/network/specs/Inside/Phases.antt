@@ -1,5 +1,5 @@
 -- The three phases of a flow and of the residual network: between two admissions, searching, pushing. And what an admission asks and does.
-use Rattle.std.specs.Prelude.{◌≡◌, ℕ, ◌+◌, ◌*◌, ◌<◌, ◌≤◌, Bool, true, List, [], ◌∷◌, ◌++◌, length, slice_get, Some, None}
+use Rattle.std.specs.Prelude.{◌≡◌, ℕ, ◌+◌, ◌*◌, ◌^◌, ◌<◌, ◌≤◌, Bool, true, List, [], ◌∷◌, ◌++◌, length, slice_get, Some, None}
 use Rattle.std.specs.Vec.{vec_len, vec_capacity}
 use Rattle.spa.specs.declared.TheConstants.{MOST_STUDENTS, RANKS}
 use Rattle.network.specs.declared.TheConstants.{MOST_ARCS, MOST_RELAXATIONS}
@@ -62,6 +62,12 @@ pub record PushingResidual {G : Type 0} (o : Ops G) (r : Residual G) (marks : Li
   pub top : G
   pub flow : PushingFlow o r.flow marks fresh top hole
   pub kept : IsKept r.flow r.kept
+
+-- a search for the student may begin: the labels of the last one are gone, and so many may be compared
+pub record MaySearch {G : Type 0} (o : Ops G) (r : Residual G) (l : Labels G) (fresh most : ℕ) : Type 0 where
+  pub searching : SearchingResidual o r fresh
+  pub blank : AreBlank o l (length r.flow.potentials.items)
+  pub room : l.compared + most < 2 ^ 64
 
 -- between two calls the labels of the last search are gone too, and few were compared
 pub record BetweenCalls {G : Type 0} (o : Ops G) (r : Residual G) (l : Labels G) : Type 0 where
