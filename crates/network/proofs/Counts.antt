@@ -3,6 +3,8 @@ use Rattle.std.proofs.Common.{◌≡◌, ℕ, ◌+◌, ◌<◌, inl, inr, List, 
 use Rattle.std.specs.Prelude.{slice_index, nat_eq}
 use Rattle.std.proofs.lemmas.Bool.{cases_eq, eq-eqb, ne_eqb}
 use Rattle.network.specs.Inside.Push.{one_if}
+use Rattle.network.specs.Inside.Arcs.{project_count, sink_of}
+use Rattle.network.specs.declared.flow.Flow.{Flow}
 
 -- a number is itself
 pub itself : (r : ℕ) → one_if (nat_eq r r) ≡ 1
@@ -11,6 +13,14 @@ itself r = ap one_if (eq-eqb r r refl)
 -- and not another
 pub apart : (r v : ℕ) → (r ≡ v → ⊥) → one_if (nat_eq r v) ≡ 0
 apart r v ne = ap one_if (ne_eqb r v ne)
+
+-- a project is not the sink
+pub not_sink : {G : Type 0} (f : Flow G) (p : ℕ) → p < project_count f → one_if (nat_eq p (sink_of f)) ≡ 0
+not_sink f p lt = apart p (sink_of f) (λ e. omega (arith, e, lt))
+
+-- nor is a supervisor
+pub node_not_sink : {G : Type 0} (f : Flow G) (l : ℕ) → l < length f.supervisors.items → one_if (nat_eq (project_count f + l) (sink_of f)) ≡ 0
+node_not_sink f l lt = apart (project_count f + l) (sink_of f) (λ e. omega (arith, e, lt))
 
 -- equal as far as others are
 pub alike : (a b c d : ℕ) → (a ≡ b → c ≡ d) → (c ≡ d → a ≡ b) → one_if (nat_eq a b) ≡ one_if (nat_eq c d)
