@@ -5,9 +5,9 @@ pub mod Fair
 pub mod Kept
 pub mod Labels
 pub mod Marks
+pub mod Phases
 pub mod Prices
 pub mod Push
 pub mod Search
-pub mod State
 pub mod View
 pub mod Ways

@@ -58,7 +58,8 @@ row_of aim (xs ∷ xss) (suc s) h = row_of aim xss s (omega arith)
 abbrev pub Read : Aim → (ℕ → ℕ → ℤ) → List (Places PLACES) → Type 0
 Read aim rows worths = (n t : ℕ) → t < PLACES → rows n t ≡ as_read aim (row PLACES (worth_price (lex_ops PLACES) worths n)) t
 
--- what an aim reads of a row that it read from another is the other
+-- Step 8 of docs/PROOF.md. The network compares worths from the front, so it is handed weights as the aim reads them, and its prices are
+-- rows so read. To read a row twice gives the row: read once more they are prices in the aim's own order.
 pub read_back : (aim : Aim) (v w : ℕ → ℤ) → ((t : ℕ) → t < PLACES → v t ≡ as_read aim w t) → (t : ℕ) → t < PLACES → as_read aim v t ≡ w t
 read_back aim v w e t h = read_alike aim v (as_read aim w) e t h ∙ read_twice aim w t h
 

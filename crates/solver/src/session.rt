@@ -23,7 +23,8 @@ use std::marker::Model;
 fn best(network: &Network<Lex>)
     requires sound { IsSound (shape_of network.now) }
     ensures places { HasPlaces (shape_of network.now) network.now.places }
-    ensures best { (aim : Aim) → IsOf aim (shape_of network.now) network.now → IsBest aim (shape_of network.now) (pairs (shape_of network.now) network.now.places) }
+    ensures best { (aim : Aim) → IsOf aim (shape_of network.now) network.now
+        → IsBest aim (shape_of network.now) (pairs (shape_of network.now) network.now.places) }
 {
     lex_law();
     order_law();

@@ -26,7 +26,8 @@ RowAtMost_same (suc n) v w x y e f (inl h) = let p : v 0 ≡ w 0 = e 0 (omega ar
 RowAtMost_same (suc n) v w x y e f (inr s) =
     inr (sym (e 0 (omega arith)) ∙ s.0 ∙ f 0 (omega arith), RowAtMost_same n (λ t. v (suc t)) (λ t. w (suc t)) (λ t. x (suc t)) (λ t. y (suc t)) (λ t h. e (suc t) (omega arith)) (λ t h. f (suc t) (omega arith)) s.1)
 
--- the order of an aim is kept by sums
+-- The question of docs/PROOF.md. The order of an aim is kept by sums: it compares rows as they are read, reading adds up place by place,
+-- and where two rows are at most two others place by place from the front, so are their sums.
 pub aim_sums : (aim : Aim) → IsSumOrder (order aim)
 aim_sums aim =
     let r : (ℕ → ℤ) → ℕ → ℤ = as_read aim in
@@ -50,7 +51,8 @@ other_places : (n : ℕ) (v w : ℕ → ℤ) → RowAtMost (suc n) v w → v 0 �
 other_places n v w (inl h) e = absurd (omega (arith, ints))
 other_places n v w (inr s) e = s.1
 
--- a matching whose total weight is unbeaten is best
+-- The question of docs/PROOF.md. A matching whose total weight is unbeaten is best. A weight's first place is the size and the others are
+-- the profile, as the aim reads it: where no row comes after, no size is larger, and of those as large no profile comes after.
 pub best_from_unbeaten : (aim : Aim) (i : Shape) (M : List Pair) → IsUnbeaten (order aim) i M → IsBest aim i M
 best_from_unbeaten aim i M b =
     let r : List Pair → ℕ → ℤ = λ N. as_read aim (weight_row i N) in
@@ -61,7 +63,8 @@ best_from_unbeaten aim i M b =
       first = λ N n same. not_before RANKS (p N) (p M) (other_places RANKS (r N) (r M) (at_most_from PLACES (r N) (r M) (b.unbeaten N n)) (ap pos same));
     }
 
--- and only such a matching is
+-- The question of docs/PROOF.md. And only such a matching is: a total weight that comes after has a larger first place, so a larger size,
+-- or the same and then a profile that comes after.
 pub unbeaten_from_best : (aim : Aim) (i : Shape) (M : List Pair) → IsBest aim i M → IsUnbeaten (order aim) i M
 unbeaten_from_best aim i M g =
     let r : List Pair → ℕ → ℤ = λ N. as_read aim (weight_row i N) in

@@ -1,21 +1,19 @@
--- What the loops of `Generous` need: places of arrays, and what a generous aim reads of them.
-use Rattle.std.proofs.Common.{◌≡◌, ℕ, zero, suc, ◌+◌, ◌-◌, ◌≤◌, ◌<◌, inl, inr, sym, ap, ◌∙◌, refl, arith, unsigned_abs, ◌^◌}
+-- What `Generous` needs: places of arrays, and what a generous aim reads of them.
+use Rattle.std.proofs.Common.{◌≡◌, ℕ, zero, suc, ◌-◌, ◌≤◌, ◌<◌, sym, ap, ◌∙◌, refl, arith, unsigned_abs}
 use Rattle.std.specs.Prelude.{ℤ, neg_ℤ, ◌+ℤ◌, ◌-ℤ◌, ◌<ℤ◌}
 use Rattle.std.proofs.lemmas.Int.{ints}
-use Rattle.std.proofs.lemmas.Bool.{cases_lt}
 use Rattle.spa.specs.declared.TheConstants.{RANKS, PLACES}
 use Rattle.spa.specs.declared.aim.Aim.TheVariants.{Generous}
 use Rattle.spa.specs.Order.{Precedes, as_read}
 use Rattle.spa.specs.GenerousLaw.{OrdersByAim}
 use Rattle.spa.specs.Row.{at}
-use Rattle.spa.specs.Inside.Row.{greatest}
 use Rattle.spa.specs.Places.{Places, places_of, row, lex_ops}
 use Rattle.spa.specs.Inside.Places.{row-places_of}
 use Rattle.spa.specs.Reading.{value_read}
 use Rattle.spa.specs.Inside.Reading.{read_alike}
 use Rattle.spa.proofs.Aims.{read_sum}
-use Rattle.spa.proofs.LexOrder.{lex_less_is, row_in_span, span_at_most}
-use Rattle.spa.proofs.Rows.{plus_of, minus_of, within}
+use Rattle.spa.proofs.LexOrder.{lex_less_is, row-plus, row-minus, span_at_most}
+use Rattle.spa.proofs.Rows.{plus_of, minus_of, le_span}
 
 -- the place that a generous aim reads in the turn of t
 abbrev pub mirror : ℕ → ℕ
@@ -59,65 +57,49 @@ read_less f g k h l less = let a = read_from f k h l in let b = read_from g k h 
 pub read_equal : (f g : ℕ → ℤ) (k : ℕ) → 1 ≤ k → k < PLACES → f (PLACES - k) ≡ g (PLACES - k) → as_read Generous f k ≡ as_read Generous g k
 read_equal f g k h l e = read_from f k h l ∙ ap neg_ℤ e ∙ sym (read_from g k h l)
 
--- each place is at most the greatest
-pub le_greatest : (n : ℕ) (f : ℕ → ℤ) (t : ℕ) → t < n → unsigned_abs (f t) ≤ greatest n f
-le_greatest zero f t h = absurd (omega arith)
-le_greatest (suc n) f t h =
-    elim (cases_lt t n) [
-      | inl l ↦ let r = le_greatest n f t l in omega (arith, r)
-      | inr g ↦ let e : t ≡ n = omega arith in let s : unsigned_abs (f t) ≡ unsigned_abs (f n) = ap (λ (j : ℕ). unsigned_abs (f j)) e in omega (arith, s)
-    ]
+-- a row by its places
+at_place : (h : ℕ → ℤ) (x : Places PLACES) → places_of PLACES h ≡ x → (t : ℕ) → t < PLACES → h t ≡ row PLACES x t
+at_place h x e t l = sym (row-places_of PLACES h t l) ∙ ap (λ (z : Places PLACES). row PLACES z t) e
 
--- which is the least such number
-pub greatest_low : (n : ℕ) (f : ℕ → ℤ) (m : ℕ) → ((t : ℕ) → t < n → unsigned_abs (f t) ≤ m) → greatest n f ≤ m
-greatest_low zero f m h = omega arith
-greatest_low (suc n) f m h = let r = greatest_low n f m (λ t l. h t (omega arith)) in let s = h n (omega arith) in omega (arith, r, s)
-
--- the places of a row that is filled with sums
+-- the places of what is read of a row that `Lex` has filled with sums
 pub generous_plus : (h f g : ℕ → ℤ) (x y : Places PLACES) → places_of PLACES (as_read Generous f) ≡ x → places_of PLACES (as_read Generous g) ≡ y
-    → ((t : ℕ) → t < PLACES → h t ≡ f t +ℤ g t) → places_of PLACES (as_read Generous h) ≡ (lex_ops PLACES).plus x y
+    → places_of PLACES h ≡ (lex_ops PLACES).plus (places_of PLACES f) (places_of PLACES g) → places_of PLACES (as_read Generous h) ≡ (lex_ops PLACES).plus x y
 generous_plus h f g x y ex ey e =
     plus_of PLACES (as_read Generous h) (as_read Generous f) (as_read Generous g) x y ex ey
-    (λ t l. read_alike Generous h (λ t. f t +ℤ g t) e t l ∙ read_sum Generous f g t)
+    (λ t l. read_alike Generous h (λ t. f t +ℤ g t) (λ t l. let p = at_place h _ e t l in let q = row-plus PLACES (places_of PLACES f) (places_of PLACES g) t in let r = row-places_of PLACES f t l in let s = row-places_of PLACES g t l in omega (arith, ints, p, q, r, s)) t l ∙ read_sum Generous f g t)
 
 -- with differences
 pub generous_minus : (h f g : ℕ → ℤ) (x y : Places PLACES) → places_of PLACES (as_read Generous f) ≡ x → places_of PLACES (as_read Generous g) ≡ y
-    → ((t : ℕ) → t < PLACES → h t ≡ f t -ℤ g t) → places_of PLACES (as_read Generous h) ≡ (lex_ops PLACES).minus x y
+    → places_of PLACES h ≡ (lex_ops PLACES).minus (places_of PLACES f) (places_of PLACES g) → places_of PLACES (as_read Generous h) ≡ (lex_ops PLACES).minus x y
 generous_minus h f g x y ex ey e =
     minus_of PLACES (as_read Generous h) (as_read Generous f) (as_read Generous g) x y ex ey
-    (λ t l. read_alike Generous h (λ t. f t -ℤ g t) e t l ∙ read_rests f g t)
+    (λ t l. read_alike Generous h (λ t. f t -ℤ g t) (λ t l. let p = at_place h _ e t l in let q = row-minus PLACES (places_of PLACES f) (places_of PLACES g) t in let r = row-places_of PLACES f t l in let s = row-places_of PLACES g t l in omega (arith, ints, p, q, r, s)) t l ∙ read_rests f g t)
 
--- two places together are bounded by the spans
-pub generous_within : (f g : ℕ → ℤ) (x y : Places PLACES) → places_of PLACES (as_read Generous f) ≡ x → places_of PLACES (as_read Generous g) ≡ y
-    → (lex_ops PLACES).span x + (lex_ops PLACES).span y < 2 ^ 63 → (t : ℕ) → t < PLACES → unsigned_abs (f t) + unsigned_abs (g t) < 2 ^ 63
-generous_within f g x y ex ey h t l =
-    let w = within PLACES (as_read Generous f) (as_read Generous g) x y ex ey h (mirror t) (mirror_low t l) in
-    let a = abs_read f t l in
-    let b = abs_read g t l in
-    omega (arith, w, a, b)
-
--- the span is the greatest absolute value
-pub generous_span : (f : ℕ → ℤ) (x : Places PLACES) → places_of PLACES (as_read Generous f) ≡ x → (t m : ℕ) → m ≡ greatest t f → t ≡ PLACES → m ≡ (lex_ops PLACES).span x
-generous_span f x ex t m em et = em ∙ ap (λ (k : ℕ). greatest k f) et ∙ both ∙ ap (lex_ops PLACES).span ex
+-- the span of a row is that of what is read: each number is read in some turn, up to its sign
+pub read_span : (f : ℕ → ℤ) (x : Places PLACES) → places_of PLACES (as_read Generous f) ≡ x → (lex_ops PLACES).span (places_of PLACES f) ≡ (lex_ops PLACES).span x
+read_span f x ex = both ∙ ap (lex_ops PLACES).span ex
   where
     v : Places PLACES
     v = places_of PLACES (as_read Generous f)
 
-    low : (lex_ops PLACES).span v ≤ greatest PLACES f
-    low = span_at_most PLACES v (greatest PLACES f) (λ t l.
+    w : Places PLACES
+    w = places_of PLACES f
+
+    low : (lex_ops PLACES).span v ≤ (lex_ops PLACES).span w
+    low = span_at_most PLACES v ((lex_ops PLACES).span w) (λ t l.
         let a = read_abs f t in
         let b = ap unsigned_abs (row-places_of PLACES (as_read Generous f) t l) in
-        let c = le_greatest PLACES f (mirror t) (mirror_low t l) in
+        let c = le_span PLACES f (mirror t) (mirror_low t l) in
         omega (arith, a, b, c))
 
-    high : greatest PLACES f ≤ (lex_ops PLACES).span v
-    high = greatest_low PLACES f ((lex_ops PLACES).span v) (λ t l.
+    high : (lex_ops PLACES).span w ≤ (lex_ops PLACES).span v
+    high = span_at_most PLACES w ((lex_ops PLACES).span v) (λ t l.
         let a = abs_read f t l in
-        let b = ap unsigned_abs (row-places_of PLACES (as_read Generous f) (mirror t) (mirror_low t l)) in
-        let c = row_in_span PLACES v (mirror t) in
+        let b = ap unsigned_abs (row-places_of PLACES f t l) in
+        let c = le_span PLACES (as_read Generous f) (mirror t) (mirror_low t l) in
         omega (arith, a, b, c))
 
-    both : greatest PLACES f ≡ (lex_ops PLACES).span v
+    both : (lex_ops PLACES).span w ≡ (lex_ops PLACES).span v
     both = omega (arith, low, high)
 
 -- ---- the order of an aim

@@ -72,7 +72,8 @@ pub record SaysTheSame (i : Named) : Type 0 where
   pub from_codes : (N : List CodePair) → IsMatchingByCodes (instance_of i) N → (M : List Pair) × IsMatching i.shape M × (map (codes_of i) M ≡ N)
   pub profiles : (M : List Pair) → IsMatching i.shape M → (k : ℕ) → profile_by_codes (instance_of i) (map (codes_of i) M) k ≡ profile i.shape M k
   pub best_to_codes : (aim : Aim) (M : List Pair) → IsBest aim i.shape M → IsBestByCodes aim (instance_of i) (map (codes_of i) M)
-  pub best_from_codes : (aim : Aim) (N : List CodePair) → IsBestByCodes aim (instance_of i) N → (M : List Pair) × IsBest aim i.shape M × (map (codes_of i) M ≡ N)
+  pub best_from_codes : (aim : Aim) (N : List CodePair) → IsBestByCodes aim (instance_of i) N
+      → (M : List Pair) × IsBest aim i.shape M × (map (codes_of i) M ≡ N)
   pub same_pairs : (ks : List (Option ℕ)) → HasPlaces i.shape ks → map (codes_of i) (pairs i.shape ks) ≡ taken (instance_of i).students ks
 
 -- so it is of each instance

@@ -1,2 +1,3 @@
 -- What proofs need and no public clause says.
+pub mod Cover
 pub mod Quotas

@@ -66,7 +66,8 @@ pub fn check(
 
 /// Prices that meet the five conditions by an aim prove a matching best by it.
 pub fn verdict_law(instance: &Instance)
-    ensures { (aim : Aim) (ks : List (Option ℕ)) (p : Prices) → IsProvedBest (order aim) instance.now.shape ks p → IsBest aim instance.now.shape (pairs instance.now.shape ks) }
+    ensures { (aim : Aim) (ks : List (Option ℕ)) (p : Prices) → IsProvedBest (order aim) instance.now.shape ks p
+        → IsBest aim instance.now.shape (pairs instance.now.shape ks) }
 {
     aim_law(instance);
     price_law(instance);

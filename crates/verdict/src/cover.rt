@@ -8,6 +8,7 @@ ghost use Rattle.spa.specs.Shape.{IsPlaceOf, list_of};
 ghost use Rattle.spa.specs.Matching.{weight};
 ghost use Rattle.verdict.specs.Rows.{EachInRange};
 ghost use Rattle.verdict.specs.Verdict.{HasShape, IsUncoveredAt, IsFirstUncovered};
+ghost use Rattle.verdict.specs.Inside.Cover.{IsListCovered, IsFirstPlace};
 
 use crate::prices::Prices;
 use spa::{Aim, Instance, PLACES, list_law, precedes};
@@ -75,7 +76,8 @@ fn first_uncovered_place(
 ) -> Option<usize>
     requires shape { HasShape instance.now.shape prices.now }
     requires student { student < length instance.now.shape.students }
-    ensures { MatchOption result ((k : ℕ) → IsPlaceOf (list_of instance.now.shape student) k → ¬ IsUncoveredAt (order aim) instance.now.shape prices.now student k) (λ k. IsPlaceOf (list_of instance.now.shape student) k × IsUncoveredAt (order aim) instance.now.shape prices.now student k × ((j : ℕ) → 1 ≤ j → j < k → ¬ IsUncoveredAt (order aim) instance.now.shape prices.now student j)) }
+    ensures { MatchOption result (IsListCovered (order aim) instance.now.shape prices.now student)
+        (λ k. IsFirstPlace (order aim) instance.now.shape prices.now student k) }
 {
     for before in 0..instance.list(student).len() {
         let place = before + 1;
@@ -93,7 +95,9 @@ pub(crate) fn first_uncovered(
     prices: &Prices,
 ) -> Option<(usize, usize)>
     requires { HasShape instance.now.shape prices.now }
-    ensures { MatchOption result ((s k : ℕ) → s < length instance.now.shape.students → IsPlaceOf (list_of instance.now.shape s) k → ¬ IsUncoveredAt (order aim) instance.now.shape prices.now s k) (λ r. IsFirstUncovered (order aim) instance.now.shape prices.now r.0 r.1) }
+    ensures { MatchOption result ((s k : ℕ) → s < length instance.now.shape.students → IsPlaceOf (list_of instance.now.shape s) k
+        → ¬ IsUncoveredAt (order aim) instance.now.shape prices.now s k)
+        (λ r. IsFirstUncovered (order aim) instance.now.shape prices.now r.0 r.1) }
 {
     for student in 0..instance.student_count() {
         if let Some(place) = first_uncovered_place(instance, aim, prices, student) {

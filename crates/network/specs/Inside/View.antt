@@ -1,15 +1,8 @@
--- For proofs alone. How a clause sees the fields of a `Network`, and what holds of them between two calls.
-use Rattle.std.specs.Prelude.{◌≡◌, ℕ, Some, ◌*◌, ◌≤◌, ◌<◌, List, All, length, slice_get}
+-- What a call may hand in.
+use Rattle.std.specs.Prelude.{◌≡◌, ℕ, Some, ◌≤◌, ◌<◌, List, All, length, slice_get}
 use Rattle.spa.specs.declared.TheConstants.{MOST_SUPERVISORS, MOST_PROJECTS, MOST_STUDENTS, MOST_PLACES, RANKS}
 use Rattle.spa.specs.Laws.{Ops}
-use Rattle.network.specs.Inside.Fair.{IsLow}
-use Rattle.network.specs.Inside.Push.{IsPushed}
-use Rattle.network.specs.Inside.Labels.{AreBlank}
-use Rattle.network.specs.Inside.Kept.{IsKept}
 use Rattle.network.specs.declared.flow.Flow.{Flow}
-use Rattle.network.specs.declared.residual.Residual.{Residual}
-use Rattle.network.specs.declared.TheConstants.{MOST_RELAXATIONS}
-use Rattle.network.specs.declared.marks.Labels.{Labels}
 
 -- each entry names a known project, and its worth is small
 abbrev pub IsKnownList : {G : Type 0} → Ops G → ℕ → List (ℕ × G) → Type 0
@@ -28,15 +21,3 @@ pub record AreRolls (supervisors : List ℕ) (projects : List (ℕ × ℕ)) : Ty
   pub offered : All (λ p. p.0 < length supervisors) projects
   pub supervisor_quotas : All (λ q. q ≤ MOST_PLACES) supervisors
   pub project_quotas : All (λ p. p.1 ≤ MOST_PLACES) projects
-
--- what holds between two calls
-pub record IsReady {G : Type 0} (o : Ops G) (f : Flow G) (steps : ℕ) : Type 0 where
-  pub pushed : IsPushed o f
-  pub low : IsLow o f
-  pub counted : steps ≤ MOST_RELAXATIONS * length f.lists.items
-
--- the same, with the lists beside the flow, and the labels of the last search gone
-pub record IsIdle {G : Type 0} (o : Ops G) (r : Residual G) (l : Labels G) : Type 0 where
-  pub ready : IsReady o r.flow l.compared
-  pub kept : IsKept r.flow r.kept
-  pub blank : AreBlank o l (length r.flow.potentials.items)

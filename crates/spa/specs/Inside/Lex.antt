@@ -16,7 +16,8 @@ pub int_same : (x y : ℤ) → int_cmp x y ≡ Equal → x ≡ y
 int_same x y e = by_ranked _ _ _ (int_cmp x y) (int_ranked x y (int_cmp x y) refl) (λ o p. cc) (λ o p. p) (λ o p. cc)
 
 -- adding one number to both moves the comparison along
-int_moved : (x y z : ℤ) (o : Ordering) → MatchOrdering o (x <ℤ y) (x ≡ y) (y <ℤ x) → MatchOrdering o ((x +ℤ z) <ℤ (y +ℤ z)) (x +ℤ z ≡ y +ℤ z) ((y +ℤ z) <ℤ (x +ℤ z))
+int_moved : (x y z : ℤ) (o : Ordering) → MatchOrdering o (x <ℤ y) (x ≡ y) (y <ℤ x)
+    → MatchOrdering o ((x +ℤ z) <ℤ (y +ℤ z)) (x +ℤ z ≡ y +ℤ z) ((y +ℤ z) <ℤ (x +ℤ z))
 int_moved x y z Less h = omega (arith, ints)
 int_moved x y z Equal h = ap (λ w. w +ℤ z) h
 int_moved x y z Greater h = omega (arith, ints)
