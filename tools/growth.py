@@ -14,7 +14,7 @@ import sys
 import tempfile
 
 from families import owners, spread
-from office import TOP, counted
+from office import TOP as ROOT, counted
 
 SIZES = [60, 125, 250, 500]
 LINES = ["solve", "check"]
@@ -38,7 +38,7 @@ def round_text(students):
 def plain_rust(folder):
     """The plain Rust program, compiled into a folder."""
     path = os.path.join(folder, "rounds")
-    subprocess.run(["rustc", "-O", "--edition", "2021", "-o", path, os.path.join(TOP, "tools", "beside", "rounds.rs")], check=True)
+    subprocess.run(["rustc", "-O", "--edition", "2021", "-o", path, os.path.join(ROOT, "tools", "beside", "rounds.rs")], check=True)
     return path
 
 
