@@ -19,6 +19,8 @@ mod connections;
 #[cfg(test)]
 mod copies;
 #[cfg(test)]
+mod costs;
+#[cfg(test)]
 mod desks;
 #[cfg(test)]
 mod exchanges;
