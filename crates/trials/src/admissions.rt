@@ -1,8 +1,7 @@
 //! Worked admissions to a network; the last test counts what this search compares.
 
 ghost use Rattle.std.specs.Prelude.{◌≡◌, ◌+◌, ◌<◌, ◌≤◌, length, IsTrue, All};
-ghost use Rattle.spa.specs.Places.{lex_ops};
-ghost use Rattle.spa.specs.declared.TheConstants.{MOST_SUPERVISORS, MOST_PROJECTS, MOST_PLACES, PLACES};
+ghost use Rattle.spa.specs.declared.TheConstants.{MOST_SUPERVISORS, MOST_PROJECTS, MOST_PLACES};
 
 use network::{Admitted, Network};
 use plays::judged::holds;
@@ -53,9 +52,9 @@ fn are_offered(projects: &[(usize, u32)], supervisors: usize) -> bool
 }
 
 /// Whether each entry names a known project with a small worth.
-fn is_list(list: &[(usize, Lex)], projects: usize) -> bool
+fn is_list<G: Worth>(list: &[(usize, G)], projects: usize) -> bool
     ensures known { IsTrue result → All (λ e. e.0 < projects) list.now }
-    ensures small { IsTrue result → All (λ e. (lex_ops PLACES).span e.1 ≤ 1) list.now }
+    ensures small { IsTrue result → All (λ e. G.ops.span e.1 ≤ 1) list.now }
 {
     for i in 0..list.len() {
         let (project, worth) = list[i];
@@ -78,27 +77,29 @@ fn weight(rank: usize) -> Lex {
 
 /// A network with the numbers of its projects and students.
 #[derive(Drop)]
-struct Trial {
-    network: Network<Lex>,
+pub(crate) struct Trial<G: Worth> {
+    network: Network<G>,
     projects: usize,
     students: usize,
 }
 
-impl Model for Trial {
+impl<G: Worth> Model for Trial<G> {
     ghost use Rattle.std.specs.Prelude.{length, ◌≡◌};
-    ghost use Rattle.spa.specs.Places.{Places};
-    ghost use Rattle.spa.specs.declared.TheConstants.{PLACES};
     ghost use Rattle.network.specs.Seen.{Seen};
 
-    ghost Value = { Seen (Places PLACES) };
+    ghost Value = { Seen G };
 
     ghost view = { λ t. t.network };
 
     ghost invariant = { λ t. (length t.network.projects ≡ t.projects) × (length t.network.lists ≡ t.students) };
 }
 
-impl Trial {
-    fn start(alloc: Global, supervisors: &[u32], projects: &[(usize, u32)]) -> Result<Trial, Fail> {
+impl<G: Worth> Trial<G> {
+    pub(crate) fn start(
+        alloc: Global,
+        supervisors: &[u32],
+        projects: &[(usize, u32)],
+    ) -> Result<Trial<G>, Fail> {
         holds(are_rolls(supervisors, projects), "rolls")?;
         let network = Network::start(alloc, supervisors, projects)?;
         Ok(Trial {
@@ -108,18 +109,17 @@ impl Trial {
         })
     }
 
-    /// Admits a student who ranks these projects.
-    fn admit(&mut self, alloc: Global, projects: &[usize]) -> Result<Admitted, Fail> {
-        let list = ranked(alloc, projects)?;
+    /// Admits a student with this list.
+    pub(crate) fn admit(&mut self, list: &[(usize, G)]) -> Result<Admitted, Fail> {
         let is_next = self.students < MOST_STUDENTS && list.len() <= RANKS;
-        holds(is_next && is_list(&list, self.projects), "a list")?;
-        let admitted = self.network.admit(&list)?;
+        holds(is_next && is_list(list, self.projects), "a list")?;
+        let admitted = self.network.admit(list)?;
         self.students += 1;
         Ok(admitted)
     }
 
     /// The rank of the student's project, which is its place, or 0.
-    fn rank_of(&self, student: usize) -> Result<usize, Fail> {
+    pub(crate) fn rank_of(&self, student: usize) -> Result<usize, Fail> {
         holds(student < self.students, "a student")?;
         Ok(self.network.place_of(student).unwrap_or(0))
     }
@@ -149,7 +149,7 @@ fn ranked(alloc: Global, projects: &[usize]) -> Result<Vec<(usize, Lex)>, Fail> 
 }
 
 /// The sizes of all prices added up, each as often as its quota says, and a student's once.
-fn paid(trial: &Trial, quotas: &[u32], offers: &[(usize, u32)]) -> Result<i64, Fail> {
+fn paid(trial: &Trial<Lex>, quotas: &[u32], offers: &[(usize, u32)]) -> Result<i64, Fail> {
     let (students, projects, supervisors) = trial.network.prices()?;
     let mut sum: i64 = 0;
     for price in &students {
@@ -181,12 +181,12 @@ type Case = (
 /// Makes an admission, and compares what comes of it.
 fn compare_admission(
     alloc: Global,
-    trial: &mut Trial,
+    trial: &mut Trial<Lex>,
     (list, placed, ranks, (least, most)): Admission,
 ) -> Result<(), Fail> {
     let student = trial.students;
     let before = trial.network.steps();
-    let admitted = trial.admit(alloc, list)?;
+    let admitted = trial.admit(&ranked(alloc, list)?)?;
     holds(trial.totals()? == (placed, ranks), "the places")?;
     let has_place = trial.rank_of(student)? > 0;
     holds(admitted.placed == has_place, "the new student's place")?;

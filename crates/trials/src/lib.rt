@@ -28,6 +28,8 @@ mod connections;
 mod copies;
 // A desk of one's own over a database, read again by another.
 #[cfg(test)]
+mod costs;
+#[cfg(test)]
 mod desks;
 // A request or two over HTTP, and its answer; readers and writers that fail.
 #[cfg(test)]
