@@ -1,5 +1,5 @@
 -- Which refusal a request gets, if any: in each line the first that applies.
-use Rattle.std.specs.Prelude.{Bool, Option, List}
+use Rattle.std.specs.Prelude.{Option}
 use Rattle.rolls.specs.declared.refusal.Refusal.{Refusal}
 use Rattle.rolls.specs.State.{State}
 use Rattle.rolls.specs.declared.request.Plain.{Plain}

@@ -1,6 +1,6 @@
 //! What a request makes of a session that is kept beside the office.
 
-use crate::text::Text;
+use row_data::Text;
 
 /// What a request, once carried out, makes of the session.
 #[derive(Drop)]
