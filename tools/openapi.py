@@ -8,7 +8,7 @@ Each example is sent over loopback to `serve` on a database of its own, after th
 body of the answer must be those of the example, byte by byte.
 
 The routes come from crates/api/specs, the refusals from crates/rolls/src/refusal.rt, and which of them a request may get, in which
-order, from crates/rolls/specs/Refusing.antt. So a further one is missed here until the document has it: each method of each path
+order, from crates/rolls/specs (Tests.antt, Meaning.antt, Refusing.antt). So a further one is missed here until the document has it: each method of each path
 needs an example of its success and of each refusal of its own, and each refusal that can be brought about an example.
 
 The document is also held against the public validator, openapi-spec-validator, where that is installed, and its examples against
@@ -71,7 +71,7 @@ def refusals():
 
 def own_refusals():
     """What each request may be refused, in the order in which it is looked for."""
-    text = read("crates", "rolls", "specs", "Refusing.antt")
+    text = "\n\n".join(read("crates", "rolls", "specs", name) for name in ("Tests.antt", "Meaning.antt", "Refusing.antt"))
     tests = dict(re.findall(r"^(\w+_tests) [^=\n:]*=(.*?)(?=\n\n|\Z)", text, re.M | re.S))
 
     def named(body, within=()):
@@ -81,7 +81,8 @@ def own_refusals():
             elif test not in within:
                 yield from named(tests[test], (*within, test))
 
-    rows = re.findall(r"^(?:plain_refusal o \(?|refusal_of o \(?request\.)(\w+).*? = first \((.*)\)$", text, re.M)
+    rows = re.findall(r"^meaning \(?(\w+)[^=\n]*=\s+(?:changing|reading)\s+(\w+|\(.*\)$)", text, re.M)
+    rows += re.findall(r"^refusal_of o \(?request\.(\w+).*? = first \((.*)\)$", text, re.M)
     return {request: [*dict.fromkeys(named(body)), *READING.get(request, ())] for request, body in rows}
 
 

@@ -8,7 +8,7 @@ ghost use Rattle.rolls.specs.Roll.{put_all};
 ghost use Rattle.rolls.specs.State.{placement_key};
 ghost use Rattle.rolls.specs.Rows.{placement_row};
 
-use rolls::{Change, Listed, Placement, Row, Table, Text};
+use rolls::{Change, Entries, Listed, Placement, Row, Text};
 use std::alloc::{AllocError, Global};
 
 /// The placement of a student at a place of the list, from 1.
@@ -48,9 +48,9 @@ pub fn placements_of(
 /// The placements with these put after one another. They share the entries until the first is put.
 pub fn placements_after(
     alloc: Global,
-    placements: &Table<Placement>,
+    placements: &Entries<Placement>,
     placed: Vec<Placement>,
-) -> Result<Table<Placement>, AllocError>
+) -> Result<Entries<Placement>, AllocError>
     ensures { IfOk result (λ after. after ≡ put_all placement_key placed.items placements.now) }
 {
     let mut after = placements.duplicate(alloc)?;

@@ -9,12 +9,12 @@ ghost use Rattle.rolls.specs.Counted.{count_in, count_with, offers, AreCounted};
 ghost use Rattle.closing.specs.Handed.{AreParts, ArePartsOfFit};
 ghost use Rattle.closing.specs.Inside.Handed.{supervisor_left, project_left, student_listed};
 
-use rolls::{Choices, Listed, Placement, Project, Supervisor, Table, counted};
+use rolls::{Choices, Entries, Listed, Placement, Project, Supervisor, counted};
 use spa::{Code, Counts, Instance, InstanceFault};
 use std::alloc::{AllocError, Global};
 
 /// Whether a supervisor offers a project.
-pub fn is_offered_by(projects: &Table<Project>, supervisor: &str, project: &str) -> bool
+pub fn is_offered_by(projects: &Entries<Project>, supervisor: &str, project: &str) -> bool
     ensures { result ≡ offers projects.now supervisor.now project.now }
 {
     match projects.by_code(project) {
@@ -35,7 +35,7 @@ pub fn placed_in_project(placements: &[Placement], project: &str) -> usize
 
 /// How many of the placements are in a supervisor's projects.
 pub fn placed_with_supervisor(
-    projects: &Table<Project>,
+    projects: &Entries<Project>,
     placements: &[Placement],
     supervisor: &str,
 ) -> usize
@@ -110,7 +110,7 @@ fn students_listed(alloc: Global, lists: &[Listed]) -> Result<Vec<(Code, Vec<Cod
 pub fn round_instance(
     alloc: Global,
     supervisors: &[Supervisor],
-    projects: &Table<Project>,
+    projects: &Entries<Project>,
     placements: &[Placement],
     lists: &[Listed],
 ) -> Result<Instance, AllocError>

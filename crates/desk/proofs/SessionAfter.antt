@@ -16,8 +16,8 @@ use Rattle.rolls.specs.Run.{Makes}
 use Rattle.solver.specs.Sitting.{Sitting}
 use Rattle.allotment.specs.Layers.{layers}
 use Rattle.allotment.specs.Sittings.{MayJoin}
-use Rattle.desk.specs.declared.sessions.Fate.{Fate}
-use Rattle.desk.specs.declared.sessions.Fate.TheVariants.{Stays, Joins, Ends}
+use Rattle.rolls.specs.declared.fate.Fate.{Fate}
+use Rattle.rolls.specs.declared.fate.Fate.TheVariants.{Stays, Joins, Ends}
 use Rattle.desk.specs.Sessions.{plain_fate, fate_of, Goes, GoesOn, SitsAt}
 use Rattle.desk.specs.Inside.Sessions.{MayMeet}
 

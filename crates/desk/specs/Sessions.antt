@@ -1,12 +1,13 @@
 -- What becomes of the session that a desk keeps.
-use Rattle.std.specs.Prelude.{◌≡◌, ℕ, false, List, [], ◌∷◌, IsTrue, Option, Some, None, is_some, IfSome, IsOk, Result, Ok, Err, if◌then◌else◌}
-use Rattle.rolls.specs.State.{State, last_round, has_list, has_import}
+use Rattle.std.specs.Prelude.{◌≡◌, false, List, [], ◌∷◌, IsTrue, Option, Some, None, is_some, IfSome, IsOk, Result, Ok, Err, if◌then◌else◌}
+use Rattle.rolls.specs.State.{State, has_import}
 use Rattle.rolls.specs.declared.refusal.Refusal.{Refusal}
 use Rattle.rolls.specs.declared.refusal.Refusal.TheVariants.{Storage}
+use Rattle.rolls.specs.Meaning.{meaning}
+pub use Rattle.rolls.specs.Moves.{list_fate}
 use Rattle.rolls.specs.Reads.{changes_nothing}
 use Rattle.rolls.specs.Refusing.{refusal_of}
 use Rattle.rolls.specs.declared.request.Plain.{Plain}
-use Rattle.rolls.specs.declared.request.Plain.TheVariants.{PutSupervisor, PutProject, PutStudent, OpenRound, PutList, DropList, ReopenRound, GetSupervisor, GetProject, GetStudent, GetRound}
 use Rattle.rolls.specs.declared.request.Reply.{Reply}
 use Rattle.rolls.specs.declared.request.Request.{Request}
 use Rattle.rolls.specs.declared.request.Request.TheVariants as request
@@ -15,26 +16,12 @@ use Rattle.solver.specs.Sitting.{Sitting}
 use Rattle.allotment.specs.Layers.{layers}
 use Rattle.allotment.specs.Sittings.{SitsIn, IsOneMore}
 use Rattle.desk.specs.Keeping.{AnswersKept, AnswersRound}
-use Rattle.desk.specs.declared.sessions.Fate.{Fate}
-use Rattle.desk.specs.declared.sessions.Fate.TheVariants.{Stays, Starts, Joins, Ends}
+use Rattle.rolls.specs.declared.fate.Fate.{Fate}
+use Rattle.rolls.specs.declared.fate.Fate.TheVariants.{Stays, Starts, Joins, Ends}
 
--- what a put of a list makes of a session: a student's first list in the open round joins it, and one over another ends it
-abbrev pub list_fate : State → List ℕ → Fate
-list_fate o student = if has_list o (last_round o) student then Ends else Joins student
-
--- what a plain request, once carried out, makes of it
+-- what a plain request, once carried out, makes of a session
 abbrev pub plain_fate : State → Plain → Fate
-plain_fate o (PutSupervisor code label quota) = Ends
-plain_fate o (PutProject code label supervisor quota) = Ends
-plain_fate o (PutStudent code label) = Stays
-plain_fate o (OpenRound aim) = Ends
-plain_fate o (PutList student choices) = list_fate o student
-plain_fate o (DropList student) = Ends
-plain_fate o ReopenRound = Ends
-plain_fate o (GetSupervisor code) = Stays
-plain_fate o (GetProject code) = Stays
-plain_fate o (GetStudent code) = Stays
-plain_fate o (GetRound round) = Stays
+plain_fate o p = let m = meaning p in m.fate o
 
 -- the same of each request
 abbrev pub fate_of : State → Request → Fate

@@ -6,22 +6,9 @@ ghost use Rattle.desk.specs.Sessions.{list_fate, plain_fate, fate_of, Goes, IsJo
 ghost use Rattle.desk.specs.Inside.Sessions.{MayMeet};
 
 use office::Office;
-use rolls::{Plain, Request, Text};
+use rolls::{Fate, Plain, Request, Text};
 use solver::Session;
 use std::alloc::{AllocError, Global};
-
-/// What a request, once carried out, makes of the session.
-#[derive(Drop)]
-pub enum Fate {
-    /// It stays as it is.
-    Stays,
-    /// It stays, and where none is kept one is started.
-    Starts,
-    /// This student is admitted.
-    Joins(Text),
-    /// It is dropped.
-    Ends,
-}
 
 /// What a put of a list makes of the session: a first list joins it, and one over another ends it.
 fn list_fate(alloc: Global, office: &Office, student: &str) -> Result<Fate, AllocError>

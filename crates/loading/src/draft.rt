@@ -7,8 +7,8 @@ ghost use Rattle.loading.specs.Inside.Gathering.{taken_in, choices_among, with_c
 
 use crate::fault::RowsFault;
 use rolls::{
-    Bytes, Choices, Import, ImportKind, Listed, MOST_IMPORT_BYTES, Placement, Project, Round,
-    RoundAim, Row, Student, Supervisor, Table, Text,
+    Bytes, Choices, Entries, Import, ImportKind, Listed, MOST_IMPORT_BYTES, Placement, Project,
+    Round, RoundAim, Row, Student, Supervisor, Text,
 };
 use spa::{Aim, Code, Label, MOST_PLACES, RANKS};
 use std::alloc::{AllocError, Global};
@@ -17,19 +17,19 @@ use std::alloc::{AllocError, Global};
 #[derive(Drop)]
 pub struct Draft {
     /// The supervisors, by code.
-    pub supervisors: Table<Supervisor>,
+    pub supervisors: Entries<Supervisor>,
     /// The projects, by code.
-    pub projects: Table<Project>,
+    pub projects: Entries<Project>,
     /// The students, by code.
-    pub students: Table<Student>,
+    pub students: Entries<Student>,
     /// The rounds, by number.
-    pub rounds: Table<Round>,
+    pub rounds: Entries<Round>,
     /// The aims of the rounds, by number.
-    pub aims: Table<RoundAim>,
+    pub aims: Entries<RoundAim>,
     /// The placements, by student.
-    pub placements: Table<Placement>,
+    pub placements: Entries<Placement>,
     /// The imports that were made, by id.
-    pub imports: Table<Import>,
+    pub imports: Entries<Import>,
 }
 
 /// These projects, and one more behind them.
@@ -47,7 +47,7 @@ fn one_more(alloc: Global, before: &[Code], last: Code) -> Result<Vec<Code>, All
 /// A student's choices among these lists, with one more at this place.
 fn next_choices(
     alloc: Global,
-    lists: &Table<Listed>,
+    lists: &Entries<Listed>,
     student: &Code,
     place: u32,
     project: Code,
@@ -69,7 +69,7 @@ fn next_choices(
 /// Adds a choice to a student's list, as the next of it.
 fn add_choice(
     alloc: Global,
-    lists: &mut Table<Listed>,
+    lists: &mut Entries<Listed>,
     student: Code,
     place: u32,
     project: Code,
@@ -90,13 +90,13 @@ impl Draft {
         ensures { drafted result ≡ empty }
     {
         Draft {
-            supervisors: Table::new(alloc),
-            projects: Table::new(alloc),
-            students: Table::new(alloc),
-            rounds: Table::new(alloc),
-            aims: Table::new(alloc),
-            placements: Table::new(alloc),
-            imports: Table::new(alloc),
+            supervisors: Entries::new(alloc),
+            projects: Entries::new(alloc),
+            students: Entries::new(alloc),
+            rounds: Entries::new(alloc),
+            aims: Entries::new(alloc),
+            placements: Entries::new(alloc),
+            imports: Entries::new(alloc),
         }
     }
 
@@ -178,7 +178,7 @@ impl Draft {
         self.rounds.put(Round {
             number,
             is_open,
-            lists: Table::new(alloc),
+            lists: Entries::new(alloc),
         })?;
         Ok(())
     }

@@ -11,7 +11,7 @@ ghost use Rattle.loading.specs.Inside.Gathering.{choices_among};
 ghost use Rattle.loading.specs.Inside.Whole.{is_whole, are_few, are_offered, are_rounds, is_list, is_placement};
 
 use crate::draft::Draft;
-use rolls::{Listed, MOST_IMPORTS, MOST_ROUNDS, Placement, Round, RoundAim, Table};
+use rolls::{Entries, Listed, MOST_IMPORTS, MOST_ROUNDS, Placement, Round, RoundAim};
 use spa::{Code, MOST_PROJECTS, MOST_STUDENTS, MOST_SUPERVISORS, RANKS};
 
 /// Whether the rounds have the numbers from 1 on.
@@ -75,7 +75,7 @@ fn is_distinct(codes: &[Code]) -> bool
 }
 
 /// Whether a placement's project stands at its rank in the student's list.
-fn stands_at_rank(lists: &Table<Listed>, placement: &Placement) -> bool
+fn stands_at_rank(lists: &Entries<Listed>, placement: &Placement) -> bool
     ensures { let p = placement.now in result ≡ option_map_or (bytes_eq p.project) (slice_get (choices_among p.student lists.now) (p.rank - 1)) false }
 {
     let choices = match lists.by_code(placement.student.as_str()) {

@@ -19,8 +19,8 @@ ghost use Rattle.row_changes.specs.Changes.{changes_of};
 
 use loading::{RowsFault, gather};
 use rolls::{
-    Done, Import, Placement, Plain, Project, Refusal, Reply, Request, Round, RoundAim, Row,
-    Student, Supervisor, Table,
+    Done, Entries, Import, Placement, Plain, Project, Refusal, Reply, Request, Round, RoundAim,
+    Row, Student, Supervisor,
 };
 use std::alloc::{AllocError, Global};
 use std::marker::Model;
@@ -29,13 +29,13 @@ use std::marker::Model;
 #[derive(Drop)]
 pub struct Office {
     alloc: Global,
-    supervisors: Table<Supervisor>,
-    projects: Table<Project>,
-    students: Table<Student>,
-    rounds: Table<Round>,
-    aims: Table<RoundAim>,
-    placements: Table<Placement>,
-    imports: Table<Import>,
+    supervisors: Entries<Supervisor>,
+    projects: Entries<Project>,
+    students: Entries<Student>,
+    rounds: Entries<Round>,
+    aims: Entries<RoundAim>,
+    placements: Entries<Placement>,
+    imports: Entries<Import>,
 }
 
 impl Model for Office {
@@ -57,13 +57,13 @@ impl Office {
     {
         Office {
             alloc,
-            supervisors: Table::new(alloc),
-            projects: Table::new(alloc),
-            students: Table::new(alloc),
-            rounds: Table::new(alloc),
-            aims: Table::new(alloc),
-            placements: Table::new(alloc),
-            imports: Table::new(alloc),
+            supervisors: Entries::new(alloc),
+            projects: Entries::new(alloc),
+            students: Entries::new(alloc),
+            rounds: Entries::new(alloc),
+            aims: Entries::new(alloc),
+            placements: Entries::new(alloc),
+            imports: Entries::new(alloc),
         }
     }
 

@@ -6,7 +6,7 @@ ghost use Rattle.rolls.specs.Inside.Counted.{ArePositions, IsNowhere, IsOneMore}
 
 use crate::entries::{Project, Supervisor};
 use crate::rounds::Placement;
-use crate::table::search;
+use crate::sorted::search;
 use spa::Counts;
 
 /// Whether a round up to this one made a placement; where none is named, any round did.

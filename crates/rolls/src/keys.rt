@@ -5,7 +5,7 @@ ghost use Rattle.rolls.specs.State.{supervisor_key, project_key, student_key, ro
 use crate::entries::{Project, Student, Supervisor};
 use crate::import::Import;
 use crate::rounds::{Listed, Placement, Round, RoundAim};
-use crate::table::Entry;
+use crate::sorted::Entry;
 use std::alloc::{AllocError, Global};
 
 impl Entry for Supervisor {

@@ -3,11 +3,11 @@
 ghost use Rattle.std.specs.Prelude.{◌≡◌};
 ghost use Rattle.rolls.specs.Reads.{is_read};
 
-use crate::import::{Bytes, ImportKind};
+use crate::import::ImportKind;
 use crate::report::ReportKind;
 use crate::rounds::{Choices, Placement};
 use crate::row::Change;
-use crate::text::{Text, Texts};
+use row_data::{Bytes, Text, Texts};
 use spa::{Aim, Code, Label, RANKS};
 
 /// A request that needs nothing but the office. Texts and quotas come as they were sent, for the office

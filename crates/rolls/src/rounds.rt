@@ -2,8 +2,8 @@
 
 ghost use Rattle.std.specs.Prelude.{◌≡◌};
 
-use crate::shared::Shared;
-use crate::table::Table;
+use crate::sorted::Entries;
+use row_data::Shared;
 use spa::{Aim, Code};
 
 /// The projects that a student lists, by their codes, first choice first.
@@ -26,7 +26,7 @@ pub struct Round {
     /// Whether lists may be put.
     pub is_open: bool,
     /// Its lists, by the students' codes.
-    pub lists: Table<Listed>,
+    pub lists: Entries<Listed>,
 }
 
 /// The aim of a round: which of the largest matchings is best when it closes.

@@ -1,7 +1,7 @@
 //! The rows of the tables, and changes of them.
 
-use crate::import::{Bytes, ImportKind};
-use crate::text::Text;
+use crate::import::ImportKind;
+use row_data::{Bytes, Text};
 use spa::Aim;
 
 /// A row of a table.

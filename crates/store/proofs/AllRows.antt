@@ -9,7 +9,7 @@ use Rattle.sqlite.specs.Order.{Row as Cells}
 use Rattle.sqlite.specs.Effect.{Database}
 use Rattle.sqlite.specs.State.{State as Seen, IsUnchanged}
 use Rattle.rolls.specs.declared.row.Row.{Row}
-use Rattle.tables.specs.declared.table.Table.{Table}
+use Rattle.row_data.specs.declared.table.Table.{Table}
 use Rattle.store.specs.Rows.{columns, is_in, columns_of}
 use Rattle.store.specs.Inside.Reading.{HoldsCells, ReadsTable, ReadsSome, HoldsNoRow, ReadsAll, HoldsUnread}
 use Rattle.tables.proofs.Runs.{decide_table}

@@ -7,7 +7,7 @@ use Rattle.sqlite.specs.declared.types.Value.{Value}
 use Rattle.sqlite.specs.Order.{Row as Cells, column}
 use Rattle.sqlite_rules.specs.Lists.{Has}
 use Rattle.rolls.specs.declared.row.Row.{Row}
-use Rattle.tables.specs.declared.table.Table.{Table}
+use Rattle.row_data.specs.declared.table.Table.{Table}
 use Rattle.store.specs.Rows.{columns, is_in}
 use Rattle.store.specs.Inside.Reading.{AreRowsOf}
 

@@ -25,8 +25,8 @@ use Rattle.rolls.specs.declared.row.RowKey.{RowKey}
 use Rattle.rolls.specs.declared.row.RowKey.TheVariants as key
 use Rattle.rolls.specs.From.{row_in}
 use Rattle.rolls.specs.Rows.{key_of, is_in_list, is_placement_in, same_row}
-use Rattle.tables.specs.declared.table.Table.{Table}
-use Rattle.tables.specs.declared.table.Table.TheVariants.{Choice, Edition, Placement, RoundAim}
+use Rattle.row_data.specs.declared.table.Table.{Table}
+use Rattle.row_data.specs.declared.table.Table.TheVariants.{Choice, Edition, Placement, RoundAim}
 use Rattle.tables.specs.Table.{same_table}
 use Rattle.tables.proofs.Runs.{decide_table, same_table_is, same_table_self}
 use Rattle.tables.proofs.KeyTests.{equal_int}

@@ -15,7 +15,7 @@ use Rattle.rolls.specs.State.{State}
 use Rattle.editions.specs.declared.Edition.{Edition as AnEdition}
 use Rattle.editions.specs.declared.Edition.TheVariants.{First, Second, Third}
 use Rattle.editions.specs.Editions.{Renews, Upgrades, aims_of, is_old, moves, renewed, row_at, swapped, taken, upgrade}
-use Rattle.tables.specs.declared.table.Table.TheVariants.{OldChoice, OldPlacement}
+use Rattle.row_data.specs.declared.table.Table.TheVariants.{OldChoice, OldPlacement}
 use Rattle.store.specs.Editions.{number_of, raised, rolls_of}
 use Rattle.store.specs.Rows.{IsAmong, table_of}
 use Rattle.store.specs.Saving.{AllNeed, AreLeftAmong, IsLeftAlone}

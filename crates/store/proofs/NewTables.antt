@@ -17,8 +17,8 @@ use Rattle.std.specs.Prelude.{nat_le, slice_get}
 use Rattle.std.specs.Option.{option_map}
 use Rattle.rolls.specs.From.{row_in}
 use Rattle.rolls.specs.State.{State, empty}
-use Rattle.tables.specs.declared.table.Table.{Table}
-use Rattle.tables.specs.declared.table.Table.TheVariants.{Edition}
+use Rattle.row_data.specs.declared.table.Table.{Table}
+use Rattle.row_data.specs.declared.table.Table.TheVariants.{Edition}
 use Rattle.tables.specs.Table.{Place, Lists, rules_of, key_in, table_at}
 use Rattle.tables.specs.Keyed.{Stands}
 use Rattle.tables.specs.Writes.{Makes, Adds}

@@ -9,8 +9,8 @@ use Rattle.rolls.specs.declared.row.RowKey.TheVariants as key
 use Rattle.rolls.specs.declared.row.Change.{Change}
 use Rattle.rolls.specs.declared.row.Change.TheVariants.{Add, Put, Take, TakeList, TakePlacements}
 use Rattle.rolls.specs.Rows.{IsFresh, key_of, is_in_list, is_placement_in, same_row, after_change}
-use Rattle.tables.specs.declared.table.Table.{Table}
-use Rattle.tables.specs.declared.table.Table.TheVariants.{Choice, Edition, Placement}
+use Rattle.row_data.specs.declared.table.Table.{Table}
+use Rattle.row_data.specs.declared.table.Table.TheVariants.{Choice, Edition, Placement}
 use Rattle.tables.specs.Table.{table_at}
 use Rattle.tables.specs.Keyed.{Stands}
 use Rattle.tables.specs.Writes.{Adds, Puts, Removes, WritesOnly, begins_with, goes_on, with_row}

@@ -19,8 +19,8 @@ use Rattle.rolls.specs.Kinds.{word_of}
 use Rattle.spa.specs.declared.aim.Aim.TheVariants.{Greedy, Generous}
 use Rattle.rolls.specs.declared.import.ImportKind.{ImportKind}
 use Rattle.rolls.specs.declared.import.ImportKind.TheVariants as kind
-use Rattle.tables.specs.declared.table.Table.{Table}
-use Rattle.tables.specs.declared.table.Table.TheVariants.{Supervisor, Project, Student, Round, OldChoice, OldPlacement, RoundAim, Choice, Placement}
+use Rattle.row_data.specs.declared.table.Table.{Table}
+use Rattle.row_data.specs.declared.table.Table.TheVariants.{Supervisor, Project, Student, Round, OldChoice, OldPlacement, RoundAim, Choice, Placement}
 use Rattle.store.specs.Editions.{latest}
 use Rattle.store.specs.Rows.{IsAmong, IsRoll, columns, is_in, columns_of, rolls, table_of, AreRowsAt}
 use Rattle.tables.specs.Table.{same_table}

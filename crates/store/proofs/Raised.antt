@@ -16,8 +16,8 @@ use Rattle.rolls.specs.declared.row.RowKey.{RowKey}
 use Rattle.rolls.specs.declared.row.Change.{Change}
 use Rattle.editions.specs.declared.Edition.{Edition as AnEdition}
 use Rattle.editions.specs.declared.Edition.TheVariants.{First, Second, Third}
-use Rattle.tables.specs.declared.table.Table.{Table}
-use Rattle.tables.specs.declared.table.Table.TheVariants.{Edition, OldChoice, OldPlacement}
+use Rattle.row_data.specs.declared.table.Table.{Table}
+use Rattle.row_data.specs.declared.table.Table.TheVariants.{Edition, OldChoice, OldPlacement}
 use Rattle.tables.specs.Table.{Place, Lists, table_at}
 use Rattle.tables.specs.Inert.{IsActedOn}
 use Rattle.tables.specs.Keyed.{Stands}

@@ -15,8 +15,8 @@ use Rattle.rolls.specs.declared.row.Row.{Row}
 use Rattle.rolls.specs.State.{State}
 use Rattle.rolls.specs.Fit.{IsFit}
 use Rattle.rolls.specs.From.{are_apart, row_in}
-use Rattle.tables.specs.declared.table.Table.{Table}
-use Rattle.tables.specs.declared.table.Table.TheVariants.{Edition}
+use Rattle.row_data.specs.declared.table.Table.{Table}
+use Rattle.row_data.specs.declared.table.Table.TheVariants.{Edition}
 use Rattle.rolls.specs.declared.row.RowKey.{RowKey}
 use Rattle.editions.specs.declared.Edition.{Edition as AnEdition}
 use Rattle.editions.specs.Editions.{AreRowsIn, row_at}

@@ -6,8 +6,8 @@ use Rattle.sqlite.specs.Effect.{Database, IsDatabase}
 use Rattle.sqlite.specs.Order.{Row as Cells}
 use Rattle.sqlite.specs.Table.{Table as AnyTable}
 use Rattle.sqlite_rules.specs.Lists.{Has}
-use Rattle.tables.specs.declared.table.Table.{Table}
-use Rattle.tables.specs.declared.table.Table.TheVariants.{Choice, Edition, RoundAim}
+use Rattle.row_data.specs.declared.table.Table.{Table}
+use Rattle.row_data.specs.declared.table.Table.TheVariants.{Choice, Edition, RoundAim}
 use Rattle.tables.specs.Table.{Place, cells, table_at}
 use Rattle.tables.specs.Keyed.{Stands}
 use Rattle.tables.proofs.SameTrees.{listed_so, stands_so}

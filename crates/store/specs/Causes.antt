@@ -5,8 +5,8 @@ use Rattle.sqlite.specs.Effect.{Database}
 use Rattle.sqlite_rules.specs.Lists.{Has}
 use Rattle.rolls.specs.declared.row.Change.{Change}
 use Rattle.rolls.specs.declared.row.Change.TheVariants.{Add, Put, Take, TakeList, TakePlacements}
-use Rattle.tables.specs.declared.table.Table.{Table}
-use Rattle.tables.specs.declared.table.Table.TheVariants.{Edition}
+use Rattle.row_data.specs.declared.table.Table.{Table}
+use Rattle.row_data.specs.declared.table.Table.TheVariants.{Edition}
 use Rattle.tables.specs.declared.table.Group.TheVariants as group
 use Rattle.tables.specs.Table.{Sharing, sharing, sql_of}
 use Rattle.tables.specs.Causes.{IsHindered, IsHinderedToPut, IsUnread, IsUnready, Went, WentPutting}

@@ -2,8 +2,8 @@
 use Rattle.std.specs.Prelude.{ℕ, ⊤, List, [], ◌∷◌, drop, take}
 use Rattle.editions.specs.declared.Edition.{Edition}
 use Rattle.editions.specs.declared.Edition.TheVariants.{First, Second, Third}
-use Rattle.tables.specs.declared.table.Table.{Table}
-use Rattle.tables.specs.declared.table.Table.TheVariants.{Edition as EditionTable, OldChoice, OldPlacement}
+use Rattle.row_data.specs.declared.table.Table.{Table}
+use Rattle.row_data.specs.declared.table.Table.TheVariants.{Edition as EditionTable, OldChoice, OldPlacement}
 use Rattle.store.specs.Rows.{rolls}
 
 -- the edition in which tables are made

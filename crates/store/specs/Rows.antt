@@ -3,8 +3,8 @@ use Rattle.std.specs.Prelude.{◌≡◌, ℕ, pos, cond, Bool, false, true, IsTr
 use Rattle.sqlite.specs.declared.types.Value.TheVariants.{Int, Text, Blob}
 use Rattle.sqlite.specs.Order.{Row as Cells}
 use Rattle.sqlite_rules.specs.Lists.{Has}
-use Rattle.tables.specs.declared.table.Table.{Table}
-use Rattle.tables.specs.declared.table.Table.TheVariants.{Supervisor, Project, Student, Round, OldChoice, OldPlacement, Import, RoundAim, Choice, Placement}
+use Rattle.row_data.specs.declared.table.Table.{Table}
+use Rattle.row_data.specs.declared.table.Table.TheVariants.{Supervisor, Project, Student, Round, OldChoice, OldPlacement, Import, RoundAim, Choice, Placement}
 use Rattle.tables.specs.Table.{all_tables, same_table}
 use Rattle.spa.specs.declared.aim.Aim.{Aim}
 use Rattle.spa.specs.declared.aim.Aim.TheVariants.{Greedy, Generous}

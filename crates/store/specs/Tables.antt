@@ -13,8 +13,8 @@ use Rattle.rolls.specs.declared.row.Row.{Row}
 use Rattle.rolls.specs.declared.row.RowKey.{RowKey}
 use Rattle.rolls.specs.Rows.{row_of}
 use Rattle.rolls.specs.State.{State, empty}
-use Rattle.tables.specs.declared.table.Table.{Table}
-use Rattle.tables.specs.declared.table.Table.TheVariants.{Edition as EditionTable}
+use Rattle.row_data.specs.declared.table.Table.{Table}
+use Rattle.row_data.specs.declared.table.Table.TheVariants.{Edition as EditionTable}
 use Rattle.tables.specs.Table.{Place, Lists, made_here, rules_of, shape_of, table_at}
 use Rattle.tables.specs.Inert.{IsActedOn}
 use Rattle.tables.specs.Keyed.{Stands}

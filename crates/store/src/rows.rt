@@ -15,7 +15,7 @@ use spa::Aim;
 use sqlite::Row as Cells;
 use sqlite_value::value::ValueRef;
 use std::alloc::Global;
-use tables::Table;
+use tables::{Table, width};
 
 /// The text in a column.
 fn text_at(alloc: Global, cells: &Cells, at: usize) -> Result<Text, StoreFault>
@@ -173,7 +173,7 @@ fn row_with(alloc: Global, table: Table, cells: &Cells) -> Result<Row, StoreFaul
     ensures damaged { result ≡ Err StoreFault.Damaged → IsNoRow table (drop 1 cells.now) }
     ensures faults { result ≢ Err StoreFault.Storage }
 {
-    if cells.column_count() != table.width() + 1 {
+    if cells.column_count() != width(table) + 1 {
         return Err(StoreFault::Damaged);
     }
     match table {

@@ -14,8 +14,8 @@ use Rattle.sqlite.specs.State.{State, HasCleanDisk, KeepsCommit, Executes, Survi
 use Rattle.sqlite.proofs.StateLemmas.{survives_then}
 use Rattle.sqlite.specs.Tree.{Trees}
 use Rattle.sqlite_rules.proofs.ListLemmas.{all_has, all_from, has_got}
-use Rattle.tables.specs.declared.table.Table.{Table as Ours}
-use Rattle.tables.specs.declared.table.Table.TheVariants.{Edition, Supervisor, Project, Student, Round, OldChoice, OldPlacement, Import, RoundAim, Choice, Placement}
+use Rattle.row_data.specs.declared.table.Table.{Table as Ours}
+use Rattle.row_data.specs.declared.table.Table.TheVariants.{Edition, Supervisor, Project, Student, Round, OldChoice, OldPlacement, Import, RoundAim, Choice, Placement}
 use Rattle.tables.specs.Table.{Place, Rules, Lists, all_tables, cells, table_at, number_of, same_table}
 use Rattle.std.proofs.lemmas.Bool.{cases_Bool}
 use Rattle.std.proofs.lemmas.Bool.Decides.{Decides-eqb}

@@ -8,8 +8,8 @@ use Rattle.sqlite.specs.Ops.{unary}
 use Rattle.sqlite.specs.Term.{Term, col}
 use Rattle.sqlite.specs.declared.types.Value.TheVariants.{Int, Text as Words}
 use Rattle.sqlite_value.specs.Keys.{first_key}
-use Rattle.tables.specs.declared.table.Table.{Table}
-use Rattle.tables.specs.declared.table.Table.TheVariants.{Edition, Supervisor, Project, Student, Round, OldChoice, OldPlacement, Import, RoundAim, Choice, Placement}
+use Rattle.row_data.specs.declared.table.Table.{Table}
+use Rattle.row_data.specs.declared.table.Table.TheVariants.{Edition, Supervisor, Project, Student, Round, OldChoice, OldPlacement, Import, RoundAim, Choice, Placement}
 use Rattle.tables.specs.Table.{Place, cells, choices, made_at, shape_of, sharing, table_at}
 use Rattle.tables.specs.Writes.{begins_with, goes_on}
 use Rattle.tables.specs.declared.table.Group.{Group}

@@ -37,7 +37,7 @@ use Rattle.sqlite_resolve.specs.Write.{updated, deleted}
 use Rattle.sqlite_resolve.specs.declared.scope.Output.{Output}
 use Rattle.sqlite_resolve.specs.declared.error.CompileError.TheVariants.{NoSuchTable}
 use Rattle.sqlite_tied.specs.Compute.{everything}
-use Rattle.tables.specs.declared.table.Table.{Table}
+use Rattle.row_data.specs.declared.table.Table.{Table}
 use Rattle.tables.specs.Table.{Shape, Sql, Place, Lists, rules_of, shape_of, sql_of, table_at, kinds_of, are_of, cells}
 use Rattle.tables.specs.Writes.{begins_with, goes_on}
 use Rattle.tables.proofs.CreateTable.{IsCreate, made_command}

@@ -6,7 +6,7 @@ use Rattle.sqlite.specs.State.{State, HasCleanDisk, Survives, Shown, CommitsShow
 use Rattle.sqlite.specs.Tree.{Trees}
 use Rattle.tables.specs.declared.fault.TableFault.{TableFault}
 use Rattle.tables.specs.Keyed.{IsKeyed}
-use Rattle.tables.specs.declared.table.Table.{Table}
+use Rattle.row_data.specs.declared.table.Table.{Table}
 use Rattle.tables.specs.Table.{Sharing, Sql, rules_of, shape_of, sharing, sql_of, table_at, kinds_of, kinds_shared, key_in, IsRowOf, IsKeyOf, IsNamed}
 use Rattle.tables.specs.declared.table.Group.{Group}
 use Rattle.tables.specs.Writes.{Makes, Adds, Removes, Replaces, begins_with, goes_on}

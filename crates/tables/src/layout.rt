@@ -12,7 +12,8 @@ ghost use Rattle.tables.specs.Layout.{IsListed, IsUnlisted};
 ghost use Rattle.sqlite.specs.Table.{Table as AnyTable};
 
 use crate::inert::is_passive;
-use crate::table::{Link, Shape, Table, Told};
+use crate::table::{Link, Shape, Shaped, Told};
+use row_data::Table;
 use sqlite_items::Items;
 use sqlite_schema::names::same_name;
 use sqlite_schema::schema::{Column, Kind, Reference, Schema, Table as Listed};

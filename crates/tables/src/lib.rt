@@ -25,4 +25,5 @@ pub mod statements;
 mod table;
 mod write;
 
-pub use table::{Group, Table};
+pub use row_data::Table;
+pub use table::{Group, width};

@@ -12,8 +12,9 @@ ghost use Rattle.tables.specs.Steps.{Does, HasStepped, Rests, Shows};
 
 use crate::fault::{TableFault, Wrote};
 use crate::read::read_text;
-use crate::table::{Group, Table};
+use crate::table::{Group, Shaped};
 use crate::write::write;
+use row_data::Table;
 use sqlite::{Alter, Connection, Row, Transaction};
 use sqlite_value::value::ValueRef;
 

@@ -4,25 +4,8 @@ ghost use Rattle.std.specs.Prelude.{◌≡◌, length};
 ghost use Rattle.tables.specs.Table.{Sharing, kinds_of, shape_of, sharing, sql_of};
 ghost use Rattle.tables.specs.Inside.Table.{texts_by, told_by};
 
+use row_data::Table;
 use sqlite_schema::schema::Kind;
-
-/// A table of the product.
-#[derive(Clone, Copy, PartialEq, Eq, Drop)]
-pub enum Table {
-    Edition,
-    Supervisor,
-    Project,
-    Student,
-    Round,
-    /// The choices of earlier editions.
-    OldChoice,
-    /// The placements of earlier editions.
-    OldPlacement,
-    Import,
-    RoundAim,
-    Choice,
-    Placement,
-}
 
 /// A column of a table, by its name and its kind: NOT NULL, with no default.
 pub(crate) struct Told(pub &'static str, pub Kind);
@@ -223,16 +206,21 @@ impl Group {
     }
 }
 
-impl Table {
-    /// How many columns the table has.
-    pub fn width(self) -> usize
-        ensures { result ≡ length (kinds_of self) }
-    {
-        self.shape().columns.len()
-    }
+/// How many columns the table has.
+pub fn width(table: Table) -> usize
+    ensures { result ≡ length (kinds_of table) }
+{
+    table.shape().columns.len()
+}
 
+/// What has a shape.
+pub(crate) trait Shaped {
+    fn shape(self) -> &'static Shape;
+}
+
+impl Shaped for Table {
     /// What the table is, and what its statements say.
-    pub(crate) fn shape(self) -> &'static Shape
+    fn shape(self) -> &'static Shape
         ensures shape { told_by result.now ≡ shape_of self }
         ensures texts { texts_by result.now ≡ sql_of self }
     {

@@ -3,8 +3,8 @@ use Rattle.std.specs.Prelude.{⊤, Option, IfSome}
 use Rattle.rolls.specs.State.{State}
 use Rattle.solver.specs.Sitting.{Sitting}
 use Rattle.allotment.specs.Sittings.{MayJoin}
-use Rattle.desk.specs.declared.sessions.Fate.{Fate}
-use Rattle.desk.specs.declared.sessions.Fate.TheVariants.{Stays, Starts, Joins, Ends}
+use Rattle.rolls.specs.declared.fate.Fate.{Fate}
+use Rattle.rolls.specs.declared.fate.Fate.TheVariants.{Stays, Starts, Joins, Ends}
 use Rattle.desk.specs.Sessions.{SitsAt}
 
 -- a session that is kept may meet this fate in an office that was just changed

@@ -9,7 +9,7 @@ ghost use Rattle.rolls.specs.Answers.{IsDone};
 ghost use Rattle.row_changes.specs.Changes.{changes_of};
 
 use super::Office;
-use rolls::{Done, Entry, Listed, Reply, Round, RoundAim, Table};
+use rolls::{Done, Entries, Entry, Listed, Reply, Round, RoundAim};
 use row_changes::{kept_placements, opening_changes, reopening_changes};
 use spa::Aim;
 use std::alloc::AllocError;
@@ -61,7 +61,7 @@ impl Office {
     }
 
     /// The aims of the rounds, with one more.
-    fn aims_with(&self, round: u32, aim: Aim) -> Result<Table<RoundAim>, AllocError>
+    fn aims_with(&self, round: u32, aim: Aim) -> Result<Entries<RoundAim>, AllocError>
         ensures put { let o = self.now in IfOk result (λ aims. aims ≡ put aim_key (record { round = round; aim = aim }) o.aims) }
     {
         let mut aims = self.aims.duplicate(self.alloc)?;
@@ -82,7 +82,7 @@ impl Office {
         self.rounds.put(Round {
             number,
             is_open: true,
-            lists: Table::new(self.alloc),
+            lists: Entries::new(self.alloc),
         })?;
         self.aims = aims;
         Ok(Done {
@@ -101,7 +101,7 @@ impl Office {
         let round = self.last_round();
         let changes = reopening_changes(self.alloc, round)?;
         let placements = self.placements.entries();
-        let kept = Table::of(self.alloc, kept_placements(self.alloc, placements, round)?)?;
+        let kept = Entries::of(self.alloc, kept_placements(self.alloc, placements, round)?)?;
         let mut last = self.last()?;
         last.is_open = true;
         self.rounds.put(last)?;

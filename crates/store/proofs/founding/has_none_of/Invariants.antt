@@ -1,7 +1,7 @@
 use Rattle.std.proofs.Common.{◌≡◌, is_some, false, take}
 use Rattle.sqlite_rules.specs.Lists.{Has}
 use Rattle.sqlite_schema.specs.Names.{table_named}
-use Rattle.tables.specs.declared.table.Table.{Table}
+use Rattle.row_data.specs.declared.table.Table.{Table}
 use Rattle.tables.specs.Table.{shape_of}
 use Rattle.store.proofs.founding.has_none_of.Given as goal
 

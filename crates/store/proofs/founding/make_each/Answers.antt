@@ -3,7 +3,7 @@ use Rattle.tables.proofs.Runs.{part_none, part_ok, part_then}
 use Rattle.store.proofs.NewTables.{made_all, made_more, made_none}
 use Rattle.std.proofs.Common.{ℕ, [], Option, rules}
 use Rattle.sqlite.specs.Effect.{Database}
-use Rattle.tables.specs.declared.table.Table.{Table}
+use Rattle.row_data.specs.declared.table.Table.{Table}
 use Rattle.std.proofs.lemmas.Option.{slice_get-get_or}
 use Rattle.tables.specs.Causes.{IsHindered, Went}
 use Rattle.tables.specs.Table.{sql_of}

@@ -2,7 +2,7 @@ use Rattle.std.proofs.Common.{Err, Ok, inl, inr, ap, sym, ◌∙◌, arith, rule
 use Rattle.sqlite.specs.State.{HasCleanDisk}
 use Rattle.sqlite.specs.Held.{state}
 use Rattle.tables.specs.declared.fault.TableFault.TheVariants.{Storage}
-use Rattle.tables.specs.declared.table.Table.TheVariants.{Edition}
+use Rattle.row_data.specs.declared.table.Table.TheVariants.{Edition}
 use Rattle.tables.specs.Causes.{IsCausedInside, IsHinderedToPut}
 use Rattle.tables.proofs.Causes.{stopped_after, stopped_as}
 use Rattle.tables.proofs.Runs.{part_then}

@@ -8,7 +8,7 @@ use Rattle.rolls.specs.declared.request.Reply.{Reply}
 use Rattle.rolls.specs.Run.{Makes, Step, refusal}
 use Rattle.solver.specs.Sitting.{Sitting}
 use Rattle.allotment.specs.Layers.{layers}
-use Rattle.desk.specs.declared.sessions.Fate.{Fate}
+use Rattle.rolls.specs.declared.fate.Fate.{Fate}
 use Rattle.desk.specs.Keeping.{CarriesOut, StandsForOne}
 use Rattle.desk.specs.Sessions.{fate_of, Goes}
 use Rattle.desk.specs.Inside.Sessions.{MayMeet}

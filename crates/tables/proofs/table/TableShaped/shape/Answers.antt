@@ -1,5 +1,5 @@
 use Rattle.std.proofs.Common.{refl}
-use Rattle.tables.proofs.table.Table.shape.Goals as goal
+use Rattle.tables.proofs.table.TableShaped.shape.Goals as goal
 
 pub returns-in-Choice-clause-texts : goal.returns-in-Choice-clause-texts
 returns-in-Choice-clause-texts c = rw c.in-Choice.is refl
