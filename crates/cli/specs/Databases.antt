@@ -11,7 +11,7 @@ use Rattle.sqlite.specs.declared.error.Error.{Error}
 use Rattle.sqlite.specs.Effect.{Database}
 use Rattle.sqlite.specs.State.{State as Seen, HasCleanDisk}
 use Rattle.sqlite.specs.Held.{Held}
-use Rattle.sqlite.specs.Files.{HoldsDatabase, IsClosed, IsOpened, FailsToClose, file_state}
+use Rattle.sqlite.specs.Files.{HoldsDatabase, IsBlankAs, IsClosed, IsOpened, FailsToClose, file_state}
 use Rattle.sqlite.specs.Start.{FindsIn}
 use Rattle.sqlite_wal.specs.Recovery.{Image}
 use Rattle.sqlite_trees.specs.Tree.{Trees}
@@ -153,6 +153,7 @@ pub record DoneOver {D : Type 0} {g : Ghosts D} {O E : Type 0} (image : Image) (
   pub last : Held (FileStore D g)
   pub found : HasCleanDisk (file_state first) → FindsIn image (file_state first)
   pub opened : HasCleanDisk (file_state first) → IsOpened first
+  pub plain : HasCleanDisk (file_state first) → IsBlankAs false image → (view first.store).has_sums ≡ false
   pub of_file : (office : State) → IsFoundFor (file_state first) (file_state last) office → HasCleanDisk (file_state last) → IsOfficeIn image office
   pub told : Tells (DoesOver done (file_state first) (file_state last)) old new status
   pub left : LeftBy done status (file_state first) (file_state last)

@@ -1,6 +1,6 @@
 //! Files, read in one piece.
 
-ghost use Rattle.std.specs.Prelude.{◌≡◌, ◌⊎◌, ◌+◌, ◌^◌, ◌<◌, take, IfOk, IfErr, IfSome};
+ghost use Rattle.std.specs.Prelude.{◌≡◌, ◌⊎◌, ◌+◌, ◌^◌, ◌<◌, take, Ok, Err, IfOk, IfErr, IfSome};
 ghost use Rattle.std.specs.IoError.{error_kind};
 
 use rolls::Refusal;
@@ -21,15 +21,26 @@ fn refusal_of(error: &io::Error) -> Refusal
     }
 }
 
+/// What the system gave of a file, or the refusal of its error.
+fn refused_file<T: Drop>(came: io::Result<T>) -> Result<T, Refusal>
+    ensures given { IfOk came (λ given. result ≡ Ok given) }
+    ensures memory { IfErr came (λ error. error_kind error ≡ ErrorKind.OutOfMemory → result ≡ Err Refusal.Memory) }
+    ensures storage { IfErr came (λ error. (error_kind error ≡ ErrorKind.OutOfMemory → ⊥) → result ≡ Err Refusal.Storage) }
+    ensures kinds { IfErr result (λ r. (r ≡ Refusal.Memory) ⊎ (r ≡ Refusal.Storage)) }
+{
+    match came {
+        Ok(given) => Ok(given),
+        Err(error) => Err(refusal_of(&error)),
+    }
+}
+
 /// The bytes of a file, of which no more are read than show that there are more than so many.
 pub(crate) fn read_file(rt: &HostRuntime, path: &str, most: usize) -> Result<Vec<u8>, Refusal>
     requires { most < 2 ^ 32 }
     ensures { IfErr result (λ r. (r ≡ Refusal.Memory) ⊎ (r ≡ Refusal.Storage)) }
 {
-    match File::open(rt, path) {
-        Ok(file) => read_some(rt.alloc(), file, most),
-        Err(error) => Err(refusal_of(&error)),
-    }
+    let file = refused_file(File::open(rt, path))?;
+    read_some(rt.alloc(), file, most)
 }
 
 /// What a reader gives up to its end, or up to the first byte above the limit.
@@ -39,8 +50,6 @@ fn read_some<R: Read + Drop>(alloc: Global, reader: R, most: usize) -> Result<Ve
     ensures err { IfErr result (λ r. (r ≡ Refusal.Memory) ⊎ (r ≡ Refusal.Storage)) }
 {
     let mut bytes = Vec::new(alloc);
-    match reader.take(most as u64 + 1).read_to_end(&mut bytes) {
-        Ok(_) => Ok(bytes),
-        Err(error) => Err(refusal_of(&error)),
-    }
+    refused_file(reader.take(most as u64 + 1).read_to_end(&mut bytes))?;
+    Ok(bytes)
 }

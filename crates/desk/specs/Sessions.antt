@@ -11,7 +11,7 @@ use Rattle.rolls.specs.declared.request.Plain.{Plain}
 use Rattle.rolls.specs.declared.request.Reply.{Reply}
 use Rattle.rolls.specs.declared.request.Request.{Request}
 use Rattle.rolls.specs.declared.request.Request.TheVariants as request
-use Rattle.rolls.specs.Run.{Step}
+use Rattle.rolls.specs.Run.{Step, refusal}
 use Rattle.solver.specs.Sitting.{Sitting}
 use Rattle.allotment.specs.Layers.{layers}
 use Rattle.allotment.specs.Sittings.{SitsIn, IsOneMore}
@@ -54,9 +54,10 @@ abbrev pub GoesOn : State → Request → Result Reply Refusal → Option Sittin
 GoesOn o q (Ok reply) old new = Goes (fate_of o q) old new
 GoesOn o q (Err refusal) old new = new ≡ old
 
--- a request that is refused by name is answered so, and a fault of the storage is told of what changes the office alone
+-- a request that is refused by name is answered so, and a fault of the storage is told of what changes the office alone, and where nothing
+-- refuses it
 abbrev pub IsToldRight : State → Request → Result Reply Refusal → Type 0
-IsToldRight o q a = IfSome (refusal_of o q) (λ r. a ≡ Err r) × (a ≡ Err Storage → changes_nothing o q ≡ false)
+IsToldRight o q a = IfSome (refusal_of o q) (λ r. a ≡ Err r) × (a ≡ Err Storage → changes_nothing o q ≡ false) × (a ≡ Err Storage → refusal layers o q ≡ None)
 
 -- What takes no memory is answered: a read of a round that is there, a kept import that comes once more, and a preview that is
 -- read from a session.

@@ -12,7 +12,7 @@ ghost use Rattle.rolls.specs.Refusing.{plain_refusal, refusal_of};
 ghost use Rattle.rolls.specs.Run.{Makes, MayRefuse, Step, Run, refusal};
 ghost use Rattle.allotment.specs.Layers.{layers};
 ghost use Rattle.allotment.specs.Changes.{MayChange};
-ghost use Rattle.store.specs.Tables.{Brings, Opens, HasNone, LeavesAlone};
+ghost use Rattle.store.specs.Tables.{Brings, Opens, HasNone, LeavesAlone, LeavesTables};
 ghost use Rattle.store.specs.Reading.{AreListed, IsDamaged};
 ghost use Rattle.tables.specs.Causes.{IsCaused, IsStopped};
 ghost use Rattle.store.specs.Causes.{IsHinderedOpening, IsHinderedToSave};
@@ -95,6 +95,9 @@ impl<S: Alter> Desk<S> {
     ) -> Result<Desk<S>, (Refusal, Connection<S>)>
         ensures office { IfOk result (λ desk. HasCleanDisk (state S.Store desk.store) → Opens (state S.Store connection).now (state S.Store desk.store).now desk.office) }
         ensures tables { IfOk result (λ desk. Keeps (state S.Store desk.store) desk.office) }
+
+        // Each other table stays.
+        ensures others { IfOk result (λ desk. HasCleanDisk (state S.Store desk.store) → LeavesTables (state S.Store connection).now (state S.Store desk.store).now) }
         ensures damaged { IfErr result (λ e. HasCleanDisk (state S.Store e.1) → e.0 ≡ Refusal.Damaged → IsDamaged (state S.Store connection).now × (HasNone (state S.Store connection).now.schema → ⊥)) }
         ensures refused { IfErr result (λ e. (e.0 ≡ Refusal.Memory) ⊎ ((e.0 ≡ Refusal.Storage) ⊎ (e.0 ≡ Refusal.Damaged))) }
         ensures kept { IfErr result (λ e. HasCleanDisk (state S.Store e.1) → IsKept (state S.Store connection) (state S.Store e.1)) }
@@ -199,6 +202,9 @@ impl<S: Alter> Desk<S> {
         ensures repeated { AnswersKept self.old.office request result }
         ensures storage { result ≡ Err Refusal.Storage → changes_nothing self.old.office request ≡ false }
 
+        // No refusal is told as a fault of the storage, that of an import's text and records included.
+        ensures refused { result ≡ Err Refusal.Storage → refusal layers self.old.office request ≡ None }
+
         // What a crash leaves: what it could leave before, or, where the connection was open, the tables of an office that the
         // request makes; after an answered change the tables after it alone.
         ensures crash { Survives (state S.Store self.old.store) (state S.Store self.new.store) (IsLeft (λ _. StandsForOne (CarriesOut self.old.office request)) (state S.Store self.old.store)) }
@@ -299,6 +305,7 @@ impl<S: Alter> Desk<S> {
         ensures tables { Keeps (state S.Store self.new.store) self.new.office }
         ensures saved { IsSaved (λ _. StandsForOne (CarriesOut self.old.office request)) (IsHinderedToAsk self.old.office request) result (state S.Store self.old.store) (state S.Store self.new.store) }
         ensures session { GoesOn self.old.office request result self.old.session self.new.session }
+        ensures refused { result ≡ Err Refusal.Storage → refusal layers self.old.office request ≡ None }
     {
         self.keeps();
         // The session sits in the office before the change: it is out of the desk while the offices are exchanged, and comes back
@@ -328,6 +335,7 @@ impl<S: Alter> Desk<S> {
         ensures tables { Keeps (state S.Store self.new.store) self.new.office }
         ensures saved { IsSaved (λ _. StandsForOne (CarriesOut self.old.office request)) (IsHinderedToAsk self.old.office request) result (state S.Store self.old.store) (state S.Store self.new.store) }
         ensures no_session { self.new.session ≡ None }
+        ensures refused { result ≡ Err Refusal.Storage → refusal layers self.old.office request ≡ None }
     {
         self.keeps();
         let mut next = self.office.copy()?;

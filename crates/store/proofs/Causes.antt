@@ -1,27 +1,28 @@
 -- Why a call of the store failed, from why the statement did on which it ended.
-use Rattle.std.proofs.Common.{◌≡◌, ◌≤◌, ◌<◌, ◌+◌, inl, inr, ℕ, true, List, [], ◌∷◌, ◌++◌, take, get_or, length, Option, Some, Result, slice_get, refl, sym, ap, subst, ◌∙◌}
+use Rattle.std.proofs.Common.{◌≡◌, ◌≤◌, ◌<◌, ◌+◌, inl, inr, ℕ, List, [], ◌∷◌, ◌++◌, take, get_or, length, Option, Some, Result, slice_get, refl, sym, ap, subst, ◌∙◌}
 use Rattle.std.proofs.lemmas.List.{take_more, take_all}
-use Rattle.sqlite.specs.declared.error.Error.{Error}
 use Rattle.sqlite.specs.Effect.{Database}
-use Rattle.sqlite.specs.Steps.{FailsToCommit}
 use Rattle.sqlite.specs.State.{State as Seen, HasCleanDisk, Survives, IsUnchanged}
 use Rattle.tables.specs.declared.fault.TableFault.{TableFault}
 use Rattle.tables.specs.declared.fault.TableFault.TheVariants as fault
 use Rattle.row_data.specs.declared.table.Table.{Table}
 use Rattle.row_data.specs.declared.table.Table.TheVariants.{Edition}
-use Rattle.tables.specs.Faults.{fault_of}
 use Rattle.std.proofs.lemmas.Bool.{cases_Bool}
 use Rattle.sqlite_rules.specs.Lists.{Has}
 use Rattle.rolls.specs.declared.row.Row.{Row}
-use Rattle.tables.specs.Causes.{IsCausedInside, IsRunInside, IsStopped, IsToldInside, IsUnread}
+use Rattle.tables.specs.Causes.{IsCausedInside, IsRunInside, IsStopped, IsToldInside, IsUnread, LacksMemory}
+use Rattle.tables.proofs.Starved.{lacks, lacks_put}
+use Rattle.rolls.specs.declared.row.Change.{Change}
+use Rattle.rolls.specs.declared.row.Change.TheVariants.{Add, Put, Take, TakeList, TakePlacements}
+use Rattle.tables.specs.declared.table.Group.TheVariants as group
 use Rattle.store.specs.Inside.Reading.{ReadsSome}
 use Rattle.editions.specs.declared.Edition.{Edition as AnEdition}
 use Rattle.store.specs.Editions.{rolls_of}
 use Rattle.store.specs.Reading.{AreAllListed}
-use Rattle.store.specs.Rows.{columns, table_of}
+use Rattle.store.specs.Rows.{columns, key_columns, list_columns, round_columns, table_at_key, table_of}
 use Rattle.store.proofs.ListedTables.{is_next}
-use Rattle.tables.specs.Table.{sql_of}
-use Rattle.tables.proofs.Causes.{stopped_after, stopped_as, stopped_before, uncommitted}
+use Rattle.tables.specs.Table.{sharing, sql_of}
+use Rattle.tables.proofs.Causes.{stopped_after, stopped_as}
 use Rattle.store.specs.declared.fault.StoreFault.TheVariants.{Storage}
 use Rattle.store.specs.Inside.Faults.{of_table}
 use Rattle.store.specs.Inside.Saving.{entering}
@@ -109,3 +110,11 @@ pub failed_entering : {A : Type 0} (way : Way) (r : Row) (result : Result A Tabl
     → IsToldInside (FailsToEnter way (table_of r) (columns r)) result a b → IsToldInside (FailsToChange (entering way r)) result a b
 failed_entering InPlace r result a b h = h
 failed_entering New r result a b h = h
+
+-- a change that finds no memory
+pub lacks_change : (change : Change) (old new : Seen) → FailsToChange change fault.Memory old new → LacksMemory old new
+lacks_change (Put row) old new it = lacks_put (table_of row) (columns row) old new it
+lacks_change (Add row) old new it = lacks (sql_of (table_of row)).insert (columns row) old new it
+lacks_change (Take key) old new it = lacks (sql_of (table_at_key key)).delete (key_columns key) old new it
+lacks_change (TakeList round student) old new it = lacks (sharing group.List).removal (list_columns round student) old new it
+lacks_change (TakePlacements round) old new it = lacks (sharing group.Placed).removal (round_columns round) old new it

@@ -28,7 +28,6 @@ use Rattle.editions.specs.declared.Edition.TheVariants.{First, Second, Third}
 use Rattle.editions.specs.Editions.{row_at, swapped, swapped_key}
 use Rattle.editions.proofs.Swapping.{key_swapped, row_twice}
 use Rattle.editions.proofs.Renewing.{by_aim, first_else}
-use Rattle.rolls.specs.declared.row.RowKey.TheVariants as key
 use Rattle.store.specs.Rows.{columns, is_in, columns_of, AreRowsAt}
 use Rattle.store.specs.Inside.Reading.{IsTyped}
 use Rattle.rolls.proofs.RowKeys.{same_row_is, same_row_self}

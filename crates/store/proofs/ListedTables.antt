@@ -1,9 +1,8 @@
 -- What is listed, and what one row says of the edition.
-use Rattle.std.proofs.Common.{◌≡◌, ◌≢◌, ◌⊎◌, inl, inr, ℕ, ◌+◌, ◌<◌, List, [], ◌∷◌, length, get_or, take, map, drop, refl, sym, ap, subst, ◌∙◌, pos, arith}
+use Rattle.std.proofs.Common.{◌≡◌, ◌≢◌, ◌⊎◌, inl, inr, ℕ, ◌+◌, ◌<◌, List, [], ◌∷◌, length, get_or, take, map, drop, refl, sym, ap, subst, ◌∙◌, arith}
 use Rattle.std.proofs.lemmas.List.{take_more, take_all, get_or_default}
 use Rattle.sqlite_rules.proofs.ListLemmas.{has_either, has_at}
-use Rattle.sqlite.specs.declared.types.Value.TheVariants.{Int}
-use Rattle.sqlite.specs.Order.{Row as Cells, column}
+use Rattle.sqlite.specs.Order.{Row as Cells}
 use Rattle.sqlite.specs.Schema.{Schema}
 use Rattle.sqlite.specs.State.{State as Seen}
 use Rattle.sqlite_rules.specs.Lists.{Has}

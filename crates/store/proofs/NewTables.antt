@@ -8,7 +8,7 @@ use Rattle.sqlite.specs.State.{State as Seen}
 use Rattle.sqlite.specs.Tree.{Trees}
 use Rattle.sqlite.specs.declared.types.Value.{Value}
 use Rattle.sqlite_rules.specs.Lists.{Has}
-use Rattle.sqlite_rules.proofs.ListLemmas.{has_either}
+use Rattle.sqlite_rules.proofs.ListLemmas.{all_has, has_either, has_got}
 use Rattle.rolls.specs.declared.row.RowKey.{RowKey}
 use Rattle.rolls.specs.declared.row.RowKey.TheVariants as key
 use Rattle.rolls.specs.declared.row.Row.TheVariants as row
@@ -27,7 +27,7 @@ use Rattle.tables.specs.Inside.Steps.{Stays}
 use Rattle.tables.proofs.Runs.{listed_once, stands_apart, stands_beside, stays_none, stays_then, stays_stepped, decide_table}
 use Rattle.store.specs.Editions.{latest, number_of}
 use Rattle.store.specs.Rows.{kept, rolls, AreRowsAt}
-use Rattle.store.specs.Tables.{AreRuled, AreRuledAmong, Brings, MakesTables, StandsFor, HasNone, Opens, numbered}
+use Rattle.store.specs.Tables.{AreRuled, AreRuledAmong, Brings, LeavesTables, MakesTables, StandsFor, HasNone, Opens, numbered}
 use Rattle.store.specs.Inside.Tables.{Empties}
 use Rattle.store.proofs.Columns.{apart_edition, stands_among}
 
@@ -135,10 +135,21 @@ ruled_so row a b c m n table among place listed =
     let tree : (m.places table).tree ≡ place.tree = ap (λ (t : AnyTable). t.tree) (sym same) in
     same ∙ (λ i. table_at table (record { tree = tree i; rules = m.ruled table among i }))
 
+-- each other table stays
+others_stay : (row : List Value) (a b c : Database) → MakesTables kept a b → Adds (table_at Edition) (key_in Edition row) row b c → LeavesTables a c
+unfolding LeavesTables
+others_stay row a b c m n t listed other =
+    let first : Has kept Edition = inl refl in
+    let done = n (m.places Edition) [] (m.stand Edition first) in
+    let was = m.others t listed in (
+      subst (λ (s : Schema). Lists s t) (sym done.1.schema) was.0,
+      all_has _ b.schema.tables t done.1.others (has_got b.schema.tables was.0.at t was.0.there) (was.2 Edition first) ∙ was.1,
+    )
+
 -- the tables were made one after the other, and then the edition was written
 pub founded : (row : List Value) → row ∷ [] ≡ numbered (number_of latest) → (a b c : Seen) → Stays (MakesTables kept) a b → HasStepped (Adds (table_at Edition) (key_in Edition row) row) b c → HasStepped Empties a c
 unfolding Empties
-founded row is a b c m n = stays_stepped (MakesTables kept) (Adds (table_at Edition) (key_in Edition row) row) Empties a b c (λ p q. (empty_stands row is a.now b.now c.now p q, ruled_so row a.now b.now c.now p q)) m n
+founded row is a b c m n = stays_stepped (MakesTables kept) (Adds (table_at Edition) (key_in Edition row) row) Empties a b c (λ p q. (empty_stands row is a.now b.now c.now p q, ruled_so row a.now b.now c.now p q, others_stay row a.now b.now c.now p q)) m n
 
 -- the tables were made where there were none
 pub opens_new : (old new : Database) (office : State) → HasNone old.schema → office ≡ empty → Empties old new → Opens old new office
@@ -149,3 +160,7 @@ opens_new old new office none is made = inl (none, is, made.0, made.1)
 pub founds_left : (old : Seen) (trees : Trees) → HasNone old.now.schema → IsLeft Empties old trees → IsLeft Brings old trees
 unfolding Empties
 founds_left old trees none h = record { was_open = h.was_open; db = h.db; sound = h.sound; step = inl (record { none = none; stands = h.step.0; ruled = h.step.1 }); same = h.same }
+
+pub founds_others : (old new : Database) → Empties old new → LeavesTables old new
+unfolding Empties
+founds_others old new made = made.2

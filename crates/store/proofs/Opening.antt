@@ -1,5 +1,5 @@
 -- What comes of an opening: the office that was read, in the latest edition or raised to it.
-use Rattle.std.proofs.Common.{◌≡◌, ◌≢◌, ◌<◌, ◌≤◌, Result, Ok, Err, OnErr, List, inl, inr, refl, sym, subst, ◌∙◌, arith}
+use Rattle.std.proofs.Common.{◌≡◌, ◌≢◌, ◌<◌, ◌≤◌, Result, Ok, Err, OnErr, List, ap, inl, inr, refl, sym, subst, ◌∙◌, arith}
 use Rattle.sqlite.specs.State.{State as Seen, HasCleanDisk, IsUnchanged, Survives}
 use Rattle.sqlite.specs.Effect.{Database}
 use Rattle.sqlite.specs.Tree.{Trees}
@@ -11,11 +11,12 @@ use Rattle.editions.specs.declared.Edition.TheVariants.{First, Second, Third}
 use Rattle.editions.specs.Editions.{row_at}
 use Rattle.tables.specs.Steps.{HasSaved, IsKept, IsLeft}
 use Rattle.tables.specs.Causes.{IsStopped}
+use Rattle.tables.specs.Table.{Lists}
 use Rattle.tables.proofs.Causes.{stopped_after}
 use Rattle.store.specs.Causes.{IsHinderedOpening, IsHinderedToRaise}
 use Rattle.store.specs.Editions.{IsEarlier, beyond, latest, number_of, rolls_of}
 use Rattle.store.specs.Reading.{IsDamaged, IsUnfitIn}
-use Rattle.store.specs.Tables.{Brings, HasNoneOf, HoldIn, Opens, Raises, StandsIn}
+use Rattle.store.specs.Tables.{Brings, HasNoneOf, HoldIn, LeavesTables, Opens, Raises, StandsIn}
 use Rattle.store.specs.Inside.Raising.{Rises}
 use Rattle.store.specs.Inside.Reading.{Finds}
 use Rattle.store.proofs.Standing.{hold_same}
@@ -49,6 +50,13 @@ module _ (e : AnEdition) (office : State) (changes : List Change) (old mid : See
   pub opens_raised : (new : Seen) → HasSaved (Rises e changes) mid new → Opens old.now new.now office
   opens_raised new saved = inr (inr (raised new.now saved.step))
 
+  -- each other table stays
+  pub raised_others : (new : Seen) → HasSaved (Rises e changes) mid new → LeavesTables old.now new.now
+  unfolding Rises
+  raised_others new saved =
+      let done = saved.step found.asks (row_at e office) (subst (λ it. HoldIn e it (row_at e office)) (sym found.same.0.now_is) found.holds) in
+      subst (λ (db : Database). LeavesTables db new.now) found.same.0.now_is done.2
+
   -- what a crash leaves of that
   raised_left : (trees : Trees) → IsLeft (Rises e changes) mid trees → IsLeft Brings old trees
   raised_left trees left = record { was_open = found.same.0.was_open; db = left.db; sound = left.sound; step = inr (office, raised left.db left.step); same = left.same }
@@ -59,6 +67,11 @@ pub brings_left : (e : AnEdition) (office : State) (changes : List Change) (old 
 brings_left e office changes old mid new earlier alone found one two =
     survives_then old mid new (λ _. ⊥) (IsLeft (Rises e changes) mid) (IsLeft Brings old) (λ _ db none. absurd none)
     (λ clean trees left. let early : HasCleanDisk mid = omega (arith, two.clean) in raised_left e office changes old mid earlier alone (found early) trees left) one two
+
+-- each other table stays where nothing changes
+pub others_kept : (old new : Database) → new ≡ old → LeavesTables old new
+unfolding LeavesTables
+others_kept old new same t listed other = (subst (λ (db : Database). Lists db.schema t) (sym same) listed, ap (λ (db : Database). db.trees t.tree) same)
 
 -- reading changed nothing, and a call after it changed nothing
 pub kept_after : (old mid new : Seen) → IsUnchanged old mid → IsKept mid new → IsKept old new

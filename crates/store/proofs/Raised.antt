@@ -1,16 +1,14 @@
 -- Tables of an earlier edition are raised: the number is another, tables come beside those that stand, and rows are added.
-use Rattle.std.proofs.Common.{◌≡◌, ◌≢◌, ◌↔◌, IsTrue, arith, ◌⊎◌, inl, inr, ℕ, ℤ, pos, Bool, true, false, not, cond, Some, List, [], ◌∷◌, ◌++◌, Option, refl, sym, ap, subst, ◌∙◌, true≢false}
+use Rattle.std.proofs.Common.{◌≡◌, ◌≢◌, ◌↔◌, IsTrue, arith, ◌⊎◌, inl, inr, ℕ, pos, Bool, true, false, not, cond, List, [], ◌∷◌, ◌++◌, Option, refl, sym, ap, subst, ◌∙◌, true≢false}
 use Rattle.std.specs.Prelude.{◌&&◌}
 use Rattle.sqlite.specs.declared.types.Value.TheVariants.{Int}
-use Rattle.sqlite.specs.Collation.TheVariants.{Binary}
-use Rattle.sqlite_schema.specs.Rules.{equal}
 use Rattle.sqlite.specs.Effect.{Database}
 use Rattle.sqlite.specs.Order.{Row as Cells}
 use Rattle.sqlite.specs.Schema.{Schema}
 use Rattle.sqlite.specs.State.{State as Seen, HasCleanDisk, Survives}
 use Rattle.sqlite.specs.Table.{Table as AnyTable}
 use Rattle.sqlite_rules.specs.Lists.{Has}
-use Rattle.sqlite_rules.proofs.ListLemmas.{has_either}
+use Rattle.sqlite_rules.proofs.ListLemmas.{all_has, has_either, has_got}
 use Rattle.rolls.specs.declared.row.Row.{Row}
 use Rattle.rolls.specs.declared.row.RowKey.{RowKey}
 use Rattle.rolls.specs.declared.row.Change.{Change}
@@ -30,9 +28,9 @@ use Rattle.tables.specs.Writes.{Puts, with_row}
 use Rattle.tables.proofs.Runs.{listed_at_one, listed_once, stands_kept, stands_apart, stepped_as}
 use Rattle.store.specs.Causes.{latest_number}
 use Rattle.store.specs.Editions.{beyond, latest, number_of, raised, rolls_of}
-use Rattle.store.specs.Rows.{IsAmong, columns_of, rolls}
-use Rattle.store.specs.Saving.{Applies, AreActedOnAmong, AreLeftAmong, IsLeftAlone}
-use Rattle.store.specs.Tables.{AreRuledAmong, HoldIn, MakesTables, TablesHold, TablesOf, numbered}
+use Rattle.store.specs.Rows.{IsAmong, IsRoll, columns_of, rolls}
+use Rattle.store.specs.Saving.{Applies, AreActedOnAmong, AreLeftAmong, IsLeftAlone, Spares}
+use Rattle.store.specs.Tables.{AreRuledAmong, LeavesTables, MakesTables, TablesHold, TablesOf, numbered}
 use Rattle.store.specs.Inside.Raising.{Extends, Lifts, Rises}
 use Rattle.store.proofs.Standing.{stand_as}
 use Rattle.store.proofs.Columns.{among_or_not, fresh_beyond, has_left, int_self, is_among, stands_among}
@@ -158,18 +156,58 @@ all_rolls First = refl
 all_rolls Second = refl
 all_rolls Third = refl
 
+-- a roll is one of those of an edition, or beyond it
+in_edition : (e : AnEdition) (table : Table) → IsRoll table → (IsAmong (beyond e) table → ⊥) → IsAmong (rolls_of e) table
+in_edition e table among none = elim (has_either (rolls_of e) (beyond e) table (stands_among (rolls_of e ++ beyond e) table (subst (λ tables. IsAmong tables table) (sym (all_rolls e)) among))) [
+  | inl it ↦ is_among (rolls_of e) table it
+  | inr it ↦ absurd (none (is_among (beyond e) table it))
+]
+
+-- each other table stays, where tables are made and rows changed
+others_extended : (e : AnEdition) (number : ℕ) (rows : RowKey → Option Row) (a b c : Database) → TablesOf (rolls_of e) number a rows → MakesTables (beyond e) a b → Spares b c → LeavesTables a c
+unfolding LeavesTables
+others_extended e number rows a b c t m spares any listed other =
+    let was = m.others any listed in
+    let apart : (table : Table) → IsRoll table → (place : Place) → Lists b.schema (table_at table place) → any.tree ≢ place.tree = λ table among place there same.
+    elim (among_or_not (beyond e) table) [
+      | inl made ↦
+          let has = stands_among (beyond e) table made in
+          was.2 table has (same ∙ listed_at_one table b.schema place (m.places table) there (m.stand table has).listed)
+      | inr none ↦
+          let stood = (t.rolls table (in_edition e table among none)).listed in
+          other table (inr (stands_among rolls table among)) (t.places table) stood
+          (same ∙ listed_at_one table b.schema place (t.places table) there (m.others (table_at table (t.places table)) stood).0)
+    ] in (
+      subst (λ (s : Schema). Lists s any) (sym spares.schema) was.0,
+      spares.others any (has_got b.schema.tables was.0.at any was.0.there) apart ∙ was.1,
+    )
+
+-- and where the number of the edition is put first
+others_lifted : (tables : List Table) (number other : ℕ) (rows : RowKey → Option Row) (a b c : Database) → IsLeftAlone Edition a.schema → TablesOf tables number a rows
+    → Puts (table_at Edition) (Int (pos 1) ∷ []) (Int (pos 1) ∷ Int (pos other) ∷ []) a b → LeavesTables b c → LeavesTables a c
+unfolding Puts LeavesTables
+others_lifted tables number other rows a b c alone t puts later any listed away =
+    let done = puts t.edition (numbered number) (alone t.edition t.editions.listed) t.editions in
+    let same = done.1.schema in
+    let then = later any (subst (λ (s : Schema). Lists s any) (sym same) listed) (λ table has place there. away table has place (subst (λ (s : Schema). Lists s (table_at table place)) same there)) in (
+      then.0,
+      then.1 ∙ all_has _ a.schema.tables any done.1.others (has_got a.schema.tables listed.at any listed.there) (away Edition (inl refl) t.edition t.editions.listed),
+    )
+
 extends : (e : AnEdition) (changes : List Change) (a b c : Database) → MakesTables (beyond e) a b → Applies changes b c → Extends e changes a c
 unfolding Extends Applies
 extends e changes a b c made applied asks none rows t =
     let all : TablesHold b rows = subst (λ tables. TablesOf tables (number_of latest) b rows) (all_rolls e) (more_tables (rolls_of e) (beyond e) (number_of latest) rows a b (fresh_beyond e) t made) in
     let done = applied (asks b.schema (left_so raised b.schema (quiet_then e (number_of latest) rows a b t made none))) rows all in
-    (done.0, subst (AreRuledAmong (beyond e)) (sym done.1.schema) (made_ruled (beyond e) a b made))
+    (done.0, subst (AreRuledAmong (beyond e)) (sym done.1.schema) (made_ruled (beyond e) a b made), others_extended e (number_of latest) rows a b c t made done.1)
 
 lifts : (e : AnEdition) (changes : List Change) (a b c : Database) → Puts (table_at Edition) (Int (pos 1) ∷ []) latest_number a b → Extends e changes b c → Lifts e changes a c
 unfolding Extends Rises Lifts
 lifts e changes a b c puts extended none asks rows t =
-    let done = other_number (rolls_of e) (number_of e) (number_of latest) rows a b (left_so raised a.schema none Edition (is_among raised Edition (inl refl))) t puts in
-    extended asks (λ acted. none (subst (AreActedOnAmong raised) done.1 acted)) rows done.0
+    let alone = left_so raised a.schema none Edition (is_among raised Edition (inl refl)) in
+    let done = other_number (rolls_of e) (number_of e) (number_of latest) rows a b alone t puts in
+    let all = extended asks (λ acted. none (subst (AreActedOnAmong raised) done.1 acted)) rows done.0 in
+    (all.0, all.1, others_lifted (rolls_of e) (number_of e) (number_of latest) rows a b c alone t puts all.2)
 
 -- runs of statements, one after another
 pub extends_by : (e : AnEdition) (changes : List Change) (a b c : Seen) → Stays (MakesTables (beyond e)) a b → Stays (Applies changes) b c → Stays (Extends e changes) a c

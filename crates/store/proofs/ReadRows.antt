@@ -13,7 +13,6 @@ use Rattle.tables.specs.Steps.{Shows}
 use Rattle.tables.proofs.Runs.{low_tree}
 use Rattle.rolls.specs.declared.row.Row.{Row}
 use Rattle.rolls.specs.State.{State}
-use Rattle.rolls.specs.Fit.{IsFit}
 use Rattle.rolls.specs.From.{are_apart, row_in}
 use Rattle.row_data.specs.declared.table.Table.{Table}
 use Rattle.row_data.specs.declared.table.Table.TheVariants.{Edition}

@@ -18,14 +18,13 @@ use Rattle.rolls.specs.declared.row.RowKey.TheVariants as key
 use Rattle.rolls.specs.Fit.{IsFit}
 use Rattle.rolls.specs.From.{AreRowsOf, row_in}
 use Rattle.rolls.specs.Laws.{RowsGiveOffice}
-use Rattle.rolls.specs.Rows.{row_of}
 use Rattle.rolls.specs.State.{State}
 use Rattle.editions.specs.declared.Edition.{Edition as AnEdition}
 use Rattle.editions.specs.declared.Edition.TheVariants.{First, Second, Third}
-use Rattle.editions.specs.Editions.{AreRowsIn, HaveNoLater, Renews, renewed, row_at}
+use Rattle.editions.specs.Editions.{HaveNoLater, Renews, renewed, row_at}
 use Rattle.store.specs.Rows.{columns_of, kept}
 use Rattle.store.specs.Editions.{beyond, latest, number_of, rolls_of}
-use Rattle.store.specs.Tables.{HasNone, HasNoneOf, HoldIn, Opens, StandsFor, StandsIn, TablesOf, numbered}
+use Rattle.store.specs.Tables.{HasNoneOf, HoldIn, Opens, StandsIn, TablesOf, numbered}
 use Rattle.store.proofs.Columns.{is_among}
 use Rattle.store.proofs.Standing.{in_latest, stand_as}
 use Rattle.store.proofs.Permutation.{rows_permuted, permuted_by_tables}

@@ -1,5 +1,5 @@
 -- Tables that hold rows, seen anew: under another number, in another database, as rows that are the same at each key.
-use Rattle.std.proofs.Common.{◌≡◌, ℕ, Option, refl, ◌∙◌, List}
+use Rattle.std.proofs.Common.{◌≡◌, ℕ, Option, ◌∙◌, List}
 use Rattle.sqlite.specs.Effect.{Database}
 use Rattle.rolls.specs.declared.row.Row.{Row}
 use Rattle.rolls.specs.declared.row.RowKey.{RowKey}

@@ -8,7 +8,7 @@ use Rattle.rolls.specs.declared.row.Change.TheVariants.{Add, Put, Take, TakeList
 use Rattle.row_data.specs.declared.table.Table.{Table}
 use Rattle.row_data.specs.declared.table.Table.TheVariants.{Edition}
 use Rattle.tables.specs.declared.table.Group.TheVariants as group
-use Rattle.tables.specs.Table.{Sharing, sharing, sql_of}
+use Rattle.tables.specs.Table.{sharing, sql_of}
 use Rattle.tables.specs.Causes.{IsHindered, IsHinderedToPut, IsUnread, IsUnready, Went, WentPutting}
 use Rattle.sqlite.specs.Order.{Row as Cells}
 use Rattle.editions.specs.declared.Edition.{Edition as AnEdition}

@@ -6,11 +6,11 @@ use Rattle.rolls.specs.Fit.{IsFit}
 use Rattle.row_data.specs.declared.table.Table.{Table}
 use Rattle.row_data.specs.declared.table.Table.TheVariants.{Edition}
 use Rattle.editions.specs.declared.Edition.{Edition as AnEdition}
-use Rattle.store.specs.Editions.{rolls_of}
+use Rattle.store.specs.Editions.{beyond, rolls_of}
 use Rattle.store.specs.Rows.{IsAmong}
 use Rattle.sqlite.specs.Schema.{Schema}
 use Rattle.tables.specs.Table.{Place, Lists, table_at}
-use Rattle.store.specs.Tables.{StandsFor, StandsIn}
+use Rattle.store.specs.Tables.{HasNoneOf, StandsFor, StandsIn}
 
 -- the edition's table and these are listed with their columns and rules, each in a tree of its own
 pub record AreAllListed (tables : List Table) (schema : Schema) : Type 0 where
@@ -21,9 +21,9 @@ pub record AreAllListed (tables : List Table) (schema : Schema) : Type 0 where
   pub edition_listed : Lists schema (table_at Edition edition)
   pub rolls_listed : (table : Table) → IsAmong tables table → Lists schema (table_at table (places table))
 
--- the tables of some edition are
+-- the tables of some edition are, and no table has the name of one of a later edition
 abbrev pub AreListed : Schema → Type 0
-AreListed schema = (e : AnEdition) × AreAllListed (rolls_of e) schema
+AreListed schema = (e : AnEdition) × AreAllListed (rolls_of e) schema × HasNoneOf (beyond e) schema
 
 -- the tables stand for no fit office in an edition
 abbrev pub IsUnfitIn : AnEdition → Database → Type 0

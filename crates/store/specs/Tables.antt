@@ -1,5 +1,5 @@
 -- When the tables of a database hold the rows of an office.
-use Rattle.std.specs.Prelude.{◌≡◌, ◌≢◌, ◌⊎◌, ℕ, pos, false, List, [], ◌∷◌, Option, is_some}
+use Rattle.std.specs.Prelude.{◌≡◌, ◌≢◌, ◌⊎◌, ℕ, pos, false, List, [], ◌∷◌, Option}
 use Rattle.sqlite.specs.declared.types.Value.TheVariants.{Int}
 use Rattle.sqlite.specs.Order.{Row as Cells}
 use Rattle.sqlite.specs.Schema.{Schema}
@@ -7,7 +7,6 @@ use Rattle.sqlite.specs.Table.{Table as AnyTable}
 use Rattle.sqlite.specs.Tree.{Trees}
 use Rattle.sqlite.specs.Effect.{Database}
 use Rattle.sqlite.specs.State.{State as Seen}
-use Rattle.sqlite_schema.specs.Names.{table_named}
 use Rattle.sqlite_rules.specs.Lists.{Has}
 use Rattle.rolls.specs.declared.row.Row.{Row}
 use Rattle.rolls.specs.declared.row.RowKey.{RowKey}
@@ -18,6 +17,7 @@ use Rattle.row_data.specs.declared.table.Table.TheVariants.{Edition as EditionTa
 use Rattle.tables.specs.Table.{Place, Lists, made_here, rules_of, shape_of, table_at}
 use Rattle.tables.specs.Inert.{IsActedOn}
 use Rattle.tables.specs.Keyed.{Stands}
+use Rattle.tables.specs.Layout.{is_there}
 use Rattle.editions.specs.declared.Edition.{Edition}
 use Rattle.editions.specs.Editions.{Allows, row_at}
 use Rattle.rolls.specs.Fit.{IsFit}
@@ -55,7 +55,7 @@ StandsFor db office = TablesHold db (row_of office)
 
 -- none of these tables is there
 abbrev pub HasNoneOf : List Table → Schema → Type 0
-HasNoneOf tables schema = (table : Table) → Has tables table → is_some (table_named schema (shape_of table).name) ≡ false
+HasNoneOf tables schema = (table : Table) → Has tables table → is_there schema (shape_of table).name ≡ false
 
 -- none of the tables of the store is there
 abbrev pub HasNone : Schema → Type 0
@@ -75,6 +75,14 @@ pub record StandsIn (e : Edition) (db : Database) (office : State) : Type 0 wher
   pub holds : HoldIn e db (row_at e office)
   pub allowed : Allows e office
   pub alone : HasNoneOf (beyond e) db.schema
+
+-- none of the store's tables is listed in the tree of this one
+abbrev pub IsOther : Schema → AnyTable → Type 0
+IsOther schema t = (table : Table) → Has kept table → (place : Place) → Lists schema (table_at table place) → t.tree ≢ place.tree
+
+-- each other table is listed as before, with its rows
+unfoldable pub LeavesTables : Database → Database → Type 0
+LeavesTables old new = (t : AnyTable) → Lists old.schema t → IsOther old.schema t → Lists new.schema t × (new.trees t.tree ≡ old.trees t.tree)
 
 -- Each of these tables was made, with its rules and no rows, in a tree of its own, while the tables that the schema had are
 -- listed as before, with their rows, and no further foreign key acts on them.

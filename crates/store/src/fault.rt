@@ -2,8 +2,11 @@
 
 ghost use Rattle.std.specs.Prelude.{◌≡◌};
 ghost use Rattle.store.specs.declared.fault.StoreFault.TheVariants.{Memory};
-ghost use Rattle.store.specs.Inside.Faults.{of_table};
+ghost use Rattle.store.specs.Inside.Faults.{of_rows, of_table};
+ghost use Rattle.tables.specs.Faults.{fault_of};
 
+use loading::RowsFault;
+use sqlite::Error;
 use std::alloc::{AllocError, AllocFailed};
 use tables::fault::TableFault;
 
@@ -25,6 +28,25 @@ impl From<TableFault> for StoreFault {
         match fault {
             TableFault::Memory => StoreFault::Memory,
             TableFault::Storage => StoreFault::Storage,
+        }
+    }
+}
+
+impl From<Error> for StoreFault {
+    ghost from_gives = { λ e fault. fault ≡ of_table (fault_of e) };
+
+    fn from(error: Error) -> StoreFault {
+        TableFault::from(error).into()
+    }
+}
+
+impl From<RowsFault> for StoreFault {
+    ghost from_gives = { λ e fault. fault ≡ of_rows e };
+
+    fn from(fault: RowsFault) -> StoreFault {
+        match fault {
+            RowsFault::Memory => StoreFault::Memory,
+            RowsFault::Unfit => StoreFault::Damaged,
         }
     }
 }

@@ -5,7 +5,7 @@ ghost use Rattle.sqlite.specs.State.{HasCleanDisk, Survives};
 ghost use Rattle.sqlite.specs.Held.{state};
 ghost use Rattle.tables.specs.Steps.{Does, HasSaved, HasStepped, IsKept, IsLeft};
 ghost use Rattle.tables.specs.Inside.Steps.{Stays};
-ghost use Rattle.tables.specs.Causes.{IsCaused, IsCausedInside, IsRunInside};
+ghost use Rattle.tables.specs.Causes.{IsCaused, IsCausedInside, IsRunInside, IsStarvedInside};
 ghost use Rattle.store.specs.Causes.{IsHinderedFounding, IsHinderedMaking, RanTables};
 ghost use Rattle.store.specs.Inside.Tables.{Empties};
 ghost use Rattle.store.specs.Tables.{HasNone, HasNoneOf, MakesTables};
@@ -46,6 +46,7 @@ pub fn make_each<S: Alter>(tx: &mut Transaction<'_, S>, tables: &[Table]) -> Res
     ensures same_reference { tx.new.conn.ghost_name ≡ tx.old.conn.ghost_name }
     ensures step { Does (Stays (MakesTables tables.now)) result (state S.Store tx.old.conn.now) (state S.Store tx.new.conn.now) }
     ensures ran { IsRunInside (RanTables tables.now) result (state S.Store tx.old.conn.now) (state S.Store tx.new.conn.now) }
+    ensures starved { IsStarvedInside result (state S.Store tx.old.conn.now) (state S.Store tx.new.conn.now) }
     ensures cause { IsCausedInside (IsHinderedMaking tables.now) result (state S.Store tx.old.conn.now) (state S.Store tx.new.conn.now) }
 {
     for table in tables {
@@ -58,6 +59,7 @@ pub fn make_each<S: Alter>(tx: &mut Transaction<'_, S>, tables: &[Table]) -> Res
 fn make_tables<S: Alter>(tx: &mut Transaction<'_, S>) -> Result<(), TableFault>
     ensures same_reference { tx.new.conn.ghost_name ≡ tx.old.conn.ghost_name }
     ensures step { Does (HasStepped Empties) result (state S.Store tx.old.conn.now) (state S.Store tx.new.conn.now) }
+    ensures starved { IsStarvedInside result (state S.Store tx.old.conn.now) (state S.Store tx.new.conn.now) }
     ensures cause { IsCausedInside IsHinderedFounding result (state S.Store tx.old.conn.now) (state S.Store tx.new.conn.now) }
 {
     make_each(tx, &TABLES)?;
@@ -78,8 +80,5 @@ pub fn found<S: Alter>(conn: &mut Connection<S>) -> Result<(), StoreFault>
     }
     let mut tx = conn.transaction();
     make_tables(&mut tx)?;
-    match tx.commit() {
-        Ok(()) => Ok(()),
-        Err(error) => Err(TableFault::from(error).into()),
-    }
+    Ok(tx.commit()?)
 }

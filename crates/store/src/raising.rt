@@ -3,7 +3,7 @@
 ghost use Rattle.std.specs.Prelude.{◌≡◌, ◌≢◌, false, OnOk, OnErr};
 ghost use Rattle.sqlite.specs.State.{HasCleanDisk, Survives};
 ghost use Rattle.sqlite.specs.Held.{state};
-ghost use Rattle.tables.specs.Causes.{IsCaused, IsCausedInside};
+ghost use Rattle.tables.specs.Causes.{IsCaused, IsCausedInside, IsStarvedInside};
 ghost use Rattle.tables.specs.Steps.{Does, HasSaved, HasStepped, IsKept, IsLeft};
 ghost use Rattle.tables.specs.Inside.Steps.{Stays};
 ghost use Rattle.store.specs.Causes.{IsHinderedToExtend, IsHinderedToRaise};
@@ -30,6 +30,7 @@ fn extend<S: Alter>(
 ) -> Result<(), TableFault>
     ensures same_reference { tx.new.conn.ghost_name ≡ tx.old.conn.ghost_name }
     ensures step { Does (Stays (Extends edition changes.now)) result (state S.Store tx.old.conn.now) (state S.Store tx.new.conn.now) }
+    ensures starved { IsStarvedInside result (state S.Store tx.old.conn.now) (state S.Store tx.new.conn.now) }
     ensures cause { IsCausedInside (IsHinderedToExtend edition changes.now) result (state S.Store tx.old.conn.now) (state S.Store tx.new.conn.now) }
 {
     make_each(tx, beyond(edition))?;
@@ -45,6 +46,7 @@ fn lift<S: Alter>(
 ) -> Result<(), TableFault>
     ensures same_reference { tx.new.conn.ghost_name ≡ tx.old.conn.ghost_name }
     ensures step { Does (HasStepped (Lifts edition changes.now)) result (state S.Store tx.old.conn.now) (state S.Store tx.new.conn.now) }
+    ensures starved { IsStarvedInside result (state S.Store tx.old.conn.now) (state S.Store tx.new.conn.now) }
     ensures cause { IsCausedInside (IsHinderedToRaise edition changes.now) result (state S.Store tx.old.conn.now) (state S.Store tx.new.conn.now) }
 {
     put(tx, Table::Edition, params![1, number_of(LATEST)])?;
@@ -73,8 +75,5 @@ pub fn raise<S: Alter>(
     }
     let mut tx = conn.transaction();
     lift(&mut tx, edition, changes)?;
-    match tx.commit() {
-        Ok(()) => Ok(()),
-        Err(error) => Err(TableFault::from(error).into()),
-    }
+    Ok(tx.commit()?)
 }

@@ -1,6 +1,6 @@
 //! Reading the office from its tables.
 
-ghost use Rattle.std.specs.Prelude.{◌≡◌, ◌≢◌, IsTrue, false, pos, IfOk, IfSome, OnOk, Err, None, List, map, drop};
+ghost use Rattle.std.specs.Prelude.{◌≡◌, ◌≢◌, IsTrue, false, pos, IfErr, IfOk, IfSome, OnOk, Err, None, List, map, drop};
 ghost use Rattle.sqlite.specs.declared.types.Value.TheVariants.{Int};
 ghost use Rattle.sqlite.specs.Order.{column};
 ghost use Rattle.sqlite.specs.State.{HasCleanDisk, IsUnchanged, Survives};
@@ -23,7 +23,6 @@ use crate::edition::{number_of, rolls_of};
 use crate::fault::StoreFault;
 use crate::rows::rows_with;
 use editions::{Edition, renewal_law, renewed, upgrade, upgrade_law};
-use loading::RowsFault;
 use office::Office;
 use rolls::{Change, Row};
 use sqlite::{Alter, Connection, Row as Cells};
@@ -113,6 +112,17 @@ fn are_numbered(all: &[Cells], edition: Edition) -> bool
     }
 }
 
+/// Fails where the rows of the edition's table are not the one with the number of this edition.
+fn need_number(all: &[Cells], edition: Edition) -> Result<(), StoreFault>
+    ensures ok { OnOk result (map (drop 1) all.now ≡ numbered (number_of edition)) }
+    ensures err { IfErr result (λ fault. (fault ≡ StoreFault.Damaged) × (map (drop 1) all.now ≢ numbered (number_of edition))) }
+{
+    if !are_numbered(all, edition) {
+        return Err(StoreFault::Damaged);
+    }
+    Ok(())
+}
+
 /// The rows of a table.
 fn read_table<S: Alter>(
     alloc: Global,
@@ -170,9 +180,7 @@ fn rows_in<S: Alter>(
         return Err(StoreFault::Damaged);
     }
     let number = read(conn, Table::Edition)?;
-    if !are_numbered(number.as_slice(), edition) {
-        return Err(StoreFault::Damaged);
-    }
+    need_number(number.as_slice(), edition)?;
     let rows = read_rows(alloc, conn, edition)?;
     Ok(rows)
 }
@@ -183,11 +191,7 @@ fn office_from(alloc: Global, rows: Vec<Row>) -> Result<Office, StoreFault>
     ensures unfit { result ≡ Err StoreFault.Damaged → (o : State) → IsFit o → AreRowsOf rows.items o → ⊥ }
     ensures faults { result ≢ Err StoreFault.Storage }
 {
-    match Office::from_rows(alloc, rows) {
-        Ok(office) => Ok(office),
-        Err(RowsFault::Memory) => Err(StoreFault::Memory),
-        Err(RowsFault::Unfit) => Err(StoreFault::Damaged),
-    }
+    Ok(Office::from_rows(alloc, rows)?)
 }
 
 /// The office of the tables of an edition, where none is being written, and the changes that raise them.

@@ -6,7 +6,7 @@ ghost use Rattle.sqlite.specs.State.{HasCleanDisk, Survives};
 ghost use Rattle.sqlite.specs.Held.{state};
 ghost use Rattle.sqlite.specs.Values.{bound};
 ghost use Rattle.tables.specs.Table.{IsRowOf, key_in, table_at};
-ghost use Rattle.tables.specs.Causes.{IsCaused, IsCausedInside, IsRunInside, IsToldInside};
+ghost use Rattle.tables.specs.Causes.{IsCaused, IsCausedInside, IsRunInside, IsStarvedInside, IsToldInside};
 ghost use Rattle.tables.specs.Steps.{Does, HasSaved, HasStepped, IsKept, IsLeft};
 ghost use Rattle.tables.specs.Inside.Steps.{Stays};
 ghost use Rattle.store.specs.Causes.{GoesThrough, IsHinderedAmong, IsHinderedChange, IsHinderedToSave};
@@ -229,6 +229,7 @@ pub fn apply_all<S: Alter>(
 ) -> Result<(), TableFault>
     ensures same_reference { tx.new.conn.ghost_name ≡ tx.old.conn.ghost_name }
     ensures step { Does (Stays (Applies changes.now)) result (state S.Store tx.old.conn.now) (state S.Store tx.new.conn.now) }
+    ensures starved { IsStarvedInside result (state S.Store tx.old.conn.now) (state S.Store tx.new.conn.now) }
     ensures cause { IsCausedInside (IsHinderedAmong changes.now) result (state S.Store tx.old.conn.now) (state S.Store tx.new.conn.now) }
 {
     for change in changes {
@@ -253,10 +254,7 @@ fn commit_all<S: Alter>(conn: &mut Connection<S>, changes: &[Change]) -> Result<
     }
     let mut tx = conn.transaction();
     apply_all(&mut tx, changes)?;
-    match tx.commit() {
-        Ok(()) => Ok(()),
-        Err(error) => Err(TableFault::from(error).into()),
-    }
+    Ok(tx.commit()?)
 }
 
 /// Makes the changes in one transaction. A connection that a fault of the disk has shut is told before it begins.

@@ -6,7 +6,7 @@ ghost use Rattle.sqlite.specs.Held.{state};
 ghost use Rattle.tables.specs.Steps.{HasSaved, IsKept, IsLeft};
 ghost use Rattle.tables.specs.Causes.{IsCaused, IsStopped};
 ghost use Rattle.store.specs.Causes.{IsHinderedOpening, IsHinderedReading, IsHinderedToSave};
-ghost use Rattle.store.specs.Tables.{Brings, HasNone, LeavesAlone, Opens, StandsFor};
+ghost use Rattle.store.specs.Tables.{Brings, HasNone, LeavesAlone, LeavesTables, Opens, StandsFor};
 ghost use Rattle.store.specs.Reading.{AreListed, IsDamaged, IsUnfit};
 ghost use Rattle.store.specs.Saving.{AddsNew, AreActedOn, LeavesOthers, Saves};
 
@@ -56,6 +56,7 @@ fn open_tables<S: Alter>(alloc: Global, conn: &mut Connection<S>) -> Result<Offi
     ensures is_open { HasCleanDisk (state S.Store conn.new) → OnOk result (IsTrue (state S.Store conn.new).is_open) }
     ensures damaged { HasCleanDisk (state S.Store conn.new) → result ≡ Err StoreFault.Damaged → IsDamaged (state S.Store conn.old).now }
     ensures some { result ≡ Err StoreFault.Damaged → HasNone (state S.Store conn.old).now.schema → ⊥ }
+    ensures others { HasCleanDisk (state S.Store conn.new) → OnOk result (LeavesTables (state S.Store conn.old).now (state S.Store conn.new).now) }
     ensures kept { HasCleanDisk (state S.Store conn.new) → OnErr result (IsKept (state S.Store conn.old) (state S.Store conn.new)) }
     ensures cause { conn.old.in_transaction ≡ false → IsCaused StoreFault.Storage IsHinderedOpening result (state S.Store conn.old) (state S.Store conn.new) }
     ensures crash { Survives (state S.Store conn.old) (state S.Store conn.new) (IsLeft Brings (state S.Store conn.old)) }
@@ -85,6 +86,7 @@ impl<S: Alter> Store<S> {
         mut conn: Connection<S>,
     ) -> Result<(Store<S>, Office), (StoreFault, Connection<S>)>
         ensures ok { IfOk result (λ it. HasCleanDisk (state S.Store it.0) → Opens (state S.Store conn).now (state S.Store it.0).now it.1) }
+        ensures others { IfOk result (λ it. HasCleanDisk (state S.Store it.0) → LeavesTables (state S.Store conn).now (state S.Store it.0).now) }
         ensures ended { IfOk result (λ it. let store = it.0 in store.in_transaction ≡ false) }
         ensures alone { IfOk result (λ it. HasCleanDisk (state S.Store it.0) → LeavesAlone (state S.Store it.0)) }
         ensures is_open { IfOk result (λ it. HasCleanDisk (state S.Store it.0) → IsTrue (state S.Store it.0).is_open) }

@@ -12,7 +12,7 @@ use Rattle.sqlite.specs.Effect.{Database, IsDatabase, SparesFrozen}
 use Rattle.sqlite.specs.Does.{Does, Tally}
 use Rattle.sqlite.specs.State.{State, HasCleanDisk, Savepoint, IsStatement, IsNotRun, ExecutesInside, FailsToQuery, Shown, mode_of, text_of}
 use Rattle.tables.specs.declared.fault.TableFault.{TableFault}
-use Rattle.tables.specs.declared.fault.TableFault.TheVariants.{Storage}
+use Rattle.tables.specs.declared.fault.TableFault.TheVariants.{Memory, Storage}
 use Rattle.row_data.specs.declared.table.Table.{Table}
 use Rattle.tables.specs.Faults.{fault_of}
 use Rattle.tables.specs.Keyed.{have_ids, rises}
@@ -151,6 +151,14 @@ pub record FailsToAdd (table : Table) (row : Row) (fault : TableFault) (old new 
   pub kept : between.committed ≡ old.committed
   pub fails : FailsToWrite (sql_of table).insert row fault (at_moment between) new
 
+-- a statement failed for want of memory, before which nothing was committed
+pub record LacksMemory (old new : State) : Type 0 where
+  pub between : Moment
+  pub kept : between.committed ≡ old.committed
+  pub sql : List ℕ
+  pub params : Row
+  pub fails : FailsToWrite sql params Memory (at_moment between) new
+
 -- the plainest query is refused
 abbrev pub IsUnready : Option ℕ → Database → Type 0
 IsUnready = IsRefused (λ s e. IsNotRun s s (codes "SELECT 1") [] e)
@@ -196,3 +204,7 @@ IsToldInside Fails result old new = HasCleanDisk new → old.in_transaction ≡ 
 -- where a call in a transaction answers, it went so, unless the disk gave back other bytes than it was given
 abbrev pub IsRunInside : {A : Type 0} → (Option ℕ → Database → Database → Type 0) → Result A TableFault → State → State → Type 0
 IsRunInside Ran result old new = HasCleanDisk new → OnOk result (Ran old.step_limit old.now new.now)
+
+-- where a call in a transaction tells want of memory, it is that of a statement, unless the disk gave back other bytes than it was given
+abbrev pub IsStarvedInside : {A : Type 0} → Result A TableFault → State → State → Type 0
+IsStarvedInside result old new = HasCleanDisk new → old.in_transaction ≡ true → result ≡ Err Memory → LacksMemory old new

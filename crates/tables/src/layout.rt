@@ -1,14 +1,14 @@
 //! Whether a schema lists the tables with the columns and the keys that are made here, and their references. A table that is found
 //! may be one without STRICT, and its references may name no column, so that a key is meant.
 
-ghost use Rattle.std.specs.Prelude.{◌≡◌, ℕ, ◌==◌, map, is_some, false, slice_get, None, Some, IfSome};
+ghost use Rattle.std.specs.Prelude.{◌≡◌, ℕ, ◌==◌, map, false, slice_get, None, Some, IfSome};
 ghost use Rattle.std.specs.Str.{bytes_eq};
-ghost use Rattle.std.specs.List.{list_all};
+ghost use Rattle.std.specs.List.{list_all, list_any};
 ghost use Rattle.sqlite_schema.specs.Names.{table_named};
 ghost use Rattle.tables.specs.Inside.Table.{column_by, link_by, places_by, told_by};
 ghost use Rattle.tables.specs.Table.{kind_in, shape_of, table_at};
 ghost use Rattle.tables.specs.Inside.Layout.{is_alone, is_required, are_loose, are_of_one, are_strict, are_told, is_referring, are_plain, is_untimed, has_keys, has_shape, IsNamed};
-ghost use Rattle.tables.specs.Layout.{IsListed, IsUnlisted};
+ghost use Rattle.tables.specs.Layout.{IsListed, IsUnlisted, is_kept_of, is_there};
 ghost use Rattle.sqlite.specs.Table.{Table as AnyTable};
 
 use crate::inert::is_passive;
@@ -16,7 +16,7 @@ use crate::table::{Link, Shape, Shaped, Told};
 use row_data::Table;
 use sqlite_items::Items;
 use sqlite_schema::names::same_name;
-use sqlite_schema::schema::{Column, Kind, Reference, Schema, Table as Listed};
+use sqlite_schema::schema::{Column, Kind, Reference, Schema, Table as Listed, View};
 use sqlite_value::keys::{Collation, Order};
 use sqlite_value::value::{Bytes, Value};
 
@@ -173,11 +173,33 @@ fn find_table<'a>(schema: &'a Schema, name: &str) -> Option<&'a Listed>
     schema.tables.get(at)
 }
 
-/// Whether a table has the name of this one, but for the case of its letters.
-pub fn has_table(schema: &Schema, table: Table) -> bool
-    ensures { result ≡ is_some (table_named schema.now (shape_of table).name) }
+/// Whether this is kept as it is, and is of the table of this name.
+fn is_kept_of(view: &View, name: &str) -> bool
+    ensures { result ≡ is_kept_of name.now view.now }
 {
-    position_of(schema, table.shape().name).is_some()
+    match &view.foreign {
+        Some(table) => same_name(table.as_slice(), name.as_bytes()),
+        None => false,
+    }
+}
+
+fn is_kept(schema: &Schema, name: &str) -> bool
+    ensures { result ≡ list_any (is_kept_of name.now) schema.now.views }
+{
+    schema
+        .views
+        .as_slice()
+        .iter()
+        .any(|view| is_kept_of(view, name))
+}
+
+/// Whether a table has the name of this one, but for the case of its letters. It may be one that the database keeps as it is, since it
+/// has a trigger, say.
+pub fn has_table(schema: &Schema, table: Table) -> bool
+    ensures { result ≡ is_there schema.now (shape_of table).name }
+{
+    let name = table.shape().name;
+    position_of(schema, name).is_some() || is_kept(schema, name)
 }
 
 /// The tree of the table, where it is listed as it is made here, STRICT or not, and with references that may name no column.

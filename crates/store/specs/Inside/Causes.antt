@@ -8,7 +8,7 @@ use Rattle.rolls.specs.declared.row.Change.TheVariants.{Add, Put, Take, TakeList
 use Rattle.row_data.specs.declared.table.Table.{Table}
 use Rattle.tables.specs.declared.fault.TableFault.{TableFault}
 use Rattle.tables.specs.declared.table.Group.TheVariants as group
-use Rattle.tables.specs.Table.{Sharing, sharing, sql_of}
+use Rattle.tables.specs.Table.{sharing, sql_of}
 use Rattle.tables.specs.Causes.{FailsToPut, FailsToWrite, IsHindered, IsHinderedToPut, IsUnread, Went, WentPutting}
 use Rattle.sqlite_rules.specs.Lists.{Has}
 use Rattle.editions.specs.declared.Edition.{Edition as AnEdition}

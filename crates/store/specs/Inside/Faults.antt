@@ -2,9 +2,16 @@
 use Rattle.tables.specs.declared.fault.TableFault.{TableFault}
 use Rattle.tables.specs.declared.fault.TableFault.TheVariants as table
 use Rattle.store.specs.declared.fault.StoreFault.{StoreFault}
-use Rattle.store.specs.declared.fault.StoreFault.TheVariants.{Memory, Storage}
+use Rattle.store.specs.declared.fault.StoreFault.TheVariants.{Damaged, Memory, Storage}
+use Rattle.loading.specs.declared.fault.RowsFault.{RowsFault}
+use Rattle.loading.specs.declared.fault.RowsFault.TheVariants as rows
 
 -- a statement's fault
 abbrev pub of_table : TableFault → StoreFault
 of_table table.Memory = Memory
 of_table table.Storage = Storage
+
+-- that of rows that make no office
+abbrev pub of_rows : RowsFault → StoreFault
+of_rows rows.Memory = Memory
+of_rows rows.Unfit = Damaged

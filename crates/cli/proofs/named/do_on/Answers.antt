@@ -10,6 +10,7 @@ returns-in-Ok g c =
       last = did.0;
       found = c.in-Ok.ensures.found;
       opened = c.in-Ok.ensures.opened;
+      plain = c.in-Ok.ensures.plain;
       of_file = of_file _ c.in-Ok.connection (file_state did.0) c.in-Ok.ensures.found c.in-Ok.ensures.opened;
       told = did.1;
       left = did.2;

@@ -11,14 +11,14 @@ use Rattle.store.proofs.founding.found.Goals as goal
 pub returns-in_err-make_tables-clause-crash : goal.returns-in_err-make_tables-clause-crash
 returns-in_err-make_tables-clause-crash g c = dropped_by (state g.S.Store c.args.conn.now) (state g.S.Store c.transaction-tx.result.conn.now) (ap (state g.S.Store) c.transaction-tx.ensures.begun) (state g.S.Store c.make_tables.new.tx.conn.now) _ Empties c.make_tables.ensures.step.survives (search rules)
 
-pub returns-in-Ok-clause-ok : goal.returns-in-Ok-clause-ok
-returns-in-Ok-clause-ok g c clean = saved_by (state g.S.Store c.args.conn.now) (state g.S.Store c.transaction-tx.result.conn.now) (ap (state g.S.Store) c.transaction-tx.ensures.begun) (state g.S.Store c.make_tables.new.tx.conn.now) _ Empties (λ clean. made_one _ _ _ (c.in_ok-make_tables.ensures.step.did clean)) (search rules) (search rules) clean
+pub returns-clause-ok : goal.returns-clause-ok
+returns-clause-ok g c clean = saved_by (state g.S.Store c.args.conn.now) (state g.S.Store c.transaction-tx.result.conn.now) (ap (state g.S.Store) c.transaction-tx.ensures.begun) (state g.S.Store c.make_tables.new.tx.conn.now) _ Empties (λ clean. made_one _ _ _ (c.in_ok-make_tables.ensures.step.did clean)) (search rules) (search rules) clean
 
-pub returns-in-Ok-clause-crash : goal.returns-in-Ok-clause-crash
-returns-in-Ok-clause-crash g c = left_by (state g.S.Store c.args.conn.now) (state g.S.Store c.transaction-tx.result.conn.now) (ap (state g.S.Store) c.transaction-tx.ensures.begun) (state g.S.Store c.make_tables.new.tx.conn.now) _ Empties (λ clean. made_one _ _ _ (c.in_ok-make_tables.ensures.step.did clean)) (λ clean. sound_one _ _ _ (c.in_ok-make_tables.ensures.step.did clean)) c.in_ok-make_tables.ensures.step.survives (search rules)
+pub returns-clause-crash : goal.returns-clause-crash
+returns-clause-crash g c = left_by (state g.S.Store c.args.conn.now) (state g.S.Store c.transaction-tx.result.conn.now) (ap (state g.S.Store) c.transaction-tx.ensures.begun) (state g.S.Store c.make_tables.new.tx.conn.now) _ Empties (λ clean. made_one _ _ _ (c.in_ok-make_tables.ensures.step.did clean)) (λ clean. sound_one _ _ _ (c.in_ok-make_tables.ensures.step.did clean)) c.in_ok-make_tables.ensures.step.survives (search rules)
 
-pub returns-in-Err-clause-crash : goal.returns-in-Err-clause-crash
-returns-in-Err-clause-crash g c = left_by (state g.S.Store c.args.conn.now) (state g.S.Store c.transaction-tx.result.conn.now) (ap (state g.S.Store) c.transaction-tx.ensures.begun) (state g.S.Store c.make_tables.new.tx.conn.now) _ Empties (λ clean. made_one _ _ _ (c.in_ok-make_tables.ensures.step.did clean)) (λ clean. sound_one _ _ _ (c.in_ok-make_tables.ensures.step.did clean)) c.in_ok-make_tables.ensures.step.survives (search rules)
+pub returns-in_err-commit-clause-crash : goal.returns-in_err-commit-clause-crash
+returns-in_err-commit-clause-crash g c = left_by (state g.S.Store c.args.conn.now) (state g.S.Store c.transaction-tx.result.conn.now) (ap (state g.S.Store) c.transaction-tx.ensures.begun) (state g.S.Store c.make_tables.new.tx.conn.now) _ Empties (λ clean. made_one _ _ _ (c.in_ok-make_tables.ensures.step.did clean)) (λ clean. sound_one _ _ _ (c.in_ok-make_tables.ensures.step.did clean)) c.in_ok-make_tables.ensures.step.survives (search rules)
 
 pub returns-in_err-make_tables-clause-cause : goal.returns-in_err-make_tables-clause-cause
 returns-in_err-make_tables-clause-cause g c settled clean h =

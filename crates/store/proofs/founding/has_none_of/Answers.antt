@@ -1,7 +1,7 @@
-use Rattle.std.proofs.Common.{◌≡◌, is_some, false, true, length, arith, sym, ◌∙◌}
-use Rattle.sqlite_schema.specs.Names.{table_named}
+use Rattle.std.proofs.Common.{◌≡◌, false, true, sym, ◌∙◌}
+use Rattle.tables.specs.Layout.{is_there}
 use Rattle.tables.specs.Table.{shape_of}
-use Rattle.store.proofs.ListedTables.{is_next, of_each, so_far}
+use Rattle.store.proofs.ListedTables.{is_next, so_far}
 use Rattle.store.proofs.founding.has_none_of.Goals as goal
 
 -- the name is told as there, and as not there
@@ -15,4 +15,4 @@ returns-then-has_table-clause-wrong c h none =
 
 pub loop-table-preserved : goal.loop-table-preserved
 loop-table-preserved c =
-    so_far (λ table. is_some (table_named c.args.schema.now (shape_of table).name) ≡ false) c.args.tables.now c.loop-table.table-index _ c.loop-table-test.true c.loop-table.invariant (sym c.has_table.ensures ∙ c.if-has_table.false)
+    so_far (λ table. is_there c.args.schema.now (shape_of table).name ≡ false) c.args.tables.now c.loop-table.table-index _ c.loop-table-test.true c.loop-table.invariant (sym c.has_table.ensures ∙ c.if-has_table.false)

@@ -1,7 +1,9 @@
 use Rattle.std.proofs.Common.{◌≤◌, length, refl, arith, ◌∙◌}
 use Rattle.tables.proofs.Runs.{part_none, part_ok, part_then}
 use Rattle.store.proofs.NewTables.{made_all, made_more, made_none}
-use Rattle.std.proofs.Common.{ℕ, [], Option, rules}
+use Rattle.std.proofs.Common.{◌≡◌, ℕ, [], Err, Option, rules}
+use Rattle.tables.specs.declared.fault.TableFault.TheVariants.{Memory}
+use Rattle.tables.proofs.Starved.{lacks, lacks_after}
 use Rattle.sqlite.specs.Effect.{Database}
 use Rattle.row_data.specs.declared.table.Table.{Table}
 use Rattle.std.proofs.lemmas.Option.{slice_get-get_or}
@@ -45,3 +47,10 @@ pub returns-clause-ran : goal.returns-clause-ran
 returns-clause-ran g c clean =
     let end : length c.args.tables.now ≤ c.loop-table.table-index = omega arith in
     ran_all creates c.loop-table.table-index c.args.tables.now (state g.S.Store c.args.tx.now.conn.now) (state g.S.Store c.loop-table.tx.conn.now) end (c.loop-table.invariant.2 clean)
+
+pub returns-in_err-make-clause-starved : goal.returns-in_err-make-clause-starved
+returns-in_err-make-clause-starved g c clean inside h =
+    let early : HasCleanDisk (state g.S.Store c.loop-table.tx.conn.now) = omega (arith, c.make.ensures.step.survives.clean) in
+    let made = c.loop-table.invariant.1.did early in
+    let was : c.make.result ≡ Err Memory = search rules in
+    lacks_after _ _ _ made.committed (lacks _ _ _ _ (rw was at (c.make.ensures.told clean (made.mode ∙ inside))))

@@ -1,7 +1,16 @@
-use Rattle.std.proofs.Common.{refl}
+use Rattle.std.proofs.Common.{◌∙◌, arith, refl}
+use Rattle.sqlite.specs.State.{HasCleanDisk}
+use Rattle.sqlite.specs.Held.{state}
+use Rattle.tables.proofs.Starved.{lacks, lacks_after}
 use Rattle.tables.proofs.Runs.{part_then}
 use Rattle.store.proofs.NewTables.{founded}
 use Rattle.store.proofs.founding.make_tables.Goals as goal
 
 pub returns-clause-step : goal.returns-clause-step
 returns-clause-step g c = part_then _ _ _ _ _ _ _ _ (λ _ p q. founded _ refl _ _ _ p q) c.in_ok-make_each.ensures.step (rw (c.params-to_sql.ensures, c.params-to_sql-2.ensures, c.number_of.ensures) at c.insert.ensures.step)
+
+pub returns-clause-starved : goal.returns-clause-starved
+returns-clause-starved g c clean inside h =
+    let early : HasCleanDisk (state g.S.Store c.make_each.new.tx.conn.now) = omega (arith, c.insert.ensures.step.survives.clean) in
+    let made = c.in_ok-make_each.ensures.step.did early in
+    lacks_after _ _ _ made.committed (lacks _ _ _ _ (rw h at (c.insert.ensures.told clean (made.mode ∙ inside))))

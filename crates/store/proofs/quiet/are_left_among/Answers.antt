@@ -1,4 +1,4 @@
-use Rattle.std.proofs.Common.{◌≡◌, List, length, true≢false, refl, sym, ◌∙◌, arith}
+use Rattle.std.proofs.Common.{◌≡◌, length, true≢false, refl, sym, ◌∙◌, arith}
 use Rattle.sqlite_rules.specs.Lists.{Has}
 use Rattle.row_data.specs.declared.table.Table.{Table}
 use Rattle.store.specs.Saving.{IsLeftAlone, IsActedOnAt}

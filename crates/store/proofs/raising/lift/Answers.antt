@@ -1,7 +1,8 @@
-use Rattle.std.proofs.Common.{Err, Ok, inl, inr, ap, sym, ◌∙◌, arith, rules}
+use Rattle.std.proofs.Common.{◌≡◌, Err, inl, inr, arith, rules}
 use Rattle.sqlite.specs.State.{HasCleanDisk}
 use Rattle.sqlite.specs.Held.{state}
-use Rattle.tables.specs.declared.fault.TableFault.TheVariants.{Storage}
+use Rattle.tables.specs.declared.fault.TableFault.TheVariants.{Memory}
+use Rattle.tables.proofs.Starved.{lacks_after, lacks_put}
 use Rattle.row_data.specs.declared.table.Table.TheVariants.{Edition}
 use Rattle.tables.specs.Causes.{IsCausedInside, IsHinderedToPut}
 use Rattle.tables.proofs.Causes.{stopped_after, stopped_as}
@@ -26,3 +27,14 @@ returns-clause-cause g c inside clean h =
     let made = done.did early in
     stopped_after (IsHinderedToExtend c.args.edition c.args.changes.now) (IsHinderedToRaise c.args.edition c.args.changes.now) _ _ _ done.survives early c.extend.ensures.step.survives.counts
     (λ it. inr (inr (record { between = (state g.S.Store c.put.new.tx.conn.now).now; numbered = ran early; hindered = it }))) (c.extend.ensures.cause made.shown.mode clean h)
+
+pub returns-in_err-put-clause-starved : goal.returns-in_err-put-clause-starved
+returns-in_err-put-clause-starved g c clean inside h =
+    let was : c.put.result ≡ Err Memory = search rules in
+    lacks_put _ _ _ _ (rw was at (c.put.ensures.told clean inside))
+
+pub returns-clause-starved : goal.returns-clause-starved
+returns-clause-starved g c clean inside h =
+    let early : HasCleanDisk (state g.S.Store c.put.new.tx.conn.now) = omega (arith, c.extend.ensures.step.survives.clean) in
+    let done = c.in_ok-put.ensures.step.did early in
+    lacks_after _ _ _ done.shown.committed_is (c.extend.ensures.starved clean done.shown.mode h)

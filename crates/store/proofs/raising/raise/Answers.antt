@@ -24,11 +24,11 @@ returns-in_err-lift-clause-cause g c settled clean h =
 pub returns-in_err-lift-clause-crash : goal.returns-in_err-lift-clause-crash
 returns-in_err-lift-clause-crash g c = dropped_by (state g.S.Store c.args.conn.now) (state g.S.Store c.transaction-tx.result.conn.now) (ap (state g.S.Store) c.transaction-tx.ensures.begun) (state g.S.Store c.lift.new.tx.conn.now) _ (Rises c.args.edition c.args.changes.now) c.lift.ensures.step.survives (search rules)
 
-pub returns-in-Ok-clause-ok : goal.returns-in-Ok-clause-ok
-returns-in-Ok-clause-ok g c clean = saved_by (state g.S.Store c.args.conn.now) (state g.S.Store c.transaction-tx.result.conn.now) (ap (state g.S.Store) c.transaction-tx.ensures.begun) (state g.S.Store c.lift.new.tx.conn.now) _ (Rises c.args.edition c.args.changes.now) (λ clean. made_one _ _ _ (rises_by c.args.edition c.args.changes.now _ _ (begun_quiet (state g.S.Store c.args.conn.now) (state g.S.Store c.transaction-tx.result.conn.now) (ap (state g.S.Store) c.transaction-tx.ensures.begun) (none_acts c.are_left_among.result (state g.S.Store c.args.conn.now).now.schema c.if-not-are_left_among.false (subst (λ (s : Schema). (c.are_left_among.result ≡ false) ↔ AreActedOnAmong raised s) c.schema.ensures.value c.are_left_among.ensures.exact))) (c.in_ok-lift.ensures.step.did clean))) (search rules) (search rules) clean
+pub returns-clause-ok : goal.returns-clause-ok
+returns-clause-ok g c clean = saved_by (state g.S.Store c.args.conn.now) (state g.S.Store c.transaction-tx.result.conn.now) (ap (state g.S.Store) c.transaction-tx.ensures.begun) (state g.S.Store c.lift.new.tx.conn.now) _ (Rises c.args.edition c.args.changes.now) (λ clean. made_one _ _ _ (rises_by c.args.edition c.args.changes.now _ _ (begun_quiet (state g.S.Store c.args.conn.now) (state g.S.Store c.transaction-tx.result.conn.now) (ap (state g.S.Store) c.transaction-tx.ensures.begun) (none_acts c.are_left_among.result (state g.S.Store c.args.conn.now).now.schema c.if-not-are_left_among.false (subst (λ (s : Schema). (c.are_left_among.result ≡ false) ↔ AreActedOnAmong raised s) c.schema.ensures.value c.are_left_among.ensures.exact))) (c.in_ok-lift.ensures.step.did clean))) (search rules) (search rules) clean
 
-pub returns-in-Ok-clause-crash : goal.returns-in-Ok-clause-crash
-returns-in-Ok-clause-crash g c = left_by (state g.S.Store c.args.conn.now) (state g.S.Store c.transaction-tx.result.conn.now) (ap (state g.S.Store) c.transaction-tx.ensures.begun) (state g.S.Store c.lift.new.tx.conn.now) _ (Rises c.args.edition c.args.changes.now) (λ clean. made_one _ _ _ (rises_by c.args.edition c.args.changes.now _ _ (begun_quiet (state g.S.Store c.args.conn.now) (state g.S.Store c.transaction-tx.result.conn.now) (ap (state g.S.Store) c.transaction-tx.ensures.begun) (none_acts c.are_left_among.result (state g.S.Store c.args.conn.now).now.schema c.if-not-are_left_among.false (subst (λ (s : Schema). (c.are_left_among.result ≡ false) ↔ AreActedOnAmong raised s) c.schema.ensures.value c.are_left_among.ensures.exact))) (c.in_ok-lift.ensures.step.did clean))) (λ clean. sound_one _ _ _ (c.in_ok-lift.ensures.step.did clean)) c.in_ok-lift.ensures.step.survives (search rules)
+pub returns-clause-crash : goal.returns-clause-crash
+returns-clause-crash g c = left_by (state g.S.Store c.args.conn.now) (state g.S.Store c.transaction-tx.result.conn.now) (ap (state g.S.Store) c.transaction-tx.ensures.begun) (state g.S.Store c.lift.new.tx.conn.now) _ (Rises c.args.edition c.args.changes.now) (λ clean. made_one _ _ _ (rises_by c.args.edition c.args.changes.now _ _ (begun_quiet (state g.S.Store c.args.conn.now) (state g.S.Store c.transaction-tx.result.conn.now) (ap (state g.S.Store) c.transaction-tx.ensures.begun) (none_acts c.are_left_among.result (state g.S.Store c.args.conn.now).now.schema c.if-not-are_left_among.false (subst (λ (s : Schema). (c.are_left_among.result ≡ false) ↔ AreActedOnAmong raised s) c.schema.ensures.value c.are_left_among.ensures.exact))) (c.in_ok-lift.ensures.step.did clean))) (λ clean. sound_one _ _ _ (c.in_ok-lift.ensures.step.did clean)) c.in_ok-lift.ensures.step.survives (search rules)
 
-pub returns-in-Err-clause-crash : goal.returns-in-Err-clause-crash
-returns-in-Err-clause-crash g c = left_by (state g.S.Store c.args.conn.now) (state g.S.Store c.transaction-tx.result.conn.now) (ap (state g.S.Store) c.transaction-tx.ensures.begun) (state g.S.Store c.lift.new.tx.conn.now) _ (Rises c.args.edition c.args.changes.now) (λ clean. made_one _ _ _ (rises_by c.args.edition c.args.changes.now _ _ (begun_quiet (state g.S.Store c.args.conn.now) (state g.S.Store c.transaction-tx.result.conn.now) (ap (state g.S.Store) c.transaction-tx.ensures.begun) (none_acts c.are_left_among.result (state g.S.Store c.args.conn.now).now.schema c.if-not-are_left_among.false (subst (λ (s : Schema). (c.are_left_among.result ≡ false) ↔ AreActedOnAmong raised s) c.schema.ensures.value c.are_left_among.ensures.exact))) (c.in_ok-lift.ensures.step.did clean))) (λ clean. sound_one _ _ _ (c.in_ok-lift.ensures.step.did clean)) c.in_ok-lift.ensures.step.survives (search rules)
+pub returns-in_err-commit-clause-crash : goal.returns-in_err-commit-clause-crash
+returns-in_err-commit-clause-crash g c = left_by (state g.S.Store c.args.conn.now) (state g.S.Store c.transaction-tx.result.conn.now) (ap (state g.S.Store) c.transaction-tx.ensures.begun) (state g.S.Store c.lift.new.tx.conn.now) _ (Rises c.args.edition c.args.changes.now) (λ clean. made_one _ _ _ (rises_by c.args.edition c.args.changes.now _ _ (begun_quiet (state g.S.Store c.args.conn.now) (state g.S.Store c.transaction-tx.result.conn.now) (ap (state g.S.Store) c.transaction-tx.ensures.begun) (none_acts c.are_left_among.result (state g.S.Store c.args.conn.now).now.schema c.if-not-are_left_among.false (subst (λ (s : Schema). (c.are_left_among.result ≡ false) ↔ AreActedOnAmong raised s) c.schema.ensures.value c.are_left_among.ensures.exact))) (c.in_ok-lift.ensures.step.did clean))) (λ clean. sound_one _ _ _ (c.in_ok-lift.ensures.step.did clean)) c.in_ok-lift.ensures.step.survives (search rules)

@@ -1,5 +1,4 @@
-use Rattle.std.proofs.Common.{◌≡◌, Err, List, subst, sym, arith, rules}
-use Rattle.sqlite.specs.State.{HasCleanDisk}
+use Rattle.std.proofs.Common.{◌≡◌, Err, List, subst, sym, rules}
 use Rattle.sqlite.specs.Held.{state}
 use Rattle.rolls.specs.declared.row.Row.{Row}
 use Rattle.rolls.specs.declared.row.Change.{Change}

@@ -3,7 +3,6 @@ use Rattle.sqlite.specs.Order.{Row as Cells}
 use Rattle.sqlite.specs.State.{HasCleanDisk}
 use Rattle.sqlite.specs.Held.{state}
 use Rattle.tables.proofs.Runs.{rests_then, survives_both}
-use Rattle.row_data.specs.declared.table.Table.{Table}
 use Rattle.row_data.specs.declared.table.Table.TheVariants.{Edition}
 use Rattle.store.specs.declared.fault.StoreFault.TheVariants.{Damaged, Storage}
 use Rattle.store.specs.Editions.{number_of, rolls_of}
@@ -20,10 +19,10 @@ returns-then-not-are_all_listed-clause-damaged g c clean h =
     unlisted c.args.edition (state g.S.Store c.args.conn.now).now (λ l. c.are_all_listed.ensures.wrong c.if-not-are_all_listed.true
     (subst (λ tables. AreAllListed tables c.schema.result.now) (sym c.rolls_of.ensures) (subst (AreAllListed (rolls_of c.args.edition)) (sym c.schema.ensures.value) l)))
 
-pub returns-then-not-are_numbered-clause-damaged : goal.returns-then-not-are_numbered-clause-damaged
-returns-then-not-are_numbered-clause-damaged g c clean h =
+pub returns-in_err-need_number-clause-damaged : goal.returns-in_err-need_number-clause-damaged
+returns-in_err-need_number-clause-damaged g c clean h =
     let shows = c.in_ok-number.ensures.rows clean in
-    let other = subst (λ (all : List Cells). map (drop 1) all ≢ numbered (number_of c.args.edition)) c.as_slice.ensures.value (c.are_numbered.ensures.wrong c.if-not-are_numbered.true) in
+    let other = subst (λ (all : List Cells). map (drop 1) all ≢ numbered (number_of c.args.edition)) c.as_slice.ensures.value c.in_err-need_number.ensures.err.1 in
     other_number (state g.S.Store c.args.conn.now) c.schema.ensures.live shows.same.0.was_open c.args.edition _ _ shows other
 
 pub returns-in_err-rows-clause-damaged : goal.returns-in_err-rows-clause-damaged
@@ -41,7 +40,7 @@ returns-clause-rows g c clean =
     let shows = c.in_ok-number.ensures.rows early in
     let all = c.in_ok-rows.ensures.rows clean in
     let listed = subst (AreAllListed (rolls_of c.args.edition)) c.schema.ensures.value (subst (λ tables. AreAllListed tables c.schema.result.now) c.rolls_of.ensures (c.are_all_listed.ensures.right c.if-not-are_all_listed.false)) in
-    let number = subst (λ (rows : List Cells). map (drop 1) rows ≡ numbered (number_of c.args.edition)) c.as_slice.ensures.value (c.are_numbered.ensures.right c.if-not-are_numbered.false) in
+    let number = subst (λ (rows : List Cells). map (drop 1) rows ≡ numbered (number_of c.args.edition)) c.as_slice.ensures.value c.in_ok-need_number.ensures.ok in
     let rows = c.in_ok-rows.rows.items in
     record {
       same = unchanged_then _ _ _ shows.same all.same;

@@ -1,4 +1,4 @@
-use Rattle.std.proofs.Common.{IsTrue, ap, ◌≡◌, ◌≢◌, ◌<◌, ◌∙◌, Err, inl, inr, sym, subst, arith, rules}
+use Rattle.std.proofs.Common.{IsTrue, ap, ◌≡◌, ◌≢◌, ◌<◌, ◌∙◌, Err, inl, sym, subst, arith, rules}
 use Rattle.sqlite.proofs.StateLemmas.{survives_weaker}
 use Rattle.sqlite.specs.State.{HasCleanDisk}
 use Rattle.sqlite.specs.Effect.{Database}
@@ -9,8 +9,8 @@ use Rattle.tables.specs.Steps.{IsKept}
 use Rattle.store.specs.declared.fault.StoreFault.TheVariants.{Damaged, Storage}
 use Rattle.store.specs.Editions.{beyond, latest, number_of}
 use Rattle.store.specs.Tables.{HasNone, HasNoneOf}
-use Rattle.store.proofs.NewTables.{opens_new, founds_left}
-use Rattle.store.proofs.Opening.{brings_left, earlier_of, kept_after, on_err, opens_found, opens_raised, raise_refused, unfit_all}
+use Rattle.store.proofs.NewTables.{opens_new, founds_left, founds_others}
+use Rattle.store.proofs.Opening.{brings_left, earlier_of, kept_after, on_err, opens_found, opens_raised, others_kept, raise_refused, raised_others, unfit_all}
 use Rattle.tables.proofs.Causes.{stopped_as}
 use Rattle.store.specs.Causes.{IsHinderedFounding, IsHinderedOpening}
 use Rattle.store.proofs.store.open_tables.Goals as goal
@@ -41,7 +41,8 @@ returns-then-eq-clause-ok g c clean =
 
 pub returns-in_err-raise-clause-unlisted : goal.returns-in_err-raise-clause-unlisted
 returns-in_err-raise-clause-unlisted g c settled some none =
-    let was : c.office_in.result ≡ Err Damaged = c.office_in.ensures.unlisted (λ l. none (c.edition_of-edition.result, l)) in
+    let alone = subst (HasNoneOf (beyond c.edition_of-edition.result)) c.schema-2.ensures.value c.edition_of-edition.ensures.alone in
+    let was : c.office_in.result ≡ Err Damaged = c.office_in.ensures.unlisted (λ l. none (c.edition_of-edition.result, l, alone)) in
     absurd (let bad = sym c.in_ok-office.was ∙ was in cc)
 
 pub returns-in_err-raise-clause-kept : goal.returns-in_err-raise-clause-kept
@@ -93,3 +94,16 @@ returns-clause-alone g c clean trees h =
     let up : IsTrue (state g.S.Store c.raise.new.conn).is_open = shown.is_open in
     let settled : trees ≡ (state g.S.Store c.raise.new.conn).committed.trees = g.met.S.Store.settled c.raise.new.conn.store trees up h in
     settled ∙ ap (λ (db : Database). db.trees) shown.committed_is
+
+pub returns-then-has_none-clause-others : goal.returns-then-has_none-clause-others
+returns-then-has_none-clause-others g c clean = founds_others _ _ (search rules)
+
+pub returns-then-eq-clause-others : goal.returns-then-eq-clause-others
+returns-then-eq-clause-others g c clean = others_kept _ _ (c.in_ok-office.ensures.same clean).0.now_is
+
+pub returns-clause-others : goal.returns-clause-others
+returns-clause-others g c clean =
+    let early : HasCleanDisk (state g.S.Store c.office_in.new.conn) = omega (arith, c.raise.ensures.crash.clean) in
+    let other : c.edition_of-edition.result ≢ latest = search rules in
+    raised_others c.edition_of-edition.result c.in_ok-office.office c.in_ok-office.changes.items _ _ (earlier_of c.edition_of-edition.result other)
+    (subst (HasNoneOf (beyond c.edition_of-edition.result)) c.schema-2.ensures.value c.edition_of-edition.ensures.alone) (c.in_ok-office.ensures.ok early) _ (rw c.deref.ensures.value at (c.in_ok-raise.ensures.ok clean))

@@ -56,6 +56,10 @@ still_left before after P e = subst (λ (z : Seen). Survives before z P) e (cras
 still_open : (before after : Seen) → before ≡ after → HasCleanDisk after → IsTrue after.is_open → IsTrue before.is_open
 still_open before after e clean up = subst (λ (z : Seen). IsTrue z.is_open) (sym e) up
 
+-- a fault of the storage that is told of a request that nothing refuses
+refused_of : (o : State) (a : Result Reply Refusal) (q r : Request) → q ≡ r → (a ≡ Err Storage → refusal layers o r ≡ None) → a ≡ Err Storage → refusal layers o q ≡ None
+refused_of o a q r is h told = ap (refusal layers o) is ∙ h told
+
 pub returns-in-Some-clause-named : goal.returns-in-Some-clause-named
 returns-in-Some-clause-named g c =
     due (refusal_of c.args.self.now.office c.args.request) c.in-Some.refusal
@@ -255,3 +259,17 @@ returns-in-Preview-clause-crash g c = still_left (state g.S.Store c.args.self.no
 
 pub returns-in-Preview-clause-kept : goal.returns-in-Preview-clause-kept
 returns-in-Preview-clause-kept g c = λ _ _ some. c.preview.ensures.kept some
+
+pub returns-in-Some-clause-refused : goal.returns-in-Some-clause-refused
+returns-in-Some-clause-refused g c told =
+    let same : c.in-Some.refusal ≡ Storage = cc in
+    absurd (unread_named c.args.self.now.office c.args.request (sym (c.refusal_of.ensures.refusal ∙ ap (λ k. refusal_of k.office c.args.request) c.self.view_is) ∙ c.in-Some.is ∙ ap Some same))
+
+pub returns-else-is_read-clause-refused : goal.returns-else-is_read-clause-refused
+returns-else-is_read-clause-refused g c = refused_of c.args.self.now.office c.change.result c.args.request _ c.in-Plain.is c.change.ensures.refused
+
+pub returns-in-Close-clause-refused : goal.returns-in-Close-clause-refused
+returns-in-Close-clause-refused g c = refused_of c.args.self.now.office c.change-in-Close.result c.args.request _ c.in-Close.is c.change-in-Close.ensures.refused
+
+pub returns-in-None-clause-refused : goal.returns-in-None-clause-refused
+returns-in-None-clause-refused g c = refused_of c.args.self.now.office c.change-in-None.result c.args.request _ c.in-Import.is c.change-in-None.ensures.refused

@@ -1,4 +1,4 @@
-use Rattle.std.proofs.Common.{◌≡◌, Option, Result, Ok, Err, IfSome, sym, ap, subst, ◌∙◌}
+use Rattle.std.proofs.Common.{◌≡◌, Option, None, Result, Ok, Err, IfSome, sym, ap, subst, ◌∙◌}
 use Rattle.sqlite.specs.State.{State as Seen}
 use Rattle.sqlite.specs.Held.{state}
 use Rattle.rolls.specs.State.{State}
@@ -98,3 +98,7 @@ pub returns-in-Err-clause-saved : goal.returns-in-Err-clause-saved
 returns-in-Err-clause-saved g c =
     saved_so c.args.request (Err c.in-Err.refusal) c.self.inside.office c.args.self.now.office (state g.S.Store c.self.inside.store) (state g.S.Store c.args.self.now.store) (state g.S.Store c.save.new.self.store) (state g.S.Store c.keep_session-in-Err.new.self.store)
     (ap (λ k. k.office) c.self.view_is) (ap (λ k. state g.S.Store k.store) c.self.view_is) (sym (ap (λ k. state g.S.Store k.store) c.keep_session-in-Err.ensures.kept)) c.in-Err.ensures.saved
+
+pub returns-in-Err-clause-refused : goal.returns-in-Err-clause-refused
+returns-in-Err-clause-refused g c told =
+    subst (λ (o : State). refusal layers o c.args.request ≡ None) (ap (λ k. k.office) c.self.view_is) (c.in-Err.ensures.refused told)

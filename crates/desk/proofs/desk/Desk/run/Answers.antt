@@ -37,7 +37,7 @@ loop-request-preserved g c =
       rest = one_more c.args.self.now.office c.loop-request.self.office c.ask-answer.new.self.office c.args.requests.items c.loop-request.request-iterator.rest.items c.next.new.self.rest.items c.in-Some.request c.ask-answer.result
           c.loop-request.answers.items c.push.new.self.items next added l.rest c.ask-answer.ensures.step;
       goes = one_more_on c.args.self.now.office c.args.self.now.session c.loop-request.self.office c.loop-request.self.session c.ask-answer.new.self.office c.ask-answer.new.self.session c.args.requests.items
-          c.loop-request.request-iterator.rest.items c.next.new.self.rest.items c.in-Some.request c.ask-answer.result c.loop-request.answers.items c.push.new.self.items next added l.goes c.ask-answer.ensures.step c.ask-answer.ensures.session (c.ask-answer.ensures.named, c.ask-answer.ensures.storage)
+          c.loop-request.request-iterator.rest.items c.next.new.self.rest.items c.in-Some.request c.ask-answer.result c.loop-request.answers.items c.push.new.self.items next added l.goes c.ask-answer.ensures.step c.ask-answer.ensures.session (c.ask-answer.ensures.named, c.ask-answer.ensures.storage, c.ask-answer.ensures.refused)
           (record { round = c.ask-answer.ensures.round; repeated = c.ask-answer.ensures.repeated; preview = c.ask-answer.ensures.kept });
       tables = c.ask-answer.ensures.tables;
       crash = crash_more c.args.self.now.office c.loop-request.self.office c.ask-answer.new.self.office c.args.requests.items c.loop-request.request-iterator.rest.items c.next.new.self.rest.items c.in-Some.request c.ask-answer.result

@@ -51,3 +51,7 @@ returns-clause-saved g c =
       acted_on = saved.acted_on;
       cause = λ quiet. hindered_by Storage c.settle.result old next q done (state g.S.Store c.args.self.now.store) (state g.S.Store c.settle.new.self.store) (done.reply, (none, made)) may turns (saved.cause quiet);
     }
+
+pub returns-clause-refused : goal.returns-clause-refused
+returns-clause-refused g c told =
+    subst (λ (o : State). refusal layers o c.args.request ≡ None) (c.in_ok-next.ensures.same ∙ ap (λ k. k.office) c.self.view_is) c.in-Ok.ensures.made.0

@@ -1,5 +1,4 @@
-use Rattle.std.proofs.Common.{◌≡◌, Err, ap, sym, subst, ◌∙◌, rules}
-use Rattle.sqlite.specs.Held.{state}
+use Rattle.std.proofs.Common.{◌≡◌, Err, sym, ◌∙◌, rules}
 use Rattle.store.specs.Editions.{latest}
 use Rattle.store.specs.declared.fault.StoreFault.TheVariants.{Damaged}
 use Rattle.store.proofs.Standing.{in_latest}
@@ -16,5 +15,5 @@ returns-in_err-office-clause-damaged g c clean h office fit stands =
 
 pub returns-clause-unlisted : goal.returns-clause-unlisted
 returns-clause-unlisted g c settled none =
-    let was : c.office_in.result ≡ Err Damaged = c.office_in.ensures.unlisted (λ l. none (latest, search rules)) in
+    let was : c.office_in.result ≡ Err Damaged = c.office_in.ensures.unlisted (λ l. none (latest, search rules, λ table no. absurd no)) in
     absurd (let bad = sym c.in_ok-office.was ∙ was in cc)

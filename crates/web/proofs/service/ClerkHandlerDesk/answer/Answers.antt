@@ -17,7 +17,7 @@ returns-in-Ok g c = record {
         (record {
           gets = record {
             step = c.ask.ensures.step;
-            right = (c.ask.ensures.named, c.ask.ensures.storage);
+            right = (c.ask.ensures.named, c.ask.ensures.storage, c.ask.ensures.refused);
             at_once = record { round = c.ask.ensures.round; repeated = c.ask.ensures.repeated; preview = c.ask.ensures.kept };
             goes = c.ask.ensures.session;
           };
