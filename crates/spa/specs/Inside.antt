@@ -4,6 +4,7 @@ pub mod Columns
 pub mod Lex
 pub mod Made
 pub mod Order
+pub mod Over
 pub mod Places
 pub mod Reading
 pub mod Row

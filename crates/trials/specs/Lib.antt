@@ -1,1 +1,1 @@
-pub mod Costs
+pub mod Inside

@@ -28,7 +28,7 @@ impl Model for Saved {
 }
 
 impl Worth for Saved {
-    ghost use Rattle.trials.specs.Costs.{cost_ops, cost_worth};
+    ghost use Rattle.trials.specs.Inside.Costs.{cost_ops, cost_worth};
 
     ghost ops = { cost_ops };
 

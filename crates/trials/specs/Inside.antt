@@ -1,0 +1,2 @@
+-- What proofs need and no public clause says.
+pub mod Costs
