@@ -59,8 +59,6 @@ pub fn gather(alloc: Global, rows: &[Row]) -> Result<Draft, RowsFault>
     ensures unfit { result ≡ Err RowsFault.Unfit → (o : State) → IsFit o → AreRowsOf rows.now o → ⊥ }
 {
     let draft = take_all(alloc, rows)?;
-    if !draft.is_whole() {
-        return Err(RowsFault::Unfit);
-    }
+    draft.need_whole()?;
     Ok(draft)
 }

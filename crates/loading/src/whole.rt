@@ -1,6 +1,6 @@
 //! Whether what was taken in goes together.
 
-ghost use Rattle.std.specs.Prelude.{◌≡◌, ◌-◌, false, slice_get};
+ghost use Rattle.std.specs.Prelude.{◌≡◌, ◌-◌, IfErr, OnOk, false, slice_get, true};
 ghost use Rattle.std.specs.List.{list_all, list_any};
 ghost use Rattle.std.specs.Option.{option_map_or};
 ghost use Rattle.std.specs.Str.{bytes_eq};
@@ -11,6 +11,7 @@ ghost use Rattle.loading.specs.Inside.Gathering.{choices_among};
 ghost use Rattle.loading.specs.Inside.Whole.{is_whole, are_few, are_offered, are_rounds, is_list, is_placement};
 
 use crate::draft::Draft;
+use crate::fault::RowsFault;
 use rolls::{Entries, Listed, MOST_IMPORTS, MOST_ROUNDS, Placement, Round, RoundAim};
 use spa::{Code, MOST_PROJECTS, MOST_STUDENTS, MOST_SUPERVISORS, RANKS};
 
@@ -193,7 +194,7 @@ impl Draft {
     }
 
     /// Whether all of it goes together.
-    pub(crate) fn is_whole(&self) -> bool
+    fn is_whole(&self) -> bool
         ensures { result ≡ is_whole (drafted self.now) }
     {
         self.are_few()
@@ -201,5 +202,16 @@ impl Draft {
             && self.are_rounds()
             && self.are_placements()
             && self.are_within()
+    }
+
+    /// Fails where not all of it goes together.
+    pub(crate) fn need_whole(&self) -> Result<(), RowsFault>
+        ensures ok { OnOk result (is_whole (drafted self.now) ≡ true) }
+        ensures err { IfErr result (λ fault. (fault ≡ RowsFault.Unfit) × (is_whole (drafted self.now) ≡ false)) }
+    {
+        if !self.is_whole() {
+            return Err(RowsFault::Unfit);
+        }
+        Ok(())
     }
 }
