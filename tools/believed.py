@@ -175,13 +175,15 @@ def public_words(path, names, modules):
     text = open(path, encoding="utf-8").read()
     is_open = os.path.basename(path)[: -len(".rt")] in modules
     owner, in_trait = None, False
+    private = re.findall(r"^(?:pub\(crate\) )?trait (\w+)", text, re.M)
     lines = text.split("\n")
     for at, line in enumerate(lines):
         block = re.match(r"(pub )?(impl|trait)\b(.*)\{$", line)
         if block:
             of = re.sub(r"<[^<>]*>", "", block.group(3).split(" for ")[-1])
             owner, in_trait = re.search(r"\w+", re.sub(r"<[^<>]*>", "", of)), block.group(2) == "trait" or " for " in block.group(3)
-            owner = owner and owner.group(0)
+            of_private = re.match(rf"\s*(?:{'|'.join(private)})\b.* for ", block.group(3)) if private else None
+            owner = owner and not of_private and owner.group(0)
         elif line == "}":
             owner, in_trait = None, False
         function = re.match(r"\s*(pub )?(?:const )?fn (\w+)", line)
