@@ -749,7 +749,7 @@ class Trial:
         words = self.sheets(kind, f"{self.folder}/{name}")
         found = [
             (int(row), int(reason))
-            for reason, cells in re.findall(r"(?m)^(\d+) [A-Z].*\n((?:  row .*\n)+)", words)
+            for reason, cells in re.findall(r"(?m)^(\d+) [A-Z].*\n(?:\S.*\n)*?((?:  row .*\n)+)", words)
             for row in re.findall(r"  row (\d+):", cells)
         ]
         self.check(

@@ -14,6 +14,7 @@ import re
 import subprocess
 import sys
 import tempfile
+import textwrap
 import time
 
 from office import copy
@@ -83,7 +84,7 @@ class Office:
 def show(found, is_more, name, said):
     """Prints the refused rows by their reasons."""
     for reason in sorted({inner for *_, inner in found}):
-        print(reason, said.get(reason, ""))
+        print(textwrap.fill(f"{reason} {said.get(reason, '')}", 120))
         for number, row in sorted((number, row) for number, row, inner in found if inner == reason):
             print(f"  row {number}:", " | ".join(row).replace("\n", "\\n").encode(errors="replace").decode())
     rows = "row is" if len(found) == 1 else "rows are"
@@ -108,7 +109,7 @@ def main(program, database, kind, name):
     if found:
         show(found, is_more, name, said)
     else:
-        print(answer, *([f"{reason} {said[reason]}"] if reason in said else []), sep="\n")
+        print(answer, *(textwrap.wrap(f"{reason} {said[reason]}", 120) if reason in said else []), sep="\n")
     for code, numbers in places.items():
         if len(numbers) > 1 and code:
             print(f"{code} stands in the rows {', '.join(numbers)}: the last of them counts")
