@@ -3,7 +3,8 @@
 
 tools/walkthrough.py SPADESK [--write] [TEXT..]     needs curl, jq and sqlite3
 tools/walkthrough.py                                only compares the texts of the test with those of the example, finds names of what
-                                                    is not there (tools/named.py), and what is hard to read (tools/pages.py)
+                                                    is not there (tools/named.py), what is hard to read (tools/pages.py), and
+                                                    what docs/PROOF.md lacks (tools/proof_steps.py)
 
 Each TEXT is one of WALKTHROUGHS, and without any all of them are run. The commands are the lines after a `$` in its console blocks;
 those of `rt`, which prove or build, stand in other blocks and are not run. Without any TEXT the snippet for nginx is tried too, and
@@ -30,6 +31,7 @@ import clients
 import named
 import nginx
 import pages
+import proof_steps
 from office import TOP, copy, line, read, rows
 
 TEST = os.path.join(TOP, "crates", "trials", "src", "walkthrough.rt")
@@ -169,7 +171,7 @@ def main(program=None, *words):
     is_written = "--write" in words
     if not is_written:
         compare_test()
-        if named.main() or pages.main():
+        if named.main() or pages.main() or proof_steps.main():
             sys.exit(1)
     if program is None:
         return

@@ -26,9 +26,10 @@ mod connections;
 // Commands over a file of which the copy alone is looked at.
 #[cfg(test)]
 mod copies;
-// A desk of one's own over a database, read again by another.
+// Assignment with quotas by cost: the network over a worth of the test's own.
 #[cfg(test)]
 mod costs;
+// A desk of one's own over a database, read again by another.
 #[cfg(test)]
 mod desks;
 // A request or two over HTTP, and its answer; readers and writers that fail.
