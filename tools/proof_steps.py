@@ -13,18 +13,14 @@ import re
 import subprocess
 import sys
 
-TOP = os.path.dirname(os.path.dirname(os.path.abspath(__file__)))
+from office import TOP, read
+
 PAGE = "docs/PROOF.md"
 QUESTION = "The question"
 STEP = re.compile(r"^(\d+[a-z]?)\. ", re.MULTILINE)
 FILE = re.compile(r"[\w/]+\.(?:antt|rt)")
 NAME = re.compile(r"[A-Za-z]\w*")
 BEGINS = re.compile(r"-- (?:Step (\w+)|(The question)) of docs/PROOF\.md\. \S")
-
-
-def read(name):
-    with open(os.path.join(TOP, name), encoding="utf-8") as file:
-        return file.read()
 
 
 def steps(page):
