@@ -1,5 +1,5 @@
 //! A small school's office over libsqlite3, in plain Rust: what `spadesk` is measured beside. It does the same work on the same
-//! tables and trusts what it is given: it tests no limit and refuses nothing.
+//! tables and trusts what it is given: it tests no limit and refuses nothing. Its matchings are those of rounds.rs.
 //!
 //! - `peer serve DB PORT COUNT MODE`: serves GET and PUT `/students/CODE` to so many connections.
 //! - `peer import DB ID FILE MODE`: imports students from a CSV file, and keeps the file's bytes.
@@ -9,13 +9,13 @@
 //!
 //! MODE is `wal` or `delete`, SQLite's journal mode; each commit is synced in full.
 
-use std::cmp::Reverse;
-use std::collections::{BinaryHeap, HashMap};
 use std::ffi::{CStr, CString, c_char, c_int, c_void};
 use std::io::{Read, Write};
 use std::net::{TcpListener, TcpStream};
-use std::ops::{Add, Sub};
 use std::time::{Instant, UNIX_EPOCH};
+
+#[allow(dead_code)]
+mod rounds;
 
 // ---- SQLite ----
 
@@ -250,215 +250,31 @@ fn import(db: &Database, id: &str, file: &str) {
 
 // ---- Closing ----
 
-/// The ranks of a profile, as many as a list has places at most.
-const RANKS: usize = 12;
-
-/// A weight: the size, then each rank. No place reaches 2^13 either way.
-#[derive(Clone, Copy, PartialEq, Eq, PartialOrd, Ord)]
-struct Weight([i16; RANKS + 1]);
-
-impl Weight {
-    const ZERO: Weight = Weight([0; RANKS + 1]);
-    const MAX: Weight = Weight([i16::MAX; RANKS + 1]);
-}
-
-impl Add for Weight {
-    type Output = Weight;
-
-    fn add(self, other: Weight) -> Weight { Weight(std::array::from_fn(|i| self.0[i] + other.0[i])) }
-}
-
-impl Sub for Weight {
-    type Output = Weight;
-
-    fn sub(self, other: Weight) -> Weight { Weight(std::array::from_fn(|i| self.0[i] - other.0[i])) }
-}
-
-fn weight(rank: usize) -> Weight {
-    let mut places = [0; RANKS + 1];
-    places[0] = 1;
-    places[rank] = 1;
-    Weight(places)
-}
-
-/// A flow of students over projects and supervisors; a best walk for each student in turn, by Dijkstra's algorithm.
-struct Flow {
-    owner: Vec<usize>,
-    project_room: Vec<i64>,
-    supervisor_room: Vec<i64>,
-    offers: Vec<Vec<usize>>,
-    lists: Vec<Vec<usize>>,
-    place: Vec<Option<usize>>,
-    seated: Vec<Vec<usize>>,
-    height: Vec<Weight>,
-}
-
-/// How a walk came to a node: by a student who takes a place of a list, or from a node.
-#[derive(Clone, Copy)]
-enum By {
-    Student(usize, Option<usize>),
-    Node(usize),
-}
-
-impl Flow {
-    fn price(&self, student: usize, place: Option<usize>) -> (usize, Weight) {
-        match place {
-            Some(k) => (self.lists[student][k], weight(k + 1)),
-            None => (self.height.len() - 1, Weight::ZERO),
-        }
-    }
-
-    fn admit(&mut self, student: usize) {
-        let (projects, nodes) = (self.owner.len(), self.height.len());
-        let sink = nodes - 1;
-        let mut label = vec![Weight::MAX; nodes];
-        let mut by = vec![By::Node(sink); nodes];
-        let mut settled = Vec::new();
-        let mut heap = BinaryHeap::new();
-        let mut offer = |heap: &mut BinaryHeap<_>, to: usize, cost: Weight, from: By| {
-            if cost < label[to] {
-                label[to] = cost;
-                by[to] = from;
-                heap.push(Reverse((cost, to)));
-            }
-        };
-        let places = |n: usize| (0..n).map(Some).chain([None]);
-        let top = places(self.lists[student].len()).map(|k| self.price(student, k)).map(|(p, w)| w + self.height[p]).max().unwrap();
-        for k in places(self.lists[student].len()) {
-            let (to, w) = self.price(student, k);
-            offer(&mut heap, to, top - w - self.height[to], By::Student(student, k));
-        }
-        let mut done = vec![false; nodes];
-        while let Some(Reverse((at, node))) = heap.pop() {
-            if std::mem::replace(&mut done[node], true) {
-                continue;
-            }
-            settled.push((node, at));
-            if node == sink {
-                break;
-            }
-            let here = at + self.height[node];
-            if node < projects {
-                for &other in &self.seated[node] {
-                    let left = self.price(other, self.place[other]).1;
-                    for k in places(self.lists[other].len()) {
-                        let (to, w) = self.price(other, k);
-                        offer(&mut heap, to, here + left - w - self.height[to], By::Student(other, k));
-                    }
-                }
-                let owner = projects + self.owner[node];
-                if self.project_room[node] > 0 {
-                    offer(&mut heap, owner, here - self.height[owner], By::Node(node));
-                }
-            } else {
-                for &project in &self.offers[node - projects] {
-                    if !self.seated[project].is_empty() {
-                        offer(&mut heap, project, here - self.height[project], By::Node(node));
-                    }
-                }
-                if self.supervisor_room[node - projects] > 0 {
-                    offer(&mut heap, sink, here - self.height[sink], By::Node(node));
-                }
-            }
-        }
-        let end = label[sink];
-        for (node, at) in settled {
-            self.height[node] = self.height[node] - (end - at);
-        }
-        self.push(student, sink, &by);
-    }
-
-    /// Changes the places along the walk, from its end to the student who is new.
-    fn push(&mut self, fresh: usize, sink: usize, by: &[By]) {
-        let projects = self.owner.len();
-        let mut node = sink;
-        loop {
-            match by[node] {
-                By::Student(student, place) => {
-                    let left = self.place[student].map(|k| self.lists[student][k]);
-                    self.place[student] = place;
-                    if node < projects {
-                        self.seated[node].push(student);
-                    }
-                    if student == fresh {
-                        return;
-                    }
-                    let left = left.unwrap();
-                    self.seated[left].retain(|&s| s != student);
-                    node = left;
-                }
-                By::Node(from) if from < projects => {
-                    self.project_room[from] -= 1;
-                    node = from;
-                }
-                By::Node(from) => {
-                    if node == sink {
-                        self.supervisor_room[from - projects] -= 1;
-                    } else {
-                        self.project_room[node] += 1;
-                    }
-                    node = from;
-                }
-            }
-        }
-    }
-}
-
-/// The positions of codes.
-fn positions(codes: &[String]) -> HashMap<&str, usize> { codes.iter().enumerate().map(|(i, code)| (code.as_str(), i)).collect() }
-
 fn close(db: &Database) {
     db.run("BEGIN");
-    let round = db.prepare("SELECT number FROM round WHERE open = 1").rows(&[], |row| row.number(0))[0];
+    let number = db.prepare("SELECT number FROM round WHERE open = 1").rows(&[], |row| row.number(0))[0];
     let left = "quota - (SELECT count(*) FROM placement12 WHERE placement12.project";
-    let supervisors = db
-        .prepare(&format!("SELECT code, {left} IN (SELECT code FROM project WHERE supervisor = supervisor.code)) FROM supervisor"))
-        .rows(&[], |row| (row.text(0), row.number(1)));
-    let projects = db
-        .prepare(&format!("SELECT code, supervisor, {left} = project.code) FROM project"))
-        .rows(&[], |row| (row.text(0), row.text(1), row.number(2)));
-    let choices = db
-        .prepare("SELECT student, project FROM choice12 WHERE round = ?1 ORDER BY student, place")
-        .rows(&[Number(round)], |row| (row.text(0), row.text(1)));
-    let supervisor_codes: Vec<String> = supervisors.iter().map(|s| s.0.clone()).collect();
-    let project_codes: Vec<String> = projects.iter().map(|p| p.0.clone()).collect();
-    let (of_supervisor, of_project) = (positions(&supervisor_codes), positions(&project_codes));
-    let owner: Vec<usize> = projects.iter().map(|p| of_supervisor[p.1.as_str()]).collect();
-    let mut offers = vec![Vec::new(); supervisors.len()];
-    owner.iter().enumerate().for_each(|(p, &l)| offers[l].push(p));
-    let mut students: Vec<String> = Vec::new();
-    let mut lists: Vec<Vec<usize>> = Vec::new();
-    for (student, project) in &choices {
-        if students.last() != Some(student) {
-            students.push(student.clone());
-            lists.push(Vec::new());
-        }
-        lists.last_mut().unwrap().push(of_project[project.as_str()]);
-    }
-    let mut flow = Flow {
-        seated: vec![Vec::new(); owner.len()],
-        height: vec![Weight::ZERO; owner.len() + offers.len() + 1],
-        place: vec![None; lists.len()],
-        project_room: projects.iter().map(|p| p.2).collect(),
-        supervisor_room: supervisors.iter().map(|s| s.1).collect(),
-        owner,
-        offers,
-        lists,
-    };
-    (0..students.len()).for_each(|student| flow.admit(student));
-    let mut profile = [0; RANKS];
+    let supervisors = format!("SELECT code, {left} IN (SELECT code FROM project WHERE supervisor = supervisor.code)) FROM supervisor");
+    let projects = format!("SELECT code, supervisor, {left} = project.code) FROM project");
+    let choices = "SELECT student, project FROM choice12 WHERE round = ?1 ORDER BY student, place";
+    let lists = format!("SELECT student, group_concat(project) FROM ({choices}) GROUP BY student");
+    let mut lines = db.prepare(&supervisors).rows(&[], |row| format!("S,{},{}\n", row.text(0), row.number(1)));
+    lines.extend(db.prepare(&projects).rows(&[], |row| format!("P,{},{},{}\n", row.text(0), row.text(1), row.number(2))));
+    lines.extend(db.prepare(&lists).rows(&[Number(number)], |row| format!("C,{},{}\n", row.text(0), row.text(1))));
+    let text = lines.concat();
+    let round = rounds::read(&text).unwrap();
+    let mut profile = [0; rounds::RANKS];
     let put = db.prepare("INSERT INTO placement12 VALUES (?1, ?2, ?3, ?4)");
-    for (student, place) in flow.place.iter().enumerate() {
-        if let Some(k) = *place {
+    for ((student, list), place) in round.students.iter().zip(rounds::solve(&round).places) {
+        if let Some(k) = place {
             profile[k] += 1;
-            let project = &project_codes[flow.lists[student][k]];
-            put.run(&[Text(&students[student]), Number(round), Text(project), Number(k as i64 + 1)]);
+            put.run(&[Text(student), Number(number), Text(round.projects[list[k]].0), Number(k as i64 + 1)]);
         }
     }
-    db.prepare("UPDATE round SET open = 0 WHERE number = ?1").run(&[Number(round)]);
+    db.prepare("UPDATE round SET open = 0 WHERE number = ?1").run(&[Number(number)]);
     db.run("COMMIT");
     let ranks: Vec<String> = profile.iter().map(|n| n.to_string()).collect();
-    println!("round {round} size {} profile {}", profile.iter().sum::<i64>(), ranks.join(" "));
+    println!("round {number} size {} profile {}", profile.iter().sum::<i64>(), ranks.join(" "));
 }
 
 fn main() {

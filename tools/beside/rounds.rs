@@ -1,6 +1,6 @@
 //! The commands `solve FILE` and `check FILE` in plain Rust, std alone: what `spadesk` is measured beside. Dijkstra with potentials over
 //! labels that are whole numbers, a binary heap, labels cut at the best end found so far. It reads its text laxly: neither limits nor the
-//! order of lines are tested.
+//! order of lines are tested. peer.rs closes its round by the same search.
 //!
 //! RANKS in the environment of rustc is the number of places of a list, 12 where it is not set.
 
@@ -9,7 +9,7 @@ use std::collections::{BinaryHeap, HashMap};
 use std::fmt::Write as _;
 use std::io::Write as _;
 
-const RANKS: usize = match option_env!("RANKS") {
+pub const RANKS: usize = match option_env!("RANKS") {
     Some(text) => number(text.as_bytes(), 0, 0),
     None => 12,
 };
@@ -17,20 +17,22 @@ const fn number(text: &[u8], at: usize, n: usize) -> usize {
     if at == text.len() { n } else { number(text, at + 1, 10 * n + (text[at] - b'0') as usize) }
 }
 const NP: usize = RANKS + 1;
+/// The size, and then each rank.
+type Row = [i64; NP];
 
 /// A row as one whole number, its places digits of ten bits, but for the last, which the others leave of the size.
 type Label = i128;
 const BITS: usize = 10;
 
 /// The weight of a pair.
-fn weight(rank: usize) -> [i64; NP] {
+fn weight(rank: usize) -> Row {
     let mut row = [0; NP];
     row[0] = 1;
     row[rank + 1] = 1;
     row
 }
 /// A row as the aim reads it, and once more, which gives the row again.
-fn as_read(generous: bool, row: [i64; NP]) -> [i64; NP] {
+fn as_read(generous: bool, row: Row) -> Row {
     let mut read = row;
     if generous {
         for k in 1..NP {
@@ -39,10 +41,10 @@ fn as_read(generous: bool, row: [i64; NP]) -> [i64; NP] {
     }
     read
 }
-fn packed(generous: bool, row: [i64; NP]) -> Label {
+fn packed(generous: bool, row: Row) -> Label {
     as_read(generous, row)[..RANKS].iter().fold(0, |sum, place| (sum << BITS) + *place as i128)
 }
-fn places(label: Label, generous: bool) -> [i64; NP] {
+fn places(label: Label, generous: bool) -> Row {
     let (mut rest, mut r) = (label, [0; NP]);
     for place in (0..RANKS).rev() {
         let digit = ((rest + (1 << (BITS - 1))) & ((1 << BITS) - 1)) as i64 - (1 << (BITS - 1));
@@ -53,29 +55,37 @@ fn places(label: Label, generous: bool) -> [i64; NP] {
     r[RANKS] = if generous { -r[0] - others } else { r[0] - others };
     as_read(generous, r)
 }
+/// For each student the place in the list, and the prices of students, projects and supervisors.
 #[derive(Default)]
-struct Round<'a> {
+pub struct Answer {
+    pub places: Vec<Option<usize>>,
+    u: Vec<Row>,
+    y: Vec<Row>,
+    z: Vec<Row>,
+}
+/// What a round text says: codes, with quotas, the supervisors of projects and the projects of lists.
+#[derive(Default)]
+pub struct Round<'a> {
     generous: bool,
     sups: Vec<(&'a str, u32)>,
-    projects: Vec<(&'a str, usize, u32)>,
-    students: Vec<(&'a str, Vec<usize>)>,
-    places: Vec<Option<usize>>,
-    u: Vec<[i64; NP]>,
-    y: Vec<[i64; NP]>,
-    z: Vec<[i64; NP]>,
+    pub projects: Vec<(&'a str, usize, u32)>,
+    pub students: Vec<(&'a str, Vec<usize>)>,
+    told: Answer,
 }
 
-fn prices<'a>(f: impl Iterator<Item = &'a str>) -> Option<[i64; NP]> {
-    let mut r = [0; NP];
-    let mut n = 0;
-    for x in f {
-        *r.get_mut(n)? = x.parse().ok()?;
-        n += 1
+/// Reads the next row of prices, which must be that of this entry.
+fn price(rows: &mut Vec<Row>, entry: Option<&usize>, mut fields: std::str::Split<char>) -> Option<()> {
+    (*entry? == rows.len()).then_some(())?;
+    let mut row = [0; NP];
+    for place in &mut row {
+        *place = fields.next()?.parse().ok()?
     }
-    (n == NP).then_some(r)
+    rows.push(row);
+    fields.next().is_none().then_some(())
 }
 
-fn read(text: &str) -> Result<Round<'_>, usize> {
+/// Reads a text, or gives the number of its first bad line.
+pub fn read(text: &str) -> Result<Round<'_>, usize> {
     let mut r = Round::default();
     let (mut sn, mut pn, mut cn) = (HashMap::new(), HashMap::new(), HashMap::new());
     for (i, line) in text.lines().enumerate() {
@@ -98,24 +108,15 @@ fn read(text: &str) -> Result<Round<'_>, usize> {
                     let list = f.map(|c| pn.get(c).copied()).collect::<Option<Vec<_>>>()?;
                     cn.insert(code, r.students.len());
                     r.students.push((code, list));
-                    r.places.push(None)
+                    r.told.places.push(None)
                 }
                 "M" => {
                     let (s, p) = (*cn.get(code)?, *pn.get(f.next()?)?);
-                    r.places[s] = Some(r.students[s].1.iter().position(|q| *q == p)?)
+                    r.told.places[s] = Some(r.students[s].1.iter().position(|q| *q == p)?)
                 }
-                "U" => {
-                    (*cn.get(code)? == r.u.len()).then_some(())?;
-                    r.u.push(prices(f)?)
-                }
-                "Y" => {
-                    (*pn.get(code)? == r.y.len()).then_some(())?;
-                    r.y.push(prices(f)?)
-                }
-                "Z" => {
-                    (*sn.get(code)? == r.z.len()).then_some(())?;
-                    r.z.push(prices(f)?)
-                }
+                "U" => price(&mut r.told.u, cn.get(code), f)?,
+                "Y" => price(&mut r.told.y, pn.get(code), f)?,
+                "Z" => price(&mut r.told.z, sn.get(code), f)?,
                 _ => return None,
             }
             Some(())
@@ -123,14 +124,6 @@ fn read(text: &str) -> Result<Round<'_>, usize> {
         ok.ok_or(i + 1)?;
     }
     Ok(r)
-}
-
-/// For each student the place in the list, and the prices of students, projects and supervisors.
-struct Solved {
-    places: Vec<Option<usize>>,
-    u: Vec<[i64; NP]>,
-    y: Vec<[i64; NP]>,
-    z: Vec<[i64; NP]>,
 }
 
 #[derive(Clone, Copy)]
@@ -344,7 +337,7 @@ impl<'a> Network<'a> {
     }
 }
 
-fn write(r: &Round, n: &Solved) -> String {
+fn write(r: &Round, n: &Answer) -> String {
     let mut o = String::with_capacity(64 * (r.sups.len() + r.projects.len() + 3 * r.students.len()));
     if r.generous {
         o.push_str("A,generous\n")
@@ -367,7 +360,7 @@ fn write(r: &Round, n: &Solved) -> String {
             let _ = writeln!(o, "M,{c},{}", r.projects[list[k]].0);
         }
     }
-    let mut line = |k: char, c: &str, v: [i64; NP]| {
+    let mut line = |k: char, c: &str, v: Row| {
         let _ = write!(o, "{k},{c}");
         for x in v {
             let _ = write!(o, ",{x}");
@@ -386,13 +379,13 @@ fn write(r: &Round, n: &Solved) -> String {
     o
 }
 
-fn check(r: &Round) -> Result<[i64; NP], String> {
-    let (mut cp, mut cl, mut w) = (vec![0; r.projects.len()], vec![0; r.sups.len()], [0i64; NP]);
-    for (s, k) in r.places.iter().enumerate() {
-        if let Some(k) = k {
-            let p = r.students[s].1[*k];
-            cp[p] += 1;
-            cl[r.projects[p].1] += 1;
+fn check(r: &Round) -> Result<Row, String> {
+    let Answer { places, u, y, z } = &r.told;
+    let (mut cp, mut cl, mut w) = (vec![0; r.projects.len()], vec![0; r.sups.len()], [0; NP]);
+    for (place, (_, list)) in places.iter().zip(&r.students) {
+        if let Some(k) = *place {
+            cp[list[k]] += 1;
+            cl[r.projects[list[k]].1] += 1;
             w[0] += 1;
             w[k + 1] += 1
         }
@@ -400,38 +393,29 @@ fn check(r: &Round) -> Result<[i64; NP], String> {
     if cp.iter().zip(&r.projects).any(|(a, b)| *a > b.2) || cl.iter().zip(&r.sups).any(|(a, b)| *a > b.1) {
         return Err("fault 1".into());
     }
-    if r.u.len() != r.students.len() || r.y.len() != r.projects.len() || r.z.len() != r.sups.len() {
+    if u.len() != r.students.len() || y.len() != r.projects.len() || z.len() != r.sups.len() {
         return Err("fault 2".into());
     }
-    let all = || r.u.iter().chain(&r.y).chain(&r.z);
+    let all = || u.iter().chain(y).chain(z);
     if all().flatten().any(|x| x.abs() > 1_000_000) {
         return Err("fault 2".into());
     }
     if all().any(|v| as_read(r.generous, *v) < [0; NP]) {
         return Err("fault 3".into());
     }
-    for (s, (c, list)) in r.students.iter().enumerate() {
+    for ((c, list), u) in r.students.iter().zip(u) {
         for (k, p) in list.iter().enumerate() {
-            let (u, y, z) = (&r.u[s], &r.y[*p], &r.z[r.projects[*p].1]);
+            let (y, z) = (&y[*p], &z[r.projects[*p].1]);
             if as_read(r.generous, std::array::from_fn(|t| u[t] + y[t] + z[t])) < as_read(r.generous, weight(k)) {
                 return Err(format!("fault 4 {c} {}", k + 1));
             }
         }
     }
-    let mut v = [0i64; NP];
-    for u in &r.u {
+    let times = r.students.iter().map(|_| 1).chain(r.projects.iter().map(|p| p.2)).chain(r.sups.iter().map(|l| l.1));
+    let mut v = [0; NP];
+    for (row, times) in all().zip(times) {
         for i in 0..NP {
-            v[i] += u[i]
-        }
-    }
-    for (y, p) in r.y.iter().zip(&r.projects) {
-        for i in 0..NP {
-            v[i] += p.2 as i64 * y[i]
-        }
-    }
-    for (z, l) in r.z.iter().zip(&r.sups) {
-        for i in 0..NP {
-            v[i] += l.1 as i64 * z[i]
+            v[i] += times as i64 * row[i]
         }
     }
     if v != w {
@@ -440,7 +424,7 @@ fn check(r: &Round) -> Result<[i64; NP], String> {
     Ok(w)
 }
 
-fn solve(r: &Round) -> Solved {
+pub fn solve(r: &Round) -> Answer {
     let mut n = Network::new(r);
     for s in 0..r.students.len() {
         n.admit(s)
@@ -448,7 +432,7 @@ fn solve(r: &Round) -> Solved {
     let y = |p: usize| if r.projects[p].2 == 0 { n.weight[0] } else { n.price(p) - n.z[r.projects[p].1] };
     let y = (0..r.projects.len()).map(|p| places(y(p), r.generous)).collect();
     let rows = |labels: &[Label]| labels.iter().map(|x| places(*x, r.generous)).collect();
-    Solved { u: rows(&n.u), z: rows(&n.z), y, places: n.place }
+    Answer { u: rows(&n.u), z: rows(&n.z), y, places: n.place }
 }
 fn main() {
     let words: Vec<String> = std::env::args().collect();
