@@ -1,6 +1,8 @@
 """What the tools share: lines of the program, a `serve` that ends, counted instructions, the rows of a database, the first round."""
 import contextlib
+import hashlib
 import os
+import random
 import re
 import shutil
 import socket
@@ -38,10 +40,50 @@ def read(*path):
         return file.read()
 
 
+def told(program, words, database="DB", **how):
+    """What a command of the program prints, which must be done."""
+    return line(program, words, database, check=True, **how).stdout
+
+
+def listed(*patterns):
+    """The files of the repository, and those that would come to it, by their paths from the top."""
+    words = ["git", "ls-files", "-co", "--exclude-standard", *patterns]
+    ran = subprocess.run(words, cwd=TOP, capture_output=True, text=True, check=True)
+    return sorted(name for name in ran.stdout.splitlines() if os.path.isfile(os.path.join(TOP, name)))
+
+
 def line(program, words, database="DB", **how):
     """What became of a line of the program; in its words DB stands for the database."""
     told = [program, *(database if word == "DB" else word for word in words.split())]
     return subprocess.run(told, **{"capture_output": True, "text": True, **how})
+
+
+def round_text(quotas, offers, lists, is_generous=False):
+    """The text of a round: the quota of each supervisor, the supervisor and the quota of each project, and the projects of each list."""
+    lines = ["A,generous"] if is_generous else []
+    lines += [f"S,L{number:03},{quota}" for number, quota in enumerate(quotas)]
+    lines += [f"P,P{number:03},L{owner:03},{quota}" for number, (owner, quota) in enumerate(offers)]
+    lines += [f"C,S{number:03}," + ",".join(f"P{project:03}" for project in chosen) for number, chosen in enumerate(lists)]
+    return "".join(line + "\n" for line in lines)
+
+
+def written(text, path):
+    """Writes a text as it is, and gives the path."""
+    with open(path, "w", encoding="utf-8", newline="") as file:
+        file.write(text)
+    return path
+
+
+def sheets(supervisors, projects, students, lists):
+    """By kind, the sheets of a school with so many of each; a list has twelve projects, drawn evenly."""
+    draw, codes = random.Random(1), [f"P{n}" for n in range(projects)]
+    rows = {
+        "supervisors": ["code,name,quota", *(f"L{n},Lee,6" for n in range(supervisors))],
+        "projects": ["code,name,supervisor,quota", *(f"{code},Pumps,L{n % supervisors},2" for n, code in enumerate(codes))],
+        "students": ["code,name", *(f"S{n},Ann" for n in range(students))],
+        "lists": ["student,choices", *(f"S{n},{' '.join(draw.sample(codes, 12))}" for n in range(lists))],
+    }
+    return {kind: "".join(row + "\n" for row in of_kind) for kind, of_kind in rows.items()}
 
 
 def free_port():
@@ -73,17 +115,20 @@ def message(method, path, body=""):
     return f"{method} {path} HTTP/1.1\r\nContent-Length: {len(body)}\r\n\r\n".encode() + body
 
 
-def answered(port, sent, answers=None):
-    """What a connection is answered once all was sent; as answers of success come, `answers` has their number as its one entry."""
+def answered(port, sent, told=None):
+    """What a connection is answered once all was sent; `told` has what came so far."""
+    told = bytearray() if told is None else told
     with socket.create_connection(("127.0.0.1", port), timeout=60) as it:
         it.sendall(sent)
         it.shutdown(socket.SHUT_WR)
-        told = b""
         while piece := it.recv(65536):
             told += piece
-            if answers is not None:
-                answers[0] = told.count(b"HTTP/1.1 200 OK\r\n")
     return told
+
+
+def successes(told):
+    """How many answers of success these are."""
+    return told.count(b"HTTP/1.1 200 OK\r\n")
 
 
 def counted(*words, **how):
@@ -105,10 +150,14 @@ def copy(start, to, ends=("", "-wal")):
 
 
 def rows(path):
-    """The rows of a database as it stands, with its log, beside which nothing is written."""
+    """The rows of a database as it stands, with its log, in short; beside it nothing is written. The words of SQLite where it fails."""
     with tempfile.TemporaryDirectory() as folder:
         with contextlib.closing(sqlite3.connect(copy(path, os.path.join(folder, "looked.db")))) as looked:
-            return [*looked.execute("PRAGMA integrity_check"), *looked.iterdump()]
+            try:
+                told = [*looked.execute("PRAGMA integrity_check"), *looked.iterdump()]
+            except sqlite3.DatabaseError as error:
+                return str(error)
+    return hashlib.sha256(repr(told).encode()).hexdigest()
 
 
 def alter(path, sql):
@@ -125,20 +174,47 @@ def preloaded(source, folder):
 
 
 class Bench:
-    """A folder with the files of the first round, in which a program is run with a library before its own."""
+    """A folder with the files of the first round, in which commands are run with a library before the program's own."""
 
     def __init__(self, program, folder, source):
         self.program, self.folder, self.library = os.path.abspath(program), folder, preloaded(source, folder)
-        for name in os.listdir(EXAMPLE):
-            shutil.copy(self.at(name, EXAMPLE), folder)
+        for entry in os.scandir(EXAMPLE):
+            shutil.copy(entry.path, folder)
 
-    def at(self, name, folder=None):
-        return os.path.join(folder or self.folder, name)
+    def at(self, name):
+        return os.path.join(self.folder, name)
 
     def copy(self, start, to, ends=("", "-wal")):
         return copy(start and self.at(start), self.at(to), ends)
+
+    def rows(self, name):
+        return rows(self.at(name))
 
     def counted(self):
         """The numbers that the library has counted."""
         with open(self.at("counted"), encoding="utf-8") as file:
             return [int(number) for number in file.read().split()]
+
+    def line(self, words, request=None, limit=None, **env):
+        """What a command prints on both, its status, and what the one connection that it may serve is answered. `env` is for the library,
+        and `limit` done in the process before."""
+        env = {**os.environ, "LD_PRELOAD": self.library, "COUNTED": "" if limit else self.at("counted"), **env}
+        how = {"cwd": self.folder, "env": env, "stdout": subprocess.PIPE, "stderr": subprocess.PIPE, "text": True, "preexec_fn": limit}
+        with subprocess.Popen([self.program, *words.split()], **how) as it:
+            first = it.stdout.readline() if request else ""
+            answer = ""
+            if first.startswith("listening"):
+                answer = subprocess.run(["curl", "-s", *request], capture_output=True, text=True).stdout
+            out, err = it.communicate(timeout=600)
+        return first + out, err, it.returncode, answer
+
+    def steps(self, lines):
+        """Each line's number, the database that those before it leave, to which is done what the line says, its words and its request."""
+        start = None
+        for number, (words, request, sql) in enumerate(lines, 1):
+            if sql:
+                alter(self.at(start), sql)
+            yield number, start, words, request
+            self.copy(start, f"step{number}.db")
+            start = f"step{number}.db"
+            self.line(words.replace("DB", start), request)

@@ -1,6 +1,7 @@
 /* Fails one call of the disk by a program, or ends the program before it: the call with the number in AT, counted from 1. MODE says
-   how: `kill` ends the program before the call, `tear` half-way through a write, `once` fails the call, and `on` this one and all later
-   ones, by EIO or, where FAULT says so, by ENOSPC. Where COUNTED names a file, two numbers are written there at the end: the calls before the last text was printed, and all. */
+   how: `kill` ends the program before the call, `tear` half-way through a write, `once-` fails the call, and `on-` this one and all later
+   ones, by the fault that follows, EIO or ENOSPC. Where COUNTED names a file, two numbers are written there at the end: the calls before
+   the last text was printed, and all. */
 #define _GNU_SOURCE
 #include <dlfcn.h>
 #include <errno.h>
@@ -13,14 +14,10 @@
 
 static unsigned long came, told, at;
 static const char *mode = "";
-static int fault = EIO;
 
 __attribute__((constructor)) static void start(void) {
-    const char *number = getenv("AT");
-    at = number ? strtoul(number, NULL, 10) : 0;
+    at = getenv("AT") ? strtoul(getenv("AT"), NULL, 10) : 0;
     mode = getenv("MODE") ? getenv("MODE") : "";
-    if (getenv("FAULT") && !strcmp(getenv("FAULT"), "ENOSPC"))
-        fault = ENOSPC;
 }
 
 __attribute__((destructor)) static void end(void) {
@@ -39,8 +36,8 @@ static int fails(void) {
         return 0;
     if (came == at && !strcmp(mode, "kill"))
         kill(getpid(), SIGKILL);
-    if (!strcmp(mode, "on") || (came == at && !strcmp(mode, "once"))) {
-        errno = fault;
+    if (!strncmp(mode, "on-", 3) || (came == at && !strncmp(mode, "once-", 5))) {
+        errno = strstr(mode, "ENOSPC") ? ENOSPC : EIO;
         return 1;
     }
     return 0;
@@ -48,10 +45,17 @@ static int fails(void) {
 
 #define REAL(name) static __typeof__(name) *real; if (!real) real = (__typeof__(name) *)dlsym(RTLD_NEXT, #name)
 
-ssize_t pread(int file, void *buf, size_t len, off_t from) {
-    REAL(pread);
-    return fails() ? -1 : real(file, buf, len, from);
-}
+/* A call that does nothing where it fails. */
+#define FAILING(type, name, params, args) \
+    type name params {                    \
+        REAL(name);                       \
+        return fails() ? -1 : real args;  \
+    }
+
+FAILING(ssize_t, pread, (int file, void *buf, size_t len, off_t from), (file, buf, len, from))
+FAILING(int, fsync, (int file), (file))
+FAILING(int, fdatasync, (int file), (file))
+FAILING(int, ftruncate, (int file, off_t len), (file, len))
 
 ssize_t pwrite(int file, const void *buf, size_t len, off_t to) {
     REAL(pwrite);
@@ -62,21 +66,6 @@ ssize_t pwrite(int file, const void *buf, size_t len, off_t to) {
         kill(getpid(), SIGKILL);
     }
     return real(file, buf, len, to);
-}
-
-int fsync(int file) {
-    REAL(fsync);
-    return fails() ? -1 : real(file);
-}
-
-int fdatasync(int file) {
-    REAL(fdatasync);
-    return fails() ? -1 : real(file);
-}
-
-int ftruncate(int file, off_t len) {
-    REAL(ftruncate);
-    return fails() ? -1 : real(file, len);
 }
 
 ssize_t write(int file, const void *buf, size_t len) {

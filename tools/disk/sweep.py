@@ -1,14 +1,14 @@
 #!/usr/bin/env python3
 """Fails each call of the disk of a line in turn, or ends the program there, and looks at what is printed and at what is left.
 
-tools/disk/sweep.py SPADESK [ROW..]     needs gcc, curl and sqlite3
+tools/disk/sweep.py SPADESK [ROW..]     needs gcc and curl
 tools/disk/sweep.py SPADESK --of FILE FIRST LAST EACH [MODE..]
 
 The rows are LINES, by their numbers from 1; without a number all are swept. Some begin with a file of the first edition or the second,
 which the line raises. With --of a report over a copy of FILE is swept instead, at each EACH-th of its calls from FIRST to LAST, in these
-MODES, or all, with steps of the sizes EACH times as large. Over the file that tools/oldest_full_file.py makes it has 4,200 calls, of which the
-last five of the 1,740 before what is printed commit what is raised; a run takes up to some seconds. Two lines are served, at one port, so
-sweeps of LINES are not run side by side.
+MODES, or all, with steps of the sizes EACH times as large. Over the file that tools/oldest_full_file.py makes it has 4,200 calls, of which
+the last five of the 1,740 before what is printed commit what is raised; a run takes up to some seconds. Two lines are served, at one port,
+so sweeps of LINES are not run side by side.
 
 Each call is failed alone and with all behind it, by EIO and by ENOSPC; the program is killed before it, and half-way through it where it is
 a write; and no file may grow beyond some size, for sizes from none in steps of 4,096 bytes, until the line is not hindered. Then one of
@@ -17,24 +17,23 @@ these must hold, where the office is what the program itself reports of the file
 - the line is refused as a database that fails (over a connection it is the answer), and the office is that before the line, or that
   after it, as a crash may leave it; where it is that before it, the line does its work when it is asked again;
 - the program was killed, and the office is that before or that after.
-What was printed was done: where a call behind the last text is the first that fails, the first of these holds, or the program was killed and
-the office is that after the line. Where all calls went well the file alone is that office. As they stand, before the program opens them, the
-files have the rows from before the line, those that they have once they are opened, or those after the line. Files of the same bytes, but
-for a log that holds no change, are looked at once, and the line is asked again over them once.
+What was printed was done: where a call behind the last text is the first that fails, the first of these holds, or the program was killed
+and the office is that after the line. Where all calls went well the file alone is that office. As they stand, before the program opens them,
+the files have the rows from before the line, those that they have once they are opened, or those after the line. Files of the same bytes,
+but for a log that holds no change, are looked at once, and the line is asked again over them once.
 """
 import hashlib
 import os
 import resource
 import shutil
 import signal
-import subprocess
 import sys
 import tempfile
 from collections import Counter
 
 HERE = os.path.dirname(os.path.abspath(__file__))
 sys.path.append(os.path.join(HERE, ".."))
-from office import FIRST_EDITION, FIRST_ROUND, SECOND_EDITION, Bench, alter
+from office import FIRST_EDITION, FIRST_ROUND, SECOND_EDITION, Bench
 
 PORT = 18081
 PUT = ["-X", "PUT", "-d", '{"choices":["SYMMETRY","CIPHER"]}', f"http://127.0.0.1:{PORT}/lists/S16"]
@@ -71,22 +70,6 @@ class Sweep(Bench):
         super().__init__(program, folder, os.path.join(HERE, "fail.c"))
         self.runs, self.offices = 0, {}
 
-    def line(self, words, request=None, mode="", at=0, size=None):
-        """What a line prints on both, its status, and what the one connection that it may serve is answered."""
-        counted = self.at("counted")
-        kind, _, fault = mode.partition("-")
-        env = {**os.environ, "LD_PRELOAD": self.library, "MODE": kind, "FAULT": fault, "AT": str(at), "COUNTED": counted if size is None else ""}
-        how = {"cwd": self.folder, "env": env, "stdout": subprocess.PIPE, "stderr": subprocess.PIPE, "text": True}
-        if size is not None:
-            how["preexec_fn"] = lambda: limited(size)
-        with subprocess.Popen([self.program, *words.split()], **how) as it:
-            first = it.stdout.readline() if request else ""
-            answer = ""
-            if first.startswith("listening"):
-                answer = subprocess.run(["curl", "-s", *request], capture_output=True, text=True).stdout
-            out, err = it.communicate(timeout=600)
-        return first + out, err, it.returncode, answer
-
     def digest(self, name):
         """The bytes of a database's files, in short, but for a log that holds no change and has a salt of its own."""
         digest = hashlib.sha256()
@@ -97,21 +80,15 @@ class Sweep(Bench):
                     digest.update(hashlib.sha256(file.read()).digest() + end.encode())
         return digest.digest()
 
-    def rows(self):
-        """The rows of the database that is looked at, in short; no text where SQLite finds no database."""
-        dump = subprocess.run(["sqlite3", self.at("looked.db"), "PRAGMA integrity_check", ".dump"], capture_output=True)
-        return dump.stdout and hashlib.sha256(dump.stdout).hexdigest()
-
     def office(self, name, ends=("", "-wal")):
         """The rows of a database as it stands; a report on it, which the program opens it for and closes it; and the rows that it has then.
         Files of the same bytes are looked at once."""
         self.copy(name, "looked.db", ends)
         files = self.digest("looked.db")
         if files not in self.offices:
-            stood = self.rows()
-            self.copy(name, "looked.db", ends)
+            stood = self.rows("looked.db")
             report = self.line("report looked.db placements 1")
-            self.offices[files] = stood, (self.rows(), report)
+            self.offices[files] = stood, (self.rows("looked.db"), report)
         return self.offices[files]
 
     def judge(self, row, came, is_behind):
@@ -149,7 +126,7 @@ class Sweep(Bench):
         self.copy(start, "swept.db")
         stood, opened = self.office("swept.db")
         # SQLite takes a new file that is not yet whole for no database
-        before = [stood, opened[0]] if start else [stood, opened[0], b""], opened
+        before = [stood, opened[0]] if start else [stood, opened[0], "file is not a database"], opened
         undisturbed = self.line(told, request)
         first, last = self.counted()
         after = self.office("swept.db")
@@ -162,29 +139,16 @@ class Sweep(Bench):
         for mode in (mode for mode in MODES if mode in modes):
             for at in range(begin, min(end, last) + 1, each):
                 self.copy(start, "swept.db")
-                came[mode, self.judge(row, self.line(told, request, mode, at), at > first)] += 1
+                came[mode, self.judge(row, self.line(told, request, MODE=mode, AT=str(at)), at > first)] += 1
         for size in range(0, each << 20, each << 12) if "size" in modes else ():
             self.copy(start, "swept.db")
-            what = self.judge(row, self.line(told, request, size=size), False)
+            what = self.judge(row, self.line(told, request, lambda: limited(size)), False)
             came["size", what] += 1
             if what.startswith("as ever"):
                 break
         print(f"{words:42} {last:4} calls, {last - first:3} behind what is printed")
         for (mode, what), count in sorted(came.items()):
             print(f"    {mode:11} {what:40} {count:5}", flush=True)
-
-    def lines(self, numbers):
-        """Sweeps the lines of these numbers, or all, each over what the one before it leaves."""
-        start = None
-        for number, (words, request, sql) in enumerate(LINES, 1):
-            if sql:
-                alter(self.at(start), sql)
-            if not numbers or str(number) in numbers:
-                self.of(start, words, request)
-            self.copy(start, "after.db")
-            self.line(words.replace("DB", "after.db"), request)
-            start = f"step{number}.db"
-            self.copy("after.db", start)
 
     def file(self, path, begin, end, each, *modes):
         """Sweeps a report over a copy of a file."""
@@ -198,7 +162,9 @@ def main(program, *words):
         if words[:1] == ("--of",):
             sweep.file(*words[1:])
         else:
-            sweep.lines(words)
+            for number, *row in sweep.steps(LINES):
+                if not words or str(number) in words:
+                    sweep.of(*row)
         print(f"{sweep.runs} runs")
 
 

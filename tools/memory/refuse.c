@@ -1,53 +1,84 @@
-/* Refuses one allocation of a program: the one with the number in REFUSE, counted from 1. Where COUNTED names a file, the number of
-   all that were asked for is written there at the end. */
+/* Refuses requests for memory. Where REFUSE has a number, the request with this number is refused, counted from 1, or none for 0. A test
+   asks for it itself: a request for ARM + n bytes is refused, and so is the nth request behind it; where LASTS is set, each later one too.
+   A request for ASK bytes ends that, and is granted where one was refused, though with 16 bytes alone. A sweep of a test goes through
+   n = 1, 2 and so on. Where COUNTED names a file, there is written at the end how many were asked for, where REFUSE is set, and of each
+   sweep its runs, and in how many of them a request was refused. */
 #define _GNU_SOURCE
-#include <dlfcn.h>
 #include <errno.h>
 #include <stdio.h>
 #include <stdlib.h>
 
-static unsigned long asked, refused;
+#define ARM 0x300000000000UL
+#define ASK 0x310000000000UL
+
+extern void *__libc_malloc(size_t);
+extern void *__libc_realloc(void *, size_t);
+extern void *__libc_calloc(size_t, size_t);
+extern void *__libc_memalign(size_t, size_t);
+
+static unsigned long asked, left, last, sweeps, runs[100], refusals[100];
+static int armed, came, lasts;
 
 __attribute__((constructor)) static void start(void) {
     const char *number = getenv("REFUSE");
-    refused = number ? strtoul(number, NULL, 10) : 0;
+    armed = number != NULL;
+    left = number ? strtoul(number, NULL, 10) : 0;
+    lasts = getenv("LASTS") != NULL;
     asked = 0;
 }
 
 __attribute__((destructor)) static void end(void) {
     const char *path = getenv("COUNTED");
+    int is_counted = getenv("REFUSE") != NULL;
     unsigned long all = asked;
-    FILE *file = path ? fopen(path, "w") : NULL;
-    if (file) {
+    /* a program that only starts the one that sweeps leaves the file to it */
+    FILE *file = path && (is_counted || sweeps) ? fopen(path, "w") : NULL;
+    if (file && is_counted)
         fprintf(file, "%lu\n", all);
+    for (unsigned long k = 1; file && k <= sweeps; k++)
+        fprintf(file, "%lu %lu\n", runs[k], refusals[k]);
+    if (file)
         fclose(file);
-    }
 }
 
-/* Whether this one is refused. */
-static int is_refused(void) {
-    if (++asked != refused)
+static void arm(unsigned long n) {
+    if (n == 1 && last != 1 && sweeps + 1 < sizeof runs / sizeof *runs)
+        sweeps++;
+    runs[sweeps] += n > 0;
+    left = last = n;
+    armed = 1;
+    came = 0;
+}
+
+/* Whether a request of this size is refused. */
+static int is_refused(size_t size) {
+    asked++;
+    if (size >= ARM && size < ASK) {
+        arm(size - ARM);
+        return 1;
+    }
+    if (size == ASK) {
+        armed = 0;
+        refusals[sweeps] += came;
+        return !came;
+    }
+    if (!armed || !((left && --left == 0) || (came && lasts)))
         return 0;
+    came = 1;
     errno = ENOMEM;
     return 1;
 }
 
-#define REAL(name) static __typeof__(name) *real; if (!real) real = (__typeof__(name) *)dlsym(RTLD_NEXT, #name)
+static size_t granted(size_t size) { return size == ASK ? 16 : size; }
 
-void *malloc(size_t size) { REAL(malloc); return is_refused() ? NULL : real(size); }
-void *realloc(void *old, size_t size) { REAL(realloc); return is_refused() ? NULL : real(old, size); }
-void *aligned_alloc(size_t align, size_t size) { REAL(aligned_alloc); return is_refused() ? NULL : real(align, size); }
-int posix_memalign(void **out, size_t align, size_t size) { REAL(posix_memalign); return is_refused() ? ENOMEM : real(out, align, size); }
+void *malloc(size_t size) { return is_refused(size) ? NULL : __libc_malloc(granted(size)); }
+void *realloc(void *old, size_t size) { return is_refused(size) ? NULL : __libc_realloc(old, size); }
+void *calloc(size_t count, size_t size) { return is_refused(count * size) ? NULL : __libc_calloc(count, size); }
+void *aligned_alloc(size_t align, size_t size) { return is_refused(size) ? NULL : __libc_memalign(align, granted(size)); }
 
-void *calloc(size_t count, size_t size) {
-    static __typeof__(calloc) *real;
-    static char first[4096]; /* dlsym itself asks for memory once */
-    static int looking;
-    if (!real) {
-        if (looking)
-            return first;
-        looking = 1;
-        real = (__typeof__(calloc) *)dlsym(RTLD_NEXT, "calloc");
-    }
-    return is_refused() ? NULL : real(count, size);
+int posix_memalign(void **out, size_t align, size_t size) {
+    if (is_refused(size))
+        return ENOMEM;
+    *out = __libc_memalign(align, granted(size));
+    return *out ? 0 : ENOMEM;
 }

@@ -34,7 +34,7 @@ def sweep(program, library, test, counted, lasts):
 
 def main(program=PROGRAM):
     with tempfile.TemporaryDirectory() as folder:
-        library, counted = preloaded(os.path.join(HERE, "listen.c"), folder), os.path.join(folder, "counted")
+        library, counted = preloaded(os.path.join(HERE, "refuse.c"), folder), os.path.join(folder, "counted")
         for test in TESTS:
             for lasts in (False, True):
                 rows = sweep(os.path.abspath(program), library, test, counted, lasts)
