@@ -2,9 +2,8 @@
 """Runs every command of the walkthroughs, and compares what it prints with what they show.
 
 tools/walkthrough.py SPADESK [--write] [TEXT..]     needs curl, jq and sqlite3
-tools/walkthrough.py                                only compares the texts of the test with those of the example, finds names of what
-                                                    is not there (tools/named.py), what is hard to read (tools/pages.py), and
-                                                    what docs/PROOF.md lacks (tools/proof_steps.py)
+tools/walkthrough.py                                only compares the texts of the test with those of the example, and says what is
+                                                    wrong in comments and pages (tools/texts.py)
 
 Each TEXT is one of WALKTHROUGHS, and without any all of them are run. The commands are the lines after a `$` in its console blocks;
 those of `rt`, which prove or build, stand in other blocks and are not run. Without any TEXT the snippet for nginx is tried too, and
@@ -28,10 +27,8 @@ import tempfile
 import time
 
 import clients
-import named
 import nginx
-import pages
-import proof_steps
+import texts
 from office import TOP, copy, line, read, rows
 
 TEST = os.path.join(TOP, "crates", "trials", "src", "walkthrough.rt")
@@ -171,13 +168,12 @@ def main(program=None, *words):
     is_written = "--write" in words
     if not is_written:
         compare_test()
-        if named.main() or pages.main() or proof_steps.main():
+        if texts.main():
             sys.exit(1)
     if program is None:
         return
     differing = False
-    texts = [word for word in words if word != "--write"]
-    for text in texts or WALKTHROUGHS:
+    for text in [word for word in words if word != "--write"] or WALKTHROUGHS:
         shown = read(text)
         told, count = play(text, program)
         if is_written:

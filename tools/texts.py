@@ -1,0 +1,193 @@
+#!/usr/bin/env python3
+"""Says what is wrong in comments and pages: with what they name, with how a page reads, and with the lemmas of docs/PROOF.md.
+
+tools/texts.py             each with its place; ends with status 1 where there is one
+tools/texts.py --words     the words of each page
+
+What is named is there: a file, by its path from the top, from the crate or from the folder of who names it; and a figure, which counts
+where it has a comma, as 65,536, and stands in a comment of the code or of a wrong body: some constant or text of the code has it.
+
+A page can be read: no line is above 140 columns, no sentence above 45 words, no cell of a table above 30 words, and no word stands for
+two things. A page is a text in Markdown outside crates. Commands and texts in code are not sentences. Words that stand for two things are
+looked for in the comments of the code too.
+
+docs/PROOF.md names a lemma, a definition or a law in backquotes, and then the file in which it stands: `settles`
+(`network/proofs/Settle.antt`); several names in a row have one file. Each must stand there. Above each lemma, which is what stands in
+`proofs/`, two lines or more tell its idea and begin with its step: "Step 6 of docs/PROOF.md.", of one named before the first step "The
+question of docs/PROOF.md.". And no other lemma's comment names a step.
+"""
+import os
+import re
+import sys
+
+from office import TOP, listed, read
+
+PATH = re.compile(r"`((?:[\w.-]+/)*[\w-]+\.(?:rt|antt|py|md|csv|edit|svg|yaml|c|rs|html|conf|service|sql|txt))`")
+FIGURE = re.compile(r"(?<![\d,.])\d{1,3}(?:,\d{3})+(?![\d,])")
+COMMENT = re.compile(r"\s*(?://|--|why:)")
+# files that a school has, or that a line makes
+ELSEWHERE = re.compile(r"(school|later|older|first|round\d*|served|monday|tuesday)\b.*")
+
+COLUMNS, SENTENCE, CELL = 140, 45, 30
+COMMANDS = "serve|import|open-round|close-round|reopen-round|report|solve|check"
+# what is not said, and what is said instead; of pages alone, or of comments too
+WORDS = [
+    (rf"\blines? `(?:spadesk )?(?:{COMMANDS})\b", "a line is one of a text; of the program say command", True),
+    (r"\blines? of the program\b", "a line is one of a text; of the program say command", True),
+    (r"\bline (?:that|which) (?:opens|opened|raises|raised|is killed|was killed|was refused|is refused)\b", "say command", True),
+    (r"\bmoods?\b", "say phase", False),
+    (r"\bthe rank of settling\b", "a rank is a pair's; of settling say turn", False),
+]
+
+PROOF = "docs/PROOF.md"
+QUESTION = "The question"
+STEP = re.compile(r"^(\d+[a-z]?)\. ", re.MULTILINE)
+FILE = re.compile(r"[\w/]+\.(?:antt|rt)")
+NAME = re.compile(r"[A-Za-z]\w*")
+BEGINS = re.compile(r"-- (?:Step (\w+)|(The question)) of docs/PROOF\.md\. \S")
+
+
+def is_there(path, name, files):
+    """Whether some file has this path from the top, from a folder above the one that names it, or from one of a crate's parts."""
+    places = [""] + [os.path.join(*name.split("/")[:n]) for n in range(1, name.count("/") + 1)]
+    places += [os.path.join(place, part) for place in places for part in ("src", "specs", "proofs")] + ["crates", "tools", "docs"]
+    tail = "/" + path
+    return any(os.path.normpath(os.path.join(place, path)) in files for place in places) or any(it.endswith(tail) for it in files)
+
+
+def misnamed(texts):
+    """What is named and not there."""
+    files = set(listed())
+    lines = [line for name, text in texts.items() if name.endswith(".rt") for line in text.splitlines()]
+    held = {figure for line in lines if not COMMENT.match(line) for figure in re.findall(r"\d+", line.replace("_", ""))}
+    for name, text in texts.items():
+        for at, line in enumerate(text.splitlines(), 1):
+            is_comment = COMMENT.match(line) or (name.endswith("README.md") and "must-fail" in name)
+            if name.endswith(".md") or is_comment:
+                paths = [path for path in PATH.findall(line) if not ELSEWHERE.match(path)]
+                yield from (f"{name}:{at}: {path}" for path in paths if not is_there(path, name, files))
+            if is_comment and not name.endswith(".py"):
+                yield from (f"{name}:{at}: {figure}" for figure in FIGURE.findall(line) if figure.replace(",", "") not in held)
+
+
+def is_page(name):
+    return name.endswith(".md") and not name.startswith("crates/")
+
+
+def words(text):
+    """How many words a text has: a piece of code is one."""
+    return len(re.findall(r"\S*\w\S*", re.sub(r"`[^`]*`", "code", re.sub(r"\]\([^)]*\)", "]", text))))
+
+
+def parts(text):
+    """The paragraphs and the cells of a page outside code, each with the number of its first line."""
+    paragraph, first, is_code = [], 0, False
+    for number, line in enumerate([*text.splitlines(), ""], 1):
+        is_fence = line.lstrip().startswith("```")
+        begins = re.match(r"\s*(?:[-*] |\d+\. |#|<|\||>|$)", line)
+        if (begins or is_fence or is_code) and paragraph:
+            yield first, " ".join(paragraph), SENTENCE
+            paragraph = []
+        is_code ^= is_fence
+        if is_code or is_fence:
+            continue
+        if line.startswith("|"):
+            yield from ((number, cell, CELL) for cell in line.strip("|").split("|"))
+        elif line.strip():
+            first = first if paragraph else number
+            paragraph.append(re.sub(r"^\s*(?:[-*] |\d+\. )?", "", line))
+
+
+def unreadable(name, text):
+    """What is hard to read in a page."""
+    for number, line in enumerate(text.splitlines(), 1):
+        if len(line) > COLUMNS:
+            yield f"{name}:{number}: {len(line)} columns"
+    for number, part, most in parts(text):
+        for sentence in re.split(r"(?<=[.!?])[)\"*]*\s+(?=[\w`*\[(\"])", part) if most == SENTENCE else [part]:
+            if words(sentence) > most:
+                yield f"{name}:{number}: {words(sentence)} words: {sentence[:60]} .."
+
+
+def doubled(name, text):
+    """The words of a page, or of the comments of a file, that stand for two things."""
+    comment = re.compile(r"\s*(?://|--|#)")
+    for number, line in enumerate(text.splitlines(), 1):
+        for pattern, say, of_pages in WORDS:
+            if (is_page(name) or not of_pages and comment.match(line)) and re.search(pattern, line):
+                yield f"{name}:{number}: {re.search(pattern, line)[0]}: {say}"
+
+
+def steps(page):
+    """Each step of the page with its text, the part before the first as the question."""
+    pieces = STEP.split(page)
+    return [(QUESTION, pieces[0])] + [(f"Step {number}", text) for number, text in zip(pieces[1::2], pieces[2::2])]
+
+
+def named(text):
+    """The names of a step, each with its file or none: crates, calls and labels in backquotes are no names."""
+    found, waiting = [], []
+    for word in re.findall(r"`([^`]+)`", text):
+        if FILE.fullmatch(word):
+            found += [(name, "crates/" + word) for name in waiting]
+            waiting = []
+        elif NAME.fullmatch(word) and not os.path.isdir(os.path.join(TOP, "crates", word)):
+            waiting.append(word)
+    return found + [(name, None) for name in waiting]
+
+
+def place(name, lines):
+    """The line that declares the name, in a file of definitions, of lemmas or of code."""
+    head = re.compile(rf"\s*(?:pub(?:\(crate\))? )?(?:abbrev (?:pub )?|(?:record|data|fn) )?{name}\b\s*(?:[:{{(<]|$)")
+    return next((at for at, line in enumerate(lines) if head.match(line)), None)
+
+
+def idea(lines, at):
+    """The comment right above a line."""
+    start = at
+    while start and lines[start - 1].lstrip().startswith("--"):
+        start -= 1
+    return lines[start:at]
+
+
+def unheld(texts, held):
+    """What the page of the proof and its lemmas lack; `held` comes to have the place of each lemma's comment."""
+    for step, text in steps(texts[PROOF]):
+        for name, path in named(text):
+            lines = texts.get(path, "").splitlines()
+            at = place(name, lines)
+            if path is None:
+                yield f"{PROOF}: {step}: no file for {name}"
+            elif at is None:
+                yield f"{PROOF}: {step}: {name} does not stand in {path}"
+            elif "/proofs/" in path:
+                comment = idea(lines, at)
+                begins = BEGINS.match(comment[0].lstrip()) if comment else None
+                if begins is None or (begins[2] or f"Step {begins[1]}") != step:
+                    yield f"{path}:{at + 1}: {name}: its comment does not begin with '{step} of {PROOF}.'"
+                elif len(comment) < 2:
+                    yield f"{path}:{at + 1}: {name}: its idea is less than two lines"
+                held.add((path, at - len(comment)))
+    for path, text in texts.items():
+        for at, line in enumerate(text.splitlines() if path.endswith(".antt") else []):
+            if BEGINS.match(line.lstrip()) and (path, at) not in held:
+                yield f"{path}:{at + 1}: {PROOF} names no lemma here"
+
+
+def main(*asked):
+    texts = {name: read(name) for name in listed("*.rt", "*.antt", "*.md", "*.edit", "*.py")}
+    pages = {name: text for name, text in texts.items() if is_page(name)}
+    if asked == ("--words",):
+        for name, text in pages.items():
+            print(f"{len(text.split()):6} {name}")
+        return 0
+    held = set()
+    found = [*misnamed(texts), *(fault for page in pages.items() for fault in unreadable(*page)), *unheld(texts, held)]
+    found += [fault for name, text in texts.items() if is_page(name) or name.endswith((".rt", ".antt")) for fault in doubled(name, text)]
+    well = f"all that is named is there, each page can be read, and each of {len(held)} lemmas of {PROOF} names its step"
+    print("\n".join(found) or well)
+    return 1 if found else 0
+
+
+if __name__ == "__main__":
+    sys.exit(main(*sys.argv[1:]))
