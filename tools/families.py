@@ -4,6 +4,7 @@
   families.py FAMILY SEED [STUDENTS] > FILE     500 students where no number is given
   families.py --list
 
+even       lists of twelve drawn evenly, and room for each student
 few        one to five supervisors offer all projects, with a place for nine students in ten; many searches go through a
            supervisor, and on to each of the supervisor's projects
 full       one to five supervisors with few places, and far more projects than places; most projects stay empty
@@ -16,12 +17,15 @@ near       lists of 2 to 4 neighbours on a line, in any order, so that a place m
 stars      each student lists one of eight projects first, and eleven of the own corner after it
 chains     lists of three neighbours in their order, every third at one end of the line
 
-No instance has more than 100 supervisors, 400 projects and 500 students.
+An instance has four projects for each five students, and a supervisor for each five where nothing else is said: at most 100 supervisors,
+400 projects and 500 students.
 """
 import random
 import sys
 
-MOST_SUPERVISORS, MOST_PROJECTS, LIST = 100, 400, 12
+from office import round_text
+
+LIST = 12
 
 
 def spread(rng, total, slots):
@@ -36,6 +40,11 @@ def owners(rng, supervisors, projects):
     owner = [i % supervisors for i in range(projects)]
     rng.shuffle(owner)
     return owner
+
+
+def offered(rng, supervisors, projects, quotas):
+    """The supervisor of each project, and one of these quotas."""
+    return [(owner, rng.choice(quotas)) for owner in owners(rng, supervisors, projects)]
 
 
 def skewed(rng, students, projects, power):
@@ -56,31 +65,33 @@ def skewed(rng, students, projects, power):
     return lists
 
 
-def projects_for(n):
-    return MOST_PROJECTS * n // 500
+def even(rng, n):
+    owner = owners(rng, n // 5, n * 4 // 5)
+    quotas = spread(rng, n * 6 // 5 + n // 5, n // 5)
+    offers = [(l, rng.choice((1, 1, 2, 2, 3))) for l in owner]
+    return quotas, offers, [rng.sample(range(len(offers)), LIST) for _ in range(n)]
 
 
 def few(rng, n):
-    supervisors, projects = rng.randint(1, 5), projects_for(n)
-    offers = [(l, rng.choice((1, 1, 2))) for l in owners(rng, supervisors, projects)]
+    supervisors, projects = rng.randint(1, 5), n * 4 // 5
+    offers = offered(rng, supervisors, projects, (1, 1, 2))
     return spread(rng, n * 9 // 10, supervisors), offers, skewed(rng, n, projects, 0.6)
 
 
 def full(rng, n):
-    supervisors, projects = rng.randint(1, 5), projects_for(n)
-    offers = [(l, rng.choice((1, 2, 3))) for l in owners(rng, supervisors, projects)]
+    supervisors, projects = rng.randint(1, 5), n * 4 // 5
+    offers = offered(rng, supervisors, projects, (1, 2, 3))
     return spread(rng, n * rng.randint(2, 6) // 10, supervisors), offers, skewed(rng, n, projects, rng.choice((0.0, 0.4, 1.2)))
 
 
 def dense(rng, n):
-    supervisors, projects = 8, 24
-    offers = [(l, q) for l, q in zip(owners(rng, supervisors, projects), spread(rng, n, projects))]
-    return spread(rng, n * 9 // 10, supervisors), offers, [rng.sample(range(projects), LIST) for _ in range(n)]
+    offers = list(zip(owners(rng, 8, 24), spread(rng, n, 24)))
+    return spread(rng, n * 9 // 10, 8), offers, [rng.sample(range(24), LIST) for _ in range(n)]
 
 
 def clones(rng, n):
-    supervisors, projects, groups = rng.choice((1, 2, 4)), projects_for(n), 50
-    offers = [(l, rng.choice((2, 10, 500))) for l in owners(rng, supervisors, projects)]
+    supervisors, projects, groups = rng.choice((1, 2, 4)), n * 4 // 5, 50
+    offers = offered(rng, supervisors, projects, (2, 10, 500))
     kinds = skewed(rng, groups, projects, 0.5)
     return spread(rng, n, supervisors), offers, [kinds[rng.randrange(groups)] for _ in range(n)]
 
@@ -88,7 +99,7 @@ def clones(rng, n):
 def backforth(rng, n):
     line = n * 2 // 5 + 1
     sides = n - line + 1
-    own = min(projects_for(n) - line, sides)
+    own = min(n * 4 // 5 - line, sides)
     # the line, and then a place for each student who comes to an end of it
     offers = [(0, 1)] * line + [(0, -(-sides // own))] * own
     lists = [[i, i + 1] if rng.randrange(2) else [i + 1, i] for i in range(line - 1)]
@@ -97,7 +108,7 @@ def backforth(rng, n):
 
 
 def near(rng, n):
-    projects = projects_for(n)
+    projects = n * 4 // 5
     lists = []
     for _ in range(n):
         at = rng.randrange(projects - 3)
@@ -108,7 +119,7 @@ def near(rng, n):
 
 
 def stars(rng, n):
-    supervisors, projects = MOST_SUPERVISORS * n // 500, projects_for(n)
+    supervisors, projects = n // 5, n * 4 // 5
     offers = [(l, 1) for l in owners(rng, supervisors, projects)]
     middle = rng.sample(range(projects), 8)
     rest = [p for p in range(projects) if p not in middle]
@@ -120,29 +131,23 @@ def stars(rng, n):
 
 
 def chains(rng, n):
-    supervisors, projects = MOST_SUPERVISORS * n // 500, projects_for(n)
-    offers = [(l, 1) for l in owners(rng, supervisors, projects)]
-    quotas = [sum(1 for owner, _ in offers if owner == l) for l in range(supervisors)]
+    supervisors, projects = n // 5, n * 4 // 5
+    owner = owners(rng, supervisors, projects)
     starts = [rng.randrange(projects - 3) if s % 3 else 0 for s in range(n)]
-    return quotas, offers, [[at, at + 1, at + 2] for at in starts]
+    return [owner.count(l) for l in range(supervisors)], [(l, 1) for l in owner], [[at, at + 1, at + 2] for at in starts]
 
 
-FAMILIES = {f.__name__: f for f in (few, full, dense, clones, backforth, near, stars, chains)}
+FAMILIES = {f.__name__: f for f in (even, few, full, dense, clones, backforth, near, stars, chains)}
 
 
-def text(family, seed, students):
-    rng = random.Random(f"{family}/{students}/{seed}")
-    quotas, offers, lists = FAMILIES[family](rng, students)
-    lines = [f"S,L{i:03},{q}" for i, q in enumerate(quotas)]
-    lines += [f"P,P{i:03},L{l:03},{q}" for i, (l, q) in enumerate(offers)]
-    lines += [f"C,S{i:03}," + ",".join(f"P{p:03}" for p in row) for i, row in enumerate(lists)]
-    return "\n".join(lines) + "\n"
+def text(family, seed, students=500):
+    return round_text(*FAMILIES[family](random.Random(f"{family}/{students}/{seed}"), int(students)))
 
 
 if __name__ == "__main__":
     if sys.argv[1:] == ["--list"]:
         print(" ".join(FAMILIES))
     elif len(sys.argv) in (3, 4) and sys.argv[1] in FAMILIES:
-        sys.stdout.write(text(sys.argv[1], int(sys.argv[2]), int(sys.argv[3]) if len(sys.argv) == 4 else 500))
+        sys.stdout.write(text(*sys.argv[1:]))
     else:
         sys.exit(__doc__)

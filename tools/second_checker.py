@@ -8,25 +8,23 @@ a pair, a quota or a list is changed; and in two a line stands twice, changes pl
 Both must tell the same, also which line is the first bad one.
 """
 import collections
+import os
 import random
-import subprocess
 import sys
 import tempfile
 
 from check_round import RANKS, checked
+from office import line, round_text, written
 
 GENEROUS = "A,generous\n"
 
 
-def round_text(draw):
+def drawn(draw):
     """The text of a round with an aim and a few supervisors, projects and students."""
-    supervisors, projects, students = draw.randint(1, 4), draw.randint(1, RANKS + 2), draw.randint(0, 9)
-    lines = [f"S,L{n},{draw.randint(0, 4)}" for n in range(supervisors)]
-    lines += [f"P,P{n},L{draw.randrange(supervisors)},{draw.randint(0, 3)}" for n in range(projects)]
-    for n in range(students):
-        chosen = draw.sample(range(projects), draw.randint(1, min(projects, RANKS)))
-        lines.append(f"C,A{n}," + ",".join(f"P{p}" for p in chosen))
-    return draw.choice(("", GENEROUS)) + "".join(line + "\n" for line in lines)
+    quotas = [draw.randint(0, 4) for _ in range(draw.randint(1, 4))]
+    offers = [(draw.randrange(len(quotas)), draw.randint(0, 3)) for _ in range(draw.randint(1, RANKS + 2))]
+    lists = [draw.sample(range(len(offers)), draw.randint(1, min(len(offers), RANKS))) for _ in range(draw.randint(0, 9))]
+    return round_text(quotas, offers, lists, draw.choice((False, True)))
 
 
 def changed(draw, text):
@@ -50,8 +48,9 @@ def changed(draw, text):
 
 
 # Lines that stand in no text, or in few.
-FOREIGN = ["", "X", "S", "S,", "A,generous", "A,greedy", "S,L9,05", "S,L0,501", "S,l0,1", "S,L0,1\r", "P,P0,L7,1", "C,A0", "C,A0,P0,P0"]
-FOREIGN += ["C,A77,P0", "M,A0,P77", "M,A77,P0", "U,A0,0", "U,A0" + ",0" * 13, "Y,P0" + ",-0" * 13, "Z,L0" + ",1000001" * 13, "Z,L0" + ",0" * 14]
+FOREIGN = ["", "X", "S", "S,", "A,generous", "A,greedy", "S,L9,05", "S,L000,501", "S,l000,1", "S,L000,1\r", "P,P000,L007,1", "C,S000"]
+FOREIGN += ["C,S000,P000,P000", "C,S077,P000", "M,S000,P077", "M,S077,P000", "U,S000,0", "U,S000" + ",0" * 13, "Y,P000" + ",-0" * 13]
+FOREIGN += ["Z,L000" + ",1000001" * 13, "Z,L000" + ",0" * 14]
 
 
 def relined(draw, text, other):
@@ -72,12 +71,10 @@ def relined(draw, text, other):
     return "".join(line + "\n" for line in lines)
 
 
-def told(program, line, text):
-    """What a line of the program tells of a text."""
-    with tempfile.NamedTemporaryFile("w", suffix=".txt", newline="") as file:
-        file.write(text)
-        file.flush()
-        ran = subprocess.run([program, line, file.name], capture_output=True, text=True)
+def told(program, command, text):
+    """What a command tells of a text."""
+    with tempfile.TemporaryDirectory() as folder:
+        ran = line(program, f"{command} DB", written(text, os.path.join(folder, "round.txt")))
         return ran.stdout or ran.stderr
 
 
@@ -85,7 +82,7 @@ def main(program, texts="1000", seed="1"):
     draw = random.Random(int(seed))
     kinds, before = collections.Counter(), ""
     for at in range(int(texts)):
-        solved = told(program, "solve", round_text(draw))
+        solved = told(program, "solve", drawn(draw))
         text = (solved, changed(draw, solved), relined(draw, solved, before), relined(draw, solved, before))[at % 4]
         before = solved
         answer = told(program, "check", text).strip()

@@ -367,15 +367,9 @@ fn write(r: &Round, n: &Answer) -> String {
         }
         o.push('\n');
     };
-    for (s, x) in r.students.iter().enumerate() {
-        line('U', x.0, n.u[s])
-    }
-    for (p, x) in r.projects.iter().enumerate() {
-        line('Y', x.0, n.y[p])
-    }
-    for (l, x) in r.sups.iter().enumerate() {
-        line('Z', x.0, n.z[l])
-    }
+    r.students.iter().zip(&n.u).for_each(|(student, row)| line('U', student.0, *row));
+    r.projects.iter().zip(&n.y).for_each(|(project, row)| line('Y', project.0, *row));
+    r.sups.iter().zip(&n.z).for_each(|(supervisor, row)| line('Z', supervisor.0, *row));
     o
 }
 
