@@ -3,29 +3,29 @@
 
 tools/believed.py CRATE FUNCTION CLAUSE     as: tools/believed.py desk Desk::run run
 tools/believed.py --readme                  compares the figures that README.md names, row by row of "What has to be believed"
-tools/believed.py --inside                  names the definitions that no public clause cites and that do not stand in specs/Inside/, and the reverse
+tools/believed.py --inside                  names the definitions that no public clause cites and that do not stand in specs/Inside/,
+                                            and the reverse
 
 A definition is counted once, with the comment above it. The closure follows the names in the clause, and then in each definition, by
 the `use` lines of its file, through the crates of this repository. Types of the program are named apart, and what stands in the
 libraries beneath is counted by name alone.
 """
-import os
 import re
 import sys
 
-HERE = os.path.dirname(os.path.abspath(__file__))
-CRATES = os.path.join(HERE, "..", "crates")
+from office import listed, read
+
+FILES = listed("crates/*.antt", "crates/*.rt")
+CRATES = sorted({path.split("/")[1] for path in FILES})
 NAME = r"[^\W\d][\w\-'⁺]*"
 MARKS = r"(?:(?:pattern|unfoldable|abbrev|pub|axiom)\s+)*"
 SIGNATURE = re.compile(rf"^(\s*){MARKS}(?:(record|data)\s+)?({NAME})\s+(?:\{{[^}}]*\}}\s+)*(?::|\(|where)")
 OPENS_RECORD = re.compile(rf"^(\s*){MARKS}(?:record|data)\s+({NAME})")
 
 
-def files_below(folder, ending):
-    for top, _, names in sorted(os.walk(folder)):
-        for name in sorted(names):
-            if name.endswith(ending):
-                yield os.path.join(top, name)
+def files(crate, part):
+    """The files of a crate's code or definitions."""
+    return [path for path in FILES if path.startswith(f"crates/{crate}/{part}/")]
 
 
 def uses_of(text, word):
@@ -46,25 +46,21 @@ def uses_of(text, word):
 class File:
     """A file of definitions: its module, what it brings in, and the text of each definition with the comment above it."""
 
-    def __init__(self, path, crate):
-        self.path = os.path.relpath(path, os.path.join(HERE, ".."))
-        inside = os.path.relpath(path, os.path.join(CRATES, crate, "specs"))[: -len(".antt")]
-        self.module = f"Rattle.{crate}.specs." + inside.replace(os.sep, ".")
-        text = open(path, encoding="utf-8").read()
+    def __init__(self, path):
+        _, crate, *inside = path.removesuffix(".antt").split("/")
+        self.path, self.module = path, ".".join(["Rattle", crate, *inside])
+        text = read(path)
         self.brought = uses_of(text, "use")
         self.found = {}
-        self.read(text.split("\n"))
+        self.find(text.split("\n"))
 
-    def read(self, lines):
+    def find(self, lines):
         comment, name, indent = [], None, 0
         for line in lines:
             bare = line.strip()
-            if bare.startswith("use ") or bare.startswith("pub use ") or bare.startswith("module "):
-                comment, name = [], None
-                continue
             begins = OPENS_RECORD.match(line) or SIGNATURE.match(line)
             depth = len(line) - len(line.lstrip())
-            if not bare:
+            if not bare or bare.startswith(("use ", "pub use ", "module ")):
                 comment, name = [], None
             elif bare.startswith("--"):
                 if name is None or depth <= indent:
@@ -78,19 +74,17 @@ class File:
 
 
 class Book:
+    """All definitions, and of those that were followed the order in which they are read, types of the program and names from beneath."""
+
     def __init__(self):
-        self.modules = {}
-        for crate in sorted(os.listdir(CRATES)):
-            for path in files_below(os.path.join(CRATES, crate, "specs"), ".antt"):
-                it = File(path, crate)
-                self.modules[it.module] = it
+        self.modules = {it.module: it for crate in CRATES for it in map(File, files(crate, "specs"))}
         self.order, self.seen, self.types, self.beneath = [], set(), set(), set()
 
     def follow(self, module, name):
         """Takes a definition and what it rests on, what it rests on first."""
         it = self.modules.get(module)
         if ".specs.declared" in module or ".specs.contracts" in module:
-            mine = module.split(".")[1] in os.listdir(CRATES) and not module.endswith("TheConstants")
+            mine = module.split(".")[1] in CRATES and not module.endswith("TheConstants")
             (self.types if mine else self.beneath).add(module.removesuffix(".TheVariants") if mine else (module, name))
         elif it is None:
             self.beneath.add((module, name))
@@ -117,15 +111,14 @@ class Book:
 def clause_of(crate, function, label):
     """The text of a clause, and what its file brings in."""
     owner, _, name = function.rpartition("::")
-    for path in files_below(os.path.join(CRATES, crate, "src"), ".rt"):
-        text = open(path, encoding="utf-8").read()
+    for text in map(read, files(crate, "src")):
         if owner and not re.search(rf"impl[^\n]*\b{owner}\b", text):
             continue
         head = re.search(rf"\bfn {name}\b.*?\n\s*\{{\n", text, re.S)
         if head:
             for clause in re.finditer(r"ensures ?(\w*) ?\{ (.*?) \}\n", head.group(0), re.S):
-                if clause.group(1) == label or (label == "-" and not clause.group(1)):
-                    return clause.group(2), uses_of(text, "ghost use")
+                if (clause[1] or "-") == label:
+                    return clause[2], uses_of(text, "ghost use")
     sys.exit(f"no clause {label} of {function} in {crate}")
 
 
@@ -152,8 +145,7 @@ def show(crate, function, label):
 
 
 def compare():
-    readme = open(os.path.join(HERE, "..", "README.md"), encoding="utf-8").read()
-    rows = re.findall(r"^\|[^|]*\| `([\w:]+)` \*(\S+)\* of `(\w+)` \| ([\d,]+) \| ([\d,]+) \|$", readme, re.M)
+    rows = re.findall(r"^\|[^|]*\| `([\w:]+)` \*(\S+)\* of `(\w+)` \| ([\d,]+) \| ([\d,]+) \|$", read("README.md"), re.M)
     wrong = 0
     for function, label, crate, *told in rows:
         there = [f"{n:,}" for n in figures(closure(crate, function, label))]
@@ -164,16 +156,15 @@ def compare():
 
 def exported(crate):
     """What the root of a crate gives out: names, and modules."""
-    root = os.path.join(CRATES, crate, "src", "lib.rt")
-    text = open(root, encoding="utf-8").read() if os.path.exists(root) else ""
+    text = "".join(read(path) for path in files(crate, "src") if path.endswith("/src/lib.rt"))
     names = re.findall(r"\w+", " ".join(re.findall(r"^pub use ([^;]*);", text, re.M)))
     return set(names), set(re.findall(r"^pub mod (\w+);", text, re.M)) | {"lib"}
 
 
 def public_words(path, names, modules):
     """The clauses of the public functions of a file, what its public traits promise, and how its public types are seen."""
-    text = open(path, encoding="utf-8").read()
-    is_open = os.path.basename(path)[: -len(".rt")] in modules
+    text = read(path)
+    is_open = path.split("/")[-1].removesuffix(".rt") in modules
     owner, in_trait = None, False
     private = re.findall(r"^(?:pub\(crate\) )?trait (\w+)", text, re.M)
     lines = text.split("\n")
@@ -203,11 +194,10 @@ def public_words(path, names, modules):
 def cited():
     """The definitions that the public clauses of all crates rest on."""
     book = Book()
-    for crate in sorted(os.listdir(CRATES)):
-        names, modules = exported(crate)
-        for path in files_below(os.path.join(CRATES, crate, "src"), ".rt"):
-            brought = uses_of(open(path, encoding="utf-8").read(), "ghost use")
-            for words in public_words(path, names, modules):
+    for crate in CRATES:
+        for path in files(crate, "src"):
+            brought = uses_of(read(path), "ghost use")
+            for words in public_words(path, *exported(crate)):
                 book.words(words, brought)
     return book
 

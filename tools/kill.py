@@ -9,6 +9,7 @@ some moment, and another program serves the file and is asked for each student w
 the first edition, one of the second that has a generous round, and FILE, as tools/oldest_full_file.py makes it, and is killed at some
 moment; the rows of the file are those from before or those of the raised file, and another line prints what it prints undisturbed.
 """
+import contextlib
 import os
 import random
 import subprocess
@@ -18,7 +19,7 @@ import threading
 import time
 from collections import Counter
 
-from office import EXAMPLE, FIRST_EDITION, FIRST_ROUND, SECOND_EDITION, alter, answered, copy, line, message, rows, serving
+from office import EXAMPLE, FIRST_EDITION, FIRST_ROUND, SECOND_EDITION, alter, answered, copy, message, rows, serving, successes, told
 
 PUT = '{"name":"Ann"}'
 REPORT = "report DB placements 1"
@@ -26,40 +27,29 @@ REPORT = "report DB placements 1"
 
 def once(program, draw):
     """Kills a program in the middle of puts, and gives how many were answered; each of them must be found again."""
-    known = 0
+    answers, found = bytearray(), bytearray()
     with tempfile.TemporaryDirectory() as folder:
         path = os.path.join(folder, "school.db")
         with serving(program, path, 100) as (it, port):
             timer = threading.Timer(draw.uniform(0.005, 0.4), it.kill)
             timer.start()
-            try:
+            with contextlib.suppress(OSError):
                 for first in range(0, 500, 100):
-                    answers = [0]
-                    puts = (message("PUT", f"/students/S{n}", PUT) for n in range(first, first + 100))
-                    answered(port, b"".join(puts), answers)
-                    known += answers[0]
-                    answers = [0]
-            except OSError:
-                known += answers[0]
+                    answered(port, b"".join(message("PUT", f"/students/S{n}", PUT) for n in range(first, first + 100)), answers)
             timer.join()
+        known = successes(answers)
         with serving(program, path, 100) as (_, port):
             for first in range(0, known, 100):
-                asked = [message("GET", f"/students/S{n}") for n in range(first, min(first + 100, known))]
-                found = answered(port, b"".join(asked)).count(b"HTTP/1.1 200 OK\r\n")
-                if found != len(asked):
-                    sys.exit(f"of {len(asked)} answered puts {found} were found again")
+                answered(port, b"".join(message("GET", f"/students/S{n}") for n in range(first, min(first + 100, known))), found)
+    if successes(found) != known:
+        sys.exit(f"of {known} answered puts {successes(found)} were found again")
     return known
-
-
-def told(program, words, path):
-    """What a line prints over a file, which must be done."""
-    return line(program, words, path, cwd=EXAMPLE, check=True).stdout
 
 
 def made(program, path, edition):
     """Makes a file of an earlier edition, whose first round is closed and whose second is open, and generous where rounds have an aim."""
     for words in [*FIRST_ROUND, "open-round DB generous"]:
-        told(program, words, path)
+        told(program, words, path, cwd=EXAMPLE)
     alter(path, edition)
     return path
 

@@ -18,10 +18,10 @@ import tempfile
 import time
 from contextlib import closing
 
-from office import FIRST_EDITION, SECOND_EDITION, alter, copy, counted, line
+from office import FIRST_EDITION, SECOND_EDITION, alter, copy, counted, told
 
 SUPERVISORS, PROJECTS, STUDENTS, ROUNDS, PLACES, IMPORTS, BYTES = 100, 400, 500, 12, 8, 200, 2000
-REPORTS = [f"loads {ROUNDS}", f"placements {ROUNDS}", "unplaced 1", f"unplaced {ROUNDS}"]
+REPORTS = [f"report DB {words}" for words in (f"loads {ROUNDS}", f"placements {ROUNDS}", "unplaced 1", f"unplaced {ROUNDS}")]
 
 
 def listed(draw, student):
@@ -43,18 +43,17 @@ def fill(file):
             choices += [(number, f"S{student:03}", n, f"P{project:03}") for n, project in enumerate(chosen, 1)]
             if number == ROUNDS and student < PROJECTS:
                 placements.append((f"S{student:03}", number, f"P{student:03}", place + 1))
-    file.executemany("INSERT INTO supervisor VALUES (?, ?, ?)", [(f"L{n:02}", f"Supervisor {n}", PROJECTS // SUPERVISORS) for n in range(SUPERVISORS)])
-    file.executemany("INSERT INTO project VALUES (?, ?, ?, 1)", [(f"P{n:03}", f"Project {n}", f"L{n % SUPERVISORS:02}") for n in range(PROJECTS)])
-    file.executemany("INSERT INTO student VALUES (?, ?)", [(f"S{n:03}", f"Student {n}") for n in range(STUDENTS)])
-    file.executemany("INSERT INTO round VALUES (?, 0)", [(n,) for n in range(1, ROUNDS + 1)])
-    file.executemany("INSERT INTO choice VALUES (?, ?, ?, ?)", choices)
-    file.executemany("INSERT INTO placement VALUES (?, ?, ?, ?)", placements)
-    file.executemany("INSERT INTO import VALUES (?, 'lists', ?, 10)", [(f"I{n:03}", draw.randbytes(BYTES)) for n in range(IMPORTS)])
-
-
-def report(program, path, words):
-    """What a report over a file prints."""
-    return line(program, f"report DB {words}", path, check=True).stdout
+    tables = {
+        "supervisor": [(f"L{n:02}", f"Supervisor {n}", PROJECTS // SUPERVISORS) for n in range(SUPERVISORS)],
+        "project": [(f"P{n:03}", f"Project {n}", f"L{n % SUPERVISORS:02}", 1) for n in range(PROJECTS)],
+        "student": [(f"S{n:03}", f"Student {n}") for n in range(STUDENTS)],
+        "round": [(n, 0) for n in range(1, ROUNDS + 1)],
+        "choice": choices,
+        "placement": placements,
+        "import": [(f"I{n:03}", "lists", draw.randbytes(BYTES), 10) for n in range(IMPORTS)],
+    }
+    for table, rows in tables.items():
+        file.executemany(f"INSERT INTO {table} VALUES ({', '.join('?' for _ in rows[0])})", rows)
 
 
 def over_copy(start, what):
@@ -65,7 +64,7 @@ def over_copy(start, what):
 
 def seconds(program, path):
     begun = time.monotonic()
-    report(program, path, REPORTS[0])
+    told(program, REPORTS[0], path)
     return time.monotonic() - begun
 
 
@@ -73,12 +72,12 @@ def files(program, folder):
     """Makes the file in each edition."""
     first, second, raised = (os.path.join(folder, name) for name in ("largest.db", "second.db", "raised.db"))
     copy(None, first)
-    line(program, "open-round DB", first, check=True)
+    told(program, "open-round DB", first)
     alter(first, FIRST_EDITION + "DELETE FROM round;")
     with closing(sqlite3.connect(first)) as file:
         fill(file)
         file.commit()
-    report(program, copy(first, raised), REPORTS[0])
+    told(program, REPORTS[0], copy(first, raised))
     alter(copy(raised, second), SECOND_EDITION)
     return first, second, raised
 
@@ -86,13 +85,13 @@ def files(program, folder):
 def main(program, folder, older=None):
     first, second, raised = files(program, folder)
     for words in REPORTS:
-        told = report(program, raised, words)
+        wanted = told(program, words, raised)
         pairs = [(by, start) for by, start in ((program, first), (program, second), (older, first)) if by]
-        if any(over_copy(start, lambda path, by=by: report(by, path, words)) != told for by, start in pairs):
+        if any(over_copy(start, lambda path, by=by: told(by, words, path)) != wanted for by, start in pairs):
             sys.exit(f"{words}: other bytes by a line that raises the file, or by the older program")
-        print(f"{words:13} {len(told):6} bytes, the same {len(pairs) + 1} times", flush=True)
+        print(f"{words[10:]:13} {len(wanted):6} bytes, the same {len(pairs) + 1} times", flush=True)
     for what, start in (("raised and reported on", first), ("reported on", raised)):
-        count = over_copy(start, lambda path: counted(program, "report", path, *REPORTS[0].split(), check=True)[0])
+        count = over_copy(start, lambda path: counted(program, *REPORTS[0].replace("DB", path).split(), check=True)[0])
         median = statistics.median(over_copy(start, lambda path: seconds(program, path)) for _ in range(5))
         print(f"{what:22} {count:>15,} instructions, {median:.2f} s", flush=True)
 

@@ -8,8 +8,8 @@ Each example is sent over loopback to `serve` on a database of its own, after th
 body of the answer must be those of the example, byte by byte.
 
 The routes come from crates/api/specs, the refusals from crates/rolls/src/refusal.rt, and which of them a request may get, in which
-order, from crates/rolls/specs (Tests.antt, Meaning.antt, Refusing.antt). So a further one is missed here until the document has it: each method of each path
-needs an example of its success and of each refusal of its own, and each refusal that can be brought about an example.
+order, from crates/rolls/specs (Tests.antt, Meaning.antt, Refusing.antt). So a further one is missed here until the document has it: each
+method of each path needs an example of its success and of each refusal of its own, and each refusal that can be brought about an example.
 
 The document is also held against the public validator, openapi-spec-validator, where that is installed, and its examples against
 its schemas: what is refused for its form must not fit, and all else must. Ends with 1 where anything differs or is missed.
@@ -20,9 +20,7 @@ import re
 import sys
 import tempfile
 
-from office import TOP, answered, copy, serving
-
-DOCUMENT = os.path.join(TOP, "docs", "openapi.yaml")
+from office import answered, copy, message, read, serving, successes
 
 # The refusals that no request brings about, and why.
 UNSENT = (
@@ -49,11 +47,6 @@ READING = {"Import": ("Header", "Row")}
 MOST_MESSAGES = 100
 
 METHODS = ("get", "put", "post", "delete")
-
-
-def read(*path):
-    with open(os.path.join(TOP, *path), encoding="utf-8") as file:
-        return file.read()
 
 
 # What the program has.
@@ -86,21 +79,16 @@ def own_refusals():
     return {request: [*dict.fromkeys(named(body)), *READING.get(request, ())] for request, body in rows}
 
 
-def requests():
-    """The request of each call with an empty body, and of each put."""
-    called = re.findall(r"^called \(?(call\.\w+).*? = request\.(?:Plain \(?plain\.)?(\w+)", read("crates", "api", "specs", "Routes.antt"), re.M)
-    put = re.findall(r"^put_by (put\.\w+) .*?\bplain\.(\w+)", read("crates", "api", "specs", "Requests.antt"), re.M)
-    return {**dict(called), **dict(put)}
-
-
 def routes():
     """The form and the request of each method and path; `{}` stands for the parameter."""
     text = read("crates", "api", "specs", "Routes.antt")
+    known = dict(re.findall(r"^called \(?(call\.\w+).*? = request\.(?:Plain \(?plain\.)?(\w+)", text, re.M))
+    known |= dict(re.findall(r"^put_by (put\.\w+) .*?\bplain\.(\w+)", read("crates", "api", "specs", "Requests.antt"), re.M))
     kinds = {
         name: (params.split(), dict(re.findall(r"(\w+) = Some \(?(\w[^;)]*)", fields)))
         for name, params, fields in re.findall(r"^(\w+)((?: \w+)*) = record \{ (segments = .*) \}$", text, re.M)
     }
-    known, found = requests(), {}
+    found = {}
     for line in re.search(r"^all_routes =\n(.*?)    ∷ \[\]$", text, re.M | re.S)[1].splitlines():
         row = re.fullmatch(r" *(?:∷ )?(row|fixed) \(codes \"([^\"]*)\"\)(?: \(codes \"\w+\"\))? (?:\((.*)\)|(\w+))", line)
         if not row:
@@ -136,8 +124,13 @@ def shape(path):
     return re.sub(r"\{\w+\}", "{}", path)
 
 
-def compact(value):
-    return json.dumps(value, ensure_ascii=False, separators=(",", ":"))
+def compact(value, **how):
+    return json.dumps(value, ensure_ascii=False, separators=(",", ":"), **how)
+
+
+def bytes_of(line):
+    """The bytes of a request that is written as a line."""
+    return message(*line.split(" ", 2))
 
 
 class Operation:
@@ -190,19 +183,11 @@ class Example:
         self.fault = self.value.get("fault") if isinstance(self.value, dict) else None
         self.is_own_line = "x-request" not in told and "x-bytes" not in told
         self.line = told.get("x-request", operation.line(name))
-        self.bytes = told["x-bytes"].encode() if "x-bytes" in told else message(self.line)
+        self.bytes = told["x-bytes"].encode() if "x-bytes" in told else bytes_of(self.line)
         self.before = told.get("x-before", [] if self.is_shared else operation.told.get("x-before", []))
 
     def body(self):
-        return self.value if self.media != JSON else json.dumps(self.value, ensure_ascii=False, separators=(",", ":"), sort_keys=True)
-
-
-def message(line):
-    """The bytes of a request that is written as a line."""
-    method, path, body = [*line.split(" ", 2), ""][:3]
-    body = body.encode()
-    length = f"Content-Length: {len(body)}\r\n" if body else ""
-    return f"{method} {path} HTTP/1.1\r\nHost: 127.0.0.1\r\n{length}\r\n".encode() + body
+        return self.value if self.media != JSON else compact(self.value, sort_keys=True)
 
 
 def earlier(document, before):
@@ -246,9 +231,8 @@ class Offices:
         return copy(self.made.get(lines), os.path.join(self.folder, "copy.db"))
 
     def filled(self, lines, name):
-        streams = [b"".join(message(line) for line in lines[at : at + MOST_MESSAGES]) for at in range(0, len(lines), MOST_MESSAGES)]
-        answers = b"".join(served(self.program, name, streams))
-        if answers.count(b"HTTP/1.1 200 OK\r\n") != len(lines):
+        streams = [b"".join(map(bytes_of, lines[at : at + MOST_MESSAGES])) for at in range(0, len(lines), MOST_MESSAGES)]
+        if sum(map(successes, served(self.program, name, streams))) != len(lines):
             shown = "\n".join(lines[:20])
             sys.exit(f"openapi.py: of these {len(lines)} earlier requests not each is answered with success:\n{shown}")
         return name
@@ -256,12 +240,11 @@ class Offices:
 
 def told_of(answer):
     """The status, the type and the body of an answer, whose length must be told."""
-    head, _, body = answer.partition(b"\r\n\r\n")
-    first, *fields = head.decode().split("\r\n")
+    head, _, body = answer.decode().partition("\r\n\r\n")
+    first, *fields = head.split("\r\n")
     fields = dict(field.split(": ", 1) for field in fields)
-    if fields.get("Content-Length") != str(len(body)):
-        return first, "another length", body.decode()
-    return first.split(" ")[1], fields.get("Content-Type"), body.decode()
+    is_whole = fields.get("Content-Length") == str(len(body.encode()))
+    return first.split(" ")[1], fields.get("Content-Type") if is_whole else "another length", body
 
 
 def differences(program, document, examples):
@@ -375,8 +358,7 @@ def main(*words):
     programs = [word for word in words if not word.startswith("--")]
     if len(programs) > 1 or "--help" in words or (not programs and "--only-valid" not in words):
         sys.exit(print(__doc__) if "--help" in words else __doc__)
-    with open(DOCUMENT, encoding="utf-8") as file:
-        document = yaml.safe_load(file)
+    document = yaml.safe_load(read("docs", "openapi.yaml"))
     seen, found = set(), {(it.method, shape(it.path)): it for it in operations(document)}
     examples = [example for it in found.values() for example in it.examples(seen)]
     problems = list(invalid(document, found, examples))

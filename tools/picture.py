@@ -9,32 +9,27 @@ the number beside the student; thin lines are the other choices. `2/3` says that
 import sys
 from html import escape
 
+from check_round import Round
+
 ROW, TOP, BOTTOM, LEAST = 20, 74, 36, 412
 WIDE, NARROW = 92, 30  # from students to projects, and from projects to supervisors
 LETTERS = {**dict.fromkeys("MW", 12), **dict.fromkeys("CDGHNOQ", 9.4)}  # and any other 8.2
 # the lines of the ranks, the last of them for all that follow: in words, colour, width, dashes
-RANKS = [("first", "#12466b", 3.2, "none"), ("second", "#2a9d6f", 2.6, "8 2"), ("third", "#d1741a", 2.6, "4 3"), ("later", "#b02a37", 2.6, "2 2")]
+RANKS = [("first", "#12466b", 3.2, "none"), ("second", "#2a9d6f", 2.6, "8 2")]
+RANKS += [("third", "#d1741a", 2.6, "4 3"), ("later", "#b02a37", 2.6, "2 2")]
 OTHER, OFFER, NO_PLACE = ("#b4b4b4", 0.8, "none"), ("#667", 1, "none"), "#b02a37"
 
 
-class Round:
-    """What a round text says, each roll as it stands there."""
+class Drawn(Round):
+    """What a round text says, each roll as it stands there, but for the projects, which stand by supervisor."""
 
     def __init__(self, text):
-        self.aim, self.quotas, self.offers, self.lists, self.pairs = "greedy", {}, {}, {}, {}
-        for kind, code, *rest in (line.split(",") for line in text.splitlines()):
-            if kind == "A":
-                self.aim = code
-            elif kind == "S":
-                self.quotas[code], self.offers[code] = int(rest[0]), {}
-            elif kind == "P":
-                self.offers[rest[0]][code] = int(rest[1])
-            elif kind == "C":
-                self.lists[code] = rest
-            elif kind == "M":
-                self.pairs[code] = rest[0]
-        self.projects = {project: quota for offer in self.offers.values() for project, quota in offer.items()}
-
+        super().__init__()
+        for line in text.splitlines():
+            self.add(line)
+        self.quotas = {code: quota for (kind, code), quota in self.quota.items() if kind == "Z"}
+        self.offers = {code: [project for project, owner in self.offerer.items() if owner == code] for code in self.quotas}
+        self.projects = {project: self.quota["Y", project] for offer in self.offers.values() for project in offer}
         self.ranks = {student: self.lists[student].index(project) + 1 for student, project in self.pairs.items()}
 
     def taken(self, project):
@@ -43,7 +38,7 @@ class Round:
     def told(self):
         """What the round comes to, in two lines."""
         profile = " ".join(str(list(self.ranks.values()).count(rank)) for rank in range(1, 13))
-        return f"{self.aim} round: {len(self.pairs)} of {len(self.lists)} students placed", f"profile {profile}"
+        return f"{self.read.__name__} round: {len(self.pairs)} of {len(self.lists)} students placed", f"profile {profile}"
 
 
 def look(rank):
@@ -128,4 +123,4 @@ def picture(it):
 
 
 if __name__ == "__main__":
-    print("\n".join(picture(Round(open(sys.argv[1], encoding="ascii").read()))))
+    print("\n".join(picture(Drawn(open(sys.argv[1], encoding="ascii").read()))))

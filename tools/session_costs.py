@@ -7,35 +7,22 @@ The program serves streams at the limits: 100 supervisors, 300 projects and 500 
 the difference of two streams that differ in their last message; of lists it is the second that is put. A round text is the instance
 of the open round, written; at 250 students there are half as many supervisors, projects and lists.
 """
-import random
 import sys
 
-from office import counted, message
+from office import counted, message, sheets, successes
 
 
 def school(size=500):
     """The messages up to the round in which all of so many students but two have a list."""
-    draw = random.Random(1)
-    offerers, offered = size // 5, size * 3 // 5
-    supervisors = "code,name,quota\n" + "".join(f"L{n},Lee,6\n" for n in range(offerers))
-    projects = "code,name,supervisor,quota\n" + "".join(f"P{n},Pumps,L{n % offerers},2\n" for n in range(offered))
-    students = "code,name\n" + "".join(f"S{n},Ann\n" for n in range(size))
-    lists = "student,choices\n" + "".join(
-        f"S{n},{' '.join(f'P{p}' for p in draw.sample(range(offered), 12))}\n" for n in range(size - 2)
-    )
-    return [
-        message("POST", "/imports/supervisors/I1", supervisors),
-        message("POST", "/imports/projects/I2", projects),
-        message("POST", "/imports/students/I3", students),
-        message("POST", "/rounds"),
-        message("POST", "/imports/lists/I4", lists),
-    ]
+    made = sheets(size // 5, size * 3 // 5, size, size - 2)
+    messages = [message("POST", f"/imports/{kind}/I{number}", sheet) for number, (kind, sheet) in enumerate(made.items(), 1)]
+    return [*messages[:3], message("POST", "/rounds"), messages[3]]
 
 
 def costs(program, messages):
     """How many instructions the program takes to serve these messages, each of which must be answered with success."""
     count, ran = counted(program, input=b"".join(messages), text=False, check=True)
-    if ran.stdout.count(b"HTTP/1.1 200 OK") != len(messages):
+    if successes(ran.stdout) != len(messages):
         sys.exit(f"not all of {len(messages)} messages were answered with success")
     return count
 

@@ -17,9 +17,8 @@ import tempfile
 import textwrap
 import time
 
-from office import copy
+from office import TOP, copy
 
-TOP = os.path.dirname(os.path.dirname(os.path.abspath(__file__)))
 MOST = 50  # rows that are told: a sheet with more has one mistake many times
 
 
@@ -37,13 +36,6 @@ def words():
                 found = guided(file.read())
             return {number: f"{name}. {what} {do}".replace("`", "") for number, (name, what, do) in found.items()}
     return {}
-
-
-def copied(database, folder):
-    """A copy of the database, and of its log where it has one."""
-    copy(database, f"{folder}/office.db")
-    if not os.listdir(folder):
-        print(f"there is no {database}: the sheet is tried on an empty office")
 
 
 class Office:
@@ -101,7 +93,8 @@ def main(program, database, kind, name):
     for number, (code, *_) in rows[1:]:
         places.setdefault(code, []).append(str(number))
     with tempfile.TemporaryDirectory() as folder:
-        copied(database, folder)
+        if not os.path.exists(copy(database, f"{folder}/office.db")):
+            print(f"there is no {database}: the sheet is tried on an empty office")
         office = Office(program, folder, kind)
         answer, record, reason = office.told(content)
         # Without an open round each list is refused, and nothing else can be asked.

@@ -3,23 +3,19 @@
 
 tools/wrong_bodies.py [CRATE..]     of these crates, or of all
 """
-import os
+import re
 import sys
 
-from office import TOP
+from office import listed, read
 
 
 def main(*crates):
-    count = 0
-    for crate in crates or sorted(os.listdir(os.path.join(TOP, "crates"))):
-        folder = os.path.join(TOP, "crates", crate, "must-fail")
-        names = sorted(name for name in os.listdir(folder) if name.endswith(".edit")) if os.path.isdir(folder) else []
-        for name in names:
-            with open(os.path.join(folder, name), encoding="utf-8") as file:
-                why = next((line[5:].strip() for line in file if line.startswith("why: ")), "")
-            print(f"{crate:12} {name[:-5]:45} {why}")
-        count += len(names)
-    print(f"{count} wrong bodies")
+    paths = listed(*(f"crates/{crate}/must-fail/*.edit" for crate in crates or ["*"]))
+    for path in paths:
+        _, crate, _, name = path.removesuffix(".edit").split("/")
+        why = re.search("^why: (.*)", read(path), re.M)
+        print(f"{crate:12} {name:45} {why[1].strip() if why else ''}")
+    print(f"{len(paths)} wrong bodies")
 
 
 if __name__ == "__main__":

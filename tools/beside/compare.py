@@ -9,7 +9,6 @@ databases lie in FOLDER, by default the one for temporary files: a disk that wai
 """
 import contextlib
 import os
-import random
 import subprocess
 import sys
 import tempfile
@@ -17,7 +16,7 @@ import time
 
 HERE = os.path.dirname(os.path.abspath(__file__))
 sys.path.append(os.path.join(HERE, ".."))
-from office import copy, serving
+from office import copy, serving, sheets, written
 
 MODES = ["wal", "delete"]
 
@@ -39,12 +38,8 @@ class School:
 
     def __init__(self, program, folder):
         self.program, self.folder = program, folder
-        draw = random.Random(1)
-        projects = [f"P{n}" for n in range(400)]
-        self.write("supervisors", "code,name,quota", (f"L{n},Lee,6" for n in range(100)))
-        self.write("projects", "code,name,supervisor,quota", (f"P{n},Pumps,L{n % 100},2" for n in range(400)))
-        self.write("students", "code,name", (f"S{n},Student {n}" for n in range(500)))
-        self.write("lists", "student,choices", (f"S{n},{' '.join(draw.sample(projects, 12))}" for n in range(500)))
+        for kind, sheet in sheets(100, 400, 500, 500).items():
+            written(sheet, self.path(f"{kind}.csv"))
         self.bring("supervisors", "projects")
         self.settle("rolls.db")
         self.bring("students")
@@ -54,10 +49,6 @@ class School:
 
     def path(self, name):
         return os.path.join(self.folder, name)
-
-    def write(self, kind, header, rows):
-        with open(self.path(f"{kind}.csv"), "w", encoding="utf-8") as file:
-            file.write("".join(f"{row}\n" for row in [header, *rows]))
 
     def bring(self, *kinds):
         for kind in kinds:
