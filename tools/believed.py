@@ -10,6 +10,7 @@ A definition is counted once, with the comment above it. The closure follows the
 the `use` lines of its file, through the crates of this repository. Types of the program are named apart, and what stands in the
 libraries beneath is counted by name alone.
 """
+import itertools
 import re
 import sys
 
@@ -134,14 +135,13 @@ def figures(book):
 
 def show(crate, function, label):
     book = closure(crate, function, label)
-    at = None
-    for it, name in book.order:
-        if it.path != at:
-            at = it.path
-            print(f"---- {at}\n")
-        print("\n".join(it.found[name]) + "\n")
+    for path, entries in itertools.groupby(book.order, lambda entry: entry[0].path):
+        print(f"---- {path}\n")
+        for it, name in entries:
+            print("\n".join(it.found[name]) + "\n")
     count, lines = figures(book)
-    print(f"{count} definitions, {lines} lines; types of the program: {len(book.types)}; names of the libraries beneath: {len(book.beneath)}")
+    print(f"{count} definitions, {lines} lines", end="; ")
+    print(f"types of the program: {len(book.types)}; names of the libraries beneath: {len(book.beneath)}")
 
 
 def compare():
@@ -150,7 +150,8 @@ def compare():
     for function, label, crate, *told in rows:
         there = [f"{n:,}" for n in figures(closure(crate, function, label))]
         wrong += told != there
-        print(f"{function} {label}: {there[0]} definitions, {there[1]} lines" + ("" if told == there else f"; README says {told[0]}, {told[1]}"))
+        differs = "" if told == there else f"; README says {', '.join(told)}"
+        print(f"{function} {label}: {there[0]} definitions, {there[1]} lines{differs}")
     sys.exit("README.md is to be mended" if wrong or not rows else 0)
 
 

@@ -6,15 +6,16 @@ tools/clients.py SPADESK
 Each client is served by one `serve`, in turn; what the program prints of it is compared. A client that would be waited for, or
 that waits, for more than five seconds fails.
 """
+import http.client
 import os
-import re
 import socket
 import struct
 import subprocess
 import sys
 import tempfile
+import time
 
-from office import serving
+from office import serving, written
 
 GET = b"GET /rounds/1 HTTP/1.1\r\n\r\n"
 SHUT, RESET = "shut", "reset"
@@ -43,37 +44,31 @@ LINES = [
 ]
 
 
-def read_answer(client, buffered):
-    """Reads one whole answer; what came behind it stays in the buffer."""
-    while True:
-        head = re.search(rb"Content-Length: (\d+)\r\n\r\n", buffered)
-        if head and len(buffered) >= head.end() + int(head[1]):
-            del buffered[: head.end() + int(head[1])]
-            return
-        bytes = client.recv(65_536)
-        if not bytes:
-            raise EOFError("the connection was closed")
-        buffered += bytes
+def read_answer(answers):
+    """Reads one whole answer."""
+    answers.readline()
+    length = int(http.client.parse_headers(answers).get("Content-Length", -1))
+    if length < 0 or len(answers.read(length)) < length:
+        raise EOFError("the connection was closed")
 
 
 def play(port, steps):
     """Does the steps of a client, and reads until the program closes the connection."""
-    buffered = bytearray()
-    with socket.create_connection(("127.0.0.1", port), timeout=5) as client:
+    with socket.create_connection(("127.0.0.1", port), timeout=5) as client, client.makefile("rb") as answers:
         for step in steps:
             if isinstance(step, bytes):
                 client.sendall(step)
             elif isinstance(step, int):
                 for _ in range(step):
-                    read_answer(client, buffered)
+                    read_answer(answers)
             elif isinstance(step, float):
-                subprocess.run(["sleep", str(step)], check=True)
+                time.sleep(step)
             elif step == SHUT:
                 client.shutdown(socket.SHUT_WR)
             else:
                 client.setsockopt(socket.SOL_SOCKET, socket.SO_LINGER, struct.pack("ii", 1, 0))
                 return
-        if buffered or client.recv(1):
+        if answers.read(1):
             raise EOFError("more was answered than was asked")
 
 
@@ -98,8 +93,7 @@ def serve_clients(program, folder):
 def run_lines(program, folder):
     """Runs each line. Gives what went otherwise."""
     for name, text in (("round.txt", "S,L,5\n"), ("no-round.txt", "S,L,5\nX\n")):
-        with open(os.path.join(folder, name), "w", encoding="ascii") as file:
-            file.write(text)
+        written(text, os.path.join(folder, name))
     for words, status, out, err in LINES:
         ran = subprocess.run([program, *words], cwd=folder, capture_output=True, text=True, timeout=60)
         is_told = ran.stderr.startswith(err) if err else not ran.stderr

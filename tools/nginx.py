@@ -16,7 +16,7 @@ import sys
 import tempfile
 import time
 
-from office import read, serving
+from office import read, serving, written
 
 USER = {"Authorization": "Basic " + base64.b64encode(b"keeper:secret").decode()}
 OWN, FOREIGN = {"Origin": "https://office.school.example"}, {"Origin": "https://other.example"}
@@ -83,8 +83,7 @@ def main(program, nginx=shutil.which("nginx")):
         return
     with tempfile.TemporaryDirectory() as folder:
         for name, text in (("users", "keeper:{PLAIN}secret\n"), ("nginx.conf", config(folder))):
-            with open(f"{folder}/{name}", "w") as file:
-                file.write(text)
+            written(text, f"{folder}/{name}")
         with serving(program, f"{folder}/school.db", 1_000_000, 8080) as (served, _):
             front = started(8081, nginx, "-p", folder, "-c", f"{folder}/nginx.conf")
             try:

@@ -2,6 +2,7 @@
 import contextlib
 import hashlib
 import os
+import pathlib
 import random
 import re
 import shutil
@@ -36,8 +37,7 @@ COUNT = ["valgrind", "--tool=cachegrind", "--cache-sim=no", "--cachegrind-out-fi
 
 def read(*path):
     """The text of a file of the repository."""
-    with open(os.path.join(TOP, *path), encoding="utf-8") as file:
-        return file.read()
+    return pathlib.Path(TOP, *path).read_text(encoding="utf-8")
 
 
 def told(program, words, database="DB", **how):
@@ -69,8 +69,7 @@ def round_text(quotas, offers, lists, is_generous=False):
 
 def written(text, path):
     """Writes a text as it is, and gives the path."""
-    with open(path, "w", encoding="utf-8", newline="") as file:
-        file.write(text)
+    pathlib.Path(path).write_text(text, encoding="utf-8", newline="")
     return path
 
 
@@ -141,7 +140,7 @@ def counted(*words, **how):
 
 def copy(start, to, ends=("", "-wal")):
     """Puts a copy of a database and its log in the place of another, or nothing where there is none. Gives its path."""
-    for end in ("", "-wal"):
+    for end in ("", "-wal", "-shm", "-journal"):
         if os.path.exists(to + end):
             os.remove(to + end)
         if start and end in ends and os.path.exists(start + end):
@@ -192,8 +191,7 @@ class Bench:
 
     def counted(self):
         """The numbers that the library has counted."""
-        with open(self.at("counted"), encoding="utf-8") as file:
-            return [int(number) for number in file.read().split()]
+        return [int(number) for number in pathlib.Path(self.at("counted")).read_text(encoding="utf-8").split()]
 
     def line(self, words, request=None, limit=None, **env):
         """What a command prints on both, its status, and what the one connection that it may serve is answered. `env` is for the library,

@@ -15,8 +15,8 @@ import sqlite3
 import statistics
 import sys
 import tempfile
-import time
 from contextlib import closing
+from timeit import timeit
 
 from office import FIRST_EDITION, SECOND_EDITION, alter, copy, counted, told
 
@@ -62,12 +62,6 @@ def over_copy(start, what):
         return what(copy(start, os.path.join(folder, "copy.db")))
 
 
-def seconds(program, path):
-    begun = time.monotonic()
-    told(program, REPORTS[0], path)
-    return time.monotonic() - begun
-
-
 def files(program, folder):
     """Makes the file in each edition."""
     first, second, raised = (os.path.join(folder, name) for name in ("largest.db", "second.db", "raised.db"))
@@ -92,8 +86,8 @@ def main(program, folder, older=None):
         print(f"{words[10:]:13} {len(wanted):6} bytes, the same {len(pairs) + 1} times", flush=True)
     for what, start in (("raised and reported on", first), ("reported on", raised)):
         count = over_copy(start, lambda path: counted(program, *REPORTS[0].replace("DB", path).split(), check=True)[0])
-        median = statistics.median(over_copy(start, lambda path: seconds(program, path)) for _ in range(5))
-        print(f"{what:22} {count:>15,} instructions, {median:.2f} s", flush=True)
+        seconds = (over_copy(start, lambda path: timeit(lambda: told(program, REPORTS[0], path), number=1)) for _ in range(5))
+        print(f"{what:22} {count:>15,} instructions, {statistics.median(seconds):.2f} s", flush=True)
 
 
 if __name__ == "__main__":

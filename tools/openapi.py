@@ -202,10 +202,6 @@ def earlier(document, before):
             yield item
 
 
-def operations(document):
-    return [Operation(document, method, path, item) for path, item in document["paths"].items() for method in METHODS if method in item]
-
-
 # What the program answers.
 
 
@@ -322,8 +318,8 @@ def unfit(document, found, examples):
 
     yield from (f"{it.name}: it does not fit its schema" for it in examples if not fits(it.schema, it.value))
     for operation in found.values():
-        bodies = operation.bodies.items()
-        yield from (f"{operation.name}: the body {name} does not fit its schema" for name, value in bodies if not fits(operation.schema, value))
+        wrong = [name for name, value in operation.bodies.items() if not fits(operation.schema, value)]
+        yield from (f"{operation.name}: the body {name} does not fit its schema" for name in wrong)
     for example in examples:
         operation = example.operation
         if operation.type == JSON and not example.is_shared:
@@ -359,7 +355,9 @@ def main(*words):
     if len(programs) > 1 or "--help" in words or (not programs and "--only-valid" not in words):
         sys.exit(print(__doc__) if "--help" in words else __doc__)
     document = yaml.safe_load(read("docs", "openapi.yaml"))
-    seen, found = set(), {(it.method, shape(it.path)): it for it in operations(document)}
+    paths = document["paths"].items()
+    operations = [Operation(document, method, path, item) for path, item in paths for method in METHODS if method in item]
+    seen, found = set(), {(it.method, shape(it.path)): it for it in operations}
     examples = [example for it in found.values() for example in it.examples(seen)]
     problems = list(invalid(document, found, examples))
     if "--only-valid" not in words:

@@ -10,7 +10,7 @@ to the next, in seconds, each with the file that was waited for: what takes long
 function at a large type does. These are seconds of the clock, after a check from nothing with one job, `rt check --jobs 1`.
 """
 import collections
-import os
+import pathlib
 import sys
 
 
@@ -26,14 +26,12 @@ def main():
     if len(sys.argv) < 2:
         sys.exit(__doc__)
     weights, paths, written = collections.Counter(), collections.Counter(), []
-    for folder, _, names in os.walk(f"crates/{sys.argv[1]}/out/incremental"):
-        for name in names:
-            kept = os.stat(os.path.join(folder, name))
-            size = kept.st_size
-            written.append((kept.st_mtime, name))
-            weights[function(name)] += size
-            if "Lts" in name.split("."):
-                paths[function(name)] += size
+    for path in filter(pathlib.Path.is_file, pathlib.Path(f"crates/{sys.argv[1]}/out/incremental").rglob("*")):
+        kept = path.stat()
+        written.append((kept.st_mtime, path.name))
+        weights[function(path.name)] += kept.st_size
+        if "Lts" in path.name.split("."):
+            paths[function(path.name)] += kept.st_size
     print(f"{sum(weights.values()) / 1e6:8.2f} MB in all, {sum(paths.values()) / 1e6:.2f} of them of paths")
     for name, weight in weights.most_common(int(sys.argv[2]) if len(sys.argv) > 2 else 30):
         print(f"{weight / 1e6:8.2f} {paths[name] / 1e6:6.2f} {name}")

@@ -10,6 +10,7 @@ numbers of the spreadsheet, in which the first row is 1. Status 0: the sheet wou
 import csv
 import io
 import os
+import pathlib
 import re
 import subprocess
 import sys
@@ -32,8 +33,7 @@ def words():
     """Of each refusal what happened and what to do, by its number; none where the guide is not beside these tools."""
     for path in (f"{TOP}/docs/GUIDE.md", f"{TOP}/../docs/GUIDE.md"):
         if os.path.exists(path):
-            with open(path, encoding="utf-8") as file:
-                found = guided(file.read())
+            found = guided(pathlib.Path(path).read_text(encoding="utf-8"))
             return {number: f"{name}. {what} {do}".replace("`", "") for number, (name, what, do) in found.items()}
     return {}
 
@@ -48,8 +48,7 @@ class Office:
 
     def told(self, content):
         """The words of `import`, and of a refusal the row and the reason."""
-        with open(self.sheet, "wb") as file:
-            file.write(content)
+        pathlib.Path(self.sheet).write_bytes(content)
         it = subprocess.run(self.line, capture_output=True, text=True)
         refused = re.match(r"refused (\d+): (?:Row (\d+) (\d+))?", it.stderr)
         number, record, inner = (int(group or 0) for group in refused.groups()) if refused else (0, 0, 0)
@@ -84,8 +83,7 @@ def show(found, is_more, name, said):
 
 
 def main(program, database, kind, name):
-    with open(name, "rb") as file:
-        content = file.read()
+    content = pathlib.Path(name).read_bytes()
     text, said = content.decode(errors="surrogateescape").removeprefix("\ufeff"), words()
     lines = enumerate(csv.reader(io.StringIO(text, newline=None)), 1)
     rows = [it for it in lines if it[1]]  # a line of nothing is no row for the office

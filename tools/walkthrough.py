@@ -9,8 +9,8 @@ Each TEXT is one of WALKTHROUGHS, and without any all of them are run. The comma
 those of `rt`, which prove or build, stand in other blocks and are not run. Without any TEXT the snippet for nginx is tried too, and
 what only clients and shells can see (tools/clients.py).
 They run from the top to the end in a folder of their own, beside the files of the walkthrough and links to this folder and to docs.
-With --write the text shows what was printed. After each line, and once `serve` has ended, a copy of the database file alone is held beside one with
-its log: each report on each must be the same, and each row that SQLite reads.
+With --write the text shows what was printed. After each command, and once `serve` has ended, a copy of the database file alone is held
+beside one with its log: each report on each must be the same, and each row that SQLite reads.
 
 The lines of the first round, and what is served there, are also a test of the gate, crates/trials/src/walkthrough.rt, which has the
 texts of the example for its own. Here each of them is compared with the example, file by file, line by line and request by request,
@@ -29,7 +29,7 @@ import time
 import clients
 import nginx
 import texts
-from office import TOP, copy, line, read, rows
+from office import TOP, copy, line, read, rows, written
 
 TEST = os.path.join(TOP, "crates", "trials", "src", "walkthrough.rt")
 FIRST = "examples/first-round/README.md"
@@ -79,7 +79,8 @@ def seen(path, ends, env):
     with tempfile.TemporaryDirectory() as folder:
         dump = rows(copy(path, f"{folder}/looked.db", ends))
         told = copy(path, f"{folder}/school.db", ends)
-        reports = [line("spadesk", f"report DB {kind} 1", told, env=env, timeout=60) for kind in ("profile", "loads", "unplaced", "placements")]
+        kinds = ("profile", "loads", "unplaced", "placements")
+        reports = [line("spadesk", f"report DB {kind} 1", told, env=env, timeout=60) for kind in kinds]
     return [(ran.stdout, ran.stderr, ran.returncode) for ran in reports], dump
 
 
@@ -133,7 +134,8 @@ class Shell:
         log = self.log()
         if command == "cat served.txt":
             self.end(False)
-        ran = subprocess.run(command, shell=True, cwd=self.folder, env=self.env, stdout=subprocess.PIPE, stderr=subprocess.STDOUT, timeout=60)
+        how = {"shell": True, "cwd": self.folder, "env": self.env, "timeout": 60}
+        ran = subprocess.run(command, stdout=subprocess.PIPE, stderr=subprocess.STDOUT, **how)
         if command.startswith("spadesk ") or command == "cat served.txt":
             self.compare_copies(command, log)
         text = ran.stdout.decode().replace("\r\n", "\n")
@@ -177,11 +179,11 @@ def main(program=None, *words):
         shown = read(text)
         told, count = play(text, program)
         if is_written:
-            with open(os.path.join(TOP, text), "w", encoding="utf-8") as file:
-                file.write(told)
+            written(told, os.path.join(TOP, text))
         elif told != shown:
             differing = True
-            sys.stdout.writelines(difflib.unified_diff(shown.splitlines(True), told.splitlines(True), f"{text} shows", "the commands print"))
+            both = shown.splitlines(True), told.splitlines(True)
+            sys.stdout.writelines(difflib.unified_diff(*both, f"{text} shows", "the commands print"))
         print(f"{text}: {count} commands, " + ("written" if is_written else "not as shown" if told != shown else "each as shown"))
     if differing:
         sys.exit(1)

@@ -12,7 +12,7 @@ import os
 import subprocess
 import sys
 import tempfile
-import time
+from timeit import timeit
 
 HERE = os.path.dirname(os.path.abspath(__file__))
 sys.path.append(os.path.join(HERE, ".."))
@@ -28,9 +28,7 @@ def run(*words):
 
 def timed(*words):
     """The microseconds of a whole process."""
-    start = time.perf_counter()
-    run(*words)
-    return round((time.perf_counter() - start) * 1e6)
+    return round(timeit(lambda: run(*words), number=1) * 1e6)
 
 
 class School:
@@ -59,9 +57,6 @@ class School:
         run("sqlite3", copy(self.path("school.db"), self.path(name)), "PRAGMA wal_checkpoint(TRUNCATE); PRAGMA journal_mode = DELETE")
 
     def copy(self, name, to):
-        for end in ["-shm", "-journal"]:
-            if os.path.exists(self.path(f"{to}{end}")):
-                os.remove(self.path(f"{to}{end}"))
         return copy(self.path(name), self.path(to), [""])
 
 

@@ -18,12 +18,13 @@ these must hold, where the office is what the program itself reports of the file
   after it, as a crash may leave it; where it is that before it, the line does its work when it is asked again;
 - the program was killed, and the office is that before or that after.
 What was printed was done: where a call behind the last text is the first that fails, the first of these holds, or the program was killed
-and the office is that after the line. Where all calls went well the file alone is that office. As they stand, before the program opens them,
-the files have the rows from before the line, those that they have once they are opened, or those after the line. Files of the same bytes,
-but for a log that holds no change, are looked at once, and the line is asked again over them once.
+and the office is that after the line. Where all calls went well the file alone is that office. As they stand, before the program opens
+them, the files have the rows from before the line, those that they have once they are opened, or those after the line. Files of the same
+bytes, but for a log that holds no change, are looked at once, and the line is asked again over them once.
 """
 import hashlib
 import os
+import pathlib
 import resource
 import shutil
 import signal
@@ -76,8 +77,7 @@ class Sweep(Bench):
         for end in ("", "-wal"):
             path = self.at(name + end)
             if os.path.exists(path) and (not end or os.path.getsize(path) > EMPTY_LOG):
-                with open(path, "rb") as file:
-                    digest.update(hashlib.sha256(file.read()).digest() + end.encode())
+                digest.update(hashlib.sha256(pathlib.Path(path).read_bytes()).digest() + end.encode())
         return digest.digest()
 
     def office(self, name, ends=("", "-wal")):
