@@ -1,5 +1,7 @@
-"""What the tools share: lines of the program, a `serve` that ends, counted instructions, the rows of a database, the first round."""
+"""What the tools share: commands of the program, a `serve` that ends, counted instructions, the rows of a database, the first round, round
+texts and sheets, and a bench on which a command is run with a library before the program's own."""
 import contextlib
+import fnmatch
 import hashlib
 import os
 import pathlib
@@ -40,22 +42,24 @@ def read(*path):
     return pathlib.Path(TOP, *path).read_text(encoding="utf-8")
 
 
-def told(program, words, database="DB", **how):
-    """What a command of the program prints, which must be done."""
-    return line(program, words, database, check=True, **how).stdout
-
-
 def listed(*patterns):
-    """The files of the repository, and those that would come to it, by their paths from the top."""
-    words = ["git", "ls-files", "-co", "--exclude-standard", *patterns]
-    ran = subprocess.run(words, cwd=TOP, capture_output=True, text=True, check=True)
-    return sorted(name for name in ran.stdout.splitlines() if os.path.isfile(os.path.join(TOP, name)))
+    """The files of the repository that fit one of these patterns, or all, by their paths from the top; what is built is none of them."""
+    found = []
+    for folder, folders, names in os.walk(TOP):
+        folders[:] = [it for it in folders if it not in (".git", "out", "__pycache__")]
+        found += [os.path.relpath(os.path.join(folder, name), TOP) for name in names]
+    return sorted(name for name in found if any(fnmatch.fnmatchcase(name, pattern) for pattern in patterns or ["*"]))
 
 
 def line(program, words, database="DB", **how):
-    """What became of a line of the program; in its words DB stands for the database."""
-    told = [program, *(database if word == "DB" else word for word in words.split())]
-    return subprocess.run(told, **{"capture_output": True, "text": True, **how})
+    """What became of a command of the program; in its words DB stands for the database."""
+    command = [program, *(database if word == "DB" else word for word in words.split())]
+    return subprocess.run(command, **{"capture_output": True, "text": True, **how})
+
+
+def told(program, words, database="DB", **how):
+    """What a command of the program prints, which must be done."""
+    return line(program, words, database, check=True, **how).stdout
 
 
 def round_text(quotas, offers, lists, is_generous=False):

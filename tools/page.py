@@ -26,10 +26,9 @@ import tempfile
 import time
 
 from nginx import started
-from office import copy, free_port, serving
+from office import TOP, copy, free_port, read, serving
 from sheets import guided
 
-TOP = os.path.dirname(os.path.dirname(os.path.abspath(__file__)))
 ELEMENT = "element-6066-11e4-a52e-4f735466cecf"
 KEEPER = "keeper:secret"
 FIRST, TERM = (
@@ -62,11 +61,6 @@ def ordinal(rank):
 
 PARTS = ("first_round", "term", "hostile", "refusals", "mistakes", "drawn", "greatest", "student")
 SERVICE, WEB, DRIVER = free_port(), free_port(), free_port()
-
-
-def read(*path):
-    with open(os.path.join(TOP, *path), encoding="utf-8") as file:
-        return file.read()
 
 
 def sealed(page):

@@ -23,7 +23,7 @@ def places(path, pattern):
 
 def counted(pattern, crates=()):
     """The places of each file that has one, of these crates or of all but those of tests."""
-    parts = filter(None, map(PART.fullmatch, listed("crates")))
+    parts = filter(None, map(PART.fullmatch, listed("crates/*")))
     counts = {part[0]: places(part[0], pattern) for part in parts if (part[1] in crates if crates else part[1] not in TESTS)}
     return {path: count for path, count in counts.items() if count}
 

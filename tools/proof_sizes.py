@@ -22,18 +22,16 @@ def function(name):
     return ".".join(parts[1:4] if parts[2][:1].isupper() else parts[1:3])
 
 
-def main():
-    if len(sys.argv) < 2:
-        sys.exit(__doc__)
+def main(crate, count="30"):
     weights, paths, written = collections.Counter(), collections.Counter(), []
-    for path in filter(pathlib.Path.is_file, pathlib.Path(f"crates/{sys.argv[1]}/out/incremental").rglob("*")):
+    for path in filter(pathlib.Path.is_file, pathlib.Path(f"crates/{crate}/out/incremental").rglob("*")):
         kept = path.stat()
         written.append((kept.st_mtime, path.name))
         weights[function(path.name)] += kept.st_size
         if "Lts" in path.name.split("."):
             paths[function(path.name)] += kept.st_size
     print(f"{sum(weights.values()) / 1e6:8.2f} MB in all, {sum(paths.values()) / 1e6:.2f} of them of paths")
-    for name, weight in weights.most_common(int(sys.argv[2]) if len(sys.argv) > 2 else 30):
+    for name, weight in weights.most_common(int(count)):
         print(f"{weight / 1e6:8.2f} {paths[name] / 1e6:6.2f} {name}")
     written.sort()
     waits = sorted(((there[0] - before[0], there[1]) for before, there in zip(written, written[1:])), reverse=True)
@@ -42,4 +40,4 @@ def main():
 
 
 if __name__ == "__main__":
-    main()
+    main(*sys.argv[1:]) if sys.argv[1:] else sys.exit(__doc__)

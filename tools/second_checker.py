@@ -10,6 +10,7 @@ Both must tell the same, also which line is the first bad one.
 import collections
 import os
 import random
+import re
 import sys
 import tempfile
 
@@ -86,11 +87,9 @@ def main(program, texts="1000", seed="1"):
         text = (solved, changed(draw, solved), relined(draw, solved, before), relined(draw, solved, before))[at % 4]
         before = solved
         answer = told(program, "check", text).strip()
-        if checked(text) == answer:
-            words = answer.split()
-            kinds[words[0] if words[0] == "best" else "bad line" if words[0] == "bad" else " ".join(words[:2])] += 1
-        else:
+        if checked(text) != answer:
             sys.exit(f"second_checker.py: the program tells {answer!r} and check_round.py {checked(text)!r} of\n{text}")
+        kinds[re.match(r"best|bad line|\w+ \d+", answer)[0]] += 1
     print(", ".join(f"{kinds[kind]} {kind}" for kind in sorted(kinds)))
 
 

@@ -387,11 +387,9 @@ fn check(r: &Round) -> Result<Row, String> {
     if cp.iter().zip(&r.projects).any(|(a, b)| *a > b.2) || cl.iter().zip(&r.sups).any(|(a, b)| *a > b.1) {
         return Err("fault 1".into());
     }
-    if u.len() != r.students.len() || y.len() != r.projects.len() || z.len() != r.sups.len() {
-        return Err("fault 2".into());
-    }
     let all = || u.iter().chain(y).chain(z);
-    if all().flatten().any(|x| x.abs() > 1_000_000) {
+    let is_whole = u.len() == r.students.len() && y.len() == r.projects.len() && z.len() == r.sups.len();
+    if !is_whole || all().flatten().any(|x| x.abs() > 1_000_000) {
         return Err("fault 2".into());
     }
     if all().any(|v| as_read(r.generous, *v) < [0; NP]) {
