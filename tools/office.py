@@ -152,14 +152,17 @@ def copy(start, to, ends=("", "-wal")):
     return to
 
 
-def rows(path):
-    """The rows of a database as it stands, with its log, in short; beside it nothing is written. The words of SQLite where it fails."""
+def rows(path, broken=None):
+    """The rows of a database as it stands, with its log, in short; beside it nothing is written. `broken`, if it is given, where SQLite
+    finds no database."""
     with tempfile.TemporaryDirectory() as folder:
         with contextlib.closing(sqlite3.connect(copy(path, os.path.join(folder, "looked.db")))) as looked:
             try:
                 told = [*looked.execute("PRAGMA integrity_check"), *looked.iterdump()]
-            except sqlite3.DatabaseError as error:
-                return str(error)
+            except sqlite3.DatabaseError:
+                if broken is None:
+                    raise
+                return broken
     return hashlib.sha256(repr(told).encode()).hexdigest()
 
 
@@ -191,7 +194,7 @@ class Bench:
         return copy(start and self.at(start), self.at(to), ends)
 
     def rows(self, name):
-        return rows(self.at(name))
+        return rows(self.at(name), "no database")
 
     def counted(self):
         """The numbers that the library has counted."""

@@ -126,7 +126,7 @@ class Sweep(Bench):
         self.copy(start, "swept.db")
         stood, opened = self.office("swept.db")
         # SQLite takes a new file that is not yet whole for no database
-        before = [stood, opened[0]] if start else [stood, opened[0], "file is not a database"], opened
+        before = [stood, opened[0]] if start else [stood, opened[0], "no database"], opened
         undisturbed = self.line(told, request)
         first, last = self.counted()
         after = self.office("swept.db")
