@@ -1,7 +1,7 @@
 #!/usr/bin/env python3
 """The service beside a plain Rust program over libsqlite3 that does the same on the same tables, by the clock.
 
-tools/beside/compare.py SPADESK [ROUNDS [FOLDER]]     needs rustc, libsqlite3-dev and sqlite3
+tools/beside/compare.py SPADESK [ROUNDS [FOLDER]]     needs rustc and libsqlite3-dev
 
 Each row is what SPADESK takes, what the other program (peer.rs) takes with SQLite's log (`wal`) and with its rollback journal
 (`delete`), each commit synced in full, and the two ratios. All take their turn in each of ROUNDS (10), and the least counts. The
@@ -16,7 +16,7 @@ from timeit import timeit
 
 HERE = os.path.dirname(os.path.abspath(__file__))
 sys.path.append(os.path.join(HERE, ".."))
-from office import copy, serving, sheets, written
+from office import alter, copy, serving, sheets, written
 
 MODES = ["wal", "delete"]
 
@@ -54,7 +54,7 @@ class School:
 
     def settle(self, name):
         """Keeps what stands now as one file, with nothing left in a log."""
-        run("sqlite3", copy(self.path("school.db"), self.path(name)), "PRAGMA wal_checkpoint(TRUNCATE); PRAGMA journal_mode = DELETE")
+        alter(copy(self.path("school.db"), self.path(name)), "PRAGMA wal_checkpoint(TRUNCATE); PRAGMA journal_mode = DELETE;")
 
     def copy(self, name, to):
         return copy(self.path(name), self.path(to), [""])
