@@ -19,14 +19,12 @@ use Rattle.sqlite_value.specs.declared.keys.Collation.TheVariants as collation
 use Rattle.sqlite_value.specs.declared.keys.Order.{Order}
 use Rattle.sqlite_schema.specs.declared.schema.Column.{Column}
 use Rattle.sqlite_schema.specs.declared.schema.Reference.{Reference}
-use Rattle.sqlite_schema.specs.declared.schema.Action.{Action}
-use Rattle.sqlite_schema.specs.declared.schema.Action.TheVariants as action
 use Rattle.sqlite_schema.specs.Rules.{kind_code}
 use Rattle.row_data.specs.declared.table.Table.{Table as Ours}
 use Rattle.tables.specs.Table.{Shape, shape_of, table_at, Place, all_referring, kind_in, required, referring, ascending, made_at}
-use Rattle.tables.specs.Inside.Inert.{is_passive}
 use Rattle.tables.specs.Inside.Layout.{is_nothing, is_binary, same_key, are_of_one, are_strict, is_alone, is_bare, is_required, is_referring, are_told, are_plain, is_untimed, has_shape, IsNamed, place_of}
 use Rattle.tables.specs.Layout.{IsListed}
+use Rattle.tables.proofs.Quiet.{passive_is}
 
 same_bytes : (a b : List ℕ) → bytes_eq a b ≡ true → a ≡ b
 same_bytes a b h = (bytes_eq-Decides a b).0 h
@@ -45,13 +43,6 @@ binary_is : (c : Collation) → is_binary c ≡ true → c ≡ collation.Binary
 binary_is collation.Binary h = refl
 binary_is collation.NoCase h = absurd (cc)
 binary_is collation.RTrim h = absurd (cc)
-
-passive_is : (a : Action) → is_passive a ≡ true → a ≡ action.NoAction
-passive_is action.NoAction h = refl
-passive_is action.Restrict h = absurd (cc)
-passive_is action.Cascade h = absurd (cc)
-passive_is action.SetNull h = absurd (cc)
-passive_is action.SetDefault h = absurd (cc)
 
 kind_is : (a b : Kind) → (kind_code a == kind_code b) ≡ true → a ≡ b
 kind_is Integer Integer h = refl
