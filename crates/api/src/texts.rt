@@ -1,13 +1,13 @@
 //! The bytes of answers.
-ghost use Rattle.std.specs.Prelude.{◌≡◌, ◌≤◌, ◌⊎◌, ◌++◌, Some, length, codes, decimal, IfOk, OnErr, string_bytes};
+ghost use Rattle.std.specs.Prelude.{◌≡◌, false, ◌≤◌, ◌⊎◌, ◌++◌, Some, length, codes, decimal, IfOk, OnErr, string_bytes};
 ghost use Rattle.arrayvec.specs.ArrayVec.{array_vec_len};
 ghost use Rattle.rolls.specs.Told.{status_of};
 ghost use Rattle.serde_json.specs.View.{view};
-ghost use Rattle.serde_json.specs.Written.{compact_text};
+ghost use Rattle.serde_json.specs.Written.{compact_text, has_float};
 ghost use Rattle.wire.specs.declared.TheConstants.{MOST_SHORT_BODY};
 ghost use Rattle.wire.specs.Answers.{answer_bytes};
 ghost use Rattle.api.specs.Text.{reason_of, typed_answer, json_answer};
-ghost use Rattle.api.specs.Texts.{refusal_text, row_text, supervisor_data, project_data, list_data, placed_data, student_data, truth_text, round_text, closed_text, preview_text, reply_text, text_of, IsRead};
+ghost use Rattle.api.specs.Texts.{numbers_text, refusal_text, row_text, supervisor_data, project_data, list_data, placed_data, student_data, truth_text, round_text, closed_text, preview_text, reply_text, text_of, IsRead};
 
 use crate::answers::{JSON, TEXT, answer_head, json, push, push_labelled, push_numbers, refused};
 use arrayvec::ArrayVec;
@@ -82,14 +82,23 @@ fn number_body(member: &[u8], number: u32) -> ShortText
     out
 }
 
+/// A body up to the end of its profile.
+fn profile_body(profile: &[u32; RANKS]) -> ShortText
+    ensures items { result.items ≡ codes "{\"profile\":[" ++ numbers_text profile.now }
+    ensures len { array_vec_len result ≤ 145 }
+{
+    let mut out = ArrayVec::new();
+    push(&mut out, b"{\"profile\":[");
+    push_numbers(&mut out, profile);
+    out
+}
+
 /// The body of a closed round.
 fn closed_body(round: u32, size: u32, profile: &[u32; RANKS]) -> ShortText
     ensures items { result.items ≡ closed_text round size profile.now }
     ensures len { array_vec_len result ≤ MOST_SHORT_BODY }
 {
-    let mut out = ArrayVec::new();
-    push(&mut out, b"{\"profile\":[");
-    push_numbers(&mut out, profile);
+    let mut out = profile_body(profile);
     push_labelled(&mut out, b",\"round\":", round);
     push_labelled(&mut out, b",\"size\":", size);
     push(&mut out, b"}");
@@ -101,9 +110,7 @@ fn preview_body(size: u32, profile: &[u32; RANKS]) -> ShortText
     ensures items { result.items ≡ preview_text size profile.now }
     ensures len { array_vec_len result ≤ MOST_SHORT_BODY }
 {
-    let mut out = ArrayVec::new();
-    push(&mut out, b"{\"profile\":[");
-    push_numbers(&mut out, profile);
+    let mut out = profile_body(profile);
     push_labelled(&mut out, b",\"size\":", size);
     push(&mut out, b"}");
     out
@@ -223,42 +230,6 @@ fn student_value(
     json!(in alloc; {"list": &list, "name": name, "placed": &placed})
 }
 
-/// The text of a supervisor.
-fn supervisor_text(alloc: Global, name: &str, placed: u32, quota: u32) -> Result<String, AllocError>
-    ensures { IfOk result (λ text. string_bytes text ≡ compact_text (supervisor_data name.now placed quota)) }
-{
-    let value = supervisor_value(alloc, name, placed, quota)?;
-    value.to_string(alloc)
-}
-
-/// The text of a project.
-fn project_text(
-    alloc: Global,
-    name: &str,
-    placed: u32,
-    quota: u32,
-    supervisor: &str,
-) -> Result<String, AllocError>
-    ensures { IfOk result (λ text.
-        string_bytes text ≡ compact_text (project_data name.now placed quota supervisor.now)) }
-{
-    let value = project_value(alloc, name, placed, quota, supervisor)?;
-    value.to_string(alloc)
-}
-
-/// The text of a student.
-fn student_text(
-    alloc: Global,
-    name: &str,
-    list: &Option<Choices>,
-    placed: &Option<Placement>,
-) -> Result<String, AllocError>
-    ensures { IfOk result (λ text. string_bytes text ≡ compact_text (student_data name.now list.now placed.now)) }
-{
-    let value = student_value(alloc, name, list, placed)?;
-    value.to_string(alloc)
-}
-
 /// The answer of success with a body.
 #[tactic(auto, unfolding(crate::specs::Text::reason_of))]
 fn with_head(alloc: Global, kind: &str, body: &str) -> Result<Answer, AllocError>
@@ -269,6 +240,15 @@ fn with_head(alloc: Global, kind: &str, body: &str) -> Result<Answer, AllocError
     let mut bytes = Vec::from_slice(alloc, head.as_slice())?;
     bytes.extend_from_slice(body.as_bytes())?;
     Ok(Answer::Long(bytes))
+}
+
+/// The answer of success with a value that has no float.
+fn value_answer(alloc: Global, value: &Value) -> Result<Answer, AllocError>
+    requires { has_float (view value.now) ≡ false }
+    ensures { IfOk result (λ answer. answer_bytes answer ≡ json_answer 200 (compact_text (view value.now))) }
+{
+    let body = value.to_string(alloc)?;
+    with_head(alloc, JSON, body.as_str())
 }
 
 /// The answer of success. For a change it takes no memory.
@@ -283,8 +263,8 @@ fn reply_answer(alloc: Global, reply: &Reply) -> Result<Answer, AllocError>
             placed,
             quota,
         } => {
-            let body = supervisor_text(alloc, name.as_str(), *placed, *quota)?;
-            with_head(alloc, JSON, body.as_str())
+            let value = supervisor_value(alloc, name.as_str(), *placed, *quota)?;
+            value_answer(alloc, &value)
         }
         Reply::Project {
             name,
@@ -292,12 +272,12 @@ fn reply_answer(alloc: Global, reply: &Reply) -> Result<Answer, AllocError>
             quota,
             supervisor,
         } => {
-            let body = project_text(alloc, name.as_str(), *placed, *quota, supervisor.as_str())?;
-            with_head(alloc, JSON, body.as_str())
+            let value = project_value(alloc, name.as_str(), *placed, *quota, supervisor.as_str())?;
+            value_answer(alloc, &value)
         }
         Reply::Student { name, list, placed } => {
-            let body = student_text(alloc, name.as_str(), list, placed)?;
-            with_head(alloc, JSON, body.as_str())
+            let value = student_value(alloc, name.as_str(), list, placed)?;
+            value_answer(alloc, &value)
         }
         Reply::Opened { round } => {
             let body = number_body(b"{\"round\":", *round);

@@ -93,66 +93,34 @@ fn aim(given: &ArgMatches<'_>) -> Aim
     }
 }
 
-/// The line `serve`.
-fn serve_line(alloc: Global, given: &ArgMatches<'_>) -> Result<Line, AllocError>
-    requires { AreGiven (codes "serve") (rows_of (found_of given.now)) }
-    ensures { IfOk result (IsLineOf (codes "serve") (rows_of (found_of given.now))) }
-{
-    Ok(Line::Serve {
-        database: text(alloc, given, &DATABASE)?,
-        port: port(given),
-        count: number(given, &COUNT),
-    })
-}
-
-/// The line `import`.
-fn import_line(alloc: Global, given: &ArgMatches<'_>) -> Result<Line, AllocError>
-    requires { AreGiven (codes "import") (rows_of (found_of given.now)) }
-    ensures { IfOk result (IsLineOf (codes "import") (rows_of (found_of given.now))) }
-{
-    Ok(Line::Import {
-        database: text(alloc, given, &DATABASE)?,
-        kind: import(given),
-        id: text(alloc, given, &ID)?,
-        file: text(alloc, given, &FILE)?,
-    })
-}
-
-/// The line `open-round`.
-fn open_line(alloc: Global, given: &ArgMatches<'_>) -> Result<Line, AllocError>
-    requires { AreGiven (codes "open-round") (rows_of (found_of given.now)) }
-    ensures { IfOk result (IsLineOf (codes "open-round") (rows_of (found_of given.now))) }
-{
-    Ok(Line::OpenRound {
-        database: text(alloc, given, &DATABASE)?,
-        aim: aim(given),
-    })
-}
-
-/// The line `report`.
-fn report_line(alloc: Global, given: &ArgMatches<'_>) -> Result<Line, AllocError>
-    requires { AreGiven (codes "report") (rows_of (found_of given.now)) }
-    ensures { IfOk result (IsLineOf (codes "report") (rows_of (found_of given.now))) }
-{
-    Ok(Line::Report {
-        database: text(alloc, given, &DATABASE)?,
-        kind: report(given),
-        round: number(given, &ROUND),
-    })
-}
-
 /// The line of the subcommand that was used.
 fn line_of(alloc: Global, name: &str, given: &ArgMatches<'_>) -> Result<Line, AllocError>
     requires { AreGiven name.now (rows_of (found_of given.now)) }
     ensures { IfOk result (IsLineOf name.now (rows_of (found_of given.now))) }
 {
     match name {
-        "serve" => serve_line(alloc, given),
-        "import" => import_line(alloc, given),
-        "open-round" => open_line(alloc, given),
+        "serve" => Ok(Line::Serve {
+            database: text(alloc, given, &DATABASE)?,
+            port: port(given),
+            count: number(given, &COUNT),
+        }),
+        "import" => Ok(Line::Import {
+            database: text(alloc, given, &DATABASE)?,
+            kind: import(given),
+            id: text(alloc, given, &ID)?,
+            file: text(alloc, given, &FILE)?,
+        }),
+        "open-round" => Ok(Line::OpenRound {
+            database: text(alloc, given, &DATABASE)?,
+            aim: aim(given),
+        }),
         "reopen-round" => Ok(Line::ReopenRound(text(alloc, given, &DATABASE)?)),
         "close-round" => Ok(Line::CloseRound(text(alloc, given, &DATABASE)?)),
-        "report" => report_line(alloc, given),
+        "report" => Ok(Line::Report {
+            database: text(alloc, given, &DATABASE)?,
+            kind: report(given),
+            round: number(given, &ROUND),
+        }),
         "solve" => Ok(Line::Solve(text(alloc, given, &FILE)?)),
         "check" => Ok(Line::Check(text(alloc, given, &FILE)?)),
         _ => unreachable!(),

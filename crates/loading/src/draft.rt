@@ -86,7 +86,7 @@ fn add_choice(
 
 impl Draft {
     /// Nothing yet. Takes no memory.
-    pub(crate) fn new(alloc: Global) -> Self
+    pub fn new(alloc: Global) -> Self
         ensures { drafted result ≡ empty }
     {
         Draft {

@@ -16,8 +16,9 @@ ghost use Rattle.rolls.specs.Refusing.{first, plain_refusal, refusal_of, round_t
 ghost use Rattle.rolls.specs.Answers.{Answers, IsDone};
 ghost use Rattle.rolls.specs.From.{AreRowsOf};
 ghost use Rattle.row_changes.specs.Changes.{changes_of};
+ghost use Rattle.loading.specs.View.{drafted};
 
-use loading::{RowsFault, gather};
+use loading::{Draft, RowsFault, gather};
 use rolls::{
     Done, Entries, Import, Placement, Plain, Project, Refusal, Reply, Request, Round, RoundAim,
     Row, Student, Supervisor,
@@ -55,15 +56,23 @@ impl Office {
     pub fn new(alloc: Global) -> Self
         ensures empty { result ≡ empty }
     {
+        Office::of(alloc, Draft::new(alloc))
+    }
+
+    /// The office of these parts.
+    fn of(alloc: Global, draft: Draft) -> Self
+        requires { IsFit (drafted draft) }
+        ensures { result ≡ drafted draft }
+    {
         Office {
             alloc,
-            supervisors: Entries::new(alloc),
-            projects: Entries::new(alloc),
-            students: Entries::new(alloc),
-            rounds: Entries::new(alloc),
-            aims: Entries::new(alloc),
-            placements: Entries::new(alloc),
-            imports: Entries::new(alloc),
+            supervisors: draft.supervisors,
+            projects: draft.projects,
+            students: draft.students,
+            rounds: draft.rounds,
+            aims: draft.aims,
+            placements: draft.placements,
+            imports: draft.imports,
         }
     }
 
@@ -72,19 +81,7 @@ impl Office {
         ensures rows { IfOk result (λ office. AreRowsOf rows.items office) }
         ensures unfit { result ≡ Err RowsFault.Unfit → (o : State) → IsFit o → AreRowsOf rows.items o → ⊥ }
     {
-        match gather(alloc, &rows) {
-            Ok(draft) => Ok(Office {
-                alloc,
-                supervisors: draft.supervisors,
-                projects: draft.projects,
-                students: draft.students,
-                rounds: draft.rounds,
-                aims: draft.aims,
-                placements: draft.placements,
-                imports: draft.imports,
-            }),
-            Err(fault) => Err(fault),
-        }
+        Ok(Office::of(alloc, gather(alloc, &rows)?))
     }
 
     /// The same office. Both share the entries until either changes.

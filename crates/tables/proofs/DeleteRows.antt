@@ -1,5 +1,5 @@
 -- DELETE of the rows that the given values find.
-use Rattle.std.proofs.Common.{◌≡◌, ℕ, ◌+◌, List, [], ◌∷◌, slice_get, slice_range, Option, Some, None, Ok, Err, sym, ap, subst, ◌∙◌, Bool, true, not, map, filter}
+use Rattle.std.proofs.Common.{◌≡◌, ℕ, List, [], ◌∷◌, slice_get, Option, Some, None, Ok, sym, ap, subst, ◌∙◌, Bool, true, not, map, filter}
 use Rattle.std.specs.List.Sorted.{IsPermutation}
 use Rattle.std.proofs.lemmas.List.Sorted.{IsPermutation-map}
 use Rattle.sqlite_keyed.proofs.ListLemmas.{IsPermutation-filter, map-map}
@@ -7,21 +7,13 @@ use Rattle.sqlite.specs.Schema.{Schema}
 use Rattle.sqlite.specs.Table.{Table}
 use Rattle.sqlite.specs.Kind.{Kind}
 use Rattle.sqlite.specs.Order.{Row}
-use Rattle.sqlite.specs.Compile.{compiled, first, timed, returning, command, delete, shows, small}
-use Rattle.sqlite_syntax.specs.declared.statement.Parsed.{Parsed}
 use Rattle.sqlite_ast.specs.declared.Statement.TheVariants as written
 use Rattle.sqlite_ast.specs.declared.Expr.{Expr}
 use Rattle.sqlite_resolve.specs.Write.{deleted}
-use Rattle.sqlite_resolve.specs.Program.{program}
-use Rattle.sqlite_resolve.specs.declared.error.CompileError.TheVariants.{NoSuchTable}
-use Rattle.sqlite_resolve.specs.declared.compiled.Compiled.{Compiled}
 use Rattle.sqlite_sql.specs.Term.{Term, col}
 use Rattle.sqlite_schema.specs.declared.program.Program.{Program}
-use Rattle.sqlite.specs.Listing.{listing_schema, if_select}
-use Rattle.sqlite.specs.Calls.{IsWrite}
-use Rattle.sqlite.specs.Command.{Command}
 use Rattle.sqlite.specs.Command.TheVariants.{Delete}
-use Rattle.sqlite.specs.State.{State, Executes, mode_of, text_of}
+use Rattle.sqlite.specs.State.{State, Executes, mode_of}
 use Rattle.sqlite.specs.Tree.{rowid}
 use Rattle.sqlite.specs.Effect.{Database, Answers}
 use Rattle.sqlite.specs.Rows.{Written}
@@ -32,49 +24,25 @@ use Rattle.sqlite.specs.Rowids.TheVariants.{Given}
 use Rattle.sqlite_rules.specs.Calls.{ids_of}
 use Rattle.sqlite_rules.specs.Action.{works}
 use Rattle.sqlite.proofs.Callers.{one_step}
-use Rattle.tables.specs.Table.{Place, Shape, Lists, cells, are_of, made_at}
+use Rattle.tables.specs.Table.{Place, Shape, cells, are_of, made_at}
 use Rattle.tables.specs.Inside.Keyed.{id_of}
 use Rattle.tables.specs.Keyed.{IsKeyed}
 use Rattle.tables.specs.Writes.{Removes}
 use Rattle.tables.proofs.Places.{listed_along}
 use Rattle.tables.proofs.InsertKeyed.{went, same_value}
-use Rattle.tables.proofs.Understood.{planned_of, Means, IsWriteText, runs_by, and_then_ok, ends_in_write, on_table_writes, compiles_to_write}
+use Rattle.tables.proofs.Understood.{IsWriteText, runs_by}
 use Rattle.tables.proofs.RowidsOut.{taken_out, still_keyed, map_filter}
-use Rattle.tables.proofs.InsertRow.{Has, has_listed, on_table_is}
-use Rattle.tables.proofs.QueryRows.{found_program, accepted, hit, found}
+use Rattle.tables.proofs.InsertRow.{Has, has_listed}
+use Rattle.tables.proofs.QueryRows.{found_program, IsDrafted, drafted_writes, drafted_means, hit, found}
 use Rattle.tables.proofs.SelectAll.{finding}
 
 -- A text that deletes, read under any schema that lists a table of this shape, and what its test finds, as the table is STRICT or not, by parameters of these kinds.
 pub record IsDelete (sql : List ℕ) (shape : Shape) (kinds : List Kind) (goes : Row → Row → Bool) : Type 0 where
-  pub p : Parsed
   pub test : Expr
   pub tests : Bool → List Term
-  pub parsed : first sql ≡ Ok p
-  pub statement : p.statement ≡ written.Delete shape.name (Some test) []
-  pub plain : p.formats ≡ []
-  pub whole : slice_range sql p.start p.end ≡ sql
-  pub unlisted : if_select (compiled listing_schema sql) ≡ Err NoSuchTable
+  pub drafted : IsDrafted sql shape.name (written.Delete shape.name (Some test) []) (λ schema at table. deleted schema at table (Some test)) Delete
   pub draft : (schema : Schema) (at : ℕ) (place : Place) → Has schema shape.name at (made_at shape place) → deleted schema at (made_at shape place) (Some test) ≡ Ok (finding place.tree (tests place.rules.is_strict) (col 1 0 ∷ []))
   pub hits : (place : Place) (key : Row) → are_of kinds key ≡ true → (r : Row) → hit (tests place.rules.is_strict) (col 1 0 ∷ []) key r ≡ goes key (cells (made_at shape place) r)
-
-module _ (sql : List ℕ) (shape : Shape) (kinds : List Kind) (goes : Row → Row → Bool) (it : IsDelete sql shape kinds goes) (schema : Schema) (place : Place) (listed : Lists schema (made_at shape place)) where
-  abbrev found_by : Program
-  found_by = found_program place.tree (it.tests place.rules.is_strict) (col 1 0 ∷ [])
-
-  delete_command : (k : Command) → command schema [] (small it.p.names + small []) (written.Delete shape.name (Some it.test) []) ≡ Ok k → k ≡ Delete listed.at found_by
-  unfolding command delete program
-  delete_command k h =
-      let has = has_listed schema (made_at shape place) listed in
-      accepted _ found_by (λ p. Delete listed.at p) k (rw (it.draft schema listed.at place has) at (sym (on_table_is schema shape.name listed.at (made_at shape place) _ has) ∙ h))
-
-  delete_means : Means schema sql (Delete listed.at found_by) sql
-  unfolding returning shows timed
-  delete_means c h =
-      let p = planned_of schema sql it.p c it.unlisted it.parsed h in
-      let q = rw (it.plain, it.statement) at p in
-      let k = delete_command q.1 q.3 in
-      let none : q.0 ≡ None = let e = q.2 in cc in
-      (ap (λ (it : Compiled). it.command) q.4 ∙ k, ap (λ (it : Compiled). it.returning) q.4 ∙ none, ap (λ (it : Compiled). it.formats) q.4, ap (text_of sql) q.4 ∙ it.whole)
 
 -- what a DELETE does where no foreign key acts
 pub delete_does : (limit : Option ℕ) (mode : Mode) (params : Row) (db after : Database) (text : List ℕ) (at : ℕ) (table : Table) (q : Program) (tally : Tally)
@@ -92,15 +60,9 @@ delete_does limit mode params db after text at table q tally there inert h =
     (ap (λ (d : Database). d.schema) now, given.0, given.1, subst (Applies db.schema mode.keys db.trees edit) (sym (ap (λ (d : Database). d.trees) now ∙ trees)) made)
 
 module _ (sql : List ℕ) (shape : Shape) (kinds : List Kind) (goes : Row → Row → Bool) (it : IsDelete sql shape kinds goes) where
-  some_delete : (schema : Schema) (base : ℕ) (k : Command) → command schema [] base (written.Delete shape.name (Some it.test) []) ≡ Ok k → IsWrite k
-  unfolding command delete
-  some_delete schema base k = on_table_writes schema shape.name _ k (λ at table h.
-      let planned = and_then_ok (deleted schema at table (Some it.test)) _ k h in
-      ends_in_write (program schema [] planned.0) (λ p. Delete at p) k (λ p. tt) planned.2)
-
   -- the text is that of a write
   pub delete_writes : IsWriteText sql
-  delete_writes = compiles_to_write sql it.p it.parsed (λ schema base k h. some_delete schema base k (rw (it.plain, it.statement) at h))
+  delete_writes = drafted_writes sql shape _ _ Delete it.drafted (λ at q. tt)
 
   -- a DELETE that went through took out the rows that its parameters find, and nothing else
   pub delete_removes : (old new : State) (key : Row) (count : ℕ) → are_of kinds key ≡ true → Executes sql key old new (Ok count) → Removes (made_at shape) (goes key) old.now new.now
@@ -111,7 +73,7 @@ module _ (sql : List ℕ) (shape : Shape) (kinds : List Kind) (goes : Row → Ro
       let here = old.now.trees place.tree in
       let finds = hit (it.tests place.rules.is_strict) (col 1 0 ∷ []) key in
       let q = found_program place.tree (it.tests place.rules.is_strict) (col 1 0 ∷ []) in
-      let w = runs_by sql key old new count (Delete listed.at q) sql (delete_means sql shape kinds goes it old.now.schema place listed) ran in
+      let w = runs_by sql key old new count (Delete listed.at q) sql (drafted_means sql shape _ _ Delete it.drafted old.now.schema place _ _ listed (it.draft old.now.schema listed.at place (has_listed old.now.schema t listed))) ran in
       let done = delete_does old.step_limit (mode_of old) key old.now new.now sql listed.at t q w.tally listed.there (λ olds. inert olds []) w.changed in
       let got = found (it.tests place.rules.is_strict) (col 1 0 ∷ []) key old.now place.tree done.1 done.2 in
       let ids : IsPermutation (map id_of (filter finds here)) (ids_of done.1) =

@@ -1,5 +1,5 @@
 -- A table that passes the tests is one of its shape, at its place.
-use Rattle.std.proofs.Common.{◌≡◌, inl, inr, ℕ, Bool, true, false, not, ◌==◌, ◌||◌, if◌then◌else◌, List, [], ◌∷◌, length, slice_get, Option, Some, None, map, refl, sym, ap, subst, ◌∙◌, arith}
+use Rattle.std.proofs.Common.{◌≡◌, inl, inr, ℕ, Bool, true, false, not, ◌==◌, ◌&&◌, ◌||◌, if◌then◌else◌, List, [], ◌∷◌, length, slice_get, Option, Some, None, map, refl, sym, ap, subst, ◌∙◌, arith}
 use Rattle.std.specs.Option.{option_map_or}
 use Rattle.std.specs.List.{list_all}
 use Rattle.std.specs.Str.{bytes_eq}
@@ -19,14 +19,12 @@ use Rattle.sqlite_value.specs.declared.keys.Collation.TheVariants as collation
 use Rattle.sqlite_value.specs.declared.keys.Order.{Order}
 use Rattle.sqlite_schema.specs.declared.schema.Column.{Column}
 use Rattle.sqlite_schema.specs.declared.schema.Reference.{Reference}
-use Rattle.sqlite_schema.specs.declared.schema.Action.{Action}
-use Rattle.sqlite_schema.specs.declared.schema.Action.TheVariants as action
 use Rattle.sqlite_schema.specs.Rules.{kind_code}
 use Rattle.row_data.specs.declared.table.Table.{Table as Ours}
 use Rattle.tables.specs.Table.{Shape, shape_of, table_at, Place, all_referring, kind_in, required, referring, ascending, made_at}
-use Rattle.tables.specs.Inside.Inert.{is_passive}
 use Rattle.tables.specs.Inside.Layout.{is_nothing, is_binary, same_key, are_of_one, are_strict, is_alone, is_bare, is_required, is_referring, are_told, are_plain, is_untimed, has_shape, IsNamed, place_of}
 use Rattle.tables.specs.Layout.{IsListed}
+use Rattle.tables.proofs.Quiet.{passive_is}
 
 same_bytes : (a b : List ℕ) → bytes_eq a b ≡ true → a ≡ b
 same_bytes a b h = (bytes_eq-Decides a b).0 h
@@ -46,13 +44,6 @@ binary_is collation.Binary h = refl
 binary_is collation.NoCase h = absurd (cc)
 binary_is collation.RTrim h = absurd (cc)
 
-passive_is : (a : Action) → is_passive a ≡ true → a ≡ action.NoAction
-passive_is action.NoAction h = refl
-passive_is action.Restrict h = absurd (cc)
-passive_is action.Cascade h = absurd (cc)
-passive_is action.SetNull h = absurd (cc)
-passive_is action.SetDefault h = absurd (cc)
-
 kind_is : (a b : Kind) → (kind_code a == kind_code b) ≡ true → a ≡ b
 kind_is Integer Integer h = refl
 kind_is Real Real h = refl
@@ -61,19 +52,26 @@ kind_is Blob Blob h = refl
 kind_is Any Any h = refl
 kind_is _ _ h = absurd (cc)
 
+-- what holds of four holds of each, and so on
+four_parts : (a b c d : Bool) → (a && b && c && d) ≡ true → (a ≡ true) × (b ≡ true) × (c ≡ true) × (d ≡ true)
+four_parts a b c d h = let p = and_parts (a && b && c) d h in let q = and_parts (a && b) c p.0 in let r = and_parts a b q.0 in (r.0, r.1, q.1, p.1)
+
+five_parts : (a b c d e : Bool) → (a && b && c && d && e) ≡ true → (a ≡ true) × (b ≡ true) × (c ≡ true) × (d ≡ true) × (e ≡ true)
+five_parts a b c d e h = let p = and_parts (a && b && c && d) e h in let q = four_parts a b c d p.0 in (q.0, q.1, q.2, q.3, p.1)
+
+six_parts : (a b c d e f : Bool) → (a && b && c && d && e && f) ≡ true → (a ≡ true) × (b ≡ true) × (c ≡ true) × (d ≡ true) × (e ≡ true) × (f ≡ true)
+six_parts a b c d e f h = let p = and_parts (a && b && c && d && e) f h in let q = five_parts a b c d e p.0 in (q.0, q.1, q.2, q.3, q.4, p.1)
+
 required_is : (is_strict : Bool) (told : List ℕ × Kind) (c : Column) → c.is_strict ≡ is_strict → is_required told c ≡ true → c ≡ required is_strict told
 required_is is_strict told c strict h =
-    let a = and_parts _ _ h in
-    let b = and_parts _ _ a.0 in
-    let d = and_parts _ _ b.0 in
-    let e = and_parts _ _ d.0 in
+    let p = five_parts _ _ _ _ _ h in
     λ i. record {
-      name = same_bytes c.name told.0 e.0 i;
-      kind = (kind_is c.kind (kind_in told.1 c.is_strict) e.1 ∙ ap (kind_in told.1) strict) i;
+      name = same_bytes c.name told.0 p.0 i;
+      kind = (kind_is c.kind (kind_in told.1 c.is_strict) p.1 ∙ ap (kind_in told.1) strict) i;
       is_strict = strict i;
-      not_null = d.1 i;
-      default = nothing_is c.default b.1 i;
-      collation = binary_is c.collation a.1 i;
+      not_null = p.2 i;
+      default = nothing_is c.default p.3 i;
+      collation = binary_is c.collation p.4 i;
     }
 
 -- lists whose entries are as they are told are made of what is told
@@ -141,18 +139,14 @@ named_is name names false is h =
 
 referring_is : (link : ℕ × List ℕ × List ℕ) (r : Reference) → is_referring link r ≡ true → r ≡ referring (is_bare r) link
 referring_is link r h =
-    let a = and_parts _ _ h in
-    let b = and_parts _ _ a.0 in
-    let c = and_parts _ _ b.0 in
-    let d = and_parts _ _ c.0 in
-    let e = and_parts _ _ d.0 in
+    let p = six_parts _ _ _ _ _ _ h in
     λ i. record {
-      columns = same_bytes r.columns (link.0 ∷ []) e.0 i;
-      parent = same_bytes r.parent link.1 e.1 i;
-      parent_columns = named_is link.2 r.parent_columns (is_bare r) refl d.1 i;
-      on_delete = passive_is r.on_delete c.1 i;
-      on_update = passive_is r.on_update b.1 i;
-      is_deferred = falls r.is_deferred a.1 i;
+      columns = same_bytes r.columns (link.0 ∷ []) p.0 i;
+      parent = same_bytes r.parent link.1 p.1 i;
+      parent_columns = named_is link.2 r.parent_columns (is_bare r) refl p.2 i;
+      on_delete = passive_is r.on_delete p.3 i;
+      on_update = passive_is r.on_update p.4 i;
+      is_deferred = falls r.is_deferred p.5 i;
     }
 
 -- references that are told, some of which may be bare
@@ -188,34 +182,25 @@ record IsUntimed (t : Table) : Type 0 where
 
 untimed_is : (t : Table) → is_untimed t ≡ true → IsUntimed t
 untimed_is t h =
-    let a = and_parts _ _ h in
-    let b = and_parts _ _ a.0 in
-    let c = and_parts _ _ b.0 in
-    let d = and_parts _ _ c.0 in
-    record { computed = empty_is _ (same_number _ _ d.0); places = empty_is _ (same_number _ _ d.1); terms = empty_is _ (same_number _ _ c.1); formats = empty_is _ (same_number _ _ b.1); counted = falls _ a.1 }
+    let p = five_parts _ _ _ _ _ h in
+    record { computed = empty_is _ (same_number _ _ p.0); places = empty_is _ (same_number _ _ p.1); terms = empty_is _ (same_number _ _ p.2); formats = empty_is _ (same_number _ _ p.3); counted = falls _ p.4 }
 
 -- what passes for a table of a shape is one
 pub shape_is : (shape : Shape) (t : Table) → has_shape shape t ≡ true → t ≡ made_at shape (place_of t)
 shape_is shape t h =
-    let a = and_parts _ _ h in
-    let b = and_parts _ _ a.0 in
-    let o = and_parts _ _ b.0 in
-    let c = and_parts _ _ o.0 in
-    let d = and_parts _ _ c.0 in
-    let k = and_parts _ _ d.1 in
-    let l = and_parts _ _ k.0 in
-    let m = and_parts _ _ l.0 in
-    let u = untimed_is t a.1 in
+    let p = six_parts _ _ _ _ _ _ h in
+    let k = four_parts _ _ _ _ p.1 in
+    let u = untimed_is t p.5 in
     λ i. record {
-      name = same_bytes t.name shape.name d.0 i;
+      name = same_bytes t.name shape.name p.0 i;
       tree = t.tree;
-      columns = one_kind shape.columns t.columns o.1 c.1 i;
-      key = same_key_is t.key shape.key m.0 i;
-      primary = same_bytes t.primary shape.primary m.1 i;
-      uniques = (told_are (λ places list. bytes_eq list places) (λ places. places) (λ places list. same_bytes list places) shape.uniques t.uniques l.1 ∙ map-id shape.uniques) i;
-      orders = plain_are (length shape.uniques) t.orders k.1 i;
+      columns = one_kind shape.columns t.columns p.3 p.2 i;
+      key = same_key_is t.key shape.key k.0 i;
+      primary = same_bytes t.primary shape.primary k.1 i;
+      uniques = (told_are (λ places list. bytes_eq list places) (λ places. places) (λ places list. same_bytes list places) shape.uniques t.uniques k.2 ∙ map-id shape.uniques) i;
+      orders = plain_are (length shape.uniques) t.orders k.3 i;
       checks = t.checks;
-      references = all_referring_are shape.links t.references b.1 i;
+      references = all_referring_are shape.links t.references p.4 i;
       computed = u.computed i;
       stamps = record { places = u.places i; terms = u.terms i; formats = u.formats i };
       is_counted = u.counted i;

@@ -1,5 +1,5 @@
 -- The rows that a statement over one table finds.
-use Rattle.std.proofs.Common.{◌≡◌, ℕ, List, [], ◌∷◌, ◌++◌, Ok, Err, ap, refl, sym, subst₂, ◌∙◌, false, Bool, true, if◌then◌else◌, cond, map, filter}
+use Rattle.std.proofs.Common.{◌≡◌, ℕ, List, [], ◌∷◌, ◌++◌, slice_range, None, Ok, Err, ap, refl, sym, subst₂, ◌∙◌, false, Bool, true, if◌then◌else◌, cond, map, filter}
 use Rattle.std.specs.List.{flat_map, list_all}
 use Rattle.std.specs.List.Sorted.{IsPermutation}
 use Rattle.std.proofs.lemmas.List.Sorted.{IsPermutation-map}
@@ -13,7 +13,22 @@ use Rattle.sqlite.specs.Command.{Command}
 use Rattle.sqlite.specs.Program.{overlay}
 use Rattle.sqlite.specs.Order.{Row}
 use Rattle.sqlite.specs.Effect.{Database, Answers}
-use Rattle.tables.proofs.SelectAll.{no_overlay, found_query}
+use Rattle.sqlite.specs.Schema.{Schema}
+use Rattle.sqlite.specs.Table.{Table}
+use Rattle.sqlite.specs.Calls.{IsWrite}
+use Rattle.sqlite.specs.Compile.{compiled, first, timed, returning, command, on_table}
+use Rattle.sqlite.specs.Listing.{listing_schema, if_select}
+use Rattle.sqlite.specs.State.{text_of}
+use Rattle.sqlite_syntax.specs.declared.statement.Parsed.{Parsed}
+use Rattle.sqlite_ast.specs.declared.Statement.{Statement}
+use Rattle.sqlite_draft.specs.declared.query.Draft.{Draft}
+use Rattle.sqlite_resolve.specs.Program.{program}
+use Rattle.sqlite_resolve.specs.declared.compiled.Compiled.{Compiled}
+use Rattle.sqlite_resolve.specs.declared.error.CompileError.TheVariants.{NoSuchTable}
+use Rattle.tables.specs.Table.{Place, Shape, Lists, made_at}
+use Rattle.tables.proofs.Understood.{planned_of, Means, IsWriteText, and_then_ok, ends_in_write, on_table_writes, compiles_to_write}
+use Rattle.tables.proofs.InsertRow.{has_listed, on_table_is}
+use Rattle.tables.proofs.SelectAll.{finding, no_overlay, found_query}
 
 abbrev pub found_program : ℕ → List Term → List Term → Program
 found_program tree tests project = record { lets = []; body = found_query tree tests project }
@@ -22,6 +37,42 @@ found_program tree tests project = record { lets = []; body = found_query tree t
 pub accepted : (b : Bool) (p : Program) (f : Program → Command) (k : Command) → ◌≡◌ {A = Checked Command} (and_then (if b then Ok p else Err Mismatch) (λ p. Ok (f p))) (Ok k) → k ≡ f p
 accepted true p f k h = cc
 accepted false p f k h = absurd (cc)
+
+-- a text whose statement is compiled over the table of this name, by what it drafts there, to a command over the rows that the draft finds
+pub record IsDrafted (sql name : List ℕ) (s : Statement) (draft : Schema → ℕ → Table → Checked Draft) (make : ℕ → Program → Command) : Type 0 where
+  pub p : Parsed
+  pub parsed : first sql ≡ Ok p
+  pub statement : p.statement ≡ s
+  pub plain : p.formats ≡ []
+  pub whole : slice_range sql p.start p.end ≡ sql
+  pub unlisted : if_select (compiled listing_schema sql) ≡ Err NoSuchTable
+  pub untimed : (schema : Schema) → timed schema [] s ≡ []
+  pub shows : (schema : Schema) (base : ℕ) → returning schema base s ≡ Ok None
+  pub commands : (schema : Schema) (base : ℕ) → command schema [] base s ≡ on_table schema name (λ at table. and_then (draft schema at table) (λ d. and_then (program schema [] d) (λ q. Ok (make at q))))
+
+module _ (sql : List ℕ) (shape : Shape) (s : Statement) (draft : Schema → ℕ → Table → Checked Draft) (make : ℕ → Program → Command) (it : IsDrafted sql shape.name s draft make) where
+  -- the text is that of a write, where such a command is one
+  pub drafted_writes : ((at : ℕ) (q : Program) → IsWrite (make at q)) → IsWriteText sql
+  drafted_writes writes = compiles_to_write sql it.p it.parsed (λ schema base k h. on_table_writes schema shape.name _ k (λ at table e.
+      let planned = and_then_ok (draft schema at table) _ k e in
+      ends_in_write (program schema [] planned.0) (make at) k (writes at) planned.2) (sym (it.commands schema base) ∙ rw (it.plain, it.statement) at h))
+
+  module _ (schema : Schema) (place : Place) (tests project : List Term) (listed : Lists schema (made_at shape place))
+      (drafts : draft schema listed.at (made_at shape place) ≡ Ok (finding place.tree tests project)) where
+    found_command : (base : ℕ) (k : Command) → command schema [] base s ≡ Ok k → k ≡ make listed.at (found_program place.tree tests project)
+    unfolding program
+    found_command base k h =
+        let over = on_table_is schema shape.name listed.at (made_at shape place) _ (has_listed schema (made_at shape place) listed) in
+        accepted _ (found_program place.tree tests project) (make listed.at) k (rw drafts at (sym over ∙ sym (it.commands schema base) ∙ h))
+
+    -- the text means the command over the rows that these tests find
+    pub drafted_means : Means schema sql (make listed.at (found_program place.tree tests project)) sql
+    drafted_means c h =
+        let p = planned_of schema sql it.p c it.unlisted it.parsed h in
+        let q = rw (it.plain, it.statement, it.untimed schema) at p in
+        let k = found_command _ q.1 q.3 in
+        let none : q.0 ≡ None = let e = sym q.2 ∙ it.shows schema _ in cc in
+        (ap (λ (it : Compiled). it.command) q.4 ∙ k, ap (λ (it : Compiled). it.returning) q.4 ∙ none, ap (λ (it : Compiled). it.formats) q.4, ap (text_of sql) q.4 ∙ it.whole)
 
 module _ (tests project : List Term) (params : Row) where
   -- whether the tests find a row

@@ -9,7 +9,7 @@ use Rattle.sqlite.specs.Order.{Row}
 use Rattle.sqlite.specs.Schema.{Schema}
 use Rattle.sqlite.specs.Table.{Table}
 use Rattle.sqlite_schema.specs.declared.schema.Action.{Action}
-use Rattle.sqlite_schema.specs.declared.schema.Action.TheVariants.{NoAction, Restrict, Cascade, SetNull, SetDefault}
+use Rattle.sqlite_schema.specs.declared.schema.Action.TheVariants.{NoAction}
 use Rattle.sqlite_schema.specs.declared.schema.Keys.TheVariants.{Enforced}
 use Rattle.sqlite_schema.specs.declared.schema.Reference.{Reference}
 use Rattle.sqlite_schema.specs.Names.{same_name}
@@ -21,12 +21,10 @@ use Rattle.tables.specs.Writes.{IsInert}
 use Rattle.tables.specs.Inside.Inert.{is_passive, refers_to, is_quiet, is_inert}
 use Rattle.tables.specs.Inert.{IsActedOn}
 
-passive_is : (a : Action) → is_passive a ≡ true → a ≡ NoAction
+-- an action that is passive is NO ACTION
+pub passive_is : (a : Action) → is_passive a ≡ true → a ≡ NoAction
 passive_is NoAction h = refl
-passive_is Restrict h = absurd (true≢false (sym h))
-passive_is Cascade h = absurd (true≢false (sym h))
-passive_is SetNull h = absurd (true≢false (sym h))
-passive_is SetDefault h = absurd (true≢false (sym h))
+passive_is _ h = absurd (true≢false (sym h))
 
 no_deed : (b : Bool) (ref : Reference) → ref.on_delete ≡ NoAction → ref.on_update ≡ NoAction → deed_for Enforced b ref ≡ None
 no_deed true ref p q = rw p refl

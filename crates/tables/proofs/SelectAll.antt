@@ -27,6 +27,7 @@ use Rattle.sqlite.specs.Command.{Command}
 use Rattle.sqlite.specs.Command.TheVariants as command
 use Rattle.sqlite_schema.specs.declared.program.Table.{Table as Let}
 use Rattle.sqlite_draft.specs.declared.query.Draft.{Draft}
+use Rattle.sqlite_draft.specs.Query.{query_of}
 use Rattle.sqlite_draft.specs.declared.join.Step.TheVariants.{Inner}
 use Rattle.sqlite_schema.specs.declared.program.Program.{Program}
 use Rattle.sqlite_resolve.specs.declared.error.CompileError.TheVariants.{NoSuchTable, Mismatch}
@@ -161,17 +162,7 @@ finding tree tests project = record {
 
 -- and as it is run
 abbrev pub found_query : ℕ → List Term → List Term → Query
-found_query tree tests project = record {
-  from = inner tree end;
-  filter = tests;
-  group = None;
-  project = project;
-  distinct = false;
-  collations = [];
-  order = [];
-  limit = lit (Int (negsuc 0));
-  offset = lit (Int (pos 0));
-}
+found_query tree tests project = query_of (finding tree tests project)
 
 abbrev draft : ℕ → List Output → Draft
 draft tree outs = finding tree [] (map (λ (o : Output). o.term) outs)

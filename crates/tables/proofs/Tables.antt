@@ -10,11 +10,12 @@ use Rattle.sqlite.specs.declared.types.Value.TheVariants.{Int, Text as Words}
 use Rattle.sqlite_value.specs.Keys.{first_key}
 use Rattle.row_data.specs.declared.table.Table.{Table}
 use Rattle.row_data.specs.declared.table.Table.TheVariants.{Edition, Supervisor, Project, Student, Round, OldChoice, OldPlacement, Import, RoundAim, Choice, Placement}
-use Rattle.tables.specs.Table.{Place, cells, choices, made_at, shape_of, sharing, table_at}
+use Rattle.tables.specs.Table.{Place, cells, choices, kinds_of, made_at, shape_of, sharing, table_at}
 use Rattle.tables.specs.Writes.{begins_with, goes_on}
 use Rattle.tables.specs.declared.table.Group.{Group}
 use Rattle.tables.specs.declared.table.Group.TheVariants as group
-use Rattle.tables.proofs.Texts.{Anywhere, AreTested, Removal, Removes, Texts, either}
+use Rattle.tables.proofs.Apart.{HasKey}
+use Rattle.tables.proofs.Texts.{Anywhere, AreFound, AreRead, AreTested, Each, Gives, IsShown, Removal, Removes, Texts, either}
 use Rattle.tables.proofs.Forms.{finds_of, values_of}
 use Rattle.tables.proofs.InsertRow.{cast_bytes, cast_null, cast_int}
 use Rattle.tables.proofs.QueryRows.{hit}
@@ -40,97 +41,60 @@ unfolding unary
 placed_found true at round r = refl
 placed_found false at round r = refl
 
+-- the texts of each table are read; here and below the clause for the other tables is checked for each of them
+are_read : (table : Table) → AreRead table
+unfolding everything listing_schema first_key
+are_read Edition = record { body = _; create = refl; insert = refl; update = refl; delete = refl; select = refl; defined = refl; unlisted = refl; laid = λ schema place base. refl; shows = λ place r. refl }
+are_read _ = record { body = _; create = refl; insert = refl; update = refl; delete = refl; select = refl; defined = refl; unlisted = refl; laid = λ schema place base. refl; shows = λ place r. refl }
+
+-- their tests are resolved, those of a key that is no rowid as the table is STRICT or not
+are_tested : (table : Table) (is_strict : Bool) → Anywhere table (AreTested table) is_strict
+unfolding everything listing_schema first_key
+are_tested Edition is_strict schema at tree bare checks there = record { removal = rw there (rw there refl); change = rw there (rw there refl) }
+are_tested Round is_strict schema at tree bare checks there = record { removal = rw there (rw there refl); change = rw there (rw there refl) }
+are_tested RoundAim is_strict schema at tree bare checks there = record { removal = rw there (rw there refl); change = rw there (rw there refl) }
+are_tested _ true schema at tree bare checks there = record { removal = rw there (rw there (rw there refl)); change = rw there (rw there (rw there refl)) }
+are_tested _ false schema at tree bare checks there = record { removal = rw there (rw there (rw there refl)); change = rw there (rw there (rw there refl)) }
+
+-- so are their columns
+are_shown : (table : Table) → IsShown table
+unfolding everything listing_schema first_key
+are_shown Edition schema at place there low = rw there (rw low (rw there refl))
+are_shown _ schema at place there low = rw there (rw low (rw there refl))
+
+-- their keys find rows
+are_found : (table : Table) → AreFound table
+unfolding everything listing_schema first_key
+are_found OldChoice at = λ round student place. choice_found (shape_of OldChoice).name at.rules.is_strict at (col 1 0 ∷ []) round student place []
+are_found Choice at = λ round student place. choice_found (shape_of Choice).name at.rules.is_strict at (col 1 0 ∷ []) round student place []
+are_found _ at = λ key r. refl
+
+-- their rows are given, found and set
+are_given : (table : Table) (at : Place) → Each (kinds_of table) (Gives table at)
+unfolding everything listing_schema first_key
+are_given Edition at = λ id number. record { one = refl; added = λ here. rw (cast_int id, cast_int number) refl; shares = λ here r. rw (cast_int id) refl; finds = λ r. refl; set = λ r int same. rw (rowid_is r id int (and_parts _ _ same).0, cast_int id, cast_int number) refl }
+are_given Supervisor at = λ code label quota. record { one = refl; added = λ here. rw (cast_null, cast_int quota) refl; shares = λ here r. rw cast_null refl; finds = λ r. refl; set = λ r int same. rw (cast_int quota) refl }
+are_given Project at = λ code label supervisor quota. record { one = refl; added = λ here. rw (cast_null, cast_int quota) refl; shares = λ here r. rw cast_null refl; finds = λ r. refl; set = λ r int same. rw (cast_int quota) refl }
+are_given Student at = λ code label. record { one = refl; added = λ here. rw cast_null refl; shares = λ here r. rw cast_null refl; finds = λ r. refl; set = λ r int same. refl }
+are_given Round at = λ number is_open. record { one = refl; added = λ here. rw (cast_int number, cast_int is_open) refl; shares = λ here r. rw (cast_int number) refl; finds = λ r. refl; set = λ r int same. rw (rowid_is r number int (and_parts _ _ same).0, cast_int number, cast_int is_open) refl }
+are_given OldChoice at = λ round student place project. record { one = refl; added = λ here. rw (cast_null, cast_int round, cast_int place) refl; shares = λ here r. rw (cast_null, cast_int round, cast_int place) refl; finds = choice_found (shape_of OldChoice).name at.rules.is_strict at (showing (values_of (shape_of OldChoice))) round student place (Words project ∷ []); set = λ r int same. rw (cast_int round, cast_int place) refl }
+are_given OldPlacement at = λ student round project rank. record { one = refl; added = λ here. rw (cast_null, cast_int round, cast_int rank) refl; shares = λ here r. rw cast_null refl; finds = λ r. refl; set = λ r int same. rw (cast_int round, cast_int rank) refl }
+are_given Import at = λ id kind bytes rows. record { one = refl; added = λ here. rw (cast_null, cast_bytes at.rules.is_strict bytes, cast_int rows) refl; shares = λ here r. rw cast_null refl; finds = λ r. refl; set = λ r int same. rw (cast_bytes at.rules.is_strict bytes, cast_int rows) refl }
+are_given RoundAim at = λ round generous. record { one = refl; added = λ here. rw (cast_int round, cast_int generous) refl; shares = λ here r. rw (cast_int round) refl; finds = λ r. refl; set = λ r int same. rw (rowid_is r round int (and_parts _ _ same).0, cast_int round, cast_int generous) refl }
+are_given Choice at = λ round student place project. record { one = refl; added = λ here. rw (cast_null, cast_int round, cast_int place) refl; shares = λ here r. rw (cast_null, cast_int round, cast_int place) refl; finds = choice_found (shape_of Choice).name at.rules.is_strict at (showing (values_of (shape_of Choice))) round student place (Words project ∷ []); set = λ r int same. rw (cast_int round, cast_int place) refl }
+are_given Placement at = λ student round project rank. record { one = refl; added = λ here. rw (cast_null, cast_int round, cast_int rank) refl; shares = λ here r. rw cast_null refl; finds = λ r. refl; set = λ r int same. rw (cast_int round, cast_int rank) refl }
+
+-- and they have keys
+are_keyed : (table : Table) (at : Place) → HasKey (table_at table at)
+unfolding everything listing_schema first_key
+are_keyed Edition at = inl refl
+are_keyed Round at = inl refl
+are_keyed RoundAim at = inl refl
+are_keyed _ at = inr (0, refl, refl)
+
 -- what every table gives
 pub texts : (table : Table) → Texts table
-unfolding everything listing_schema first_key
-texts Edition = record {
-  read = record { body = _; create = refl; insert = refl; update = refl; delete = refl; select = refl; defined = refl; unlisted = refl; laid = λ schema place base. refl; shows = λ place r. refl };
-  tested = λ is_strict schema at tree bare checks there. record { removal = rw there (rw there refl); change = rw there (rw there refl) };
-  all = λ schema at place there low. rw there (rw low (rw there refl));
-  keys = λ at id r. refl;
-  rows = λ at id number. record { one = refl; added = λ here. rw (cast_int id, cast_int number) refl; shares = λ here r. rw (cast_int id) refl; finds = λ r. refl; set = λ r int same. rw (rowid_is r id int (and_parts _ _ same).0, cast_int id, cast_int number) refl };
-  keyed = λ at. inl refl;
-}
-texts Supervisor = record {
-  read = record { body = _; create = refl; insert = refl; update = refl; delete = refl; select = refl; defined = refl; unlisted = refl; laid = λ schema place base. refl; shows = λ place r. refl };
-  tested = λ is_strict. either (Anywhere Supervisor (AreTested Supervisor)) is_strict (λ schema at tree bare checks there. record { removal = rw there (rw there (rw there refl)); change = rw there (rw there (rw there refl)) }) (λ schema at tree bare checks there. record { removal = rw there (rw there (rw there refl)); change = rw there (rw there (rw there refl)) });
-  all = λ schema at place there low. rw there (rw low (rw there refl));
-  keys = λ at code r. refl;
-  rows = λ at code label quota. record { one = refl; added = λ here. rw (cast_null, cast_int quota) refl; shares = λ here r. rw cast_null refl; finds = λ r. refl; set = λ r int same. rw (cast_int quota) refl };
-  keyed = λ at. inr (0, refl, refl);
-}
-texts Project = record {
-  read = record { body = _; create = refl; insert = refl; update = refl; delete = refl; select = refl; defined = refl; unlisted = refl; laid = λ schema place base. refl; shows = λ place r. refl };
-  tested = λ is_strict. either (Anywhere Project (AreTested Project)) is_strict (λ schema at tree bare checks there. record { removal = rw there (rw there (rw there refl)); change = rw there (rw there (rw there refl)) }) (λ schema at tree bare checks there. record { removal = rw there (rw there (rw there refl)); change = rw there (rw there (rw there refl)) });
-  all = λ schema at place there low. rw there (rw low (rw there refl));
-  keys = λ at code r. refl;
-  rows = λ at code label supervisor quota. record { one = refl; added = λ here. rw (cast_null, cast_int quota) refl; shares = λ here r. rw cast_null refl; finds = λ r. refl; set = λ r int same. rw (cast_int quota) refl };
-  keyed = λ at. inr (0, refl, refl);
-}
-texts Student = record {
-  read = record { body = _; create = refl; insert = refl; update = refl; delete = refl; select = refl; defined = refl; unlisted = refl; laid = λ schema place base. refl; shows = λ place r. refl };
-  tested = λ is_strict. either (Anywhere Student (AreTested Student)) is_strict (λ schema at tree bare checks there. record { removal = rw there (rw there (rw there refl)); change = rw there (rw there (rw there refl)) }) (λ schema at tree bare checks there. record { removal = rw there (rw there (rw there refl)); change = rw there (rw there (rw there refl)) });
-  all = λ schema at place there low. rw there (rw low (rw there refl));
-  keys = λ at code r. refl;
-  rows = λ at code label. record { one = refl; added = λ here. rw cast_null refl; shares = λ here r. rw cast_null refl; finds = λ r. refl; set = λ r int same. refl };
-  keyed = λ at. inr (0, refl, refl);
-}
-texts Round = record {
-  read = record { body = _; create = refl; insert = refl; update = refl; delete = refl; select = refl; defined = refl; unlisted = refl; laid = λ schema place base. refl; shows = λ place r. refl };
-  tested = λ is_strict schema at tree bare checks there. record { removal = rw there (rw there refl); change = rw there (rw there refl) };
-  all = λ schema at place there low. rw there (rw low (rw there refl));
-  keys = λ at number r. refl;
-  rows = λ at number is_open. record { one = refl; added = λ here. rw (cast_int number, cast_int is_open) refl; shares = λ here r. rw (cast_int number) refl; finds = λ r. refl; set = λ r int same. rw (rowid_is r number int (and_parts _ _ same).0, cast_int number, cast_int is_open) refl };
-  keyed = λ at. inl refl;
-}
-texts OldChoice = record {
-  read = record { body = _; create = refl; insert = refl; update = refl; delete = refl; select = refl; defined = refl; unlisted = refl; laid = λ schema place base. refl; shows = λ place r. refl };
-  tested = λ is_strict. either (Anywhere OldChoice (AreTested OldChoice)) is_strict (λ schema at tree bare checks there. record { removal = rw there (rw there (rw there refl)); change = rw there (rw there (rw there refl)) }) (λ schema at tree bare checks there. record { removal = rw there (rw there (rw there refl)); change = rw there (rw there (rw there refl)) });
-  all = λ schema at place there low. rw there (rw low (rw there refl));
-  keys = λ at round student place. choice_found (shape_of OldChoice).name at.rules.is_strict at (col 1 0 ∷ []) round student place [];
-  rows = λ at round student place project. record { one = refl; added = λ here. rw (cast_null, cast_int round, cast_int place) refl; shares = λ here r. rw (cast_null, cast_int round, cast_int place) refl; finds = choice_found (shape_of OldChoice).name at.rules.is_strict at (showing (values_of (shape_of OldChoice))) round student place (Words project ∷ []); set = λ r int same. rw (cast_int round, cast_int place) refl };
-  keyed = λ at. inr (0, refl, refl);
-}
-texts OldPlacement = record {
-  read = record { body = _; create = refl; insert = refl; update = refl; delete = refl; select = refl; defined = refl; unlisted = refl; laid = λ schema place base. refl; shows = λ place r. refl };
-  tested = λ is_strict. either (Anywhere OldPlacement (AreTested OldPlacement)) is_strict (λ schema at tree bare checks there. record { removal = rw there (rw there (rw there refl)); change = rw there (rw there (rw there refl)) }) (λ schema at tree bare checks there. record { removal = rw there (rw there (rw there refl)); change = rw there (rw there (rw there refl)) });
-  all = λ schema at place there low. rw there (rw low (rw there refl));
-  keys = λ at student r. refl;
-  rows = λ at student round project rank. record { one = refl; added = λ here. rw (cast_null, cast_int round, cast_int rank) refl; shares = λ here r. rw cast_null refl; finds = λ r. refl; set = λ r int same. rw (cast_int round, cast_int rank) refl };
-  keyed = λ at. inr (0, refl, refl);
-}
-texts Import = record {
-  read = record { body = _; create = refl; insert = refl; update = refl; delete = refl; select = refl; defined = refl; unlisted = refl; laid = λ schema place base. refl; shows = λ place r. refl };
-  tested = λ is_strict. either (Anywhere Import (AreTested Import)) is_strict (λ schema at tree bare checks there. record { removal = rw there (rw there (rw there refl)); change = rw there (rw there (rw there refl)) }) (λ schema at tree bare checks there. record { removal = rw there (rw there (rw there refl)); change = rw there (rw there (rw there refl)) });
-  all = λ schema at place there low. rw there (rw low (rw there refl));
-  keys = λ at id r. refl;
-  rows = λ at id kind bytes rows. record { one = refl; added = λ here. rw (cast_null, cast_bytes at.rules.is_strict bytes, cast_int rows) refl; shares = λ here r. rw cast_null refl; finds = λ r. refl; set = λ r int same. rw (cast_bytes at.rules.is_strict bytes, cast_int rows) refl };
-  keyed = λ at. inr (0, refl, refl);
-}
-texts RoundAim = record {
-  read = record { body = _; create = refl; insert = refl; update = refl; delete = refl; select = refl; defined = refl; unlisted = refl; laid = λ schema place base. refl; shows = λ place r. refl };
-  tested = λ is_strict schema at tree bare checks there. record { removal = rw there (rw there refl); change = rw there (rw there refl) };
-  all = λ schema at place there low. rw there (rw low (rw there refl));
-  keys = λ at round r. refl;
-  rows = λ at round generous. record { one = refl; added = λ here. rw (cast_int round, cast_int generous) refl; shares = λ here r. rw (cast_int round) refl; finds = λ r. refl; set = λ r int same. rw (rowid_is r round int (and_parts _ _ same).0, cast_int round, cast_int generous) refl };
-  keyed = λ at. inl refl;
-}
-texts Choice = record {
-  read = record { body = _; create = refl; insert = refl; update = refl; delete = refl; select = refl; defined = refl; unlisted = refl; laid = λ schema place base. refl; shows = λ place r. refl };
-  tested = λ is_strict. either (Anywhere Choice (AreTested Choice)) is_strict (λ schema at tree bare checks there. record { removal = rw there (rw there (rw there refl)); change = rw there (rw there (rw there refl)) }) (λ schema at tree bare checks there. record { removal = rw there (rw there (rw there refl)); change = rw there (rw there (rw there refl)) });
-  all = λ schema at place there low. rw there (rw low (rw there refl));
-  keys = λ at round student place. choice_found (shape_of Choice).name at.rules.is_strict at (col 1 0 ∷ []) round student place [];
-  rows = λ at round student place project. record { one = refl; added = λ here. rw (cast_null, cast_int round, cast_int place) refl; shares = λ here r. rw (cast_null, cast_int round, cast_int place) refl; finds = choice_found (shape_of Choice).name at.rules.is_strict at (showing (values_of (shape_of Choice))) round student place (Words project ∷ []); set = λ r int same. rw (cast_int round, cast_int place) refl };
-  keyed = λ at. inr (0, refl, refl);
-}
-texts Placement = record {
-  read = record { body = _; create = refl; insert = refl; update = refl; delete = refl; select = refl; defined = refl; unlisted = refl; laid = λ schema place base. refl; shows = λ place r. refl };
-  tested = λ is_strict. either (Anywhere Placement (AreTested Placement)) is_strict (λ schema at tree bare checks there. record { removal = rw there (rw there (rw there refl)); change = rw there (rw there (rw there refl)) }) (λ schema at tree bare checks there. record { removal = rw there (rw there (rw there refl)); change = rw there (rw there (rw there refl)) });
-  all = λ schema at place there low. rw there (rw low (rw there refl));
-  keys = λ at student r. refl;
-  rows = λ at student round project rank. record { one = refl; added = λ here. rw (cast_null, cast_int round, cast_int rank) refl; shares = λ here r. rw cast_null refl; finds = λ r. refl; set = λ r int same. rw (cast_int round, cast_int rank) refl };
-  keyed = λ at. inr (0, refl, refl);
-}
+texts table = record { read = are_read table; tested = are_tested table; all = are_shown table; keys = are_found table; rows = are_given table; keyed = are_keyed table }
 
 -- and what the text gives that takes a group of rows away
 pub group_text : (rows : Group) → let s = sharing rows in Removal s.table s.removal s.before s.shared

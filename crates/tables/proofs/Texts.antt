@@ -120,13 +120,21 @@ module _ (table : Table) where
       (schema : Schema) (at tree : ℕ) (bare : List Bool) (checks : List Term) → let place : Place = record { tree = tree; rules = record { is_strict = is_strict; bare = bare; checks = checks } } in
       slice_get schema.tables at ≡ Some (table_at table place) → P schema at place
 
+  -- the columns of the whole table are resolved
+  abbrev pub IsShown : Type 0
+  IsShown = (schema : Schema) (at : ℕ) (place : Place) → slice_get schema.tables at ≡ Some (table_at table place) → nat_lt place.tree (2 ^ 31) ≡ true
+      → result lower (outermost schema) (record { tables = bounds_at shape.name at; shown = [] }) (core_of shape) started ≡ Ok (outs_of shape, spent 99999)
+
+  -- each key finds the rows that begin with it
+  abbrev pub AreFound : Type 0
+  AreFound = (place : Place) → Each (take shape.named (kinds_of table)) (λ key. (r : Row) → hit (finds_of shape place.rules.is_strict 0 shape.named) (col 1 0 ∷ []) key r ≡ begins_with key (cells (table_at table place) r))
+
   -- what a table gives: how its texts are read and resolved, and, for each key and each row of its kinds, what is found and set
   pub record Texts : Type 0 where
     pub read : AreRead
     pub tested : (is_strict : Bool) → Anywhere AreTested is_strict
-    pub all : (schema : Schema) (at : ℕ) (place : Place) → slice_get schema.tables at ≡ Some (table_at table place) → nat_lt place.tree (2 ^ 31) ≡ true
-        → result lower (outermost schema) (record { tables = bounds_at shape.name at; shown = [] }) (core_of shape) started ≡ Ok (outs_of shape, spent 99999)
-    pub keys : (place : Place) → Each (take shape.named (kinds_of table)) (λ key. (r : Row) → hit (finds_of shape place.rules.is_strict 0 shape.named) (col 1 0 ∷ []) key r ≡ begins_with key (cells (table_at table place) r))
+    pub all : IsShown
+    pub keys : AreFound
     pub rows : (place : Place) → Each (kinds_of table) (Gives place)
     pub keyed : (place : Place) → HasKey (table_at table place)
 
@@ -197,14 +205,9 @@ module _ (table : Table) (it : Texts table) where
   pub removal_is : (sql : List ℕ) (before count : ℕ) → Removal table sql before count → IsDelete sql told (take count (drop before (kinds_of table))) (goes_on before)
   unfolding compiled planned meaning timed returning shows command delete
   removal_is sql before count removal = record {
-    p = read_as sql (delete_of told before count) count;
     test = test_of told before count;
     tests = λ is_strict. finds_of told is_strict before count;
-    parsed = removal.read;
-    statement = refl;
-    plain = refl;
-    whole = read_whole sql;
-    unlisted = rw (removal.read, it.read.unlisted) refl;
+    drafted = record { p = read_as sql (delete_of told before count) count; parsed = removal.read; statement = refl; plain = refl; whole = read_whole sql; unlisted = rw (removal.read, it.read.unlisted) refl; untimed = λ schema. refl; shows = λ schema base. refl; commands = λ schema base. refl };
     draft = λ schema at place has. removal.tested place.rules.is_strict schema at place.tree place.rules.bare place.rules.checks has.there;
     hits = λ place. by_kinds (take count (drop before (kinds_of table))) _ (removal.keys place);
   }
@@ -218,16 +221,11 @@ module _ (table : Table) (it : Texts table) where
   pub update_is : IsUpdate (said table).update told (kinds_of table) (length told.primary)
   unfolding compiled planned meaning timed returning shows command update
   update_is = record {
-    p = read_as (said table).update (update_of told) (width told);
     sets = sets_of told;
     test = test_of told 0 (length told.primary);
     tests = λ is_strict. finds_of told is_strict 0 (length told.primary);
     values = values_of told;
-    parsed = it.read.update;
-    statement = refl;
-    plain = refl;
-    whole = read_whole (said table).update;
-    unlisted = rw (it.read.update, it.read.unlisted) refl;
+    drafted = record { p = read_as (said table).update (update_of told) (width told); parsed = it.read.update; statement = refl; plain = refl; whole = read_whole (said table).update; unlisted = rw (it.read.update, it.read.unlisted) refl; untimed = λ schema. refl; shows = λ schema base. refl; commands = λ schema base. refl };
     draft = λ schema at place has. (it.tested place.rules.is_strict schema at place.tree place.rules.bare place.rules.checks has.there).change;
     hits = λ place row is. (by_kinds (kinds_of table) (Gives table place) (it.rows place) row is).finds;
     set = λ place row is. (by_kinds (kinds_of table) (Gives table place) (it.rows place) row is).set;

@@ -1,5 +1,5 @@
 -- UPDATE by key, which sets every column but the rowid.
-use Rattle.std.proofs.Common.{◌≡◌, inl, inr, ℕ, ◌+◌, List, [], ◌∷◌, ◌++◌, slice_get, slice_range, Option, Some, None, Ok, Err, refl, sym, ap, subst, subst₂, ◌∙◌, true, length, unwrap_or, map, filter, take, drop, not, Bool}
+use Rattle.std.proofs.Common.{◌≡◌, inl, inr, ℕ, List, [], ◌∷◌, ◌++◌, slice_get, Option, Some, None, Ok, refl, sym, ap, subst, subst₂, ◌∙◌, true, length, unwrap_or, map, filter, take, drop, not, Bool}
 use Rattle.std.specs.List.Sorted.{IsPermutation}
 use Rattle.std.proofs.lemmas.List.{map-append, length-map}
 use Rattle.std.proofs.lemmas.List.Sorted.{IsPermutation-map, IsPermutation-trans, IsPermutation-append_left, IsPermutation-append_right, length_permutation}
@@ -8,22 +8,14 @@ use Rattle.sqlite.specs.Schema.{Schema}
 use Rattle.sqlite.specs.Table.{Table}
 use Rattle.sqlite.specs.Kind.{Kind}
 use Rattle.sqlite.specs.Order.{Row}
-use Rattle.sqlite.specs.Compile.{compiled, first, timed, returning, command, update, shows, small}
-use Rattle.sqlite_syntax.specs.declared.statement.Parsed.{Parsed}
 use Rattle.sqlite_ast.specs.declared.Statement.TheVariants as written
 use Rattle.sqlite_ast.specs.declared.Expr.{Expr}
 use Rattle.sqlite_resolve.specs.Write.{updated}
-use Rattle.sqlite_resolve.specs.Program.{program}
-use Rattle.sqlite_resolve.specs.declared.error.CompileError.TheVariants.{NoSuchTable}
-use Rattle.sqlite_resolve.specs.declared.compiled.Compiled.{Compiled}
 use Rattle.sqlite_sql.specs.Term.{Term, col, eval_all}
 use Rattle.sqlite_trees.specs.View.{is_int}
-use Rattle.sqlite.specs.Listing.{listing_schema, if_select}
-use Rattle.sqlite.specs.Calls.{IsWrite}
-use Rattle.sqlite.specs.Command.{Command}
 use Rattle.sqlite.specs.Command.TheVariants.{Update}
 use Rattle.sqlite_schema.specs.declared.program.Program.{Program}
-use Rattle.sqlite.specs.State.{State, Executes, mode_of, text_of}
+use Rattle.sqlite.specs.State.{State, Executes, mode_of}
 use Rattle.sqlite.specs.Tree.{rowid, put_row}
 use Rattle.sqlite.specs.Effect.{Database, Answers}
 use Rattle.sqlite.specs.Rows.{Written}
@@ -39,15 +31,15 @@ use Rattle.sqlite_rules.proofs.ListLemmas.{all_has}
 use Rattle.sqlite.proofs.Callers.{one_step}
 use Rattle.tables.specs.Inside.Keyed.{id_of}
 use Rattle.tables.specs.Keyed.{IsKeyed}
-use Rattle.tables.specs.Table.{Place, Shape, Lists, cells, are_of, made_at}
+use Rattle.tables.specs.Table.{Place, Shape, cells, are_of, made_at}
 use Rattle.tables.specs.Writes.{begins_with, without, Replaces}
 use Rattle.tables.proofs.Places.{listed_along}
 use Rattle.tables.proofs.InsertKeyed.{went, same_value}
-use Rattle.tables.proofs.Understood.{planned_of, Means, IsWriteText, runs_by, and_then_ok, ends_in_write, on_table_writes, compiles_to_write}
+use Rattle.tables.proofs.Understood.{IsWriteText, runs_by}
 use Rattle.tables.proofs.RowidsOut.{taken_out, still_keyed, map_filter, kept_has, passes}
 use Rattle.tables.proofs.Rowids.{put_all_permutes, keyed_put_all}
-use Rattle.tables.proofs.InsertRow.{Has as Finds, has_listed, on_table_is}
-use Rattle.tables.proofs.QueryRows.{found_program, accepted, hit, found}
+use Rattle.tables.proofs.InsertRow.{Has as Finds, has_listed}
+use Rattle.tables.proofs.QueryRows.{found_program, IsDrafted, drafted_writes, drafted_means, hit, found}
 use Rattle.tables.proofs.SelectAll.{finding}
 
 -- what an UPDATE shows of a row that it finds: its rowid, the rowid that it gets, which is the same, and the other columns
@@ -57,39 +49,15 @@ showing values = col 1 0 ∷ col 1 0 ∷ values
 -- A text that updates, read under any schema that lists a table of this shape, with what its test finds, as the table is STRICT or not, the rows that have the
 -- key of its parameters, and what it makes of each: the row that its parameters are, where those are of these kinds.
 pub record IsUpdate (sql : List ℕ) (shape : Shape) (kinds : List Kind) (width : ℕ) : Type 0 where
-  pub p : Parsed
   pub sets : List (List ℕ × Expr)
   pub test : Expr
   pub tests : Bool → List Term
   pub values : List Term
-  pub parsed : first sql ≡ Ok p
-  pub statement : p.statement ≡ written.Update shape.name sets (Some test) []
-  pub plain : p.formats ≡ []
-  pub whole : slice_range sql p.start p.end ≡ sql
-  pub unlisted : if_select (compiled listing_schema sql) ≡ Err NoSuchTable
+  pub drafted : IsDrafted sql shape.name (written.Update shape.name sets (Some test) []) (λ schema at table. updated schema at table sets (Some test)) Update
   pub draft : (schema : Schema) (at : ℕ) (place : Place) → Finds schema shape.name at (made_at shape place) → updated schema at (made_at shape place) sets (Some test) ≡ Ok (finding place.tree (tests place.rules.is_strict) (showing values))
   pub hits : (place : Place) (row : Row) → are_of kinds row ≡ true → (r : Row) → hit (tests place.rules.is_strict) (showing values) row r ≡ begins_with (take width row) (cells (made_at shape place) r)
   pub set : (place : Place) (row : Row) → are_of kinds row ≡ true → (r : Row) → is_int (rowid r) ≡ true → hit (tests place.rules.is_strict) (showing values) row r ≡ true
       → cells (made_at shape place) (cast_row (made_at shape place) (rowid r ∷ eval_all values (row ∷ r ∷ []))) ≡ row
-
-module _ (sql : List ℕ) (shape : Shape) (kinds : List Kind) (width : ℕ) (it : IsUpdate sql shape kinds width) (schema : Schema) (place : Place) (listed : Lists schema (made_at shape place)) where
-  abbrev found_by : Program
-  found_by = found_program place.tree (it.tests place.rules.is_strict) (showing it.values)
-
-  update_command : (k : Command) → command schema [] (small it.p.names + small []) (written.Update shape.name it.sets (Some it.test) []) ≡ Ok k → k ≡ Update listed.at found_by
-  unfolding command update program
-  update_command k h =
-      let has = has_listed schema (made_at shape place) listed in
-      accepted _ found_by (λ p. Update listed.at p) k (rw (it.draft schema listed.at place has) at (sym (on_table_is schema shape.name listed.at (made_at shape place) _ has) ∙ h))
-
-  update_means : Means schema sql (Update listed.at found_by) sql
-  unfolding returning shows timed
-  update_means c h =
-      let p = planned_of schema sql it.p c it.unlisted it.parsed h in
-      let q = rw (it.plain, it.statement) at p in
-      let k = update_command q.1 q.3 in
-      let none : q.0 ≡ None = let e = q.2 in cc in
-      (ap (λ (it : Compiled). it.command) q.4 ∙ k, ap (λ (it : Compiled). it.returning) q.4 ∙ none, ap (λ (it : Compiled). it.formats) q.4, ap (text_of sql) q.4 ∙ it.whole)
 
 -- what an UPDATE does, where no foreign key acts
 pub update_does : (limit : Option ℕ) (mode : Mode) (params : Row) (db after : Database) (text : List ℕ) (at : ℕ) (table : Table) (q : Program) (tally : Tally)
@@ -183,15 +151,9 @@ module _ (t : Table) (find : Row → Bool) (values : List Term) (row key : Row) 
   counted = sym (length-map (map (remade t) answer) (cells t)) ∙ length_permutation _ _ given_are ∙ length-map (filter (begins_with key) rows) (λ (_ : Row). row)
 
 module _ (sql : List ℕ) (shape : Shape) (kinds : List Kind) (width : ℕ) (it : IsUpdate sql shape kinds width) where
-  some_update : (schema : Schema) (base : ℕ) (k : Command) → command schema [] base (written.Update shape.name it.sets (Some it.test) []) ≡ Ok k → IsWrite k
-  unfolding command update
-  some_update schema base k = on_table_writes schema shape.name _ k (λ at table h.
-      let planned = and_then_ok (updated schema at table it.sets (Some it.test)) _ k h in
-      ends_in_write (program schema [] planned.0) (λ p. Update at p) k (λ p. tt) planned.2)
-
   -- the text is that of a write
   pub update_writes : IsWriteText sql
-  update_writes = compiles_to_write sql it.p it.parsed (λ schema base k h. some_update schema base k (rw (it.plain, it.statement) at h))
+  update_writes = drafted_writes sql shape _ _ Update it.drafted (λ at q. tt)
 
   -- an UPDATE that went through put the given row in the place of each with its key, and told how many there were
   pub update_replaces : (old new : State) (row : Row) → are_of kinds row ≡ true → (count : ℕ) → Executes sql row old new (Ok count) → Replaces (made_at shape) (take width row) row count old.now new.now
@@ -202,7 +164,7 @@ module _ (sql : List ℕ) (shape : Shape) (kinds : List Kind) (width : ℕ) (it 
       let here = old.now.trees place.tree in
       let find = hit (it.tests place.rules.is_strict) (showing it.values) row in
       let q = found_program place.tree (it.tests place.rules.is_strict) (showing it.values) in
-      let w = runs_by sql row old new count (Update listed.at q) sql (update_means sql shape kinds width it old.now.schema place listed) ran in
+      let w = runs_by sql row old new count (Update listed.at q) sql (drafted_means sql shape _ _ Update it.drafted old.now.schema place _ _ listed (it.draft old.now.schema listed.at place (has_listed old.now.schema t listed))) ran in
       let done = update_does old.step_limit (mode_of old) row old.now new.now sql listed.at t q w.tally listed.there inert w.changed in
       let answer = done.1 in
       let got = found (it.tests place.rules.is_strict) (showing it.values) row old.now place.tree answer done.2 in

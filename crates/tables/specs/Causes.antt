@@ -19,23 +19,49 @@ use Rattle.tables.specs.Keyed.{have_ids, rises}
 use Rattle.tables.specs.Table.{sql_of, table_at, key_in}
 use Rattle.tables.specs.Writes.{Replaces}
 
+-- what a connection shows at a moment, and what it counts
+pub record Moment : Type 0 where
+  pub now : Database
+  pub committed : Database
+  pub in_transaction : Bool
+  pub marks : List Savepoint
+  pub is_open : Bool
+  pub faults : ℕ
+  pub changes : ℕ
+  pub last_rowid : ℤ
+  pub step_limit : Option ℕ
+
+-- a connection that shows this
+abbrev pub at_moment : Moment → State
+at_moment m = record {
+  now = m.now;
+  committed = m.committed;
+  in_transaction = m.in_transaction;
+  marks = m.marks;
+  is_open = m.is_open;
+  is_clean = true;
+  faults = m.faults;
+  blamed = None;
+  changes = m.changes;
+  last_rowid = m.last_rowid;
+  step_limit = m.step_limit;
+  may_leave = λ _. ⊥;
+  IsShielded = ⊥;
+}
+
 -- an open connection that shows this database
 abbrev pub showing : Option ℕ → Bool → List Savepoint → Database → State
-showing limit in_transaction marks db = record {
+showing limit in_transaction marks db = at_moment (record {
   now = db;
   committed = db;
   in_transaction = in_transaction;
   marks = marks;
   is_open = true;
-  is_clean = true;
   faults = 0;
-  blamed = None;
   changes = 0;
   last_rowid = pos 0;
   step_limit = limit;
-  may_leave = λ _. ⊥;
-  IsShielded = ⊥;
-}
+})
 
 -- over an open connection that shows this database the call is refused, for another cause than want of memory
 pub record IsRefused (Refuses : State → Error → Type 0) (limit : Option ℕ) (db : Database) : Type 0 where
@@ -113,36 +139,6 @@ FailsToRead sql fault old new =
 -- a statement of this text failed with an error that is this fault
 abbrev pub FailsToWrite : List ℕ → Row → TableFault → State → State → Type 0
 FailsToWrite sql params fault old new = (e : Error) × ExecutesInside 0 sql params old new (Err e) × (fault ≡ fault_of e)
-
--- what a connection shows at a moment, and what it counts
-pub record Moment : Type 0 where
-  pub now : Database
-  pub committed : Database
-  pub in_transaction : Bool
-  pub marks : List Savepoint
-  pub is_open : Bool
-  pub faults : ℕ
-  pub changes : ℕ
-  pub last_rowid : ℤ
-  pub step_limit : Option ℕ
-
--- a connection that shows this
-abbrev pub at_moment : Moment → State
-at_moment m = record {
-  now = m.now;
-  committed = m.committed;
-  in_transaction = m.in_transaction;
-  marks = m.marks;
-  is_open = m.is_open;
-  is_clean = true;
-  faults = m.faults;
-  blamed = None;
-  changes = m.changes;
-  last_rowid = m.last_rowid;
-  step_limit = m.step_limit;
-  may_leave = λ _. ⊥;
-  IsShielded = ⊥;
-}
 
 -- an update by the row's key went through and found no row, and then the row was added with an error that is this fault
 pub record FailsToAdd (table : Table) (row : Row) (fault : TableFault) (old new : State) : Type 0 where

@@ -153,6 +153,21 @@ static LONGEST: [(&str, u32, u32); 7] = [
     ("Z,LLLLLLLLLLLLL$,-1000000,-1000000,-1000000,-1000000,-1000000,-1000000,-1000000,-1000000,-1000000,-1000000,-1000000,-1000000,-1000000", 100, 100),
 ];
 
+/// Compares what `check` prints of the text, and what `solve` then prints of a longer one, on standard error.
+fn prints_with_more(
+    rt: &HostRuntime,
+    mut text: String,
+    checked: (&[u8], &[u8]),
+    more: &str,
+    solved: &[u8],
+) -> Result<(), Fail> {
+    fs::write(rt, "round.txt", &text)?;
+    prints(rt, "spadesk check round.txt", checked, 1)?;
+    text.push_str(more)?;
+    fs::write(rt, "round.txt", &text)?;
+    prints(rt, "spadesk solve round.txt", (b"", solved), 1)
+}
+
 // No text is longer, but for the line of an aim. Behind it, at byte 283,800, stands a bad line; without that the prices are at fault.
 #[test]
 fn the_longest_text_is_read_to_its_end(rt: HostRuntime) -> Result<(), Fail> {
@@ -160,12 +175,8 @@ fn the_longest_text_is_read_to_its_end(rt: HostRuntime) -> Result<(), Fail> {
     for (line, first, count) in LONGEST {
         push_lines(&mut text, line, first, count)?;
     }
-    fs::write(&rt, "round.txt", &text)?;
-    prints(&rt, "spadesk check round.txt", (b"fault 3\n", b""), 1)?;
-    text.push_str("X\n")?;
-    fs::write(&rt, "round.txt", &text)?;
     let bad = b"bad line 2501\n";
-    prints(&rt, "spadesk solve round.txt", (b"", bad), 1)
+    prints_with_more(&rt, text, (b"fault 3\n", b""), "X\n", bad)
 }
 
 #[test]
@@ -174,10 +185,6 @@ fn the_size_is_judged_first(rt: HostRuntime) -> Result<(), Fail> {
     for _line in 0..MOST_BYTES {
         text.push_str("\n")?;
     }
-    fs::write(&rt, "round.txt", &text)?;
-    prints(&rt, "spadesk check round.txt", (b"", b"bad line 1\n"), 1)?;
-    text.push_str("\n")?;
-    fs::write(&rt, "round.txt", &text)?;
     let refused = b"refused 4: TooLarge\n";
-    prints(&rt, "spadesk solve round.txt", (b"", refused), 1)
+    prints_with_more(&rt, text, (b"", b"bad line 1\n"), "\n", refused)
 }

@@ -85,23 +85,15 @@ fn print_over_files(rt: &HostRuntime, rows: &str) -> Result<(), Fail> {
 }
 
 #[test]
-fn a_file_is_made_and_refuses(rt: HostRuntime) -> Result<(), Fail> {
-    print_over_files(&rt, FIRST)
-}
-
-#[test]
-fn a_round_goes_from_imports_to_reports(rt: HostRuntime) -> Result<(), Fail> {
-    print_over_files(&rt, ROUND)
+fn a_file_is_made_holds_a_round_and_refuses(rt: HostRuntime) -> Result<(), Fail> {
+    print_over_files(&rt, FIRST)?;
+    print_over_files(&rt, ROUND)?;
+    print_over_files(&rt, NO_DATABASE)
 }
 
 #[test]
 fn rounds_close_by_their_aims(rt: HostRuntime) -> Result<(), Fail> {
     print_over_files(&rt, AIMS)
-}
-
-#[test]
-fn names_of_no_database_are_told(rt: HostRuntime) -> Result<(), Fail> {
-    print_over_files(&rt, NO_DATABASE)
 }
 
 /// The last record of a long import file.

@@ -7,76 +7,29 @@ use plays::school::SCHOOL;
 use std::rt::HostRuntime;
 use std::test::Fail;
 
-/// A supervisor.
-#[rattlefmt::skip]
-const SUPERVISOR: &str =
-    r#"POST /imports/supervisors/I1 | code,name,quota^nL,Lee,500^n | 200 OK | {"rows":1}"#;
-
-/// Seven projects with codes of 16 bytes, of 72 places each.
-const PROJECT: &str = "P23456789012$,Pumps,L,72^n";
-
-#[rattlefmt::skip]
-const PROJECTS: &str =
-    r#"POST /imports/projects/I2 | code,name,supervisor,quota^n$ | 200 OK | {"rows":7}"#;
-
-/// Two times 250 students with codes of 16 bytes and names of 190, since more do not go into one import.
-#[rattlefmt::skip]
-const STUDENT_A: &str =
-    "A23456789012$,Anna Maria Luise Sophie Johanna Elisabeth Charlotte Antonia Josepha Theresia von und zu Hohenlohe-Langenburg-Schillingsfuerst-Bartenstein-Jagstberg auf Weikersheim und Neuenstein am Kocher i^n";
-
-#[rattlefmt::skip]
-const STUDENT_B: &str =
-    "B23456789012$,Anna Maria Luise Sophie Johanna Elisabeth Charlotte Antonia Josepha Theresia von und zu Hohenlohe-Langenburg-Schillingsfuerst-Bartenstein-Jagstberg auf Weikersheim und Neuenstein am Kocher i^n";
-
-#[rattlefmt::skip]
-const STUDENTS_A: &str =
-    r#"POST /imports/students/I3 | code,name^n$ | 200 OK | {"rows":250}"#;
-
-#[rattlefmt::skip]
-const STUDENTS_B: &str =
-    r#"POST /imports/students/I4 | code,name^n$ | 200 OK | {"rows":250}"#;
-
 const OPEN: &str = r#"POST /rounds || 200 OK | {"round":1}"#;
 
-/// Their lists, which are all the same.
+/// The rolls, a round in which all lists are the same, and what is told of it.
 #[rattlefmt::skip]
-const LIST_A: &str =
-    "A23456789012$,P234567890121000 P234567890121001 P234567890121002 P234567890121003 P234567890121004 P234567890121005 P234567890121006^n";
-
-#[rattlefmt::skip]
-const LIST_B: &str =
-    "B23456789012$,P234567890121000 P234567890121001 P234567890121002 P234567890121003 P234567890121004 P234567890121005 P234567890121006^n";
-
-#[rattlefmt::skip]
-const LISTS_A: &str =
-    r#"POST /imports/lists/I5 | student,choices^n$ | 200 OK | {"rows":250}"#;
-
-#[rattlefmt::skip]
-const LISTS_B: &str =
-    r#"POST /imports/lists/I6 | student,choices^n$ | 200 OK | {"rows":250}"#;
-
-/// The report of all of them, of more than 65,536 bytes.
-#[rattlefmt::skip]
-const UNPLACED_LINES: &str =
-    "A23456789012$ Anna Maria Luise Sophie Johanna Elisabeth Charlotte Antonia Josepha Theresia von und zu Hohenlohe-Langenburg-Schillingsfuerst-Bartenstein-Jagstberg auf Weikersheim und Neuenstein am Kocher i^n/B23456789012$ Anna Maria Luise Sophie Johanna Elisabeth Charlotte Antonia Josepha Theresia von und zu Hohenlohe-Langenburg-Schillingsfuerst-Bartenstein-Jagstberg auf Weikersheim und Neuenstein am Kocher i^n";
-
-const UNPLACED: &str = "GET /reports/unplaced/1 || 200 OK | $";
-
-/// The round's text, likewise.
-#[rattlefmt::skip]
-const ROUND_LINES: &str =
-    "C,A23456789012$,P234567890121000,P234567890121001,P234567890121002,P234567890121003,P234567890121004,P234567890121005,P234567890121006^n/C,B23456789012$,P234567890121000,P234567890121001,P234567890121002,P234567890121003,P234567890121004,P234567890121005,P234567890121006^n";
-
-#[rattlefmt::skip]
-const ROUND_TEXT: &str =
-    "GET /roundtext || 200 OK | S,L,500^nP,P234567890121000,L,72^nP,P234567890121001,L,72^nP,P234567890121002,L,72^nP,P234567890121003,L,72^nP,P234567890121004,L,72^nP,P234567890121005,L,72^nP,P234567890121006,L,72^n$";
-
-/// Seven times 72 places are enough for all.
-#[rattlefmt::skip]
-const CLOSED: &str =
-    r#"GET /preview            || 200 OK | {"profile":[72,72,72,72,72,72,68,0,0,0,0,0],"size":500}
+const LARGEST: &[Part] = &[
+    // A supervisor, and seven projects with codes of 16 bytes, of 72 places each.
+    Part::Lines(r#"POST /imports/supervisors/I1 | code,name,quota^nL,Lee,500^n | 200 OK | {"rows":1}"#),
+    Part::Filled(7, "P23456789012$,Pumps,L,72^n", r#"POST /imports/projects/I2 | code,name,supervisor,quota^n$ | 200 OK | {"rows":7}"#),
+    // Two times 250 students with codes of 16 bytes and names of 190, since more do not go into one import.
+    Part::Filled(250, "A23456789012$,Anna Maria Luise Sophie Johanna Elisabeth Charlotte Antonia Josepha Theresia von und zu Hohenlohe-Langenburg-Schillingsfuerst-Bartenstein-Jagstberg auf Weikersheim und Neuenstein am Kocher i^n", r#"POST /imports/students/I3 | code,name^n$ | 200 OK | {"rows":250}"#),
+    Part::Filled(250, "B23456789012$,Anna Maria Luise Sophie Johanna Elisabeth Charlotte Antonia Josepha Theresia von und zu Hohenlohe-Langenburg-Schillingsfuerst-Bartenstein-Jagstberg auf Weikersheim und Neuenstein am Kocher i^n", r#"POST /imports/students/I4 | code,name^n$ | 200 OK | {"rows":250}"#),
+    Part::Lines(OPEN),
+    Part::Filled(250, "A23456789012$,P234567890121000 P234567890121001 P234567890121002 P234567890121003 P234567890121004 P234567890121005 P234567890121006^n", r#"POST /imports/lists/I5 | student,choices^n$ | 200 OK | {"rows":250}"#),
+    Part::Filled(250, "B23456789012$,P234567890121000 P234567890121001 P234567890121002 P234567890121003 P234567890121004 P234567890121005 P234567890121006^n", r#"POST /imports/lists/I6 | student,choices^n$ | 200 OK | {"rows":250}"#),
+    // The report of all of them, of more than 65,536 bytes, and the round's text, likewise.
+    Part::Filled(250, "A23456789012$ Anna Maria Luise Sophie Johanna Elisabeth Charlotte Antonia Josepha Theresia von und zu Hohenlohe-Langenburg-Schillingsfuerst-Bartenstein-Jagstberg auf Weikersheim und Neuenstein am Kocher i^n/B23456789012$ Anna Maria Luise Sophie Johanna Elisabeth Charlotte Antonia Josepha Theresia von und zu Hohenlohe-Langenburg-Schillingsfuerst-Bartenstein-Jagstberg auf Weikersheim und Neuenstein am Kocher i^n", "GET /reports/unplaced/1 || 200 OK | $"),
+    Part::Filled(250, "C,A23456789012$,P234567890121000,P234567890121001,P234567890121002,P234567890121003,P234567890121004,P234567890121005,P234567890121006^n/C,B23456789012$,P234567890121000,P234567890121001,P234567890121002,P234567890121003,P234567890121004,P234567890121005,P234567890121006^n", "GET /roundtext || 200 OK | S,L,500^nP,P234567890121000,L,72^nP,P234567890121001,L,72^nP,P234567890121002,L,72^nP,P234567890121003,L,72^nP,P234567890121004,L,72^nP,P234567890121005,L,72^nP,P234567890121006,L,72^n$"),
+    // Seven times 72 places are enough for all.
+    Part::Lines(
+        r#"GET /preview            || 200 OK | {"profile":[72,72,72,72,72,72,68,0,0,0,0,0],"size":500}
        POST /rounds/close      || 200 OK | {"profile":[72,72,72,72,72,72,68,0,0,0,0,0],"round":1,"size":500}
-       GET /reports/unplaced/1 || 200 OK |"#;
+       GET /reports/unplaced/1 || 200 OK |"#),
+];
 
 /// A first preview in the seventh round.
 #[rattlefmt::skip]
@@ -100,12 +53,7 @@ const SIXTY_FIVE: &str =
 /// Each play at tables of its own.
 #[rattlefmt::skip]
 static PLAYS: [&[Sitting]; 5] = [
-    &[(&[
-        Part::Lines(SUPERVISOR), Part::Filled(7, PROJECT, PROJECTS),
-        Part::Filled(250, STUDENT_A, STUDENTS_A), Part::Filled(250, STUDENT_B, STUDENTS_B), Part::Lines(OPEN),
-        Part::Filled(250, LIST_A, LISTS_A), Part::Filled(250, LIST_B, LISTS_B),
-        Part::Filled(250, UNPLACED_LINES, UNPLACED), Part::Filled(250, ROUND_LINES, ROUND_TEXT), Part::Lines(CLOSED),
-    ], 500)],
+    &[(LARGEST, 500)],
     &[(&[Part::Counted(1, 7, EACH_ROUND), Part::Lines(SEVENTH)], 0)],
     &[(&[Part::Filled(10_000, "S,A^n", TEN_THOUSAND)], 1)],
     &[(&[Part::Filled(5_000, "x", NO_JSON)], 0)],

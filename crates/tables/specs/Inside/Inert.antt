@@ -3,17 +3,14 @@ use Rattle.std.specs.Prelude.{ℕ, Bool, true, false, not, ◌&&◌, ◌||◌, �
 use Rattle.std.specs.List.{list_all, list_any}
 use Rattle.sqlite.specs.Table.{Table}
 use Rattle.sqlite_schema.specs.declared.schema.Action.{Action}
-use Rattle.sqlite_schema.specs.declared.schema.Action.TheVariants.{NoAction, Restrict, Cascade, SetNull, SetDefault}
+use Rattle.sqlite_schema.specs.declared.schema.Action.TheVariants.{NoAction}
 use Rattle.sqlite_schema.specs.declared.schema.Reference.{Reference}
 use Rattle.sqlite_schema.specs.Names.{same_name}
 
 -- a foreign key with NO ACTION, which is tested and writes nothing
 abbrev pub is_passive : Action → Bool
 is_passive NoAction = true
-is_passive Restrict = false
-is_passive Cascade = false
-is_passive SetNull = false
-is_passive SetDefault = false
+is_passive _ = false
 
 -- the reference is to a table of this name, and this tree is one such
 abbrev pub refers_to : List Table → ℕ → Reference → Bool

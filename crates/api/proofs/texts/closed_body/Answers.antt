@@ -1,10 +1,12 @@
 -- The pieces that are appended make the text.
-use Rattle.std.proofs.Common.{◌≡◌, ℕ, List, [], ◌++◌, append_assoc}
+use Rattle.std.proofs.Common.{◌≡◌, ℕ, List, ◌++◌, codes, decimal, append_assoc}
+use Rattle.api.specs.Texts.{numbers_text}
 use Rattle.api.proofs.texts.closed_body.Goals as goal
 
-joined : (o p q r s t a n b x d y e : List ℕ) → o ≡ [] → p ≡ o ++ a → q ≡ p ++ n → r ≡ q ++ (b ++ x) → s ≡ r ++ (d ++ y) → t ≡ s ++ e → t ≡ a ++ n ++ b ++ x ++ d ++ y ++ e
-joined o p q r s t a n b x d y e ho hp hq hr hs ht = simp (ht, hs, hr, hq, hp, ho, append_assoc)
+joined : (q r s t a n b x d y e : List ℕ) → q ≡ a ++ n → r ≡ q ++ (b ++ x) → s ≡ r ++ (d ++ y) → t ≡ s ++ e → t ≡ a ++ n ++ b ++ x ++ d ++ y ++ e
+joined q r s t a n b x d y e hq hr hs ht = simp (ht, hs, hr, hq, append_assoc)
 
 pub returns-clause-items : goal.returns-clause-items
 returns-clause-items c =
-    joined _ _ _ _ _ _ _ _ _ _ _ _ _ c.new-out.ensures c.push.ensures c.push_numbers.ensures.items c.push_labelled.ensures.items c.push_labelled-2.ensures.items c.push-2.ensures
+    joined _ _ _ _ (codes "{\"profile\":[") (numbers_text c.args.profile.now) (codes ",\"round\":") (decimal c.args.round) (codes ",\"size\":") (decimal c.args.size) (codes "}")
+    c.profile_body-out.ensures.items c.push_labelled.ensures.items c.push_labelled-2.ensures.items c.push.ensures

@@ -1,6 +1,4 @@
-use Rattle.std.proofs.Common.{◌≡◌, ℕ, ◌+◌, true, List, [], ◌∷◌, length, ap, sym, ◌∙◌}
-use Rattle.rolls.specs.declared.rounds.Round.{Round}
-use Rattle.rolls.specs.declared.rounds.RoundAim.{RoundAim}
+use Rattle.std.proofs.Common.{◌≡◌, ℕ, ◌+◌, true, [], length, ap, ◌∙◌}
 use Rattle.rolls.specs.declared.request.Reply.TheVariants as reply
 use Rattle.rolls.specs.declared.request.Plain.TheVariants.{OpenRound}
 use Rattle.rolls.specs.Roll.{put}
