@@ -1,7 +1,8 @@
 -- A new database is opened as the empty office, without a session, so what is served over it is served from there on.
-use Rattle.std.proofs.Common.{◌≡◌, inl, inr, ℕ, List, [], Option, Some, None, ap, sym, subst, ◌∙◌}
+use Rattle.std.proofs.Common.{◌≡◌, inl, inr, ℕ, List, [], Option, Some, None, Result, Ok, Err, ap, sym, subst, ◌∙◌}
 use Rattle.sqlite.specs.Effect.{Database}
 use Rattle.sqlite.specs.Schema.{Schema}
+use Rattle.sqlite_trees.specs.declared.store.Store.{Ghosts}
 use Rattle.sqlite_schema.specs.Names.{table_named}
 use Rattle.row_data.specs.declared.table.Table.TheVariants.{Edition}
 use Rattle.tables.specs.Table.{shape_of}
@@ -10,8 +11,10 @@ use Rattle.store.specs.Tables.{Opens}
 use Rattle.desk.specs.Kept.{Kept}
 use Rattle.wire.specs.declared.outcome.Served.{Served}
 use Rattle.wire.specs.declared.outcome.StreamFault.{StreamFault}
-use Rattle.wire.specs.Served.{ServedTo, BrokeOff}
-use Rattle.web.specs.Serving.{AnswersMessage, AtDesk, at_desk, end_text, just_opened}
+use Rattle.wire.specs.Served.{IsServed}
+use Rattle.web.specs.Serving.{AnswersFrom, AnswersMessage, AtDesk, at_desk, end_text, just_opened}
+use Rattle.web.proofs.OneMessage.{message_seen}
+use Rattle.web.proofs.Seen.{is_served_seen}
 use Rattle.cli.specs.Anew.{ServedAnew, BrokenAnew}
 use Rattle.cli.proofs.Opened.{no_sitting}
 
@@ -33,10 +36,17 @@ pub opened_anew : {S : Type 0} (old new : Database) (desk : Kept S) → old.sche
     → at_desk desk ≡ just_opened empty
 opened_anew old new desk none opens no_session = no_sitting desk no_session ∙ ap just_opened (opened_empty old new desk.office none opens)
 
--- what was served from there
-pub served_anew : (before after : AtDesk) (left0 w0 left w : Option (List ℕ)) (served : Served) → before ≡ just_opened empty → ServedTo AnswersMessage end_text before left0 w0 left w served after → ServedAnew left0 w0 left w
-served_anew before after left0 w0 left w served is h = (served, after, subst (λ (d : AtDesk). ServedTo AnswersMessage end_text d left0 w0 left w served after) is h)
+module _ {S : Type 0} (ghosts : Ghosts S) (before after : Kept S) (left0 w0 left w : Option (List ℕ)) (empty_at : at_desk before ≡ just_opened empty) where
+  -- as it is seen from there
+  seen : (came : Result Served StreamFault) → IsServed (AnswersFrom ghosts) end_text before left0 w0 came after left w → IsServed AnswersMessage end_text (just_opened empty) left0 w0 came (at_desk after) left w
+  seen came s =
+      subst (λ (d : AtDesk). IsServed AnswersMessage end_text d left0 w0 came (at_desk after) left w) empty_at
+      (is_served_seen at_desk AnswersMessage end_text (AnswersFrom ghosts) (λ b words bytes a step. message_seen ghosts b words bytes a step) before after left0 w0 left w came s)
 
--- what broke off from there
-pub broken_anew : (before after : AtDesk) (left0 w0 left w : Option (List ℕ)) (fault : StreamFault) → before ≡ just_opened empty → BrokeOff AnswersMessage end_text before left0 w0 left w after fault → BrokenAnew left0 w0 left w
-broken_anew before after left0 w0 left w fault is h = inl (fault, after, subst (λ (d : AtDesk). BrokeOff AnswersMessage end_text d left0 w0 left w after fault) is h)
+  -- what was served from there
+  pub served_anew : (served : Served) → IsServed (AnswersFrom ghosts) end_text before left0 w0 (Ok served) after left w → ServedAnew left0 w0 left w
+  served_anew served s = (served, at_desk after, (seen (Ok served) s).served)
+
+  -- what broke off from there
+  pub broken_anew : (fault : StreamFault) → IsServed (AnswersFrom ghosts) end_text before left0 w0 (Err fault) after left w → BrokenAnew left0 w0 left w
+  broken_anew fault s = inl (fault, at_desk after, (seen (Err fault) s).broken)

@@ -2,6 +2,7 @@
 use Rattle.std.proofs.Common.{◌≡◌, inl, inr, ℕ, List, string_bytes, Some, None, Result, Ok, Err, MatchResult}
 use Rattle.sqlite_disk.specs.declared.Disk.{Ghosts}
 use Rattle.sqlite_wal.specs.Recovery.{Image}
+use Rattle.sqlite.specs.Files.{over_files}
 use Rattle.rolls.specs.declared.refusal.Refusal.{Refusal}
 use Rattle.rolls.specs.declared.request.Request.{Request}
 use Rattle.commands.specs.declared.line.Line.{Line}
@@ -24,7 +25,7 @@ unopened done o (inr storage) = inl (inr (inl storage))
 
 module _ {D : Type 0} {g : Ghosts D} {O E : Type 0} (image : Image) where
   done_comes : (done : Task) (came : Came D g) (old new : Both O E) (status : ℕ) → DoneAt image done came old new status → Tells (MayDo done) old new status
-  done_comes done (Some came) old new status at = tells_more _ (MayDo done) (λ o is. may_do done _ _ o is) _ _ _ at.told
+  done_comes done (Some came) old new status at = tells_more _ (MayDo done) (λ o is. may_do over_files done at.first at.last o is) _ _ _ at.told
   done_comes done None old new status at = tells_more IsUnread (MayDo done) (unopened done) _ _ _ at
 
   asked_comes : (made : Result Request Refusal) (came : Came D g) (old new : Both O E) (status : ℕ) → AskedAt image made came old new status

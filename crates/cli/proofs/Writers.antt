@@ -12,7 +12,7 @@ use Rattle.rolls.specs.Told.{number_of, name_of}
 use Rattle.desk.specs.Keeping.{AnswersKept, AnswersRound}
 use Rattle.desk.specs.Sessions.{AnswersAtOnce}
 use Rattle.web.specs.Connections.{AllServed, lines_after}
-use Rattle.web.specs.Serving.{AtDesk}
+use Rattle.wire.specs.Run.{Said}
 use Rattle.round_files.specs.declared.rounds.Trouble.{Trouble}
 use Rattle.round_files.specs.declared.rounds.Trouble.TheVariants.{Refused}
 use Rattle.cli.specs.Outcomes.{OnFile, Outcome, of_round, prints, refused, refusal_line, named_line, listening, IsUnread, IsServed}
@@ -60,19 +60,20 @@ pub refused_ends : (r : Refusal) (old new : Took) (status : ℕ) → TellsOf (λ
 refused_ends r old new status (inl t) = t.5 ∙ ap (λ (o : Outcome). o.status) t.1
 refused_ends r old new status (inr failed) = failed.1
 
--- the connections were served and told after the port
-pub all_served : (before after : AtDesk) (port count : ℕ) (w0 w1 w : Option (List ℕ)) (f0 f1 f : ℕ) → Appends w0 w1 (listening port) → f1 ≡ f0 → AllServed before count w1 w after → f ≡ f1
-    → Serves port count before after w0 w f0 f 0
-all_served before after port count w0 w1 w f0 f1 f told same served still =
-    inl (prints (listening port ++ lines_after 0 served.came), record { came = served.came; counted = served.counted; served = served.served; is = refl }, still ∙ same, appends_compose w0 w1 w _ _ told served.wrote, refl)
+module _ {D : Type 0} (step : D → Said → List ℕ → D → Type 0) where
+  -- the connections were served and told after the port
+  pub all_served : (before after : D) (port count : ℕ) (w0 w1 w : Option (List ℕ)) (f0 f1 f : ℕ) → Appends w0 w1 (listening port) → f1 ≡ f0 → AllServed step before count w1 w after → f ≡ f1
+      → Serves step port count before after w0 w f0 f 0
+  all_served before after port count w0 w1 w f0 f1 f told same served still =
+      inl (prints (listening port ++ lines_after 0 served.came), record { came = served.came; counted = served.counted; served = served.served; is = refl }, still ∙ same, appends_compose w0 w1 w _ _ told served.wrote, refl)
 
--- what was served is told on standard output alone
-pub served_told : (before after : AtDesk) (port count : ℕ) (w0 w v : Option (List ℕ)) (f0 f g ends : ℕ) → Serves port count before after w0 w f0 f ends
-    → TellsOf (IsServed port count before after) (record { out = w0; err = v; failures = f0 + g }) (record { out = w; err = v; failures = f + g }) ends
-served_told before after port count w0 w v f0 f g ends (inl s) =
-    let printed : s.0 ≡ prints (listening port ++ lines_after 0 s.1.came) = s.1.is in
-    inl (s.0, s.1, ap (λ n. n + g) s.2, s.3, subst (λ (o : Outcome). Appends v v o.err) (sym printed) (appends_none v), s.4 ∙ sym (ap (λ (o : Outcome). o.status) printed))
-served_told before after port count w0 w v f0 f g ends (inr s) = let more : f ≡ f0 + 1 = s.0 in inr (omega (arith, more), s.1)
+  -- what was served is told on standard output alone
+  pub served_told : (before after : D) (port count : ℕ) (w0 w v : Option (List ℕ)) (f0 f g ends : ℕ) → Serves step port count before after w0 w f0 f ends
+      → TellsOf (IsServed step port count before after) (record { out = w0; err = v; failures = f0 + g }) (record { out = w; err = v; failures = f + g }) ends
+  served_told before after port count w0 w v f0 f g ends (inl s) =
+      let printed : s.0 ≡ prints (listening port ++ lines_after 0 s.1.came) = s.1.is in
+      inl (s.0, s.1, ap (λ n. n + g) s.2, s.3, subst (λ (o : Outcome). Appends v v o.err) (sym printed) (appends_none v), s.4 ∙ sym (ap (λ (o : Outcome). o.status) printed))
+  served_told before after port count w0 w v f0 f g ends (inr s) = let more : f ≡ f0 + 1 = s.0 in inr (omega (arith, more), s.1)
 
 -- where no session is kept no preview is read of one
 pub at_once : (o : State) (q : Request) (a : Result Reply Refusal) → AnswersRound o q a → AnswersKept o q a → AnswersAtOnce o None q a

@@ -1,17 +1,17 @@
 -- What a line does at a database and leaves of it, and what comes of closing the file.
-use Rattle.std.specs.Prelude.{◌≡◌, ◌⊎◌, ℕ, false, ⊤, List, string_bytes, Option, Some, None, Result, Ok, Err, IfOk, IfErr}
-use Rattle.sqlite_disk.specs.Disk.{MoreFaults}
-use Rattle.sqlite_disk.specs.declared.Disk.{Ghosts}
+use Rattle.std.specs.Prelude.{◌≡◌, ◌⊎◌, ◌≤◌, ℕ, false, List, string_bytes, Option, Some, None, Result, Ok, Err, IfOk, IfErr, IsTrue}
+use Rattle.sqlite_disk.specs.declared.Disk as disk
 use Rattle.sqlite_disk.specs.declared.Files.{Files}
 use Rattle.sqlite_wal.specs.Reads.{AreClean}
+use Rattle.sqlite_trees.specs.declared.store.Store.{Ghosts}
 use Rattle.sqlite_trees.specs.View.{IsClean}
 use Rattle.sqlite_store.specs.declared.store.FileStore.{FileStore}
 use Rattle.sqlite_store.specs.FileStore.{view}
 use Rattle.sqlite.specs.declared.error.Error.{Error}
 use Rattle.sqlite.specs.Effect.{Database}
 use Rattle.sqlite.specs.State.{State as Seen, HasCleanDisk}
-use Rattle.sqlite.specs.Held.{Held}
-use Rattle.sqlite.specs.Files.{HoldsDatabase, IsBlankAs, IsClosed, IsOpened, FailsToClose, file_state}
+use Rattle.sqlite.specs.Held.{Held, state}
+use Rattle.sqlite.specs.Files.{HoldsDatabase, IsBlankAs, IsClosed, IsOpened, FailsToClose, file_state, over_files}
 use Rattle.sqlite.specs.Start.{FindsIn}
 use Rattle.sqlite_wal.specs.Recovery.{Image}
 use Rattle.sqlite_trees.specs.Tree.{Trees}
@@ -26,17 +26,16 @@ use Rattle.rolls.specs.State.{State, empty}
 use Rattle.rolls.specs.Fit.{IsFit}
 use Rattle.rolls.specs.Run.{Step}
 use Rattle.allotment.specs.Layers.{layers}
-use Rattle.tables.specs.Causes.{IsCaused, IsStopped}
+use Rattle.tables.specs.Causes.{IsStopped}
 use Rattle.tables.specs.Steps.{IsKept}
 use Rattle.store.specs.Causes.{IsHinderedOpening}
 use Rattle.store.specs.Reading.{IsDamaged}
 use Rattle.editions.specs.declared.Edition.{Edition}
-use Rattle.store.specs.Saving.{AreActedOn}
 use Rattle.store.specs.Tables.{HasNone, Opens, StandsIn}
-use Rattle.desk.specs.Causes.{IsHinderedToAsk}
 use Rattle.desk.specs.Keeping.{Keeps}
+use Rattle.desk.specs.Kept.{Kept}
 use Rattle.web.specs.Connections.{Connect}
-use Rattle.web.specs.Serving.{AtDesk, just_opened}
+use Rattle.web.specs.Serving.{AnswersFrom, GetsAt}
 use Rattle.wire.specs.declared.outcome.Served.{Served}
 use Rattle.wire.specs.declared.outcome.StreamFault.{StreamFault}
 use Rattle.round_files.specs.Rounds.{IsSolved, IsChecked}
@@ -48,36 +47,7 @@ use Rattle.cli.specs.declared.tasks.Task.{Task}
 use Rattle.cli.specs.declared.tasks.Task.TheVariants as task
 use Rattle.cli.specs.Outputs.{Both}
 use Rattle.cli.specs.Imports.{IsImportOfFile}
-use Rattle.cli.specs.Outcomes.{ComesOf, IsUnread, MayComeOf, OnFile, Outcome, Tells, refused}
-
--- at a desk a request that is told as a fault of the storage has its cause, unless a foreign key of another table acts there
-abbrev pub HasCause : (done : Task) (before after : AtDesk) (o : Outcome) → ComesOf done before after o → Seen → Seen → Type 0
-HasCause (task.Ask asked) before after o comes opened last =
-    (AreActedOn opened.now.schema → ⊥) → IsCaused no.Storage (IsHinderedToAsk before.office asked) comes.answer opened last
-HasCause (task.Serve serving) before after o comes opened last = ⊤
-
--- what a task comes to at a desk, from this database to that one
-abbrev pub ComesFrom : Task → AtDesk → AtDesk → Seen → Seen → Outcome → Type 0
-ComesFrom done before after opened last o = (comes : ComesOf done before after o) × HasCause done before after o comes opened last
-
--- over a database that was opened the cause is the disk, which has failed or refused once more, or a change that the database as it was opened refuses
-abbrev pub HasCauseOver : (done : Task) (before after : AtDesk) (o : Outcome) → ComesOf done before after o → Seen → Database → Seen → Type 0
-HasCauseOver (task.Ask asked) before after o comes first opened last =
-    (AreActedOn opened.schema → ⊥) → HasCleanDisk last → comes.answer ≡ Err no.Storage
-    → MoreFaults first.faults last.faults ⊎ IsHinderedToAsk before.office asked first.step_limit opened
-HasCauseOver (task.Serve serving) before after o comes first opened last = ⊤
-
--- what a task makes of what is at a desk: one step of its request, or what its connections make
-abbrev pub TakesTo : Task → AtDesk → AtDesk → Type 0
-TakesTo (task.Ask asked) before after = (answer : Result Reply Refusal) × Step layers before.office asked answer after.office
-TakesTo (task.Serve serving) before after = (came : List (Result Served StreamFault)) × Connect before came after
-
--- the tables stand for what a task makes of the office at this desk, which is fit
-pub record StandsAfter (done : Task) (before : AtDesk) (seen : Seen) : Type 0 where
-  pub fit : IsFit before.office
-  pub after : AtDesk
-  pub taken : TakesTo done before after
-  pub stands : Keeps seen after.office
+use Rattle.cli.specs.Outcomes.{IsUnread, MayComeOf, OnFile, Outcome, ServesAt, Tells, of_answer, refused}
 
 -- a disk that is clean behind a task was clean before it
 abbrev pub WasClean : Seen → Seen → Type 0
@@ -109,31 +79,49 @@ pub record IsNotDone (before after : Seen) (o : Outcome) : Type 0 where
   pub told : o ≡ refused refusal
   pub stays : StaysSo before after
 
--- The task is done at the office of the database: what comes of it is told, and the tables stand for the office after it.
-pub record IsDone (done : Task) (before after : Seen) (o : Outcome) : Type 0 where
-  pub office : State
-  pub found : IsFoundFor before after office
-  pub fit : IsFit office
-  pub next : AtDesk
-  pub opened : Database
-  pub opens : HasCleanDisk after → Opens before.now opened office
-  pub comes : ComesOf done (just_opened office) next o
-  pub cause : HasCauseOver done (just_opened office) next o comes before opened after
-  pub stands : Keeps after next.office
+module _ {S : Type 0} (ghosts : Ghosts S) where
+  -- What a task comes to at a desk over its tables: of the answer of its request, or of the connections served. Each fault of the storage
+  -- that it is answered by, or a client of a connection, has its cause in the tables as they stood then.
+  abbrev pub ComesFrom : Task → Kept S → Kept S → Outcome → Type 0
+  ComesFrom (task.Ask asked) before after o = (answer : Result Reply Refusal) × GetsAt ghosts before asked answer after × (o ≡ of_answer answer)
+  ComesFrom (task.Serve serving) before after o = ServesAt (AnswersFrom ghosts) serving.port serving.count before after o
 
--- what a task at a database comes to, and what the database is then
-abbrev pub DoesOver : Task → Seen → Seen → Outcome → Type 0
-DoesOver done before after o = IsNotDone before after o ⊎ IsDone done before after o
+  -- what a task makes of what is at a desk: one step of its request, or what its connections make
+  abbrev pub TakesTo : Task → Kept S → Kept S → Type 0
+  TakesTo (task.Ask asked) before after =
+      (answer : Result Reply Refusal) × Step layers before.office asked answer after.office × WasClean (state ghosts before.store) (state ghosts after.store)
+  TakesTo (task.Serve serving) before after = (came : List (Result Served StreamFault)) × Connect (AnswersFrom ghosts) before came after
 
--- What a task with this status leaves of a database, whether or not it could be told: what it makes of the office, or, where that was not
--- opened, with status 1, the database as it was.
-abbrev pub LeftBy : Task → ℕ → Seen → Seen → Type 0
-LeftBy done status before after =
-    ((office : State) × IsFoundFor before after office × StandsAfter done (just_opened office) after) ⊎ ((status ≡ 1) × StaysSo before after)
+  -- The office of the database was opened at this desk, this was done there, and the tables stand for the office after it. From the opening
+  -- on no failure of the disk is taken back, and what a statement may take stays.
+  pub record IsDone (Done : Kept S → Kept S → Type 0) (first last : Held S) : Type 0 where
+    pub desk : Kept S
+    pub found : IsFoundFor (state ghosts first) (state ghosts last) desk.office
+    pub fit : IsFit desk.office
+    pub no_session : desk.session ≡ None
+    pub opens : HasCleanDisk (state ghosts last) → Opens (state ghosts first).now (state ghosts desk.store).now desk.office
+    pub is_open : HasCleanDisk (state ghosts last) → IsTrue (state ghosts desk.store).is_open
+    pub counts : (state ghosts first).faults ≤ (state ghosts desk.store).faults
+    pub limit : (state ghosts desk.store).step_limit ≡ (state ghosts first).step_limit
+    pub next : Kept S
+    pub done : Done desk next
+    pub given_back : last ≡ next.store
+    pub stands : Keeps (state ghosts last) next.office
+
+  -- what a task at a database comes to, and what the database is then
+  abbrev pub DoesOver : Task → Held S → Held S → Outcome → Type 0
+  DoesOver done first last o =
+      IsNotDone (state ghosts first) (state ghosts last) o ⊎ IsDone (λ desk next. ComesFrom done desk next o) first last
+
+  -- What a task with this status leaves of a database, whether or not it could be told: what it makes of the office, or, where that was not
+  -- opened, with status 1, the database as it was.
+  abbrev pub LeftBy : Task → ℕ → Held S → Held S → Type 0
+  LeftBy done status first last =
+      IsDone (TakesTo done) first last ⊎ ((status ≡ 1) × StaysSo (state ghosts first) (state ghosts last))
 
 -- What comes of closing a database file: the last commit is in the file alone, or there was no memory or the disk failed, and the two
 -- files hold it as before.
-pub record IsClosing {D : Type 0} {g : Ghosts D} (last : Held (FileStore D g)) (came : Result (Files D) (Error × FileStore D g)) : Type 0 where
+pub record IsClosing {D : Type 0} {g : disk.Ghosts D} (last : Held (FileStore D g)) (came : Result (Files D) (Error × FileStore D g)) : Type 0 where
   pub closed : IfOk came (λ files. AreClean g files.log files.db → IsCopied last files)
   pub failed : IfErr came (λ e. IsClosed last e.1 × (IsClean (view e.1) → FailsToClose last e.1 e.0))
 
@@ -142,12 +130,12 @@ abbrev pub IsOfficeIn : Image → State → Type 0
 IsOfficeIn image office = (db : Trees) → HoldsDatabase image db → (it : Database) × (it.trees ≡ db) × IsOfficeOf it office
 
 -- what came of closing a database file, where one was opened
-abbrev pub Came : (D : Type 0) → Ghosts D → Type 0
+abbrev pub Came : (D : Type 0) → disk.Ghosts D → Type 0
 Came D g = Option (Result (Files D) (Error × FileStore D g))
 
 -- A database file with these first contents was opened, a task was done over it, told and left, and the file was closed, which came to this.
 -- The office that was found is the one of the file.
-pub record DoneOver {D : Type 0} {g : Ghosts D} {O E : Type 0} (image : Image) (done : Task) (came : Result (Files D) (Error × FileStore D g))
+pub record DoneOver {D : Type 0} {g : disk.Ghosts D} {O E : Type 0} (image : Image) (done : Task) (came : Result (Files D) (Error × FileStore D g))
     (old new : Both O E) (status : ℕ) : Type 0 where
   pub first : Held (FileStore D g)
   pub last : Held (FileStore D g)
@@ -155,11 +143,11 @@ pub record DoneOver {D : Type 0} {g : Ghosts D} {O E : Type 0} (image : Image) (
   pub opened : HasCleanDisk (file_state first) → IsOpened first
   pub plain : HasCleanDisk (file_state first) → IsBlankAs false image → (view first.store).has_sums ≡ false
   pub of_file : (office : State) → IsFoundFor (file_state first) (file_state last) office → HasCleanDisk (file_state last) → IsOfficeIn image office
-  pub told : Tells (DoesOver done (file_state first) (file_state last)) old new status
-  pub left : LeftBy done status (file_state first) (file_state last)
+  pub told : Tells (DoesOver over_files done first last) old new status
+  pub left : LeftBy over_files done status first last
   pub closing : IsClosing last came
 
-module _ {D : Type 0} {g : Ghosts D} {O E : Type 0} (image : Image) where
+module _ {D : Type 0} {g : disk.Ghosts D} {O E : Type 0} (image : Image) where
   -- a task was done over the file, or it could not be opened
   abbrev pub DoneAt : Task → Came D g → Both O E → Both O E → ℕ → Type 0
   DoneAt done (Some came) old new status = DoneOver image done came old new status

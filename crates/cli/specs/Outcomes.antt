@@ -18,7 +18,8 @@ use Rattle.rolls.specs.Told.{number_of, name_of}
 use Rattle.allotment.specs.Layers.{layers}
 use Rattle.desk.specs.Sessions.{AnswersAtOnce, IsToldRight}
 use Rattle.web.specs.Connections.{Connect, lines_after}
-use Rattle.web.specs.Serving.{AtDesk, just_opened}
+use Rattle.web.specs.Serving.{AnswersMessage, AtDesk, just_opened}
+use Rattle.wire.specs.Run.{Said}
 use Rattle.round_files.specs.Rounds.{IsSolved, IsChecked}
 use Rattle.round_files.specs.declared.rounds.Trouble.{Trouble}
 use Rattle.round_files.specs.declared.rounds.Trouble.TheVariants.{Refused, BadLine, Failed}
@@ -124,21 +125,26 @@ listening port = codes "listening " ++ decimal port ++ 10 ∷ []
 abbrev pub no_port : ℕ → List ℕ
 no_port port = codes "no port " ++ decimal port ++ 10 ∷ []
 
--- so many connections were served at a desk
-pub record IsServed (port count : ℕ) (before after : AtDesk) (o : Outcome) : Type 0 where
-  pub came : List (Result Served StreamFault)
-  pub counted : length came ≡ count
-  pub served : Connect before came after
-  pub is : o ≡ prints (listening port ++ lines_after 0 came)
-
 -- the port could not be bound, and nothing is done at the desk
-abbrev pub IsUnbound : ℕ → AtDesk → AtDesk → Outcome → Type 0
+abbrev pub IsUnbound : {D : Type 0} → ℕ → D → D → Outcome → Type 0
 IsUnbound port before after o = (after ≡ before) × (o ≡ tells 1 (no_port port))
+
+module _ {D : Type 0} (step : D → Said → List ℕ → D → Type 0) where
+  -- so many connections were served at a desk
+  pub record IsServed (port count : ℕ) (before after : D) (o : Outcome) : Type 0 where
+    pub came : List (Result Served StreamFault)
+    pub counted : length came ≡ count
+    pub served : Connect step before came after
+    pub is : o ≡ prints (listening port ++ lines_after 0 came)
+
+  -- or their port could not be bound
+  abbrev pub ServesAt : ℕ → ℕ → D → D → Outcome → Type 0
+  ServesAt port count before after o = IsUnbound port before after o ⊎ IsServed port count before after o
 
 -- what a task comes to at a desk, and what is at the desk after it
 abbrev pub ComesOf : Task → AtDesk → AtDesk → Outcome → Type 0
 ComesOf (task.Ask asked) before after o = IsAsked asked before.office after.office o
-ComesOf (task.Serve serving) before after o = IsUnbound serving.port before after o ⊎ IsServed serving.port serving.count before after o
+ComesOf (task.Serve serving) before after o = ServesAt AnswersMessage serving.port serving.count before after o
 
 -- what a task at a database may come to: it could not be opened, or what the task comes to at a fit office that was just opened
 abbrev pub MayDo : Task → Outcome → Type 0

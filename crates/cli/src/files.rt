@@ -9,18 +9,6 @@ use std::fs::File;
 use std::io::{self, ErrorKind, Read};
 use std::rt::HostRuntime;
 
-/// The refusal of a file that cannot be read.
-fn refusal_of(error: &io::Error) -> Refusal
-    ensures memory { error_kind error.now ≡ ErrorKind.OutOfMemory → result ≡ Refusal.Memory }
-    ensures storage { (error_kind error.now ≡ ErrorKind.OutOfMemory → ⊥) → result ≡ Refusal.Storage }
-{
-    if error.kind() == ErrorKind::OutOfMemory {
-        Refusal::Memory
-    } else {
-        Refusal::Storage
-    }
-}
-
 /// What the system gave of a file, or the refusal of its error.
 fn refused_file<T: Drop>(came: io::Result<T>) -> Result<T, Refusal>
     ensures given { IfOk came (λ given. result ≡ Ok given) }
@@ -30,7 +18,8 @@ fn refused_file<T: Drop>(came: io::Result<T>) -> Result<T, Refusal>
 {
     match came {
         Ok(given) => Ok(given),
-        Err(error) => Err(refusal_of(&error)),
+        Err(error) if error.kind() == ErrorKind::OutOfMemory => Err(Refusal::Memory),
+        Err(_) => Err(Refusal::Storage),
     }
 }
 

@@ -76,8 +76,8 @@ pub(crate) fn import_file(
 /// Asks a request of the office of a database file, as `do_on` does, or tells why it was not made.
 pub(crate) fn ask_made<S: Start, O: Sink, E: Sink>(
     rt: &HostRuntime,
-    database: &str,
     start: S,
+    database: &str,
     made: Result<Request, Refusal>,
     outputs: &mut Outputs<O, E>,
 ) -> (u8, Option<Closing<FileFrom<S>>>)
@@ -85,7 +85,7 @@ pub(crate) fn ask_made<S: Start, O: Sink, E: Sink>(
     ensures { AskedAt (image_at S.Start) made result.1 outputs.old outputs.new result.0 }
 {
     match made {
-        Ok(asked) => do_on(rt, database, start, Task::Ask(asked), outputs),
+        Ok(asked) => do_on(rt, start, database, Task::Ask(asked), outputs),
         Err(refusal) => (outputs.refuse(refusal), None),
     }
 }

@@ -19,8 +19,8 @@ use web::Sink;
 /// the next opening finds it.
 pub(crate) fn do_on<S: Start, O: Sink, E: Sink>(
     rt: &HostRuntime,
-    database: &str,
     start: S,
+    database: &str,
     task: Task,
     outputs: &mut Outputs<O, E>,
 ) -> (u8, Option<Closing<FileFrom<S>>>)

@@ -42,45 +42,11 @@ pub fn serve_anew<R: Source, W: Sink>(alloc: Global, reader: &mut R, writer: &mu
     }
 }
 
-/// Does the line of these words, of which the first is the program's name, as `tell_line` does; where there is no other word,
-/// serves the reader's stream to standard output, as `serve_anew` does. Gives the status of the program: 0 for a stream that was served to
-/// its end, and 1 for one that was not. What came of closing a database file is given back beside it.
+/// Does the line of the words that were given, of which the first is the program's name, as `tell_line` does; where there is no other
+/// word, serves the reader's stream to standard output, as `serve_anew` does; where they cannot be read, tells why, as `tell_unread`
+/// does. Gives the status of the program: 0 for a stream that was served to its end, and 1 for one that was not. What came of closing
+/// a database file is given back beside it.
 pub fn begin<S: Start, R: Source, O: Sink, E: Sink>(
-    rt: &HostRuntime,
-    start: S,
-    words: &[String],
-    reader: &mut R,
-    outputs: &mut Outputs<O, E>,
-) -> (u8, Option<Closing<FileFrom<S>>>)
-    requires reader { R.failures reader.old < 2 ^ 64 - 1 }
-    requires open { R.ended reader.old ≡ false }
-    requires outputs { CanFail outputs.old }
-    ensures line { 1 < length words.now → Tells (ComesTo (map string_bytes words.now)) outputs.old outputs.new result.0 }
-    ensures file { 1 < length words.now → WordsAt (image_at S.Start) (map string_bytes words.now) result.1 outputs.old outputs.new result.0 }
-    ensures unread { 1 < length words.now → reader.new ≡ reader.old }
-    ensures stream { length words.now ≤ 1 → StreamsAnew (R.left reader.old) outputs.old.out.written (R.left reader.new) outputs.new.out.written result.0 }
-    ensures silent { length words.now ≤ 1 → outputs.new.err ≡ outputs.old.err }
-
-    // A stream opens no file.
-    ensures no_file { length words.now ≤ 1 → result.1 ≡ None }
-    ensures status { result.0 ≤ 2 }
-{
-    if words.len() > 1 {
-        return tell_line(rt, start, words, outputs);
-    }
-    (
-        u8::from(!serve_anew(rt.alloc(), reader, &mut outputs.out)),
-        None,
-    )
-}
-
-/// The words of the command line, the program's name first.
-fn given(rt: &HostRuntime) -> io::Result<Vec<String>> {
-    Ok(env::args(rt)?.collect(rt.alloc())?)
-}
-
-/// Does as `begin` does with the words that were given, or tells why they cannot be read, as `tell_unread` does.
-fn begin_given<S: Start, R: Source, O: Sink, E: Sink>(
     rt: &HostRuntime,
     start: S,
     given: io::Result<Vec<String>>,
@@ -91,18 +57,30 @@ fn begin_given<S: Start, R: Source, O: Sink, E: Sink>(
     requires open { R.ended reader.old ≡ false }
     requires outputs { CanFail outputs.old }
     ensures told { MatchResult given (λ words. 1 < length words.items → Tells (ComesTo (map string_bytes words.items)) outputs.old outputs.new result.0) (λ error. Tells (OfUnread (error_kind error)) outputs.old outputs.new result.0) }
-    ensures file { MatchResult given (λ words. 1 < length words.items → WordsAt (image_at S.Start) (map string_bytes words.items) result.1 outputs.old outputs.new result.0) (λ _. result.1 ≡ None) }
+    ensures file { IfOk given (λ words. 1 < length words.items → WordsAt (image_at S.Start) (map string_bytes words.items) result.1 outputs.old outputs.new result.0) }
     ensures stream { IfOk given (λ words. length words.items ≤ 1 → StreamsAnew (R.left reader.old) outputs.old.out.written (R.left reader.new) outputs.new.out.written result.0) }
     ensures silent { IfOk given (λ words. length words.items ≤ 1 → outputs.new.err ≡ outputs.old.err) }
 
-    // Where the words cannot be read nothing else is.
+    // A line does not read the stream, and a stream opens no file. Where the words cannot be read neither is touched.
     ensures unread { MatchResult given (λ words. 1 < length words.items → reader.new ≡ reader.old) (λ _. reader.new ≡ reader.old) }
+    ensures no_file { MatchResult given (λ words. length words.items ≤ 1 → result.1 ≡ None) (λ _. result.1 ≡ None) }
     ensures status { result.0 ≤ 2 }
 {
     match given {
-        Ok(words) => begin(rt, start, &words, reader, outputs),
+        Ok(words) => {
+            if words.len() > 1 {
+                return tell_line(rt, start, &words, outputs);
+            }
+            let served = serve_anew(rt.alloc(), reader, &mut outputs.out);
+            (u8::from(!served), None)
+        }
         Err(error) => (tell_unread(Unread::of(&error), &mut outputs.err), None),
     }
+}
+
+/// The words of the command line, the program's name first.
+fn given(rt: &HostRuntime) -> io::Result<Vec<String>> {
+    Ok(env::args(rt)?.collect(rt.alloc())?)
 }
 
 /// Does all that the program does, and gives its status, which is at most 2.
@@ -114,6 +92,6 @@ pub fn start(rt: &HostRuntime) -> u8
 {
     let mut reader = Watched::new(rt.stdin());
     let mut outputs = Outputs::new(Watched::new(rt.stdout()), Watched::new(rt.stderr()));
-    let (status, _closing) = begin_given(rt, Unknown, given(rt), &mut reader, &mut outputs);
+    let (status, _closing) = begin(rt, Unknown, given(rt), &mut reader, &mut outputs);
     status
 }

@@ -40,8 +40,8 @@ fn do_line<S: Start, O: Sink, E: Sink>(
             count,
         } => do_on(
             rt,
-            &database,
             start,
+            &database,
             Task::Serve(Serving { port, count }),
             outputs,
         ),
@@ -52,23 +52,23 @@ fn do_line<S: Start, O: Sink, E: Sink>(
             file,
         } => ask_made(
             rt,
-            &database,
             start,
+            &database,
             import_file(rt, kind, &id, &file),
             outputs,
         ),
         Line::OpenRound { database, aim } => {
             let asked = Request::Plain(Plain::OpenRound { aim });
-            do_on(rt, &database, start, Task::Ask(asked), outputs)
+            do_on(rt, start, &database, Task::Ask(asked), outputs)
         }
         Line::ReopenRound(database) => {
             let asked = Request::Plain(Plain::ReopenRound);
-            do_on(rt, &database, start, Task::Ask(asked), outputs)
+            do_on(rt, start, &database, Task::Ask(asked), outputs)
         }
         Line::CloseRound(database) => do_on(
             rt,
-            &database,
             start,
+            &database,
             Task::Ask(Request::Close),
             outputs,
         ),
@@ -78,28 +78,10 @@ fn do_line<S: Start, O: Sink, E: Sink>(
             round,
         } => {
             let asked = Request::Report { kind, round };
-            do_on(rt, &database, start, Task::Ask(asked), outputs)
+            do_on(rt, start, &database, Task::Ask(asked), outputs)
         }
         Line::Solve(file) => (do_file(rt, Way::Solve, &file, outputs), None),
         Line::Check(file) => (do_file(rt, Way::Check, &file, outputs), None),
-    }
-}
-
-/// Does the line of these words, or tells their fault.
-fn do_words<S: Start, O: Sink, E: Sink>(
-    rt: &HostRuntime,
-    start: S,
-    words: &[String],
-    outputs: &mut Outputs<O, E>,
-) -> (u8, Option<Closing<FileFrom<S>>>)
-    requires { CanFail outputs.old }
-    ensures { WordsAt (image_at S.Start) (map string_bytes words.now) result.1 outputs.old outputs.new result.0 }
-{
-    match command(rt.alloc(), words) {
-        Ok(line) => do_line(rt, start, line, outputs),
-        Err(LineFault::Memory) => (outputs.refuse(Refusal::Memory), None),
-        Err(LineFault::Help(text)) => (outputs.print(text.as_bytes(), 0), None),
-        Err(LineFault::Fault(text)) => (outputs.tell(text.as_bytes(), 2), None),
     }
 }
 
@@ -118,7 +100,12 @@ pub fn tell_line<S: Start, O: Sink, E: Sink>(
     ensures told { Tells (ComesTo (map string_bytes words.now)) outputs.old outputs.new result.0 }
     ensures file { WordsAt (image_at S.Start) (map string_bytes words.now) result.1 outputs.old outputs.new result.0 }
 {
-    do_words(rt, start, words, outputs)
+    match command(rt.alloc(), words) {
+        Ok(line) => do_line(rt, start, line, outputs),
+        Err(LineFault::Memory) => (outputs.refuse(Refusal::Memory), None),
+        Err(LineFault::Help(text)) => (outputs.print(text.as_bytes(), 0), None),
+        Err(LineFault::Fault(text)) => (outputs.tell(text.as_bytes(), 2), None),
+    }
 }
 
 /// Tells on `err` why the arguments of the program cannot be read, and gives the status of the program: 1 where there was no

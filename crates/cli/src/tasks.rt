@@ -3,15 +3,12 @@
 ghost use Rattle.std.specs.Prelude.{◌≡◌, ◌-◌, ◌^◌, ◌<◌, [], ◌∷◌, IfErr, MatchResult};
 ghost use Rattle.std.specs.Net.Addr.{ipv4_octets};
 ghost use Rattle.std.specs.Net.Socket.{v4_ip, v4_port};
-ghost use Rattle.sqlite.specs.Held.{state};
-ghost use Rattle.rolls.specs.Run.{Step};
-ghost use Rattle.allotment.specs.Layers.{layers};
 ghost use Rattle.web.specs.Connections.{Connect};
-ghost use Rattle.web.specs.Serving.{at_desk};
+ghost use Rattle.web.specs.Serving.{AnswersFrom};
 ghost use Rattle.cli.specs.Outputs.{CanFail};
-ghost use Rattle.cli.specs.Outcomes.{Tells, IsServed, IsUnbound, ComesOf};
+ghost use Rattle.cli.specs.Outcomes.{Tells, IsServed, IsUnbound};
 ghost use Rattle.cli.specs.Inside.Outcomes.{IsCutOff, Serves};
-ghost use Rattle.cli.specs.Databases.{ComesFrom, TakesTo, WasClean};
+ghost use Rattle.cli.specs.Databases.{ComesFrom, TakesTo};
 
 use crate::outputs::Outputs;
 use crate::texts::labelled;
@@ -49,9 +46,8 @@ fn ask_at<S: Alter, O: Sink, E: Sink>(
     outputs: &mut Outputs<O, E>,
 ) -> u8
     requires { CanFail outputs.old }
-    ensures told { Tells (ComesFrom (Task.Ask asked) (at_desk desk.old) (at_desk desk.new) (state S.Store desk.old.store) (state S.Store desk.new.store)) outputs.old outputs.new result }
-    ensures step { (answer : _) × Step layers desk.old.office asked answer desk.new.office }
-    ensures clean { WasClean (state S.Store desk.old.store) (state S.Store desk.new.store) }
+    ensures told { Tells (ComesFrom S.Store (Task.Ask asked) desk.old desk.new) outputs.old outputs.new result }
+    ensures taken { TakesTo S.Store (Task.Ask asked) desk.old desk.new }
 {
     match desk.ask(asked) {
         Ok(reply) => outputs.print_reply(&reply),
@@ -68,12 +64,11 @@ fn serve_at<S: Alter, O: Sink>(
     out: &mut O,
 ) -> u8
     requires { O.failures out.old < 2 ^ 64 - 1 }
-    ensures told { Serves serving.port serving.count (at_desk desk.old) (at_desk desk.new) (O.written out.old) (O.written out.new) (O.failures out.old) (O.failures out.new) result }
+    ensures told { Serves (AnswersFrom S.Store) serving.port serving.count desk.old desk.new (O.written out.old) (O.written out.new) (O.failures out.old) (O.failures out.new) result }
 
     // Nothing is served before the line of the port is out.
-    ensures cut { result ≡ 1 → IsCutOff (at_desk desk.old) serving.port serving.count (O.written out.old) (O.written out.new) (at_desk desk.new) }
-    ensures served { (came : _) × Connect (at_desk desk.old) came (at_desk desk.new) }
-    ensures clean { WasClean (state S.Store desk.old.store) (state S.Store desk.new.store) }
+    ensures cut { result ≡ 1 → IsCutOff (AnswersFrom S.Store) desk.old serving.port serving.count (O.written out.old) (O.written out.new) desk.new }
+    ensures served { (came : _) × Connect (AnswersFrom S.Store) desk.old came desk.new }
 {
     let Ok(()) = write_all(
         out,
@@ -104,9 +99,8 @@ fn serve_bound<S: Alter, O: Sink, E: Sink>(
     outputs: &mut Outputs<O, E>,
 ) -> u8
     requires { CanFail outputs.old }
-    ensures told { Tells (λ o. MatchResult bound (λ _. IsServed serving.port serving.count (at_desk desk.old) (at_desk desk.new) o) (λ _. IsUnbound serving.port (at_desk desk.old) (at_desk desk.new) o)) outputs.old outputs.new result }
-    ensures served { (came : _) × Connect (at_desk desk.old) came (at_desk desk.new) }
-    ensures clean { WasClean (state S.Store desk.old.store) (state S.Store desk.new.store) }
+    ensures told { Tells (λ o. MatchResult bound (λ _. IsServed (AnswersFrom S.Store) serving.port serving.count desk.old desk.new o) (λ _. IsUnbound serving.port desk.old desk.new o)) outputs.old outputs.new result }
+    ensures served { (came : _) × Connect (AnswersFrom S.Store) desk.old came desk.new }
 
     // Where no port is bound nothing is done at the desk.
     ensures unbound { IfErr bound (λ _. desk.new ≡ desk.old) }
@@ -117,23 +111,9 @@ fn serve_bound<S: Alter, O: Sink, E: Sink>(
     }
 }
 
-/// Serves connections to a port of the loopback address at a desk.
-fn serve_from<S: Alter, O: Sink, E: Sink>(
-    rt: &HostRuntime,
-    desk: &mut Desk<S>,
-    serving: Serving,
-    outputs: &mut Outputs<O, E>,
-) -> u8
-    requires { CanFail outputs.old }
-    ensures told { Tells (ComesOf (Task.Serve serving) (at_desk desk.old) (at_desk desk.new)) outputs.old outputs.new result }
-    ensures served { (came : _) × Connect (at_desk desk.old) came (at_desk desk.new) }
-    ensures clean { WasClean (state S.Store desk.old.store) (state S.Store desk.new.store) }
-{
-    let bound = TcpListener::bind(rt, loopback(serving.port));
-    serve_bound(rt.alloc(), desk, bound, serving, outputs)
-}
-
 /// Does a task at a desk, and tells what comes of it.
+///
+/// It keeps the two tasks apart from what is done behind them, which is so told once.
 pub(crate) fn do_at<S: Alter, O: Sink, E: Sink>(
     rt: &HostRuntime,
     desk: &mut Desk<S>,
@@ -141,12 +121,14 @@ pub(crate) fn do_at<S: Alter, O: Sink, E: Sink>(
     outputs: &mut Outputs<O, E>,
 ) -> u8
     requires { CanFail outputs.old }
-    ensures told { Tells (ComesFrom task (at_desk desk.old) (at_desk desk.new) (state S.Store desk.old.store) (state S.Store desk.new.store)) outputs.old outputs.new result }
-    ensures taken { TakesTo task (at_desk desk.old) (at_desk desk.new) }
-    ensures clean { WasClean (state S.Store desk.old.store) (state S.Store desk.new.store) }
+    ensures told { Tells (ComesFrom S.Store task desk.old desk.new) outputs.old outputs.new result }
+    ensures taken { TakesTo S.Store task desk.old desk.new }
 {
     match task {
         Task::Ask(asked) => ask_at(desk, asked, outputs),
-        Task::Serve(serving) => serve_from(rt, desk, serving, outputs),
+        Task::Serve(serving) => {
+            let bound = TcpListener::bind(rt, loopback(serving.port));
+            serve_bound(rt.alloc(), desk, bound, serving, outputs)
+        }
     }
 }

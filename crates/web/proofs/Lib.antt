@@ -1,3 +1,3 @@
-mod OneConnection
+pub mod OneConnection
 pub mod Seen
 pub mod OneMessage

@@ -2,21 +2,23 @@
 use Rattle.std.proofs.Common.{◌≡◌, ◌<◌, ◌+◌, ◌∙◌, ℕ, List, [], ◌∷◌, ◌++◌, length, take, Option, Result, Ok, Err, IfOk, IfErr, OnErr, inl, inr, refl, sym, ap, subst, arith, append-nil}
 use Rattle.std.specs.Io.KnownBytes.{Appends}
 use Rattle.std.proofs.lemmas.List.{append_assoc, length-append}
-use Rattle.wire.proofs.Known.{appends_compose, appends_none}
+use Rattle.wire.proofs.Known.{appends_compose}
 use Rattle.wire.specs.declared.outcome.Served.{Served}
 use Rattle.wire.specs.declared.outcome.StreamFault.{StreamFault}
 use Rattle.wire.specs.declared.outcome.StreamFault.TheVariants.{Read}
-use Rattle.web.specs.Inside.Connections.{IsStreamed}
-use Rattle.web.specs.Connections.{Connects, Connect, connection_line, lines_after, AllServed, SomeServed}
-use Rattle.web.specs.Serving.{AtDesk}
+use Rattle.wire.specs.Run.{Said}
+use Rattle.web.specs.Connections.{IsStreamed, Connects, Connect, connection_line, lines_after, AllServed, SomeServed}
+use Rattle.web.specs.Serving.{end_text}
+use Rattle.web.proofs.Seen.{Shows, GivesBack, is_served_seen, served_back}
 
 abbrev Came : Type 0
 Came = Result Served StreamFault
 
--- one connection more
-connect_more : (before mid after : AtDesk) (came : List Came) (one : Came) → Connect before came mid → Connects mid one after → Connect before (came ++ one ∷ []) after
-connect_more before mid after [] one so_far last = (after, subst (λ (d : AtDesk). Connects d one after) so_far last, refl)
-connect_more before mid after (c ∷ came) one so_far last = (so_far.0, so_far.1, connect_more so_far.0 mid after came one so_far.2 last)
+module _ {D : Type 0} (step : D → Said → List ℕ → D → Type 0) where
+  -- one connection more
+  connect_more : (before mid after : D) (came : List Came) (one : Came) → Connect step before came mid → Connects step mid one after → Connect step before (came ++ one ∷ []) after
+  connect_more before mid after [] one so_far last = (after, subst (λ (d : D). Connects step d one after) so_far last, refl)
+  connect_more before mid after (c ∷ came) one so_far last = (so_far.0, so_far.1, connect_more so_far.0 mid after came one so_far.2 last)
 
 -- its line comes after the others
 lines_more : (n : ℕ) (came : List Came) (one : Came) → lines_after n (came ++ one ∷ []) ≡ lines_after n came ++ connection_line (n + length came + 1) one
@@ -34,40 +36,59 @@ next_line n came one counted =
     let at : 0 + length came + 1 ≡ n + 1 = omega (arith, counted) in
     lines_more 0 came one ∙ ap (λ k. lines_after 0 came ++ connection_line k one) at
 
--- one more is served and told
-pub one_more : (before mid after : AtDesk) (n : ℕ) (w0 w w' : Option (List ℕ)) (one : Came) → AllServed before n w0 w mid → Connects mid one after
-    → Appends w w' (connection_line (n + 1) one) → AllServed before (n + 1) w0 w' after
-one_more before mid after n w0 w w' one so_far last wrote = record {
-  came = so_far.came ++ one ∷ [];
-  counted = length-append so_far.came (one ∷ []) ∙ ap (λ k. k + 1) so_far.counted;
-  served = connect_more before mid after so_far.came one so_far.served last;
-  wrote = subst (λ ls. Appends w0 w' ls) (sym (next_line n so_far.came one so_far.counted)) (appends_compose w0 w w' _ _ so_far.wrote wrote);
-}
-
--- one more is served, and its line is cut
-pub one_cut : (before mid after : AtDesk) (n count : ℕ) (w0 w w' : Option (List ℕ)) (one : Came) → n < count → AllServed before n w0 w mid → Connects mid one after
-    → ((k : ℕ) × (k < length (connection_line (n + 1) one)) × Appends w w' (take k (connection_line (n + 1) one))) → SomeServed before count w0 w' after
-one_cut before mid after n count w0 w w' one few so_far last wrote =
-    let counted : length so_far.came ≡ n = so_far.counted in
-    record {
-      told = so_far.came;
-      last = one;
-      few = omega (arith, counted, few);
-      served = connect_more before mid after so_far.came one so_far.served last;
-      kept = wrote.0;
-      cut = rw counted wrote.1;
-      wrote = rw counted (appends_compose w0 w w' _ _ so_far.wrote wrote.2);
-    }
-
 -- what holds is said of a fault
 pub at_fault : {A E P : Type 0} (r : Result A E) → P → OnErr r P
 at_fault (Ok a) p = tt
 at_fault (Err e) p = p
 
--- what became of the next connection, whether it was accepted or not
-pub came_next : {A E D : Type 0} (see : D → AtDesk) (before after : D) (accepted : Result A E) (came : Came) → IfOk accepted (λ _. IsStreamed (see before) came (see after))
-    → IfErr accepted (λ _. (came ≡ Err Read) × (after ≡ before)) → Connects (see before) came (see after)
-came_next see before after (Ok a) (Ok served) streamed failed = streamed
-came_next see before after (Ok a) (Err fault) streamed failed = inl streamed
-came_next see before after (Err e) came streamed failed =
-    subst (λ (r : Came). Connects (see before) r (see after)) (sym failed.0) (inr (refl, ap see failed.1))
+module _ {D : Type 0} (step : D → Said → List ℕ → D → Type 0) where
+  -- one more is served and told
+  pub one_more : (before mid after : D) (n : ℕ) (w0 w w' : Option (List ℕ)) (one : Came) → AllServed step before n w0 w mid → Connects step mid one after
+      → Appends w w' (connection_line (n + 1) one) → AllServed step before (n + 1) w0 w' after
+  one_more before mid after n w0 w w' one so_far last wrote = record {
+    came = so_far.came ++ one ∷ [];
+    counted = length-append so_far.came (one ∷ []) ∙ ap (λ k. k + 1) so_far.counted;
+    served = connect_more step before mid after so_far.came one so_far.served last;
+    wrote = subst (λ ls. Appends w0 w' ls) (sym (next_line n so_far.came one so_far.counted)) (appends_compose w0 w w' _ _ so_far.wrote wrote);
+  }
+
+  -- one more is served, and its line is cut
+  pub one_cut : (before mid after : D) (n count : ℕ) (w0 w w' : Option (List ℕ)) (one : Came) → n < count → AllServed step before n w0 w mid → Connects step mid one after
+      → ((k : ℕ) × (k < length (connection_line (n + 1) one)) × Appends w w' (take k (connection_line (n + 1) one))) → SomeServed step before count w0 w' after
+  one_cut before mid after n count w0 w w' one few so_far last wrote =
+      let counted : length so_far.came ≡ n = so_far.counted in
+      record {
+        told = so_far.came;
+        last = one;
+        few = omega (arith, counted, few);
+        served = connect_more step before mid after so_far.came one so_far.served last;
+        kept = wrote.0;
+        cut = rw counted wrote.1;
+        wrote = rw counted (appends_compose w0 w w' _ _ so_far.wrote wrote.2);
+      }
+
+  -- what became of the next connection, whether it was accepted or not
+  pub came_next : {A E : Type 0} (before after : D) (accepted : Result A E) (came : Came) → IfOk accepted (λ _. IsStreamed step before came after)
+      → IfErr accepted (λ _. (came ≡ Err Read) × (after ≡ before)) → Connects step before came after
+  came_next before after (Ok a) came streamed failed = inl streamed
+  came_next before after (Err e) came streamed failed = inr failed
+
+-- connections at a desk are connections of what is seen of it
+module _ {D S : Type 0} (see : D → S) (step : S → Said → List ℕ → S → Type 0) (seen : D → Said → List ℕ → D → Type 0) (shows : Shows see step seen) where
+  connects_seen : (before after : D) (came : Came) → Connects seen before came after → Connects step (see before) came (see after)
+  connects_seen before after came (inl s) = inl (s.0, s.1, s.2, s.3, is_served_seen see step end_text seen shows before after s.0 s.1 s.2 s.3 came s.4)
+  connects_seen before after came (inr failed) = inr (failed.0, ap see failed.1)
+
+  pub connect_seen : (before after : D) (came : List Came) → Connect seen before came after → Connect step (see before) came (see after)
+  connect_seen before after [] none = ap see none
+  connect_seen before after (one ∷ more) c = (see c.0, connects_seen before c.0 one c.1, connect_seen c.0 after more c.2)
+
+-- what a step gives back connections do
+module _ {D : Type 0} (P : D → Type 0) (step : D → Said → List ℕ → D → Type 0) (back : GivesBack P step) where
+  connects_back : (before after : D) (came : Came) → Connects step before came after → P after → P before
+  connects_back before after came (inl s) p = served_back P step end_text back before after s.0 s.1 s.2 s.3 came s.4 p
+  connects_back before after came (inr failed) p = subst P failed.1 p
+
+  pub connect_back : (before after : D) (came : List Came) → Connect step before came after → P after → P before
+  connect_back before after [] none p = subst P none p
+  connect_back before after (one ∷ more) c p = connects_back before c.0 one c.1 (connect_back c.0 after more c.2 p)

@@ -2,18 +2,22 @@
 use Rattle.std.proofs.Common.{◌≡◌, ◌⊎◌, inl, inr, ℕ, List, Option, None, IfSome, Result, Ok, Err, refl, sym, subst, ap}
 use Rattle.sqlite_trees.specs.declared.store.Store.{Ghosts}
 use Rattle.rolls.specs.declared.refusal.Refusal.{Refusal}
-use Rattle.rolls.specs.declared.refusal.Refusal.TheVariants.{Memory}
+use Rattle.rolls.specs.declared.refusal.Refusal.TheVariants.{Memory, Storage}
 use Rattle.rolls.specs.declared.request.Plain.TheVariants.{PutSupervisor, PutProject, PutStudent, OpenRound, PutList, DropList, ReopenRound, GetSupervisor, GetProject, GetStudent, GetRound}
 use Rattle.rolls.specs.declared.request.Reply.{Reply}
 use Rattle.rolls.specs.declared.request.Reply.TheVariants as reply
 use Rattle.rolls.specs.declared.request.Request.{Request}
 use Rattle.rolls.specs.declared.request.Request.TheVariants as request
 use Rattle.rolls.specs.Refusing.{refusal_of}
-use Rattle.rolls.specs.Run.{Makes, refusal}
+use Rattle.rolls.specs.Run.{Makes, Step, refusal}
 use Rattle.allotment.specs.Layers.{layers}
 use Rattle.desk.specs.Keeping.{repeated_rows}
 use Rattle.desk.specs.Kept.{Kept}
-use Rattle.desk.specs.Sessions.{GoesOn}
+use Rattle.desk.specs.Sessions.{AnswersAtOnce, GoesOn, IsToldRight}
+use Rattle.desk.specs.Causes.{IsHinderedToAsk}
+use Rattle.store.specs.Saving.{AreActedOn}
+use Rattle.tables.specs.Causes.{IsCaused}
+use Rattle.sqlite.specs.Held.{state}
 use Rattle.wire.specs.Run.{Said}
 use Rattle.api.specs.Texts.{IsRead, refusal_text, text_of}
 use Rattle.web.specs.Serving.{Answers, AnswersAt, AnswersFrom, AnswersMessage, AtDesk, Gets, GetsAt, at_desk}
@@ -61,6 +65,11 @@ text_wants o n (request.Report kind round) a read allowed made goes = wants_memo
 text_wants o n (request.Import id kind bytes) a read allowed made goes = absurd (no_read a _ made.0 read)
 
 module _ {S : Type 0} (ghosts : Ghosts S) where
+  -- what a desk promises of a request is what the request gets
+  pub gets_at : (o n : Kept S) (q : Request) (a : Result Reply Refusal) → Step layers o.office q a n.office → IsToldRight o.office q a → AnswersAtOnce o.office o.session q a → GoesOn o.office q a o.session n.session
+      → ((AreActedOn (state ghosts o.store).now.schema → ⊥) → IsCaused Storage (IsHinderedToAsk o.office q) a (state ghosts o.store) (state ghosts n.store)) → GetsAt ghosts o q a n
+  gets_at o n q a step right at_once goes cause = record { gets = record { step = step; right = right; at_once = at_once; goes = goes }; cause = cause }
+
   -- a request that gets an answer is answered by its text, or as one that wants memory
   pub answered_from : (o n : Kept S) (bytes : List ℕ) (q : Request) (a : Result Reply Refusal) → GetsAt ghosts o q a n
       → (bytes ≡ text_of a) ⊎ (IsRead a × (bytes ≡ refusal_text Memory)) → AnswersAt ghosts o (Ok q) bytes n

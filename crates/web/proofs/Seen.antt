@@ -1,8 +1,8 @@
 -- A run at a desk is a run of what is seen of it, and what a step gives back a run does.
-use Rattle.std.proofs.Common.{ℕ, List, [], ◌∷◌, Option, Result, Ok, Err, IfOk, IfErr, ap, sym, subst}
+use Rattle.std.proofs.Common.{ℕ, List, [], ◌∷◌, Option, Result, Ok, Err, ap, sym, subst}
 use Rattle.wire.specs.Messages.{Message}
 use Rattle.wire.specs.Run.{Said, said, Run}
-use Rattle.wire.specs.Served.{ServedTo, BrokeOff}
+use Rattle.wire.specs.Served.{IsServed, ServedTo, BrokeOff}
 use Rattle.wire.specs.declared.outcome.End.{End}
 use Rattle.wire.specs.declared.outcome.Served.{Served}
 use Rattle.wire.specs.declared.outcome.StreamFault.{StreamFault}
@@ -12,13 +12,13 @@ abbrev pub Shows : {D S : Type 0} → (D → S) → (S → Said → List ℕ →
 Shows {D} see step seen = (before : D) (words : Said) (bytes : List ℕ) (after : D) → seen before words bytes after → step (see before) words bytes (see after)
 
 module _ {D S : Type 0} (see : D → S) (step : S → Said → List ℕ → S → Type 0) (refusal : End → List ℕ) (seen : D → Said → List ℕ → D → Type 0) (shows : Shows see step seen) where
-  pub run_seen : (before after : D) (messages : List Message) (answers : List (List ℕ)) → Run seen before messages answers after → Run step (see before) messages answers (see after)
+  run_seen : (before after : D) (messages : List Message) (answers : List (List ℕ)) → Run seen before messages answers after → Run step (see before) messages answers (see after)
   run_seen before after [] [] r = ap see r
   run_seen before after [] (a ∷ answers) r = absurd r
   run_seen before after (m ∷ messages) [] r = absurd r
   run_seen before after (m ∷ messages) (a ∷ answers) r = (see r.0, shows before (said m) a r.0 r.1, run_seen r.0 after messages answers r.2)
 
-  pub serves_seen : (before after : D) (left0 w0 left w : Option (List ℕ)) (served : Served)
+  serves_seen : (before after : D) (left0 w0 left w : Option (List ℕ)) (served : Served)
       → ServedTo seen refusal before left0 w0 left w served after → ServedTo step refusal (see before) left0 w0 left w served (see after)
   serves_seen before after left0 w0 left w served s = record {
     given = s.given;
@@ -35,7 +35,7 @@ module _ {D S : Type 0} (see : D → S) (step : S → Said → List ℕ → S �
     };
   }
 
-  pub broke_seen : (before now : D) (left0 w0 left w : Option (List ℕ)) (fault : StreamFault) → BrokeOff seen refusal before left0 w0 left w now fault → BrokeOff step refusal (see before) left0 w0 left w (see now) fault
+  broke_seen : (before now : D) (left0 w0 left w : Option (List ℕ)) (fault : StreamFault) → BrokeOff seen refusal before left0 w0 left w now fault → BrokeOff step refusal (see before) left0 w0 left w (see now) fault
   broke_seen before now left0 w0 left w fault b = record {
     given = b.given;
     read = b.read;
@@ -50,15 +50,13 @@ module _ {D S : Type 0} (see : D → S) (step : S → Said → List ℕ → S �
   }
 
   -- for whatever came of it
-  pub served_seen : (before after : D) (left0 w0 left w : Option (List ℕ)) (result : Result Served StreamFault)
-      → IfOk result (λ served. ServedTo seen refusal before left0 w0 left w served after) → IfOk result (λ served. ServedTo step refusal (see before) left0 w0 left w served (see after))
-  served_seen before after left0 w0 left w (Ok served) s = serves_seen before after left0 w0 left w served s
-  served_seen before after left0 w0 left w (Err fault) s = tt
-
-  pub broken_seen : (before now : D) (left0 w0 left w : Option (List ℕ)) (result : Result Served StreamFault)
-      → IfErr result (λ fault. BrokeOff seen refusal before left0 w0 left w now fault) → IfErr result (λ fault. BrokeOff step refusal (see before) left0 w0 left w (see now) fault)
-  broken_seen before now left0 w0 left w (Ok served) b = tt
-  broken_seen before now left0 w0 left w (Err fault) b = broke_seen before now left0 w0 left w fault b
+  pub is_served_seen : (before after : D) (left0 w0 left w : Option (List ℕ)) (result : Result Served StreamFault) → IsServed seen refusal before left0 w0 result after left w → IsServed step refusal (see before) left0 w0 result (see after) left w
+  is_served_seen before after left0 w0 left w (Ok served) s = record { served = serves_seen before after left0 w0 left w served s.served; broken = tt; early = λ memory. cc }
+  is_served_seen before after left0 w0 left w (Err fault) s = record {
+    served = tt;
+    broken = broke_seen before after left0 w0 left w fault s.broken;
+    early = λ memory. let none = s.early memory in (ap see none.0, none.1, none.2);
+  }
 
 -- a step that gives back what holds behind it
 abbrev pub GivesBack : {D : Type 0} → (D → Type 0) → (D → Said → List ℕ → D → Type 0) → Type 0
@@ -72,7 +70,6 @@ module _ {D : Type 0} (P : D → Type 0) (step : D → Said → List ℕ → D �
   run_back before after (m ∷ messages) (a ∷ answers) r p = back before (said m) a r.0 r.1 (run_back r.0 after messages answers r.2 p)
 
   -- for whatever came of a stream
-  pub served_back : (before after : D) (left0 w0 left w : Option (List ℕ)) (result : Result Served StreamFault) → IfOk result (λ served. ServedTo step refusal before left0 w0 left w served after)
-      → IfErr result (λ fault. BrokeOff step refusal before left0 w0 left w after fault) → P after → P before
-  served_back before after left0 w0 left w (Ok served) s b = run_back before after s.serves.messages s.serves.answers s.serves.ran
-  served_back before after left0 w0 left w (Err fault) s b = run_back before after b.messages b.answers b.ran
+  pub served_back : (before after : D) (left0 w0 left w : Option (List ℕ)) (result : Result Served StreamFault) → IsServed step refusal before left0 w0 result after left w → P after → P before
+  served_back before after left0 w0 left w (Ok served) s = run_back before after s.served.serves.messages s.served.serves.answers s.served.serves.ran
+  served_back before after left0 w0 left w (Err fault) s = run_back before after s.broken.messages s.broken.answers s.broken.ran

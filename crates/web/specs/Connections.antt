@@ -6,29 +6,23 @@ use Rattle.wire.specs.declared.outcome.End.TheVariants.{Closed, Unfinished, BadH
 use Rattle.wire.specs.declared.outcome.Served.{Served}
 use Rattle.wire.specs.declared.outcome.StreamFault.{StreamFault}
 use Rattle.wire.specs.declared.outcome.StreamFault.TheVariants.{Memory, Read, Write}
-use Rattle.wire.specs.Served.{ServedTo, BrokeOff}
-use Rattle.web.specs.Serving.{AnswersMessage, AtDesk, end_text}
+use Rattle.wire.specs.Run.{Said}
+use Rattle.wire.specs.Served.{IsServed}
+use Rattle.web.specs.Serving.{end_text}
 
--- a stream was served at a desk, and broke off by this fault
-abbrev pub Breaks : AtDesk → StreamFault → AtDesk → Type 0
-Breaks before fault after =
-    (left0 w0 left w : Option (List ℕ)) × BrokeOff AnswersMessage end_text before left0 w0 left w after fault
+module _ {D : Type 0} (step : D → Said → List ℕ → D → Type 0) where
+  -- a stream was served at a desk, to its end or until a fault
+  abbrev pub IsStreamed : D → Result Served StreamFault → D → Type 0
+  IsStreamed before came after = (left0 w0 left w : Option (List ℕ)) × IsServed step end_text before left0 w0 came after left w
 
--- a stream was served at a desk, to its end
-abbrev pub Ends : AtDesk → Served → AtDesk → Type 0
-Ends before served after =
-    (left0 w0 left w : Option (List ℕ)) × ServedTo AnswersMessage end_text before left0 w0 left w served after
+  -- the stream of a connection was served; one that could not be accepted is a fault of reading, and leaves what is at the desk
+  abbrev pub Connects : D → Result Served StreamFault → D → Type 0
+  Connects before came after = IsStreamed before came after ⊎ ((came ≡ Err Read) × (after ≡ before))
 
--- the stream of a connection was served, to its end or until a fault; one that could not be accepted is a fault of reading, and leaves
--- the office and the session
-abbrev pub Connects : AtDesk → Result Served StreamFault → AtDesk → Type 0
-Connects before (Ok served) after = Ends before served after
-Connects before (Err fault) after = Breaks before fault after ⊎ ((fault ≡ Read) × (after ≡ before))
-
--- one connection after another
-abbrev pub Connect : AtDesk → List (Result Served StreamFault) → AtDesk → Type 0
-Connect before [] after = after ≡ before
-Connect before (came ∷ more) after = (next : AtDesk) × Connects before came next × Connect next more after
+  -- one connection after another
+  abbrev pub Connect : D → List (Result Served StreamFault) → D → Type 0
+  Connect before [] after = after ≡ before
+  Connect before (came ∷ more) after = (next : D) × Connects before came next × Connect next more after
 
 -- the word for the end of a stream
 abbrev pub end_word : End → List ℕ
@@ -38,16 +32,12 @@ end_word BadHead = codes "bad-head"
 end_word TooLarge = codes "too-large"
 end_word Hundred = codes "hundred"
 
--- the word for a fault
-abbrev pub fault_word : StreamFault → List ℕ
-fault_word Memory = codes "memory"
-fault_word Read = codes "read"
-fault_word Write = codes "write"
-
 -- what is told of a connection
 abbrev pub told_of : Result Served StreamFault → List ℕ
 told_of (Ok served) = decimal served.answered ++ codes " answers, " ++ end_word served.end
-told_of (Err fault) = fault_word fault ++ codes " fault"
+told_of (Err Memory) = codes "memory fault"
+told_of (Err Read) = codes "read fault"
+told_of (Err Write) = codes "write fault"
 
 -- the line of the connection with this number
 abbrev pub connection_line : ℕ → Result Served StreamFault → List ℕ
@@ -58,19 +48,20 @@ abbrev pub lines_after : ℕ → List (Result Served StreamFault) → List ℕ
 lines_after before [] = []
 lines_after before (came ∷ more) = connection_line (before + 1) came ++ lines_after (before + 1) more
 
--- so many connections were served, and the line of each was written
-pub record AllServed (before : AtDesk) (count : ℕ) (w0 w : Option (List ℕ)) (after : AtDesk) : Type 0 where
-  pub came : List (Result Served StreamFault)
-  pub counted : length came ≡ count
-  pub served : Connect before came after
-  pub wrote : Appends w0 w (lines_after 0 came)
+module _ {D : Type 0} (step : D → Said → List ℕ → D → Type 0) where
+  -- so many connections were served, and the line of each was written
+  pub record AllServed (before : D) (count : ℕ) (w0 w : Option (List ℕ)) (after : D) : Type 0 where
+    pub came : List (Result Served StreamFault)
+    pub counted : length came ≡ count
+    pub served : Connect step before came after
+    pub wrote : Appends w0 w (lines_after 0 came)
 
--- some of so many connections were served: the lines of all but the last were written whole, and a part of the last one's
-pub record SomeServed (before : AtDesk) (count : ℕ) (w0 w : Option (List ℕ)) (after : AtDesk) : Type 0 where
-  pub told : List (Result Served StreamFault)
-  pub last : Result Served StreamFault
-  pub few : length told < count
-  pub served : Connect before (told ++ last ∷ []) after
-  pub kept : ℕ
-  pub cut : kept < length (connection_line (length told + 1) last)
-  pub wrote : Appends w0 w (lines_after 0 told ++ take kept (connection_line (length told + 1) last))
+  -- some of so many connections were served: the lines of all but the last were written whole, and a part of the last one's
+  pub record SomeServed (before : D) (count : ℕ) (w0 w : Option (List ℕ)) (after : D) : Type 0 where
+    pub told : List (Result Served StreamFault)
+    pub last : Result Served StreamFault
+    pub few : length told < count
+    pub served : Connect step before (told ++ last ∷ []) after
+    pub kept : ℕ
+    pub cut : kept < length (connection_line (length told + 1) last)
+    pub wrote : Appends w0 w (lines_after 0 told ++ take kept (connection_line (length told + 1) last))

@@ -1,14 +1,11 @@
 //! Connections of a listener, served at a desk one after another.
 ghost use Rattle.std.specs.Io.KnownBytes.{Appends};
-ghost use Rattle.sqlite.specs.Held.{state};
-ghost use Rattle.sqlite.specs.State.{HasCleanDisk};
 ghost use Rattle.std.specs.Prelude.{◌≡◌, ℕ, ◌+◌, ◌≤◌, ◌<◌, ◌-◌, ◌^◌, ◌++◌, length, take, Err, IfOk, IfErr, OnOk, OnErr};
 ghost use Rattle.wire.specs.declared.TheConstants.{MOST_SHORT_BODY};
 ghost use Rattle.arrayvec.specs.ArrayVec.{array_vec_len};
-ghost use Rattle.web.specs.Inside.Connections.{IsStreamed};
-ghost use Rattle.web.specs.Connections.{Connects, AllServed, SomeServed, end_word, fault_word, told_of, connection_line};
-ghost use Rattle.web.specs.Serving.{AnswersMessage, at_desk, end_text};
-ghost use Rattle.wire.specs.Served.{BrokeOff, ServedTo};
+ghost use Rattle.web.specs.Connections.{IsStreamed, AllServed, SomeServed, end_word, told_of, connection_line};
+ghost use Rattle.web.specs.Serving.{AnswersFrom, end_text};
+ghost use Rattle.wire.specs.Served.{IsServed};
 
 use crate::service::serve_stream;
 use api::{push, push_labelled};
@@ -39,18 +36,6 @@ fn end_word(end: End) -> &'static [u8]
     }
 }
 
-/// The word for a fault.
-fn fault_word(fault: StreamFault) -> &'static [u8]
-    ensures word { result.now ≡ fault_word fault }
-    ensures len { length result.now ≤ 6 }
-{
-    match fault {
-        StreamFault::Memory => b"memory",
-        StreamFault::Read => b"read",
-        StreamFault::Write => b"write",
-    }
-}
-
 /// Appends what is told of a connection.
 fn push_told(out: &mut ShortText, came: &Result<Served, StreamFault>)
     requires { array_vec_len out.old ≤ MOST_SHORT_BODY }
@@ -63,10 +48,9 @@ fn push_told(out: &mut ShortText, came: &Result<Served, StreamFault>)
             push(out, b" answers, ");
             push(out, end_word(served.end));
         }
-        Err(fault) => {
-            push(out, fault_word(*fault));
-            push(out, b" fault");
-        }
+        Err(StreamFault::Memory) => push(out, b"memory fault"),
+        Err(StreamFault::Read) => push(out, b"read fault"),
+        Err(StreamFault::Write) => push(out, b"write fault"),
     }
 }
 
@@ -109,11 +93,8 @@ fn serve_over<S: Alter, R: Read + Drop, W: Write + Drop>(
     reader: R,
     writer: W,
 ) -> (Result<Served, StreamFault>, R, W)
-    ensures served { IfOk result.0 (λ served. ServedTo AnswersMessage end_text (at_desk desk.old)
-        (R.remaining reader) (W.contents writer) (R.remaining result.1) (W.contents result.2) served (at_desk desk.new)) }
-    ensures broken { IfErr result.0 (λ fault. BrokeOff AnswersMessage end_text (at_desk desk.old)
-        (R.remaining reader) (W.contents writer) (R.remaining result.1) (W.contents result.2) (at_desk desk.new) fault) }
-    ensures clean { HasCleanDisk (state S.Store desk.new.store) → HasCleanDisk (state S.Store desk.old.store) }
+    ensures served { IsServed (AnswersFrom S.Store) end_text desk.old (R.remaining reader) (W.contents writer) result.0
+        desk.new (R.remaining result.1) (W.contents result.2) }
 {
     let mut reader = Watched::new(reader);
     let mut writer = Watched::new(writer);
@@ -127,27 +108,14 @@ fn serve_accepted<S: Alter>(
     desk: &mut Desk<S>,
     accepted: io::Result<(TcpStream, SocketAddr)>,
 ) -> Result<Served, StreamFault>
-    ensures served { IfOk accepted (λ _. IsStreamed (at_desk desk.old) result (at_desk desk.new)) }
+    ensures served { IfOk accepted (λ _. IsStreamed (AnswersFrom S.Store) desk.old result desk.new) }
     ensures unaccepted { IfErr accepted (λ _. (result ≡ Err StreamFault.Read) × (desk.new ≡ desk.old)) }
-    ensures clean { HasCleanDisk (state S.Store desk.new.store) → HasCleanDisk (state S.Store desk.old.store) }
 {
     let Ok((stream, _)) = accepted else {
         return Err(StreamFault::Read);
     };
     let (came, _, _) = serve_over(alloc, desk, &stream, &stream);
     came
-}
-
-/// Serves the stream of the next connection, and tells what became of it.
-fn serve_next<S: Alter>(
-    alloc: Global,
-    desk: &mut Desk<S>,
-    listener: &TcpListener,
-) -> Result<Served, StreamFault>
-    ensures came { Connects (at_desk desk.old) result (at_desk desk.new) }
-    ensures clean { HasCleanDisk (state S.Store desk.new.store) → HasCleanDisk (state S.Store desk.old.store) }
-{
-    serve_accepted(alloc, desk, listener.accept())
 }
 
 /// Serves so many connections, one after another, each to the end of its stream or until it breaks off, and writes a line of
@@ -162,14 +130,13 @@ pub fn serve_on<S: Alter, O: Sink>(
     out: &mut O,
 ) -> Result<(), OutFault>
     requires { O.failures out.old < 2 ^ 64 - 1 }
-    ensures served { OnOk result (AllServed (at_desk desk.old) count (O.written out.old) (O.written out.new) (at_desk desk.new)) }
-    ensures broken { OnErr result (SomeServed (at_desk desk.old) count (O.written out.old) (O.written out.new) (at_desk desk.new)) }
-    ensures clean { HasCleanDisk (state S.Store desk.new.store) → HasCleanDisk (state S.Store desk.old.store) }
+    ensures served { OnOk result (AllServed (AnswersFrom S.Store) desk.old count (O.written out.old) (O.written out.new) desk.new) }
+    ensures broken { OnErr result (SomeServed (AnswersFrom S.Store) desk.old count (O.written out.old) (O.written out.new) desk.new) }
     ensures count_ok { OnOk result (O.failures out.new ≡ O.failures out.old) }
     ensures count_err { OnErr result (O.failures out.new ≡ O.failures out.old + 1) }
 {
     for before in 0..count {
-        let came = serve_next(alloc, desk, listener);
+        let came = serve_accepted(alloc, desk, listener.accept());
         write_line(out, before + 1, &came)?;
     }
     Ok(())

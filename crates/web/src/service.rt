@@ -1,10 +1,8 @@
 //! The service of a stream at a desk.
-ghost use Rattle.std.specs.Prelude.{◌≡◌, ◌-◌, ◌^◌, ◌+◌, ◌<◌, false, Err, IfOk, IfErr};
-ghost use Rattle.sqlite.specs.Held.{state};
-ghost use Rattle.sqlite.specs.State.{HasCleanDisk};
+ghost use Rattle.std.specs.Prelude.{◌≡◌, ◌-◌, ◌^◌, ◌+◌, ◌<◌, false};
 ghost use Rattle.wire.specs.Run.{read_failed, write_failed};
-ghost use Rattle.wire.specs.Served.{BrokeOff, ServedTo};
-ghost use Rattle.web.specs.Serving.{AnswersFrom, AnswersMessage, at_desk, refusal_at, end_text};
+ghost use Rattle.wire.specs.Served.{IsServed};
+ghost use Rattle.web.specs.Serving.{AnswersFrom, refusal_at, end_text};
 
 use api::{Routes, answer_of, refusal_answer};
 use desk::Desk;
@@ -58,30 +56,11 @@ pub fn serve_stream<S: Alter, R: Source, W: Sink>(
     requires open { R.ended reader.old ≡ false }
     requires write_failures { W.failures writer.old < 2 ^ 64 - 1 }
 
-    // What was written: the texts of the answers of a run over the messages of the stream, from the office and the session of the
-    // desk on, and the refusal that ends it. What was read and what the reader has left are the stream.
-    ensures served { IfOk result (λ served. ServedTo AnswersMessage end_text (at_desk desk.old)
-        (R.left reader.old) (W.written writer.old) (R.left reader.new) (W.written writer.new)
-        served (at_desk desk.new)) }
-
-    // After a fault a beginning of that: all answers but the last whole. A reader fails before the hundredth answer
-    // alone, so nothing is read after it.
-    ensures broken { IfErr result (λ fault. BrokeOff AnswersMessage end_text (at_desk desk.old)
-        (R.left reader.old) (W.written writer.old) (R.left reader.new) (W.written writer.new)
-        (at_desk desk.new) fault) }
-
-    // The same of the desk with its tables: each fault of the storage has its cause in them.
-    ensures served_from { IfOk result (λ served. ServedTo (AnswersFrom S.Store) end_text desk.old
-        (R.left reader.old) (W.written writer.old) (R.left reader.new) (W.written writer.new) served desk.new) }
-    ensures broken_from { IfErr result (λ fault. BrokeOff (AnswersFrom S.Store) end_text desk.old
-        (R.left reader.old) (W.written writer.old) (R.left reader.new) (W.written writer.new) desk.new fault) }
-
-    // A disk that is clean behind the stream was clean before it.
-    ensures clean { HasCleanDisk (state S.Store desk.new.store) → HasCleanDisk (state S.Store desk.old.store) }
-
-    // Want of memory comes before anything is read, asked or written.
-    ensures early { result ≡ Err StreamFault.Memory → (desk.new ≡ desk.old)
-        × (R.left reader.new ≡ R.left reader.old) × (W.written writer.new ≡ W.written writer.old) }
+    // What was written: the texts of the answers of a run over the messages of the stream, from the desk on, and the refusal that
+    // ends it. What was read and what the reader has left are the stream. After a fault a beginning of that: all answers but the
+    // last whole. A reader fails before the hundredth answer alone, so nothing is read after it.
+    ensures served { IsServed (AnswersFrom S.Store) end_text desk.old (R.left reader.old) (W.written writer.old) result
+        desk.new (R.left reader.new) (W.written writer.new) }
 
     // `Read` and `Write` come exactly where the reader's or the writer's count of failures grows.
     ensures read_count { R.failures reader.new ≡ R.failures reader.old + read_failed result }

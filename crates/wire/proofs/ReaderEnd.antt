@@ -1,17 +1,7 @@
 -- The end of a stream at the end of its reader.
-use Rattle.std.proofs.Common.{◌≡◌, true, false, ◌==◌, ◌∷◌, ℕ, ◌<◌, List, [], ◌++◌, length, Option, Some, None, IfNone, refl, sym, subst, arith, ap, ◌∙◌, append-nil, ◌+◌, ◌-◌, ◌≤◌, zero, suc, min, take, Result, Ok, Err, IsOk, is_ok, if◌then◌else◌, length-append}
-use Rattle.std.proofs.Math.Nat.{min-le_right, le-min}
-use Rattle.std.proofs.lemmas.List.{take-append-le, length-take-le}
-use borrow.Author.Tests.{eqb-true}
-use lib.Dec.{eqb-suc-zero}
-use Rattle.std.specs.Io.KnownBytes.{IsAtEnd}
-use Rattle.wire.specs.declared.TheConstants.{MOST_MESSAGE_BYTES}
+use Rattle.std.proofs.Common.{◌≡◌, ℕ, List, Option, None, IfNone, sym, subst}
 use Rattle.wire.specs.declared.front.Front.TheVariants.{Open}
-use Rattle.wire.specs.declared.outcome.End.TheVariants.{Closed, Unfinished}
-use Rattle.wire.specs.Messages.{Stops}
 use Rattle.wire.specs.Inside.Judged.{Judges}
-use Rattle.wire.specs.Run.{unread}
-use Rattle.wire.specs.Inside.Taken.{AtEndIfNone}
 
 -- what is said where nothing was found
 pub at_none : {A : Type 0} (P : Type 0) (found : Option A) → found ≡ None → IfNone found P → P

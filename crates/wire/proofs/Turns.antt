@@ -14,7 +14,7 @@ use Rattle.wire.specs.declared.outcome.StreamFault.TheVariants.{Memory, Read, Wr
 use Rattle.wire.specs.Run.{Said, unread, last_words, last_count, read_failed, write_failed}
 use Rattle.wire.specs.Inside.Run.{said_at}
 use Rattle.wire.specs.Inside.Served.{SoFar, GoesOn, BreaksOff}
-use Rattle.wire.specs.Served.{BrokeOff, WroteUntil, ServedTo}
+use Rattle.wire.specs.Served.{IsServed, WroteUntil, ServedTo}
 use Rattle.wire.specs.Inside.Taken.{Grows}
 use Rattle.wire.proofs.Known.{appends_compose, appends_none, consumes_none}
 use Rattle.wire.proofs.Runs.{reads_on, answers_on, splits_more, run_more, said_same, ends_here}
@@ -22,6 +22,14 @@ use Rattle.wire.proofs.Runs.{reads_on, answers_on, splits_more, run_more, said_s
 -- a fault of the writer is none of the reader
 no_read : {A : Type 0} (fault : StreamFault) → fault ≡ Write → fault ≡ Read → A
 no_read fault e f = absurd (let g : Write ≡ Read = sym e ∙ f in cc)
+
+-- a fault of the reader is no want of memory
+pub no_memory_read : (fault : StreamFault) → fault ≡ Read → fault ≡ Memory → ⊥
+no_memory_read fault e f = let g : Read ≡ Memory = sym e ∙ f in cc
+
+-- nor is a fault of the writer
+pub no_memory_write : (fault : StreamFault) → fault ≡ Write → fault ≡ Memory → ⊥
+no_memory_write fault e f = let g : Write ≡ Memory = sym e ∙ f in cc
 
 -- the reader failed before a whole message had come
 pub breaks_reading : {S : Type 0} (step : S → Said → List ℕ → S → Type 0) (refusal : End → List ℕ) (left w left' : Option (List ℕ)) (rest rest' : List ℕ) (now : S) (fault : StreamFault)
@@ -78,55 +86,58 @@ pub end_goes_on : {S : Type 0} (step : S → Said → List ℕ → S → Type 0)
 end_goes_on step left w left' rest rest' now grows before left0 w0 count so =
     subst (λ (k : ℕ). SoFar step before left0 w0 left' w rest' k now) (sym (add-zero count)) (reads_on step before now left0 w0 left left' w rest rest' count so grows)
 
--- no memory for the buffers
-pub nothing_broken : {S : Type 0} (step : S → Said → List ℕ → S → Type 0) (refusal : End → List ℕ) (before : S) (left w : Option (List ℕ)) → BrokeOff step refusal before left w left w before Memory
-nothing_broken step refusal before left w = record {
-  given = [];
-  read = consumes_none left;
-  messages = [];
-  few = omega arith;
-  none_after = λ _. omega arith;
-  rest = [];
-  split = λ more. refl;
-  answers = [];
-  ran = refl;
-  wrote = (refl, refl, appends_none w);
+-- no memory for the buffers: nothing is read, asked or written
+pub nothing_served : {S : Type 0} (step : S → Said → List ℕ → S → Type 0) (refusal : End → List ℕ) (before : S) (left w : Option (List ℕ)) → IsServed step refusal before left w (Err Memory) before left w
+nothing_served step refusal before left w = record {
+  served = tt;
+  broken = record {
+    given = [];
+    read = consumes_none left;
+    messages = [];
+    few = omega arith;
+    none_after = λ _. omega arith;
+    rest = [];
+    split = λ more. refl;
+    answers = [];
+    ran = refl;
+    wrote = (refl, refl, appends_none w);
+  };
+  early = λ _. (refl, refl, refl);
 }
 
--- the last words were written
-pub finished : {S : Type 0} (step : S → Said → List ℕ → S → Type 0) (refusal : End → List ℕ) (before now was : S) (left0 w0 left l w w1 w' : Option (List ℕ)) (rest r : List ℕ) (count : ℕ) (end : End)
+-- the last words were written, or not all of them
+pub ended : {S : Type 0} (step : S → Said → List ℕ → S → Type 0) (refusal : End → List ℕ) (before now was : S) (left0 w0 left l w w1 w' : Option (List ℕ)) (rest r : List ℕ) (count : ℕ) (end : End)
     (result : Result Served StreamFault)
     → SoFar step before left0 w0 left w rest count was → count < MOST_MESSAGES
     → Stops (r ++ unread l) end × GoesOn step left w rest was l w1 r now 0
     → IfOk result (λ s. s ≡ record { answered = count + last_count end; end = end }) → OnOk result (Appends w1 w' (last_words refusal end))
-    → IfOk result (λ served. ServedTo step refusal before left0 w0 l w' served now)
-finished step refusal before now was left0 w0 left l w w1 w' rest r count end (Ok s) so few stops e wrote =
-    let goes = subst (λ (k : ℕ). SoFar step before left0 w0 l w1 r k now) (add-zero count) (stops.1 before left0 w0 count so) in
-    subst (λ (t : Served). ServedTo step refusal before left0 w0 l w' t now) (sym e) (ends_here step refusal before now left0 w0 l w1 w' r count end goes few stops.0 wrote)
-finished step refusal before now was left0 w0 left l w w1 w' rest r count end (Err f) so few stops e wrote = tt
-
--- or not all of them
-pub unfinished : {S : Type 0} (step : S → Said → List ℕ → S → Type 0) (refusal : End → List ℕ) (before now was : S) (left0 w0 left l w w1 w' : Option (List ℕ)) (rest r : List ℕ) (count : ℕ) (end : End)
-    (result : Result Served StreamFault)
-    → SoFar step before left0 w0 left w rest count was → count < MOST_MESSAGES
-    → Stops (r ++ unread l) end × GoesOn step left w rest was l w1 r now 0
     → IfErr result (λ e. e ≡ Write) → OnErr result ((n : ℕ) × (n < length (last_words refusal end)) × Appends w1 w' (take n (last_words refusal end)))
-    → IfErr result (λ fault. BrokeOff step refusal before left0 w0 l w' now fault)
-unfinished step refusal before now was left0 w0 left l w w1 w' rest r count end (Ok s) so below stops e wrote = tt
-unfinished step refusal before now was left0 w0 left l w w1 w' rest r count end (Err f') so below stops e wrote =
+    → IsServed step refusal before left0 w0 result now l w'
+ended step refusal before now was left0 w0 left l w w1 w' rest r count end (Ok s) so few stops is wrote why cut =
+    let goes = subst (λ (k : ℕ). SoFar step before left0 w0 l w1 r k now) (add-zero count) (stops.1 before left0 w0 count so) in
+    record {
+      served = subst (λ (t : Served). ServedTo step refusal before left0 w0 l w' t now) (sym is) (ends_here step refusal before now left0 w0 l w1 w' r count end goes few stops.0 wrote);
+      broken = tt;
+      early = λ memory. cc;
+    }
+ended step refusal before now was left0 w0 left l w w1 w' rest r count end (Err f') so below stops is wrote why cut =
     let goes = stops.1 before left0 w0 count so in
     record {
-      given = goes.given;
-      read = goes.read;
-      messages = goes.messages;
-      few = omega (arith, goes.counted);
-      none_after = λ f. no_read f' e f;
-      rest = r;
-      split = goes.split;
-      answers = goes.answers;
-      ran = goes.ran;
-      wrote = subst (λ (f : StreamFault). WroteUntil refusal f goes.answers r l w0 w') (sym e)
-          (inr (end, stops.0, (wrote.0, wrote.1, appends_compose w0 w1 w' (concat goes.answers) (take wrote.0 (last_words refusal end)) goes.wrote wrote.2)));
+      served = tt;
+      broken = record {
+        given = goes.given;
+        read = goes.read;
+        messages = goes.messages;
+        few = omega (arith, goes.counted);
+        none_after = λ f. no_read f' why f;
+        rest = r;
+        split = goes.split;
+        answers = goes.answers;
+        ran = goes.ran;
+        wrote = subst (λ (f : StreamFault). WroteUntil refusal f goes.answers r l w0 w') (sym why)
+            (inr (end, stops.0, (cut.0, cut.1, appends_compose w0 w1 w' (concat goes.answers) (take cut.0 (last_words refusal end)) goes.wrote cut.2)));
+      };
+      early = λ memory. absurd (no_memory_write f' why (cc));
     }
 
 -- ---- what is counted
@@ -134,19 +145,6 @@ unfinished step refusal before now was left0 w0 left l w w1 w' rest r count end 
 -- a fault counts as one of its kind does
 pub fault_counts : (count : StreamFault → ℕ) (fault kind : StreamFault) (new old : ℕ) → fault ≡ kind → new ≡ old + count kind → new ≡ old + count fault
 fault_counts count fault kind new old e h = subst (λ (f : StreamFault). new ≡ old + count f) (sym e) h
-
--- a fault of the reader is no want of memory
-pub no_memory_read : (fault : StreamFault) → fault ≡ Read → fault ≡ Memory → ⊥
-no_memory_read fault e f = let g : Read ≡ Memory = sym e ∙ f in cc
-
--- nor is a fault of the writer
-pub no_memory_write : (fault : StreamFault) → fault ≡ Write → fault ≡ Memory → ⊥
-no_memory_write fault e f = let g : Write ≡ Memory = sym e ∙ f in cc
-
--- the last words want no memory
-pub last_no_memory : (r : Result Served StreamFault) → IfErr r (λ e. e ≡ Write) → IfErr r (λ e. e ≡ Memory → ⊥)
-last_no_memory (Ok s) e = tt
-last_no_memory (Err f) e = no_memory_write f e
 
 -- the last words read nothing
 pub last_read : (r : Result Served StreamFault) (new old : ℕ) → new ≡ old → IfErr r (λ e. e ≡ Write) → new ≡ old + read_failed r

@@ -1,5 +1,5 @@
 -- What serving a stream did.
-use Rattle.std.specs.Prelude.{◌≡◌, ℕ, ◌+◌, ◌<◌, ◌≤◌, ◌⊎◌, List, [], ◌∷◌, ◌++◌, length, take, Option}
+use Rattle.std.specs.Prelude.{◌≡◌, ℕ, ◌+◌, ◌<◌, ◌≤◌, ◌⊎◌, List, [], ◌∷◌, ◌++◌, length, take, Option, Result, Err, IfOk, IfErr}
 use Rattle.std.specs.List.{concat}
 use Rattle.std.specs.Io.KnownBytes.{Appends, Consumes}
 use Rattle.wire.specs.declared.TheConstants.{MOST_MESSAGES}
@@ -63,3 +63,11 @@ pub record BrokeOff {S : Type 0} (step : S → Said → List ℕ → S → Type 
   pub answers : List (List ℕ)
   pub ran : Run step before messages answers now
   pub wrote : WroteUntil refusal fault answers rest left w0 w
+
+-- A stream was served to its end, or until a fault: so the desk was left, and so the reader and the writer. Want of memory comes before
+-- anything is read, asked or written.
+pub record IsServed {S : Type 0} (step : S → Said → List ℕ → S → Type 0) (refusal : End → List ℕ) (before : S) (left0 w0 : Option (List ℕ))
+    (result : Result Served StreamFault) (after : S) (left w : Option (List ℕ)) : Type 0 where
+  pub served : IfOk result (λ served. ServedTo step refusal before left0 w0 left w served after)
+  pub broken : IfErr result (λ fault. BrokeOff step refusal before left0 w0 left w after fault)
+  pub early : result ≡ Err Memory → (after ≡ before) × (left ≡ left0) × (w ≡ w0)

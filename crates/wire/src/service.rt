@@ -8,7 +8,7 @@ ghost use Rattle.wire.specs.Inside.Run.{said_at};
 ghost use Rattle.wire.specs.Run.{last_words, last_count, unread, read_failed, write_failed};
 ghost use Rattle.wire.specs.Answers.{answer_bytes};
 ghost use Rattle.wire.specs.Inside.Served.{SoFar, GoesOn, BreaksOff};
-ghost use Rattle.wire.specs.Served.{BrokeOff, ServedTo};
+ghost use Rattle.wire.specs.Served.{IsServed};
 
 use crate::MOST_MESSAGES;
 use crate::ending::finish;
@@ -19,19 +19,6 @@ use crate::outcome::{End, Served, StreamFault};
 use crate::window::{Next, Window};
 use crate::writing::write_all;
 use std::alloc::Global;
-
-/// Asks the desk for the answer to the message at the front.
-fn ask<D, H: Handler<D>>(handler: &H, desk: &mut D, bytes: &[u8], parts: Parts) -> Answer
-    requires parts { Judges bytes.now (Front.Whole parts) }
-    ensures step { H.step desk.old (said_at bytes.now parts) (answer_bytes result) desk.new }
-{
-    handler.answer(
-        desk,
-        parts.method.of(bytes),
-        parts.target.of(bytes),
-        &bytes[parts.head..parts.head + parts.body],
-    )
-}
 
 /// Answers the message at the front, and takes it away.
 fn serve_one<D, H: Handler<D>, W: Sink>(
@@ -51,7 +38,13 @@ fn serve_one<D, H: Handler<D>, W: Sink>(
     ensures fault { IfErr result (λ e. e ≡ StreamFault.Write) }
     ensures count { W.failures writer.new ≡ W.failures writer.old + write_failed result }
 {
-    let answer = ask(handler, desk, window.bytes(), parts);
+    let bytes = window.bytes();
+    let answer = handler.answer(
+        desk,
+        parts.method.of(bytes),
+        parts.target.of(bytes),
+        &bytes[parts.head..parts.head + parts.body],
+    );
     write_all(writer, answer.as_slice())?;
     window.drop_front(parts.head + parts.body);
     Ok(())
@@ -94,27 +87,29 @@ fn turn<D, H: Handler<D>, R: Source, W: Sink>(
     }
 }
 
-/// Answers the messages in turn, as many as a stream may have.
-fn serve_hundred<D, H: Handler<D>, R: Source, W: Sink>(
+/// Serves the messages of a stream, as many as it may have.
+pub fn serve_messages<D, H: Handler<D>, R: Source, W: Sink>(
+    alloc: Global,
     handler: &H,
     desk: &mut D,
     reader: &mut R,
     writer: &mut W,
-    window: &mut Window,
 ) -> Result<Served, StreamFault>
     requires read_failures { R.failures reader.old < 2 ^ 64 - 1 }
     requires open { R.ended reader.old ≡ false }
     requires write_failures { W.failures writer.old < 2 ^ 64 - 1 }
-    requires empty { window.old ≡ [] }
-    ensures served { IfOk result (λ served. ServedTo H.step H.refusal desk.old (R.left reader.old) (W.written writer.old)
-        (R.left reader.new) (W.written writer.new) served desk.new) }
-    ensures broken { IfErr result (λ fault. (fault ≢ StreamFault.Memory) × BrokeOff H.step H.refusal desk.old (R.left reader.old)
-        (W.written writer.old) (R.left reader.new) (W.written writer.new) desk.new fault) }
+    ensures served { IsServed H.step H.refusal desk.old (R.left reader.old) (W.written writer.old) result
+        desk.new (R.left reader.new) (W.written writer.new) }
+
+    // `Read` and `Write` come exactly where the reader's or the writer's count of failures grows.
     ensures read_count { R.failures reader.new ≡ R.failures reader.old + read_failed result }
     ensures write_count { W.failures writer.new ≡ W.failures writer.old + write_failed result }
 {
+    let Ok(mut window) = Window::new(alloc) else {
+        return Err(StreamFault::Memory);
+    };
     for answered in 0..MOST_MESSAGES {
-        match turn(handler, desk, reader, writer, window) {
+        match turn(handler, desk, reader, writer, &mut window) {
             Err(fault) => return Err(fault),
             Ok(found) => {
                 if let Some(end) = found {
@@ -127,34 +122,4 @@ fn serve_hundred<D, H: Handler<D>, R: Source, W: Sink>(
         answered: MOST_MESSAGES,
         end: End::Hundred,
     })
-}
-
-/// Serves the messages of a stream.
-pub fn serve_messages<D, H: Handler<D>, R: Source, W: Sink>(
-    alloc: Global,
-    handler: &H,
-    desk: &mut D,
-    reader: &mut R,
-    writer: &mut W,
-) -> Result<Served, StreamFault>
-    requires read_failures { R.failures reader.old < 2 ^ 64 - 1 }
-    requires open { R.ended reader.old ≡ false }
-    requires write_failures { W.failures writer.old < 2 ^ 64 - 1 }
-    ensures served { IfOk result (λ served. ServedTo H.step H.refusal desk.old (R.left reader.old) (W.written writer.old)
-        (R.left reader.new) (W.written writer.new) served desk.new) }
-    ensures broken { IfErr result (λ fault. BrokeOff H.step H.refusal desk.old (R.left reader.old) (W.written writer.old)
-        (R.left reader.new) (W.written writer.new) desk.new fault) }
-
-    // Want of memory comes before anything is read, asked or written.
-    ensures early { result ≡ Err StreamFault.Memory → (desk.new ≡ desk.old)
-        × (R.left reader.new ≡ R.left reader.old) × (W.written writer.new ≡ W.written writer.old) }
-
-    // `Read` and `Write` come exactly where the reader's or the writer's count of failures grows.
-    ensures read_count { R.failures reader.new ≡ R.failures reader.old + read_failed result }
-    ensures write_count { W.failures writer.new ≡ W.failures writer.old + write_failed result }
-{
-    let Ok(mut window) = Window::new(alloc) else {
-        return Err(StreamFault::Memory);
-    };
-    serve_hundred(handler, desk, reader, writer, &mut window)
 }

@@ -3,25 +3,23 @@ use Rattle.std.specs.Prelude.{◌≡◌, ◌≢◌, ◌⊎◌, ℕ, ◌+◌, ◌
 use Rattle.std.specs.Io.KnownBytes.{Appends}
 use Rattle.std.specs.declared.io.ErrorKind.{ErrorKind}
 use Rattle.std.specs.declared.io.ErrorKind.TheVariants as kinds
-use Rattle.rolls.specs.declared.refusal.Refusal.TheVariants as no
 use Rattle.web.specs.Connections.{SomeServed}
-use Rattle.web.specs.Serving.{AtDesk}
-use Rattle.commands.specs.declared.line.Line.TheVariants as line
-use Rattle.commands.specs.declared.line.LineFault.TheVariants.{Memory}
+use Rattle.wire.specs.Run.{Said}
 use Rattle.cli.specs.declared.unread.Unread.TheVariants as unread
 use Rattle.cli.specs.Outcomes.{Outcome, listening, IsServed, of_unread}
 
--- so many connections were served at a desk and the lines of all were written, or the writer failed
-abbrev pub Serves : ℕ → ℕ → AtDesk → AtDesk → Option (List ℕ) → Option (List ℕ) → ℕ → ℕ → ℕ → Type 0
-Serves port count before after w0 w failures0 failures status =
-    ((o : Outcome) × IsServed port count before after o × (failures ≡ failures0) × Appends w0 w o.out × (status ≡ 0))
-    ⊎ ((failures ≡ failures0 + 1) × (status ≡ 1))
+module _ {D : Type 0} (step : D → Said → List ℕ → D → Type 0) where
+  -- so many connections were served at a desk and the lines of all were written, or the writer failed
+  abbrev pub Serves : ℕ → ℕ → D → D → Option (List ℕ) → Option (List ℕ) → ℕ → ℕ → ℕ → Type 0
+  Serves port count before after w0 w failures0 failures status =
+      ((o : Outcome) × IsServed step port count before after o × (failures ≡ failures0) × Appends w0 w o.out × (status ≡ 0))
+      ⊎ ((failures ≡ failures0 + 1) × (status ≡ 1))
 
--- The writer failed while it wrote the line of the port, and no connection was served, or after it, while it wrote the line of a connection.
-abbrev pub IsCutOff : AtDesk → ℕ → ℕ → Option (List ℕ) → Option (List ℕ) → AtDesk → Type 0
-IsCutOff before port count w0 w after =
-    ((n : ℕ) × (n < length (listening port)) × Appends w0 w (take n (listening port)) × (after ≡ before))
-    ⊎ ((between : Option (List ℕ)) × Appends w0 between (listening port) × SomeServed before count between w after)
+  -- The writer failed while it wrote the line of the port, and no connection was served, or after it, while it wrote the line of a connection.
+  abbrev pub IsCutOff : D → ℕ → ℕ → Option (List ℕ) → Option (List ℕ) → D → Type 0
+  IsCutOff before port count w0 w after =
+      ((n : ℕ) × (n < length (listening port)) × Appends w0 w (take n (listening port)) × (after ≡ before))
+      ⊎ ((between : Option (List ℕ)) × Appends w0 between (listening port) × SomeServed step before count between w after)
 
 -- what is told of an error of this kind that reading the arguments gave
 abbrev pub OfUnread : ErrorKind → Outcome → Type 0

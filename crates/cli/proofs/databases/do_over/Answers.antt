@@ -1,31 +1,46 @@
-use Rattle.cli.proofs.Writers.{tells_more}
-use Rattle.cli.proofs.Opened.{WasOpened, grows, limits, was_early, ToldOf, told_of, left_by}
+use Rattle.std.proofs.Common.{refl, sym, subst, arith, inl, inr}
+use Rattle.sqlite.specs.Held.{Held, state}
+use Rattle.desk.specs.Kept.{Kept}
+use Rattle.cli.specs.Databases.{ComesFrom, DoesOver, IsDone, TakesTo}
+use Rattle.cli.proofs.Opened.{found_for, was_clean, why_unopened}
+use Rattle.cli.proofs.Writers.{refused_ends, tells_more}
 use Rattle.cli.proofs.databases.do_over.Given as given
 use Rattle.cli.proofs.databases.do_over.Goals as goal
-use Rattle.cli.proofs.databases.do_over.Goals.{After-do_opened}
+use Rattle.cli.proofs.databases.do_over.Goals.{After-into_connection}
 
--- the office was opened or not, and then the task was done
-was : (g : given.Over) (c : goal.After-do_opened g) → WasOpened g.S.Store c.args.task c.args.connection c.do_opened.result.1 c.open.result
-was g c = record {
-  no_session = c.open.ensures.no_session;
-  early = was_early g.S.Store c.args.connection _ c.open.result c.open.ensures.crash_ok;
-  counts = grows g.S.Store c.args.connection _ c.open.result c.open.ensures.crash_ok;
-  limit = limits g.S.Store c.args.connection _ c.open.result c.open.ensures.crash_ok;
-  is_open = c.open.ensures.is_open;
-  office = c.open.ensures.office;
-  refused = c.open.ensures.refused;
-  damaged = c.open.ensures.damaged;
-  cause = c.open.ensures.cause;
-  kept = c.open.ensures.kept;
-  left = c.do_opened.ensures.left;
-  clean = c.do_opened.ensures.clean;
-}
+-- the office was opened, and this was done there
+did : (g : given.Over) (c : After-into_connection g) (Done : Kept g.row.S.Denot → Kept g.row.S.Denot → Type 0) → Done c.in-Ok.desk c.do_at-status.new.desk
+    → IsDone g.S.Store Done c.args.connection c.into_connection.result
+did g c Done done =
+    let was = was_clean g.S.Store c.args.task c.in-Ok.desk c.do_at-status.new.desk c.do_at-status.ensures.taken in
+    subst (λ (last : Held g.row.S.Denot). IsDone g.S.Store Done c.args.connection last) (sym c.into_connection.ensures.same)
+    (record {
+      desk = c.in-Ok.desk;
+      found = found_for (state g.S.Store c.args.connection) (state g.S.Store c.in-Ok.desk.store) (state g.S.Store c.do_at-status.new.desk.store) c.in-Ok.desk.office was (λ clean. omega (arith, clean, c.in-Ok.ensures.crash_ok.clean)) c.in-Ok.ensures.office;
+      fit = c.keeps.ensures.fit;
+      no_session = c.in-Ok.ensures.no_session;
+      opens = λ clean. c.in-Ok.ensures.office (was clean);
+      is_open = λ clean. c.in-Ok.ensures.is_open (was clean);
+      counts = c.in-Ok.ensures.crash_ok.counts;
+      limit = c.in-Ok.ensures.crash_ok.limit;
+      next = c.do_at-status.new.desk;
+      done = done;
+      given_back = refl;
+      stands = c.keeps-in-Ok.ensures.tables;
+    })
 
-pub returns-clause-told : goal.returns-clause-told
-returns-clause-told g c =
-    tells_more (ToldOf g.S.Store c.args.task c.do_opened.result.1 c.open.result) _
-    (λ o is. told_of g.S.Store c.args.task c.args.connection c.do_opened.result.1 c.open.result o (was g c) is) _ _ _ c.do_opened.ensures.told
+pub returns-in-Ok-clause-told : goal.returns-in-Ok-clause-told
+returns-in-Ok-clause-told g c =
+    tells_more (ComesFrom g.S.Store c.args.task c.in-Ok.desk c.do_at-status.new.desk) (DoesOver g.S.Store c.args.task c.args.connection c.into_connection.result)
+    (λ o is. inr (did g c (λ desk next. ComesFrom g.S.Store c.args.task desk next o) is)) _ _ _ c.do_at-status.ensures.told
 
-pub returns-clause-left : goal.returns-clause-left
-returns-clause-left g c =
-    left_by g.S.Store c.args.task c.args.connection c.do_opened.result.1 c.open.result (was g c) _ _ _ c.do_opened.ensures.told
+pub returns-in-Ok-clause-left : goal.returns-in-Ok-clause-left
+returns-in-Ok-clause-left g c = inl (did g c (TakesTo g.S.Store c.args.task) c.do_at-status.ensures.taken)
+
+pub returns-in-Err-clause-told : goal.returns-in-Err-clause-told
+returns-in-Err-clause-told g c =
+    tells_more _ (DoesOver g.S.Store c.args.task c.args.connection c.in-Err.connection)
+    (λ o is. inl (record { refusal = c.in-Err.refusal; why = why_unopened c.in-Err.refusal (state g.S.Store c.args.connection) (state g.S.Store c.in-Err.connection) c.in-Err.ensures.refused c.in-Err.ensures.damaged c.in-Err.ensures.cause; told = is; stays = c.in-Err.ensures.kept })) _ _ _ c.refuse.ensures
+
+pub returns-in-Err-clause-left : goal.returns-in-Err-clause-left
+returns-in-Err-clause-left g c = inr (refused_ends c.in-Err.refusal _ _ _ c.refuse.ensures, c.in-Err.ensures.kept)

@@ -1,24 +1,26 @@
-use Rattle.std.proofs.Common.{◌≡◌, ◌∙◌, ℕ, List, subst, sym, arith, add-zero}
+use Rattle.std.proofs.Common.{◌≡◌, ◌∙◌, ℕ, ◌+◌, List, slice_range, ap, subst, sym, arith, add-zero}
+use Rattle.httparse.specs.Spans.{span_bytes}
+use Rattle.wire.specs.Run.{Said}
 use Rattle.wire.specs.declared.front.Parts.{Parts}
-use Rattle.wire.specs.declared.front.Front.TheVariants.{Whole}
 use Rattle.std.specs.Io.KnownBytes.{Appends}
-use Rattle.wire.specs.Inside.Judged.{Judges}
 use Rattle.wire.specs.Answers.{answer_bytes}
 use Rattle.wire.specs.Inside.Run.{said_at}
 use Rattle.wire.proofs.service.serve_one.Goals as goal
 
--- the same bytes have the same message
-along : (xs ys : List ℕ) (p : Parts) → xs ≡ ys → Judges ys (Whole p) → Judges xs (Whole p)
-along xs ys p e h = subst (λ (t : List ℕ). Judges t (Whole p)) (sym e) h
-
-pub ask-answer-requires : goal.ask-answer-requires
-ask-answer-requires g c = record { parts = along c.bytes.result.now c.args.window.now c.args.parts c.bytes.ensures c.requires.parts }
+-- what the parts of these bytes say
+says : (xs ys method target : List ℕ) (p : Parts) → xs ≡ ys → method ≡ span_bytes xs p.method → target ≡ span_bytes xs p.target
+    → record { method = method; target = target; body = slice_range xs p.head (p.head + p.body) } ≡ said_at ys p
+says xs ys method target p same of_method of_target = λ i. record {
+  method = (of_method ∙ ap (λ (b : List ℕ). span_bytes b p.method) same) i;
+  target = (of_target ∙ ap (λ (b : List ℕ). span_bytes b p.target) same) i;
+  body = slice_range (same i) p.head (p.head + p.body);
+}
 
 pub returns-clause-ok : goal.returns-clause-ok
 returns-clause-ok g c = (
-  answer_bytes c.ask-answer.result,
-  subst (λ (bytes : List ℕ). g.H.Handler.step c.args.desk.now (said_at bytes c.args.parts) (answer_bytes c.ask-answer.result) c.ask-answer.new.desk)
-      c.bytes.ensures c.ask-answer.ensures.step,
+  answer_bytes c.answer-answer.result,
+  subst (λ (said : Said). g.H.Handler.step c.args.desk.now said (answer_bytes c.answer-answer.result) c.answer-answer.new.desk)
+      (says _ _ _ _ c.args.parts c.bytes-bytes.ensures c.of.ensures c.of-2.ensures) c.answer-answer.ensures.step,
   subst (Appends (g.W.Sink.written c.args.writer.now) (g.W.Sink.written c.write_all.new.writer)) c.as_slice.ensures c.in_ok-write_all.ensures.ok,
 )
 

@@ -1,6 +1,6 @@
 use Rattle.std.proofs.Common.{Ok, Err, refl, arith}
 use Rattle.wire.specs.Answers.{answer_bytes}
-use Rattle.web.proofs.OneMessage.{answered_from}
+use Rattle.web.proofs.OneMessage.{answered_from, gets_at}
 use Rattle.web.proofs.service.ClerkHandlerDesk.answer.Goals as goal
 
 pub returns-in-Err : goal.returns-in-Err
@@ -14,15 +14,8 @@ returns-in-Ok g c = record {
     read = Ok c.in-Ok.request;
     is_read = c.in-Ok.ensures;
     answers = answered_from g.S.Store c.args.desk.now c.ask.new.self (answer_bytes c.answer_of.result) c.in-Ok.request c.ask.result
-        (record {
-          gets = record {
-            step = c.ask.ensures.step;
-            right = (c.ask.ensures.named, c.ask.ensures.storage, c.ask.ensures.refused);
-            at_once = record { round = c.ask.ensures.round; repeated = c.ask.ensures.repeated; preview = c.ask.ensures.kept };
-            goes = c.ask.ensures.session;
-          };
-          cause = c.ask.ensures.cause;
-        })
+        (gets_at g.S.Store c.args.desk.now c.ask.new.self c.in-Ok.request c.ask.result c.ask.ensures.step (c.ask.ensures.named, c.ask.ensures.storage, c.ask.ensures.refused)
+        (record { round = c.ask.ensures.round; repeated = c.ask.ensures.repeated; preview = c.ask.ensures.kept }) c.ask.ensures.session c.ask.ensures.cause)
         c.answer_of.ensures;
     clean = λ clean. omega (arith, clean, c.ask.ensures.crash.clean);
   };

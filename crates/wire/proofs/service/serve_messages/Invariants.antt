@@ -1,6 +1,6 @@
 use Rattle.std.proofs.Common.{◌≡◌, false}
 use Rattle.wire.specs.Inside.Served.{SoFar}
-use Rattle.wire.proofs.service.serve_hundred.Given as goal
+use Rattle.wire.proofs.service.serve_messages.Given as goal
 
 abbrev pub invariant-loop-answered : goal.invariant-loop-answered
 invariant-loop-answered g l = record {

@@ -1,2 +1,0 @@
--- What proofs need and no public clause says.
-pub mod Connections
