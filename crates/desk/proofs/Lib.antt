@@ -4,3 +4,4 @@ pub mod SavedRows
 mod Runs
 mod AfterCrash
 mod SessionAfter
+mod Asked

@@ -1,12 +1,10 @@
 -- Changes that turn the rows of one office into those of the next, saved: the tables stand for the next one.
-use Rattle.std.proofs.Common.{◌≡◌, IsTrue, inl, inr, List, Option, None, refl, sym, subst, ◌∙◌, arith}
+use Rattle.std.proofs.Common.{◌≡◌, IsTrue, inl, inr, List, None, refl, sym, subst, arith}
 use Rattle.sqlite.specs.Effect.{Database}
 use Rattle.sqlite.specs.State.{State as Seen, HasCleanDisk, Survives}
 use Rattle.sqlite.proofs.StateLemmas.{survives_weaker}
 use Rattle.sqlite.specs.Tree.{Trees}
 use Rattle.tables.specs.Steps.{HasSaved, IsKept, IsLeft}
-use Rattle.rolls.specs.declared.row.Row.{Row}
-use Rattle.rolls.specs.declared.row.RowKey.{RowKey}
 use Rattle.rolls.specs.declared.row.Change.{Change}
 use Rattle.rolls.specs.declared.request.Done.{Done}
 use Rattle.rolls.specs.State.{State}

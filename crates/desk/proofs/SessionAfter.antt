@@ -1,9 +1,8 @@
 -- What a request that was carried out makes of the session.
-use Rattle.std.proofs.Common.{◌≡◌, ℕ, List, Bool, true, false, Option, Some, None, Result, Ok, Err, IfSome, refl, sym, subst}
+use Rattle.std.proofs.Common.{◌≡◌, ℕ, List, Bool, true, false, Option, Some, None, IfSome, refl, sym, subst}
 use Rattle.std.specs.Prelude.{if◌then◌else◌}
 use Rattle.rolls.specs.State.{State, last_round, has_list}
 use Rattle.rolls.specs.Fit.{IsFit}
-use Rattle.rolls.specs.declared.refusal.Refusal.{Refusal}
 use Rattle.rolls.specs.declared.request.Plain.{Plain}
 use Rattle.rolls.specs.declared.request.Plain.TheVariants.{PutSupervisor, PutProject, PutStudent, OpenRound, PutList, DropList, ReopenRound, GetSupervisor, GetProject, GetStudent, GetRound}
 use Rattle.rolls.specs.declared.request.Reply.{Reply}
@@ -16,9 +15,8 @@ use Rattle.rolls.specs.Run.{Makes}
 use Rattle.solver.specs.Sitting.{Sitting}
 use Rattle.allotment.specs.Layers.{layers}
 use Rattle.allotment.specs.Sittings.{MayJoin}
-use Rattle.rolls.specs.declared.fate.Fate.{Fate}
 use Rattle.rolls.specs.declared.fate.Fate.TheVariants.{Stays, Joins, Ends}
-use Rattle.desk.specs.Sessions.{plain_fate, fate_of, Goes, GoesOn, SitsAt}
+use Rattle.desk.specs.Sessions.{plain_fate, fate_of, SitsAt}
 use Rattle.desk.specs.Inside.Sessions.{MayMeet}
 
 -- ---- a change
@@ -61,35 +59,3 @@ meets o n request.Preview reply kept fit allowed change made sits = absurd (cc)
 meets o n request.RoundText reply kept fit allowed change made sits = absurd (cc)
 meets o n (request.Report kind round) reply kept fit allowed change made sits = absurd (cc)
 meets o n (request.Import id kind bytes) reply kept fit allowed change made sits = subst (λ (b : Bool). MayMeet (if b then Stays else Ends) n kept) (sym change) tt
-
--- ---- what changes nothing
-
--- a read leaves the session and the office
-read_leaves : (o : State) (p : Plain) → is_read p ≡ true → (plain_fate o p ≡ Stays) × (after_plain p o ≡ o)
-read_leaves o (PutSupervisor code label quota) read = cc
-read_leaves o (PutProject code label supervisor quota) read = cc
-read_leaves o (PutStudent code label) read = cc
-read_leaves o (OpenRound aim) read = cc
-read_leaves o (PutList student choices) read = cc
-read_leaves o (DropList student) read = cc
-read_leaves o ReopenRound read = cc
-read_leaves o (GetSupervisor code) read = (refl, refl)
-read_leaves o (GetProject code) read = (refl, refl)
-read_leaves o (GetStudent code) read = (refl, refl)
-read_leaves o (GetRound round) read = (refl, refl)
-
-read_stays : (o : State) (p : Plain) → is_read p ≡ true → plain_fate o p ≡ Stays
-read_stays o p read = (read_leaves o p read).0
-
-pub read_same : (o : State) (p : Plain) → is_read p ≡ true → after_plain p o ≡ o
-read_same o p read = (read_leaves o p read).1
-
--- where the fate is to stay, the session that stays has gone on
-pub goes_still : (o : State) (q : Request) (answer : Result Reply Refusal) (old new : Option Sitting) → fate_of o q ≡ Stays → new ≡ old → GoesOn o q answer old new
-goes_still o q (Ok reply) old new fate same = subst (λ (f : Fate). Goes f old new) (sym fate) same
-goes_still o q (Err refusal) old new fate same = same
-
--- so it is over a read
-pub read_goes : (o : State) (q : Request) (p : Plain) (answer : Result Reply Refusal) (old new : Option Sitting) → q ≡ request.Plain p → is_read p ≡ true → new ≡ old → GoesOn o q answer old new
-read_goes o q p answer old new is read same =
-    goes_still o q answer old new (subst (λ (x : Request). fate_of o x ≡ Stays) (sym is) (read_stays o p read)) same

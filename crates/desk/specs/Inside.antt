@@ -1,4 +1,5 @@
 -- What proofs need and no public clause says.
+pub mod Books
 pub mod Keeping
 pub mod Kept
 pub mod Saved

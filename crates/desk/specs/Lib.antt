@@ -1,6 +1,8 @@
-pub mod Kept
+pub mod Books
 pub mod Keeping
+pub mod Kept
 pub mod Causes
+pub mod Saved
 pub mod Sessions
 pub mod Laws
 pub mod Inside

@@ -56,8 +56,11 @@ GoesOn o q (Err refusal) old new = new ≡ old
 
 -- a request that is refused by name is answered so, and a fault of the storage is told of what changes the office alone, and where nothing
 -- refuses it
-abbrev pub IsToldRight : State → Request → Result Reply Refusal → Type 0
-IsToldRight o q a = IfSome (refusal_of o q) (λ r. a ≡ Err r) × (a ≡ Err Storage → changes_nothing o q ≡ false) × (a ≡ Err Storage → refusal layers o q ≡ None)
+pub record IsToldRight (o : State) (q : Request) (a : Result Reply Refusal) : Type 0 where
+  pub named : IfSome (refusal_of o q) (λ r. a ≡ Err r)
+  pub storage : a ≡ Err Storage → changes_nothing o q ≡ false
+  -- that of an import's text and records included
+  pub refused : a ≡ Err Storage → refusal layers o q ≡ None
 
 -- What takes no memory is answered: a read of a round that is there, a kept import that comes once more, and a preview that is
 -- read from a session.

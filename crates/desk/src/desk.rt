@@ -1,87 +1,63 @@
 //! The desk.
 
-ghost use Rattle.std.specs.Prelude.{ℕ, ◌≡◌, ◌≢◌, ◌⊎◌, Err, IfOk, IfErr, IsOk, IsErr, IfSome, IsTrue, is_some, OnOk, OnErr, None, option_map, false, true};
+ghost use Rattle.std.specs.Prelude.{ℕ, ◌≡◌, ◌≢◌, ◌⊎◌, Err, IfOk, IfErr, IsOk, IsErr, IfSome, IsTrue, is_some, OnErr, None, option_map, false, true};
 ghost use Rattle.sqlite.specs.State.{HasCleanDisk, IsLive, Survives};
 ghost use Rattle.sqlite.specs.Held.{state};
-ghost use Rattle.tables.specs.Steps.{IsKept, IsLeft};
-ghost use Rattle.rolls.specs.Rows.{Turns};
+ghost use Rattle.tables.specs.Steps.{IsLeft};
 ghost use Rattle.rolls.specs.Fit.{IsFit};
-ghost use Rattle.store.specs.Saving.{AreActedOn, Saves};
-ghost use Rattle.rolls.specs.Reads.{is_read, changes_nothing};
-ghost use Rattle.rolls.specs.Refusing.{plain_refusal, refusal_of};
-ghost use Rattle.rolls.specs.Run.{Makes, MayRefuse, Step, Run, refusal};
+ghost use Rattle.rolls.specs.Reads.{changes_nothing};
+ghost use Rattle.rolls.specs.Refusing.{refusal_of};
+ghost use Rattle.rolls.specs.Run.{Step, Run, refusal};
 ghost use Rattle.allotment.specs.Layers.{layers};
-ghost use Rattle.allotment.specs.Changes.{MayChange};
-ghost use Rattle.store.specs.Tables.{Brings, Opens, HasNone, LeavesAlone, LeavesTables};
-ghost use Rattle.store.specs.Reading.{AreListed, IsDamaged};
-ghost use Rattle.tables.specs.Causes.{IsCaused, IsStopped};
-ghost use Rattle.store.specs.Causes.{IsHinderedOpening, IsHinderedToSave};
-ghost use Rattle.desk.specs.Causes.{IsHinderedToAsk};
-ghost use Rattle.desk.specs.Keeping.{AnswersKept, Begins, CarriesOut, Keeps, StandsForOne, needs_no_table};
-ghost use Rattle.desk.specs.Inside.Saved.{IsSaved};
-ghost use Rattle.desk.specs.Sessions.{GoesOn, RunsOn, SitsAt};
+ghost use Rattle.store.specs.Opening.{IsLeftUnopened};
+ghost use Rattle.store.specs.Reading.{AreListed};
+ghost use Rattle.store.specs.Tables.{HasNone};
+ghost use Rattle.desk.specs.Keeping.{Begins, Keeps, StandsForOne, needs_no_table};
+ghost use Rattle.desk.specs.Kept.{IsOpened};
+ghost use Rattle.desk.specs.Saved.{IsSaved};
+ghost use Rattle.desk.specs.Sessions.{AnswersAtOnce, GoesOn, IsToldRight, RunsOn, SitsAt};
 
+use crate::books::{Books, refusal_of_fault};
 use crate::sessions::{fate_of, next_session};
 use office::Office;
-use rolls::{Done, Plain, Refusal, Reply, Request};
+use rolls::{Plain, Refusal, Reply, Request};
 use solver::Session;
 use sqlite::{Alter, Connection};
 use std::alloc::{AllocError, Global};
 use std::marker::Model;
-use std::mem;
-use store::{Store, StoreFault};
+use store::Store;
 
 /// An office in memory beside the tables that stand for it, and a session of its open round where a preview was asked for.
 #[derive(Drop)]
 pub struct Desk<S: Alter> {
     alloc: Global,
-    office: Office,
-    store: Store<S>,
+    books: Books<S>,
     session: Option<Session>,
 }
 
 impl<S: Alter> Model for Desk<S> {
     ghost use Rattle.desk.specs.Kept.{Kept};
     ghost use Rattle.desk.specs.Inside.Kept.{kept_code};
-    ghost use Rattle.desk.specs.Inside.Keeping.{IsKeeping};
+    ghost use Rattle.desk.specs.Sessions.{SitsAt};
 
     ghost Value = { Kept S };
 
     ghost coded = { kept_code S.code };
 
-    ghost view = { λ d. record { office = d.office; store = d.store; session = d.session } };
+    ghost view = { λ d. let books = d.books in record { office = books.office; store = books.store; session = d.session } };
 
-    ghost invariant = { λ d. IsKeeping S.Store (record { office = d.office; store = d.store; session = d.session }) };
+    ghost invariant = { λ d. let books = d.books in SitsAt books.office d.session };
 }
 
-/// The refusal that a fault of the store is answered by.
-fn refusal_of_fault(fault: StoreFault) -> Refusal
-    ensures memory { fault ≡ StoreFault.Memory → result ≡ Refusal.Memory }
-    ensures storage { fault ≡ StoreFault.Storage → result ≡ Refusal.Storage }
-    ensures damaged { fault ≡ StoreFault.Damaged → result ≡ Refusal.Damaged }
-{
-    match fault {
-        StoreFault::Memory => Refusal::Memory,
-        StoreFault::Storage => Refusal::Storage,
-        StoreFault::Damaged => Refusal::Damaged,
-    }
-}
-
-/// What a request that changes the office makes of it.
-fn made(alloc: Global, office: &mut Office, request: Request) -> Result<Done, Refusal>
-    requires change { changes_nothing office.old request ≡ false }
-    requires allowed { refusal_of office.old request ≡ None }
-    ensures made { IfOk result (λ done. (refusal layers office.old request ≡ None) × Makes layers office.old request done.reply office.new) }
-    ensures turns { IfOk result (λ done. let changes = done.changes in Turns changes.items office.old office.new) }
-    ensures changes { IfOk result (λ done. let changes = done.changes in MayChange office.old request changes.items) }
-    ensures refused { IfErr result (MayRefuse (refusal layers office.old request)) }
-    ensures unstored { result ≢ Err Refusal.Storage }
+/// Whether a request changes nothing of an office.
+fn changes_nothing(office: &Office, request: &Request) -> bool
+    ensures { result ≡ changes_nothing office.now request.now }
 {
     match request {
-        Request::Plain(plain) => Ok(office.make(plain)?),
-        Request::Close => Ok(allotment::close(alloc, office)?),
-        Request::Import { id, kind, bytes } => allotment::import(alloc, office, id, kind, bytes),
-        Request::Preview | Request::RoundText | Request::Report { .. } => unreachable!(),
+        Request::Plain(plain) => plain.is_read(),
+        Request::Close => false,
+        Request::Preview | Request::RoundText | Request::Report { .. } => true,
+        Request::Import { id, .. } => office.kept_rows(id.as_str()).is_some(),
     }
 }
 
@@ -93,37 +69,24 @@ impl<S: Alter> Desk<S> {
         alloc: Global,
         connection: Connection<S>,
     ) -> Result<Desk<S>, (Refusal, Connection<S>)>
-        ensures office { IfOk result (λ desk. HasCleanDisk (state S.Store desk.store) → Opens (state S.Store connection).now (state S.Store desk.store).now desk.office) }
-        ensures tables { IfOk result (λ desk. Keeps (state S.Store desk.store) desk.office) }
-
-        // Each other table stays.
-        ensures others { IfOk result (λ desk. HasCleanDisk (state S.Store desk.store) → LeavesTables (state S.Store connection).now (state S.Store desk.store).now) }
-        ensures damaged { IfErr result (λ e. HasCleanDisk (state S.Store e.1) → e.0 ≡ Refusal.Damaged → IsDamaged (state S.Store connection).now × (HasNone (state S.Store connection).now.schema → ⊥)) }
+        ensures opened { IfOk result (IsOpened S.Store connection) }
+        ensures unopened { IfErr result (λ e. let refusal = e.0 in IsLeftUnopened S.Store (refusal ≡ Refusal.Storage) (refusal ≡ Refusal.Damaged) connection e.1) }
         ensures refused { IfErr result (λ e. (e.0 ≡ Refusal.Memory) ⊎ ((e.0 ≡ Refusal.Storage) ⊎ (e.0 ≡ Refusal.Damaged))) }
-        ensures kept { IfErr result (λ e. HasCleanDisk (state S.Store e.1) → IsKept (state S.Store connection) (state S.Store e.1)) }
-
-        // Why the storage has failed: an open transaction apart, a shut connection, a fault of the disk, or a refused statement.
-        ensures cause { IfErr result (λ e. connection.in_transaction ≡ false → HasCleanDisk (state S.Store e.1) → e.0 ≡ Refusal.Storage → IsStopped IsHinderedOpening (state S.Store connection) (state S.Store e.1)) }
-        ensures given_back { IfErr result (λ e. let back = e.1 in connection.in_transaction ≡ false → back.in_transaction ≡ false) }
 
         // Where a transaction is open already it is no want of memory, and no damage.
         ensures begun { IsTrue connection.in_transaction → IsErr result × IfErr result (λ e. e.0 ≡ Refusal.Storage) }
 
         // Tables that are there and are not listed as they are made here are damaged.
         ensures unlisted { connection.in_transaction ≡ false → (HasNone (state S.Store connection).now.schema → ⊥) → (AreListed (state S.Store connection).now.schema → ⊥) → IsErr result × IfErr result (λ e. e.0 ≡ Refusal.Damaged) }
-
-        // What a crash leaves: what it could leave before, tables of the empty office where none was there, or raised tables.
-        ensures crash_ok { IfOk result (λ desk. Survives (state S.Store connection) (state S.Store desk.store) (IsLeft Brings (state S.Store connection))) }
-        ensures crash_err { IfErr result (λ e. Survives (state S.Store connection) (state S.Store e.1) (IsLeft Brings (state S.Store connection))) }
-        ensures alone { IfOk result (λ desk. HasCleanDisk (state S.Store desk.store) → LeavesAlone (state S.Store desk.store)) }
-        ensures is_open { IfOk result (λ desk. HasCleanDisk (state S.Store desk.store) → IsTrue (state S.Store desk.store).is_open) }
-        ensures no_session { IfOk result (λ desk. desk.session ≡ None) }
     {
         match Store::open(alloc, connection) {
             Ok((store, office)) => Ok(Desk {
                 alloc,
-                office,
-                store,
+                books: Books {
+                    alloc,
+                    office,
+                    store,
+                },
                 session: None,
             }),
             Err((fault, connection)) => Err((refusal_of_fault(fault), connection)),
@@ -138,8 +101,7 @@ impl<S: Alter> Desk<S> {
         ensures live { IsLive (state S.Store self.now.store) }
         ensures sits { SitsAt self.now.office self.now.session }
     {
-        self.office.fit();
-        self.store.shows();
+        self.books.keeps();
     }
 
     /// Gives the connection up. Takes no memory.
@@ -148,12 +110,16 @@ impl<S: Alter> Desk<S> {
     {
         let Desk {
             alloc: _,
-            office,
-            store,
+            books,
             session,
         } = self;
-        drop(office);
         drop(session);
+        let Books {
+            alloc: _,
+            office,
+            store,
+        } = books;
+        drop(office);
         store.into_connection()
     }
 
@@ -182,6 +148,7 @@ impl<S: Alter> Desk<S> {
         ensures crash { IfOk result (λ answers. Survives (state S.Store self.old.store) (state S.Store self.new.store) (IsLeft (λ _. StandsForOne (Begins self.old.office requests.items answers.items)) (state S.Store self.old.store))) }
         ensures stays_shut { HasCleanDisk (state S.Store self.new.store) → IsTrue (state S.Store self.new.store).is_open → IsTrue (state S.Store self.old.store).is_open }
     {
+        self.keeps();
         let mut answers = Vec::with_capacity(self.alloc, requests.len())?;
         for request in requests {
             let answer = self.ask(request);
@@ -196,75 +163,55 @@ impl<S: Alter> Desk<S> {
         ensures step { Step layers self.old.office request result self.new.office }
         ensures tables { Keeps (state S.Store self.new.store) self.new.office }
         ensures quiet { needs_no_table self.old.office request ≡ true → self.new.store ≡ self.old.store }
-        ensures named { IfSome (refusal_of self.old.office request) (λ r. result ≡ Err r) }
 
-        // A kept import that comes once more answers its number; no table is touched for it, and it takes no memory.
-        ensures repeated { AnswersKept self.old.office request result }
-        ensures storage { result ≡ Err Refusal.Storage → changes_nothing self.old.office request ≡ false }
+        // A refusal by name is told as itself, and none is told as a fault of the storage.
+        ensures told { IsToldRight self.old.office request result }
 
-        // No refusal is told as a fault of the storage, that of an import's text and records included.
-        ensures refused { result ≡ Err Refusal.Storage → refusal layers self.old.office request ≡ None }
+        // What a crash leaves, that an answered change has its tables alone over an open connection, and why the storage has failed.
+        ensures saved { IsSaved self.old.office request result (state S.Store self.old.store) (state S.Store self.new.store) }
 
-        // What a crash leaves: what it could leave before, or, where the connection was open, the tables of an office that the
-        // request makes; after an answered change the tables after it alone.
-        ensures crash { Survives (state S.Store self.old.store) (state S.Store self.new.store) (IsLeft (λ _. StandsForOne (CarriesOut self.old.office request)) (state S.Store self.old.store)) }
-        ensures alone { changes_nothing self.old.office request ≡ false → HasCleanDisk (state S.Store self.new.store) → OnOk result (LeavesAlone (state S.Store self.new.store)) }
-
-        // After an answered change the connection is open, so that the tables stand for the office. One that is shut stays shut.
-        ensures stays_open { changes_nothing self.old.office request ≡ false → HasCleanDisk (state S.Store self.new.store) → OnOk result (IsTrue (state S.Store self.new.store).is_open) }
-        ensures stays_shut { HasCleanDisk (state S.Store self.new.store) → IsTrue (state S.Store self.new.store).is_open → IsTrue (state S.Store self.old.store).is_open }
-
-        // Where a foreign key would write other rows too, no change is made.
-        ensures acted_on { changes_nothing self.old.office request ≡ false → AreActedOn (state S.Store self.old.store).now.schema → IsErr result }
-
-        // Why the storage has failed: a foreign key apart, a shut connection, a fault of the disk, or a refused statement of the changes
-        // that the request makes.
-        ensures cause { (AreActedOn (state S.Store self.old.store).now.schema → ⊥) → IsCaused Refusal.Storage (IsHinderedToAsk self.old.office request) result (state S.Store self.old.store) (state S.Store self.new.store) }
+        // A kept import that comes once more answers its number, a preview that is read from a session answers, and so does a read of a
+        // round: no table is touched for these, and they take no memory.
+        ensures at_once { AnswersAtOnce self.old.office self.old.session request result }
 
         // A refusal leaves the session, and so do reads, puts of students and repeated imports. An answered preview leaves one, a
         // first list joins the one that is kept or drops it, and every other change leaves none.
         ensures session { GoesOn self.old.office request result self.old.session self.new.session }
-
-        // A preview that is read from a session answers, and so does a read of a round: they take no memory.
-        ensures kept { request ≡ Request.Preview → refusal_of self.old.office request ≡ None → IsTrue (is_some self.old.session) → IsOk result }
-        ensures round { (number : ℕ) → request ≡ Request.Plain (Plain.GetRound number) → refusal_of self.old.office request ≡ None → IsOk result }
     {
-        if let Some(refusal) = self.office.refusal_of(&request) {
+        if let Some(refusal) = self.books.office.refusal_of(&request) {
             return Err(refusal);
         }
-        match request {
-            Request::Plain(plain) => {
-                if plain.is_read() {
-                    self.read(plain)
-                } else {
-                    self.change(Request::Plain(plain))
-                }
-            }
-            Request::Close => self.change(Request::Close),
-            Request::Import { id, kind, bytes } => match self.office.kept_rows(id.as_str()) {
-                Some(rows) => Ok(Reply::Rows(rows)),
-                None => self.change(Request::Import { id, kind, bytes }),
-            },
-            Request::Preview => self.preview(),
-            Request::RoundText => Ok(allotment::round_text(self.alloc, &self.office)?),
-            Request::Report { kind, round } => {
-                allotment::report(self.alloc, &self.office, kind, round)
-            }
+        if changes_nothing(&self.books.office, &request) {
+            self.read(request)
+        } else {
+            self.change(request)
         }
     }
 
-    /// A request that only reads is answered from the office.
-    fn read(&mut self, plain: Plain) -> Result<Reply, Refusal>
-        requires read { is_read plain ≡ true }
-        requires allowed { plain_refusal self.old.office plain ≡ None }
-        ensures round { (number : ℕ) → plain ≡ Plain.GetRound number → IsOk result }
-        ensures step { Step layers self.old.office (Request.Plain plain) result self.new.office }
+    /// A request that changes nothing is answered from the office, or from the session.
+    fn read(&mut self, request: Request) -> Result<Reply, Refusal>
+        requires nothing { changes_nothing self.old.office request ≡ true }
+        requires allowed { refusal_of self.old.office request ≡ None }
+        ensures step { Step layers self.old.office request result self.new.office }
         ensures store { self.new.store ≡ self.old.store }
         ensures tables { Keeps (state S.Store self.new.store) self.new.office }
         ensures storage { result ≢ Err Refusal.Storage }
-        ensures session { self.new.session ≡ self.old.session }
+        ensures at_once { AnswersAtOnce self.old.office self.old.session request result }
+        ensures session { GoesOn self.old.office request result self.old.session self.new.session }
     {
-        Ok(self.office.make(plain)?.reply)
+        self.keeps();
+        let office = &self.books.office;
+        match request {
+            Request::Plain(plain) => self.books.read(plain),
+            Request::Close => unreachable!(),
+            Request::Preview => self.preview(),
+            Request::RoundText => Ok(allotment::round_text(self.alloc, office)?),
+            Request::Report { kind, round } => allotment::report(self.alloc, office, kind, round),
+            Request::Import { id, .. } => match office.kept_rows(id.as_str()) {
+                Some(rows) => Ok(Reply::Rows(rows)),
+                None => unreachable!(),
+            },
+        }
     }
 
     /// A preview is read from the session. Where none is kept one is started.
@@ -281,89 +228,28 @@ impl<S: Alter> Desk<S> {
         if let Some(session) = &self.session {
             return Ok(allotment::read_preview(session));
         }
-        let session = allotment::sit(self.alloc, &self.office)?;
+        let session = allotment::sit(self.alloc, &self.books.office)?;
         let reply = allotment::read_preview(&session);
-        self.keep_session(Some(session));
+        self.session = Some(session);
         Ok(reply)
-    }
-
-    /// A session is kept in the place of the one before.
-    fn keep_session(&mut self, session: Option<Session>)
-        requires sits { SitsAt self.old.office session }
-        ensures kept { self.new ≡ record self.old { session = session } }
-        ensures tables { Keeps (state S.Store self.new.store) self.new.office }
-    {
-        self.session = session;
     }
 
     /// A change is saved, and the session follows it.
     fn change(&mut self, request: Request) -> Result<Reply, Refusal>
         requires change { changes_nothing self.old.office request ≡ false }
         requires allowed { refusal_of self.old.office request ≡ None }
-        ensures quiet { IfSome (refusal layers self.old.office request) (λ _. self.new.store ≡ self.old.store) }
         ensures step { Step layers self.old.office request result self.new.office }
         ensures tables { Keeps (state S.Store self.new.store) self.new.office }
-        ensures saved { IsSaved (λ _. StandsForOne (CarriesOut self.old.office request)) (IsHinderedToAsk self.old.office request) result (state S.Store self.old.store) (state S.Store self.new.store) }
+        ensures quiet { IfSome (refusal layers self.old.office request) (λ _. self.new.store ≡ self.old.store) }
+        ensures refused { result ≡ Err Refusal.Storage → refusal layers self.old.office request ≡ None }
+        ensures saved { IsSaved self.old.office request result (state S.Store self.old.store) (state S.Store self.new.store) }
         ensures session { GoesOn self.old.office request result self.old.session self.new.session }
-        ensures refused { result ≡ Err Refusal.Storage → refusal layers self.old.office request ≡ None }
     {
         self.keeps();
-        // The session sits in the office before the change: it is out of the desk while the offices are exchanged, and comes back
-        // where nothing was changed.
-        let fate = fate_of(self.alloc, &self.office, &request)?;
+        let fate = fate_of(self.alloc, &self.books.office, &request)?;
+        let reply = self.books.change(request)?;
         let kept = self.session.take();
-        match self.save(request) {
-            Ok(reply) => {
-                let next = next_session(self.alloc, &self.office, kept, fate);
-                self.keep_session(next);
-                Ok(reply)
-            }
-            Err(refusal) => {
-                self.keep_session(kept);
-                Err(refusal)
-            }
-        }
-    }
-
-    /// A change is made on a copy, which becomes the office once its changes are saved.
-    fn save(&mut self, request: Request) -> Result<Reply, Refusal>
-        requires change { changes_nothing self.old.office request ≡ false }
-        requires allowed { refusal_of self.old.office request ≡ None }
-        requires no_session { self.old.session ≡ None }
-        ensures quiet { IfSome (refusal layers self.old.office request) (λ _. self.new.store ≡ self.old.store) }
-        ensures step { Step layers self.old.office request result self.new.office }
-        ensures tables { Keeps (state S.Store self.new.store) self.new.office }
-        ensures saved { IsSaved (λ _. StandsForOne (CarriesOut self.old.office request)) (IsHinderedToAsk self.old.office request) result (state S.Store self.old.store) (state S.Store self.new.store) }
-        ensures no_session { self.new.session ≡ None }
-        ensures refused { result ≡ Err Refusal.Storage → refusal layers self.old.office request ≡ None }
-    {
-        self.keeps();
-        let mut next = self.office.copy()?;
-        let done = match made(self.alloc, &mut next, request) {
-            Ok(done) => done,
-            Err(refusal) => return Err(refusal),
-        };
-        next.fit();
-        self.settle(&mut next, done)
-    }
-
-    /// The changes are saved, and then the office and the next one are exchanged.
-    fn settle(&mut self, next: &mut Office, done: Done) -> Result<Reply, Refusal>
-        requires turns { let changes = done.changes in Turns changes.items self.old.office next.old }
-        requires no_session { self.old.session ≡ None }
-        ensures ok { IfOk result (λ reply. (reply ≡ done.reply) × (self.new.office ≡ next.old)) }
-        ensures err { IfErr result (λ refusal. ((refusal ≡ Refusal.Memory) ⊎ (refusal ≡ Refusal.Storage)) × (self.new.office ≡ self.old.office)) }
-        ensures tables { Keeps (state S.Store self.new.store) self.new.office }
-        ensures saved { let changes = done.changes in IsSaved (Saves changes.items) (IsHinderedToSave changes.items) result (state S.Store self.old.store) (state S.Store self.new.store) }
-        ensures acted_on { AreActedOn (state S.Store self.old.store).now.schema → result ≡ Err Refusal.Storage }
-        ensures no_session { self.new.session ≡ None }
-    {
-        match self.store.save(&done.changes) {
-            Ok(()) => {
-                mem::swap(&mut self.office, next);
-                Ok(done.reply)
-            }
-            Err(fault) => Err(refusal_of_fault(fault)),
-        }
+        self.session = next_session(self.alloc, &self.books.office, kept, fate);
+        Ok(reply)
     }
 }

@@ -1,5 +1,5 @@
 -- Changes one after another.
-use Rattle.std.proofs.Common.{◌≡◌, ℕ, ◌+◌, ◌<◌, List, [], ◌∷◌, ◌++◌, length, get_or, take, refl, sym, ap, subst, ◌∙◌, Result, Ok, Err, OnOk, Option}
+use Rattle.std.proofs.Common.{◌≡◌, ℕ, ◌+◌, ◌<◌, List, [], ◌∷◌, ◌++◌, length, get_or, take, refl, sym, ap, subst, ◌∙◌, Result, Ok, Err, OnOk, IsTrue, Option}
 use Rattle.std.proofs.lemmas.List.{take_more}
 use Rattle.sqlite.specs.Effect.{Database}
 use Rattle.sqlite.specs.State.{State}
@@ -16,7 +16,7 @@ use Rattle.store.specs.Tables.{TablesHold}
 use Rattle.sqlite.specs.Schema.{Schema}
 use Rattle.sqlite_rules.specs.Lists.{Has}
 use Rattle.tables.specs.Table.{Lists, table_at}
-use Rattle.store.specs.Saving.{AddsNew, AllNeed, AreInert, Applies, LeavesOthers, Needs, Saves, Spares}
+use Rattle.store.specs.Saving.{AddsNew, AllNeed, AreInert, Applies, IsSaving, LeavesOthers, Needs, Saves, Spares}
 use Rattle.store.specs.Inside.Saving.{AppliesOne}
 use Rattle.store.specs.Rows.{table_at_key}
 use Rattle.store.proofs.Columns.{in_rolls}
@@ -85,12 +85,7 @@ pub saves : (changes : List Change) (old new : Database) → AreInert old.schema
 unfolding Applies Saves
 saves changes old new inert p rows t = (p (all_needed changes old.schema inert) rows t).0
 
--- the same of a transaction
-pub saves_call : {E : Type 0} (changes : List Change) (a b : State) (r : Result (Unit {0}) E) → AreInert a.now.schema → OnOk r (HasSaved (Applies changes) a b) → OnOk r (HasSaved (Saves changes) a b)
-saves_call changes a b (Ok u) inert h = record { shown = h.shown; step = saves changes a.now b.now inert h.step }
-saves_call changes a b (Err e) inert h = h
-
--- and of what a crash leaves
+-- the same of what a crash leaves
 pub saves_left : (changes : List Change) (old : State) (trees : Trees) → AreInert old.now.schema → IsLeft (Applies changes) old trees → IsLeft (Saves changes) old trees
 saves_left changes old trees inert h = record { was_open = h.was_open; db = h.db; sound = h.sound; step = saves changes old.now h.db inert h.step; same = h.same }
 
@@ -99,17 +94,18 @@ pub leaves_others : (changes : List Change) (old new : Database) → AreInert ol
 unfolding Applies LeavesOthers
 leaves_others changes old new inert p rows t = (p (all_needed changes old.schema inert) rows t).1
 
--- the same of a transaction
-pub others_call : {E : Type 0} (changes : List Change) (a b : State) (r : Result (Unit {0}) E) → AreInert a.now.schema → OnOk r (HasSaved (Applies changes) a b) → OnOk r (LeavesOthers a.now b.now)
-others_call changes a b (Ok u) inert h = leaves_others changes a.now b.now inert h.step
-others_call changes a b (Err e) inert h = h
-
 -- changes that were applied added rows of new keys
 pub adds_new : (changes : List Change) (old new : Database) → AreInert old.schema → Applies changes old new → AddsNew changes old
 unfolding Applies AddsNew
 adds_new changes old new inert p rows t = (p (all_needed changes old.schema inert) rows t).2
 
--- the same of a transaction
-pub new_call : {E : Type 0} (changes : List Change) (a b : State) (r : Result (Unit {0}) E) → AreInert a.now.schema → OnOk r (HasSaved (Applies changes) a b) → OnOk r (AddsNew changes a.now)
-new_call changes a b (Ok u) inert h = adds_new changes a.now b.now inert h.step
-new_call changes a b (Err e) inert h = h
+-- so a transaction of them has saved them, where a crash leaves what was committed
+pub saving_call : {E : Type 0} (changes : List Change) (a b : State) (r : Result (Unit {0}) E) → AreInert a.now.schema → ((trees : Trees) → IsTrue b.is_open → b.may_leave trees → trees ≡ b.committed.trees)
+    → OnOk r (HasSaved (Applies changes) a b) → OnOk r (IsSaving changes a b)
+saving_call changes a b (Ok u) inert settled h = record {
+  saved = record { shown = h.shown; step = saves changes a.now b.now inert h.step };
+  others = leaves_others changes a.now b.now inert h.step;
+  alone = λ trees left. settled trees h.shown.is_open left ∙ ap (λ (db : Database). db.trees) h.shown.committed_is;
+  fresh = adds_new changes a.now b.now inert h.step;
+}
+saving_call changes a b (Err e) inert settled h = h

@@ -1,7 +1,7 @@
 -- What a transaction leaves of a connection once it is committed or dropped.
 use Rattle.std.proofs.Common.{◌≡◌, false, true, [], IsTrue, refl, sym, subst, ◌∙◌, arith}
 use Rattle.sqlite.specs.Effect.{Database, IsDatabase}
-use Rattle.sqlite.specs.State.{State as Seen, HasCleanDisk, KeepsCounts, Shows, Survives}
+use Rattle.sqlite.specs.State.{State as Seen, HasCleanDisk, IsUnchanged, KeepsCounts, Shows, Survives}
 use Rattle.sqlite.specs.Tree.{Trees}
 use Rattle.sqlite.proofs.StateLemmas.{survives_then}
 use Rattle.tables.specs.Steps.{HasSaved, HasStepped, IsLeft}
@@ -78,3 +78,25 @@ sound_run P first begun b begins one opened sound made clean =
       subst (λ (s : Seen). IsTrue s.is_open) (sym begins) (opened early),
       (made clean).sound (subst (λ (s : Seen). IsDatabase s.now) (sym begins) (sound early)),
     )
+
+-- behind a call that changed nothing
+module _ (a b c : Seen) (P : Database → Database → Type 0) (one : Survives a b (λ _. ⊥)) (same : HasCleanDisk b → IsUnchanged a b) where
+  pub saved_after : Survives b c (IsLeft P b) → (HasCleanDisk c → HasSaved P b c) → HasCleanDisk c → HasSaved P a c
+  saved_after two saved clean =
+      let early : HasCleanDisk b = omega (arith, two.clean, clean) in
+      let it = saved clean in
+      record {
+        shown = record { was_open = (same early).0.was_open; is_open = it.shown.is_open; now_is = it.shown.now_is; committed_is = it.shown.committed_is; mode = it.shown.mode };
+        step = subst (λ (db : Database). P db c.now) (same early).0.now_is it.step;
+      }
+
+  pub left_after : Survives b c (IsLeft P b) → Survives a c (IsLeft P a)
+  left_after two = survives_then a b c (λ _. ⊥) (IsLeft P b) (IsLeft P a) (λ _ db none. absurd none) (λ clean trees left.
+      let early : HasCleanDisk b = omega (arith, two.clean) in
+      record {
+        was_open = (same early).0.was_open;
+        db = left.db;
+        sound = left.sound;
+        step = subst (λ (db : Database). P db left.db) (same early).0.now_is left.step;
+        same = left.same;
+      }) one two

@@ -1,5 +1,7 @@
 -- What comes of an opening: the office that was read, in the latest edition or raised to it.
-use Rattle.std.proofs.Common.{◌≡◌, ◌≢◌, ◌<◌, ◌≤◌, Result, Ok, Err, OnErr, List, ap, inl, inr, refl, sym, subst, ◌∙◌, arith}
+use Rattle.std.proofs.Common.{◌≡◌, ◌≢◌, ◌<◌, ◌≤◌, List, Result, Ok, Err, IfErr, ap, inl, inr, refl, sym, subst, ◌∙◌, arith}
+use Rattle.sqlite.specs.Held.{Held}
+use Rattle.sqlite_trees.specs.declared.store.Store.{Ghosts}
 use Rattle.sqlite.specs.State.{State as Seen, HasCleanDisk, IsUnchanged, Survives}
 use Rattle.sqlite.specs.Effect.{Database}
 use Rattle.sqlite.specs.Tree.{Trees}
@@ -16,6 +18,9 @@ use Rattle.tables.proofs.Causes.{stopped_after}
 use Rattle.store.specs.Causes.{IsHinderedOpening, IsHinderedToRaise}
 use Rattle.store.specs.Editions.{IsEarlier, beyond, latest, number_of, rolls_of}
 use Rattle.store.specs.Reading.{IsDamaged, IsUnfitIn}
+use Rattle.store.specs.declared.fault.StoreFault.{StoreFault}
+use Rattle.store.specs.declared.fault.StoreFault.TheVariants.{Damaged, Storage}
+use Rattle.store.specs.Opening.{IsLeftUnopened}
 use Rattle.store.specs.Tables.{Brings, HasNoneOf, HoldIn, LeavesTables, Opens, Raises, StandsIn}
 use Rattle.store.specs.Inside.Raising.{Rises}
 use Rattle.store.specs.Inside.Reading.{Finds}
@@ -79,11 +84,6 @@ kept_after old mid new same kept up =
     let k = kept up in
     (same.0.was_open, k.1 ∙ same.0.now_is, k.2 ∙ same.0.committed_is)
 
--- what holds holds where a call fails
-pub on_err : {A E : Type 0} (r : Result A E) (P : Type 0) → P → OnErr r P
-on_err (Ok a) P p = tt
-on_err (Err e) P p = p
-
 -- tables that stand for no fit office in the edition that is there stand for none in any
 pub unfit_all : (e : AnEdition) (db : Database) → HasNoneOf (beyond e) db.schema → ((f : AnEdition) → number_of f < number_of e → HasNoneOf (beyond f) db.schema → ⊥) → IsUnfitIn e db → IsDamaged db
 unfit_all e db alone later unfit f office fit stands = elim (one_or_apart e f) [
@@ -106,3 +106,15 @@ raise_refused e office changes old mid new earlier alone found same survives cle
       are = found.are;
       hindered = subst (λ (cs : List Change). IsHinderedToRaise e cs old.step_limit old.now) found.raise (subst (IsHinderedToRaise e changes old.step_limit) same.0.now_is h);
     }))) stops
+
+-- what is left unopened by a call is left so by its fault
+pub unopened_by : {S A : Type 0} {g : Ghosts S} (r : Result A StoreFault) (old new : Held S) → IsLeftUnopened g (r ≡ Err Storage) (r ≡ Err Damaged) old new → IfErr r (λ fault. IsLeftUnopened g (fault ≡ Storage) (fault ≡ Damaged) old new)
+unopened_by (Ok a) old new it = tt
+unopened_by (Err fault) old new it = record {
+  damaged = λ clean is. it.damaged clean (ap Err is);
+  some = λ is. it.some (ap Err is);
+  kept = it.kept;
+  cause = λ settled clean is. it.cause settled clean (ap Err is);
+  given_back = it.given_back;
+  crash = it.crash;
+}

@@ -5,7 +5,7 @@ use Rattle.sqlite.specs.declared.types.Value.TheVariants.{Int}
 use Rattle.sqlite.specs.Effect.{Database}
 use Rattle.sqlite.specs.Order.{Row as Cells}
 use Rattle.sqlite.specs.Schema.{Schema}
-use Rattle.sqlite.specs.State.{State as Seen, HasCleanDisk, Survives}
+use Rattle.sqlite.specs.State.{State as Seen, HasCleanDisk, IsUnchanged, Survives}
 use Rattle.sqlite.specs.Table.{Table as AnyTable}
 use Rattle.sqlite_rules.specs.Lists.{Has}
 use Rattle.sqlite_rules.proofs.ListLemmas.{all_has, has_either, has_got}
@@ -26,6 +26,8 @@ use Rattle.tables.specs.Inside.Steps.{Stays}
 use Rattle.tables.specs.Steps.{HasStepped}
 use Rattle.tables.specs.Writes.{Puts, with_row}
 use Rattle.tables.proofs.Runs.{listed_at_one, listed_once, stands_kept, stands_apart, stepped_as}
+use Rattle.store.proofs.Causes.{unchanged_before}
+use Rattle.store.proofs.Commit.{dropped_by}
 use Rattle.store.specs.Causes.{latest_number}
 use Rattle.store.specs.Editions.{beyond, latest, number_of, raised, rolls_of}
 use Rattle.store.specs.Rows.{IsAmong, IsRoll, columns_of, rolls}
@@ -246,3 +248,11 @@ stopped_within H first begun mid last begins it two clean =
     let early : HasCleanDisk mid = omega (arith, two.clean) in
     let same : IsStopped H (record first { in_transaction = true }) mid = subst (λ (s : Seen). IsStopped H s mid) begins (it early) in
     stopped_before H first mid last two.counts (record { why = same.why })
+
+-- the same behind a call that changed nothing
+pub stopped_after_all : (H K : Option ℕ → Database → Type 0) (old first begun mid last : Seen) → (HasCleanDisk first → IsUnchanged old first) → Survives old first (λ _. ⊥) → begun ≡ record first { in_transaction = true } → Survives begun mid (λ _. ⊥)
+    → ((limit : Option ℕ) (db : Database) → H limit db → K limit db) → (HasCleanDisk mid → IsStopped H begun mid) → Survives mid last (λ _. ⊥) → HasCleanDisk last → IsStopped K old last
+stopped_after_all H K old first begun mid last same zero begins one f it two clean =
+    let dropped = dropped_by first begun begins mid last (λ _ _. ⊥) one two in
+    let early : HasCleanDisk first = omega (arith, dropped.clean, clean) in
+    unchanged_before H K old first last (same early) zero early dropped.counts f (stopped_within H first begun mid last begins it two clean)

@@ -3,6 +3,7 @@ pub mod Editions
 pub mod Tables
 pub mod Saving
 pub mod Reading
+pub mod Opening
 pub mod Laws
 pub mod Causes
 pub mod Inside

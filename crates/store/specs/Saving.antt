@@ -6,6 +6,7 @@ use Rattle.sqlite.specs.Table.{Table as AnyTable}
 use Rattle.sqlite_rules.specs.Lists.{Has}
 use Rattle.row_data.specs.declared.table.Table.{Table}
 use Rattle.sqlite.specs.Effect.{Database}
+use Rattle.sqlite.specs.State.{State as Seen}
 use Rattle.rolls.specs.declared.row.Row.{Row}
 use Rattle.rolls.specs.declared.row.RowKey.{RowKey}
 use Rattle.rolls.specs.declared.row.Change.{Change}
@@ -15,7 +16,8 @@ use Rattle.tables.specs.Table.{Place, Lists, table_at}
 use Rattle.store.specs.Rows.{IsAmong, IsRoll, rolls, table_at_key}
 use Rattle.tables.specs.Writes.{IsInert}
 use Rattle.tables.specs.Inert.{IsActedOn}
-use Rattle.store.specs.Tables.{TablesHold}
+use Rattle.tables.specs.Steps.{HasSaved}
+use Rattle.store.specs.Tables.{LeavesAlone, TablesHold}
 
 -- no foreign key acts on this table, wherever it is listed
 abbrev pub IsLeftAlone : Table → Schema → Type 0
@@ -74,3 +76,11 @@ Applies changes old new =
 -- where the tables held rows, nothing stood at the key of a row when its turn to be added came
 unfoldable pub AddsNew : List Change → Database → Type 0
 AddsNew changes old = (rows : RowKey → Option Row) → TablesHold old rows → AreFresh changes rows
+
+-- these changes were saved: the tables hold the rows after them, each other table stays, a crash leaves what is seen, and no row was added at
+-- a key that has one
+pub record IsSaving (changes : List Change) (old new : Seen) : Type 0 where
+  pub saved : HasSaved (Saves changes) old new
+  pub others : LeavesOthers old.now new.now
+  pub alone : LeavesAlone new
+  pub fresh : AddsNew changes old.now

@@ -238,25 +238,6 @@ pub fn apply_all<S: Alter>(
     Ok(())
 }
 
-/// Makes the changes in one transaction, over a connection that is open.
-fn commit_all<S: Alter>(conn: &mut Connection<S>, changes: &[Change]) -> Result<(), StoreFault>
-    requires opened { HasCleanDisk (state S.Store conn.old) → IsTrue (state S.Store conn.old).is_open }
-    requires sound { HasCleanDisk (state S.Store conn.old) → IsDatabase (state S.Store conn.old).now }
-    ensures ok { HasCleanDisk (state S.Store conn.new) → OnOk result (HasSaved (Applies changes.now) (state S.Store conn.old) (state S.Store conn.new)) }
-    ensures err { HasCleanDisk (state S.Store conn.new) → OnErr result (IsKept (state S.Store conn.old) (state S.Store conn.new)) }
-    ensures faults { result ≢ Err StoreFault.Damaged }
-    ensures cause { conn.old.in_transaction ≡ false → IsCaused StoreFault.Storage (IsHinderedAmong changes.now) result (state S.Store conn.old) (state S.Store conn.new) }
-    ensures crash { Survives (state S.Store conn.old) (state S.Store conn.new) (IsLeft (Applies changes.now) (state S.Store conn.old)) }
-    ensures ended { conn.old.in_transaction ≡ false → conn.new.in_transaction ≡ false }
-{
-    if !conn.is_autocommit() {
-        return Err(StoreFault::Storage);
-    }
-    let mut tx = conn.transaction();
-    apply_all(&mut tx, changes)?;
-    Ok(tx.commit()?)
-}
-
 /// Makes the changes in one transaction. A connection that a fault of the disk has shut is told before it begins.
 pub fn save_all<S: Alter>(conn: &mut Connection<S>, changes: &[Change]) -> Result<(), StoreFault>
     ensures ok { HasCleanDisk (state S.Store conn.new) → OnOk result (HasSaved (Applies changes.now) (state S.Store conn.old) (state S.Store conn.new)) }
@@ -271,5 +252,7 @@ pub fn save_all<S: Alter>(conn: &mut Connection<S>, changes: &[Change]) -> Resul
         return Err(StoreFault::Storage);
     }
     need_open(conn)?;
-    commit_all(conn, changes)
+    let mut tx = conn.transaction();
+    apply_all(&mut tx, changes)?;
+    Ok(tx.commit()?)
 }

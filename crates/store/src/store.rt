@@ -3,12 +3,13 @@
 ghost use Rattle.std.specs.Prelude.{◌≡◌, ◌≢◌, IsTrue, false, Err, IfOk, IfErr, IsErr, OnOk, OnErr};
 ghost use Rattle.sqlite.specs.State.{HasCleanDisk, IsLive, Survives};
 ghost use Rattle.sqlite.specs.Held.{state};
-ghost use Rattle.tables.specs.Steps.{HasSaved, IsKept, IsLeft};
-ghost use Rattle.tables.specs.Causes.{IsCaused, IsStopped};
-ghost use Rattle.store.specs.Causes.{IsHinderedOpening, IsHinderedReading, IsHinderedToSave};
-ghost use Rattle.store.specs.Tables.{Brings, HasNone, LeavesAlone, LeavesTables, Opens, StandsFor};
-ghost use Rattle.store.specs.Reading.{AreListed, IsDamaged, IsUnfit};
-ghost use Rattle.store.specs.Saving.{AddsNew, AreActedOn, LeavesOthers, Saves};
+ghost use Rattle.tables.specs.Steps.{IsKept, IsLeft};
+ghost use Rattle.tables.specs.Causes.{IsCaused};
+ghost use Rattle.store.specs.Causes.{IsHinderedReading, IsHinderedToSave};
+ghost use Rattle.store.specs.Tables.{HasNone, StandsFor};
+ghost use Rattle.store.specs.Opening.{IsOpening, IsLeftUnopened};
+ghost use Rattle.store.specs.Reading.{AreListed, IsUnfit};
+ghost use Rattle.store.specs.Saving.{AreActedOn, IsSaving, Saves};
 
 use crate::edition::{LATEST, edition_of};
 use crate::fault::StoreFault;
@@ -47,19 +48,10 @@ impl<S: Alter> Model for Store<S> {
 
 /// The office of the tables, which are made where none of them is there.
 fn open_tables<S: Alter>(alloc: Global, conn: &mut Connection<S>) -> Result<Office, StoreFault>
-    ensures ok { HasCleanDisk (state S.Store conn.new) → IfOk result (Opens (state S.Store conn.old).now (state S.Store conn.new).now) }
-    ensures ended { OnOk result (conn.new.in_transaction ≡ false) }
-    ensures given_back { conn.old.in_transaction ≡ false → conn.new.in_transaction ≡ false }
+    ensures opened { IfOk result (IsOpening S.Store conn.old conn.new) }
+    ensures unopened { IfErr result (λ fault. IsLeftUnopened S.Store (fault ≡ StoreFault.Storage) (fault ≡ StoreFault.Damaged) conn.old conn.new) }
     ensures begun { IsTrue conn.old.in_transaction → result ≡ Err StoreFault.Storage }
     ensures unlisted { conn.old.in_transaction ≡ false → (HasNone (state S.Store conn.old).now.schema → ⊥) → (AreListed (state S.Store conn.old).now.schema → ⊥) → result ≡ Err StoreFault.Damaged }
-    ensures alone { HasCleanDisk (state S.Store conn.new) → OnOk result (LeavesAlone (state S.Store conn.new)) }
-    ensures is_open { HasCleanDisk (state S.Store conn.new) → OnOk result (IsTrue (state S.Store conn.new).is_open) }
-    ensures damaged { HasCleanDisk (state S.Store conn.new) → result ≡ Err StoreFault.Damaged → IsDamaged (state S.Store conn.old).now }
-    ensures some { result ≡ Err StoreFault.Damaged → HasNone (state S.Store conn.old).now.schema → ⊥ }
-    ensures others { HasCleanDisk (state S.Store conn.new) → OnOk result (LeavesTables (state S.Store conn.old).now (state S.Store conn.new).now) }
-    ensures kept { HasCleanDisk (state S.Store conn.new) → OnErr result (IsKept (state S.Store conn.old) (state S.Store conn.new)) }
-    ensures cause { conn.old.in_transaction ≡ false → IsCaused StoreFault.Storage IsHinderedOpening result (state S.Store conn.old) (state S.Store conn.new) }
-    ensures crash { Survives (state S.Store conn.old) (state S.Store conn.new) (IsLeft Brings (state S.Store conn.old)) }
 {
     if !conn.is_autocommit() {
         return Err(StoreFault::Storage);
@@ -85,28 +77,14 @@ impl<S: Alter> Store<S> {
         alloc: Global,
         mut conn: Connection<S>,
     ) -> Result<(Store<S>, Office), (StoreFault, Connection<S>)>
-        ensures ok { IfOk result (λ it. HasCleanDisk (state S.Store it.0) → Opens (state S.Store conn).now (state S.Store it.0).now it.1) }
-        ensures others { IfOk result (λ it. HasCleanDisk (state S.Store it.0) → LeavesTables (state S.Store conn).now (state S.Store it.0).now) }
-        ensures ended { IfOk result (λ it. let store = it.0 in store.in_transaction ≡ false) }
-        ensures alone { IfOk result (λ it. HasCleanDisk (state S.Store it.0) → LeavesAlone (state S.Store it.0)) }
-        ensures is_open { IfOk result (λ it. HasCleanDisk (state S.Store it.0) → IsTrue (state S.Store it.0).is_open) }
-        ensures damaged { IfErr result (λ it. HasCleanDisk (state S.Store it.1) → it.0 ≡ StoreFault.Damaged → IsDamaged (state S.Store conn).now) }
-        ensures some { IfErr result (λ it. it.0 ≡ StoreFault.Damaged → HasNone (state S.Store conn).now.schema → ⊥) }
-        ensures given_back { IfErr result (λ it. let back = it.1 in conn.in_transaction ≡ false → back.in_transaction ≡ false) }
+        ensures opened { IfOk result (λ it. IsOpening S.Store conn it.0 it.1) }
+        ensures unopened { IfErr result (λ it. let fault = it.0 in IsLeftUnopened S.Store (fault ≡ StoreFault.Storage) (fault ≡ StoreFault.Damaged) conn it.1) }
 
         // Where a transaction is open already it is no want of memory, and no damage.
         ensures begun { IsTrue conn.in_transaction → IsErr result × IfErr result (λ it. it.0 ≡ StoreFault.Storage) }
 
         // Tables that are there and are not listed as they are made here are damaged.
         ensures unlisted { conn.in_transaction ≡ false → (HasNone (state S.Store conn).now.schema → ⊥) → (AreListed (state S.Store conn).now.schema → ⊥) → IsErr result × IfErr result (λ it. it.0 ≡ StoreFault.Damaged) }
-        ensures kept { IfErr result (λ it. HasCleanDisk (state S.Store it.1) → IsKept (state S.Store conn) (state S.Store it.1)) }
-
-        // Why the storage has failed: an open transaction apart, a shut connection, a fault of the disk, or a refused statement.
-        ensures cause { IfErr result (λ it. conn.in_transaction ≡ false → HasCleanDisk (state S.Store it.1) → it.0 ≡ StoreFault.Storage → IsStopped IsHinderedOpening (state S.Store conn) (state S.Store it.1)) }
-
-        // A crash at any moment of the call.
-        ensures crash { IfOk result (λ it. Survives (state S.Store conn) (state S.Store it.0) (IsLeft Brings (state S.Store conn))) }
-        ensures crash_err { IfErr result (λ it. Survives (state S.Store conn) (state S.Store it.1) (IsLeft Brings (state S.Store conn))) }
     {
         match open_tables(alloc, &mut conn) {
             Ok(office) => Ok((Store { conn, alloc }, office)),
@@ -138,12 +116,7 @@ impl<S: Alter> Store<S> {
 
     /// Makes the changes in one transaction, which touches only the rows that they name.
     pub fn save(&mut self, changes: &[Change]) -> Result<(), StoreFault>
-        ensures ok { HasCleanDisk (state S.Store self.new) → OnOk result (HasSaved (Saves changes.now) (state S.Store self.old) (state S.Store self.new)) }
-        ensures others { HasCleanDisk (state S.Store self.new) → OnOk result (LeavesOthers (state S.Store self.old).now (state S.Store self.new).now) }
-        ensures alone { HasCleanDisk (state S.Store self.new) → OnOk result (LeavesAlone (state S.Store self.new)) }
-
-        // No row is added at a key that has one.
-        ensures fresh { HasCleanDisk (state S.Store self.new) → OnOk result (AddsNew changes.now (state S.Store self.old).now) }
+        ensures saved { HasCleanDisk (state S.Store self.new) → OnOk result (IsSaving changes.now (state S.Store self.old) (state S.Store self.new)) }
         ensures err { HasCleanDisk (state S.Store self.new) → OnErr result (IsKept (state S.Store self.old) (state S.Store self.new)) }
         ensures faults { result ≢ Err StoreFault.Damaged }
 

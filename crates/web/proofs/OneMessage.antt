@@ -35,7 +35,7 @@ wants_memory : (o n : AtDesk) (q : Request) → refusal_of o.office q ≡ None �
     → (q ≡ request.Preview → ⊥) → n.office ≡ o.office → n.session ≡ o.session → Gets o q (Err Memory) n
 wants_memory o n q allowed no_round new no_preview stays kept = record {
   step = (stays, inl refl);
-  right = (owes_none (refusal_of o.office q) (λ r. Err Memory ≡ Err r) allowed, λ is. cc, λ is. cc);
+  right = record { named = owes_none (refusal_of o.office q) (λ r. Err Memory ≡ Err r) allowed; storage = λ is. cc; refused = λ is. cc };
   at_once = record {
     round = λ number is _. absurd (no_round number is);
     repeated = λ _. owes_none (repeated_rows o.office q) (λ rows. Err Memory ≡ Ok (reply.Rows rows)) new;

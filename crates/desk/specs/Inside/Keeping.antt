@@ -1,13 +1,11 @@
--- For proofs alone. What a desk keeps between requests, and what a crash leaves of one.
+-- For proofs alone. What a desk keeps between requests.
 use Rattle.std.specs.Prelude.{◌≡◌, false}
 use Rattle.sqlite.specs.Held.{state}
 use Rattle.sqlite_trees.specs.declared.store.Store.{Ghosts}
-use Rattle.desk.specs.Kept.{Kept}
-use Rattle.desk.specs.Sessions.{SitsAt}
+use Rattle.desk.specs.Books.{BooksOf}
 use Rattle.desk.specs.Keeping.{Keeps}
 
--- the tables stand for the office, no transaction is open, and a session that is kept sits in the office
-pub record IsKeeping {S : Type 0} (ghosts : Ghosts S) (kept : Kept S) : Type 0 where
-  pub stands : Keeps (state ghosts kept.store) kept.office
-  pub ended : kept.store.in_transaction ≡ false
-  pub sits : SitsAt kept.office kept.session
+-- the tables stand for the office, and no transaction is open
+pub record AreKept {S : Type 0} (ghosts : Ghosts S) (books : BooksOf S) : Type 0 where
+  pub stands : Keeps (state ghosts books.store) books.office
+  pub ended : books.store.in_transaction ≡ false

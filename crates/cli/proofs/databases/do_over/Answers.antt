@@ -16,13 +16,13 @@ did g c Done done =
     subst (λ (last : Held g.row.S.Denot). IsDone g.S.Store Done c.args.connection last) (sym c.into_connection.ensures.same)
     (record {
       desk = c.in-Ok.desk;
-      found = found_for (state g.S.Store c.args.connection) (state g.S.Store c.in-Ok.desk.store) (state g.S.Store c.do_at-status.new.desk.store) c.in-Ok.desk.office was (λ clean. omega (arith, clean, c.in-Ok.ensures.crash_ok.clean)) c.in-Ok.ensures.office;
+      found = found_for (state g.S.Store c.args.connection) (state g.S.Store c.in-Ok.desk.store) (state g.S.Store c.do_at-status.new.desk.store) c.in-Ok.desk.office was (λ clean. omega (arith, clean, c.in-Ok.ensures.opened.opening.crash.clean)) c.in-Ok.ensures.opened.opening.office;
       fit = c.keeps.ensures.fit;
-      no_session = c.in-Ok.ensures.no_session;
-      opens = λ clean. c.in-Ok.ensures.office (was clean);
-      is_open = λ clean. c.in-Ok.ensures.is_open (was clean);
-      counts = c.in-Ok.ensures.crash_ok.counts;
-      limit = c.in-Ok.ensures.crash_ok.limit;
+      no_session = c.in-Ok.ensures.opened.no_session;
+      opens = λ clean. c.in-Ok.ensures.opened.opening.office (was clean);
+      is_open = λ clean. c.in-Ok.ensures.opened.opening.is_open (was clean);
+      counts = c.in-Ok.ensures.opened.opening.crash.counts;
+      limit = c.in-Ok.ensures.opened.opening.crash.limit;
       next = c.do_at-status.new.desk;
       done = done;
       given_back = refl;
@@ -40,7 +40,7 @@ returns-in-Ok-clause-left g c = inl (did g c (TakesTo g.S.Store c.args.task) c.d
 pub returns-in-Err-clause-told : goal.returns-in-Err-clause-told
 returns-in-Err-clause-told g c =
     tells_more _ (DoesOver g.S.Store c.args.task c.args.connection c.in-Err.connection)
-    (λ o is. inl (record { refusal = c.in-Err.refusal; why = why_unopened c.in-Err.refusal (state g.S.Store c.args.connection) (state g.S.Store c.in-Err.connection) c.in-Err.ensures.refused c.in-Err.ensures.damaged c.in-Err.ensures.cause; told = is; stays = c.in-Err.ensures.kept })) _ _ _ c.refuse.ensures
+    (λ o is. inl (record { refusal = c.in-Err.refusal; why = why_unopened c.in-Err.refusal (state g.S.Store c.args.connection) (state g.S.Store c.in-Err.connection) c.in-Err.ensures.refused (λ clean is. (c.in-Err.ensures.unopened.damaged clean is, c.in-Err.ensures.unopened.some is)) c.in-Err.ensures.unopened.cause; told = is; stays = c.in-Err.ensures.unopened.kept })) _ _ _ c.refuse.ensures
 
 pub returns-in-Err-clause-left : goal.returns-in-Err-clause-left
-returns-in-Err-clause-left g c = inr (refused_ends c.in-Err.refusal _ _ _ c.refuse.ensures, c.in-Err.ensures.kept)
+returns-in-Err-clause-left g c = inr (refused_ends c.in-Err.refusal _ _ _ c.refuse.ensures, c.in-Err.ensures.unopened.kept)

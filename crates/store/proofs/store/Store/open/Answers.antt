@@ -3,6 +3,3 @@ use Rattle.store.proofs.store.Store.open.Goals as goal
 
 pub returns-in-Err-clause-unlisted : goal.returns-in-Err-clause-unlisted
 returns-in-Err-clause-unlisted g c settled some other = (refl, let e = c.in-Err.ensures.unlisted settled some other in cc)
-
-pub returns-in-Err-clause-cause : goal.returns-in-Err-clause-cause
-returns-in-Err-clause-cause g c ended clean h = c.in-Err.ensures.cause ended clean (ap Err h)

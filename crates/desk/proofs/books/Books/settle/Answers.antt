@@ -1,4 +1,4 @@
-use Rattle.std.proofs.Common.{◌≡◌, List, Option, Err, Result, IsTrue, refl, sym, ap, subst, ◌∙◌}
+use Rattle.std.proofs.Common.{◌≡◌, List, Err, Result, IsTrue, refl, sym, ap, subst}
 use Rattle.sqlite.specs.State.{State as Seen, Survives}
 use Rattle.sqlite.specs.Held.{state}
 use Rattle.tables.specs.Steps.{IsLeft}
@@ -11,8 +11,6 @@ use Rattle.rolls.specs.declared.request.Reply.{Reply}
 use Rattle.store.specs.declared.fault.StoreFault.{StoreFault}
 use Rattle.store.specs.declared.fault.StoreFault.TheVariants.{Storage}
 use Rattle.store.specs.Saving.{AreActedOn, Saves}
-use Rattle.solver.specs.Sitting.{Sitting}
-use Rattle.desk.specs.Sessions.{SitsAt}
 use Rattle.desk.proofs.SavedRows.{saved_keeps, kept_keeps}
 use Rattle.sqlite.specs.State.{HasCleanDisk}
 use Rattle.rolls.specs.declared.refusal.Refusal.TheVariants.{Damaged as TheDamaged, Memory as TheMemory}
@@ -20,7 +18,7 @@ use Rattle.store.specs.declared.fault.StoreFault.TheVariants.{Damaged, Memory}
 use Rattle.store.specs.Causes.{IsHinderedToSave}
 use Rattle.tables.specs.Causes.{IsStopped}
 use Rattle.desk.proofs.SavedRows.{was_storage}
-use Rattle.desk.proofs.desk.Desk.settle.Goals as goal
+use Rattle.desk.proofs.books.Books.settle.Goals as goal
 
 -- changes that turn an office into the next one turn it into what the next one is exchanged for
 turned : (changes : List Change) (office next here : State) → here ≡ next → Turns changes office next → Turns changes office here
@@ -29,15 +27,14 @@ turned changes office next here e turns = subst (λ (o : State). Turns changes o
 pub invariant_of-self : goal.invariant_of-self
 invariant_of-self g c = record {
   stands = saved_keeps c.args.done.changes.items c.deref.result.now c.deref.ensures.value c.args.self.now.office c.self.inside.office c.swap.new.x (ap (λ k. k.office) c.self.view_is)
-      (state g.S.Store c.self.inside.store) (state g.S.Store c.save.new.self) _ (turned c.args.done.changes.items c.args.self.now.office c.args.next.now c.swap.new.x c.swap.ensures.x_after c.requires.turns) c.save.ensures.crash c.in-Ok.ensures.ok c.self.invariant.stands;
+      (state g.S.Store c.self.inside.store) (state g.S.Store c.save.new.self) _ (turned c.args.done.changes.items c.args.self.now.office c.args.next.now c.swap.new.x c.swap.ensures.x_after c.requires.turns) c.save.ensures.crash (λ clean. (c.in-Ok.ensures.saved clean).saved) c.self.invariant.stands;
   ended = c.save.ensures.ended c.self.invariant.ended;
-  sits = subst (λ (kept : Option Sitting). SitsAt c.swap.new.x kept) (sym (ap (λ k. k.session) c.self.view_is ∙ c.requires.no_session)) tt;
 }
 
 pub returns-in-Ok-clause-tables : goal.returns-in-Ok-clause-tables
 returns-in-Ok-clause-tables g c =
     saved_keeps c.args.done.changes.items c.deref.result.now c.deref.ensures.value c.args.self.now.office c.self.inside.office c.swap.new.x (ap (λ k. k.office) c.self.view_is)
-    (state g.S.Store c.self.inside.store) (state g.S.Store c.save.new.self) _ (turned c.args.done.changes.items c.args.self.now.office c.args.next.now c.swap.new.x c.swap.ensures.x_after c.requires.turns) c.save.ensures.crash c.in-Ok.ensures.ok c.self.invariant.stands
+    (state g.S.Store c.self.inside.store) (state g.S.Store c.save.new.self) _ (turned c.args.done.changes.items c.args.self.now.office c.args.next.now c.swap.new.x c.swap.ensures.x_after c.requires.turns) c.save.ensures.crash (λ clean. (c.in-Ok.ensures.saved clean).saved) c.self.invariant.stands
 
 pub returns-in-Ok-clause-err : goal.returns-in-Ok-clause-err
 returns-in-Ok-clause-err g c = tt
@@ -83,9 +80,9 @@ returns-in-Ok-clause-saved g c =
     let before : state g.S.Store c.self.inside.store ≡ state g.S.Store c.args.self.now.store = ap (λ k. state g.S.Store k.store) c.self.view_is in
     record {
       crash = left_of c.deref.result.now c.args.done.changes.items (state g.S.Store c.self.inside.store) (state g.S.Store c.args.self.now.store) (state g.S.Store c.save.new.self) c.deref.ensures.value before c.save.ensures.crash;
-      alone = c.in-Ok.ensures.alone;
-      stays_open = λ clean. (c.in-Ok.ensures.ok clean).shown.is_open;
-      stays_shut = λ clean up. shut_so _ _ before ((c.in-Ok.ensures.ok clean).shown.was_open);
+      alone = λ clean. (c.in-Ok.ensures.saved clean).alone;
+      stays_open = λ clean. (c.in-Ok.ensures.saved clean).saved.shown.is_open;
+      stays_shut = λ clean up. shut_so _ _ before ((c.in-Ok.ensures.saved clean).saved.shown.was_open);
       acted_on = λ acted. absurd (let failed = c.in-Ok.ensures.acted_on (subst (λ (z : Seen). AreActedOn z.now.schema) (sym before) acted) in cc);
       cause = λ quiet clean told. absurd (cc);
     }

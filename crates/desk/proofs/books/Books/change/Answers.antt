@@ -14,7 +14,7 @@ use Rattle.rolls.specs.declared.refusal.Refusal.TheVariants.{Storage}
 use Rattle.desk.specs.Keeping.{CarriesOut}
 use Rattle.desk.specs.Causes.{IsHinderedToAsk}
 use Rattle.desk.proofs.SavedRows.{call_carried}
-use Rattle.desk.proofs.desk.Desk.save.Goals as goal
+use Rattle.desk.proofs.books.Books.change.Goals as goal
 
 -- changes of a request that can't be saved hinder it
 hindered_by : {A E : Type 0} (storage : E) (result : Result A E) (office next : State) (q : Request) (done : Done) (old new : Seen) → CarriesOut office q next → MayChange office q done.changes.items → Turns done.changes.items office next
@@ -45,10 +45,10 @@ returns-clause-saved g c =
     let may = subst (λ (o : State). MayChange o q done.changes.items) same c.in-Ok.ensures.changes in
     record {
       crash = call_carried q old next done (state g.S.Store c.args.self.now.store) (state g.S.Store c.settle.new.self.store) none made c.fit.ensures.fit turns c.keeps.ensures.tables saved.crash;
-      alone = saved.alone;
-      stays_open = saved.stays_open;
+      alone = λ _. saved.alone;
+      stays_open = λ _. saved.stays_open;
       stays_shut = saved.stays_shut;
-      acted_on = saved.acted_on;
+      acted_on = λ _. saved.acted_on;
       cause = λ quiet. hindered_by Storage c.settle.result old next q done (state g.S.Store c.args.self.now.store) (state g.S.Store c.settle.new.self.store) (done.reply, (none, made)) may turns (saved.cause quiet);
     }
 

@@ -4,7 +4,7 @@ use Rattle.rolls.specs.Run.{MayRefuse, refusal}
 use Rattle.allotment.specs.Layers.{layers}
 use Rattle.desk.proofs.Refusals.{may_refuse}
 use Rattle.desk.proofs.NoStorage.{import_named, unstored}
-use Rattle.desk.proofs.desk.made.Goals as goal
+use Rattle.desk.proofs.books.made.Goals as goal
 
 pub returns-in-Import-clause-refused : goal.returns-in-Import-clause-refused
 returns-in-Import-clause-refused c =

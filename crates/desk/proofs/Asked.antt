@@ -1,0 +1,44 @@
+-- What is owed of a request that is refused, and of one that touches no table.
+use Rattle.std.proofs.Common.{◌≡◌, ◌≢◌, false, Option, Some, IfSome, Result, Ok, Err, OnOk, IsErr, refl, sym, ap, subst, ◌∙◌}
+use Rattle.sqlite.specs.State.{State as Seen}
+use Rattle.rolls.specs.declared.refusal.Refusal.{Refusal}
+use Rattle.rolls.specs.declared.refusal.Refusal.TheVariants.{Storage}
+use Rattle.rolls.specs.declared.request.Reply.{Reply}
+use Rattle.rolls.specs.declared.request.Request.{Request}
+use Rattle.rolls.specs.Reads.{changes_nothing}
+use Rattle.rolls.specs.Refusing.{refusal_of}
+use Rattle.rolls.specs.Run.{refusal}
+use Rattle.rolls.specs.State.{State}
+use Rattle.desk.specs.Saved.{IsSaved}
+use Rattle.desk.specs.Sessions.{IsToldRight}
+use Rattle.desk.proofs.NoStorage.{unread_named}
+use Rattle.desk.proofs.Runs.{crash_none}
+
+-- ---- refused by name
+
+-- such a refusal does not tell of the storage
+pub named_unstored : (o : State) (q : Request) (r : Refusal) → refusal_of o q ≡ Some r → ◌≡◌ {A = Result Reply Refusal} (Err r) (Err Storage) → ⊥
+named_unstored o q r is told = let same : r ≡ Storage = cc in unread_named o q (is ∙ ap Some same)
+
+pub named_right : (o : State) (q : Request) (r : Refusal) → refusal_of o q ≡ Some r → IsToldRight o q (Err r)
+named_right o q r is = record {
+  named = subst (λ (x : Option Refusal). IfSome x (λ (s : Refusal). ◌≡◌ {A = Result Reply Refusal} (Err r) (Err s))) (sym is) refl;
+  storage = λ told. absurd (named_unstored o q r is told);
+  refused = λ told. absurd (named_unstored o q r is told);
+}
+
+-- ---- no table is touched
+
+ok_none : (a : Result Reply Refusal) (P : Type 0) → IsErr a → OnOk a P
+ok_none (Ok reply) P is = absurd (cc)
+ok_none (Err refusal) P is = tt
+
+pub idle_saved : (o : State) (q : Request) (a : Result Reply Refusal) (old new : Seen) → new ≡ old → (changes_nothing o q ≡ false → IsErr a) → a ≢ Err Storage → IsSaved o q a old new
+idle_saved o q a old new same refused unstored = subst (λ (s : Seen). IsSaved o q a old s) (sym same) (record {
+  crash = crash_none old _;
+  alone = λ change clean. ok_none a _ (refused change);
+  stays_open = λ change clean. ok_none a _ (refused change);
+  stays_shut = λ clean up. up;
+  acted_on = λ change acted. refused change;
+  cause = λ quiet clean told. absurd (unstored told);
+})

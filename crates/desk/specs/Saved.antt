@@ -1,0 +1,30 @@
+-- How a request that was asked leaves the tables.
+use Rattle.std.specs.Prelude.{◌≡◌, IsTrue, IsErr, OnOk, false, Result}
+use Rattle.sqlite.specs.State.{State as Seen, HasCleanDisk, Survives}
+use Rattle.rolls.specs.State.{State}
+use Rattle.rolls.specs.declared.refusal.Refusal.{Refusal}
+use Rattle.rolls.specs.declared.refusal.Refusal.TheVariants.{Storage}
+use Rattle.rolls.specs.declared.request.Reply.{Reply}
+use Rattle.rolls.specs.declared.request.Request.{Request}
+use Rattle.rolls.specs.Reads.{changes_nothing}
+use Rattle.tables.specs.Causes.{IsCaused}
+use Rattle.tables.specs.Steps.{IsLeft}
+use Rattle.store.specs.Saving.{AreActedOn}
+use Rattle.store.specs.Tables.{LeavesAlone}
+use Rattle.desk.specs.Causes.{IsHinderedToAsk}
+use Rattle.desk.specs.Keeping.{CarriesOut, StandsForOne}
+
+-- The tables of the one state become those of the other by a request to the office, which got this answer.
+pub record IsSaved (office : State) (request : Request) (answer : Result Reply Refusal) (old new : Seen) : Type 0 where
+  -- a crash leaves what it could leave before, or, where the connection was open, the tables of an office that the request makes
+  pub crash : Survives old new (IsLeft (λ _. StandsForOne (CarriesOut office request)) old)
+  -- after an answered change it leaves the tables after it alone, and the connection is open, so that they stand for the office
+  pub alone : changes_nothing office request ≡ false → HasCleanDisk new → OnOk answer (LeavesAlone new)
+  pub stays_open : changes_nothing office request ≡ false → HasCleanDisk new → OnOk answer (IsTrue new.is_open)
+  -- a connection that is shut stays shut
+  pub stays_shut : HasCleanDisk new → IsTrue new.is_open → IsTrue old.is_open
+  -- where a foreign key would write other rows too, no change is made
+  pub acted_on : changes_nothing office request ≡ false → AreActedOn old.now.schema → IsErr answer
+  -- why the storage has failed: a foreign key apart, a shut connection, a fault of the disk, or a refused statement of the changes that
+  -- the request makes
+  pub cause : (AreActedOn old.now.schema → ⊥) → IsCaused Storage (IsHinderedToAsk office request) answer old new
