@@ -2,13 +2,13 @@
 use Rattle.std.proofs.Common.{◌≡◌, inl, inr, ℕ, List, Result, sym, ap, ◌∙◌}
 use Rattle.rolls.specs.declared.refusal.Refusal.{Refusal}
 use Rattle.rolls.specs.declared.request.Request.{Request}
-use Rattle.wire.specs.Run.{Said}
+use Rattle.wire.specs.Run.{MessageText}
 use Rattle.api.specs.declared.routes.Methods.{Methods}
 use Rattle.api.specs.Requests.{Asks, asked_by, by_method}
 use Rattle.api.specs.Routes.{first_of}
 use Rattle.api.proofs.PathsOfRoutes.{one_name}
 
-pub one_asked : (said : Said) (asked other : Result Request Refusal) → Asks said asked → Asks said other → asked ≡ other
+pub one_asked : (said : MessageText) (asked other : Result Request Refusal) → Asks said asked → Asks said other → asked ≡ other
 one_asked said asked other (inl a) (inl b) =
     let same = one_name said.target a.methods b.methods a.values b.values a.path b.path in
     a.request ∙ ap (λ (m : Methods). asked_by (by_method m said.method) (first_of a.values) said.body) same.0

@@ -17,7 +17,7 @@ use Rattle.api.specs.declared.routes.Segments.{Segments}
 use Rattle.api.specs.declared.routes.Segments.TheVariants.{Any, Numbers}
 use Rattle.api.specs.declared.routes.Call.TheVariants as call
 use Rattle.api.specs.declared.routes.Put.TheVariants as put
-use Rattle.api.specs.Routes.{is_segment, row, fixed, read, asked, opens, entry, list, numbered, import, fits, all_routes, fill, AreSegments, AllFit, HasRow, Names, IsNowhere, first_of}
+use Rattle.api.specs.Routes.{is_segment, row, fixed, read, asked, opens, entry, list, numbered, import, fits, all_routes, fill, AreSegments, AllFit, HasRow, NamesRoute, IsNowhere, first_of}
 use Rattle.api.specs.Inside.Routes.{NamesBy}
 use Rattle.api.proofs.Found.{steps, found_along, ends_here, param_leaf, number_leaf}
 use Rattle.api.proofs.Sound.{both, makes, AllPlain, plain_all}
@@ -283,7 +283,7 @@ taken router path route e utf8 at =
     }
 
 -- a path that names a route finds it
-pub finds : (path : List ℕ) (methods : Methods) (values : List (List ℕ)) → (n : Names path methods values) → first all_routes path ≡ Some n.route
+pub finds : (path : List ℕ) (methods : Methods) (values : List (List ℕ)) → (n : NamesRoute path methods values) → first all_routes path ≡ Some n.route
 finds path methods values n =
     (read_row path n.route n.pattern values n.listed n.filled n.segments).at (subst (λ (m : Methods). AllFit m.segments values) n.value n.fit)
 
@@ -304,7 +304,7 @@ unfit router path route e at bad methods values n =
     absurd (let f : true ≡ false = no in cc)
 
 -- two readings of a path are one
-pub one_name : (path : List ℕ) (methods others : Methods) (values texts : List (List ℕ)) → Names path methods values → Names path others texts → (methods ≡ others) × (values ≡ texts)
+pub one_name : (path : List ℕ) (methods others : Methods) (values texts : List (List ℕ)) → NamesRoute path methods values → NamesRoute path others texts → (methods ≡ others) × (values ≡ texts)
 one_name path methods others values texts m n =
     let a = read_row path m.route m.pattern values m.listed m.filled m.segments in
     let b = read_row path n.route n.pattern texts n.listed n.filled n.segments in

@@ -13,13 +13,13 @@ abbrev pub json_of : List ℕ → Option Data
 json_of body = if is_utf8 body then read body else None
 
 -- how many members there are
-abbrev pub count : Members → ℕ
-count no_members = 0
-count (member k d ms) = suc (count ms)
+abbrev pub members_count : Members → ℕ
+members_count no_members = 0
+members_count (member k d ms) = suc (members_count ms)
 
 -- whether it is an object of so many members
 abbrev pub has_size : ℕ → Data → Bool
-has_size n d = option_map_or (λ k. k == n) (option_map count (as_object d)) false
+has_size n d = option_map_or (λ k. k == n) (option_map members_count (as_object d)) false
 
 -- what is read from an object of so many members
 abbrev pub of_size : {A : Type 0} → ℕ → (Data → Option A) → Data → Option A

@@ -9,7 +9,7 @@ use Rattle.rolls.specs.declared.request.Plain.{Plain}
 use Rattle.rolls.specs.declared.request.Plain.TheVariants as plain
 use Rattle.rolls.specs.declared.request.Request.{Request}
 use Rattle.rolls.specs.declared.request.Request.TheVariants as request
-use Rattle.wire.specs.Run.{Said}
+use Rattle.wire.specs.Run.{MessageText}
 use Rattle.api.specs.declared.routes.Call.{Call}
 use Rattle.api.specs.declared.routes.Call.TheVariants as call
 use Rattle.api.specs.declared.routes.Methods.{Methods}
@@ -17,7 +17,7 @@ use Rattle.api.specs.declared.routes.Form.{Form}
 use Rattle.api.specs.declared.routes.Form.TheVariants.{Empty, Members, Opens, Raw}
 use Rattle.api.specs.declared.routes.Put.{Put}
 use Rattle.api.specs.declared.routes.Put.TheVariants as put
-use Rattle.api.specs.Routes.{called, first_of, Names, IsNowhere}
+use Rattle.api.specs.Routes.{called, first_of, NamesRoute, IsNowhere}
 use Rattle.api.specs.Members.{json_of, name_of, supervisor_members, project_members, choices_of, aim_of}
 
 -- what the members of a body ask to be put under a code
@@ -73,14 +73,14 @@ asked_by None code body = Err no.WrongMethod
 asked_by (Some form) code body = by_body form code body
 
 -- a message asks this of a route that its path names
-pub record AsksRoute (said : Said) (asked : Result Request Refusal) : Type 0 where
+pub record AsksRoute (said : MessageText) (asked : Result Request Refusal) : Type 0 where
   pub methods : Methods
   pub values : List (List ℕ)
-  pub path : Names said.target methods values
+  pub path : NamesRoute said.target methods values
   pub request : asked ≡ asked_by (by_method methods said.method) (first_of values) said.body
 
 -- what a message asks, or its refusal: by its path, its method and its body, in this order
-abbrev pub Asks : Said → Result Request Refusal → Type 0
+abbrev pub Asks : MessageText → Result Request Refusal → Type 0
 Asks said asked = AsksRoute said asked ⊎ (IsNowhere said.target × (asked ≡ Err no.NoRoute))
 
 -- whether the request of an empty body keeps a code of the path
@@ -111,12 +111,12 @@ asked_takes_memory None body = false
 asked_takes_memory (Some form) body = takes_memory form body
 
 -- it takes memory to read what a message asks
-pub record TakesMemory (said : Said) : Type 0 where
+pub record TakesMemory (said : MessageText) : Type 0 where
   pub methods : Methods
   pub values : List (List ℕ)
-  pub path : Names said.target methods values
+  pub path : NamesRoute said.target methods values
   pub takes : IsTrue (asked_takes_memory (by_method methods said.method) said.body)
 
 -- what is read of a message: what it asks, or refusal 1 where it takes memory to read it
-abbrev pub IsReadAs : Said → Result Request Refusal → Type 0
+abbrev pub IsReadAs : MessageText → Result Request Refusal → Type 0
 IsReadAs said read = Asks said read ⊎ (TakesMemory said × (read ≡ Err no.Memory))

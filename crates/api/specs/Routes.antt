@@ -139,7 +139,7 @@ HasRow pattern value [] = ⊥
 HasRow pattern value ((p, k) ∷ rows) = ((pattern ≡ p) × (value ≡ k)) ⊎ HasRow pattern value rows
 
 -- the path is a text, the pattern of a route with these segments for its parameters
-pub record Names (path : List ℕ) (methods : Methods) (values : List (List ℕ)) : Type 0 where
+pub record NamesRoute (path : List ℕ) (methods : Methods) (values : List (List ℕ)) : Type 0 where
   pub pattern : List ℕ
   pub route : RouteOf Methods
   pub listed : HasRow pattern route all_routes
@@ -156,4 +156,4 @@ first_of (v ∷ values) = v
 
 -- no route has the path
 abbrev pub IsNowhere : List ℕ → Type 0
-IsNowhere path = (methods : Methods) (values : List (List ℕ)) → Names path methods values → ⊥
+IsNowhere path = (methods : Methods) (values : List (List ℕ)) → NamesRoute path methods values → ⊥

@@ -75,8 +75,8 @@ abbrev pub opened_text : ℕ → List ℕ
 opened_text round = codes "{\"round\":" ++ decimal round ++ codes "}"
 
 -- a round in JSON
-abbrev pub round_text : ℕ → Aim → Bool → ℕ → List ℕ → ℕ → List ℕ
-round_text round aim is_open placed profile students =
+abbrev pub round_json : ℕ → Aim → Bool → ℕ → List ℕ → ℕ → List ℕ
+round_json round aim is_open placed profile students =
     codes "{\"aim\":\"" ++ aim_word aim ++ codes "\",\"open\":" ++ truth_text is_open ++ codes ",\"placed\":" ++ decimal placed ++ codes ",\"profile\":[" ++ numbers_text profile
     ++ codes ",\"round\":" ++ decimal round ++ codes ",\"students\":" ++ decimal students ++ codes "}"
 
@@ -100,7 +100,7 @@ reply_text (reply.Supervisor name placed quota) = json_answer 200 (compact_text 
 reply_text (reply.Project name placed quota supervisor) = json_answer 200 (compact_text (project_data name placed quota supervisor))
 reply_text (reply.Student name choices placement) = json_answer 200 (compact_text (student_data name choices placement))
 reply_text (reply.Opened round) = json_answer 200 (opened_text round)
-reply_text (reply.Round round aim is_open placed profile students) = json_answer 200 (round_text round aim is_open placed profile students)
+reply_text (reply.Round round aim is_open placed profile students) = json_answer 200 (round_json round aim is_open placed profile students)
 reply_text (reply.Closed round size profile) = json_answer 200 (closed_text round size profile)
 reply_text (reply.Preview size profile) = json_answer 200 (preview_text size profile)
 reply_text (reply.Text text) = typed_answer 200 text_type text

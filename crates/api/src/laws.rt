@@ -2,10 +2,10 @@
 ghost use Rattle.std.specs.Prelude.{◌≡◌, Result};
 ghost use Rattle.rolls.specs.declared.refusal.Refusal.{Refusal};
 ghost use Rattle.rolls.specs.declared.request.Request.{Request};
-ghost use Rattle.wire.specs.Run.{Said};
+ghost use Rattle.wire.specs.Run.{MessageText};
 ghost use Rattle.api.specs.Requests.{Asks};
 
 /// A message asks one thing, or has one refusal.
 pub fn one_request()
-    ensures { (said : Said) (asked other : Result Request Refusal) → Asks said asked → Asks said other → asked ≡ other }
+    ensures { (said : MessageText) (asked other : Result Request Refusal) → Asks said asked → Asks said other → asked ≡ other }
 {}

@@ -2,7 +2,7 @@
 ghost use Rattle.std.specs.Prelude.{◌≡◌, ◌⊎◌, Some, None, IfOk, IfErr, option_map, option_and_then, codes};
 ghost use Rattle.serde_json.specs.View.{view, items_view};
 ghost use Rattle.serde_json.specs.Find.{as_object, as_array, as_number, as_str, get};
-ghost use Rattle.api.specs.Members.{json_of, count, has_size, text_in, quota_of, quota_in, lone_text, name_of, name_and_quota, supervisor_members, project_members, aim_of, texts_of, choices_of};
+ghost use Rattle.api.specs.Members.{json_of, members_count, has_size, text_in, quota_of, quota_in, lone_text, name_of, name_and_quota, supervisor_members, project_members, aim_of, texts_of, choices_of};
 
 use rolls::{Refusal, Text, Texts};
 use serde_json::Value;
@@ -47,7 +47,7 @@ pub fn read_json(alloc: Global, body: &[u8]) -> Result<Value, Refusal>
 
 /// How many members an object has.
 fn member_count(value: &Value) -> Option<usize>
-    ensures { result ≡ option_map count (as_object (view value.now)) }
+    ensures { result ≡ option_map members_count (as_object (view value.now)) }
 {
     match value.as_object() {
         None => None,

@@ -3,7 +3,7 @@ ghost use Rattle.std.specs.Prelude.{◌≡◌, ℕ, List, [], ◌∷◌, MatchOp
 ghost use Rattle.std.specs.Str.{all_ascii_digits};
 ghost use Rattle.api.specs.Routes.{called, number_of, fits, read, asked, opens, entry, list, numbered, import, all_routes, IsNowhere};
 ghost use Rattle.api.specs.Requests.{keeps_code};
-ghost use Rattle.api.specs.Inside.Routes.{written, NamesBy};
+ghost use Rattle.api.specs.Inside.Routes.{path_written, NamesBy};
 
 use matchit::{InsertError, Router};
 use rolls::{ImportKind, Plain, ReportKind, Request, Text};
@@ -222,7 +222,7 @@ const ROUTES: usize = 18;
 
 /// The routes: the paths that they are for, and what each method asks of them.
 fn routes() -> [(&'static str, Methods); ROUTES]
-    ensures { map (λ r. (r.0.now, r.1)) result ≡ map written all_routes }
+    ensures { map (λ r. (r.0.now, r.1)) result ≡ map path_written all_routes }
 {
     [
         ("/imports/lists/{code}", import(ImportKind::Lists)),

@@ -7,7 +7,7 @@ ghost use Rattle.serde_json.specs.Written.{compact_text, has_float};
 ghost use Rattle.wire.specs.declared.TheConstants.{MOST_SHORT_BODY};
 ghost use Rattle.wire.specs.Answers.{answer_bytes};
 ghost use Rattle.api.specs.Text.{reason_of, typed_answer, json_answer};
-ghost use Rattle.api.specs.Texts.{numbers_text, refusal_text, row_text, supervisor_data, project_data, list_data, placed_data, student_data, truth_text, round_text, closed_text, preview_text, reply_text, text_of, IsRead};
+ghost use Rattle.api.specs.Texts.{numbers_text, refusal_text, row_text, supervisor_data, project_data, list_data, placed_data, student_data, truth_text, round_json, closed_text, preview_text, reply_text, text_of, IsRead};
 
 use crate::answers::{JSON, TEXT, answer_head, json, push, push_labelled, push_numbers, refused};
 use arrayvec::ArrayVec;
@@ -128,22 +128,21 @@ fn round_start(is_open: bool) -> &'static [u8]
     }
 }
 
-/// The body of a round.
+/// The body of a round with this aim, open or not.
 fn round_body(
     number: u32,
-    aim: Aim,
-    is_open: bool,
+    state: (Aim, bool),
     placed: u32,
     profile: &[u32; RANKS],
     students: u32,
 ) -> ShortText
-    ensures items { result.items ≡ round_text number aim is_open placed profile.now students }
+    ensures items { result.items ≡ round_json number state.0 state.1 placed profile.now students }
     ensures len { array_vec_len result ≤ MOST_SHORT_BODY }
 {
     let mut out = ArrayVec::new();
     push(&mut out, b"{\"aim\":\"");
-    push(&mut out, aim.word().as_bytes());
-    push_labelled(&mut out, round_start(is_open), placed);
+    push(&mut out, state.0.word().as_bytes());
+    push_labelled(&mut out, round_start(state.1), placed);
     push(&mut out, b",\"profile\":[");
     push_numbers(&mut out, profile);
     push_labelled(&mut out, b",\"round\":", number);
@@ -291,7 +290,7 @@ fn reply_answer(alloc: Global, reply: &Reply) -> Result<Answer, AllocError>
             profile,
             students,
         } => {
-            let body = round_body(*number, *aim, *is_open, *placed, profile, *students);
+            let body = round_body(*number, (*aim, *is_open), *placed, profile, *students);
             Ok(Answer::Short(round_answer(&body)))
         }
         Reply::Closed {

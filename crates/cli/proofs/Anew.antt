@@ -8,7 +8,7 @@ use Rattle.row_data.specs.declared.table.Table.TheVariants.{Edition}
 use Rattle.tables.specs.Table.{shape_of}
 use Rattle.rolls.specs.State.{State, empty}
 use Rattle.store.specs.Tables.{Opens}
-use Rattle.desk.specs.Kept.{Kept}
+use Rattle.desk.specs.DeskState.{DeskState}
 use Rattle.wire.specs.declared.outcome.Served.{Served}
 use Rattle.wire.specs.declared.outcome.StreamFault.{StreamFault}
 use Rattle.wire.specs.Served.{IsServed}
@@ -32,11 +32,11 @@ opened_empty old new office none (inr (inl found)) = absurd (unlisted old found.
 opened_empty old new office none (inr (inr raised)) = absurd (unlisted old raised.stood.holds.editions.listed.at none raised.stood.holds.editions.listed.named)
 
 -- a desk that was opened of it has the empty office, and no session
-pub opened_anew : {S : Type 0} (old new : Database) (desk : Kept S) → old.schema ≡ record { tables = []; indexes = []; views = [] } → Opens old new desk.office → desk.session ≡ None
+pub opened_anew : {S : Type 0} (old new : Database) (desk : DeskState S) → old.schema ≡ record { tables = []; indexes = []; views = [] } → Opens old new desk.office → desk.session ≡ None
     → at_desk desk ≡ just_opened empty
 opened_anew old new desk none opens no_session = no_sitting desk no_session ∙ ap just_opened (opened_empty old new desk.office none opens)
 
-module _ {S : Type 0} (ghosts : Ghosts S) (before after : Kept S) (left0 w0 left w : Option (List ℕ)) (empty_at : at_desk before ≡ just_opened empty) where
+module _ {S : Type 0} (ghosts : Ghosts S) (before after : DeskState S) (left0 w0 left w : Option (List ℕ)) (empty_at : at_desk before ≡ just_opened empty) where
   -- as it is seen from there
   seen : (came : Result Served StreamFault) → IsServed (AnswersFrom ghosts) end_text before left0 w0 came after left w → IsServed AnswersMessage end_text (just_opened empty) left0 w0 came (at_desk after) left w
   seen came s =

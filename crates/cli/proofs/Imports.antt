@@ -6,7 +6,7 @@ use Rattle.rolls.specs.declared.refusal.Refusal.{Refusal}
 use Rattle.rolls.specs.declared.refusal.Refusal.TheVariants as no
 use Rattle.rolls.specs.declared.request.Request.{Request}
 use Rattle.cli.specs.declared.tasks.Task.TheVariants as task
-use Rattle.cli.specs.Outcomes.{Imports, ImportsFile, MayDo, Outcome, refused}
+use Rattle.cli.specs.Outcomes.{IsImportLine, ImportsFile, MayDo, Outcome, refused}
 use Rattle.cli.specs.Imports.{IsImportOf, IsImportOfFile}
 
 -- the request of what was read of a file, where the reading may be refused so
@@ -18,7 +18,7 @@ of_read id kind (Err r) made why is = subst (λ (m : Result Request Refusal). Is
 
 -- a request of these bytes that was asked, or why it was not made, is told
 imports : (id : List ℕ) (kind : ImportKind) (bytes : List ℕ) (made : Result Request Refusal) (o : Outcome) → IsImportOf id kind bytes made
-    → MatchResult made (λ asked. MayDo (task.Ask asked) o) (λ refusal. o ≡ refused refusal) → Imports id kind bytes o
+    → MatchResult made (λ asked. MayDo (task.Ask asked) o) (λ refusal. o ≡ refused refusal) → IsImportLine id kind bytes o
 imports id kind bytes (Ok asked) o made is = inr (made.0, inr (subst (λ (q : Request). MayDo (task.Ask q) o) made.1 is))
 imports id kind bytes (Err refusal) o (inl large) is = inl (large.0, is ∙ ap refused large.1)
 imports id kind bytes (Err refusal) o (inr none) is = inr (none.0, inl (is ∙ ap refused none.1))

@@ -12,21 +12,21 @@ use Rattle.commands.specs.Reading.{IsAnswer}
 use Rattle.cli.specs.declared.tasks.Task.{Task}
 use Rattle.cli.specs.declared.tasks.Task.TheVariants as task
 use Rattle.cli.specs.Outputs.{Both}
-use Rattle.cli.specs.Outcomes.{ComesTo, ImportsFile, IsUnread, MayCome, MayDo, Outcome, Tells, refused}
+use Rattle.cli.specs.Outcomes.{ComesTo, ImportsFile, IsUnreadFile, MayCome, MayDo, Outcome, Tells, refused}
 use Rattle.cli.specs.Databases.{AskedAt, Came, CommandAt, DoneAt, LineAt, WordsAt}
 use Rattle.cli.proofs.Imports.{imports_file}
 use Rattle.cli.proofs.Opened.{may_do}
 use Rattle.cli.proofs.Writers.{tells_more}
 
 -- a file that cannot be opened is an outcome of its task
-unopened : (done : Task) (o : Outcome) → IsUnread o → MayDo done o
+unopened : (done : Task) (o : Outcome) → IsUnreadFile o → MayDo done o
 unopened done o (inl memory) = inl (inl memory)
 unopened done o (inr storage) = inl (inr (inl storage))
 
 module _ {D : Type 0} {g : Ghosts D} {O E : Type 0} (image : Image) where
   done_comes : (done : Task) (came : Came D g) (old new : Both O E) (status : ℕ) → DoneAt image done came old new status → Tells (MayDo done) old new status
   done_comes done (Some came) old new status at = tells_more _ (MayDo done) (λ o is. may_do over_files done at.first at.last o is) _ _ _ at.told
-  done_comes done None old new status at = tells_more IsUnread (MayDo done) (unopened done) _ _ _ at
+  done_comes done None old new status at = tells_more IsUnreadFile (MayDo done) (unopened done) _ _ _ at
 
   asked_comes : (made : Result Request Refusal) (came : Came D g) (old new : Both O E) (status : ℕ) → AskedAt image made came old new status
       → Tells (λ o. MatchResult made (λ asked. MayDo (task.Ask asked) o) (λ refusal. o ≡ refused refusal)) old new status

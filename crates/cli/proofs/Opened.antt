@@ -12,14 +12,14 @@ use Rattle.sqlite_trees.specs.declared.store.Store.{Ghosts}
 use Rattle.rolls.specs.declared.refusal.Refusal.{Refusal}
 use Rattle.rolls.specs.declared.refusal.Refusal.TheVariants as no
 use Rattle.rolls.specs.State.{State}
-use Rattle.solver.specs.Sitting.{Sitting}
+use Rattle.solver.specs.SessionState.{SessionState}
 use Rattle.tables.specs.Causes.{IsStopped}
 use Rattle.store.specs.Causes.{IsHinderedOpening}
 use Rattle.store.specs.Reading.{IsDamaged}
 use Rattle.store.specs.Editions.{latest}
 use Rattle.store.proofs.Standing.{in_latest}
 use Rattle.store.specs.Tables.{HasNone, Opens}
-use Rattle.desk.specs.Kept.{Kept}
+use Rattle.desk.specs.DeskState.{DeskState}
 use Rattle.web.specs.Serving.{AnswersFrom, AnswersMessage, AtDesk, at_desk, just_opened}
 use Rattle.web.proofs.OneConnection.{connect_seen, connect_back}
 use Rattle.web.proofs.OneMessage.{message_seen}
@@ -54,12 +54,12 @@ why_refused refusal before after (inr (inl storage)) = inr (inl (ap refused stor
 why_refused refusal before after (inr (inr damaged)) = inr (inr (ap refused damaged.0))
 
 -- a desk that keeps no session is as it was just opened
-pub no_sitting : {S : Type 0} (desk : Kept S) → desk.session ≡ None → at_desk desk ≡ just_opened desk.office
-no_sitting desk none = ap (λ (session : Option Sitting). let at : AtDesk = record { office = desk.office; session = session } in at) none
+pub no_sitting : {S : Type 0} (desk : DeskState S) → desk.session ≡ None → at_desk desk ≡ just_opened desk.office
+no_sitting desk none = ap (λ (session : Option SessionState). let at : AtDesk = record { office = desk.office; session = session } in at) none
 
 module _ {S : Type 0} (ghosts : Ghosts S) where
   -- what a task comes to over its tables it comes to at the desk
-  comes_of : (done : Task) (before after : Kept S) (o : Outcome) → ComesFrom ghosts done before after o → ComesOf done (at_desk before) (at_desk after) o
+  comes_of : (done : Task) (before after : DeskState S) (o : Outcome) → ComesFrom ghosts done before after o → ComesOf done (at_desk before) (at_desk after) o
   comes_of (task.Ask asked) before after o from = record {
     answer = from.0;
     step = from.1.gets.step;
@@ -86,7 +86,7 @@ module _ {S : Type 0} (ghosts : Ghosts S) where
   )
 
   -- a disk that is clean behind a task was clean before it
-  pub was_clean : (done : Task) (before after : Kept S) → TakesTo ghosts done before after → WasClean (state ghosts before.store) (state ghosts after.store)
+  pub was_clean : (done : Task) (before after : DeskState S) → TakesTo ghosts done before after → WasClean (state ghosts before.store) (state ghosts after.store)
   was_clean (task.Ask asked) before after taken = taken.2
   was_clean (task.Serve serving) before after taken =
       connect_back (λ desk. HasCleanDisk (state ghosts desk.store)) (AnswersFrom ghosts) (λ b words bytes a step. step.clean) before after taken.0 taken.1

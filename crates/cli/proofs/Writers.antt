@@ -12,10 +12,10 @@ use Rattle.rolls.specs.Told.{number_of, name_of}
 use Rattle.desk.specs.Keeping.{AnswersKept, AnswersRound}
 use Rattle.desk.specs.Sessions.{AnswersAtOnce}
 use Rattle.web.specs.Connections.{AllServed, lines_after}
-use Rattle.wire.specs.Run.{Said}
+use Rattle.wire.specs.Run.{MessageText}
 use Rattle.round_files.specs.declared.rounds.Trouble.{Trouble}
 use Rattle.round_files.specs.declared.rounds.Trouble.TheVariants.{Refused}
-use Rattle.cli.specs.Outcomes.{OnFile, Outcome, of_round, prints, refused, refusal_line, named_line, listening, IsUnread, IsServed}
+use Rattle.cli.specs.Outcomes.{OnFile, Outcome, of_round, prints, refused, refusal_line, named_line, listening, IsUnreadFile, IsServed}
 use Rattle.cli.specs.Inside.Outcomes.{Serves}
 
 -- what the two writers took, and how many of their calls failed
@@ -60,7 +60,7 @@ pub refused_ends : (r : Refusal) (old new : Took) (status : ℕ) → TellsOf (λ
 refused_ends r old new status (inl t) = t.5 ∙ ap (λ (o : Outcome). o.status) t.1
 refused_ends r old new status (inr failed) = failed.1
 
-module _ {D : Type 0} (step : D → Said → List ℕ → D → Type 0) where
+module _ {D : Type 0} (step : D → MessageText → List ℕ → D → Type 0) where
   -- the connections were served and told after the port
   pub all_served : (before after : D) (port count : ℕ) (w0 w1 w : Option (List ℕ)) (f0 f1 f : ℕ) → Appends w0 w1 (listening port) → f1 ≡ f0 → AllServed step before count w1 w after → f ≡ f1
       → Serves step port count before after w0 w f0 f 0
@@ -80,7 +80,7 @@ pub at_once : (o : State) (q : Request) (a : Result Reply Refusal) → AnswersRo
 at_once o q a round repeated = record { round = round; repeated = repeated; preview = λ is allowed kept. cc }
 
 -- a refusal of a file that is read is told
-pub unread : (r : Refusal) → ((r ≡ no.Memory) ⊎ (r ≡ no.Storage)) → IsUnread (refused r)
+pub unread : (r : Refusal) → ((r ≡ no.Memory) ⊎ (r ≡ no.Storage)) → IsUnreadFile (refused r)
 unread r (inl memory) = inl (ap refused memory)
 unread r (inr storage) = inr (ap refused storage)
 
@@ -88,7 +88,7 @@ unread r (inr storage) = inr (ap refused storage)
 pub of_file : (Is : List ℕ → Result (String Global) Trouble → Type 0) (read : Result (Vec ℕ Global) Refusal) (came : Result (String Global) Trouble) (o : Outcome) → IfErr read (λ r. (r ≡ no.Memory) ⊎ (r ≡ no.Storage))
     → MatchResult read (λ bytes. Is bytes.items came) (λ r. came ≡ Err (Refused r)) → o ≡ of_round came → OnFile Is o
 of_file Is (Ok bytes) came o why is told = inr (bytes.items, came, is, told)
-of_file Is (Err r) came o why is told = inl (subst IsUnread (sym (told ∙ ap of_round is)) (unread r why))
+of_file Is (Err r) came o why is told = inl (subst IsUnreadFile (sym (told ∙ ap of_round is)) (unread r why))
 
 -- a refusal that is not of a record is told by its number and name
 pub named_alone : (r : Refusal) → ((n inner : ℕ) → r ≡ no.Row n inner → ⊥) → refusal_line r ≡ named_line (number_of r) (name_of r)

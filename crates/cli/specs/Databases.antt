@@ -25,7 +25,7 @@ use Rattle.rolls.specs.declared.request.Request.TheVariants as request
 use Rattle.rolls.specs.State.{State, empty}
 use Rattle.rolls.specs.Fit.{IsFit}
 use Rattle.rolls.specs.Run.{Step}
-use Rattle.allotment.specs.Layers.{layers}
+use Rattle.outside.specs.Layers.{layers}
 use Rattle.tables.specs.Causes.{IsStopped}
 use Rattle.tables.specs.Steps.{IsKept}
 use Rattle.store.specs.Causes.{IsHinderedOpening}
@@ -33,7 +33,7 @@ use Rattle.store.specs.Reading.{IsDamaged}
 use Rattle.editions.specs.declared.Edition.{Edition}
 use Rattle.store.specs.Tables.{HasNone, Opens, StandsIn}
 use Rattle.desk.specs.Keeping.{Keeps}
-use Rattle.desk.specs.Kept.{Kept}
+use Rattle.desk.specs.DeskState.{DeskState}
 use Rattle.web.specs.Connections.{Connect}
 use Rattle.web.specs.Serving.{AnswersFrom, GetsAt}
 use Rattle.wire.specs.declared.outcome.Served.{Served}
@@ -47,7 +47,7 @@ use Rattle.cli.specs.declared.tasks.Task.{Task}
 use Rattle.cli.specs.declared.tasks.Task.TheVariants as task
 use Rattle.cli.specs.Outputs.{Both}
 use Rattle.cli.specs.Imports.{IsImportOfFile}
-use Rattle.cli.specs.Outcomes.{IsUnread, MayComeOf, OnFile, Outcome, ServesAt, Tells, of_answer, refused}
+use Rattle.cli.specs.Outcomes.{IsUnreadFile, MayComeOf, OnFile, Outcome, ServesAt, Tells, of_answer, refused}
 
 -- a disk that is clean behind a task was clean before it
 abbrev pub WasClean : Seen → Seen → Type 0
@@ -82,20 +82,20 @@ pub record IsNotDone (before after : Seen) (o : Outcome) : Type 0 where
 module _ {S : Type 0} (ghosts : Ghosts S) where
   -- What a task comes to at a desk over its tables: of the answer of its request, or of the connections served. Each fault of the storage
   -- that it is answered by, or a client of a connection, has its cause in the tables as they stood then.
-  abbrev pub ComesFrom : Task → Kept S → Kept S → Outcome → Type 0
+  abbrev pub ComesFrom : Task → DeskState S → DeskState S → Outcome → Type 0
   ComesFrom (task.Ask asked) before after o = (answer : Result Reply Refusal) × GetsAt ghosts before asked answer after × (o ≡ of_answer answer)
   ComesFrom (task.Serve serving) before after o = ServesAt (AnswersFrom ghosts) serving.port serving.count before after o
 
   -- what a task makes of what is at a desk: one step of its request, or what its connections make
-  abbrev pub TakesTo : Task → Kept S → Kept S → Type 0
+  abbrev pub TakesTo : Task → DeskState S → DeskState S → Type 0
   TakesTo (task.Ask asked) before after =
       (answer : Result Reply Refusal) × Step layers before.office asked answer after.office × WasClean (state ghosts before.store) (state ghosts after.store)
   TakesTo (task.Serve serving) before after = (came : List (Result Served StreamFault)) × Connect (AnswersFrom ghosts) before came after
 
   -- The office of the database was opened at this desk, this was done there, and the tables stand for the office after it. From the opening
   -- on no failure of the disk is taken back, and what a statement may take stays.
-  pub record IsDone (Done : Kept S → Kept S → Type 0) (first last : Held S) : Type 0 where
-    pub desk : Kept S
+  pub record IsDone (Done : DeskState S → DeskState S → Type 0) (first last : Held S) : Type 0 where
+    pub desk : DeskState S
     pub found : IsFoundFor (state ghosts first) (state ghosts last) desk.office
     pub fit : IsFit desk.office
     pub no_session : desk.session ≡ None
@@ -103,7 +103,7 @@ module _ {S : Type 0} (ghosts : Ghosts S) where
     pub is_open : HasCleanDisk (state ghosts last) → IsTrue (state ghosts desk.store).is_open
     pub counts : (state ghosts first).faults ≤ (state ghosts desk.store).faults
     pub limit : (state ghosts desk.store).step_limit ≡ (state ghosts first).step_limit
-    pub next : Kept S
+    pub next : DeskState S
     pub done : Done desk next
     pub given_back : last ≡ next.store
     pub stands : Keeps (state ghosts last) next.office
@@ -151,7 +151,7 @@ module _ {D : Type 0} {g : disk.Ghosts D} {O E : Type 0} (image : Image) where
   -- a task was done over the file, or it could not be opened
   abbrev pub DoneAt : Task → Came D g → Both O E → Both O E → ℕ → Type 0
   DoneAt done (Some came) old new status = DoneOver image done came old new status
-  DoneAt done None old new status = Tells IsUnread old new status
+  DoneAt done None old new status = Tells IsUnreadFile old new status
 
   -- what was made of an import file was asked over the file, or was refused, and nothing was opened
   abbrev pub AskedAt : Result Request Refusal → Came D g → Both O E → Both O E → ℕ → Type 0

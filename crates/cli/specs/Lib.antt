@@ -3,4 +3,5 @@ pub mod Outputs
 pub mod Outcomes
 pub mod Imports
 pub mod Databases
+pub mod Begun
 pub mod Inside

@@ -15,11 +15,11 @@ use Rattle.rolls.specs.State.{State}
 use Rattle.rolls.specs.Fit.{IsFit}
 use Rattle.rolls.specs.Run.{Step}
 use Rattle.rolls.specs.Told.{number_of, name_of}
-use Rattle.allotment.specs.Layers.{layers}
+use Rattle.outside.specs.Layers.{layers}
 use Rattle.desk.specs.Sessions.{AnswersAtOnce, IsToldRight}
 use Rattle.web.specs.Connections.{Connect, lines_after}
 use Rattle.web.specs.Serving.{AnswersMessage, AtDesk, just_opened}
-use Rattle.wire.specs.Run.{Said}
+use Rattle.wire.specs.Run.{MessageText}
 use Rattle.round_files.specs.Rounds.{IsSolved, IsChecked}
 use Rattle.round_files.specs.declared.rounds.Trouble.{Trouble}
 use Rattle.round_files.specs.declared.rounds.Trouble.TheVariants.{Refused, BadLine, Failed}
@@ -32,7 +32,7 @@ use Rattle.cli.specs.declared.tasks.Task.{Task}
 use Rattle.cli.specs.declared.tasks.Task.TheVariants as task
 use Rattle.cli.specs.declared.unread.Unread.{Unread}
 use Rattle.cli.specs.declared.unread.Unread.TheVariants as unread
-use Rattle.cli.specs.Outputs.{Both, failures_of}
+use Rattle.cli.specs.Outputs.{Both, both_failures}
 use Rattle.wire.specs.declared.outcome.Served.{Served}
 use Rattle.wire.specs.declared.outcome.StreamFault.{StreamFault}
 
@@ -84,25 +84,25 @@ closed_line round size profile =
     codes "round " ++ decimal round ++ codes " size " ++ decimal size ++ codes " profile" ++ counts_text profile ++ 10 ∷ []
 
 -- what is printed of an answer; no line asks for the others
-abbrev pub reply_text : Reply → List ℕ
-reply_text (reply.Rows n) = codes "rows " ++ decimal n ++ 10 ∷ []
-reply_text (reply.Opened round) = codes "round " ++ decimal round ++ 10 ∷ []
-reply_text (reply.Closed round size profile) = closed_line round size profile
-reply_text (reply.Text text) = text
-reply_text _ = []
+abbrev pub printed_reply : Reply → List ℕ
+printed_reply (reply.Rows n) = codes "rows " ++ decimal n ++ 10 ∷ []
+printed_reply (reply.Opened round) = codes "round " ++ decimal round ++ 10 ∷ []
+printed_reply (reply.Closed round size profile) = closed_line round size profile
+printed_reply (reply.Text text) = text
+printed_reply _ = []
 
 -- what comes of an answer
 abbrev pub of_answer : Result Reply Refusal → Outcome
-of_answer (Ok answer) = prints (reply_text answer)
+of_answer (Ok answer) = prints (printed_reply answer)
 of_answer (Err refusal) = refused refusal
 
 -- a file could not be read: there was no memory for it, or it is refused
-abbrev pub IsUnread : Outcome → Type 0
-IsUnread o = (o ≡ refused no.Memory) ⊎ (o ≡ refused no.Storage)
+abbrev pub IsUnreadFile : Outcome → Type 0
+IsUnreadFile o = (o ≡ refused no.Memory) ⊎ (o ≡ refused no.Storage)
 
 -- a line on a round file: it could not be read, or what comes of its bytes
 abbrev pub OnFile : (List ℕ → Result (String Global) Trouble → Type 0) → Outcome → Type 0
-OnFile Is o = IsUnread o ⊎ ((bytes : List ℕ) × (came : Result (String Global) Trouble) × Is bytes came × (o ≡ of_round came))
+OnFile Is o = IsUnreadFile o ⊎ ((bytes : List ℕ) × (came : Result (String Global) Trouble) × Is bytes came × (o ≡ of_round came))
 
 -- the database could not be opened, or its tables stand for no office
 abbrev pub IsUnopened : Outcome → Type 0
@@ -129,7 +129,7 @@ no_port port = codes "no port " ++ decimal port ++ 10 ∷ []
 abbrev pub IsUnbound : {D : Type 0} → ℕ → D → D → Outcome → Type 0
 IsUnbound port before after o = (after ≡ before) × (o ≡ tells 1 (no_port port))
 
-module _ {D : Type 0} (step : D → Said → List ℕ → D → Type 0) where
+module _ {D : Type 0} (step : D → MessageText → List ℕ → D → Type 0) where
   -- so many connections were served at a desk
   pub record IsServed (port count : ℕ) (before after : D) (o : Outcome) : Type 0 where
     pub came : List (Result Served StreamFault)
@@ -151,14 +151,14 @@ abbrev pub MayDo : Task → Outcome → Type 0
 MayDo task o = IsUnopened o ⊎ ((office : State) × IsFit office × (after : AtDesk) × ComesOf task (just_opened office) after o)
 
 -- a line that imports these bytes: there are too many, or no memory, or what comes of the import
-abbrev pub Imports : List ℕ → ImportKind → List ℕ → Outcome → Type 0
-Imports id kind bytes o =
+abbrev pub IsImportLine : List ℕ → ImportKind → List ℕ → Outcome → Type 0
+IsImportLine id kind bytes o =
     ((MOST_IMPORT_BYTES < length bytes) × (o ≡ refused no.TooLarge))
     ⊎ ((length bytes ≤ MOST_IMPORT_BYTES) × ((o ≡ refused no.Memory) ⊎ MayDo (task.Ask (request.Import id kind bytes)) o))
 
 -- a line that imports a file: it could not be read, or what comes of importing its bytes
 abbrev pub ImportsFile : List ℕ → ImportKind → Outcome → Type 0
-ImportsFile id kind o = IsUnread o ⊎ ((bytes : List ℕ) × Imports id kind bytes o)
+ImportsFile id kind o = IsUnreadFile o ⊎ ((bytes : List ℕ) × IsImportLine id kind bytes o)
 
 -- what a line may come to
 abbrev pub MayCome : Line → Outcome → Type 0
@@ -191,8 +191,8 @@ Printed text status w0 w failures0 failures ends =
 -- one of these outcomes was written to the two outputs and its status is this, or one call of a writer failed and the status is 1
 abbrev pub Tells : {O E : Type 0} → (Outcome → Type 0) → Both O E → Both O E → ℕ → Type 0
 Tells Is old new status =
-    ((o : Outcome) × Is o × (failures_of new ≡ failures_of old) × Appends old.out.written new.out.written o.out × Appends old.err.written new.err.written o.err × (status ≡ o.status))
-    ⊎ ((failures_of new ≡ failures_of old + 1) × (status ≡ 1))
+    ((o : Outcome) × Is o × (both_failures new ≡ both_failures old) × Appends old.out.written new.out.written o.out × Appends old.err.written new.err.written o.err × (status ≡ o.status))
+    ⊎ ((both_failures new ≡ both_failures old + 1) × (status ≡ 1))
 
 -- what the words may come to
 abbrev pub ComesTo : List (List ℕ) → Outcome → Type 0

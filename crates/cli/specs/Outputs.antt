@@ -17,5 +17,5 @@ abbrev pub CanFail : {O E : Type 0} → Both O E → Type 0
 CanFail outputs = (outputs.out.failures < 2 ^ 64 - 1) × (outputs.err.failures < 2 ^ 64 - 1)
 
 -- how many calls of the two failed
-abbrev pub failures_of : {O E : Type 0} → Both O E → ℕ
-failures_of outputs = outputs.out.failures + outputs.err.failures
+abbrev pub both_failures : {O E : Type 0} → Both O E → ℕ
+both_failures outputs = outputs.out.failures + outputs.err.failures

@@ -2,7 +2,7 @@
 
 ghost use Rattle.std.specs.Prelude.{◌≡◌, []};
 ghost use Rattle.cli.specs.Outputs.{CanFail};
-ghost use Rattle.cli.specs.Outcomes.{Tells, tells, prints, refused, reply_text};
+ghost use Rattle.cli.specs.Outcomes.{Tells, tells, prints, refused, printed_reply};
 
 use crate::printing::{print, print_reply, refuse};
 use rolls::{Refusal, Reply};
@@ -47,7 +47,7 @@ impl<O: Sink, E: Sink> Outputs<O, E> {
     /// Prints what is printed of an answer.
     pub(crate) fn print_reply(&mut self, reply: &Reply) -> u8
         requires { CanFail self.old }
-        ensures { Tells (λ o. o ≡ prints (reply_text reply.now)) self.old self.new result }
+        ensures { Tells (λ o. o ≡ prints (printed_reply reply.now)) self.old self.new result }
     {
         print_reply(&mut self.out, reply)
     }

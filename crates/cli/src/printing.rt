@@ -2,7 +2,7 @@
 
 ghost use Rattle.std.specs.Prelude.{◌≡◌, ◌-◌, ◌^◌, ◌<◌};
 ghost use Rattle.cli.specs.Outputs.{CanFail};
-ghost use Rattle.cli.specs.Outcomes.{Printed, Tells, refusal_line, of_round, reply_text};
+ghost use Rattle.cli.specs.Outcomes.{Printed, Tells, refusal_line, of_round, printed_reply};
 
 use crate::outputs::Outputs;
 use crate::texts::{bad_line, closed_line, labelled, refusal_line};
@@ -32,7 +32,7 @@ pub(crate) fn refuse<W: Sink>(err: &mut W, refusal: Refusal) -> u8
 /// Writes what is printed of an answer.
 pub(crate) fn print_reply<W: Sink>(out: &mut W, reply: &Reply) -> u8
     requires { W.failures out.old < 2 ^ 64 - 1 }
-    ensures { Printed (reply_text reply.now) 0 (W.written out.old) (W.written out.new) (W.failures out.old) (W.failures out.new) result }
+    ensures { Printed (printed_reply reply.now) 0 (W.written out.old) (W.written out.new) (W.failures out.old) (W.failures out.new) result }
 {
     match reply {
         Reply::Rows(rows) => print(out, labelled(b"rows ", *rows).as_slice(), 0),

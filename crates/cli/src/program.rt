@@ -1,13 +1,11 @@
 //! The program: a line where there are arguments, or else standard input served over a new database in memory.
 
-ghost use Rattle.std.specs.Prelude.{◌≡◌, ◌-◌, ◌^◌, ◌<◌, ◌≤◌, IsTrue, None, false, length, map, string_bytes, IfOk, MatchResult};
+ghost use Rattle.std.specs.Prelude.{◌≡◌, ◌-◌, ◌^◌, ◌<◌, ◌≤◌, IsTrue, false, length, map, string_bytes, IfErr, IfOk};
 ghost use Rattle.std.specs.IoError.{error_kind};
 ghost use Rattle.sqlite_wal.specs.Files.{image_at};
 ghost use Rattle.cli.specs.Outputs.{CanFail};
-ghost use Rattle.cli.specs.Databases.{WordsAt};
-ghost use Rattle.cli.specs.Anew.{ServedAnew, BrokenAnew, StreamsAnew};
-ghost use Rattle.cli.specs.Outcomes.{Tells, ComesTo};
-ghost use Rattle.cli.specs.Inside.Outcomes.{OfUnread};
+ghost use Rattle.cli.specs.Anew.{ServedAnew, BrokenAnew};
+ghost use Rattle.cli.specs.Begun.{IsLineDone, IsStreamDone, IsUntaken};
 
 use crate::opening::Closing;
 use crate::outputs::Outputs;
@@ -56,14 +54,11 @@ pub fn begin<S: Start, R: Source, O: Sink, E: Sink>(
     requires reader { R.failures reader.old < 2 ^ 64 - 1 }
     requires open { R.ended reader.old ≡ false }
     requires outputs { CanFail outputs.old }
-    ensures told { MatchResult given (λ words. 1 < length words.items → Tells (ComesTo (map string_bytes words.items)) outputs.old outputs.new result.0) (λ error. Tells (OfUnread (error_kind error)) outputs.old outputs.new result.0) }
-    ensures file { IfOk given (λ words. 1 < length words.items → WordsAt (image_at S.Start) (map string_bytes words.items) result.1 outputs.old outputs.new result.0) }
-    ensures stream { IfOk given (λ words. length words.items ≤ 1 → StreamsAnew (R.left reader.old) outputs.old.out.written (R.left reader.new) outputs.new.out.written result.0) }
-    ensures silent { IfOk given (λ words. length words.items ≤ 1 → outputs.new.err ≡ outputs.old.err) }
 
     // A line does not read the stream, and a stream opens no file. Where the words cannot be read neither is touched.
-    ensures unread { MatchResult given (λ words. 1 < length words.items → reader.new ≡ reader.old) (λ _. reader.new ≡ reader.old) }
-    ensures no_file { MatchResult given (λ words. length words.items ≤ 1 → result.1 ≡ None) (λ _. result.1 ≡ None) }
+    ensures line { IfOk given (λ words. 1 < length words.items → IsLineDone (image_at S.Start) (map string_bytes words.items) result.1 reader.old reader.new outputs.old outputs.new result.0) }
+    ensures stream { IfOk given (λ words. length words.items ≤ 1 → IsStreamDone (R.left reader.old) (R.left reader.new) result.1 outputs.old outputs.new result.0) }
+    ensures unread { IfErr given (λ error. IsUntaken (error_kind error) result.1 reader.old reader.new outputs.old outputs.new result.0) }
     ensures status { result.0 ≤ 2 }
 {
     match given {

@@ -17,7 +17,7 @@ use web::Sink;
 
 /// What a line does with the round of a file.
 #[derive(Clone, Copy, Drop)]
-pub(crate) enum Way {
+pub(crate) enum RoundTask {
     /// It solves the round.
     Solve,
     /// It checks the matching and the prices of the round.
@@ -25,13 +25,13 @@ pub(crate) enum Way {
 }
 
 /// Does this with the round that was read of a file, or gives the refusal of the reading.
-fn do_read(alloc: Global, way: Way, read: Result<Vec<u8>, Refusal>) -> Result<String, Trouble>
+fn do_read(alloc: Global, way: RoundTask, read: Result<Vec<u8>, Refusal>) -> Result<String, Trouble>
     ensures { MatchResult read (λ bytes. ComesBy way bytes.items result) (λ refusal. result ≡ Err (Trouble.Refused refusal)) }
 {
     match read {
         Ok(bytes) => match way {
-            Way::Solve => solved(alloc, &bytes),
-            Way::Check => checked(alloc, &bytes),
+            RoundTask::Solve => solved(alloc, &bytes),
+            RoundTask::Check => checked(alloc, &bytes),
         },
         Err(refusal) => Err(Trouble::Refused(refusal)),
     }
@@ -40,7 +40,7 @@ fn do_read(alloc: Global, way: Way, read: Result<Vec<u8>, Refusal>) -> Result<St
 /// Does this with the round of a file, and tells what comes of it.
 pub(crate) fn do_file<O: Sink, E: Sink>(
     rt: &HostRuntime,
-    way: Way,
+    way: RoundTask,
     file: &str,
     outputs: &mut Outputs<O, E>,
 ) -> u8

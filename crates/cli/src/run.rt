@@ -11,7 +11,7 @@ use crate::named::do_on;
 use crate::opening::Closing;
 use crate::outputs::Outputs;
 use crate::printing::{print, refuse};
-use crate::rounds::{Way, do_file};
+use crate::rounds::{RoundTask, do_file};
 use crate::tasks::{Serving, Task};
 use crate::texts::NOT_UTF8;
 use crate::unread::Unread;
@@ -80,8 +80,8 @@ fn do_line<S: Start, O: Sink, E: Sink>(
             let asked = Request::Report { kind, round };
             do_on(rt, start, &database, Task::Ask(asked), outputs)
         }
-        Line::Solve(file) => (do_file(rt, Way::Solve, &file, outputs), None),
-        Line::Check(file) => (do_file(rt, Way::Check, &file, outputs), None),
+        Line::Solve(file) => (do_file(rt, RoundTask::Solve, &file, outputs), None),
+        Line::Check(file) => (do_file(rt, RoundTask::Check, &file, outputs), None),
     }
 }
 

@@ -39,22 +39,6 @@ pub(crate) struct Serving {
     pub(crate) count: u32,
 }
 
-/// Asks a request at a desk, and tells what comes of it.
-fn ask_at<S: Alter, O: Sink, E: Sink>(
-    desk: &mut Desk<S>,
-    asked: Request,
-    outputs: &mut Outputs<O, E>,
-) -> u8
-    requires { CanFail outputs.old }
-    ensures told { Tells (ComesFrom S.Store (Task.Ask asked) desk.old desk.new) outputs.old outputs.new result }
-    ensures taken { TakesTo S.Store (Task.Ask asked) desk.old desk.new }
-{
-    match desk.ask(asked) {
-        Ok(reply) => outputs.print_reply(&reply),
-        Err(refusal) => outputs.refuse(refusal),
-    }
-}
-
 /// Serves connections of a listener at a desk, and writes a line of each after that of the port.
 fn serve_at<S: Alter, O: Sink>(
     alloc: Global,
@@ -112,8 +96,6 @@ fn serve_bound<S: Alter, O: Sink, E: Sink>(
 }
 
 /// Does a task at a desk, and tells what comes of it.
-///
-/// It keeps the two tasks apart from what is done behind them, which is so told once.
 pub(crate) fn do_at<S: Alter, O: Sink, E: Sink>(
     rt: &HostRuntime,
     desk: &mut Desk<S>,
@@ -125,7 +107,10 @@ pub(crate) fn do_at<S: Alter, O: Sink, E: Sink>(
     ensures taken { TakesTo S.Store task desk.old desk.new }
 {
     match task {
-        Task::Ask(asked) => ask_at(desk, asked, outputs),
+        Task::Ask(asked) => match desk.ask(asked) {
+            Ok(reply) => outputs.print_reply(&reply),
+            Err(refusal) => outputs.refuse(refusal),
+        },
         Task::Serve(serving) => {
             let bound = TcpListener::bind(rt, loopback(serving.port));
             serve_bound(rt.alloc(), desk, bound, serving, outputs)

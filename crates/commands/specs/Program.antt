@@ -6,7 +6,7 @@ use Rattle.clap.specs.Words.{App, Rule, new_app, new_rule, with_rule, with_subco
 use Rattle.clap.specs.declared.builder.value_parser.ValueParser.{ValueParser}
 use Rattle.clap.specs.declared.builder.value_parser.ValueParser.TheVariants.{Names, String, Unsigned}
 use Rattle.commands.specs.Kinds.{import_kinds, report_kinds, report_word}
-use Rattle.commands.specs.Table.{Argument, Told, lines}
+use Rattle.commands.specs.Table.{Argument, ToldLine, lines}
 use Rattle.commands.specs.declared.program.Kinds.{Kinds}
 use Rattle.commands.specs.declared.table.Takes.{Takes}
 use Rattle.commands.specs.declared.table.Takes.TheVariants.{Word, Number, ImportKind, ReportKind, Aim}
@@ -34,11 +34,11 @@ abbrev pub with_argument : Kinds → App → Argument → App
 with_argument kinds app argument = with_rule app (rule_by kinds argument)
 
 -- a line as a command of its own
-abbrev pub line_app : Kinds → Told → App
+abbrev pub line_app : Kinds → ToldLine → App
 line_app kinds told = fold (with_argument kinds) (new_app told.name) told.arguments
 
 -- a command with one more line as a subcommand
-abbrev pub with_line : Kinds → App → Told → App
+abbrev pub with_line : Kinds → App → ToldLine → App
 with_line kinds app told = with_subcommand app (line_app kinds told).top
 
 -- the program's name, of which a subcommand must be given

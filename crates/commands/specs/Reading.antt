@@ -86,7 +86,7 @@ IsFaultOf kinds (Help text) = IsAmong DisplayHelp kinds
 IsFaultOf kinds (Fault text) = (kind : ErrorKind) × IsAmong kind kinds × (kind ≢ DisplayHelp)
 
 -- a line is what `clap` reads in the words, and it takes them; a fault is one of its own
-pub record IsReading (app : App) (words : List Text) (result : Result Line LineFault) : Type 0 where
+pub record ReadsLine (app : App) (words : List Text) (result : Result Line LineFault) : Type 0 where
   pub line : IfOk result (λ line. IsSomeAnd (subcommand_of app words) (λ s. IsLineOf s.0 s.1 line))
   pub faultless : IfOk result (λ line. fault_of app words ≡ [])
   pub fault : IfErr result (IsFaultOf (fault_of app words))
@@ -96,6 +96,6 @@ pub record IsReading (app : App) (words : List Text) (result : Result Line LineF
 pub record IsAnswer (words : List Text) (result : Result Line LineFault) : Type 0 where
   pub kinds : Kinds
   pub are_words : AreWords kinds
-  pub reading : IsReading (program kinds) words result
+  pub reading : ReadsLine (program kinds) words result
   -- each argument of the line was given a word that may stand for it
   pub given : IfOk result (λ line. IsSomeAnd (subcommand_of (program kinds) words) (λ s. AreGiven s.0 s.1))

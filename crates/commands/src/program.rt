@@ -6,7 +6,7 @@ ghost use Rattle.clap.specs.declared.builder.command.Command.TheViews.{out-Comma
 ghost use Rattle.commands.specs.Program.{line_app, parser_of, program, rule_by};
 ghost use Rattle.commands.specs.Inside.Table.{argument_by, told_by};
 
-use crate::table::{Argument, Row, Takes, rows};
+use crate::table::{Argument, Described, Takes, rows};
 use clap::builder::ValueParser;
 use clap::{Arg, Command};
 use std::alloc::{AllocError, Global};
@@ -44,7 +44,11 @@ fn argument<'a>(alloc: Global, kinds: Kinds<'a>, told: &Argument) -> Arg<'a>
 }
 
 /// A line, as a subcommand.
-fn subcommand<'a>(alloc: Global, kinds: Kinds<'a>, row: &Row) -> Result<Command<'a>, AllocError>
+fn subcommand<'a>(
+    alloc: Global,
+    kinds: Kinds<'a>,
+    row: &Described,
+) -> Result<Command<'a>, AllocError>
     ensures app { IfOk result (λ c. app_of c ≡ line_app kinds.entry (told_by row.now)) }
     ensures local { IfOk result (λ c. (out-Command c).has_globals ≡ false) }
 {

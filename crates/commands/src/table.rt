@@ -33,7 +33,7 @@ pub(crate) struct Argument {
 }
 
 /// A line: its name, what it does, an example of it, and its arguments in order.
-pub(crate) struct Row {
+pub(crate) struct Described {
     pub name: &'static str,
     pub about: &'static str,
     pub example: &'static str,
@@ -57,19 +57,19 @@ pub(crate) mod given {
 }
 
 #[rattlefmt::skip]
-const ROWS: [Row; 8] = [
-    Row { name: "serve", about: "Serves the database to COUNT connections, one after another, then ends", example: "Example: spadesk serve school.db 8080 1000", arguments: &[DATABASE, PORT, COUNT] },
-    Row { name: "import", about: "Imports supervisors, projects, students or lists from a CSV file", example: "Example: spadesk import school.db students I1 students.csv", arguments: &[DATABASE, IMPORT_KIND, ID, FILE] },
-    Row { name: "open-round", about: "Opens the next round, for which students may then have lists", example: "Example: spadesk open-round school.db generous", arguments: &[DATABASE, AIM] },
-    Row { name: "reopen-round", about: "Opens the last round again: its lists stay, its placements go", example: "Example: spadesk reopen-round school.db", arguments: &[DATABASE] },
-    Row { name: "close-round", about: "Closes the open round and places the students who have lists in it", example: "Example: spadesk close-round school.db", arguments: &[DATABASE] },
-    Row { name: "report", about: "Prints a report of one round", example: "Example: spadesk report school.db placements 1", arguments: &[DATABASE, REPORT_KIND, ROUND] },
-    Row { name: "solve", about: "Prints the round of FILE with a best matching and prices that prove it", example: "Example: spadesk solve round.txt", arguments: &[FILE] },
-    Row { name: "check", about: "Checks the matching and the prices of the round of FILE", example: "Example: spadesk check round.txt", arguments: &[FILE] },
+const ROWS: [Described; 8] = [
+    Described { name: "serve", about: "Serves the database to COUNT connections, one after another, then ends", example: "Example: spadesk serve school.db 8080 1000", arguments: &[DATABASE, PORT, COUNT] },
+    Described { name: "import", about: "Imports supervisors, projects, students or lists from a CSV file", example: "Example: spadesk import school.db students I1 students.csv", arguments: &[DATABASE, IMPORT_KIND, ID, FILE] },
+    Described { name: "open-round", about: "Opens the next round, for which students may then have lists", example: "Example: spadesk open-round school.db generous", arguments: &[DATABASE, AIM] },
+    Described { name: "reopen-round", about: "Opens the last round again: its lists stay, its placements go", example: "Example: spadesk reopen-round school.db", arguments: &[DATABASE] },
+    Described { name: "close-round", about: "Closes the open round and places the students who have lists in it", example: "Example: spadesk close-round school.db", arguments: &[DATABASE] },
+    Described { name: "report", about: "Prints a report of one round", example: "Example: spadesk report school.db placements 1", arguments: &[DATABASE, REPORT_KIND, ROUND] },
+    Described { name: "solve", about: "Prints the round of FILE with a best matching and prices that prove it", example: "Example: spadesk solve round.txt", arguments: &[FILE] },
+    Described { name: "check", about: "Checks the matching and the prices of the round of FILE", example: "Example: spadesk check round.txt", arguments: &[FILE] },
 ];
 
 /// The lines.
-pub(crate) fn rows() -> &'static [Row]
+pub(crate) fn rows() -> &'static [Described]
     ensures { map told_by result.now ≡ lines }
 {
     &ROWS

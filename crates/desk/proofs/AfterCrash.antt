@@ -9,19 +9,19 @@ use Rattle.tables.specs.Steps.{IsLeft}
 use Rattle.store.specs.Editions.{latest}
 use Rattle.store.specs.Laws.{OpensAgain}
 use Rattle.store.proofs.Standing.{in_latest}
-use Rattle.desk.specs.Kept.{Kept}
+use Rattle.desk.specs.DeskState.{DeskState}
 use Rattle.desk.specs.Keeping.{CarriesOut, StandsForOne}
 use Rattle.desk.specs.Laws.{IsAtRest, IsOneOf, IsOpenedAfter, LeavesOneOf}
 use Rattle.desk.proofs.SavedRows.{was_clean}
 
 module _ {S : Type 0} (ghosts : Ghosts S) (again : OpensAgain) where
   -- what is left of a desk at rest is its office
-  pub rest_kept : (desk : Kept S) (office : State) → IsAtRest ghosts desk → IsOpenedAfter ghosts desk office → office ≡ desk.office
+  pub rest_kept : (desk : DeskState S) (office : State) → IsAtRest ghosts desk → IsOpenedAfter ghosts desk office → office ≡ desk.office
   rest_kept desk office rest it =
       again latest (state ghosts desk.store).now it.found it.opened desk.office office rest.sound it.sound (rest.alone it.found.trees it.left) (in_latest rest.stands) rest.fit it.fit it.opens
 
   -- what is left of a call is what could be left before, or an office that it may make
-  pub call_whole : (IsOne : State → Type 0) (old new : Kept S) (refused : List Request) → LeavesOneOf ghosts refused old
+  pub call_whole : (IsOne : State → Type 0) (old new : DeskState S) (refused : List Request) → LeavesOneOf ghosts refused old
       → Survives (state ghosts old.store) (state ghosts new.store) (IsLeft (λ _. StandsForOne IsOne) (state ghosts old.store))
       → (office : State) → IsOpenedAfter ghosts new office → IsOneOf old.office refused office ⊎ IsOne office
   call_whole IsOne old new refused before survives office it = elim (survives.crash it.clean it.found.trees it.left) [
@@ -41,7 +41,7 @@ module _ {S : Type 0} (ghosts : Ghosts S) (again : OpensAgain) where
   ]
 
   -- of one request that is what the requests since may make
-  pub ask_whole : (old new : Kept S) (refused : List Request) (request : Request) → LeavesOneOf ghosts refused old
+  pub ask_whole : (old new : DeskState S) (refused : List Request) (request : Request) → LeavesOneOf ghosts refused old
       → Survives (state ghosts old.store) (state ghosts new.store) (IsLeft (λ _. StandsForOne (CarriesOut old.office request)) (state ghosts old.store))
       → (office : State) → IsOpenedAfter ghosts new office → IsOneOf old.office (request ∷ refused) office
   ask_whole old new refused request before survives office it = elim (call_whole (CarriesOut old.office request) old new refused before survives office it) [

@@ -1,63 +1,63 @@
 -- No refusal by which the office refuses a request tells of the storage.
 use Rattle.std.proofs.Common.{◌≡◌, ℕ, suc, List, [], ◌∷◌, ◌++◌, Bool, true, false, not, Option, Some, None, Result, Ok, Err, IfErr, ◌⊎◌, inl, inr, refl, sym, ap, ◌∙◌}
-use Rattle.std.specs.Prelude.{⊤, if◌then◌else◌}
+use Rattle.std.specs.Prelude.{if◌then◌else◌}
+use Rattle.std.specs.List.{list_all}
+use Rattle.std.proofs.lemmas.Bool.{and_parts}
 use Rattle.rolls.specs.declared.import.ImportKind.{ImportKind}
 use Rattle.rolls.specs.declared.refusal.Refusal.{Refusal}
 use Rattle.rolls.specs.declared.refusal.Refusal.TheVariants as no
 use Rattle.rolls.specs.declared.request.Plain.{Plain}
-use Rattle.rolls.specs.declared.request.Plain.TheVariants.{PutSupervisor, PutProject, PutStudent, OpenRound, PutList, DropList, ReopenRound, GetSupervisor, GetProject, GetStudent, GetRound}
+use Rattle.rolls.specs.declared.request.Plain.TheVariants.{PutList}
 use Rattle.rolls.specs.declared.request.Request.{Request}
 use Rattle.rolls.specs.declared.request.Request.TheVariants as request
-use Rattle.rolls.specs.State.{State, has_import, has_supervisor, has_project, has_student}
-use Rattle.rolls.specs.Refusing.{first, supervisor_tests, project_tests, student_tests, opening_tests, choice_tests, list_tests, drop_tests, reopening_tests, open_tests, round_tests, import_tests, plain_refusal, refusal_of}
+use Rattle.rolls.specs.State.{State, has_import}
+use Rattle.rolls.specs.Meaning.{meaning}
+use Rattle.rolls.specs.Refusing.{first, choice_tests, open_tests, round_tests, import_tests, plain_refusal, refusal_of}
 use Rattle.rolls.specs.Importing.{or_else, at_record, rows_refusal, text_refusal}
 use Rattle.rolls.specs.Stepping.{after_plain}
 use Rattle.rolls.specs.Run.{refusal}
 use Rattle.imports.specs.declared.fault.ImportFault.{ImportFault}
 use Rattle.imports.specs.declared.fault.ImportFault.TheVariants.{Memory, Header, Fields}
 use Rattle.imports.specs.Requests.{requests_of}
-use Rattle.allotment.specs.Layers.{as_read, layers}
+use Rattle.outside.specs.Layers.{import_as_read, layers}
 
 abbrev is_storage : Refusal → Bool
 is_storage no.Storage = true
 is_storage _ = false
 
 -- of these tests none is of the storage
-abbrev AreNamed : List (Bool × Refusal) → Type 0
-AreNamed [] = ⊤
-AreNamed (t ∷ tests) = (is_storage t.1 ≡ false) × AreNamed tests
+abbrev are_named : List (Bool × Refusal) → Bool
+are_named tests = list_all (λ t. not (is_storage t.1)) tests
 
 -- so the first that holds is not
-first_named : (tests : List (Bool × Refusal)) → AreNamed tests → first tests ≡ Some no.Storage → ⊥
+first_named : (tests : List (Bool × Refusal)) → are_named tests ≡ true → first tests ≡ Some no.Storage → ⊥
 first_named [] named e = cc
-first_named ((true, r) ∷ tests) named e = let is : r ≡ no.Storage = cc in let clash : true ≡ false = sym (ap is_storage is) ∙ named.0 in cc
-first_named ((false, r) ∷ tests) named e = first_named tests named.1 e
+first_named ((true, r) ∷ tests) named e =
+    let is : r ≡ no.Storage = cc in
+    let clash : false ≡ true = sym (ap (λ x. not (is_storage x)) is) ∙ (and_parts _ _ named).0 in
+    cc
+first_named ((false, r) ∷ tests) named e = first_named tests (and_parts _ _ named).1 e
 
-choices_named : (o : State) (before choices : List (List ℕ)) → AreNamed (choice_tests o before choices)
-choices_named o before [] = tt
-choices_named o before (c ∷ choices) = (refl, (refl, choices_named o (before ++ c ∷ []) choices))
+choices_named : (o : State) (before choices : List (List ℕ)) → are_named (choice_tests o before choices) ≡ true
+choices_named o before [] = refl
+choices_named o before (c ∷ choices) = choices_named o (before ++ c ∷ []) choices
+
+-- the tests of each plain request are so, by looking at them; a list has as many as it has choices
+plain_tests_named : (o : State) (p : Plain) → are_named (let m = meaning p in m.tests o) ≡ true
+plain_tests_named o (PutList student choices) = choices_named o [] choices
+plain_tests_named o _ = refl
 
 plain_named : (o : State) (p : Plain) → plain_refusal o p ≡ Some no.Storage → ⊥
-plain_named o (PutSupervisor code label quota) = first_named (supervisor_tests o code label quota) (refl, (refl, (refl, (refl, (refl, tt)))))
-plain_named o (PutProject code label supervisor quota) = first_named (project_tests o code label supervisor quota) (refl, (refl, (refl, (refl, (refl, (refl, (refl, (refl, tt))))))))
-plain_named o (PutStudent code label) = first_named (student_tests o code label) (refl, (refl, (refl, tt)))
-plain_named o (OpenRound aim) = first_named (opening_tests o) (refl, (refl, tt))
-plain_named o (PutList student choices) = first_named (list_tests o student choices) (refl, (refl, (refl, (refl, choices_named o [] choices))))
-plain_named o (DropList student) = first_named (drop_tests o student) (refl, (refl, (refl, tt)))
-plain_named o ReopenRound = first_named (reopening_tests o) (refl, (refl, tt))
-plain_named o (GetSupervisor code) = first_named ((not (has_supervisor o code), no.UnknownSupervisor) ∷ []) (refl, tt)
-plain_named o (GetProject code) = first_named ((not (has_project o code), no.UnknownProject) ∷ []) (refl, tt)
-plain_named o (GetStudent code) = first_named ((not (has_student o code), no.UnknownStudent) ∷ []) (refl, tt)
-plain_named o (GetRound round) = first_named (round_tests o round) (refl, tt)
+plain_named o p = first_named (let m = meaning p in m.tests o) (plain_tests_named o p)
 
 -- a refusal that is known unread
 pub unread_named : (o : State) (q : Request) → refusal_of o q ≡ Some no.Storage → ⊥
 unread_named o (request.Plain p) = plain_named o p
-unread_named o request.Close = first_named (open_tests o) (refl, tt)
-unread_named o request.Preview = first_named (open_tests o) (refl, tt)
-unread_named o request.RoundText = first_named (open_tests o) (refl, tt)
-unread_named o (request.Report kind round) = first_named (round_tests o round) (refl, tt)
-unread_named o (request.Import id kind bytes) = first_named (import_tests o id kind bytes) (refl, (refl, (refl, (refl, tt))))
+unread_named o request.Close = first_named (open_tests o) refl
+unread_named o request.Preview = first_named (open_tests o) refl
+unread_named o request.RoundText = first_named (open_tests o) refl
+unread_named o (request.Report kind round) = first_named (round_tests o round) refl
+unread_named o (request.Import id kind bytes) = first_named (import_tests o id kind bytes) refl
 
 -- a refusal of a record, or a later one
 record_named : (n : ℕ) (r later : Option Refusal) → (later ≡ Some no.Storage → ⊥) → or_else (at_record n r) later ≡ Some no.Storage → ⊥
@@ -69,7 +69,7 @@ rows_named : (n : ℕ) (o : State) (rows : List Plain) → rows_refusal n o rows
 rows_named n o [] e = cc
 rows_named n o (p ∷ rows) e = record_named n (plain_refusal o p) (rows_refusal (suc n) (after_plain p o) rows) (rows_named (suc n) (after_plain p o) rows) e
 
-text_named : (o : State) (read : Result (List Plain) ImportFault) → text_refusal (as_read read) o ≡ Some no.Storage → ⊥
+text_named : (o : State) (read : Result (List Plain) ImportFault) → text_refusal (import_as_read read) o ≡ Some no.Storage → ⊥
 text_named o (Ok rows) e = rows_named 1 o rows e
 text_named o (Err Memory) e = cc
 text_named o (Err Header) e = cc

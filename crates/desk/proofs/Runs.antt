@@ -10,8 +10,8 @@ use Rattle.rolls.specs.declared.refusal.Refusal.{Refusal}
 use Rattle.rolls.specs.declared.request.Request.{Request}
 use Rattle.rolls.specs.State.{State}
 use Rattle.rolls.specs.Run.{Run, Step}
-use Rattle.allotment.specs.Layers.{layers}
-use Rattle.solver.specs.Sitting.{Sitting}
+use Rattle.outside.specs.Layers.{layers}
+use Rattle.solver.specs.SessionState.{SessionState}
 use Rattle.desk.specs.Keeping.{Begins, CarriesOut, StandsForOne}
 use Rattle.desk.specs.Sessions.{AnswersAtOnce, GoesOn, IsToldRight, RunsOn}
 
@@ -94,21 +94,21 @@ module _ (o m n : State) (all left rest : List Request) (q : Request) (a : Resul
 -- ---- the session
 
 -- all requests but the rest are answered by a run over which the session goes on
-pub record HasRunOn (office : State) (session : Option Sitting) (all rest : List Request) (answers : List (Result Reply Refusal)) (now : State) (kept : Option Sitting) : Type 0 where
+pub record HasRunOn (office : State) (session : Option SessionState) (all rest : List Request) (answers : List (Result Reply Refusal)) (now : State) (kept : Option SessionState) : Type 0 where
   pub done : List Request
   pub split : all ≡ done ++ rest
   pub run : RunsOn office session done answers now kept
 
 -- a run and one step more
-runs_on_more : (o : State) (s : Option Sitting) (first : List Request) (given : List (Result Reply Refusal)) (m : State) (u : Option Sitting) (n : State) (t : Option Sitting) (q : Request) (a : Result Reply Refusal)
+runs_on_more : (o : State) (s : Option SessionState) (first : List Request) (given : List (Result Reply Refusal)) (m : State) (u : Option SessionState) (n : State) (t : Option SessionState) (q : Request) (a : Result Reply Refusal)
     → RunsOn o s first given m u → Step layers m q a n → GoesOn m q a u t → IsToldRight m q a → AnswersAtOnce m u q a → RunsOn o s (first ++ q ∷ []) (given ++ a ∷ []) n t
 runs_on_more o s [] [] m u n t q a run step goes told at_once = (
   n,
   t,
   subst (λ (x : State). Step layers x q a n) run.0 step,
-  subst (λ (x : State). GoesOn x q a s t) run.0 (subst (λ (x : Option Sitting). GoesOn m q a x t) run.1 goes),
+  subst (λ (x : State). GoesOn x q a s t) run.0 (subst (λ (x : Option SessionState). GoesOn m q a x t) run.1 goes),
   subst (λ (x : State). IsToldRight x q a) run.0 told,
-  subst (λ (x : State). AnswersAtOnce x s q a) run.0 (subst (λ (x : Option Sitting). AnswersAtOnce m x q a) run.1 at_once),
+  subst (λ (x : State). AnswersAtOnce x s q a) run.0 (subst (λ (x : Option SessionState). AnswersAtOnce m x q a) run.1 at_once),
   (refl, refl),
 )
 runs_on_more o s [] (b ∷ given) m u n t q a run step goes told at_once = absurd run
@@ -116,7 +116,7 @@ runs_on_more o s (p ∷ first) [] m u n t q a run step goes told at_once = absur
 runs_on_more o s (p ∷ first) (b ∷ given) m u n t q a run step goes told at_once = (run.0, run.1, run.2, run.3, run.4, run.5, runs_on_more run.0 run.1 first given m u n t q a run.6 step goes told at_once)
 
 -- one more is answered
-pub one_more_on : (o : State) (s : Option Sitting) (m : State) (u : Option Sitting) (n : State) (t : Option Sitting) (all left rest : List Request) (q : Request) (a : Result Reply Refusal) (given answers : List (Result Reply Refusal))
+pub one_more_on : (o : State) (s : Option SessionState) (m : State) (u : Option SessionState) (n : State) (t : Option SessionState) (all left rest : List Request) (q : Request) (a : Result Reply Refusal) (given answers : List (Result Reply Refusal))
     → left ≡ q ∷ rest → answers ≡ given ++ a ∷ [] → HasRunOn o s all left given m u → Step layers m q a n → GoesOn m q a u t → IsToldRight m q a → AnswersAtOnce m u q a → HasRunOn o s all rest answers n t
 one_more_on o s m u n t all left rest q a given answers next added h step goes told at_once = record {
   done = h.done ++ q ∷ [];
@@ -125,7 +125,7 @@ one_more_on o s m u n t all left rest q a given answers next added h step goes t
 }
 
 -- all are answered
-pub run_on_all : (o : State) (s : Option Sitting) (n : State) (t : Option Sitting) (all rest : List Request) (answers : List (Result Reply Refusal)) → rest ≡ [] → HasRunOn o s all rest answers n t → RunsOn o s all answers n t
+pub run_on_all : (o : State) (s : Option SessionState) (n : State) (t : Option SessionState) (all rest : List Request) (answers : List (Result Reply Refusal)) → rest ≡ [] → HasRunOn o s all rest answers n t → RunsOn o s all answers n t
 run_on_all o s n t all rest answers none h =
     subst (λ (qs : List Request). RunsOn o s qs answers n t) (sym (h.split ∙ ap (λ qs. h.done ++ qs) none ∙ append-nil h.done)) h.run
 

@@ -12,7 +12,7 @@ use Rattle.rolls.specs.Rows.{row_of, after_changes, Turns}
 use Rattle.rolls.specs.declared.request.Request.{Request}
 use Rattle.rolls.specs.Fit.{IsFit}
 use Rattle.rolls.specs.Run.{Makes, refusal}
-use Rattle.allotment.specs.Layers.{layers}
+use Rattle.outside.specs.Layers.{layers}
 use Rattle.store.specs.Tables.{StandsFor, Opens}
 use Rattle.rolls.specs.declared.refusal.Refusal.{Refusal}
 use Rattle.rolls.specs.declared.refusal.Refusal.TheVariants as no

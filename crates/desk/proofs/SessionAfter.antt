@@ -4,7 +4,7 @@ use Rattle.std.specs.Prelude.{if◌then◌else◌}
 use Rattle.rolls.specs.State.{State, last_round, has_list}
 use Rattle.rolls.specs.Fit.{IsFit}
 use Rattle.rolls.specs.declared.request.Plain.{Plain}
-use Rattle.rolls.specs.declared.request.Plain.TheVariants.{PutSupervisor, PutProject, PutStudent, OpenRound, PutList, DropList, ReopenRound, GetSupervisor, GetProject, GetStudent, GetRound}
+use Rattle.rolls.specs.declared.request.Plain.TheVariants.{PutSupervisor, PutProject, PutStudent, OpenRound, PutList, DropList, ReopenRound}
 use Rattle.rolls.specs.declared.request.Reply.{Reply}
 use Rattle.rolls.specs.declared.request.Request.{Request}
 use Rattle.rolls.specs.declared.request.Request.TheVariants as request
@@ -12,9 +12,9 @@ use Rattle.rolls.specs.Reads.{is_read, changes_nothing}
 use Rattle.rolls.specs.Refusing.{plain_refusal, refusal_of}
 use Rattle.rolls.specs.Stepping.{after_plain}
 use Rattle.rolls.specs.Run.{Makes}
-use Rattle.solver.specs.Sitting.{Sitting}
-use Rattle.allotment.specs.Layers.{layers}
-use Rattle.allotment.specs.Sittings.{MayJoin}
+use Rattle.solver.specs.SessionState.{SessionState}
+use Rattle.outside.specs.Layers.{layers}
+use Rattle.outside.specs.Sittings.{MayJoin}
 use Rattle.rolls.specs.declared.fate.Fate.TheVariants.{Stays, Joins, Ends}
 use Rattle.desk.specs.Sessions.{plain_fate, fate_of, SitsAt}
 use Rattle.desk.specs.Inside.Sessions.{MayMeet}
@@ -22,23 +22,23 @@ use Rattle.desk.specs.Inside.Sessions.{MayMeet}
 -- ---- a change
 
 -- a student who is put is in no list, so the session sits as before
-put_stays : (o : State) (code label : List ℕ) (kept : Option Sitting) → SitsAt o kept → SitsAt (after_plain (PutStudent code label) o) kept
+put_stays : (o : State) (code label : List ℕ) (kept : Option SessionState) → SitsAt o kept → SitsAt (after_plain (PutStudent code label) o) kept
 put_stays o code label None sits = sits
 put_stays o code label (Some s) sits = record { is_open = sits.is_open; aim = sits.aim; named = sits.named; fit = sits.fit; here = sits.here; same = sits.same }
 
 -- who puts a first list may join
-put_joins : (o n : State) (student : List ℕ) (choices : List (List ℕ)) (kept : Option Sitting) → IsFit o → plain_refusal o (PutList student choices) ≡ None → has_list o (last_round o) student ≡ false → n ≡ after_plain (PutList student choices) o
+put_joins : (o n : State) (student : List ℕ) (choices : List (List ℕ)) (kept : Option SessionState) → IsFit o → plain_refusal o (PutList student choices) ≡ None → has_list o (last_round o) student ≡ false → n ≡ after_plain (PutList student choices) o
     → SitsAt o kept → IfSome kept (λ s. MayJoin n s student)
 put_joins o n student choices None fit allowed none after sits = sits
 put_joins o n student choices (Some s) fit allowed none after sits =
     record { before = o; sat = sits; put = record { fit = fit; none_yet = none; choices = choices; allowed = allowed; after = after } }
 
-list_meets : (o n : State) (student : List ℕ) (choices : List (List ℕ)) (kept : Option Sitting) → IsFit o → plain_refusal o (PutList student choices) ≡ None → n ≡ after_plain (PutList student choices) o → SitsAt o kept
+list_meets : (o n : State) (student : List ℕ) (choices : List (List ℕ)) (kept : Option SessionState) → IsFit o → plain_refusal o (PutList student choices) ≡ None → n ≡ after_plain (PutList student choices) o → SitsAt o kept
     → (has : Bool) → has_list o (last_round o) student ≡ has → MayMeet (if has then Ends else Joins student) n kept
 list_meets o n student choices kept fit allowed after sits true is = tt
 list_meets o n student choices kept fit allowed after sits false is = put_joins o n student choices kept fit allowed is after sits
 
-plain_meets : (o n : State) (p : Plain) (kept : Option Sitting) → IsFit o → plain_refusal o p ≡ None → is_read p ≡ false → n ≡ after_plain p o → SitsAt o kept → MayMeet (plain_fate o p) n kept
+plain_meets : (o n : State) (p : Plain) (kept : Option SessionState) → IsFit o → plain_refusal o p ≡ None → is_read p ≡ false → n ≡ after_plain p o → SitsAt o kept → MayMeet (plain_fate o p) n kept
 plain_meets o n (PutSupervisor code label quota) kept fit allowed change after sits = tt
 plain_meets o n (PutProject code label supervisor quota) kept fit allowed change after sits = tt
 plain_meets o n (PutStudent code label) kept fit allowed change after sits = subst (λ (x : State). SitsAt x kept) (sym after) (put_stays o code label kept sits)
@@ -46,13 +46,10 @@ plain_meets o n (OpenRound aim) kept fit allowed change after sits = tt
 plain_meets o n (PutList student choices) kept fit allowed change after sits = list_meets o n student choices kept fit allowed after sits (has_list o (last_round o) student) refl
 plain_meets o n (DropList student) kept fit allowed change after sits = tt
 plain_meets o n ReopenRound kept fit allowed change after sits = tt
-plain_meets o n (GetSupervisor code) kept fit allowed change after sits = absurd (cc)
-plain_meets o n (GetProject code) kept fit allowed change after sits = absurd (cc)
-plain_meets o n (GetStudent code) kept fit allowed change after sits = absurd (cc)
-plain_meets o n (GetRound round) kept fit allowed change after sits = absurd (cc)
+plain_meets o n _ kept fit allowed change after sits = absurd (cc)
 
 -- a session that sits in an office may meet its fate in the office that a change makes
-pub meets : (o n : State) (q : Request) (reply : Reply) (kept : Option Sitting) → IsFit o → refusal_of o q ≡ None → changes_nothing o q ≡ false → Makes layers o q reply n → SitsAt o kept → MayMeet (fate_of o q) n kept
+pub meets : (o n : State) (q : Request) (reply : Reply) (kept : Option SessionState) → IsFit o → refusal_of o q ≡ None → changes_nothing o q ≡ false → Makes layers o q reply n → SitsAt o kept → MayMeet (fate_of o q) n kept
 meets o n (request.Plain p) reply kept fit allowed change made sits = plain_meets o n p kept fit allowed change made.1 sits
 meets o n request.Close reply kept fit allowed change made sits = tt
 meets o n request.Preview reply kept fit allowed change made sits = absurd (cc)

@@ -5,7 +5,7 @@ use Rattle.rolls.specs.declared.row.Change.{Change}
 use Rattle.rolls.specs.declared.request.Request.{Request}
 use Rattle.rolls.specs.State.{State}
 use Rattle.rolls.specs.Rows.{Turns}
-use Rattle.allotment.specs.Changes.{MayChange}
+use Rattle.outside.specs.Changes.{MayChange}
 use Rattle.store.specs.Causes.{IsHinderedToSave}
 use Rattle.desk.specs.Keeping.{CarriesOut}
 

@@ -1,6 +1,6 @@
 -- What proofs need and no public clause says.
 pub mod Books
 pub mod Keeping
-pub mod Kept
+pub mod DeskState
 pub mod Saved
 pub mod Sessions

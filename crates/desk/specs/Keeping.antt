@@ -13,7 +13,7 @@ use Rattle.rolls.specs.Reads.{changes_nothing}
 use Rattle.rolls.specs.Refusing.{refusal_of}
 use Rattle.rolls.specs.Fit.{IsFit}
 use Rattle.rolls.specs.Run.{Run, Step, refusal}
-use Rattle.allotment.specs.Layers.{layers}
+use Rattle.outside.specs.Layers.{layers}
 use Rattle.store.specs.Tables.{StandsFor}
 
 -- The tables stand for the office. Where a fault of the disk has shut the connection it shows no tables, and

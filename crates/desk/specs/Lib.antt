@@ -1,6 +1,6 @@
 pub mod Books
 pub mod Keeping
-pub mod Kept
+pub mod DeskState
 pub mod Causes
 pub mod Saved
 pub mod Sessions

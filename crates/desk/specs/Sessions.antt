@@ -12,9 +12,9 @@ use Rattle.rolls.specs.declared.request.Reply.{Reply}
 use Rattle.rolls.specs.declared.request.Request.{Request}
 use Rattle.rolls.specs.declared.request.Request.TheVariants as request
 use Rattle.rolls.specs.Run.{Step, refusal}
-use Rattle.solver.specs.Sitting.{Sitting}
-use Rattle.allotment.specs.Layers.{layers}
-use Rattle.allotment.specs.Sittings.{SitsIn, IsOneMore}
+use Rattle.solver.specs.SessionState.{SessionState}
+use Rattle.outside.specs.Layers.{layers}
+use Rattle.outside.specs.Sittings.{IsSessionOf, IsOneMore}
 use Rattle.desk.specs.Keeping.{AnswersKept, AnswersRound}
 use Rattle.rolls.specs.declared.fate.Fate.{Fate}
 use Rattle.rolls.specs.declared.fate.Fate.TheVariants.{Stays, Starts, Joins, Ends}
@@ -33,24 +33,24 @@ fate_of o (request.Report kind round) = Stays
 fate_of o (request.Import id kind bytes) = if has_import o id then Stays else Ends
 
 -- a session that is kept stays, and where none is kept one is started
-abbrev pub IsStarted : Option Sitting → Option Sitting → Type 0
+abbrev pub IsStarted : Option SessionState → Option SessionState → Type 0
 IsStarted None new = IsTrue (is_some new)
 IsStarted (Some s) new = new ≡ Some s
 
 -- a session that is kept has one student more, or is dropped
-abbrev pub IsJoined : Option Sitting → Option Sitting → Type 0
+abbrev pub IsJoined : Option SessionState → Option SessionState → Type 0
 IsJoined None new = new ≡ None
 IsJoined (Some s) new = IfSome new (IsOneMore s)
 
 -- from the session before to the one after
-abbrev pub Goes : Fate → Option Sitting → Option Sitting → Type 0
+abbrev pub Goes : Fate → Option SessionState → Option SessionState → Type 0
 Goes Stays old new = new ≡ old
 Goes Starts old new = IsStarted old new
 Goes (Joins student) old new = IsJoined old new
 Goes Ends old new = new ≡ None
 
 -- the same over a request that was asked: a refused one leaves the session
-abbrev pub GoesOn : State → Request → Result Reply Refusal → Option Sitting → Option Sitting → Type 0
+abbrev pub GoesOn : State → Request → Result Reply Refusal → Option SessionState → Option SessionState → Type 0
 GoesOn o q (Ok reply) old new = Goes (fate_of o q) old new
 GoesOn o q (Err refusal) old new = new ≡ old
 
@@ -64,18 +64,18 @@ pub record IsToldRight (o : State) (q : Request) (a : Result Reply Refusal) : Ty
 
 -- What takes no memory is answered: a read of a round that is there, a kept import that comes once more, and a preview that is
 -- read from a session.
-pub record AnswersAtOnce (o : State) (kept : Option Sitting) (q : Request) (a : Result Reply Refusal) : Type 0 where
+pub record AnswersAtOnce (o : State) (kept : Option SessionState) (q : Request) (a : Result Reply Refusal) : Type 0 where
   pub round : AnswersRound o q a
   pub repeated : AnswersKept o q a
   pub preview : q ≡ request.Preview → refusal_of o q ≡ None → IsTrue (is_some kept) → IsOk a
 
 -- over a run: each request is a step of the office and told right, what takes no memory is answered, and the session goes on over each
-abbrev pub RunsOn : State → Option Sitting → List Request → List (Result Reply Refusal) → State → Option Sitting → Type 0
+abbrev pub RunsOn : State → Option SessionState → List Request → List (Result Reply Refusal) → State → Option SessionState → Type 0
 RunsOn o old [] [] n new = (n ≡ o) × (new ≡ old)
-RunsOn o old (q ∷ qs) (a ∷ answers) n new = (m : State) × (kept : Option Sitting) × Step layers o q a m × GoesOn o q a old kept × IsToldRight o q a × AnswersAtOnce o old q a × RunsOn m kept qs answers n new
+RunsOn o old (q ∷ qs) (a ∷ answers) n new = (m : State) × (kept : Option SessionState) × Step layers o q a m × GoesOn o q a old kept × IsToldRight o q a × AnswersAtOnce o old q a × RunsOn m kept qs answers n new
 RunsOn o old [] (a ∷ answers) n new = ⊥
 RunsOn o old (q ∷ qs) [] n new = ⊥
 
 -- a session that is kept sits in the office
-abbrev pub SitsAt : State → Option Sitting → Type 0
-SitsAt o kept = IfSome kept (λ s. SitsIn o s)
+abbrev pub SitsAt : State → Option SessionState → Type 0
+SitsAt o kept = IfSome kept (λ s. IsSessionOf o s)

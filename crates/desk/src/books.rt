@@ -8,13 +8,13 @@ ghost use Rattle.rolls.specs.Reads.{is_read, changes_nothing};
 ghost use Rattle.rolls.specs.Refusing.{plain_refusal, refusal_of};
 ghost use Rattle.rolls.specs.Rows.{Turns};
 ghost use Rattle.rolls.specs.Run.{Makes, MayRefuse, Step, refusal};
-ghost use Rattle.allotment.specs.Changes.{MayChange};
-ghost use Rattle.allotment.specs.Layers.{layers};
+ghost use Rattle.outside.specs.Changes.{MayChange};
+ghost use Rattle.outside.specs.Layers.{layers};
 ghost use Rattle.desk.specs.Keeping.{Keeps};
 ghost use Rattle.store.specs.Causes.{IsHinderedToSave};
 ghost use Rattle.store.specs.Saving.{AreActedOn, Saves};
 ghost use Rattle.desk.specs.Saved.{IsSaved};
-ghost use Rattle.desk.specs.Inside.Saved.{IsSettled};
+ghost use Rattle.desk.specs.Inside.Saved.{HasSettled};
 
 use office::Office;
 use rolls::{Done, Plain, Refusal, Reply, Request};
@@ -60,7 +60,7 @@ pub(crate) fn refusal_of_fault(fault: StoreFault) -> Refusal
 }
 
 /// What a request that changes the office makes of it.
-fn made(alloc: Global, office: &mut Office, request: Request) -> Result<Done, Refusal>
+fn make_change(alloc: Global, office: &mut Office, request: Request) -> Result<Done, Refusal>
     requires change { changes_nothing office.old request ≡ false }
     requires allowed { refusal_of office.old request ≡ None }
     ensures made { IfOk result (λ done. (refusal layers office.old request ≡ None) × Makes layers office.old request done.reply office.new) }
@@ -71,8 +71,8 @@ fn made(alloc: Global, office: &mut Office, request: Request) -> Result<Done, Re
 {
     match request {
         Request::Plain(plain) => Ok(office.make(plain)?),
-        Request::Close => Ok(allotment::close(alloc, office)?),
-        Request::Import { id, kind, bytes } => allotment::import(alloc, office, id, kind, bytes),
+        Request::Close => Ok(outside::close(alloc, office)?),
+        Request::Import { id, kind, bytes } => outside::import(alloc, office, id, kind, bytes),
         Request::Preview | Request::RoundText | Request::Report { .. } => unreachable!(),
     }
 }
@@ -113,21 +113,21 @@ impl<S: Alter> Books<S> {
     {
         self.keeps();
         let mut next = self.office.copy()?;
-        let done = match made(self.alloc, &mut next, request) {
+        let done = match make_change(self.alloc, &mut next, request) {
             Ok(done) => done,
             Err(refusal) => return Err(refusal),
         };
         next.fit();
-        self.settle(&mut next, done)
+        self.exchange(&mut next, done)
     }
 
     /// The changes are saved, and then the office and the next one are exchanged.
-    fn settle(&mut self, next: &mut Office, done: Done) -> Result<Reply, Refusal>
+    fn exchange(&mut self, next: &mut Office, done: Done) -> Result<Reply, Refusal>
         requires turns { let changes = done.changes in Turns changes.items self.old.office next.old }
         ensures ok { IfOk result (λ reply. (reply ≡ done.reply) × (self.new.office ≡ next.old)) }
         ensures err { IfErr result (λ refusal. ((refusal ≡ Refusal.Memory) ⊎ (refusal ≡ Refusal.Storage)) × (self.new.office ≡ self.old.office)) }
         ensures tables { Keeps (state S.Store self.new.store) self.new.office }
-        ensures saved { let changes = done.changes in IsSettled (Saves changes.items) (IsHinderedToSave changes.items) result (state S.Store self.old.store) (state S.Store self.new.store) }
+        ensures saved { let changes = done.changes in HasSettled (Saves changes.items) (IsHinderedToSave changes.items) result (state S.Store self.old.store) (state S.Store self.new.store) }
         ensures acted_on { AreActedOn (state S.Store self.old.store).now.schema → result ≡ Err Refusal.Storage }
     {
         match self.store.save(&done.changes) {

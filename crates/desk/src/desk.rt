@@ -8,12 +8,12 @@ ghost use Rattle.rolls.specs.Fit.{IsFit};
 ghost use Rattle.rolls.specs.Reads.{changes_nothing};
 ghost use Rattle.rolls.specs.Refusing.{refusal_of};
 ghost use Rattle.rolls.specs.Run.{Step, Run, refusal};
-ghost use Rattle.allotment.specs.Layers.{layers};
+ghost use Rattle.outside.specs.Layers.{layers};
 ghost use Rattle.store.specs.Opening.{IsLeftUnopened};
 ghost use Rattle.store.specs.Reading.{AreListed};
 ghost use Rattle.store.specs.Tables.{HasNone};
 ghost use Rattle.desk.specs.Keeping.{Begins, Keeps, StandsForOne, needs_no_table};
-ghost use Rattle.desk.specs.Kept.{IsOpened};
+ghost use Rattle.desk.specs.DeskState.{IsOpened};
 ghost use Rattle.desk.specs.Saved.{IsSaved};
 ghost use Rattle.desk.specs.Sessions.{AnswersAtOnce, GoesOn, IsToldRight, RunsOn, SitsAt};
 
@@ -36,11 +36,11 @@ pub struct Desk<S: Alter> {
 }
 
 impl<S: Alter> Model for Desk<S> {
-    ghost use Rattle.desk.specs.Kept.{Kept};
-    ghost use Rattle.desk.specs.Inside.Kept.{kept_code};
+    ghost use Rattle.desk.specs.DeskState.{DeskState};
+    ghost use Rattle.desk.specs.Inside.DeskState.{kept_code};
     ghost use Rattle.desk.specs.Sessions.{SitsAt};
 
-    ghost Value = { Kept S };
+    ghost Value = { DeskState S };
 
     ghost coded = { kept_code S.code };
 
@@ -205,8 +205,8 @@ impl<S: Alter> Desk<S> {
             Request::Plain(plain) => self.books.read(plain),
             Request::Close => unreachable!(),
             Request::Preview => self.preview(),
-            Request::RoundText => Ok(allotment::round_text(self.alloc, office)?),
-            Request::Report { kind, round } => allotment::report(self.alloc, office, kind, round),
+            Request::RoundText => Ok(outside::round_text(self.alloc, office)?),
+            Request::Report { kind, round } => outside::report(self.alloc, office, kind, round),
             Request::Import { id, .. } => match office.kept_rows(id.as_str()) {
                 Some(rows) => Ok(Reply::Rows(rows)),
                 None => unreachable!(),
@@ -226,10 +226,10 @@ impl<S: Alter> Desk<S> {
     {
         self.keeps();
         if let Some(session) = &self.session {
-            return Ok(allotment::read_preview(session));
+            return Ok(outside::read_preview(session));
         }
-        let session = allotment::sit(self.alloc, &self.books.office)?;
-        let reply = allotment::read_preview(&session);
+        let session = outside::sit(self.alloc, &self.books.office)?;
+        let reply = outside::read_preview(&session);
         self.session = Some(session);
         Ok(reply)
     }

@@ -1,7 +1,7 @@
 //! What becomes of the session that a desk keeps.
 
 ghost use Rattle.std.specs.Prelude.{◌≡◌, IfOk, IfSome};
-ghost use Rattle.allotment.specs.Sittings.{MayJoin};
+ghost use Rattle.outside.specs.Sittings.{MayJoin};
 ghost use Rattle.desk.specs.Sessions.{list_fate, plain_fate, fate_of, Goes, IsJoined, SitsAt};
 ghost use Rattle.desk.specs.Inside.Sessions.{MayMeet};
 
@@ -59,7 +59,7 @@ fn joined(alloc: Global, office: &Office, kept: Option<Session>, student: &str) 
     let Some(mut session) = kept else {
         return None;
     };
-    match allotment::join(alloc, office, &mut session, student) {
+    match outside::join(alloc, office, &mut session, student) {
         Ok(()) => Some(session),
         Err(_) => None,
     }

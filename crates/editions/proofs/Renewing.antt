@@ -23,7 +23,7 @@ use Rattle.rolls.proofs.Found.{found_key}
 use Rattle.rolls.proofs.LastRound.{aimed_found}
 use Rattle.rolls.proofs.RowKeys.{same_row_is}
 use Rattle.editions.specs.declared.Edition.TheVariants.{First, Second, Third}
-use Rattle.editions.specs.Editions.{swapped, swapped_key, row_at, aims_of, HaveNoLater, AreRowsIn, Renews}
+use Rattle.editions.specs.Editions.{renamed, renamed_key, row_at, aims_of, HaveNoLater, AreRowsIn, Renews}
 use Rattle.editions.proofs.RowsMore.{in_both, some_or, apart_more, first_none, apart_both, apart_first}
 use Rattle.editions.proofs.Swapping.{apart_swapped, in_swapped, key_twice, twice}
 
@@ -110,7 +110,7 @@ aim_there o fit n greedy =
 
 -- ---- names swapped
 
-same_name : {E : Type 0} (to_row : E → Row) → ((e : E) → swapped (to_row e) ≡ to_row e) → (x : Option E) → option_map swapped (option_map to_row x) ≡ option_map to_row x
+same_name : {E : Type 0} (to_row : E → Row) → ((e : E) → renamed (to_row e) ≡ to_row e) → (x : Option E) → option_map renamed (option_map to_row x) ≡ option_map to_row x
 same_name to_row same None = refl
 same_name to_row same (Some e) = ap Some (same e)
 
@@ -123,7 +123,7 @@ IsPlain (key.Round n) = Unit {0}
 IsPlain (key.Import id) = Unit {0}
 IsPlain _ = ⊥
 
-pub plain_same : (k : RowKey) → IsPlain k → (o : State) → option_map swapped (row_of o k) ≡ row_of o k
+pub plain_same : (k : RowKey) → IsPlain k → (o : State) → option_map renamed (row_of o k) ≡ row_of o k
 plain_same (key.Supervisor code) is o = same_name supervisor_row (λ (e : Supervisor). refl) (supervisor_of o code)
 plain_same (key.Project code) is o = same_name project_row (λ (e : Project). refl) (project_of o code)
 plain_same (key.Student code) is o = same_name student_row (λ (e : Student). refl) (student_of o code)
@@ -136,22 +136,22 @@ plain_same (key.OldChoice n s p) is o = elim is [ ]
 plain_same (key.OldPlacement s) is o = elim is [ ]
 
 -- nor has the aim of a round
-pub aim_same : (o : State) (n : ℕ) → option_map swapped (row_of o (key.RoundAim n)) ≡ row_of o (key.RoundAim n)
+pub aim_same : (o : State) (n : ℕ) → option_map renamed (row_of o (key.RoundAim n)) ≡ row_of o (key.RoundAim n)
 aim_same o n = same_name aim_row (λ (e : RoundAim). refl) (round_aim_of o n)
 
-swaps : (rows : List Row) (o : State) → AreRowsIn Second rows o → AreRowsOf (map swapped rows) o
+swaps : (rows : List Row) (o : State) → AreRowsIn Second rows o → AreRowsOf (map renamed rows) o
 swaps rows o in_it = record {
   apart = apart_swapped rows ∙ in_it.apart;
-  each = λ k. in_swapped rows k ∙ ap (option_map swapped) (in_it.each (swapped_key k)) ∙ twice (row_of o (swapped_key (swapped_key k))) ∙ ap (row_of o) (key_twice k);
+  each = λ k. in_swapped rows k ∙ ap (option_map renamed) (in_it.each (renamed_key k)) ∙ twice (row_of o (renamed_key (renamed_key k))) ∙ ap (row_of o) (key_twice k);
 }
 
-swaps_back : (rows : List Row) (o : State) → AreRowsOf (map swapped rows) o → AreRowsIn Second rows o
+swaps_back : (rows : List Row) (o : State) → AreRowsOf (map renamed rows) o → AreRowsIn Second rows o
 swaps_back rows o of = record {
   apart = sym (apart_swapped rows) ∙ of.apart;
   each = λ k.
       sym (twice (row_in rows k))
-      ∙ ap (λ m. option_map swapped (option_map swapped (row_in rows m))) (sym (key_twice k))
-      ∙ ap (option_map swapped) (sym (in_swapped rows (swapped_key k)) ∙ of.each (swapped_key k));
+      ∙ ap (λ m. option_map renamed (option_map renamed (row_in rows m))) (sym (key_twice k))
+      ∙ ap (option_map renamed) (sym (in_swapped rows (renamed_key k)) ∙ of.each (renamed_key k));
   allowed = tt;
 }
 

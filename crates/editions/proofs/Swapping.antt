@@ -11,30 +11,30 @@ use Rattle.rolls.specs.declared.row.RowKey.TheVariants as key
 use Rattle.rolls.specs.Rows.{key_of, same_row}
 use Rattle.rolls.specs.From.{row_in, are_apart}
 use Rattle.rolls.proofs.RowKeys.{same_row_is, same_row_self}
-use Rattle.editions.specs.Editions.{swapped, swapped_key, is_old}
+use Rattle.editions.specs.Editions.{renamed, renamed_key, is_old}
 
-pub key_swapped : (r : Row) → key_of (swapped r) ≡ swapped_key (key_of r)
+pub key_swapped : (r : Row) → key_of (renamed r) ≡ renamed_key (key_of r)
 key_swapped (row.Choice n s p c) = refl
 key_swapped (row.Placement s n c k) = refl
 key_swapped (row.OldChoice n s p c) = refl
 key_swapped (row.OldPlacement s n c k) = refl
 key_swapped _ = refl
 
-pub key_twice : (k : RowKey) → swapped_key (swapped_key k) ≡ k
+pub key_twice : (k : RowKey) → renamed_key (renamed_key k) ≡ k
 key_twice (key.Choice n s p) = refl
 key_twice (key.Placement s) = refl
 key_twice (key.OldChoice n s p) = refl
 key_twice (key.OldPlacement s) = refl
 key_twice _ = refl
 
-pub row_twice : (r : Row) → swapped (swapped r) ≡ r
+pub row_twice : (r : Row) → renamed (renamed r) ≡ r
 row_twice (row.Choice n s p c) = refl
 row_twice (row.Placement s n c k) = refl
 row_twice (row.OldChoice n s p c) = refl
 row_twice (row.OldPlacement s n c k) = refl
 row_twice _ = refl
 
-pub twice : (x : Option Row) → option_map swapped (option_map swapped x) ≡ x
+pub twice : (x : Option Row) → option_map renamed (option_map renamed x) ≡ x
 twice None = refl
 twice (Some r) = ap Some (row_twice r)
 
@@ -47,35 +47,35 @@ equal_keys : (k l : RowKey) → k ≡ l → same_row k l ≡ true
 equal_keys k l e = subst (λ m. same_row k m ≡ true) e (same_row_self k)
 
 -- a key is another swapped where that is the one swapped
-same_swapped : (k l : RowKey) → same_row (swapped_key k) l ≡ same_row k (swapped_key l)
+same_swapped : (k l : RowKey) → same_row (renamed_key k) l ≡ same_row k (renamed_key l)
 same_swapped k l = same_tests _ _
-    (λ h. equal_keys k (swapped_key l) (sym (key_twice k) ∙ ap swapped_key (same_row_is (swapped_key k) l h)))
-    (λ h. equal_keys (swapped_key k) l (ap swapped_key (same_row_is k (swapped_key l) h) ∙ key_twice l))
+    (λ h. equal_keys k (renamed_key l) (sym (key_twice k) ∙ ap renamed_key (same_row_is (renamed_key k) l h)))
+    (λ h. equal_keys (renamed_key k) l (ap renamed_key (same_row_is k (renamed_key l) h) ∙ key_twice l))
 
-same_of : (k : RowKey) (r : Row) → same_row k (key_of (swapped r)) ≡ same_row (swapped_key k) (key_of r)
+same_of : (k : RowKey) (r : Row) → same_row k (key_of (renamed r)) ≡ same_row (renamed_key k) (key_of r)
 same_of k r = ap (same_row k) (key_swapped r) ∙ sym (same_swapped k (key_of r))
 
-mapped_cond : (b : Bool) (r : Row) (x : Option Row) → cond b (Some (swapped r)) (option_map swapped x) ≡ option_map swapped (cond b (Some r) x)
+mapped_cond : (b : Bool) (r : Row) (x : Option Row) → cond b (Some (renamed r)) (option_map renamed x) ≡ option_map renamed (cond b (Some r) x)
 mapped_cond true r x = refl
 mapped_cond false r x = refl
 
 -- what is found among rows that are swapped
-pub in_swapped : (rows : List Row) (k : RowKey) → row_in (map swapped rows) k ≡ option_map swapped (row_in rows (swapped_key k))
+pub in_swapped : (rows : List Row) (k : RowKey) → row_in (map renamed rows) k ≡ option_map renamed (row_in rows (renamed_key k))
 in_swapped [] k = refl
 in_swapped (r ∷ rows) k =
-    ap (λ b. cond b (Some (swapped r)) (row_in (map swapped rows) k)) (same_of k r)
-    ∙ ap (λ x. cond (same_row (swapped_key k) (key_of r)) (Some (swapped r)) x) (in_swapped rows k)
-    ∙ mapped_cond (same_row (swapped_key k) (key_of r)) r (row_in rows (swapped_key k))
+    ap (λ b. cond b (Some (renamed r)) (row_in (map renamed rows) k)) (same_of k r)
+    ∙ ap (λ x. cond (same_row (renamed_key k) (key_of r)) (Some (renamed r)) x) (in_swapped rows k)
+    ∙ mapped_cond (same_row (renamed_key k) (key_of r)) r (row_in rows (renamed_key k))
 
-any_swapped : (k : RowKey) (rows : List Row) → list_any (λ s. same_row (swapped_key k) (key_of s)) (map swapped rows) ≡ list_any (λ s. same_row k (key_of s)) rows
+any_swapped : (k : RowKey) (rows : List Row) → list_any (λ s. same_row (renamed_key k) (key_of s)) (map renamed rows) ≡ list_any (λ s. same_row k (key_of s)) rows
 any_swapped k [] = refl
-any_swapped k (r ∷ rows) = λ i. (same_of (swapped_key k) r ∙ ap (λ m. same_row m (key_of r)) (key_twice k)) i || any_swapped k rows i
+any_swapped k (r ∷ rows) = λ i. (same_of (renamed_key k) r ∙ ap (λ m. same_row m (key_of r)) (key_twice k)) i || any_swapped k rows i
 
 -- no key stands twice where none did
-pub apart_swapped : (rows : List Row) → are_apart (map swapped rows) ≡ are_apart rows
+pub apart_swapped : (rows : List Row) → are_apart (map renamed rows) ≡ are_apart rows
 apart_swapped [] = refl
 apart_swapped (r ∷ rows) =
-    λ i. not ((ap (λ k. list_any (λ s. same_row k (key_of s)) (map swapped rows)) (key_swapped r) ∙ any_swapped (key_of r) rows) i) && apart_swapped rows i
+    λ i. not ((ap (λ k. list_any (λ s. same_row k (key_of s)) (map renamed rows)) (key_swapped r) ∙ any_swapped (key_of r) rows) i) && apart_swapped rows i
 
 -- ---- rows of tables of earlier editions
 

@@ -10,7 +10,7 @@ use Rattle.rolls.specs.State.{State}
 use Rattle.rolls.specs.Rows.{key_of, same_row, row_of, after_change, after_changes}
 use Rattle.rolls.specs.From.{row_in, are_apart}
 use Rattle.editions.specs.declared.Edition.TheVariants.{First, Second, Third}
-use Rattle.editions.specs.Editions.{swapped, swapped_key, row_at, aims_of, is_old, taken, moves, upgrade, Upgrades}
+use Rattle.editions.specs.Editions.{renamed, renamed_key, row_at, aims_of, is_old, removal_of, renaming_changes, upgrade, Upgrades}
 use Rattle.editions.proofs.RowsMore.{added, apart_both, in_both, some_or}
 use Rattle.editions.proofs.Swapping.{apart_old, apart_swapped, in_old, in_swapped, is_old_key, key_twice, twice}
 use Rattle.editions.proofs.Renewing.{IsNoAim, aim_same, aim_there, aims_at, aims_else, apart_aims, by_aim, first_else, new_aim, plain_same}
@@ -27,9 +27,9 @@ left_by false r None y = refl
 left_by false r (Some s) y = refl
 
 -- what stands at a key once rows are taken
-taken_out : (k : RowKey) (xs : List Row) (f : RowKey → Option Row) → after_changes (map taken xs) f k ≡ cond (is_some (row_in xs k)) None (f k)
+taken_out : (k : RowKey) (xs : List Row) (f : RowKey → Option Row) → after_changes (map removal_of xs) f k ≡ cond (is_some (row_in xs k)) None (f k)
 taken_out k [] f = refl
-taken_out k (x ∷ xs) f = taken_out k xs (after_change (taken x) f) ∙ left_by (same_row k (key_of x)) x (row_in xs k) (f k)
+taken_out k (x ∷ xs) f = taken_out k xs (after_change (removal_of x) f) ∙ left_by (same_row k (key_of x)) x (row_in xs k) (f k)
 
 gone : (x : Option Row) → cond (is_some x) None x ≡ None
 gone None = refl
@@ -42,30 +42,30 @@ module _ (rows : List Row) (more : List Row) (o : State) (f : RowKey → Option 
   olds = filter is_old rows
 
   -- a row that comes in the place of one that goes is none of the others
-  moved_none : (k : RowKey) (r : Row) → row_in (map swapped olds) k ≡ Some r → row_in more k ≡ None
-  moved_none k r found = by_aim (λ k. row_in (map swapped olds) k ≡ Some r → row_in more k ≡ None) k
-      (λ n there. absurd (let e : None ≡ Some r = sym (in_swapped olds (key.RoundAim n) ∙ ap (option_map swapped) (in_old (key.RoundAim n) rows)) ∙ there in cc))
+  moved_none : (k : RowKey) (r : Row) → row_in (map renamed olds) k ≡ Some r → row_in more k ≡ None
+  moved_none k r found = by_aim (λ k. row_in (map renamed olds) k ≡ Some r → row_in more k ≡ None) k
+      (λ n there. absurd (let e : None ≡ Some r = sym (in_swapped olds (key.RoundAim n) ∙ ap (option_map renamed) (in_old (key.RoundAim n) rows)) ∙ there in cc))
       (λ other there. more_else k other) found
 
   -- what stands at a key after the changes
-  moved_at : (k : RowKey) → after_changes (moves rows more) f k
-      ≡ option_map_or Some (option_map_or Some (option_map swapped (cond (is_old_key (swapped_key k)) (row_in rows (swapped_key k)) None)) (row_in more k)) (cond (is_some (cond (is_old_key k) (row_in rows k) None)) None (f k))
+  moved_at : (k : RowKey) → after_changes (renaming_changes rows more) f k
+      ≡ option_map_or Some (option_map_or Some (option_map renamed (cond (is_old_key (renamed_key k)) (row_in rows (renamed_key k)) None)) (row_in more k)) (cond (is_some (cond (is_old_key k) (row_in rows k) None)) None (f k))
   moved_at k =
-      ap (λ (g : RowKey → Option Row). g k) (after_both (map taken olds) (map Add (map swapped olds ++ more)) f)
-      ∙ added k (map swapped olds ++ more) (after_changes (map taken olds) f) (apart_both (map swapped olds) more (apart_swapped olds ∙ apart_old rows apart) more_apart moved_none)
-      ∙ ap (λ x. option_map_or Some x (after_changes (map taken olds) f k)) (in_both (map swapped olds) more k ∙ ap (λ x. option_map_or Some x (row_in more k)) (in_swapped olds k ∙ ap (option_map swapped) (in_old (swapped_key k) rows)))
-      ∙ ap (λ x. option_map_or Some (option_map_or Some (option_map swapped (cond (is_old_key (swapped_key k)) (row_in rows (swapped_key k)) None)) (row_in more k)) x) (taken_out k olds f ∙ ap (λ x. cond (is_some x) None (f k)) (in_old k rows))
+      ap (λ (g : RowKey → Option Row). g k) (after_both (map removal_of olds) (map Add (map renamed olds ++ more)) f)
+      ∙ added k (map renamed olds ++ more) (after_changes (map removal_of olds) f) (apart_both (map renamed olds) more (apart_swapped olds ∙ apart_old rows apart) more_apart moved_none)
+      ∙ ap (λ x. option_map_or Some x (after_changes (map removal_of olds) f k)) (in_both (map renamed olds) more k ∙ ap (λ x. option_map_or Some x (row_in more k)) (in_swapped olds k ∙ ap (option_map renamed) (in_old (renamed_key k) rows)))
+      ∙ ap (λ x. option_map_or Some (option_map_or Some (option_map renamed (cond (is_old_key (renamed_key k)) (row_in rows (renamed_key k)) None)) (row_in more k)) x) (taken_out k olds f ∙ ap (λ x. cond (is_some x) None (f k)) (in_old k rows))
 
   -- a key of a row that has no other name
   plain_at : (k : RowKey) → IsNoAim k → option_map_or Some (row_in more k) (f k) ≡ row_at Second o k
   plain_at k other = ap (λ x. option_map_or Some x (f k)) (more_else k other) ∙ stands k other
 
   -- a key of a row that came in the place of another
-  new_at : (k : RowKey) → IsNoAim k → IsNoAim (swapped_key k) → row_of o (swapped_key k) ≡ None → option_map_or Some (option_map_or Some (option_map swapped (row_in rows (swapped_key k))) (row_in more k)) (f k) ≡ row_of o k
+  new_at : (k : RowKey) → IsNoAim k → IsNoAim (renamed_key k) → row_of o (renamed_key k) ≡ None → option_map_or Some (option_map_or Some (option_map renamed (row_in rows (renamed_key k))) (row_in more k)) (f k) ≡ row_of o k
   new_at k other swapped_other none =
-      ap (λ x. option_map_or Some (option_map_or Some (option_map swapped (row_in rows (swapped_key k))) x) (f k)) (more_else k other)
-      ∙ ap (λ x. option_map_or Some x (f k)) (some_or (option_map swapped (row_in rows (swapped_key k))) ∙ ap (option_map swapped) (each (swapped_key k) swapped_other) ∙ twice (row_of o (swapped_key (swapped_key k))) ∙ ap (row_of o) (key_twice k))
-      ∙ ap (λ x. option_map_or Some (row_of o k) x) (stands k other ∙ ap (option_map swapped) none)
+      ap (λ x. option_map_or Some (option_map_or Some (option_map renamed (row_in rows (renamed_key k))) x) (f k)) (more_else k other)
+      ∙ ap (λ x. option_map_or Some x (f k)) (some_or (option_map renamed (row_in rows (renamed_key k))) ∙ ap (option_map renamed) (each (renamed_key k) swapped_other) ∙ twice (row_of o (renamed_key (renamed_key k))) ∙ ap (row_of o) (key_twice k))
+      ∙ ap (λ x. option_map_or Some (row_of o k) x) (stands k other ∙ ap (option_map renamed) none)
       ∙ some_or (row_of o k)
 
   -- a key of a row that went
@@ -74,7 +74,7 @@ module _ (rows : List Row) (more : List Row) (o : State) (f : RowKey → Option 
       ap (λ x. option_map_or Some x (cond (is_some (row_in rows k)) None (f k))) (more_else k other)
       ∙ ap (λ x. cond (is_some x) None (f k)) (each k other) ∙ ap (λ x. cond (is_some (row_at Second o k)) None x) (stands k other) ∙ gone (row_at Second o k)
 
-  pub moved_else : (k : RowKey) → IsNoAim k → after_changes (moves rows more) f k ≡ row_of o k
+  pub moved_else : (k : RowKey) → IsNoAim k → after_changes (renaming_changes rows more) f k ≡ row_of o k
   moved_else (key.Supervisor code) other = moved_at (key.Supervisor code) ∙ plain_at (key.Supervisor code) other ∙ plain_same (key.Supervisor code) tt o
   moved_else (key.Project code) other = moved_at (key.Project code) ∙ plain_at (key.Project code) other ∙ plain_same (key.Project code) tt o
   moved_else (key.Student code) other = moved_at (key.Student code) ∙ plain_at (key.Student code) other ∙ plain_same (key.Student code) tt o
@@ -87,7 +87,7 @@ module _ (rows : List Row) (more : List Row) (o : State) (f : RowKey → Option 
   moved_else (key.RoundAim n) other = absurd (other n refl)
 
   -- the aim of a round comes with the others, or stands
-  pub moved_aim : (n : ℕ) → after_changes (moves rows more) f (key.RoundAim n) ≡ option_map_or Some (row_in more (key.RoundAim n)) (f (key.RoundAim n))
+  pub moved_aim : (n : ℕ) → after_changes (renaming_changes rows more) f (key.RoundAim n) ≡ option_map_or Some (row_in more (key.RoundAim n)) (f (key.RoundAim n))
   moved_aim n = moved_at (key.RoundAim n)
 
 -- the changes turn the rows of the office

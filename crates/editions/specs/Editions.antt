@@ -16,27 +16,27 @@ use Rattle.editions.specs.declared.Edition.{Edition}
 use Rattle.editions.specs.declared.Edition.TheVariants.{First, Second, Third}
 
 -- a row of a table of earlier editions as one of the table that took its place, and the other way round
-abbrev pub swapped : Row → Row
-swapped (row.Choice round student place project) = row.OldChoice round student place project
-swapped (row.Placement student round project rank) = row.OldPlacement student round project rank
-swapped (row.OldChoice round student place project) = row.Choice round student place project
-swapped (row.OldPlacement student round project rank) = row.Placement student round project rank
-swapped r = r
+abbrev pub renamed : Row → Row
+renamed (row.Choice round student place project) = row.OldChoice round student place project
+renamed (row.Placement student round project rank) = row.OldPlacement student round project rank
+renamed (row.OldChoice round student place project) = row.Choice round student place project
+renamed (row.OldPlacement student round project rank) = row.Placement student round project rank
+renamed r = r
 
 -- the same of a key
-abbrev pub swapped_key : RowKey → RowKey
-swapped_key (key.Choice round student place) = key.OldChoice round student place
-swapped_key (key.Placement student) = key.OldPlacement student
-swapped_key (key.OldChoice round student place) = key.Choice round student place
-swapped_key (key.OldPlacement student) = key.Placement student
-swapped_key k = k
+abbrev pub renamed_key : RowKey → RowKey
+renamed_key (key.Choice round student place) = key.OldChoice round student place
+renamed_key (key.Placement student) = key.OldPlacement student
+renamed_key (key.OldChoice round student place) = key.Choice round student place
+renamed_key (key.OldPlacement student) = key.Placement student
+renamed_key k = k
 
 -- the row that an office has at a key in an edition: lists and placements stand in other tables before the third, and rounds have no
 -- aim before the second
 abbrev pub row_at : Edition → State → RowKey → Option Row
 row_at First o (key.RoundAim round) = None
-row_at First o k = option_map swapped (row_of o (swapped_key k))
-row_at Second o k = option_map swapped (row_of o (swapped_key k))
+row_at First o k = option_map renamed (row_of o (renamed_key k))
+row_at Second o k = option_map renamed (row_of o (renamed_key k))
 row_at Third o k = row_of o k
 
 -- the first edition has greedy rounds alone
@@ -58,8 +58,8 @@ aims_of (r ∷ rows) = aims_of rows
 
 -- what the rows of an edition are in the latest
 abbrev pub renewed : Edition → List Row → List Row
-renewed First rows = map swapped (rows ++ aims_of rows)
-renewed Second rows = map swapped rows
+renewed First rows = map renamed (rows ++ aims_of rows)
+renewed Second rows = map renamed rows
 renewed Third rows = rows
 
 -- whether a row is of a table of earlier editions
@@ -69,17 +69,17 @@ is_old (row.OldPlacement student round project rank) = true
 is_old _ = false
 
 -- its removal
-abbrev pub taken : Row → Change
-taken r = Take (key_of r)
+abbrev pub removal_of : Row → Change
+removal_of r = Take (key_of r)
 
 -- the changes by which rows of earlier editions leave their tables for those that took their place, and others come beside them
-abbrev pub moves : List Row → List Row → List Change
-moves rows more = map taken (filter is_old rows) ++ map Add (map swapped (filter is_old rows) ++ more)
+abbrev pub renaming_changes : List Row → List Row → List Change
+renaming_changes rows more = map removal_of (filter is_old rows) ++ map Add (map renamed (filter is_old rows) ++ more)
 
 -- the changes that bring the rows of an edition to the latest
 abbrev pub upgrade : Edition → List Row → List Change
-upgrade First rows = moves rows (aims_of rows)
-upgrade Second rows = moves rows []
+upgrade First rows = renaming_changes rows (aims_of rows)
+upgrade Second rows = renaming_changes rows []
 upgrade Third rows = []
 
 -- no row is the aim of a round where rounds have none

@@ -42,8 +42,8 @@ fn aims_of(alloc: Global, rows: &[Row]) -> Result<Vec<Row>, AllocError>
 }
 
 /// A row of a table of earlier editions as one of the table that took its place, and the other way round.
-fn swapped(row: Row) -> Row
-    ensures { result ≡ says.swapped row }
+fn renamed(row: Row) -> Row
+    ensures { result ≡ says.renamed row }
 {
     match row {
         Row::Choice {
@@ -95,12 +95,12 @@ fn swapped(row: Row) -> Row
 }
 
 /// The same of each of these rows.
-fn all_swapped(alloc: Global, rows: Vec<Row>) -> Result<Vec<Row>, AllocError>
-    ensures { IfOk result (λ all. all.items ≡ map says.swapped rows.items) }
+fn all_renamed(alloc: Global, rows: Vec<Row>) -> Result<Vec<Row>, AllocError>
+    ensures { IfOk result (λ all. all.items ≡ map says.renamed rows.items) }
 {
     let mut all = Vec::with_capacity(alloc, rows.len())?;
     for row in rows {
-        all.push(swapped(row))?;
+        all.push(renamed(row))?;
     }
     Ok(all)
 }
@@ -113,9 +113,9 @@ pub fn renewed(alloc: Global, edition: Edition, mut rows: Vec<Row>) -> Result<Ve
         Edition::First => {
             let mut aims = aims_of(alloc, &rows)?;
             rows.append(&mut aims)?;
-            all_swapped(alloc, rows)
+            all_renamed(alloc, rows)
         }
-        Edition::Second => all_swapped(alloc, rows),
+        Edition::Second => all_renamed(alloc, rows),
         Edition::Third => Ok(rows),
     }
 }
@@ -143,8 +143,8 @@ fn old_key(alloc: Global, row: &Row) -> Result<Option<RowKey>, AllocError>
 }
 
 /// A row of a table of earlier editions as one of the table that took its place; none of another row.
-fn moved(alloc: Global, row: &Row) -> Result<Option<Row>, AllocError>
-    ensures { IfOk result (λ new. new ≡ cond (says.is_old row.now) (Some (says.swapped row.now)) None) }
+fn old_renamed(alloc: Global, row: &Row) -> Result<Option<Row>, AllocError>
+    ensures { IfOk result (λ new. new ≡ cond (says.is_old row.now) (Some (says.renamed row.now)) None) }
 {
     match row {
         Row::OldChoice {
@@ -181,9 +181,9 @@ fn moved(alloc: Global, row: &Row) -> Result<Option<Row>, AllocError>
     }
 }
 
-/// The removals of the rows of tables of earlier editions.
-fn removals(alloc: Global, rows: &[Row]) -> Result<Vec<Change>, AllocError>
-    ensures { IfOk result (λ changes. changes.items ≡ map says.taken (filter says.is_old rows.now)) }
+/// The old_removals of the rows of tables of earlier editions.
+fn old_removals(alloc: Global, rows: &[Row]) -> Result<Vec<Change>, AllocError>
+    ensures { IfOk result (λ changes. changes.items ≡ map says.removal_of (filter says.is_old rows.now)) }
 {
     let mut changes = Vec::new(alloc);
     for row in rows {
@@ -195,12 +195,12 @@ fn removals(alloc: Global, rows: &[Row]) -> Result<Vec<Change>, AllocError>
 }
 
 /// Those rows as they stand in the tables that took their place.
-fn all_moved(alloc: Global, rows: &[Row]) -> Result<Vec<Row>, AllocError>
-    ensures { IfOk result (λ all. all.items ≡ map says.swapped (filter says.is_old rows.now)) }
+fn all_old_renamed(alloc: Global, rows: &[Row]) -> Result<Vec<Row>, AllocError>
+    ensures { IfOk result (λ all. all.items ≡ map says.renamed (filter says.is_old rows.now)) }
 {
     let mut all = Vec::new(alloc);
     for row in rows {
-        if let Some(new) = moved(alloc, row)? {
+        if let Some(new) = old_renamed(alloc, row)? {
             all.push(new)?;
         }
     }
@@ -209,11 +209,15 @@ fn all_moved(alloc: Global, rows: &[Row]) -> Result<Vec<Row>, AllocError>
 
 /// The changes by which rows of earlier editions leave their tables for those that took their place, and others come beside
 /// them.
-fn moves(alloc: Global, rows: &[Row], mut more: Vec<Row>) -> Result<Vec<Change>, AllocError>
-    ensures { IfOk result (λ changes. changes.items ≡ says.moves rows.now more.items) }
+fn renaming_changes(
+    alloc: Global,
+    rows: &[Row],
+    mut more: Vec<Row>,
+) -> Result<Vec<Change>, AllocError>
+    ensures { IfOk result (λ changes. changes.items ≡ says.renaming_changes rows.now more.items) }
 {
-    let mut changes = removals(alloc, rows)?;
-    let mut news = all_moved(alloc, rows)?;
+    let mut changes = old_removals(alloc, rows)?;
+    let mut news = all_old_renamed(alloc, rows)?;
     news.append(&mut more)?;
     for row in news {
         changes.push(Change::Add(row))?;
@@ -228,9 +232,9 @@ pub fn upgrade(alloc: Global, edition: Edition, rows: &[Row]) -> Result<Vec<Chan
     match edition {
         Edition::First => {
             let aims = aims_of(alloc, rows)?;
-            moves(alloc, rows, aims)
+            renaming_changes(alloc, rows, aims)
         }
-        Edition::Second => moves(alloc, rows, Vec::new(alloc)),
+        Edition::Second => renaming_changes(alloc, rows, Vec::new(alloc)),
         Edition::Third => Ok(Vec::new(alloc)),
     }
 }

@@ -7,7 +7,7 @@ use Rattle.std.proofs.lemmas.Simd.{map-map}
 use Rattle.csv.specs.Records.{Row, fields_of}
 use Rattle.rolls.specs.declared.import.ImportKind.{ImportKind}
 use Rattle.imports.proofs.Records.{few_records}
-use Rattle.imports.specs.Requests.{IsWithin, records_of, has_other_length, requests_after}
+use Rattle.imports.specs.Requests.{IsRecordOf, records_of, has_other_length, requests_after}
 use Rattle.imports.specs.Kinds.{request_of}
 use Rattle.imports.specs.declared.fault.ImportFault.{ImportFault}
 use Rattle.imports.specs.declared.fault.ImportFault.TheVariants.{Fields, Header, Memory}
@@ -48,7 +48,7 @@ as_many_requests kind rest requests read = by (position (has_other_length kind) 
     by (Some before) e = cc
 
 -- a record that is named is one of more, too
-pub within_more : (few many : ℕ) (fault : ImportFault) → few ≤ many → IsWithin few fault → IsWithin many fault
+pub within_more : (few many : ℕ) (fault : ImportFault) → few ≤ many → IsRecordOf few fault → IsRecordOf many fault
 within_more few many Memory more h = tt
 within_more few many Header more h = tt
 within_more few many (Fields number) more h = omega (arith, h)

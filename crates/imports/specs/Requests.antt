@@ -29,10 +29,10 @@ abbrev pub has_other_length : ImportKind → List (List ℕ) → Bool
 has_other_length kind fields = not (length fields == length (header_of kind))
 
 -- a record that the fault names is one of so many
-abbrev pub IsWithin : ℕ → ImportFault → Type 0
-IsWithin count (Fields number) = number ≤ count
-IsWithin count Header = ⊤
-IsWithin count Memory = ⊤
+abbrev pub IsRecordOf : ℕ → ImportFault → Type 0
+IsRecordOf count (Fields number) = number ≤ count
+IsRecordOf count Header = ⊤
+IsRecordOf count Memory = ⊤
 
 -- the requests of the records after the header, or the first of them with another number of fields, counted from 1
 abbrev pub requests_after : ImportKind → List (List (List ℕ)) → Result (List Plain) ImportFault

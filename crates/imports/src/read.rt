@@ -8,7 +8,7 @@ ghost use Rattle.std.specs.Cmp.Lexicographic.{pointwise};
 ghost use Rattle.csv.specs.Records.{fields_of};
 ghost use Rattle.imports.specs.declared.fault.ImportFault.TheVariants.{Memory};
 ghost use Rattle.imports.specs.Kinds.{header_of, request_of};
-ghost use Rattle.imports.specs.Requests.{IsWithin, records_of, has_odd_quotes, is_header, has_other_length, requests_after, requests_of};
+ghost use Rattle.imports.specs.Requests.{IsRecordOf, records_of, has_odd_quotes, is_header, has_other_length, requests_after, requests_of};
 ghost use Rattle.imports.specs.Inside.Requests.{is_of_form};
 
 use crate::fault::ImportFault;
@@ -111,7 +111,7 @@ fn requests_after(
 ) -> Result<Vec<Plain>, ImportFault>
     ensures read { IfOk result (λ requests. requests_after kind (map fields_of rest.now) ≡ Ok requests.items) }
     ensures fault { IfErr result (λ fault. (fault ≡ Memory) ⊎ (requests_after kind (map fields_of rest.now) ≡ Err fault)) }
-    ensures within { IfErr result (IsWithin (length rest.now)) }
+    ensures within { IfErr result (IsRecordOf (length rest.now)) }
 {
     match first_other(kind, rest) {
         Some(before) => Err(ImportFault::Fields { record: before + 1 }),
@@ -129,7 +129,7 @@ pub fn read_import(alloc: Global, kind: ImportKind, bytes: &[u8]) -> Result<Vec<
     ensures fault { IfErr result (λ fault. (fault ≡ Memory) ⊎ (requests_of kind bytes.now ≡ Err fault)) }
 
     // A record that is named is one of the text.
-    ensures within { IfErr result (IsWithin (length bytes.now)) }
+    ensures within { IfErr result (IsRecordOf (length bytes.now)) }
 {
     if has_odd_quotes(bytes) {
         return Err(ImportFault::Header);

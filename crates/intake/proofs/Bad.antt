@@ -6,8 +6,8 @@ use denote.Ref.{Bor}
 use Rattle.std.proofs.lemmas.List.Splits.{length-slice_split}
 use Rattle.intake.specs.Parts.{Parts, IsRoundParts}
 use Rattle.intake.specs.Lines.{sections, round_lines, round_text, ended}
-use Rattle.intake.specs.Reading.{pieces, Begins, IsFirstBadLine}
-use Rattle.intake.specs.Inside.Draft.{IsDraft, IsWhole}
+use Rattle.intake.specs.Reading.{pieces, BeginsLines, IsFirstBadLine}
+use Rattle.intake.specs.Inside.PartialRound.{IsDraft, IsWhole}
 use Rattle.intake.proofs.Ends.{draft_begins}
 use Rattle.intake.proofs.Goes.{parts_plain}
 use Rattle.intake.proofs.Pieces.{pieces_back, text_back}
@@ -23,23 +23,23 @@ pub round_pieces : (text : List ℕ) (p : Parts) → IsRoundParts p → text ≡
 round_pieces text p v e = ap pieces e ∙ pieces_back (round_lines p) (lines_free 10 (sections p) refl (parts_plain 10 (omega arith) p v))
 
 -- the lines of parts, up to any of them, begin a text
-front_begins : (p : Parts) (n : ℕ) → IsRoundParts p → Begins (take n (round_lines p))
+front_begins : (p : Parts) (n : ℕ) → IsRoundParts p → BeginsLines (take n (round_lines p))
 front_begins p n v = (p, drop n (round_lines p), v, sym (take-append-drop n (round_lines p)))
 
 -- a line that goes on nowhere is the first bad one
-pub bad_line : (text : List ℕ) (n : ℕ) (d : Parts) (l : List ℕ) → IsDraft d → round_lines d ≡ take n (pieces text) → n + 1 < length (pieces text) → get_or (pieces text) n [] ≡ l → ¬ Begins (round_lines d ++ l ∷ []) → IsFirstBadLine text (n + 1)
+pub bad_line : (text : List ℕ) (n : ℕ) (d : Parts) (l : List ℕ) → IsDraft d → round_lines d ≡ take n (pieces text) → n + 1 < length (pieces text) → get_or (pieces text) n [] ≡ l → ¬ BeginsLines (round_lines d ++ l ∷ []) → IsFirstBadLine text (n + 1)
 bad_line text n d l draft lines h at refused =
     let all : take (n + 1) (pieces text) ≡ round_lines d ++ l ∷ [] = take_more (pieces text) n [] (omega arith) ∙ ap (λ (ls : List (List ℕ)). ls ++ get_or (pieces text) n [] ∷ []) (sym lines) ∙ ap (λ (x : List ℕ). round_lines d ++ x ∷ []) at in
     record {
       before = n;
       number = refl;
       there = omega arith;
-      good = subst Begins lines (draft_begins d draft);
-      bad = λ m b. refused (subst Begins all b);
+      good = subst BeginsLines lines (draft_begins d draft);
+      bad = λ m b. refused (subst BeginsLines all b);
       refused = λ p v e.
           let ps : pieces text ≡ round_lines p ++ [] ∷ [] = round_pieces text p v e in
           let few : n + 1 ≤ length (round_lines p) = omega (arith, ap length ps, length-append (round_lines p) ([] ∷ [])) in
-          refused (subst Begins (sym (ap (take (n + 1)) ps ∙ take-append-le (n + 1) (round_lines p) ([] ∷ []) few) ∙ all) (front_begins p (n + 1) v));
+          refused (subst BeginsLines (sym (ap (take (n + 1)) ps ∙ take-append-le (n + 1) (round_lines p) ([] ∷ []) few) ∙ all) (front_begins p (n + 1) v));
     }
 
 -- a last line without its end, or a text that ends too early
@@ -48,7 +48,7 @@ bad_end text m n d draft lines many number last = record {
   before = n;
   number = number;
   there = omega arith;
-  good = subst Begins lines (draft_begins d draft);
+  good = subst BeginsLines lines (draft_begins d draft);
   bad = λ h b. absurd (omega arith);
   refused = λ p v e.
       let ps : pieces text ≡ round_lines p ++ [] ∷ [] = round_pieces text p v e in

@@ -18,8 +18,8 @@ use Rattle.intake.proofs.Sections.{letter_at}
 use Rattle.intake.proofs.Steps.{prices_step}
 use Rattle.intake.specs.Parts.{Parts, Rise, IsPlace, ArePricesOrNone, IsRoundParts}
 use Rattle.intake.specs.Lines.{Row, choice_code, line, round_lines, section_lines, priced, price_section, pair_rows, aim_rows, supervisor_row, project_row, student_row}
-use Rattle.intake.specs.Reading.{Begins}
-use Rattle.intake.specs.Inside.Draft.{IsDraft, IsWhole, ArePlaces, ArePricesUpTo, NoneOrAll, AreComplete}
+use Rattle.intake.specs.Reading.{BeginsLines}
+use Rattle.intake.specs.Inside.PartialRound.{IsDraft, IsWhole, ArePlaces, ArePricesUpTo, NoneOrAll, AreComplete}
 use Rattle.intake.specs.Inside.Entries.{IsTurn, with_prices}
 
 -- nobody of the rest has a place
@@ -124,7 +124,7 @@ same_parts aim i j ks ls u y z e f =
     ∙ ap (λ (ks : List (Option ℕ)). let p : Parts = record { aim = aim; instance = j; places = ks; student_prices = u; project_prices = y; supervisor_prices = z } in p) f
 
 -- the prices that are read are completed
-begins_at : (n : ℕ) (p : Parts) → IsDraft p → IsTurn n (priced p) → Begins (round_lines p)
+begins_at : (n : ℕ) (p : Parts) → IsDraft p → IsTurn n (priced p) → BeginsLines (round_lines p)
 begins_at n p d t =
     let vs : List (List ℤ) = filled n (priced p) in
     let more = filled_rows n (priced p) d.prices t in
@@ -133,7 +133,7 @@ begins_at n p d t =
     (placed (with_prices n vs p), map (line (letter_at n (map price_section (priced p)))) more.0, whole_parts (with_prices n vs p) step.0 whole, placed_lines (with_prices n vs p) ∙ step.1)
 
 -- the lines of a draft begin a text
-pub draft_begins : (p : Parts) → IsDraft p → Begins (round_lines p)
+pub draft_begins : (p : Parts) → IsDraft p → BeginsLines (round_lines p)
 draft_begins p d =
     let t = some_turn (record { letter = codes "U"; codes = student_codes p.instance; prices = p.student_prices }) (record { letter = codes "Y"; codes = project_codes p.instance; prices = p.project_prices } ∷ record { letter = codes "Z"; codes = supervisor_codes p.instance; prices = p.supervisor_prices } ∷ []) d.prices in
     begins_at t.0 p d t.1

@@ -13,8 +13,8 @@ use Rattle.spa.specs.Text.{is_code, is_code_byte}
 use Rattle.verdict.specs.Rows.{InRange}
 use Rattle.intake.specs.Parts.{Parts, IsPrice, IsRoundInstance, IsRoundParts}
 use Rattle.intake.specs.Lines.{Row, Section, line, sections, round_lines}
-use Rattle.intake.specs.Reading.{Begins}
-use Rattle.intake.specs.Inside.Draft.{IsDraft, IsField, IsFree}
+use Rattle.intake.specs.Reading.{BeginsLines}
+use Rattle.intake.specs.Inside.PartialRound.{IsDraft, IsField, IsFree}
 use Rattle.spa.proofs.Texts.{code_bytes}
 use Rattle.intake.proofs.Widths.{Said, OfRows, OfLetters, widths, rows_said}
 use Rattle.intake.proofs.Numbers.{small}
@@ -102,7 +102,7 @@ pub record GoesOn (old : Parts) (l : List ℕ) (r : Row) : Type 0 where
   pub next : Next (sections parts) (sections old) l r
 
 -- lines that go on
-pub goes_on : (old : Parts) (l : List ℕ) (r : Row) → IsDraft old → All IsField (l ∷ r) → Begins (round_lines old ++ line l r ∷ []) → GoesOn old l r
+pub goes_on : (old : Parts) (l : List ℕ) (r : Row) → IsDraft old → All IsField (l ∷ r) → BeginsLines (round_lines old ++ line l r ∷ []) → GoesOn old l r
 goes_on old l r d f b =
     let p : Parts = b.0 in
     let e : full (sections p) ≡ full (sections old) ++ (l ∷ r) ∷ map fields_of b.1 =

@@ -6,9 +6,9 @@ use Rattle.intake.specs.declared.section.SectionName.{SectionName}
 use Rattle.intake.specs.declared.section.SectionName.TheVariants.{Aims, Supervisors, Projects, Students, Pairs, StudentPrices, ProjectPrices, SupervisorPrices}
 use Rattle.intake.specs.Parts.{Parts}
 use Rattle.intake.specs.Lines.{Row, line, round_lines}
-use Rattle.intake.specs.Reading.{Begins}
-use Rattle.intake.specs.Inside.Draft.{IsDraft, IsField}
-use Rattle.intake.specs.Inside.Entries.{Adds, AddsLine, HasTurn, letter_of, line_of}
+use Rattle.intake.specs.Reading.{BeginsLines}
+use Rattle.intake.specs.Inside.PartialRound.{IsDraft, IsField}
+use Rattle.intake.specs.Inside.Entries.{AddsEntry, AddsLine, HasTurn, letter_of, line_of}
 use Rattle.intake.proofs.Goes.{goes_on}
 use Rattle.intake.proofs.Takes.{only, other_only}
 use Rattle.intake.proofs.Steps.{step}
@@ -31,7 +31,7 @@ letter_field s row f = All-cons IsField (letter_of s) row (go s) f
     go SupervisorPrices = one 90 refl
 
 -- what is added in a section that has its turn
-pub section_line : (s : SectionName) (old : Parts) (row : Row) (new : Parts) (b : Bool) → IsDraft old → All IsField row → HasTurn s old → Adds s old row new b → AddsLine old (line (letter_of s) row) new b
+pub section_line : (s : SectionName) (old : Parts) (row : Row) (new : Parts) (b : Bool) → IsDraft old → All IsField row → HasTurn s old → AddsEntry s old row new b → AddsLine old (line (letter_of s) row) new b
 section_line s old row new true d f t h =
     let made = step s old row h.0 d t h.1 in
     (subst IsDraft (sym h.2) made.0, ap round_lines h.2 ∙ made.1)
@@ -52,7 +52,7 @@ no_turn s old fs letter row d f e l off =
     moved_line old old false fs letter row (letter_of s) e l (λ b. off (only s old (map (λ f. f.now) row) d (goes_on old (letter_of s) (map (λ f. f.now) row) d (letter_field s (map (λ f. f.now) row) (fields_after fs letter row e f)) b)).turn)
 
 -- a line with another letter, or without one
-pub no_line : (old : Parts) (fs : List (List ℕ)) → IsDraft old → All IsField fs → ((l : List ℕ) (row : Row) → fs ≡ l ∷ row → (s : SectionName) → l ≡ letter_of s → ⊥) → ¬ Begins (round_lines old ++ line_of fs ∷ [])
+pub no_line : (old : Parts) (fs : List (List ℕ)) → IsDraft old → All IsField fs → ((l : List ℕ) (row : Row) → fs ≡ l ∷ row → (s : SectionName) → l ≡ letter_of s → ⊥) → ¬ BeginsLines (round_lines old ++ line_of fs ∷ [])
 no_line old [] d f h b = other_only old [] [] (goes_on old [] [] d (All-cons IsField [] [] (All-nil (λ b. (b == 44) ≡ false)) (All-nil IsField)) b) nil
   where
     nil : (s : SectionName) → [] ≡ letter_of s → ⊥

@@ -9,7 +9,7 @@ use Rattle.spa.specs.Instance.{Student, students_of, student_codes, project_code
 use Rattle.spa.specs.Made.{IsSoundList}
 use Rattle.intake.specs.Parts.{Parts, Rise}
 use Rattle.intake.specs.Lines.{choice_code}
-use Rattle.intake.specs.Inside.Draft.{IsDraft}
+use Rattle.intake.specs.Inside.PartialRound.{IsDraft}
 use Rattle.intake.specs.Inside.Entries.{NextPair}
 use Rattle.intake.proofs.Found.{slice_get_at}
 use Rattle.intake.proofs.Order.{get_found, cmp_apart}

@@ -7,7 +7,7 @@ use Rattle.std.proofs.lemmas.List.Splits.{slice_split-cons_yes, slice_split-cons
 use Rattle.std.proofs.lemmas.List.Elements.{All-nil, All-cons, All-head, All-tail, All-append}
 use Rattle.std.proofs.lemmas.List.{get_or-drop, drop-drop, drop_more, take_more, take_rest, length-drop, take-append-drop}
 use Rattle.intake.specs.Lines.{ended}
-use Rattle.intake.specs.Inside.Draft.{IsFree}
+use Rattle.intake.specs.Inside.PartialRound.{IsFree}
 use Rattle.intake.specs.Inside.Entries.{line_of}
 
 -- one byte more of the first piece

@@ -10,7 +10,7 @@ use Rattle.spa.specs.Codes.{code_at}
 use Rattle.spa.specs.Instance.{Supervisor, Project, Student}
 use Rattle.intake.specs.Parts.{Parts, IsPrice, ArePricesOrNone, IsRoundParts}
 use Rattle.intake.specs.Lines.{Row, Priced, priced, price_section, price_rows}
-use Rattle.intake.specs.Inside.Draft.{ArePricesUpTo, NoneOrAll, AreUnpriced, AreComplete, ArePricedInTurn}
+use Rattle.intake.specs.Inside.PartialRound.{ArePricesUpTo, NoneOrAll, AreUnpriced, AreComplete, ArePricedInTurn}
 use Rattle.intake.specs.Inside.Entries.{NextPrice, NextPriceAt, IsTurn, At, prices_at, with_prices, with_price, AddsOne, AddsPrice}
 use Rattle.intake.proofs.PairLine.{all_found}
 use Rattle.intake.proofs.Sections.{NoRows, NextAt, SameRows, Grows}

@@ -9,7 +9,7 @@ use Rattle.std.proofs.lemmas.List.{map-append}
 use Rattle.std.proofs.lemmas.List.Elements.{All-nil, All-cons, All-append, All-head, All-tail}
 use Rattle.std.proofs.lemmas.List.Splits.{slice_split_none, slice_split_at}
 use Rattle.intake.specs.Lines.{Row, Section, line, section_lines}
-use Rattle.intake.specs.Inside.Draft.{IsField, IsFree}
+use Rattle.intake.specs.Inside.PartialRound.{IsField, IsFree}
 
 -- the fields of a line
 abbrev pub fields_of : List ℕ → List (List ℕ)

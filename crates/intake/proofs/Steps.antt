@@ -13,7 +13,7 @@ use Rattle.intake.specs.declared.section.SectionName.{SectionName}
 use Rattle.intake.specs.declared.section.SectionName.TheVariants.{Aims, Supervisors, Projects, Students, Pairs, StudentPrices, ProjectPrices, SupervisorPrices}
 use Rattle.intake.specs.Parts.{Parts, IsRoll, IsRoundInstance}
 use Rattle.intake.specs.Lines.{Row, choice_code, line, sections, priced, price_section, price_rows, round_lines, supervisor_row, project_row, student_row, pair_rows}
-use Rattle.intake.specs.Inside.Draft.{IsDraft, ArePricesUpTo, ArePlaces, EndsPlaced, HasNoPrices}
+use Rattle.intake.specs.Inside.PartialRound.{IsDraft, ArePricesUpTo, ArePlaces, EndsPlaced, HasNoPrices}
 use Rattle.intake.specs.Inside.Entries.{ComesNext, NextAim, NextSupervisor, NextProject, NextStudent, NextPair, NextPriceAt, HasTurn, IsNext, IsTurn, At, Entry, with_entry, with_price, with_prices, prices_at, letter_of}
 use Rattle.intake.proofs.Prices.{unpriced_turn, unpriced_rows, changed_turn, changed_grows, pushed_prices, pushed_rows}
 use Rattle.intake.proofs.Sections.{NoRows, Grows, letter_at, lines_grow}

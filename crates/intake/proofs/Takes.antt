@@ -16,7 +16,7 @@ use Rattle.intake.specs.declared.section.SectionName.{SectionName}
 use Rattle.intake.specs.declared.section.SectionName.TheVariants.{Aims, Supervisors, Projects, Students, Pairs, StudentPrices, ProjectPrices, SupervisorPrices}
 use Rattle.intake.specs.Parts.{Parts, Rise, IsPlace, IsRoll, IsRoundParts}
 use Rattle.intake.specs.Lines.{Row, choice_code, sections, priced, round_lines, aim_rows, supervisor_row, project_row, student_row, pair_rows}
-use Rattle.intake.specs.Inside.Draft.{IsDraft, IsWhole, ArePlaces, EndsPlaced}
+use Rattle.intake.specs.Inside.PartialRound.{IsDraft, IsWhole, ArePlaces, EndsPlaced}
 use Rattle.intake.specs.Inside.Entries.{ComesNext, NextAim, NextPriceAt, HasTurn, IsNext, IsTurn, Entry, letter_of}
 use Rattle.intake.proofs.Order.{cmp_apart, get_found}
 use Rattle.intake.proofs.PairLine.{all_found, get_mapped}

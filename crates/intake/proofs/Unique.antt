@@ -21,7 +21,7 @@ use Rattle.intake.specs.Parts.{Parts, Rise, IsPlace, IsPrice, ArePricesOrNone, I
 use Rattle.intake.proofs.Size.{text_small}
 use Rattle.intake.specs.Lines.{Row, choice_code, sections, round_lines, round_text, aim_rows, supervisor_row, project_row, pair_rows, price_rows}
 use Rattle.intake.specs.Reading.{IsReading, IsReadBack}
-use Rattle.intake.specs.View.{parts_of}
+use Rattle.intake.specs.View.{parts_read}
 use Rattle.intake.proofs.Bad.{round_pieces}
 use Rattle.intake.proofs.Found.{slice_get_at}
 use Rattle.intake.proofs.Goes.{parts_plain}
@@ -183,7 +183,7 @@ one_text p q v w e =
 
 -- the text of parts is read as them
 pub read_back : (p : Parts) (r : Result RoundParts RoundFault) → IsRoundParts p → IsReading (round_text p) r → IsReadBack p r
-read_back p (Ok r) v h = sym (one_text p (parts_of r) v h.0 h.1)
+read_back p (Ok r) v h = sym (one_text p (parts_read r) v h.0 h.1)
 read_back p (Err Memory) v h = tt
 read_back p (Err TooLarge) v h = let small = text_small p v in absurd (omega (arith, small, h))
 read_back p (Err (Line n)) v h = h.1.refused p v refl

@@ -1,3 +1,3 @@
 -- What proofs need and no public clause says.
-pub mod Draft
+pub mod PartialRound
 pub mod Entries

@@ -36,5 +36,5 @@ written i aim None = alone i aim
 written i aim (Some proof) = proved i aim proof.0.now.places.items proof.1.now
 
 -- the parts that were read
-abbrev pub parts_of : RoundParts → Parts
-parts_of r = proved r.instance r.aim r.matching.places.items r.prices
+abbrev pub parts_read : RoundParts → Parts
+parts_read r = proved r.instance r.aim r.matching.places.items r.prices

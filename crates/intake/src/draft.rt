@@ -6,10 +6,10 @@ ghost use Rattle.spa.specs.Instance.{student_codes, project_codes};
 ghost use Rattle.spa.specs.Made.{IsSoundList};
 ghost use Rattle.intake.specs.Parts.{IsRoll, IsRoundParts};
 ghost use Rattle.intake.specs.declared.section.SectionName.TheVariants.{Aims, Supervisors, Projects, Students, Pairs};
-ghost use Rattle.intake.specs.Inside.Draft.{draft_of, IsDraft, HasNoPrices, NoneOrAll, IsField, nothing, IsWhole};
-ghost use Rattle.intake.specs.Inside.Entries.{Adds, AddsPrice, AddsLine, HasTurn, line_of};
+ghost use Rattle.intake.specs.Inside.PartialRound.{draft_of, IsDraft, HasNoPrices, NoneOrAll, IsField, nothing, IsWhole};
+ghost use Rattle.intake.specs.Inside.Entries.{AddsEntry, AddsPrice, AddsLine, HasTurn, line_of};
 ghost use Rattle.intake.specs.Lines.{round_lines};
-ghost use Rattle.intake.specs.View.{parts_of};
+ghost use Rattle.intake.specs.View.{parts_read};
 
 use crate::fields::{pieces, read_price, read_quota};
 use crate::lookup::{Coded, next_code, position_at, position_in};
@@ -26,7 +26,7 @@ use verdict::Prices;
 /// The parts so far. There is a place or none for each student up to the last that has a pair, and a price for the first
 /// entries of a roll.
 #[derive(Drop)]
-pub(crate) struct Draft {
+pub(crate) struct PartialRound {
     aim: Aim,
     supervisors: Vec<(Code, u32)>,
     projects: Vec<(Code, Code, u32)>,
@@ -65,7 +65,7 @@ fn read_list(
     Ok(Some(list))
 }
 
-/// Adds the price of the next entry of a roll.
+/// AddsEntry the price of the next entry of a roll.
 fn add_price<E: Coded>(
     prices: &mut Vec<[i64; PLACES]>,
     roll: &[E],
@@ -108,12 +108,12 @@ fn is_none_or_all(prices: &[[i64; PLACES]], entries: usize) -> bool
     prices.is_empty() || prices.len() == entries
 }
 
-impl Draft {
+impl PartialRound {
     /// No line was read.
     pub(crate) fn new(alloc: Global) -> Self
         ensures { draft_of result ≡ nothing }
     {
-        Draft {
+        PartialRound {
             aim: Aim::Greedy,
             supervisors: Vec::new(alloc),
             projects: Vec::new(alloc),
@@ -176,7 +176,7 @@ impl Draft {
 
     /// Makes the aim generous, if the fields say so and none before did.
     fn add_aim(&mut self, fields: &[&[u8]]) -> bool
-        ensures { Adds Aims (draft_of self.old) (map (λ f. f.now) fields.now) (draft_of self.new) result }
+        ensures { AddsEntry Aims (draft_of self.old) (map (λ f. f.now) fields.now) (draft_of self.new) result }
     {
         let [name] = fields else {
             return false;
@@ -191,10 +191,10 @@ impl Draft {
         true
     }
 
-    /// Adds a supervisor, if the fields are of the next.
+    /// AddsEntry a supervisor, if the fields are of the next.
     fn add_supervisor(&mut self, fields: &[&[u8]]) -> Result<bool, AllocError>
         requires { IsDraft (draft_of self.old) }
-        ensures { IfOk result (λ b. Adds Supervisors (draft_of self.old) (map (λ f. f.now) fields.now) (draft_of self.new) b) }
+        ensures { IfOk result (λ b. AddsEntry Supervisors (draft_of self.old) (map (λ f. f.now) fields.now) (draft_of self.new) b) }
     {
         let [code, quota] = fields else {
             return Ok(false);
@@ -211,10 +211,10 @@ impl Draft {
         Ok(true)
     }
 
-    /// Adds a project, if the fields are of the next.
+    /// AddsEntry a project, if the fields are of the next.
     fn add_project(&mut self, fields: &[&[u8]]) -> Result<bool, AllocError>
         requires { IsDraft (draft_of self.old) }
-        ensures { IfOk result (λ b. Adds Projects (draft_of self.old) (map (λ f. f.now) fields.now) (draft_of self.new) b) }
+        ensures { IfOk result (λ b. AddsEntry Projects (draft_of self.old) (map (λ f. f.now) fields.now) (draft_of self.new) b) }
     {
         let [code, supervisor, quota] = fields else {
             return Ok(false);
@@ -236,10 +236,10 @@ impl Draft {
         Ok(true)
     }
 
-    /// Adds a student, if the fields are of the next.
+    /// AddsEntry a student, if the fields are of the next.
     fn add_student(&mut self, alloc: Global, fields: &[&[u8]]) -> Result<bool, AllocError>
         requires { IsDraft (draft_of self.old) }
-        ensures { IfOk result (λ b. Adds Students (draft_of self.old) (map (λ f. f.now) fields.now) (draft_of self.new) b) }
+        ensures { IfOk result (λ b. AddsEntry Students (draft_of self.old) (map (λ f. f.now) fields.now) (draft_of self.new) b) }
     {
         let Some((code, list)) = fields.split_first() else {
             return Ok(false);
@@ -254,10 +254,10 @@ impl Draft {
         Ok(true)
     }
 
-    /// Adds a pair, if the fields are of the next.
+    /// AddsEntry a pair, if the fields are of the next.
     fn add_pair(&mut self, fields: &[&[u8]]) -> Result<bool, AllocError>
         requires { IsDraft (draft_of self.old) }
-        ensures { IfOk result (λ b. Adds Pairs (draft_of self.old) (map (λ f. f.now) fields.now) (draft_of self.new) b) }
+        ensures { IfOk result (λ b. AddsEntry Pairs (draft_of self.old) (map (λ f. f.now) fields.now) (draft_of self.new) b) }
     {
         let [student, project] = fields else {
             return Ok(false);
@@ -279,7 +279,7 @@ impl Draft {
         Ok(true)
     }
 
-    /// Adds what a row of a section stands for, if it comes next there.
+    /// AddsEntry what a row of a section stands for, if it comes next there.
     fn add_to(
         &mut self,
         alloc: Global,
@@ -287,7 +287,7 @@ impl Draft {
         row: &[&[u8]],
     ) -> Result<bool, AllocError>
         requires { IsDraft (draft_of self.old) }
-        ensures { IfOk result (λ b. Adds section (draft_of self.old) (map (λ f. f.now) row.now) (draft_of self.new) b) }
+        ensures { IfOk result (λ b. AddsEntry section (draft_of self.old) (map (λ f. f.now) row.now) (draft_of self.new) b) }
     {
         match section {
             SectionName::Aims => Ok(self.add_aim(row)),
@@ -310,7 +310,7 @@ impl Draft {
         }
     }
 
-    /// Adds what a line's fields stand for, if they may come here.
+    /// AddsEntry what a line's fields stand for, if they may come here.
     fn add(&mut self, alloc: Global, fields: &[&[u8]]) -> Result<bool, AllocError>
         requires draft { IsDraft (draft_of self.old) }
         requires fields { All IsField (map (λ f. f.now) fields.now) }
@@ -328,7 +328,7 @@ impl Draft {
         self.add_to(alloc, section, row)
     }
 
-    /// Adds what a line stands for, if it may come here.
+    /// AddsEntry what a line stands for, if it may come here.
     pub(crate) fn add_line(&mut self, alloc: Global, line: &[u8]) -> Result<bool, AllocError>
         requires { IsDraft (draft_of self.old) }
         ensures { IfOk result (λ b. AddsLine (draft_of self.old) line.now (draft_of self.new) b) }
@@ -350,8 +350,8 @@ impl Draft {
     pub(crate) fn finish(self, alloc: Global) -> Result<RoundParts, AllocError>
         requires draft { IsDraft (draft_of self) }
         requires whole { IsWhole (draft_of self) }
-        ensures parts { IfOk result (λ r. IsRoundParts (parts_of r)) }
-        ensures lines { IfOk result (λ r. round_lines (parts_of r) ≡ round_lines (draft_of self)) }
+        ensures parts { IfOk result (λ r. IsRoundParts (parts_read r)) }
+        ensures lines { IfOk result (λ r. round_lines (parts_read r) ≡ round_lines (draft_of self)) }
     {
         let mut places = self.places;
         fill(&mut places, self.students.len())?;

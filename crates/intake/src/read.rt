@@ -2,17 +2,17 @@
 #![tactic(auto)]
 
 ghost use Rattle.std.specs.Prelude.{◌≡◌, ◌↔◌, [], IsTrue};
-ghost use Rattle.intake.specs.Inside.Draft.{draft_of, IsWhole};
+ghost use Rattle.intake.specs.Inside.PartialRound.{draft_of, IsWhole};
 ghost use Rattle.intake.specs.Reading.{IsReading};
 
 use crate::MOST_BYTES;
-use crate::draft::Draft;
+use crate::draft::PartialRound;
 use crate::fields::pieces;
 use crate::round::{RoundFault, RoundParts};
 use std::alloc::Global;
 
 /// Whether a text may end with this after its last LF.
-fn may_end(draft: &Draft, last: &[u8]) -> bool
+fn may_end(draft: &PartialRound, last: &[u8]) -> bool
     ensures { IsTrue result ↔ (last.now ≡ []) × IsWhole (draft_of draft.now) }
 {
     last.is_empty() && draft.is_whole()
@@ -28,7 +28,7 @@ pub fn read_round(alloc: Global, text: &[u8]) -> Result<RoundParts, RoundFault>
     }
     let lines = pieces(alloc, text, b'\n', 64)?;
     let whole = lines.len() - 1;
-    let mut draft = Draft::new(alloc);
+    let mut draft = PartialRound::new(alloc);
     for n in 0..whole {
         if !draft.add_line(alloc, lines[n])? {
             return Err(RoundFault::Line(n + 1));

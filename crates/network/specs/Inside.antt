@@ -2,7 +2,7 @@
 pub mod Among
 pub mod Arcs
 pub mod Fair
-pub mod Kept
+pub mod Seating
 pub mod Labels
 pub mod Marks
 pub mod Phases

@@ -24,9 +24,9 @@ use Rattle.rolls.specs.Told.{number_of}
 use Rattle.rolls.specs.Importing.{or_else, at_record, rows_refusal, after_rows, import_refusal, with_import}
 use Rattle.rolls.specs.Answers.{IsDone, Imports}
 use Rattle.rolls.proofs.NoRefusal.{allowed}
-use Rattle.row_changes.specs.Changes.{put_or_added, changes_of, changes_of_rows, import_changes}
-use Rattle.row_changes.proofs.ImportChanges.{turns_follow, keep_none}
-use Rattle.row_changes.proofs.OneRowTurns.{turns_import}
+use Rattle.step_laws.specs.Changes.{put_or_added, changes_of, changes_of_rows, import_changes}
+use Rattle.step_laws.proofs.ImportChanges.{turns_follow, keep_none}
+use Rattle.step_laws.proofs.OneRowTurns.{turns_import}
 use Rattle.office.specs.Inside.Importing.{AreMade}
 
 -- all rows but the rest were made, so many of them, and with these changes

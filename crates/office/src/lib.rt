@@ -15,6 +15,6 @@
 mod making;
 mod office;
 
-pub use loading::RowsFault;
+pub use from_rows::RowsFault;
 pub use office::Office;
 pub use rolls::{Change, Done, Plain, Refusal, Reply, Request, Row};

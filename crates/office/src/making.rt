@@ -2,7 +2,7 @@
 
 ghost use Rattle.std.specs.Prelude.{◌≡◌, ℕ, List, [], ◌∷◌, IfOk, IsTrue};
 ghost use Rattle.spa.specs.Text.{is_code, is_label};
-ghost use Rattle.row_changes.specs.Changes.{put_or_added};
+ghost use Rattle.step_laws.specs.Changes.{put_or_added};
 
 use rolls::{Change, Project, Row, Student, Supervisor, Text};
 use spa::{Code, Label};

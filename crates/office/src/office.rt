@@ -15,10 +15,10 @@ ghost use Rattle.rolls.specs.Fit.{IsFit};
 ghost use Rattle.rolls.specs.Refusing.{first, plain_refusal, refusal_of, round_tests};
 ghost use Rattle.rolls.specs.Answers.{Answers, IsDone};
 ghost use Rattle.rolls.specs.From.{AreRowsOf};
-ghost use Rattle.row_changes.specs.Changes.{changes_of};
-ghost use Rattle.loading.specs.View.{drafted};
+ghost use Rattle.step_laws.specs.Changes.{changes_of};
+ghost use Rattle.from_rows.specs.View.{drafted};
 
-use loading::{Draft, RowsFault, gather};
+use from_rows::{PartialOffice, RowsFault, gather};
 use rolls::{
     Done, Entries, Import, Placement, Plain, Project, Refusal, Reply, Request, Round, RoundAim,
     Row, Student, Supervisor,
@@ -56,11 +56,11 @@ impl Office {
     pub fn new(alloc: Global) -> Self
         ensures empty { result ≡ empty }
     {
-        Office::of(alloc, Draft::new(alloc))
+        Office::of(alloc, PartialOffice::new(alloc))
     }
 
     /// The office of these parts.
-    fn of(alloc: Global, draft: Draft) -> Self
+    fn of(alloc: Global, draft: PartialOffice) -> Self
         requires { IsFit (drafted draft) }
         ensures { result ≡ drafted draft }
     {

@@ -49,7 +49,7 @@ pub struct Stream {
 }
 
 /// What is played at a desk, and how many students its tables have after it.
-pub type Sitting = (&'static [Part], i64);
+pub type Play = (&'static [Part], i64);
 
 /// The number that a query answers.
 pub fn count(conn: &mut Connection<MemStore>, sql: &str) -> Result<i64, Fail> {
@@ -57,17 +57,17 @@ pub fn count(conn: &mut Connection<MemStore>, sql: &str) -> Result<i64, Fail> {
 }
 
 /// Plays each of these at tables of its own.
-pub fn play_all(alloc: Global, plays: &[&'static [Sitting]]) -> Result<(), Fail> {
-    for sittings in plays {
-        play(alloc, sittings)?;
+pub fn play_all(alloc: Global, plays: &[&'static [Play]]) -> Result<(), Fail> {
+    for acts in plays {
+        play(alloc, acts)?;
     }
     Ok(())
 }
 
-/// Plays sittings one after another, each at a desk that is opened anew over the tables of the one before.
-fn play(alloc: Global, sittings: &[Sitting]) -> Result<(), Fail> {
+/// Plays these one after another, each at a desk that is opened anew over the tables of the one before.
+fn play(alloc: Global, acts: &[Play]) -> Result<(), Fail> {
     let mut connection = Connection::open_in_memory(alloc)?;
-    for (parts, students) in sittings {
+    for (parts, students) in acts {
         connection = play_at(alloc, connection, parts)?;
         let found = count(&mut connection, "SELECT count(*) FROM student")?;
         holds(found == *students, "the number of students")?;

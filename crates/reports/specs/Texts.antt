@@ -52,12 +52,12 @@ abbrev pub placed_in_project_by : State → ℕ → List ℕ → ℕ
 placed_in_project_by o n code = count_by (λ p. nat_le p.round n && bytes_eq code p.project) o.placements
 
 -- the load of a project, indented
-abbrev pub project_row : State → ℕ → Project → List ℕ
-project_row o n p = 32 ∷ 32 ∷ load_row 16 p.code (placed_in_project_by o n p.code) p.quota
+abbrev pub project_line : State → ℕ → Project → List ℕ
+project_line o n p = 32 ∷ 32 ∷ load_row 16 p.code (placed_in_project_by o n p.code) p.quota
 
 -- the loads of the projects that a supervisor offers
 abbrev pub offered_rows : State → ℕ → List ℕ → List ℕ
-offered_rows o n supervisor = flat_map (project_row o n) (filter (λ p. bytes_eq supervisor p.supervisor) o.projects)
+offered_rows o n supervisor = flat_map (project_line o n) (filter (λ p. bytes_eq supervisor p.supervisor) o.projects)
 
 -- the load of a supervisor, and those of the projects
 abbrev pub supervisor_rows : State → ℕ → Supervisor → List ℕ
@@ -76,20 +76,20 @@ abbrev pub is_unplaced : State → ℕ → Student → Bool
 is_unplaced o n s = has_list o n s.code && not (is_placed_by o n s.code)
 
 -- a student with the label
-abbrev pub student_row : Student → List ℕ
-student_row s = left 16 s.code ++ 32 ∷ s.label ++ 10 ∷ []
+abbrev pub student_line : Student → List ℕ
+student_line s = left 16 s.code ++ 32 ∷ s.label ++ 10 ∷ []
 
 -- `unplaced`: the students with lists in the round n whom it did not place
 abbrev pub unplaced_text : State → ℕ → List ℕ
-unplaced_text o n = flat_map student_row (filter (is_unplaced o n) o.students)
+unplaced_text o n = flat_map student_line (filter (is_unplaced o n) o.students)
 
 -- a student with the project and its rank
-abbrev pub placement_row : Placement → List ℕ
-placement_row p = left 16 p.student ++ 32 ∷ left 16 p.project ++ 32 ∷ right 2 p.rank ++ 10 ∷ []
+abbrev pub placement_line : Placement → List ℕ
+placement_line p = left 16 p.student ++ 32 ∷ left 16 p.project ++ 32 ∷ right 2 p.rank ++ 10 ∷ []
 
 -- `placements`: whom the round n placed
 abbrev pub placements_text : State → ℕ → List ℕ
-placements_text o n = flat_map placement_row (filter (λ p. p.round == n) o.placements)
+placements_text o n = flat_map placement_line (filter (λ p. p.round == n) o.placements)
 
 -- the text of a report on the round n
 abbrev pub report_text : State → ReportKind → ℕ → List ℕ

@@ -5,7 +5,7 @@ ghost use Rattle.std.specs.Str.{bytes_eq};
 ghost use Rattle.spa.specs.declared.TheConstants.{MOST_PROJECTS, MOST_SUPERVISORS};
 ghost use Rattle.rolls.specs.State.{State};
 ghost use Rattle.reports.specs.Inside.Texts.{AreLoads};
-ghost use Rattle.reports.specs.Texts.{load_row, project_row, offered_rows, supervisor_rows, loads_text};
+ghost use Rattle.reports.specs.Texts.{load_row, project_line, offered_rows, supervisor_rows, loads_text};
 
 use office::Office;
 use rolls::{Project, Supervisor, counted};
@@ -37,7 +37,7 @@ fn push_project(
     project: &Project,
 ) -> Result<(), AllocError>
     requires { position < MOST_PROJECTS }
-    ensures { OnOk result ((o : State) (n : ℕ) → slice_get o.projects position ≡ Some project.now → AreLoads o n counts.now → string_bytes out.new ≡ string_bytes out.old ++ flat_map (project_row o n) (filter (λ p. bytes_eq supervisor.now p.supervisor) (project.now ∷ []))) }
+    ensures { OnOk result ((o : State) (n : ℕ) → slice_get o.projects position ≡ Some project.now → AreLoads o n counts.now → string_bytes out.new ≡ string_bytes out.old ++ flat_map (project_line o n) (filter (λ p. bytes_eq supervisor.now p.supervisor) (project.now ∷ []))) }
 {
     if supervisor == project.supervisor.as_str() {
         let placed = counts.in_project(position) as usize;

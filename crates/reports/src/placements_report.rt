@@ -1,7 +1,7 @@
 //! The report `placements`.
 
 ghost use Rattle.std.specs.Prelude.{◌≡◌, ◌++◌, ◌∷◌, [], ◌==◌, IfOk, OnOk, string_bytes, flat_map, filter};
-ghost use Rattle.reports.specs.Texts.{placement_row, placements_text};
+ghost use Rattle.reports.specs.Texts.{placement_line, placements_text};
 
 use office::Office;
 use rolls::Placement;
@@ -10,7 +10,7 @@ use std::fmt::Write;
 
 /// Appends the line of a placement by the round.
 fn push_placement(out: &mut String, round: u32, placement: &Placement) -> Result<(), AllocError>
-    ensures { OnOk result (string_bytes out.new ≡ string_bytes out.old ++ flat_map placement_row (filter (λ p. p.round == round) (placement.now ∷ []))) }
+    ensures { OnOk result (string_bytes out.new ≡ string_bytes out.old ++ flat_map placement_line (filter (λ p. p.round == round) (placement.now ∷ []))) }
 {
     if placement.round == round {
         let student = placement.student.as_str();

@@ -1,7 +1,7 @@
 //! The report `unplaced`.
 
 ghost use Rattle.std.specs.Prelude.{◌≡◌, ◌++◌, ◌∷◌, [], IfOk, OnOk, string_bytes, flat_map, filter};
-ghost use Rattle.reports.specs.Texts.{is_placed_by, is_unplaced, student_row, unplaced_text};
+ghost use Rattle.reports.specs.Texts.{is_placed_by, is_unplaced, student_line, unplaced_text};
 
 use crate::find::placement_of;
 use office::Office;
@@ -45,7 +45,7 @@ fn push_student(
     round: u32,
     student: &Student,
 ) -> Result<(), AllocError>
-    ensures { OnOk result (string_bytes out.new ≡ string_bytes out.old ++ flat_map student_row (filter (is_unplaced office.now round) (student.now ∷ []))) }
+    ensures { OnOk result (string_bytes out.new ≡ string_bytes out.old ++ flat_map student_line (filter (is_unplaced office.now round) (student.now ∷ []))) }
 {
     if is_unplaced(office, round, student) {
         let code = student.code.as_str();

@@ -15,7 +15,7 @@ use Rattle.rolls.specs.State.{State, supervisor_key, project_key}
 use Rattle.rolls.specs.Fit.{IsFit, ProjectFits}
 use Rattle.rolls.specs.Inside.Place.{IsAt}
 use Rattle.rolls.specs.Counted.{AreRolls}
-use Rattle.rolls.specs.Inside.Counted.{ArePositions, IsNowhere}
+use Rattle.rolls.specs.Inside.Counted.{ArePositions, IsOffRoll}
 use Rattle.rolls.proofs.EntryChange.{same_code, all_weaker}
 use Rattle.rolls.proofs.Found.{found_key}
 use Rattle.rolls.proofs.Places.{find_below}
@@ -101,7 +101,7 @@ module _ (supervisors : List Supervisor) (projects : List Project) (rolls : AreR
   }
 
   -- a project that is not found
-  pub none_found_there : find project_key (0, project) projects ≡ None → IsNowhere supervisors projects project
+  pub none_found_there : find project_key (0, project) projects ≡ None → IsOffRoll supervisors projects project
   none_found_there none = record {
     no_project = λ k d is. nowhere project_key (λ (x : Project). x.code) (λ x. refl) projects k d project none is;
     no_supervisor = λ s. ap (λ (x : Option Project). option_map_or (λ y. bytes_eq s y.supervisor) x false) none;

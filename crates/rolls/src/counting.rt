@@ -2,7 +2,7 @@
 
 ghost use Rattle.std.specs.Prelude.{◌≡◌, ℕ, ◌+◌, ◌<◌, ◌^◌, IfSome, None, length, slice_index};
 ghost use Rattle.rolls.specs.Counted.{is_made_by, AreRolls, AreCounted};
-ghost use Rattle.rolls.specs.Inside.Counted.{ArePositions, IsNowhere, IsOneMore};
+ghost use Rattle.rolls.specs.Inside.Counted.{ArePositions, IsOffRoll, CountsPlacement};
 
 use crate::entries::{Project, Supervisor};
 use crate::rounds::Placement;
@@ -27,7 +27,7 @@ fn positions(
 ) -> Option<(usize, usize)>
     requires { AreRolls supervisors.now projects.now }
     ensures found { IfSome result (λ at. ArePositions supervisors.now projects.now project.now at.0 at.1) }
-    ensures absent { result ≡ None → IsNowhere supervisors.now projects.now project.now }
+    ensures absent { result ≡ None → IsOffRoll supervisors.now projects.now project.now }
 {
     match search(projects, 0, project) {
         Ok(at) => match search(supervisors, 0, projects[at].supervisor.as_str()) {
@@ -49,7 +49,7 @@ fn count(
     requires rolls { AreRolls supervisors.now projects.now }
     requires in_project { (k : ℕ) → slice_index counts.old.projects k + 1 < 2 ^ 32 }
     requires with_supervisor { (k : ℕ) → slice_index counts.old.supervisors k + 1 < 2 ^ 32 }
-    ensures { IsOneMore up_to supervisors.now projects.now placement.now counts.old counts.new }
+    ensures { CountsPlacement up_to supervisors.now projects.now placement.now counts.old counts.new }
 {
     if !is_made_by(up_to, placement) {
         return;

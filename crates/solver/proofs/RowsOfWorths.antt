@@ -16,7 +16,7 @@ use Rattle.spa.specs.LexLaw.{IsLexicographic}
 use Rattle.verdict.specs.Rows.{price}
 use Rattle.network.specs.Seen.{price as worth_price}
 use Rattle.solver.specs.Inside.Weights.{worth_of}
-use Rattle.solver.specs.Inside.Solved.{AreRowsOf}
+use Rattle.solver.specs.Inside.Solved.{AreNumbersOf}
 use Rattle.spa.proofs.LexOrder.{row-zero}
 
 -- an aim reads nothing of zero
@@ -44,7 +44,7 @@ rows_more aim rows worths v w m e so_far here numbers n t h low =
 -- all rows
 pub all_rows : (aim : Aim) (rows : List (List ℤ)) (worths : List (Places PLACES)) → length rows ≡ length worths
     → ((n t : ℕ) → n < length rows → t < PLACES → price rows n t ≡ as_read aim (row PLACES (worth_price (lex_ops PLACES) worths n)) t)
-    → AreRowsOf aim rows worths
+    → AreNumbersOf aim rows worths
 all_rows aim rows worths e same = record { each = e; same = λ n t low. each n t low }
   where
     each : (n t : ℕ) → t < PLACES → price rows n t ≡ as_read aim (row PLACES (worth_price (lex_ops PLACES) worths n)) t

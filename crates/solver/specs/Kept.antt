@@ -3,8 +3,8 @@ use Rattle.spa.specs.declared.TheConstants.{PLACES}
 use Rattle.spa.specs.declared.aim.Aim.{Aim}
 use Rattle.spa.specs.Places.{Places}
 use Rattle.network.specs.Seen.{Seen, shape_of}
-use Rattle.solver.specs.Sitting.{Sitting}
+use Rattle.solver.specs.SessionState.{SessionState}
 
 -- the value of a session with this aim and network
-abbrev pub sitting_of : Aim → Seen (Places PLACES) → Sitting
+abbrev pub sitting_of : Aim → Seen (Places PLACES) → SessionState
 sitting_of aim v = record { aim = aim; shape = shape_of v; steps = v.steps }

@@ -8,9 +8,9 @@ ghost use Rattle.spa.specs.Shape.{IsSound};
 ghost use Rattle.spa.specs.Matching.{Pair, IsBest, profile};
 ghost use Rattle.spa.specs.Matched.{pairs, HasPlaces};
 ghost use Rattle.network.specs.Seen.{shape_of};
-ghost use Rattle.solver.specs.Sitting.{nobody, IsAdmitted, TellsIfPlaced};
+ghost use Rattle.solver.specs.SessionState.{nobody, IsAdmitted, TellsIfPlaced};
 ghost use Rattle.solver.specs.Inside.Solved.{IsOf};
-ghost use Rattle.solver.specs.Inside.Kept.{IsKept};
+ghost use Rattle.solver.specs.Inside.Kept.{IsNetworkKept};
 
 use crate::worths::admit_weighed;
 use network::{Admitted, Network};
@@ -33,7 +33,7 @@ fn best(network: &Network<Lex>)
 
 /// How many students have a place.
 fn placed(network: &Network<Lex>, students: usize) -> u32
-    requires kept { (aim : Aim) × IsKept aim network.now students }
+    requires kept { (aim : Aim) × IsNetworkKept aim network.now students }
     requires places { HasPlaces (shape_of network.now) network.now.places }
     ensures count { result ≡ length (pairs (shape_of network.now) network.now.places) }
     ensures few { result ≤ students }
@@ -49,7 +49,7 @@ fn placed(network: &Network<Lex>, students: usize) -> u32
 
 /// How many students have place 1 of their lists and so on.
 fn ranked(network: &Network<Lex>, students: usize) -> [u32; RANKS]
-    requires kept { (aim : Aim) × IsKept aim network.now students }
+    requires kept { (aim : Aim) × IsNetworkKept aim network.now students }
     requires places { HasPlaces (shape_of network.now) network.now.places }
     ensures profile { (k : ℕ) → k < RANKS → slice_index result k ≡ profile (shape_of network.now) (pairs (shape_of network.now) network.now.places) k }
     ensures few { (k : ℕ) → k < RANKS → slice_index result k ≤ students }
@@ -75,15 +75,15 @@ pub struct Session {
 }
 
 impl Model for Session {
-    ghost use Rattle.solver.specs.Sitting.{Sitting};
+    ghost use Rattle.solver.specs.SessionState.{SessionState};
     ghost use Rattle.solver.specs.Kept.{sitting_of};
-    ghost use Rattle.solver.specs.Inside.Kept.{IsKept};
+    ghost use Rattle.solver.specs.Inside.Kept.{IsNetworkKept};
 
-    ghost Value = { Sitting };
+    ghost Value = { SessionState };
 
     ghost view = { λ s. sitting_of s.aim s.network };
 
-    ghost invariant = { λ s. IsKept s.aim s.network s.students };
+    ghost invariant = { λ s. IsNetworkKept s.aim s.network s.students };
 }
 
 impl Session {

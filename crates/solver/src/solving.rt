@@ -10,7 +10,7 @@ ghost use Rattle.spa.specs.Places.{lex_ops};
 ghost use Rattle.network.specs.declared.TheConstants.{LARGEST_PRICE};
 ghost use Rattle.network.specs.Seen.{price};
 ghost use Rattle.verdict.specs.Verdict.{IsProvedBest};
-ghost use Rattle.solver.specs.Inside.Solved.{IsOf, AreRowsOf, ArePricesOf};
+ghost use Rattle.solver.specs.Inside.Solved.{IsOf, AreNumbersOf, ArePricesOf};
 
 use crate::worths::{admit_weighed, numbers};
 use network::Network;
@@ -64,7 +64,7 @@ fn matching_of(
 /// The numbers of worths, as the aim reads them.
 fn rows(alloc: Global, aim: Aim, worths: &[Lex]) -> Result<Vec<[i64; PLACES]>, AllocError>
     requires { (n : ℕ) → (lex_ops PLACES).span (price (lex_ops PLACES) worths.now n) ≤ LARGEST_PRICE }
-    ensures { IfOk result (λ v. AreRowsOf aim v.items worths.now) }
+    ensures { IfOk result (λ v. AreNumbersOf aim v.items worths.now) }
 {
     let mut rows = Vec::with_capacity(alloc, worths.len())?;
     for worth in worths {

@@ -13,7 +13,7 @@ abbrev pub IsOneMoreAt : ℕ → List ℕ → List ℕ → Type 0
 IsOneMoreAt n old new = (k : ℕ) → slice_index new k ≡ slice_index old k + cond (n == k) 1 0
 
 -- one more pair is counted, with its project and its supervisor
-pub record IsCounted (old new : Counted) (project supervisor : ℕ) : Type 0 where
+pub record CountsPair (old new : Counted) (project supervisor : ℕ) : Type 0 where
   pub projects : IsOneMoreAt project old.projects new.projects
   pub supervisors : IsOneMoreAt supervisor old.supervisors new.supervisors
 

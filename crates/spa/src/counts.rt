@@ -3,7 +3,7 @@
 
 ghost use Rattle.std.specs.Prelude.{◌≡◌, ℕ, ◌+◌, ◌<◌, ◌^◌, slice_index};
 ghost use Rattle.spa.specs.declared.TheConstants.{MOST_PROJECTS, MOST_SUPERVISORS};
-ghost use Rattle.spa.specs.Counted.{IsCounted};
+ghost use Rattle.spa.specs.Counted.{CountsPair};
 
 use crate::{MOST_PROJECTS, MOST_SUPERVISORS};
 use std::marker::Model;
@@ -46,7 +46,7 @@ impl Counts {
         requires supervisor { supervisor < MOST_SUPERVISORS }
         requires in_project { slice_index self.old.projects project + 1 < 2 ^ 32 }
         requires with_supervisor { slice_index self.old.supervisors supervisor + 1 < 2 ^ 32 }
-        ensures { IsCounted self.old self.new project supervisor }
+        ensures { CountsPair self.old self.new project supervisor }
     {
         self.projects[project] += 1;
         self.supervisors[supervisor] += 1;

@@ -10,7 +10,7 @@ use Rattle.row_data.specs.declared.table.Table.TheVariants.{Edition}
 use Rattle.std.proofs.lemmas.Bool.{cases_Bool}
 use Rattle.sqlite_rules.specs.Lists.{Has}
 use Rattle.rolls.specs.declared.row.Row.{Row}
-use Rattle.tables.specs.Causes.{IsCausedInside, IsRunInside, IsStopped, IsToldInside, IsUnread, LacksMemory}
+use Rattle.tables.specs.Causes.{FailsToEnter, IsCausedInside, IsHinderedToEnter, IsRunInside, IsStopped, IsToldInside, IsUnread, LacksMemory, WentEntering}
 use Rattle.tables.proofs.Starved.{lacks, lacks_put}
 use Rattle.rolls.specs.declared.row.Change.{Change}
 use Rattle.rolls.specs.declared.row.Change.TheVariants.{Add, Put, Take, TakeList, TakePlacements}
@@ -26,10 +26,10 @@ use Rattle.tables.proofs.Causes.{stopped_after, stopped_as}
 use Rattle.store.specs.declared.fault.StoreFault.TheVariants.{Storage}
 use Rattle.store.specs.Inside.Faults.{of_table}
 use Rattle.store.specs.Inside.Saving.{entering}
-use Rattle.store.specs.declared.saving.Way.{Way}
-use Rattle.store.specs.declared.saving.Way.TheVariants.{InPlace, New}
+use Rattle.tables.specs.declared.statements.Entering.{Entering}
+use Rattle.tables.specs.declared.statements.Entering.TheVariants.{InPlace, New}
 use Rattle.store.specs.Causes.{GoesThrough, IsHinderedAfter, IsHinderedChange, IsHinderedReading, Ran}
-use Rattle.store.specs.Inside.Causes.{FailsToChange, FailsToEnter, IsHinderedReadingIn, IsHinderedToEnter, WentEntering}
+use Rattle.store.specs.Inside.Causes.{FailsToChange, IsHinderedReadingIn}
 
 -- a fault of the storage is one of a statement
 pub of_storage : (f : TableFault) → of_table f ≡ Storage → f ≡ fault.Storage
@@ -96,17 +96,17 @@ rows_unread e a b c listed same survives clean up =
     })
 
 -- a row that is refused as it is brought into its table is a change that is refused
-pub refused_entering : {A : Type 0} (way : Way) (r : Row) (result : Result A TableFault) (a b : Seen) → IsCausedInside (IsHinderedToEnter way (table_of r) (columns r)) result a b → IsCausedInside (IsHinderedChange (entering way r)) result a b
+pub refused_entering : {A : Type 0} (way : Entering) (r : Row) (result : Result A TableFault) (a b : Seen) → IsCausedInside (IsHinderedToEnter way (table_of r) (columns r)) result a b → IsCausedInside (IsHinderedChange (entering way r)) result a b
 refused_entering InPlace r result a b h = h
 refused_entering New r result a b h = h
 
 -- and one that is brought into its table is a change that goes through
-pub went_entering : {A : Type 0} (way : Way) (r : Row) (result : Result A TableFault) (a b : Seen) → IsRunInside (WentEntering way (table_of r) (columns r)) result a b → IsRunInside (GoesThrough (entering way r)) result a b
+pub went_entering : {A : Type 0} (way : Entering) (r : Row) (result : Result A TableFault) (a b : Seen) → IsRunInside (WentEntering way (table_of r) (columns r)) result a b → IsRunInside (GoesThrough (entering way r)) result a b
 went_entering InPlace r result a b h = h
 went_entering New r result a b h = h
 
 -- and one that fails, with the fault of its statement
-pub failed_entering : {A : Type 0} (way : Way) (r : Row) (result : Result A TableFault) (a b : Seen)
+pub failed_entering : {A : Type 0} (way : Entering) (r : Row) (result : Result A TableFault) (a b : Seen)
     → IsToldInside (FailsToEnter way (table_of r) (columns r)) result a b → IsToldInside (FailsToChange (entering way r)) result a b
 failed_entering InPlace r result a b h = h
 failed_entering New r result a b h = h

@@ -9,7 +9,7 @@ use Rattle.sqlite_rules.specs.Lists.{Has}
 use Rattle.rolls.specs.declared.row.Row.{Row}
 use Rattle.row_data.specs.declared.table.Table.{Table}
 use Rattle.store.specs.Rows.{columns, is_in}
-use Rattle.store.specs.Inside.Reading.{AreRowsOf}
+use Rattle.store.specs.Inside.Reading.{AreReadRows}
 
 -- three columns, of which the first is the rowid
 pub two_after : (cells : Cells) (a b : Value) → length cells ≡ 3 → column cells 1 ≡ a → column cells 2 ≡ b → ◌≡◌ {A = Cells} (a ∷ b ∷ []) (drop 1 cells)
@@ -41,8 +41,8 @@ all_push p [] x h is = and_from _ _ is refl
 all_push p (y ∷ xs) x h is = let parts = and_parts _ _ h in and_from _ _ parts.0 (all_push p xs x parts.1 is)
 
 -- one row more was read
-pub rows_more : (table : Table) (all : List Cells) (i : ℕ) (cells : Cells) (rows : List Row) (row : Row) → i < length all → cells ≡ get_or all i cells → AreRowsOf table (take i all) rows
-    → is_in table row ≡ true → columns row ≡ drop 1 cells → AreRowsOf table (take (i + 1) all) (rows ++ row ∷ [])
+pub rows_more : (table : Table) (all : List Cells) (i : ℕ) (cells : Cells) (rows : List Row) (row : Row) → i < length all → cells ≡ get_or all i cells → AreReadRows table (take i all) rows
+    → is_in table row ≡ true → columns row ≡ drop 1 cells → AreReadRows table (take (i + 1) all) (rows ++ row ∷ [])
 rows_more table all i cells rows row low is so_far kind same =
     let all_more : take (i + 1) all ≡ take i all ++ cells ∷ [] = take_more all i cells low ∙ ap (λ x. take i all ++ x ∷ []) (sym is) in
     record {

@@ -35,7 +35,7 @@ use Rattle.editions.specs.declared.Edition.{Edition as AnEdition}
 use Rattle.editions.specs.declared.Edition.TheVariants.{First, Second, Third}
 use Rattle.editions.specs.Editions.{HaveNoLater}
 use Rattle.store.specs.Editions.{beyond, rolls_of}
-use Rattle.store.specs.Rows.{IsAmong, IsRoll, columns, is_in, columns_of, key_columns, list_columns, rolls, round_columns, table_at_key, table_of}
+use Rattle.store.specs.Rows.{IsAmong, IsRollTable, columns, is_in, columns_of, key_columns, list_columns, rolls, round_columns, table_at_key, table_of}
 use Rattle.store.proofs.Keys.{dropped, left}
 
 natural : ℤ → ℕ
@@ -55,7 +55,7 @@ unfolding binary
 equal_text a b = truth_is _ ∙ text_order a b
 
 -- each key is of the table of a roll
-pub in_rolls : (k : RowKey) → IsRoll (table_at_key k)
+pub in_rolls : (k : RowKey) → IsRollTable (table_at_key k)
 unfolding IsAmong
 in_rolls (key.Supervisor code) = inl refl
 in_rolls (key.Project code) = inr (inl refl)
@@ -261,7 +261,7 @@ not_among p (q ∷ qs) none table (inl is) e = true≢false (sym (same_table_sel
 not_among p (q ∷ qs) none table (inr h) e = not_among p qs (or_parts (same_table p q) (list_any (same_table p) qs) none).1 table h e
 
 -- no roll is the edition
-pub apart_edition : (table : Table) → IsRoll table → table ≢ Edition
+pub apart_edition : (table : Table) → IsRollTable table → table ≢ Edition
 unfolding IsAmong
 apart_edition table h e = not_among Edition rolls refl table h e
 
@@ -288,10 +288,10 @@ unfolding IsAmong
 among_or_not tables table = has_or_not tables table
 
 -- each row is of a roll
-pub none_beyond : (table : Table) → (IsRoll table → ⊥) → (list : List Row) → columns_of table list ≡ []
+pub none_beyond : (table : Table) → (IsRollTable table → ⊥) → (list : List Row) → columns_of table list ≡ []
 none_beyond table none [] = refl
 none_beyond table none (r ∷ list) =
-    columns_same table r list (false_from_ne_true _ (λ h. none (subst IsRoll (sym (is_of table r h)) (in_rolls (key_of r))))) ∙ none_beyond table none list
+    columns_same table r list (false_from_ne_true _ (λ h. none (subst IsRollTable (sym (is_of table r h)) (in_rolls (key_of r))))) ∙ none_beyond table none list
 
 -- what is among the first is among them all
 pub has_left : (tables more : List Table) (table : Table) → Has tables table → Has (tables ++ more) table

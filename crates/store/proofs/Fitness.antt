@@ -25,7 +25,7 @@ use Rattle.rolls.specs.From.{row_in, are_apart}
 use Rattle.row_data.specs.declared.table.Table.{Table}
 use Rattle.editions.specs.declared.Edition.{Edition as AnEdition}
 use Rattle.editions.specs.declared.Edition.TheVariants.{First, Second, Third}
-use Rattle.editions.specs.Editions.{row_at, swapped, swapped_key}
+use Rattle.editions.specs.Editions.{row_at, renamed, renamed_key}
 use Rattle.editions.proofs.Swapping.{key_swapped, row_twice}
 use Rattle.editions.proofs.Renewing.{by_aim, first_else}
 use Rattle.store.specs.Rows.{columns, is_in, columns_of, AreRowsAt}
@@ -166,7 +166,7 @@ typed_at o fit (row.OldChoice round student place project) h = cc
 typed_at o fit (row.OldPlacement student round project rank) h = cc
 
 -- a row is as the program has it where the one by its other name is
-typed_swapped : (r : Row) → IsTyped (swapped r) → IsTyped r
+typed_swapped : (r : Row) → IsTyped (renamed r) → IsTyped r
 typed_swapped (row.Supervisor c l q) h = h
 typed_swapped (row.Project c l s q) h = h
 typed_swapped (row.Student c l) h = h
@@ -179,13 +179,13 @@ typed_swapped (row.OldChoice n s k p) h = h
 typed_swapped (row.OldPlacement s n p k) h = h
 
 -- the row that an office has in the last edition, where it has this one in an earlier one
-unswapped : (o : State) (r : Row) (x : Option Row) → option_map swapped x ≡ Some r → x ≡ Some (swapped r)
+unswapped : (o : State) (r : Row) (x : Option Row) → option_map renamed x ≡ Some r → x ≡ Some (renamed r)
 unswapped o r None h = cc
-unswapped o r (Some s) h = ap Some (sym (row_twice s) ∙ ap swapped (let same : swapped s ≡ r = cc in same))
+unswapped o r (Some s) h = ap Some (sym (row_twice s) ∙ ap renamed (let same : renamed s ≡ r = cc in same))
 
 -- a row that an office has in an edition is as the program has it
 typed_second : (o : State) → IsFit o → (r : Row) → row_at Second o (key_of r) ≡ Some r → IsTyped r
-typed_second o fit r h = typed_swapped r (typed_at o fit (swapped r) (ap (row_of o) (key_swapped r) ∙ unswapped o r (row_of o (swapped_key (key_of r))) h))
+typed_second o fit r h = typed_swapped r (typed_at o fit (renamed r) (ap (row_of o) (key_swapped r) ∙ unswapped o r (row_of o (renamed_key (key_of r))) h))
 
 typed_in : (e : AnEdition) (o : State) → IsFit o → (r : Row) → row_at e o (key_of r) ≡ Some r → IsTyped r
 typed_in Third o fit r h = typed_at o fit r h

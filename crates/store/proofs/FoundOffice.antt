@@ -12,13 +12,13 @@ use Rattle.rolls.specs.From.{row_in}
 use Rattle.rolls.specs.State.{State}
 use Rattle.editions.specs.declared.Edition.{Edition as AnEdition}
 use Rattle.editions.specs.declared.Edition.TheVariants.{First, Second, Third}
-use Rattle.editions.specs.Editions.{Renews, Upgrades, aims_of, is_old, moves, renewed, row_at, swapped, taken, upgrade}
+use Rattle.editions.specs.Editions.{Renews, Upgrades, aims_of, is_old, renaming_changes, renewed, row_at, renamed, removal_of, upgrade}
 use Rattle.row_data.specs.declared.table.Table.TheVariants.{OldChoice, OldPlacement}
 use Rattle.store.specs.Editions.{number_of, raised, rolls_of}
 use Rattle.store.specs.Rows.{IsAmong, table_of}
 use Rattle.store.specs.Saving.{AllNeed, AreLeftAmong, IsLeftAlone}
 use Rattle.store.specs.Inside.Raising.{AskRaised}
-use Rattle.store.specs.Inside.Reading.{Finds, HoldsRows}
+use Rattle.store.specs.Inside.Reading.{FindsOffice, HoldsRows}
 use Rattle.store.proofs.Standing.{hold_same}
 
 -- ---- what the changes of an upgrade ask of the schema
@@ -31,11 +31,11 @@ taken_asks schema left (row.OldPlacement s n c k) is = left OldPlacement (inr (i
 taken_asks schema left _ is = absurd (cc)
 
 module _ (schema : Schema) (left : AreLeftAmong raised schema) where
-  takes_by : (r : Row) (rows : List Row) → AllNeed (map taken (filter is_old rows)) schema → (b : Bool) → is_old r ≡ b → AllNeed (map taken (cond b (r ∷ filter is_old rows) (filter is_old rows))) schema
+  takes_by : (r : Row) (rows : List Row) → AllNeed (map removal_of (filter is_old rows)) schema → (b : Bool) → is_old r ≡ b → AllNeed (map removal_of (cond b (r ∷ filter is_old rows) (filter is_old rows))) schema
   takes_by r rows rest true is = (taken_asks schema left r is, rest)
   takes_by r rows rest false is = rest
 
-  takes_ask : (rows : List Row) → AllNeed (map taken (filter is_old rows)) schema
+  takes_ask : (rows : List Row) → AllNeed (map removal_of (filter is_old rows)) schema
   takes_ask [] = tt
   takes_ask (r ∷ rows) = takes_by r rows (takes_ask rows) (is_old r) refl
 
@@ -47,8 +47,8 @@ module _ (schema : Schema) (left : AreLeftAmong raised schema) where
   both_ask [] ys p q = q
   both_ask (x ∷ xs) ys p q = (p.0, both_ask xs ys p.1 q)
 
-  moves_ask : (rows more : List Row) → AllNeed (moves rows more) schema
-  moves_ask rows more = both_ask (map taken (filter is_old rows)) (map Add (map swapped (filter is_old rows) ++ more)) (takes_ask rows) (adds_ask (map swapped (filter is_old rows) ++ more))
+  moves_ask : (rows more : List Row) → AllNeed (renaming_changes rows more) schema
+  moves_ask rows more = both_ask (map removal_of (filter is_old rows)) (map Add (map renamed (filter is_old rows) ++ more)) (takes_ask rows) (adds_ask (map renamed (filter is_old rows) ++ more))
 
 upgrade_asks : (e : AnEdition) (rows : List Row) → AskRaised (upgrade e rows)
 upgrade_asks First rows schema left = moves_ask schema left rows (aims_of rows)
@@ -57,7 +57,7 @@ upgrade_asks Third rows schema left = tt
 
 -- the office of the rows that were read, and what raises them
 pub found_in : Renews → Upgrades → (e : AnEdition) (rows : List Row) (office : State) (old new : Seen) → HoldsRows e rows old new → IsFit office → from.AreRowsOf (renewed e rows) office
-    → Finds e office (upgrade e rows) old new
+    → FindsOffice e office (upgrade e rows) old new
 found_in renews upgrades e rows office old new h fit of =
     let in_it = (renews e rows office h.none_later fit).1 of in
     record {

@@ -21,12 +21,12 @@ use Rattle.row_data.specs.declared.table.Table.{Table}
 use Rattle.row_data.specs.declared.table.Table.TheVariants.{Edition}
 use Rattle.tables.specs.Table.{Place, Lists, rules_of, key_in, table_at}
 use Rattle.tables.specs.Keyed.{Stands}
-use Rattle.tables.specs.Writes.{Makes, Adds}
+use Rattle.tables.specs.Writes.{Creates, Adds}
 use Rattle.tables.specs.Steps.{HasStepped, IsLeft}
 use Rattle.tables.specs.Inside.Steps.{Stays}
 use Rattle.tables.proofs.Runs.{listed_once, stands_apart, stands_beside, stays_none, stays_then, stays_stepped, decide_table}
 use Rattle.store.specs.Editions.{latest, number_of}
-use Rattle.store.specs.Rows.{kept, rolls, AreRowsAt}
+use Rattle.store.specs.Rows.{stored_tables, rolls, AreRowsAt}
 use Rattle.store.specs.Tables.{AreRuled, AreRuledAmong, Brings, LeavesTables, MakesTables, StandsFor, HasNone, Opens, numbered}
 use Rattle.store.specs.Inside.Tables.{Empties}
 use Rattle.store.proofs.Columns.{apart_edition, stands_among}
@@ -45,7 +45,7 @@ no_rows = record { apart = refl; each = no_row }
 pub made_none : (s : Seen) → Stays (MakesTables []) s s
 made_none s = stays_none (MakesTables []) s (record { places = λ table. record { tree = 0; rules = rules_of table }; ruled = λ table h. absurd h; stand = λ table h. absurd h; apart = λ a b h. absurd h; others = λ t listed. (listed, refl, λ table h. absurd h); quiet = λ t listed acts. acts })
 
-module _ (done : List Table) (q : Table) (a b c : Database) (m : MakesTables done a b) (n : Makes (table_at q) (rules_of q) [] b c) where
+module _ (done : List Table) (q : Table) (a b c : Database) (m : MakesTables done a b) (n : Creates (table_at q) (rules_of q) [] b c) where
   -- where a table stands: the last one at its new place
   at : (table : Table) → (table ≡ q) ⊎ (table ≢ q) → Place
   at table (inl same) = n.place
@@ -95,21 +95,21 @@ module _ (done : List Table) (q : Table) (a b c : Database) (m : MakesTables don
   }
 
 -- the same of the statements that make them
-pub made_more : (i : ℕ) (all : List Table) (d : Table) (a b c : Seen) → i < length all → Stays (MakesTables (take i all)) a b → HasStepped (Makes (table_at (get_or all i d)) (rules_of (get_or all i d)) []) b c
+pub made_more : (i : ℕ) (all : List Table) (d : Table) (a b c : Seen) → i < length all → Stays (MakesTables (take i all)) a b → HasStepped (Creates (table_at (get_or all i d)) (rules_of (get_or all i d)) []) b c
     → Stays (MakesTables (take (i + 1) all)) a c
 made_more i all d a b c low p n =
     let q = get_or all i d in
     subst (λ rs. Stays (MakesTables rs) a c) (sym (take_more all i d low))
-    (stays_then (MakesTables (take i all)) (Makes (table_at q) (rules_of q) []) (MakesTables (take i all ++ q ∷ [])) a b c (made_then (take i all) q a.now b.now c.now) p n)
+    (stays_then (MakesTables (take i all)) (Creates (table_at q) (rules_of q) []) (MakesTables (take i all ++ q ∷ [])) a b c (made_then (take i all) q a.now b.now c.now) p n)
 
 -- each of them was made
 pub made_all : (i : ℕ) (all : List Table) (a b : Seen) → length all ≤ i → Stays (MakesTables (take i all)) a b → Stays (MakesTables all) a b
 made_all i all a b end = subst (λ rs. Stays (MakesTables rs) a b) (take_all i all end)
 
 -- the tables, once that of the edition has its row
-empty_stands : (row : List Value) → row ∷ [] ≡ numbered (number_of latest) → (a b c : Database) → MakesTables kept a b → Adds (table_at Edition) (key_in Edition row) row b c → StandsFor c empty
+empty_stands : (row : List Value) → row ∷ [] ≡ numbered (number_of latest) → (a b c : Database) → MakesTables stored_tables a b → Adds (table_at Edition) (key_in Edition row) row b c → StandsFor c empty
 empty_stands row is a b c m n =
-    let first : Has kept Edition = inl refl in
+    let first : Has stored_tables Edition = inl refl in
     let done = n (m.places Edition) [] (m.stand Edition first) in
     record {
       edition = m.places Edition;
@@ -125,10 +125,10 @@ empty_stands row is a b c m n =
     }
 
 -- and are as they are made here
-ruled_so : (row : List Value) (a b c : Database) → MakesTables kept a b → Adds (table_at Edition) (key_in Edition row) row b c → AreRuled c.schema
+ruled_so : (row : List Value) (a b c : Database) → MakesTables stored_tables a b → Adds (table_at Edition) (key_in Edition row) row b c → AreRuled c.schema
 unfolding AreRuledAmong
 ruled_so row a b c m n table among place listed =
-    let first : Has kept Edition = inl refl in
+    let first : Has stored_tables Edition = inl refl in
     let done = n (m.places Edition) [] (m.stand Edition first) in
     let here = subst (λ (s : Schema). Lists s (table_at table (m.places table))) (sym done.1.schema) (m.stand table among).listed in
     let same : table_at table place ≡ table_at table (m.places table) = listed_once c.schema (table_at table) place (m.places table) refl listed here in
@@ -136,10 +136,10 @@ ruled_so row a b c m n table among place listed =
     same ∙ (λ i. table_at table (record { tree = tree i; rules = m.ruled table among i }))
 
 -- each other table stays
-others_stay : (row : List Value) (a b c : Database) → MakesTables kept a b → Adds (table_at Edition) (key_in Edition row) row b c → LeavesTables a c
+others_stay : (row : List Value) (a b c : Database) → MakesTables stored_tables a b → Adds (table_at Edition) (key_in Edition row) row b c → LeavesTables a c
 unfolding LeavesTables
 others_stay row a b c m n t listed other =
-    let first : Has kept Edition = inl refl in
+    let first : Has stored_tables Edition = inl refl in
     let done = n (m.places Edition) [] (m.stand Edition first) in
     let was = m.others t listed in (
       subst (λ (s : Schema). Lists s t) (sym done.1.schema) was.0,
@@ -147,9 +147,9 @@ others_stay row a b c m n t listed other =
     )
 
 -- the tables were made one after the other, and then the edition was written
-pub founded : (row : List Value) → row ∷ [] ≡ numbered (number_of latest) → (a b c : Seen) → Stays (MakesTables kept) a b → HasStepped (Adds (table_at Edition) (key_in Edition row) row) b c → HasStepped Empties a c
+pub founded : (row : List Value) → row ∷ [] ≡ numbered (number_of latest) → (a b c : Seen) → Stays (MakesTables stored_tables) a b → HasStepped (Adds (table_at Edition) (key_in Edition row) row) b c → HasStepped Empties a c
 unfolding Empties
-founded row is a b c m n = stays_stepped (MakesTables kept) (Adds (table_at Edition) (key_in Edition row) row) Empties a b c (λ p q. (empty_stands row is a.now b.now c.now p q, ruled_so row a.now b.now c.now p q, others_stay row a.now b.now c.now p q)) m n
+founded row is a b c m n = stays_stepped (MakesTables stored_tables) (Adds (table_at Edition) (key_in Edition row) row) Empties a b c (λ p q. (empty_stands row is a.now b.now c.now p q, ruled_so row a.now b.now c.now p q, others_stay row a.now b.now c.now p q)) m n
 
 -- the tables were made where there were none
 pub opens_new : (old new : Database) (office : State) → HasNone old.schema → office ≡ empty → Empties old new → Opens old new office

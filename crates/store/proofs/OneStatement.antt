@@ -13,27 +13,27 @@ use Rattle.row_data.specs.declared.table.Table.{Table}
 use Rattle.row_data.specs.declared.table.Table.TheVariants.{Choice, Edition, Placement}
 use Rattle.tables.specs.Table.{table_at}
 use Rattle.tables.specs.Keyed.{Stands}
-use Rattle.tables.specs.Writes.{Adds, Puts, Removes, WritesOnly, begins_with, goes_on, with_row}
+use Rattle.tables.specs.Writes.{Adds, Enters, Puts, Removes, WritesOnly, begins_with, goes_on, with_row}
 use Rattle.tables.proofs.Runs.{stands_apart, decide_table}
-use Rattle.store.specs.Rows.{AreRowsAt, IsRoll, columns, columns_of, key_columns, list_columns, round_columns, table_at_key, table_of}
+use Rattle.store.specs.Rows.{AreRowsAt, IsRollTable, columns, columns_of, key_columns, list_columns, round_columns, table_at_key, table_of}
 use Rattle.store.specs.Editions.{latest, number_of}
 use Rattle.store.specs.Tables.{TablesHold, numbered}
 use Rattle.sqlite_rules.proofs.ListLemmas.{all_has}
-use Rattle.store.specs.Inside.Saving.{AppliesOne, Enters, entering}
+use Rattle.store.specs.Inside.Saving.{AppliesOne, entering}
 use Rattle.sqlite.specs.Schema.{Schema}
 use Rattle.store.specs.Saving.{IsLeftAlone, Needs, Spares}
-use Rattle.store.specs.declared.saving.Way.{Way}
-use Rattle.store.specs.declared.saving.Way.TheVariants.{InPlace, New}
+use Rattle.tables.specs.declared.statements.Entering.{Entering}
+use Rattle.tables.specs.declared.statements.Entering.TheVariants.{InPlace, New}
 use Rattle.store.proofs.Keys.{dropped, left, rows_left, rows_put, rows_taken}
 use Rattle.store.proofs.Columns.{Leave, in_rolls, is_of, columns_there, columns_elsewhere, columns_without, columns_beside, columns_kept, columns_more, columns_same, key_leaves, list_leaves, none_beyond, placements_leave, none_there}
 
-module _ (old new : Database) (rows : RowKey → Option Row) (t : TablesHold old rows) (q : Table) (kept : IsRoll q) (only : WritesOnly (t.places q).tree old new) where
+module _ (old new : Database) (rows : RowKey → Option Row) (t : TablesHold old rows) (q : Table) (kept : IsRollTable q) (only : WritesOnly (t.places q).tree old new) where
   edition_stays : Stands (table_at Edition) t.edition (numbered (number_of latest)) new
   edition_stays = stands_apart (table_at Edition) t.edition refl (numbered (number_of latest)) (t.places q).tree old new (λ e. t.edition_apart q kept (sym e)) only t.editions
 
   -- the rolls, of which the one that is written holds these
   rolls_are : (list : List Row) (written : List Cells) → Stands (table_at q) (t.places q) written new → columns_of q list ≡ written
-      → ((table : Table) → table ≢ q → columns_of table list ≡ columns_of table t.list) → (table : Table) → IsRoll table → Stands (table_at table) (t.places table) (columns_of table list) new
+      → ((table : Table) → table ≢ q → columns_of table list ≡ columns_of table t.list) → (table : Table) → IsRollTable table → Stands (table_at table) (t.places table) (columns_of table list) new
   rolls_are list written stands own others table among = elim (decide_table table q) [
     | inl same ↦
         let here = subst (λ all. Stands (table_at q) (t.places q) all new) (sym own) stands in
@@ -68,7 +68,7 @@ unfolding AppliesOne Puts
 hold_put r old new puts inert rows t =
     let q = table_of r in
     let k = key_of r in
-    let kept : IsRoll q = in_rolls k in
+    let kept : IsRollTable q = in_rolls k in
     let done = puts (t.places q) (columns_of q t.list) (inert q kept (t.places q) (t.rolls q kept).listed) (t.rolls q kept) in
     let list : List Row = r ∷ dropped k t.list in
     let own : columns_of q list ≡ with_row (key_columns k) (columns r) (columns_of q t.list) =
@@ -86,7 +86,7 @@ unfolding AppliesOne
 hold_add r old new adds need rows t =
     let q = table_of r in
     let k = key_of r in
-    let kept : IsRoll q = in_rolls k in
+    let kept : IsRollTable q = in_rolls k in
     let done = adds (t.places q) (columns_of q t.list) (t.rolls q kept) in
     let list : List Row = r ∷ dropped k t.list in
     let own : columns_of q list ≡ columns r ∷ columns_of q t.list = columns_more r (dropped k t.list) ∙ ap (λ more. columns r ∷ more) (columns_kept k t.list done.2) in
@@ -98,12 +98,12 @@ hold_add r old new adds need rows t =
     )
 
 -- either way
-pub hold_enter : (way : Way) (r : Row) (old new : Database) → Enters way (table_at (table_of r)) (key_columns (key_of r)) (columns r) old new → AppliesOne (entering way r) old new
+pub hold_enter : (way : Entering) (r : Row) (old new : Database) → Enters way (table_at (table_of r)) (key_columns (key_of r)) (columns r) old new → AppliesOne (entering way r) old new
 hold_enter InPlace r old new = hold_put r old new
 hold_enter New r old new = hold_add r old new
 
 -- rows that were taken out of one table
-module _ (c : Change) (q : Table) (kept : IsRoll q) (left_where : (s : Schema) → Needs c s → IsLeftAlone q s) (goes : Row → Bool) (found : Cells → Bool) (leave : Leave q goes found)
+module _ (c : Change) (q : Table) (kept : IsRollTable q) (left_where : (s : Schema) → Needs c s → IsLeftAlone q s) (goes : Row → Bool) (found : Cells → Bool) (leave : Leave q goes found)
     (rows_after : (list : List Row) (rows : RowKey → Option Row) → AreRowsAt list rows → AreRowsAt (left goes list) (after_change c rows)) (fresh : (rows : RowKey → Option Row) → IsFresh c rows) where
   hold_left : (old new : Database) → Removes (table_at q) found old new → AppliesOne c old new
   unfolding AppliesOne Removes

@@ -23,7 +23,7 @@ use Rattle.store.specs.declared.fault.StoreFault.TheVariants.{Damaged, Storage}
 use Rattle.store.specs.Opening.{IsLeftUnopened}
 use Rattle.store.specs.Tables.{Brings, HasNoneOf, HoldIn, LeavesTables, Opens, Raises, StandsIn}
 use Rattle.store.specs.Inside.Raising.{Rises}
-use Rattle.store.specs.Inside.Reading.{Finds}
+use Rattle.store.specs.Inside.Reading.{FindsOffice}
 use Rattle.store.proofs.Standing.{hold_same}
 use Rattle.store.proofs.SameTrees.{not_beyond, one_or_apart}
 
@@ -34,10 +34,10 @@ earlier_of Second other = tt
 earlier_of Third other = absurd (other refl)
 
 -- tables of the latest edition were read
-pub opens_found : (e : AnEdition) (office : State) (changes : List Change) (old new : Seen) → e ≡ latest → Finds e office changes old new → Opens old.now new.now office
+pub opens_found : (e : AnEdition) (office : State) (changes : List Change) (old new : Seen) → e ≡ latest → FindsOffice e office changes old new → Opens old.now new.now office
 opens_found e office changes old new is found = inr (inl (found.same.0.now_is, subst (λ it. HoldIn it old.now (row_at it office)) is found.holds))
 
-module _ (e : AnEdition) (office : State) (changes : List Change) (old mid : Seen) (earlier : IsEarlier e) (alone : HasNoneOf (beyond e) old.now.schema) (found : Finds e office changes old mid) where
+module _ (e : AnEdition) (office : State) (changes : List Change) (old mid : Seen) (earlier : IsEarlier e) (alone : HasNoneOf (beyond e) old.now.schema) (found : FindsOffice e office changes old mid) where
   -- tables of an earlier edition were read and raised
   raised : (db : Database) → Rises e changes mid.now db → Raises old.now db office
   unfolding Rises
@@ -67,7 +67,7 @@ module _ (e : AnEdition) (office : State) (changes : List Change) (old mid : See
   raised_left trees left = record { was_open = found.same.0.was_open; db = left.db; sound = left.sound; step = inr (office, raised left.db left.step); same = left.same }
 
 -- what a crash leaves of reading and raising
-pub brings_left : (e : AnEdition) (office : State) (changes : List Change) (old mid new : Seen) → IsEarlier e → HasNoneOf (beyond e) old.now.schema → (HasCleanDisk mid → Finds e office changes old mid) → Survives old mid (λ _. ⊥)
+pub brings_left : (e : AnEdition) (office : State) (changes : List Change) (old mid new : Seen) → IsEarlier e → HasNoneOf (beyond e) old.now.schema → (HasCleanDisk mid → FindsOffice e office changes old mid) → Survives old mid (λ _. ⊥)
     → Survives mid new (IsLeft (Rises e changes) mid) → Survives old new (IsLeft Brings old)
 brings_left e office changes old mid new earlier alone found one two =
     survives_then old mid new (λ _. ⊥) (IsLeft (Rises e changes) mid) (IsLeft Brings old) (λ _ db none. absurd none)
@@ -93,7 +93,7 @@ unfit_all e db alone later unfit f office fit stands = elim (one_or_apart e f) [
 ]
 
 -- tables of an earlier edition were read, and are not raised
-pub raise_refused : (e : AnEdition) (office : State) (changes : List Change) (old mid new : Seen) → IsEarlier e → HasNoneOf (beyond e) old.now.schema → Finds e office changes old mid → IsUnchanged old mid → Survives old mid (λ _. ⊥) → HasCleanDisk mid
+pub raise_refused : (e : AnEdition) (office : State) (changes : List Change) (old mid new : Seen) → IsEarlier e → HasNoneOf (beyond e) old.now.schema → FindsOffice e office changes old mid → IsUnchanged old mid → Survives old mid (λ _. ⊥) → HasCleanDisk mid
     → mid.faults ≤ new.faults → IsStopped (IsHinderedToRaise e changes) mid new → IsStopped IsHinderedOpening old new
 raise_refused e office changes old mid new earlier alone found same survives clean up stops =
     stopped_after (IsHinderedToRaise e changes) IsHinderedOpening old mid new survives clean up (λ h.

@@ -22,7 +22,7 @@ use Rattle.rolls.specs.declared.import.ImportKind.TheVariants as kind
 use Rattle.row_data.specs.declared.table.Table.{Table}
 use Rattle.row_data.specs.declared.table.Table.TheVariants.{Supervisor, Project, Student, Round, OldChoice, OldPlacement, RoundAim, Choice, Placement}
 use Rattle.store.specs.Editions.{latest}
-use Rattle.store.specs.Rows.{IsAmong, IsRoll, columns, is_in, columns_of, rolls, table_of, AreRowsAt}
+use Rattle.store.specs.Rows.{IsAmong, IsRollTable, columns, is_in, columns_of, rolls, table_of, AreRowsAt}
 use Rattle.tables.specs.Table.{same_table}
 use Rattle.tables.proofs.Runs.{same_table_is, same_table_self}
 use Rattle.store.proofs.Columns.{among_or_not, are_once, in_rolls, is_among, once, stands_among}
@@ -249,7 +249,7 @@ gathered_permuted [] xs ys each = IsPermutation-refl _
 gathered_permuted (q ∷ qs) xs ys each = beside _ _ _ _ (each q (inl refl)) (gathered_permuted qs xs ys (λ table h. each table (inr h)))
 
 -- rows whose columns are the same in each table are the same
-permuted_by_rolls : (xs ys : List Row) → ((table : Table) → IsRoll table → IsPermutation (columns_of table xs) (columns_of table ys)) → IsPermutation xs ys
+permuted_by_rolls : (xs ys : List Row) → ((table : Table) → IsRollTable table → IsPermutation (columns_of table xs) (columns_of table ys)) → IsPermutation xs ys
 permuted_by_rolls xs ys same =
     IsPermutation-trans _ _ _ (sorted xs) (IsPermutation-trans _ _ _ (gathered_permuted rolls xs ys (λ table among. rolls_permuted table xs ys (same table (is_among rolls table among)))) (IsPermutation-sym _ _ (sorted ys)))
 

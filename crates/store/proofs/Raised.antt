@@ -30,7 +30,7 @@ use Rattle.store.proofs.Causes.{unchanged_before}
 use Rattle.store.proofs.Commit.{dropped_by}
 use Rattle.store.specs.Causes.{latest_number}
 use Rattle.store.specs.Editions.{beyond, latest, number_of, raised, rolls_of}
-use Rattle.store.specs.Rows.{IsAmong, IsRoll, columns_of, rolls}
+use Rattle.store.specs.Rows.{IsAmong, IsRollTable, columns_of, rolls}
 use Rattle.store.specs.Saving.{Applies, AreActedOnAmong, AreLeftAmong, IsLeftAlone, Spares}
 use Rattle.store.specs.Tables.{AreRuledAmong, LeavesTables, MakesTables, TablesHold, TablesOf, numbered}
 use Rattle.store.specs.Inside.Raising.{Extends, Lifts, Rises}
@@ -159,7 +159,7 @@ all_rolls Second = refl
 all_rolls Third = refl
 
 -- a roll is one of those of an edition, or beyond it
-in_edition : (e : AnEdition) (table : Table) → IsRoll table → (IsAmong (beyond e) table → ⊥) → IsAmong (rolls_of e) table
+in_edition : (e : AnEdition) (table : Table) → IsRollTable table → (IsAmong (beyond e) table → ⊥) → IsAmong (rolls_of e) table
 in_edition e table among none = elim (has_either (rolls_of e) (beyond e) table (stands_among (rolls_of e ++ beyond e) table (subst (λ tables. IsAmong tables table) (sym (all_rolls e)) among))) [
   | inl it ↦ is_among (rolls_of e) table it
   | inr it ↦ absurd (none (is_among (beyond e) table it))
@@ -170,7 +170,7 @@ others_extended : (e : AnEdition) (number : ℕ) (rows : RowKey → Option Row) 
 unfolding LeavesTables
 others_extended e number rows a b c t m spares any listed other =
     let was = m.others any listed in
-    let apart : (table : Table) → IsRoll table → (place : Place) → Lists b.schema (table_at table place) → any.tree ≢ place.tree = λ table among place there same.
+    let apart : (table : Table) → IsRollTable table → (place : Place) → Lists b.schema (table_at table place) → any.tree ≢ place.tree = λ table among place there same.
     elim (among_or_not (beyond e) table) [
       | inl made ↦
           let has = stands_among (beyond e) table made in

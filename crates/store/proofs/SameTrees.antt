@@ -22,7 +22,7 @@ use Rattle.rolls.specs.State.{State}
 use Rattle.editions.specs.declared.Edition.{Edition as AnEdition}
 use Rattle.editions.specs.declared.Edition.TheVariants.{First, Second, Third}
 use Rattle.editions.specs.Editions.{HaveNoLater, Renews, renewed, row_at}
-use Rattle.store.specs.Rows.{columns_of, kept}
+use Rattle.store.specs.Rows.{columns_of, stored_tables}
 use Rattle.store.specs.Editions.{beyond, latest, number_of, rolls_of}
 use Rattle.store.specs.Tables.{HasNoneOf, HoldIn, Opens, StandsIn, TablesOf, numbered}
 use Rattle.store.proofs.Columns.{is_among}
@@ -113,7 +113,7 @@ pub opens_again : RowsGiveOffice → Renews → (e : AnEdition) (db found opened
     → again ≡ office
 opens_again one renews e db found opened office again sound here trees stands fit fits (inl made) =
     let held = holds_so (rolls_of e) (number_of e) db found (row_at e office) sound here trees stands.holds in
-    absurd (listed_there Edition held.edition (numbered (number_of e)) found kept held.editions (inl refl) made.0)
+    absurd (listed_there Edition held.edition (numbered (number_of e)) found stored_tables held.editions (inl refl) made.0)
 opens_again one renews e db found opened office again sound here trees stands fit fits (inr (inl is)) =
     same_office one renews e latest db found office again sound here trees stands (in_latest is.1) fit fits
 opens_again one renews e db found opened office again sound here trees stands fit fits (inr (inr raised)) =

@@ -14,7 +14,7 @@ use Rattle.sqlite.specs.Order.{Row as Cells}
 use Rattle.editions.specs.declared.Edition.{Edition as AnEdition}
 use Rattle.store.specs.Editions.{IsEarlier, beyond, latest, number_of, raised, rolls_of}
 use Rattle.store.specs.Reading.{AreAllListed}
-use Rattle.store.specs.Rows.{columns, kept, key_columns, list_columns, round_columns, table_at_key, table_of}
+use Rattle.store.specs.Rows.{columns, stored_tables, key_columns, list_columns, round_columns, table_at_key, table_of}
 use Rattle.store.specs.Saving.{AreActedOnAmong}
 use Rattle.store.specs.Tables.{HasNone, StandsIn}
 use Rattle.rolls.specs.declared.row.Row.{Row}
@@ -74,12 +74,12 @@ IsHinderedMaking = IsHinderedAfter (λ table. Went (sql_of table).create []) (λ
 -- the number of the edition is refused, once the tables are made
 pub record IsHinderedNumbering (limit : Option ℕ) (db : Database) : Type 0 where
   pub between : Database
-  pub ran : RanTables kept limit db between
+  pub ran : RanTables stored_tables limit db between
   pub hindered : IsHindered (sql_of Edition).insert latest_number limit between
 
 -- the tables cannot be made
 abbrev pub IsHinderedFounding : Option ℕ → Database → Type 0
-IsHinderedFounding limit db = IsHinderedMaking kept limit db ⊎ IsHinderedNumbering limit db
+IsHinderedFounding limit db = IsHinderedMaking stored_tables limit db ⊎ IsHinderedNumbering limit db
 
 -- a table that an edition lacks is refused, or, once they are made, a change
 abbrev pub IsHinderedToExtend : AnEdition → List Change → Option ℕ → Database → Type 0

@@ -17,20 +17,20 @@ use Rattle.rolls.specs.From.{are_apart, row_in}
 use Rattle.rolls.specs.Kinds.{word_of}
 
 -- the tables of the store
-abbrev pub kept : List Table
-kept = all_tables
+abbrev pub stored_tables : List Table
+stored_tables = all_tables
 
 -- those that hold rows of an office, all but the edition; each comes after those that it refers to
 abbrev pub rolls : List Table
-rolls = drop 1 kept
+rolls = drop 1 stored_tables
 
 -- the table is one of these
 unfoldable pub IsAmong : List Table → Table → Type 0
 IsAmong tables table = Has tables table
 
 -- the table is one of those that hold rows of an office
-abbrev pub IsRoll : Table → Type 0
-IsRoll = IsAmong rolls
+abbrev pub IsRollTable : Table → Type 0
+IsRollTable = IsAmong rolls
 
 -- the table of a key, and the columns that it gives
 abbrev pub at_key : RowKey → Table × Cells

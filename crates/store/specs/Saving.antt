@@ -13,7 +13,7 @@ use Rattle.rolls.specs.declared.row.Change.{Change}
 use Rattle.rolls.specs.declared.row.Change.TheVariants.{Add, Take}
 use Rattle.rolls.specs.Rows.{AreFresh, after_changes}
 use Rattle.tables.specs.Table.{Place, Lists, table_at}
-use Rattle.store.specs.Rows.{IsAmong, IsRoll, rolls, table_at_key}
+use Rattle.store.specs.Rows.{IsAmong, IsRollTable, rolls, table_at_key}
 use Rattle.tables.specs.Writes.{IsInert}
 use Rattle.tables.specs.Inert.{IsActedOn}
 use Rattle.tables.specs.Steps.{HasSaved}
@@ -50,7 +50,7 @@ Saves changes old new = (rows : RowKey → Option Row) → TablesHold old rows �
 -- the schema is as it was, and so is each table of it in whose tree no roll is listed
 pub record Spares (old new : Database) : Type 0 where
   pub schema : new.schema ≡ old.schema
-  pub others : (t : AnyTable) → Has old.schema.tables t → ((table : Table) → IsRoll table → (place : Place) → Lists old.schema (table_at table place) → t.tree ≢ place.tree)
+  pub others : (t : AnyTable) → Has old.schema.tables t → ((table : Table) → IsRollTable table → (place : Place) → Lists old.schema (table_at table place) → t.tree ≢ place.tree)
       → new.trees t.tree ≡ old.trees t.tree
 
 -- where the tables held rows, the other tables are left alone

@@ -4,8 +4,8 @@ ghost use Rattle.std.specs.Prelude.{◌≡◌, ◌<◌};
 ghost use Rattle.store.specs.Editions.{beyond, number_of, rolls_of};
 ghost use Rattle.store.specs.Tables.{HasNoneOf};
 
+use crate::all_tables::TABLES;
 use crate::founding::has_none_of;
-use crate::kept::TABLES;
 use editions::Edition;
 use sqlite_schema::schema::Schema;
 use tables::Table;

@@ -10,15 +10,16 @@ ghost use Rattle.store.specs.Causes.{IsHinderedFounding, IsHinderedMaking, RanTa
 ghost use Rattle.store.specs.Inside.Tables.{Empties};
 ghost use Rattle.store.specs.Tables.{HasNone, HasNoneOf, MakesTables};
 
+use crate::all_tables::TABLES;
 use crate::edition::{LATEST, number_of};
 use crate::fault::StoreFault;
-use crate::kept::TABLES;
 use sqlite::{Alter, Connection, Transaction, params};
 use sqlite_schema::schema::Schema;
 use tables::Table;
 use tables::fault::TableFault;
 use tables::layout::has_table;
-use tables::statements::{insert, make};
+use tables::statements::Entering::New;
+use tables::statements::{enter, make};
 
 /// Whether none of these tables is there.
 pub fn has_none_of(schema: &Schema, tables: &[Table]) -> bool
@@ -63,7 +64,7 @@ fn make_tables<S: Alter>(tx: &mut Transaction<'_, S>) -> Result<(), TableFault>
     ensures cause { IsCausedInside IsHinderedFounding result (state S.Store tx.old.conn.now) (state S.Store tx.new.conn.now) }
 {
     make_each(tx, &TABLES)?;
-    insert(tx, Table::Edition, params![1, number_of(LATEST)])
+    enter(tx, New, Table::Edition, params![1, number_of(LATEST)])
 }
 
 /// Makes the tables in one transaction.

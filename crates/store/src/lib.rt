@@ -13,10 +13,10 @@
 //! `edition.rt` and in `specs/Editions.antt`.
 #![tactic(auto)]
 
+mod all_tables;
 mod edition;
 mod fault;
 mod founding;
-mod kept;
 mod laws;
 mod quiet;
 mod raising;

@@ -9,10 +9,10 @@ ghost use Rattle.tables.specs.Inside.Steps.{Stays};
 ghost use Rattle.store.specs.Causes.{IsHinderedToExtend, IsHinderedToRaise};
 ghost use Rattle.store.specs.Inside.Raising.{Extends, Lifts, Rises};
 
+use crate::all_tables::RAISED;
 use crate::edition::{LATEST, beyond, number_of};
 use crate::fault::StoreFault;
 use crate::founding::make_each;
-use crate::kept::RAISED;
 use crate::quiet::are_left_among;
 use crate::saving::apply_all;
 use editions::Edition;
@@ -20,7 +20,8 @@ use rolls::Change;
 use sqlite::{Alter, Connection, Transaction, params};
 use tables::Table;
 use tables::fault::TableFault;
-use tables::statements::put;
+use tables::statements::Entering::InPlace;
+use tables::statements::enter;
 
 /// Makes the tables that an edition lacks, and then the changes that fill them and empty others.
 fn extend<S: Alter>(
@@ -49,7 +50,7 @@ fn lift<S: Alter>(
     ensures starved { IsStarvedInside result (state S.Store tx.old.conn.now) (state S.Store tx.new.conn.now) }
     ensures cause { IsCausedInside (IsHinderedToRaise edition changes.now) result (state S.Store tx.old.conn.now) (state S.Store tx.new.conn.now) }
 {
-    put(tx, Table::Edition, params![1, number_of(LATEST)])?;
+    enter(tx, InPlace, Table::Edition, params![1, number_of(LATEST)])?;
     extend(tx, edition, changes)
 }
 

@@ -17,7 +17,7 @@ ghost use Rattle.store.specs.Editions.{number_of, rolls_of};
 ghost use Rattle.store.specs.Tables.{numbered};
 ghost use Rattle.tables.specs.Layout.{IsListed};
 ghost use Rattle.store.specs.Reading.{AreAllListed, IsUnfitIn};
-ghost use Rattle.store.specs.Inside.Reading.{IsAlone, IsElsewhere, IsListedAlone, ReadsTable, Finds, HoldsNoRow, HoldsRows, ReadsAll, HoldsUnread};
+ghost use Rattle.store.specs.Inside.Reading.{IsAlone, IsElsewhere, IsListedAlone, ReadsTable, FindsOffice, HoldsNoRow, HoldsRows, ReadsAll, HoldsUnread};
 
 use crate::edition::{number_of, rolls_of};
 use crate::fault::StoreFault;
@@ -200,7 +200,7 @@ pub fn office_in<S: Alter>(
     conn: &mut Connection<S>,
     edition: Edition,
 ) -> Result<(Office, Vec<Change>), StoreFault>
-    ensures ok { HasCleanDisk (state S.Store conn.new) → IfOk result (λ it. Finds edition it.0 it.1.items (state S.Store conn.old) (state S.Store conn.new)) }
+    ensures ok { HasCleanDisk (state S.Store conn.new) → IfOk result (λ it. FindsOffice edition it.0 it.1.items (state S.Store conn.old) (state S.Store conn.new)) }
     ensures same { HasCleanDisk (state S.Store conn.new) → OnOk result (IsUnchanged (state S.Store conn.old) (state S.Store conn.new)) }
     ensures unlisted { (AreAllListed (rolls_of edition) (state S.Store conn.old).now.schema → ⊥) → result ≡ Err StoreFault.Damaged }
     ensures damaged { HasCleanDisk (state S.Store conn.new) → result ≡ Err StoreFault.Damaged → IsUnfitIn edition (state S.Store conn.old).now }

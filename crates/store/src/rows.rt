@@ -7,7 +7,7 @@ ghost use Rattle.sqlite_rules.specs.Lists.{Has};
 ghost use Rattle.rolls.specs.Kinds.{word_of};
 ghost use Rattle.tables.specs.Table.{kinds_of};
 ghost use Rattle.store.specs.Rows.{is_generous};
-ghost use Rattle.store.specs.Inside.Reading.{IsNoRow, IsRowWith, AreRowsOf, is_of_rolls, is_of_rounds};
+ghost use Rattle.store.specs.Inside.Reading.{IsNoRow, IsRowWith, AreReadRows, is_of_rolls, is_of_rounds};
 
 use crate::fault::StoreFault;
 use rolls::{Bytes, ImportKind, Row, Text};
@@ -244,7 +244,7 @@ fn round_row(alloc: Global, table: Table, cells: &Cells) -> Result<Row, StoreFau
 
 /// The rows with these columns.
 pub fn rows_with(alloc: Global, table: Table, all: &[Cells]) -> Result<Vec<Row>, StoreFault>
-    ensures rows { IfOk result (λ rows. AreRowsOf table all.now rows.items) }
+    ensures rows { IfOk result (λ rows. AreReadRows table all.now rows.items) }
     ensures damaged { result ≡ Err StoreFault.Damaged → (cells : AnyCells) × Has all.now cells × IsNoRow table (drop 1 cells) }
     ensures faults { result ≢ Err StoreFault.Storage }
 {

@@ -4,25 +4,22 @@ ghost use Rattle.std.specs.Prelude.{◌≡◌, ◌≢◌, cond, IsTrue, false, O
 ghost use Rattle.sqlite.specs.Effect.{IsDatabase};
 ghost use Rattle.sqlite.specs.State.{HasCleanDisk, Survives};
 ghost use Rattle.sqlite.specs.Held.{state};
-ghost use Rattle.sqlite.specs.Values.{bound};
-ghost use Rattle.tables.specs.Table.{IsRowOf, key_in, table_at};
 ghost use Rattle.tables.specs.Causes.{IsCaused, IsCausedInside, IsRunInside, IsStarvedInside, IsToldInside};
 ghost use Rattle.tables.specs.Steps.{Does, HasSaved, HasStepped, IsKept, IsLeft};
 ghost use Rattle.tables.specs.Inside.Steps.{Stays};
 ghost use Rattle.store.specs.Causes.{GoesThrough, IsHinderedAmong, IsHinderedChange, IsHinderedToSave};
-ghost use Rattle.store.specs.Inside.Causes.{FailsToChange, FailsToEnter, IsHinderedToEnter, WentEntering};
+ghost use Rattle.store.specs.Inside.Causes.{FailsToChange};
 ghost use Rattle.store.specs.Rows.{is_generous};
 ghost use Rattle.store.specs.Saving.{Applies, AreActedOn, LeavesOthers, Saves};
-ghost use Rattle.store.specs.Inside.Saving.{AppliesOne, Enters, entering};
+ghost use Rattle.store.specs.Inside.Saving.{AppliesOne, entering};
 
 use crate::fault::StoreFault;
 use rolls::{Change, Row, RowKey};
 use spa::Aim;
 use sqlite::{Alter, Connection, Transaction, params};
-use sqlite_value::value::ValueRef;
 use tables::fault::TableFault;
 use tables::ready::need_open;
-use tables::statements::{delete, delete_group, insert, put};
+use tables::statements::{Entering, delete, delete_group, enter};
 use tables::{Group, Table};
 
 /// The number that stands for a truth value.
@@ -42,38 +39,12 @@ fn is_generous(aim: Aim) -> bool
     }
 }
 
-/// How a row comes into its table.
-#[derive(Clone, Copy)]
-pub(crate) enum Way {
-    /// In the place of the one with its key, or as one more.
-    InPlace,
-    /// As a row of a new key.
-    New,
-}
-
-/// Brings a row into a table.
-fn enter<S: Alter>(
-    tx: &mut Transaction<'_, S>,
-    way: Way,
-    table: Table,
-    row: &[ValueRef<'_>],
-) -> Result<(), TableFault>
-    requires { IsRowOf table (bound row.now) }
-
-    ensures same_reference { tx.new.conn.ghost_name ≡ tx.old.conn.ghost_name }
-    ensures step { Does (HasStepped (Enters way (table_at table) (key_in table (bound row.now)) (bound row.now))) result (state S.Store tx.old.conn.now) (state S.Store tx.new.conn.now) }
-    ensures ran { IsRunInside (WentEntering way table (bound row.now)) result (state S.Store tx.old.conn.now) (state S.Store tx.new.conn.now) }
-    ensures told { IsToldInside (FailsToEnter way table (bound row.now)) result (state S.Store tx.old.conn.now) (state S.Store tx.new.conn.now) }
-    ensures cause { IsCausedInside (IsHinderedToEnter way table (bound row.now)) result (state S.Store tx.old.conn.now) (state S.Store tx.new.conn.now) }
-{
-    match way {
-        Way::InPlace => put(tx, table, row),
-        Way::New => insert(tx, table, row),
-    }
-}
-
 /// Brings a row into its table.
-fn write_row<S: Alter>(tx: &mut Transaction<'_, S>, way: Way, row: &Row) -> Result<(), TableFault>
+fn write_row<S: Alter>(
+    tx: &mut Transaction<'_, S>,
+    way: Entering,
+    row: &Row,
+) -> Result<(), TableFault>
     ensures same_reference { tx.new.conn.ghost_name ≡ tx.old.conn.ghost_name }
     ensures step { Does (HasStepped (AppliesOne (entering way row.now))) result (state S.Store tx.old.conn.now) (state S.Store tx.new.conn.now) }
     ensures ran { IsRunInside (GoesThrough (entering way row.now)) result (state S.Store tx.old.conn.now) (state S.Store tx.new.conn.now) }
@@ -212,8 +183,8 @@ fn apply<S: Alter>(tx: &mut Transaction<'_, S>, change: &Change) -> Result<(), T
     ensures cause { IsCausedInside (IsHinderedChange change.now) result (state S.Store tx.old.conn.now) (state S.Store tx.new.conn.now) }
 {
     match change {
-        Change::Put(row) => write_row(tx, Way::InPlace, row),
-        Change::Add(row) => write_row(tx, Way::New, row),
+        Change::Put(row) => write_row(tx, Entering::InPlace, row),
+        Change::Add(row) => write_row(tx, Entering::New, row),
         Change::Take(key) => take_row(tx, key),
         Change::TakeList(round, student) => {
             delete_group(tx, Group::List, params![*round, student.as_str()])

@@ -14,9 +14,9 @@ use Rattle.sqlite.specs.State.{State, HasCleanDisk, Survives, Fails, HasCause as
 use Rattle.tables.specs.declared.fault.TableFault.TheVariants.{Storage}
 use Rattle.tables.specs.Faults.{fault_of}
 use Rattle.std.proofs.lemmas.Bool.{cases_Bool}
-use Rattle.tables.specs.Table.{Shape}
+use Rattle.tables.specs.Table.{TableShape}
 use Rattle.tables.specs.Keyed.{have_ids, rises}
-use Rattle.tables.specs.Causes.{Moment, at_moment, IsHindered, IsRefused, IsStopped, IsTooLarge, IsUnread, ShowsInOrder, showing}
+use Rattle.tables.specs.Causes.{Moment, at_moment, IsHindered, IsRefusedCall, IsStopped, IsTooLarge, IsUnread, ShowsInOrder, showing}
 
 -- the connection was shut, or the disk failed once more, or this
 abbrev Ended : State → State → Type 0 → Type 0
@@ -55,7 +55,7 @@ module _ (old new : State) (sql : List ℕ) (params : Row) where
   meant : (c : Compiled) → IsStatement old sql params c → IsStatement at sql params c
   meant c it = record { is = it.is; whole = it.whole; given = it.given; now = it.now }
 
-  refused : (Refuses : State → Error → Type 0) (e : Error) → fault_of e ≡ Storage → Refuses at e → IsRefused Refuses old.step_limit old.now
+  refused : (Refuses : State → Error → Type 0) (e : Error) → fault_of e ≡ Storage → Refuses at e → IsRefusedCall Refuses old.step_limit old.now
   refused Refuses e other it = record { in_transaction = old.in_transaction; marks = old.marks; error = e; other = other; refused = it }
 
   not_run : (e : Error) → fault_of e ≡ Storage → IsNotRun old new sql params e → Ended old new (IsNotRun at at sql params e)
@@ -92,11 +92,11 @@ module _ (old new : State) (sql : List ℕ) (params : Row) where
   stopped e other (inr out) = record { why = inr (inr (again e other (inr ((out.0.0, meant out.0.0 out.0.1, out.0.2), out.1, at_rest)))) }
 
   -- a statement that could not be prepared
-  pub unprepared : (e : Error) → fault_of e ≡ Storage → IsNotRun old new sql params e → IsStopped (IsRefused (λ s e. IsNotRun s s sql params e)) old new
+  pub unprepared : (e : Error) → fault_of e ≡ Storage → IsNotRun old new sql params e → IsStopped (IsRefusedCall (λ s e. IsNotRun s s sql params e)) old new
   unprepared e other none = record { why = either old new _ _ (refused (λ s e. IsNotRun s s sql params e) e other) (not_run e other none) }
 
 -- a query of a table that failed
-module _ (sql : List ℕ) (shape : Shape) (it : IsSelect sql shape) (old new : State) where
+module _ (sql : List ℕ) (shape : TableShape) (it : IsSelect sql shape) (old new : State) where
   abbrev here : State
   here = at old new sql []
 

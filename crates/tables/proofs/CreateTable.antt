@@ -27,13 +27,13 @@ use Rattle.sqlite_catalog.proofs.StepLemmas.{table_below}
 use Rattle.sqlite_rules.specs.Lists.{Has}
 use Rattle.sqlite_rules.proofs.ListLemmas.{has_got, all_has}
 use Rattle.sqlite_resolve.specs.declared.compiled.Compiled.{Compiled}
-use Rattle.tables.specs.Table.{Place, Rules, Shape, Lists, all_referring, cells, made_at}
+use Rattle.tables.specs.Table.{Place, Rules, TableShape, Lists, all_referring, cells, made_at}
 use Rattle.tables.specs.Inert.{IsActedOn}
 use Rattle.tables.proofs.Quiet.{AreAllPassive, acted_before}
 use Rattle.sqlite_schema.specs.declared.schema.Action.TheVariants.{NoAction}
 use Rattle.sqlite_schema.specs.declared.schema.Reference.{Reference}
 use Rattle.sqlite_tied.specs.Compute.{everything}
-use Rattle.tables.specs.Writes.{Makes}
+use Rattle.tables.specs.Writes.{Creates}
 use Rattle.tables.proofs.MoreTables.{still_found, new_found, got_front, got_next}
 use Rattle.tables.proofs.InsertKeyed.{went, same_value}
 use Rattle.tables.proofs.Understood.{planned_of, Means, IsWriteText, runs_by}
@@ -103,7 +103,7 @@ unfolding references_in
 sequence_passive table is r h = absurd (subst (λ (rs : List Reference). Has rs r) (sym (ap references_in is) ∙ sequence_alone) h)
 
 -- a text that makes a table of this shape by these rules, under any schema
-pub record IsCreate (sql : List ℕ) (shape : Shape) (rules : Rules) : Type 0 where
+pub record IsCreate (sql : List ℕ) (shape : TableShape) (rules : Rules) : Type 0 where
   pub p : Parsed
   pub parsed : first sql ≡ Ok p
   pub unlisted : if_select (compiled listing_schema sql) ≡ Err NoSuchTable
@@ -122,7 +122,7 @@ made_command schema name k h =
     let t = makes (is_attached schema name) (creates false name same other) (Ok CreateTable) k (only_new name same other) h in
     cc
 
-module _ (sql : List ℕ) (shape : Shape) (rules : Rules) (it : IsCreate sql shape rules) where
+module _ (sql : List ℕ) (shape : TableShape) (rules : Rules) (it : IsCreate sql shape rules) where
   abbrev first_made : Table
   first_made = made_at shape (record { tree = 0; rules = rules })
 
@@ -195,7 +195,7 @@ module _ (sql : List ℕ) (shape : Shape) (rules : Rules) (it : IsCreate sql sha
   ]
 
   -- a CREATE that went through made the table, which is empty
-  pub create_makes : (old new : State) (count : ℕ) → Executes sql [] old new (Ok count) → Makes (made_at shape) rules [] old.now new.now
+  pub create_makes : (old new : State) (count : ℕ) → Executes sql [] old new (Ok count) → Creates (made_at shape) rules [] old.now new.now
   create_makes old new count ran =
       let w = runs_by sql [] old new count CreateTable sql (create_means old.now.schema) ran in
       let all = went w.changed in

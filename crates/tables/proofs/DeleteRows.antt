@@ -24,7 +24,7 @@ use Rattle.sqlite.specs.Rowids.TheVariants.{Given}
 use Rattle.sqlite_rules.specs.Calls.{ids_of}
 use Rattle.sqlite_rules.specs.Action.{works}
 use Rattle.sqlite.proofs.Callers.{one_step}
-use Rattle.tables.specs.Table.{Place, Shape, cells, are_of, made_at}
+use Rattle.tables.specs.Table.{Place, TableShape, cells, are_of, made_at}
 use Rattle.tables.specs.Inside.Keyed.{id_of}
 use Rattle.tables.specs.Keyed.{IsKeyed}
 use Rattle.tables.specs.Writes.{Removes}
@@ -37,7 +37,7 @@ use Rattle.tables.proofs.QueryRows.{found_program, IsDrafted, drafted_writes, dr
 use Rattle.tables.proofs.SelectAll.{finding}
 
 -- A text that deletes, read under any schema that lists a table of this shape, and what its test finds, as the table is STRICT or not, by parameters of these kinds.
-pub record IsDelete (sql : List ℕ) (shape : Shape) (kinds : List Kind) (goes : Row → Row → Bool) : Type 0 where
+pub record IsDelete (sql : List ℕ) (shape : TableShape) (kinds : List Kind) (goes : Row → Row → Bool) : Type 0 where
   pub test : Expr
   pub tests : Bool → List Term
   pub drafted : IsDrafted sql shape.name (written.Delete shape.name (Some test) []) (λ schema at table. deleted schema at table (Some test)) Delete
@@ -59,7 +59,7 @@ delete_does limit mode params db after text at table q tally there inert h =
     let made : Applies db.schema mode.keys db.trees edit edited.0 = one_step db.schema mode.keys db.trees edited.0 edit (inert _) edited.1 in
     (ap (λ (d : Database). d.schema) now, given.0, given.1, subst (Applies db.schema mode.keys db.trees edit) (sym (ap (λ (d : Database). d.trees) now ∙ trees)) made)
 
-module _ (sql : List ℕ) (shape : Shape) (kinds : List Kind) (goes : Row → Row → Bool) (it : IsDelete sql shape kinds goes) where
+module _ (sql : List ℕ) (shape : TableShape) (kinds : List Kind) (goes : Row → Row → Bool) (it : IsDelete sql shape kinds goes) where
   -- the text is that of a write
   pub delete_writes : IsWriteText sql
   delete_writes = drafted_writes sql shape _ _ Delete it.drafted (λ at q. tt)

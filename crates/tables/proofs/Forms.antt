@@ -23,7 +23,7 @@ use Rattle.sqlite_ast.specs.declared.Source.{roll-Source}
 use Rattle.sqlite_ast.specs.declared.Core.{Core, roll-Core}
 use Rattle.sqlite_ast.specs.declared.Select.{Select, roll-Select}
 use Rattle.sqlite_resolve.specs.declared.scope.Output.{Output}
-use Rattle.tables.specs.Table.{Shape}
+use Rattle.tables.specs.Table.{TableShape}
 use Rattle.tables.proofs.KeyTests.{equals, is_parameter}
 use Rattle.tables.proofs.SelectAll.{id_out, key_out, column_out}
 
@@ -109,7 +109,7 @@ values_by (Some key) count = lit Null ∷ given_terms 1 (count - 1)
 abbrev rowid_and_all : Core → Select
 rowid_and_all core = roll-Select (record { with = []; first = core; others = []; order = []; limit = None; offset = None })
 
-module _ (shape : Shape) where
+module _ (shape : TableShape) where
   -- CREATE of a STRICT table with these columns and rules
   abbrev pub create_of : TableBody → CreateTable
   create_of body = record { if_missing = false; name = shape.name; body = body; is_strict = true; resolves = false }

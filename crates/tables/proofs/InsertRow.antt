@@ -37,7 +37,7 @@ use Rattle.sqlite_resolve.specs.Lowering.{Checked}
 use Rattle.sqlite_resolve.specs.declared.compiled.Compiled.{Compiled}
 use Rattle.sqlite.specs.Calls.{IsWrite}
 use Rattle.sqlite.specs.Command.{Command}
-use Rattle.tables.specs.Table.{Place, Shape, Lists, cells, are_of, kind_in, made_at}
+use Rattle.tables.specs.Table.{Place, TableShape, Lists, cells, are_of, kind_in, made_at}
 use Rattle.tables.specs.Keyed.{IsKeyed}
 use Rattle.tables.specs.Writes.{Adds, begins_with}
 use Rattle.tables.proofs.Places.{listed_along}
@@ -101,7 +101,7 @@ pub record IsGiven (made : Table) (params : Row) (terms : List Term) (width : �
 
 -- The text of an INSERT of one row of terms, read under a table of this shape alone, and the row that it adds: that of its
 -- parameters, where those are of these kinds.
-pub record IsInsert (sql : List ℕ) (shape : Shape) (kinds : List Kind) : Type 0 where
+pub record IsInsert (sql : List ℕ) (shape : TableShape) (kinds : List Kind) : Type 0 where
   pub p : Parsed
   pub columns : List (List ℕ)
   pub values : Rows
@@ -115,7 +115,7 @@ pub record IsInsert (sql : List ℕ) (shape : Shape) (kinds : List Kind) : Type 
   pub given : (place : Place) (row : Row) → are_of kinds row ≡ true → IsGiven (made_at shape place) row terms width row
   pub keyed : (place : Place) → HasKey (made_at shape place)
 
-module _ (sql : List ℕ) (shape : Shape) (kinds : List Kind) (it : IsInsert sql shape kinds) (schema : Schema) (at : ℕ) (place : Place)
+module _ (sql : List ℕ) (shape : TableShape) (kinds : List Kind) (it : IsInsert sql shape kinds) (schema : Schema) (at : ℕ) (place : Place)
     (has : Has schema shape.name at (made_at shape place)) where
   abbrev statement : Statement
   statement = written.Insert conflict.Abort shape.name it.columns it.values [] []
@@ -142,7 +142,7 @@ module _ (sql : List ℕ) (shape : Shape) (kinds : List Kind) (it : IsInsert sql
       let same : with_command it.p ([], (Insert at (Values it.terms it.width), None)) ≡ c = cc in
       (sym (ap (λ (it : Compiled). it.command) same), sym (ap (λ (it : Compiled). it.returning) same), sym (ap (λ (it : Compiled). it.formats) same), sym (ap (text_of sql) same) ∙ it.whole)
 
-module _ (sql : List ℕ) (shape : Shape) (kinds : List Kind) (it : IsInsert sql shape kinds) where
+module _ (sql : List ℕ) (shape : TableShape) (kinds : List Kind) (it : IsInsert sql shape kinds) where
   insert_command : (schema : Schema) (base : ℕ) (k : Command) → command schema [] base (written.Insert conflict.Abort shape.name it.columns it.values [] []) ≡ Ok k → IsWrite k
   unfolding command insert insert_or_abort
   insert_command schema base k = on_table_writes schema shape.name _ k (λ at table. ends_in_write (new_rows schema table base it.columns it.values) (λ s. Insert at s) k (λ s. tt))

@@ -21,8 +21,8 @@ use Rattle.sqlite_schema.specs.declared.schema.Column.{Column}
 use Rattle.sqlite_schema.specs.declared.schema.Reference.{Reference}
 use Rattle.sqlite_schema.specs.Rules.{kind_code}
 use Rattle.row_data.specs.declared.table.Table.{Table as Ours}
-use Rattle.tables.specs.Table.{Shape, shape_of, table_at, Place, all_referring, kind_in, required, referring, ascending, made_at}
-use Rattle.tables.specs.Inside.Layout.{is_nothing, is_binary, same_key, are_of_one, are_strict, is_alone, is_bare, is_required, is_referring, are_told, are_plain, is_untimed, has_shape, IsNamed, place_of}
+use Rattle.tables.specs.Table.{TableShape, shape_of, table_at, Place, all_referring, kind_in, required, referring, ascending, made_at}
+use Rattle.tables.specs.Inside.Layout.{is_nothing, is_binary, same_key, are_of_one, are_strict, is_alone, is_bare, is_required, is_referring, are_told, are_plain, is_untimed, has_shape, IsTableNamed, place_of}
 use Rattle.tables.specs.Layout.{IsListed}
 use Rattle.tables.proofs.Quiet.{passive_is}
 
@@ -186,7 +186,7 @@ untimed_is t h =
     record { computed = empty_is _ (same_number _ _ p.0); places = empty_is _ (same_number _ _ p.1); terms = empty_is _ (same_number _ _ p.2); formats = empty_is _ (same_number _ _ p.3); counted = falls _ p.4 }
 
 -- what passes for a table of a shape is one
-pub shape_is : (shape : Shape) (t : Table) → has_shape shape t ≡ true → t ≡ made_at shape (place_of t)
+pub shape_is : (shape : TableShape) (t : Table) → has_shape shape t ≡ true → t ≡ made_at shape (place_of t)
 shape_is shape t h =
     let p = six_parts _ _ _ _ _ _ h in
     let k = four_parts _ _ _ _ p.1 in
@@ -207,10 +207,10 @@ shape_is shape t h =
     }
 
 -- a table that is found by its name and is the one that is made here is listed
-pub listed_as : (schema : Schema) (table : Place → Table) (t : Table) → (named : IsNamed schema (table (place_of t)).name t) → t ≡ table (place_of t) → IsListed table schema t.tree
+pub listed_as : (schema : Schema) (table : Place → Table) (t : Table) → (named : IsTableNamed schema (table (place_of t)).name t) → t ≡ table (place_of t) → IsListed table schema t.tree
 listed_as schema table t named is = ((place_of t).rules, record { at = named.at; named = named.named; there = named.there ∙ ap Some is })
 
-module _ (schema : Schema) (table : Ours) (told : Shape) (is : told ≡ shape_of table) where
+module _ (schema : Schema) (table : Ours) (told : TableShape) (is : told ≡ shape_of table) where
   -- a table that is found by the told name and passes for the told shape is listed
-  pub listed_by : (t : Table) → IsNamed schema told.name t → has_shape told t ≡ true → IsListed (table_at table) schema t.tree
-  listed_by t named h = listed_as schema (table_at table) t (subst (λ (shape : Shape). IsNamed schema shape.name t) is named) (shape_is (shape_of table) t (subst (λ (shape : Shape). has_shape shape t ≡ true) is h))
+  pub listed_by : (t : Table) → IsTableNamed schema told.name t → has_shape told t ≡ true → IsListed (table_at table) schema t.tree
+  listed_by t named h = listed_as schema (table_at table) t (subst (λ (shape : TableShape). IsTableNamed schema shape.name t) is named) (shape_is (shape_of table) t (subst (λ (shape : TableShape). has_shape shape t ≡ true) is h))

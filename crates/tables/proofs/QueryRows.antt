@@ -25,7 +25,7 @@ use Rattle.sqlite_draft.specs.declared.query.Draft.{Draft}
 use Rattle.sqlite_resolve.specs.Program.{program}
 use Rattle.sqlite_resolve.specs.declared.compiled.Compiled.{Compiled}
 use Rattle.sqlite_resolve.specs.declared.error.CompileError.TheVariants.{NoSuchTable}
-use Rattle.tables.specs.Table.{Place, Shape, Lists, made_at}
+use Rattle.tables.specs.Table.{Place, TableShape, Lists, made_at}
 use Rattle.tables.proofs.Understood.{planned_of, Means, IsWriteText, and_then_ok, ends_in_write, on_table_writes, compiles_to_write}
 use Rattle.tables.proofs.InsertRow.{has_listed, on_table_is}
 use Rattle.tables.proofs.SelectAll.{finding, no_overlay, found_query}
@@ -50,7 +50,7 @@ pub record IsDrafted (sql name : List ℕ) (s : Statement) (draft : Schema → �
   pub shows : (schema : Schema) (base : ℕ) → returning schema base s ≡ Ok None
   pub commands : (schema : Schema) (base : ℕ) → command schema [] base s ≡ on_table schema name (λ at table. and_then (draft schema at table) (λ d. and_then (program schema [] d) (λ q. Ok (make at q))))
 
-module _ (sql : List ℕ) (shape : Shape) (s : Statement) (draft : Schema → ℕ → Table → Checked Draft) (make : ℕ → Program → Command) (it : IsDrafted sql shape.name s draft make) where
+module _ (sql : List ℕ) (shape : TableShape) (s : Statement) (draft : Schema → ℕ → Table → Checked Draft) (make : ℕ → Program → Command) (it : IsDrafted sql shape.name s draft make) where
   -- the text is that of a write, where such a command is one
   pub drafted_writes : ((at : ℕ) (q : Program) → IsWrite (make at q)) → IsWriteText sql
   drafted_writes writes = compiles_to_write sql it.p it.parsed (λ schema base k h. on_table_writes schema shape.name _ k (λ at table e.

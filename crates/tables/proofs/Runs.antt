@@ -20,7 +20,7 @@ use Rattle.tables.specs.Table.{Place, Rules, Lists, all_tables, cells, table_at,
 use Rattle.std.proofs.lemmas.Bool.{cases_Bool}
 use Rattle.std.proofs.lemmas.Bool.Decides.{Decides-eqb}
 use Rattle.tables.specs.Keyed.{IsKeyed, Stands}
-use Rattle.tables.specs.Writes.{WritesOnly, Makes}
+use Rattle.tables.specs.Writes.{WritesOnly, Creates}
 use Rattle.tables.specs.Steps.{Does, HasStepped, IsPart, Rests}
 use Rattle.tables.specs.Inside.Steps.{HasRun, Stays}
 use Rattle.tables.proofs.Places.{listed_along}
@@ -55,7 +55,7 @@ stands_apart table place same rows tree old new apart only stands =
 
 -- so it does where another is made, and is another
 pub stands_beside : (table : Place → Table) (place : Place) (same : (table place).tree ≡ place.tree) (rows : List Row) (other : Place → Table) (rules : Rules) (given : List Row) (old new : Database)
-    → (made : Makes other rules given old new) → Stands table place rows old → Stands table place rows new × (place.tree ≢ made.place.tree)
+    → (made : Creates other rules given old new) → Stands table place rows old → Stands table place rows new × (place.tree ≢ made.place.tree)
 stands_beside table place same rows other rules given old new made stands =
     let kept = made.others (table place) stands.listed in
     (stands_kept table place same rows old new kept.0 kept.1 stands, λ e. kept.2 (same ∙ e))

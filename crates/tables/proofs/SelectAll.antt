@@ -44,7 +44,7 @@ use Rattle.sqlite.specs.Effect.{Database, Reads}
 use Rattle.sqlite.specs.Program.{overlay}
 use Rattle.sqlite.specs.Rows.{shown}
 use Rattle.sqlite_sql.specs.Term.{eval_all}
-use Rattle.tables.specs.Table.{Place, Shape, Lists, made_at}
+use Rattle.tables.specs.Table.{Place, TableShape, Lists, made_at}
 use Rattle.tables.specs.Keyed.{IsKeyed, Stands}
 use Rattle.tables.specs.Steps.{Shows, Rests}
 use Rattle.tables.specs.Inside.Steps.{RanQuery}
@@ -201,7 +201,7 @@ module _ (schema : Schema) (core : Core) (name : List ℕ) (at tree budget : ℕ
   named_is = rw (parts_are, no_distinct) refl
 
 -- a text that shows the rowid and each column of a table of this shape
-pub record IsSelect (sql : List ℕ) (shape : Shape) : Type 0 where
+pub record IsSelect (sql : List ℕ) (shape : TableShape) : Type 0 where
   pub plain : IsPlainSelect sql
   pub unlisted : if_select (compiled listing_schema sql) ≡ Err NoSuchTable
   pub budget : ℕ
@@ -214,7 +214,7 @@ accepted : (b : Bool) (p : Program) (names : List (List ℕ)) (k : Command)
 accepted true p names k h = cc
 accepted false p names k h = absurd (cc)
 
-module _ (sql : List ℕ) (shape : Shape) (it : IsSelect sql shape) (schema : Schema) (place : Place) (listed : Lists schema (made_at shape place)) (low : nat_lt place.tree (2 ^ 31) ≡ true) where
+module _ (sql : List ℕ) (shape : TableShape) (it : IsSelect sql shape) (schema : Schema) (place : Place) (listed : Lists schema (made_at shape place)) (low : nat_lt place.tree (2 ^ 31) ≡ true) where
   abbrev core : Core
   core = (out-Select it.plain.s).first
 
@@ -258,7 +258,7 @@ reads_by sql params old new rows k text unlisted means h =
     let db : it.0 ≡ old.now = subst (λ b. IsSourceOf b old.now it.0) plain it.1 in
     (subst₂ (λ c d. Reads c d params rows) is.0 db it.2, it.3)
 
-module _ (sql : List ℕ) (shape : Shape) (it : IsSelect sql shape) where
+module _ (sql : List ℕ) (shape : TableShape) (it : IsSelect sql shape) where
   shows_each : (place : Place) (rows : List Row) → map (λ (o : Output'). o.1) (map (output (whole_query place.tree it.outs)) (map (λ (r : Row). [] ∷ r ∷ []) rows)) ≡ map (shown (made_at shape place)) rows
   shows_each place [] = refl
   shows_each place (r ∷ rows) = λ i. it.shows place r i ∷ shows_each place rows i

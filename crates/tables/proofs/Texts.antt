@@ -38,7 +38,7 @@ use Rattle.sqlite_resolve.specs.declared.scope.Output.{Output}
 use Rattle.sqlite_resolve.specs.declared.error.CompileError.TheVariants.{NoSuchTable}
 use Rattle.sqlite_tied.specs.Compute.{everything}
 use Rattle.row_data.specs.declared.table.Table.{Table}
-use Rattle.tables.specs.Table.{Shape, Sql, Place, Lists, rules_of, shape_of, sql_of, table_at, kinds_of, are_of, cells}
+use Rattle.tables.specs.Table.{TableShape, Sql, Place, Lists, rules_of, shape_of, sql_of, table_at, kinds_of, are_of, cells}
 use Rattle.tables.specs.Writes.{begins_with, goes_on}
 use Rattle.tables.proofs.CreateTable.{IsCreate, made_command}
 use Rattle.tables.proofs.InsertRow.{IsInsert}
@@ -75,7 +75,7 @@ either P true here there = here
 either P false here there = there
 
 module _ (table : Table) where
-  abbrev shape : Shape
+  abbrev shape : TableShape
   shape = shape_of table
 
   abbrev said : Sql
@@ -156,7 +156,7 @@ not_select p (Ok k) other = rw (other k refl) refl
 not_select p (Err e) other = refl
 
 module _ (table : Table) (it : Texts table) where
-  abbrev told : Shape
+  abbrev told : TableShape
   told = shape_of table
 
   creates_only : (schema : Schema) (base : ℕ) (k : Command) → command schema [] base (written.CreateTable (create_of told it.read.body)) ≡ Ok k → k ≡ MakesTable

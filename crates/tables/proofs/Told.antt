@@ -9,7 +9,7 @@ use Rattle.tables.specs.Keyed.{IsKeyed}
 use Rattle.row_data.specs.declared.table.Table.{Table}
 use Rattle.tables.specs.Table.{Sharing, Sql, rules_of, shape_of, sharing, sql_of, table_at, kinds_of, kinds_shared, key_in, IsRowOf, IsKeyOf, IsNamed}
 use Rattle.tables.specs.declared.table.Group.{Group}
-use Rattle.tables.specs.Writes.{Makes, Adds, Removes, Replaces, begins_with, goes_on}
+use Rattle.tables.specs.Writes.{Creates, Adds, Removes, Replaces, begins_with, goes_on}
 use Rattle.tables.specs.Inside.Steps.{HasRun, RanQuery}
 use Rattle.tables.specs.Steps.{HasStepped, Shows, Rests}
 use Rattle.tables.proofs.CreateTable.{create_makes, create_writes}
@@ -27,7 +27,7 @@ use Rattle.tables.specs.declared.fault.TableFault.TheVariants.{Storage}
 
 module _ (table : Table) (told : Sql) (is : told ≡ sql_of table) (old new : State) (count : ℕ) where
   -- the table was made
-  pub created : HasRun told.create [] count old new → HasStepped (Makes (table_at table) (rules_of table) []) old new
+  pub created : HasRun told.create [] count old new → HasStepped (Creates (table_at table) (rules_of table) []) old new
   created run = stepped_by _ _ _ _ _ _ (create_writes (sql_of table).create (shape_of table) (rules_of table) (create_is table (texts table))) (create_makes (sql_of table).create (shape_of table) (rules_of table) (create_is table (texts table)) old new count) (subst (λ (sql : Sql). HasRun sql.create [] count old new) is run)
 
   -- a row was added, where none had its key

@@ -31,7 +31,7 @@ use Rattle.sqlite_rules.proofs.ListLemmas.{all_has}
 use Rattle.sqlite.proofs.Callers.{one_step}
 use Rattle.tables.specs.Inside.Keyed.{id_of}
 use Rattle.tables.specs.Keyed.{IsKeyed}
-use Rattle.tables.specs.Table.{Place, Shape, cells, are_of, made_at}
+use Rattle.tables.specs.Table.{Place, TableShape, cells, are_of, made_at}
 use Rattle.tables.specs.Writes.{begins_with, without, Replaces}
 use Rattle.tables.proofs.Places.{listed_along}
 use Rattle.tables.proofs.InsertKeyed.{went, same_value}
@@ -48,7 +48,7 @@ showing values = col 1 0 ∷ col 1 0 ∷ values
 
 -- A text that updates, read under any schema that lists a table of this shape, with what its test finds, as the table is STRICT or not, the rows that have the
 -- key of its parameters, and what it makes of each: the row that its parameters are, where those are of these kinds.
-pub record IsUpdate (sql : List ℕ) (shape : Shape) (kinds : List Kind) (width : ℕ) : Type 0 where
+pub record IsUpdate (sql : List ℕ) (shape : TableShape) (kinds : List Kind) (width : ℕ) : Type 0 where
   pub sets : List (List ℕ × Expr)
   pub test : Expr
   pub tests : Bool → List Term
@@ -150,7 +150,7 @@ module _ (t : Table) (find : Row → Bool) (values : List Term) (row key : Row) 
   pub counted : length (map (remade t) answer) ≡ length (filter (begins_with key) rows)
   counted = sym (length-map (map (remade t) answer) (cells t)) ∙ length_permutation _ _ given_are ∙ length-map (filter (begins_with key) rows) (λ (_ : Row). row)
 
-module _ (sql : List ℕ) (shape : Shape) (kinds : List Kind) (width : ℕ) (it : IsUpdate sql shape kinds width) where
+module _ (sql : List ℕ) (shape : TableShape) (kinds : List Kind) (width : ℕ) (it : IsUpdate sql shape kinds width) where
   -- the text is that of a write
   pub update_writes : IsWriteText sql
   update_writes = drafted_writes sql shape _ _ Update it.drafted (λ at q. tt)

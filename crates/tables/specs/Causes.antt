@@ -13,6 +13,8 @@ use Rattle.sqlite.specs.Does.{Does, Tally}
 use Rattle.sqlite.specs.State.{State, HasCleanDisk, Savepoint, IsStatement, IsNotRun, ExecutesInside, FailsToQuery, Shown, mode_of, text_of}
 use Rattle.tables.specs.declared.fault.TableFault.{TableFault}
 use Rattle.tables.specs.declared.fault.TableFault.TheVariants.{Memory, Storage}
+use Rattle.tables.specs.declared.statements.Entering.{Entering}
+use Rattle.tables.specs.declared.statements.Entering.TheVariants.{InPlace, New}
 use Rattle.row_data.specs.declared.table.Table.{Table}
 use Rattle.tables.specs.Faults.{fault_of}
 use Rattle.tables.specs.Keyed.{have_ids, rises}
@@ -64,7 +66,7 @@ showing limit in_transaction marks db = at_moment (record {
 })
 
 -- over an open connection that shows this database the call is refused, for another cause than want of memory
-pub record IsRefused (Refuses : State → Error → Type 0) (limit : Option ℕ) (db : Database) : Type 0 where
+pub record IsRefusedCall (Refuses : State → Error → Type 0) (limit : Option ℕ) (db : Database) : Type 0 where
   pub in_transaction : Bool
   pub marks : List Savepoint
   pub error : Error
@@ -103,9 +105,14 @@ pub record WentAdding (table : Table) (row : Row) (limit : Option ℕ) (db now :
 abbrev pub WentPutting : Table → Row → Option ℕ → Database → Database → Type 0
 WentPutting table row limit db now = WentThrough (sql_of table).update row 1 limit db now ⊎ WentAdding table row limit db now
 
+-- a row goes through that is brought into its table so
+abbrev pub WentEntering : Entering → Table → Row → Option ℕ → Database → Database → Type 0
+WentEntering InPlace table row = WentPutting table row
+WentEntering New table row = Went (sql_of table).insert row
+
 -- a statement of this text is refused
 abbrev pub IsHindered : List ℕ → Row → Option ℕ → Database → Type 0
-IsHindered sql params limit db = IsRefused (λ s e. ExecutesInside 0 sql params s s (Err e)) limit db ⊎ IsTooLarge sql params limit db
+IsHindered sql params limit db = IsRefusedCall (λ s e. ExecutesInside 0 sql params s s (Err e)) limit db ⊎ IsTooLarge sql params limit db
 
 -- rows in the order of their rowids
 abbrev pub by_rowid : Row → Row → Ordering
@@ -129,7 +136,7 @@ pub record ShowsUnkeyed (sql : List ℕ) (db : Database) : Type 0 where
 
 -- a query of this text is refused, or shows rows that their rowids do not tell apart
 abbrev pub IsUnread : List ℕ → Option ℕ → Database → Type 0
-IsUnread sql limit db = IsRefused (λ s e. FailsToQuery sql [] s s e) limit db ⊎ ShowsUnkeyed sql db
+IsUnread sql limit db = IsRefusedCall (λ s e. FailsToQuery sql [] s s e) limit db ⊎ ShowsUnkeyed sql db
 
 -- a query failed with an error that is this fault, or it showed rows that their rowids do not tell apart
 abbrev pub FailsToRead : List ℕ → TableFault → State → State → Type 0
@@ -157,7 +164,7 @@ pub record LacksMemory (old new : State) : Type 0 where
 
 -- the plainest query is refused
 abbrev pub IsUnready : Option ℕ → Database → Type 0
-IsUnready = IsRefused (λ s e. IsNotRun s s (codes "SELECT 1") [] e)
+IsUnready = IsRefusedCall (λ s e. IsNotRun s s (codes "SELECT 1") [] e)
 
 -- a put replaces several rows
 pub record ReplacesSeveral (table : Table) (row : Row) (db : Database) : Type 0 where
@@ -170,6 +177,11 @@ pub record ReplacesSeveral (table : Table) (row : Row) (db : Database) : Type 0 
 abbrev pub FailsToPut : Table → Row → TableFault → State → State → Type 0
 FailsToPut table row fault old new = FailsToWrite (sql_of table).update row fault old new ⊎ (FailsToAdd table row fault old new ⊎ (ReplacesSeveral table row old.now × (fault ≡ Storage)))
 
+-- a row that is brought into its table so is refused with an error that is this fault
+abbrev pub FailsToEnter : Entering → Table → Row → TableFault → State → State → Type 0
+FailsToEnter InPlace table row = FailsToPut table row
+FailsToEnter New table row = FailsToWrite (sql_of table).insert row
+
 -- the row can't be added, where there is none with its key
 pub record IsHinderedToAdd (table : Table) (row : Row) (limit : Option ℕ) (db : Database) : Type 0 where
   pub between : Database
@@ -179,6 +191,11 @@ pub record IsHinderedToAdd (table : Table) (row : Row) (limit : Option ℕ) (db 
 -- a put of the row is refused: as it replaces the row with its key, or as it is added, or since several rows have its key
 abbrev pub IsHinderedToPut : Table → Row → Option ℕ → Database → Type 0
 IsHinderedToPut table row limit db = IsHindered (sql_of table).update row limit db ⊎ (IsHinderedToAdd table row limit db ⊎ ReplacesSeveral table row db)
+
+-- a row is refused that is brought into its table so
+abbrev pub IsHinderedToEnter : Entering → Table → Row → Option ℕ → Database → Type 0
+IsHinderedToEnter InPlace table row = IsHinderedToPut table row
+IsHinderedToEnter New table row = IsHindered (sql_of table).insert row
 
 -- Why a call from the one state to the other fails, for another cause than want of memory: the connection is shut, the disk has failed or
 -- refused once more, or the call is hindered in this way.

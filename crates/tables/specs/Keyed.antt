@@ -7,7 +7,7 @@ use Rattle.sqlite.specs.Table.{Table}
 use Rattle.sqlite.specs.Tree.{rowid, IsAscending}
 use Rattle.sqlite.specs.Effect.{Database}
 use Rattle.sqlite_trees.specs.View.{is_int}
-use Rattle.tables.specs.Table.{Place, Lists, Holds}
+use Rattle.tables.specs.Table.{Place, Lists, HasRows}
 
 -- each rowid is an integer, and no two are one
 pub record IsKeyed (rows : List Row) : Type 0 where
@@ -18,7 +18,7 @@ pub record IsKeyed (rows : List Row) : Type 0 where
 pub record Stands (table : Place → Table) (place : Place) (rows : List Row) (db : Database) : Type 0 where
   pub listed : Lists db.schema (table place)
   pub keyed : IsKeyed (db.trees place.tree)
-  pub holds : Holds db (table place) rows
+  pub holds : HasRows db (table place) rows
 
 -- the first row's rowid is below that of the next one, if there is one
 abbrev pub comes_first : Row → List Row → Bool

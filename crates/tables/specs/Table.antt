@@ -30,7 +30,7 @@ use Rattle.tables.specs.declared.table.Group.TheVariants as group
 -- A table as it is told: its name and its columns; the position of the column that is the rowid, if one is; its key,
 -- columns that no two rows share, and references, all by columns counted from 1, with 0 for the rowid; and how many of
 -- the first columns a removal names.
-pub record Shape : Type 0 where
+pub record TableShape : Type 0 where
   pub name : List ℕ
   pub columns : List (List ℕ × Kind)
   pub key : Option ℕ
@@ -48,15 +48,15 @@ pub record Sql : Type 0 where
   pub select : List ℕ
 
 -- a table whose key is its first column, a text
-abbrev pub by_text : List ℕ → List (List ℕ × Kind) → List (ℕ × List ℕ × List ℕ) → Shape
+abbrev pub by_text : List ℕ → List (List ℕ × Kind) → List (ℕ × List ℕ × List ℕ) → TableShape
 by_text name columns links = record { name = name; columns = columns; key = None; primary = 1 ∷ []; uniques = (1 ∷ []) ∷ []; links = links; named = 1 }
 
 -- one whose key is its first column, a number: the rowid
-abbrev pub by_rowid : List ℕ → List (List ℕ × Kind) → List (ℕ × List ℕ × List ℕ) → Shape
+abbrev pub by_rowid : List ℕ → List (List ℕ × Kind) → List (ℕ × List ℕ × List ℕ) → TableShape
 by_rowid name columns links = record { name = name; columns = columns; key = Some 0; primary = 0 ∷ []; uniques = []; links = links; named = 1 }
 
 -- a table of choices: its key is a round, a student and a place
-abbrev pub choices : List ℕ → Shape
+abbrev pub choices : List ℕ → TableShape
 choices name = record {
   name = name;
   columns = (codes "round", Integer) ∷ (codes "student", Text) ∷ (codes "place", Integer) ∷ (codes "project", Text) ∷ [];
@@ -68,7 +68,7 @@ choices name = record {
 }
 
 -- a table of placements
-abbrev pub placements : List ℕ → Shape
+abbrev pub placements : List ℕ → TableShape
 placements name = by_text name ((codes "student", Text) ∷ (codes "round", Integer) ∷ (codes "project", Text) ∷ (codes "rank", Integer) ∷ []) ((1, codes "student", codes "code") ∷ (2, codes "round", codes "number") ∷ (3, codes "project", codes "code") ∷ [])
 
 -- the column at a place is compared with this value
@@ -82,7 +82,7 @@ between place low high = op2 And (against Ge place (Int (pos low))) (against Le 
 -- All that is told of a table: a number of its own, its shape, the texts of its statements, and the CHECK rules that it is made with.
 pub record Telling : Type 0 where
   pub number : ℕ
-  pub shape : Shape
+  pub shape : TableShape
   pub sql : Sql
   pub checks : List Term
 
@@ -228,7 +228,7 @@ all_tables = Edition ∷ Supervisor ∷ Project ∷ Student ∷ Round ∷ OldCho
 abbrev pub number_of : Table → ℕ
 number_of table = (telling table).number
 
-abbrev pub shape_of : Table → Shape
+abbrev pub shape_of : Table → TableShape
 shape_of table = (telling table).shape
 
 abbrev pub sql_of : Table → Sql
@@ -285,7 +285,7 @@ ascending zero = []
 ascending (suc count) = plain ∷ ascending count
 
 -- the table of this shape, as a schema lists it
-abbrev pub made_at : Shape → Place → AnyTable
+abbrev pub made_at : TableShape → Place → AnyTable
 made_at shape place = record {
   name = shape.name;
   tree = place.tree;
@@ -320,8 +320,8 @@ abbrev pub cells : AnyTable → Row → Row
 cells table row = drop 1 (shown table row)
 
 -- the table holds these rows, in whatever order
-abbrev pub Holds : Database → AnyTable → List Row → Type 0
-Holds db table rows = IsPermutation rows (map (cells table) (db.trees table.tree))
+abbrev pub HasRows : Database → AnyTable → List Row → Type 0
+HasRows db table rows = IsPermutation rows (map (cells table) (db.trees table.tree))
 
 -- the values are of these kinds, one each
 abbrev pub are_of : List Kind → Row → Bool

@@ -12,6 +12,8 @@ use Rattle.sqlite_schema.specs.declared.schema.Keys.TheVariants.{Enforced}
 use Rattle.tables.specs.Table.{Place, Rules, Lists}
 use Rattle.tables.specs.Keyed.{Stands}
 use Rattle.tables.specs.Inert.{IsActedOn}
+use Rattle.tables.specs.declared.statements.Entering.{Entering}
+use Rattle.tables.specs.declared.statements.Entering.TheVariants.{InPlace, New}
 
 -- the schema is as it was, and of its tables at most the one of this tree has changed
 pub record WritesOnly (tree : ℕ) (old new : Database) : Type 0 where
@@ -24,7 +26,7 @@ IsInert schema tree = (olds news : List Row) → works schema Enforced 0 tree ol
 
 -- A table more, by these rules, which say whether it is STRICT, which references name their columns, and its CHECK rules; it holds these
 -- rows, while the tables that the schema had are listed as before, with their rows, and no further foreign key acts on them.
-pub record Makes (table : Place → AnyTable) (rules : Rules) (rows : List Row) (old new : Database) : Type 0 where
+pub record Creates (table : Place → AnyTable) (rules : Rules) (rows : List Row) (old new : Database) : Type 0 where
   pub place : Place
   pub ruled : place.rules ≡ rules
   pub stands : Stands table place rows new
@@ -32,8 +34,8 @@ pub record Makes (table : Place → AnyTable) (rules : Rules) (rows : List Row) 
   pub quiet : (t : AnyTable) → Lists old.schema t → IsActedOn new.schema.tables t.tree → IsActedOn old.schema.tables t.tree
 
 -- where no foreign key acts on the table, its rows become what f makes of them, and nothing else changes
-abbrev pub Turns : (Place → AnyTable) → (List Row → List Row) → Database → Database → Type 0
-Turns table f old new = (place : Place) (rows : List Row) → IsInert old.schema place.tree → Stands table place rows old → Stands table place (f rows) new × WritesOnly place.tree old new
+abbrev pub TurnsRows : (Place → AnyTable) → (List Row → List Row) → Database → Database → Type 0
+TurnsRows table f old new = (place : Place) (rows : List Row) → IsInert old.schema place.tree → Stands table place rows old → Stands table place (f rows) new × WritesOnly place.tree old new
 
 -- the row begins with these values, as SQL compares them
 abbrev pub begins_with : Row → Row → Bool
@@ -59,11 +61,16 @@ Adds table key row old new =
 
 -- the rows that pass this test are gone
 unfoldable pub Removes : (Place → AnyTable) → (Row → Bool) → Database → Database → Type 0
-Removes table goes = Turns table (filter (λ row. not (goes row)))
+Removes table goes = TurnsRows table (filter (λ row. not (goes row)))
 
 -- of the rows with this key there is one, the given one
 unfoldable pub Puts : (Place → AnyTable) → Row → Row → Database → Database → Type 0
-Puts table key given = Turns table (with_row key given)
+Puts table key given = TurnsRows table (with_row key given)
+
+-- what a statement does that brings a row into its table so
+abbrev pub Enters : Entering → (Place → AnyTable) → Row → Row → Database → Database → Type 0
+Enters InPlace = Puts
+Enters New = Adds
 
 -- where no foreign key acts on the table, each row with this key is replaced by the given one, and nothing else changes; so many there were
 abbrev pub Replaces : (Place → AnyTable) → Row → Row → ℕ → Database → Database → Type 0

@@ -7,16 +7,16 @@ ghost use Rattle.std.specs.List.{list_all, list_any};
 ghost use Rattle.sqlite_schema.specs.Names.{table_named};
 ghost use Rattle.tables.specs.Inside.Table.{column_by, link_by, places_by, told_by};
 ghost use Rattle.tables.specs.Table.{kind_in, shape_of, table_at};
-ghost use Rattle.tables.specs.Inside.Layout.{is_alone, is_required, are_loose, are_of_one, are_strict, are_told, is_referring, are_plain, is_untimed, has_keys, has_shape, IsNamed};
+ghost use Rattle.tables.specs.Inside.Layout.{is_alone, is_required, are_loose, are_of_one, are_strict, are_told, is_referring, are_plain, is_untimed, has_keys, has_shape, IsTableNamed};
 ghost use Rattle.tables.specs.Layout.{IsListed, IsUnlisted, is_kept_of, is_there};
 ghost use Rattle.sqlite.specs.Table.{Table as AnyTable};
 
 use crate::inert::is_passive;
-use crate::table::{Link, Shape, Shaped, Told};
+use crate::table::{Link, Shape, Shaped, ToldColumn};
 use row_data::Table;
 use sqlite_items::Items;
 use sqlite_schema::names::same_name;
-use sqlite_schema::schema::{Column, Kind, Reference, Schema, Table as Listed, View};
+use sqlite_schema::schema::{Column, Kind, Reference, Schema, Table as SchemaTable, View};
 use sqlite_value::keys::{Collation, Order};
 use sqlite_value::value::{Bytes, Value};
 
@@ -30,7 +30,7 @@ fn kind_in(kind: Kind, is_strict: bool) -> Kind
     }
 }
 
-fn is_required(column: &Column, told: &Told) -> bool
+fn is_required(column: &Column, told: &ToldColumn) -> bool
     ensures { result ≡ is_required (column_by told.now) column.now }
 {
     column.name.as_slice() == told.0.as_bytes()
@@ -40,7 +40,7 @@ fn is_required(column: &Column, told: &Told) -> bool
         && matches!(column.collation, Collation::Binary)
 }
 
-fn are_required(columns: &[Column], told: &[Told]) -> bool
+fn are_required(columns: &[Column], told: &[ToldColumn]) -> bool
     ensures { result ≡ are_told is_required (map column_by told.now) columns.now }
 {
     columns.len() == told.len()
@@ -123,7 +123,7 @@ fn are_plain(orders: &[Order], count: usize) -> bool
     orders.len() == count && are_ascending(orders)
 }
 
-fn is_untimed(table: &Listed) -> bool
+fn is_untimed(table: &SchemaTable) -> bool
     ensures { result ≡ is_untimed table.now }
 {
     table.computed.len() == 0
@@ -133,7 +133,7 @@ fn is_untimed(table: &Listed) -> bool
         && !table.is_counted
 }
 
-fn has_keys(table: &Listed, shape: &Shape) -> bool
+fn has_keys(table: &SchemaTable, shape: &Shape) -> bool
     ensures { result ≡ has_keys (told_by shape.now) table.now }
 {
     table.key == shape.keys.rowid
@@ -143,7 +143,7 @@ fn has_keys(table: &Listed, shape: &Shape) -> bool
 }
 
 /// Whether a table is as one of this shape is made, STRICT or not, and with references that may name no column.
-fn has_shape(table: &Listed, shape: &Shape) -> bool
+fn has_shape(table: &SchemaTable, shape: &Shape) -> bool
     ensures { result ≡ has_shape (told_by shape.now) table.now }
 {
     table.name.as_slice() == shape.name.as_bytes()
@@ -165,8 +165,8 @@ fn position_of(schema: &Schema, name: &str) -> Option<usize>
 }
 
 /// The first table of this name, but for the case of its letters.
-fn find_table<'a>(schema: &'a Schema, name: &str) -> Option<&'a Listed>
-    ensures some { IfSome result (λ table. IsNamed schema.now name.now table.now) }
+fn find_table<'a>(schema: &'a Schema, name: &str) -> Option<&'a SchemaTable>
+    ensures some { IfSome result (λ table. IsTableNamed schema.now name.now table.now) }
     ensures none { result ≡ None → (at : ℕ) (table : AnyTable) → table_named schema.now name.now ≡ Some at → slice_get schema.now.tables at ≡ Some table → ⊥ }
 {
     let at = position_of(schema, name)?;

@@ -5,9 +5,9 @@ ghost use Rattle.sqlite.specs.State.{HasCleanDisk, Survives};
 ghost use Rattle.sqlite.specs.Values.{bound};
 ghost use Rattle.sqlite.specs.Held.{state};
 ghost use Rattle.tables.specs.declared.fault.TableFault.TheVariants.{Storage};
-ghost use Rattle.tables.specs.Causes.{FailsToPut, FailsToRead, FailsToWrite, IsCaused, IsCausedInside, IsHindered, IsHinderedToPut, IsRunInside, IsToldInside, IsUnread, Went, WentPutting};
+ghost use Rattle.tables.specs.Causes.{FailsToEnter, FailsToRead, FailsToWrite, IsCaused, IsCausedInside, IsHindered, IsHinderedToEnter, IsRunInside, IsToldInside, IsUnread, Went, WentEntering};
 ghost use Rattle.tables.specs.Table.{IsKeyOf, IsNamed, IsRowOf, key_in, rules_of, sharing, sql_of, table_at};
-ghost use Rattle.tables.specs.Writes.{Adds, Makes, Puts, Removes, begins_with, goes_on};
+ghost use Rattle.tables.specs.Writes.{Creates, Enters, Removes, begins_with, goes_on};
 ghost use Rattle.tables.specs.Steps.{Does, HasStepped, Rests, Shows};
 
 use crate::fault::{TableFault, Wrote};
@@ -18,10 +18,10 @@ use row_data::Table;
 use sqlite::{Alter, Connection, Row, Transaction};
 use sqlite_value::value::ValueRef;
 
-/// Makes the table: a STRICT one, whose references name their columns, with its CHECK rules.
+/// Creates the table: a STRICT one, whose references name their columns, with its CHECK rules.
 pub fn make<S: Alter>(tx: &mut Transaction<'_, S>, table: Table) -> Wrote
     ensures same_reference { tx.new.conn.ghost_name ≡ tx.old.conn.ghost_name }
-    ensures step { Does (HasStepped (Makes (table_at table) (rules_of table) [])) result (state S.Store tx.old.conn.now) (state S.Store tx.new.conn.now) }
+    ensures step { Does (HasStepped (Creates (table_at table) (rules_of table) [])) result (state S.Store tx.old.conn.now) (state S.Store tx.new.conn.now) }
     ensures ran { IsRunInside (Went (sql_of table).create []) result (state S.Store tx.old.conn.now) (state S.Store tx.new.conn.now) }
     ensures told { IsToldInside (FailsToWrite (sql_of table).create []) result (state S.Store tx.old.conn.now) (state S.Store tx.new.conn.now) }
     ensures cause { IsCausedInside (IsHindered (sql_of table).create []) result (state S.Store tx.old.conn.now) (state S.Store tx.new.conn.now) }
@@ -30,34 +30,43 @@ pub fn make<S: Alter>(tx: &mut Transaction<'_, S>, table: Table) -> Wrote
     Ok(())
 }
 
-/// Adds a row. The database refuses one whose key is there.
-pub fn insert<S: Alter>(tx: &mut Transaction<'_, S>, table: Table, row: &[ValueRef<'_>]) -> Wrote
-    requires { IsRowOf table (bound row.now) }
-
-    ensures same_reference { tx.new.conn.ghost_name ≡ tx.old.conn.ghost_name }
-    ensures step { Does (HasStepped (Adds (table_at table) (key_in table (bound row.now)) (bound row.now))) result (state S.Store tx.old.conn.now) (state S.Store tx.new.conn.now) }
-    ensures ran { IsRunInside (Went (sql_of table).insert (bound row.now)) result (state S.Store tx.old.conn.now) (state S.Store tx.new.conn.now) }
-    ensures told { IsToldInside (FailsToWrite (sql_of table).insert (bound row.now)) result (state S.Store tx.old.conn.now) (state S.Store tx.new.conn.now) }
-    ensures cause { IsCausedInside (IsHindered (sql_of table).insert (bound row.now)) result (state S.Store tx.old.conn.now) (state S.Store tx.new.conn.now) }
-{
-    write(tx, table.shape().insert, row)?;
-    Ok(())
+/// How a row comes into its table.
+#[derive(Clone, Copy)]
+pub enum Entering {
+    /// In the place of the one with its key, or as one more.
+    InPlace,
+    /// As a row of a new key. The database refuses one whose key is there.
+    New,
 }
 
-/// Puts the row in: in the place of the one with its key, or a row more.
-pub fn put<S: Alter>(tx: &mut Transaction<'_, S>, table: Table, row: &[ValueRef<'_>]) -> Wrote
+/// Brings a row into its table.
+pub fn enter<S: Alter>(
+    tx: &mut Transaction<'_, S>,
+    way: Entering,
+    table: Table,
+    row: &[ValueRef<'_>],
+) -> Wrote
     requires { IsRowOf table (bound row.now) }
 
     ensures same_reference { tx.new.conn.ghost_name ≡ tx.old.conn.ghost_name }
-    ensures step { Does (HasStepped (Puts (table_at table) (key_in table (bound row.now)) (bound row.now))) result (state S.Store tx.old.conn.now) (state S.Store tx.new.conn.now) }
-    ensures ran { IsRunInside (WentPutting table (bound row.now)) result (state S.Store tx.old.conn.now) (state S.Store tx.new.conn.now) }
-    ensures told { IsToldInside (FailsToPut table (bound row.now)) result (state S.Store tx.old.conn.now) (state S.Store tx.new.conn.now) }
-    ensures cause { IsCausedInside (IsHinderedToPut table (bound row.now)) result (state S.Store tx.old.conn.now) (state S.Store tx.new.conn.now) }
+    ensures step { Does (HasStepped (Enters way (table_at table) (key_in table (bound row.now)) (bound row.now))) result (state S.Store tx.old.conn.now) (state S.Store tx.new.conn.now) }
+    ensures ran { IsRunInside (WentEntering way table (bound row.now)) result (state S.Store tx.old.conn.now) (state S.Store tx.new.conn.now) }
+    ensures told { IsToldInside (FailsToEnter way table (bound row.now)) result (state S.Store tx.old.conn.now) (state S.Store tx.new.conn.now) }
+    ensures cause { IsCausedInside (IsHinderedToEnter way table (bound row.now)) result (state S.Store tx.old.conn.now) (state S.Store tx.new.conn.now) }
 {
-    match write(tx, table.shape().update, row)? {
-        0 => insert(tx, table, row),
-        1 => Ok(()),
-        _ => Err(TableFault::Storage),
+    match way {
+        Entering::New => {
+            write(tx, table.shape().insert, row)?;
+            Ok(())
+        }
+        Entering::InPlace => match write(tx, table.shape().update, row)? {
+            0 => {
+                write(tx, table.shape().insert, row)?;
+                Ok(())
+            }
+            1 => Ok(()),
+            _ => Err(TableFault::Storage),
+        },
     }
 }
 

@@ -8,41 +8,41 @@ use row_data::Table;
 use sqlite_schema::schema::Kind;
 
 /// A column of a table, by its name and its kind: NOT NULL, with no default.
-pub(crate) struct Told(pub &'static str, pub Kind);
+pub(crate) struct ToldColumn(pub &'static str, pub Kind);
 
-const BYTES: Told = Told("bytes", Kind::Blob);
+const BYTES: ToldColumn = ToldColumn("bytes", Kind::Blob);
 
-const CODE: Told = Told("code", Kind::Text);
+const CODE: ToldColumn = ToldColumn("code", Kind::Text);
 
-const GENEROUS: Told = Told("generous", Kind::Integer);
+const GENEROUS: ToldColumn = ToldColumn("generous", Kind::Integer);
 
-const ID: Told = Told("id", Kind::Integer);
+const ID: ToldColumn = ToldColumn("id", Kind::Integer);
 
-const IMPORT: Told = Told("id", Kind::Text);
+const IMPORT: ToldColumn = ToldColumn("id", Kind::Text);
 
-const KIND: Told = Told("kind", Kind::Text);
+const KIND: ToldColumn = ToldColumn("kind", Kind::Text);
 
-const LABEL: Told = Told("label", Kind::Text);
+const LABEL: ToldColumn = ToldColumn("label", Kind::Text);
 
-const NUMBER: Told = Told("number", Kind::Integer);
+const NUMBER: ToldColumn = ToldColumn("number", Kind::Integer);
 
-const OPEN: Told = Told("open", Kind::Integer);
+const OPEN: ToldColumn = ToldColumn("open", Kind::Integer);
 
-const PLACE: Told = Told("place", Kind::Integer);
+const PLACE: ToldColumn = ToldColumn("place", Kind::Integer);
 
-const PROJECT: Told = Told("project", Kind::Text);
+const PROJECT: ToldColumn = ToldColumn("project", Kind::Text);
 
-const QUOTA: Told = Told("quota", Kind::Integer);
+const QUOTA: ToldColumn = ToldColumn("quota", Kind::Integer);
 
-const RANK: Told = Told("rank", Kind::Integer);
+const RANK: ToldColumn = ToldColumn("rank", Kind::Integer);
 
-const ROUND: Told = Told("round", Kind::Integer);
+const ROUND: ToldColumn = ToldColumn("round", Kind::Integer);
 
-const ROWS: Told = Told("rows", Kind::Integer);
+const ROWS: ToldColumn = ToldColumn("rows", Kind::Integer);
 
-const STUDENT: Told = Told("student", Kind::Text);
+const STUDENT: ToldColumn = ToldColumn("student", Kind::Text);
 
-const SUPERVISOR: Told = Told("supervisor", Kind::Text);
+const SUPERVISOR: ToldColumn = ToldColumn("supervisor", Kind::Text);
 
 /// The column of another table by which its rows are named.
 pub(crate) struct Parent {
@@ -102,19 +102,19 @@ const BY_PLACE: Keys = Keys {
 };
 
 /// The columns of a choice, and to which tables they refer.
-const CHOICE_COLUMNS: &[Told] = &[ROUND, STUDENT, PLACE, PROJECT];
+const CHOICE_COLUMNS: &[ToldColumn] = &[ROUND, STUDENT, PLACE, PROJECT];
 
 const CHOICE_LINKS: &[Link] = &[Link(1, ROUNDS), Link(2, STUDENTS), Link(4, PROJECTS)];
 
 /// Those of a placement.
-const PLACEMENT_COLUMNS: &[Told] = &[STUDENT, ROUND, PROJECT, RANK];
+const PLACEMENT_COLUMNS: &[ToldColumn] = &[STUDENT, ROUND, PROJECT, RANK];
 
 const PLACEMENT_LINKS: &[Link] = &[Link(1, STUDENTS), Link(2, ROUNDS), Link(3, PROJECTS)];
 
 /// How a table is told: what it is, and what its statements say.
 pub(crate) struct Shape {
     pub name: &'static str,
-    pub columns: &'static [Told],
+    pub columns: &'static [ToldColumn],
     pub keys: Keys,
     pub links: &'static [Link],
     pub create: &'static str,

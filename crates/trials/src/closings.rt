@@ -1,7 +1,7 @@
 //! Closings at a desk, byte for byte: which matching a round takes, with quotas that change between rounds, and rounds of
 //! sixty and forty lists.
 
-use plays::played::{Part, Sitting, play_all};
+use plays::played::{Part, Play, play_all};
 use plays::school::SCHOOL;
 use std::rt::HostRuntime;
 use std::test::Fail;
@@ -206,7 +206,7 @@ const TWELFTH_CHOICE: &str =
 
 /// Each play at tables of its own.
 #[rattlefmt::skip]
-static PLAYS: [&[Sitting]; 10] = [
+static PLAYS: [&[Play]; 10] = [
     &[(&[Part::Counted(5, 6, OF_QUOTA), Part::Lines(OF_TWELVE), Part::Counted(1, 12, NO_ROOM), Part::Lines(TWELFTH_CHOICE)], 1)],
     &[(&[Part::Lines(SCHOOL), Part::Lines(BEFORE), Part::Lines(GREEDY), Part::Lines(TWO_FIRSTS)], 3)],
     &[(&[Part::Lines(SCHOOL), Part::Lines(BEFORE), Part::Lines(GREEDY), Part::Lines(FAR_LISTS), Part::Lines(FIRST_AND_FOURTH)], 3)],

@@ -1,6 +1,6 @@
 //! Streams at a desk over a database in memory, byte for byte.
 
-use plays::played::{Part, Sitting, Stream, play_all};
+use plays::played::{Part, Play, Stream, play_all};
 use std::io::ErrorKind;
 use std::rt::HostRuntime;
 use std::test::Fail;
@@ -31,7 +31,7 @@ const READ: Part = Part::Stream(Stream { name: "what was put", bytes: (GET_TWO, 
 
 /// Streams whose bytes come in pieces, and whose readers and writers fail; each play at tables of its own.
 #[rattlefmt::skip]
-static STREAMS: [&[Sitting]; 12] = [
+static STREAMS: [&[Play]; 12] = [
     &[(&[Part::Stream(Stream { name: "no bytes", bytes: (b"", 0), pieces: (9, 9), broken: None, room: (100_000, None), written: (b"", 0), result: Ok(Served { answered: 0, end: End::Closed }) }), ANN, READ], 1), (&[READ], 1)],
     &[(&[Part::Stream(Stream { name: "two in pieces of 1", bytes: (PUT_TWO, 126), pieces: (1, 1), broken: None, room: (100_000, None), written: (DONE_TWICE, 164), result: Ok(Served { answered: 2, end: End::Closed }) })], 2)],
     &[(&[Part::Stream(Stream { name: "all but the last byte in pieces of 1", bytes: (PUT_TWO, 125), pieces: (1, 1), broken: None, room: (100_000, None), written: (DONE_TWICE, 82), result: Ok(Served { answered: 1, end: End::Unfinished }) })], 1)],
@@ -150,7 +150,7 @@ const _: () = prove!(13 + 65_522 + 1 == 65_536);
 
 /// Each play at tables of its own.
 #[rattlefmt::skip]
-static PLAYS: [&[Sitting]; 5] = [
+static PLAYS: [&[Play]; 5] = [
     &[(&[Part::Lines(EXCHANGES)], 2)],
     &[(&[Part::Lines(FORMS), Part::Filled(200, "a", LONGEST_LABEL), Part::Filled(201, "a", LONG_LABEL)], 4)],
     &[(&[Part::Counted(0, 100, EACH_SUPERVISOR), Part::Lines(FULL)], 0)],

@@ -1,7 +1,7 @@
 //! Imports over a stream, byte for byte: what each answers, that a faulty one changes nothing, and that one which comes twice is
 //! made once.
 
-use plays::played::{Part, Sitting, play_all};
+use plays::played::{Part, Play, play_all};
 use rolls::MOST_IMPORT_BYTES;
 use std::rt::HostRuntime;
 use std::test::Fail;
@@ -91,7 +91,7 @@ const _: () = prove!(10 + 2 * 32_763 == MOST_IMPORT_BYTES);
 
 /// Each play at tables of its own.
 #[rattlefmt::skip]
-static PLAYS: [&[Sitting]; 5] = [
+static PLAYS: [&[Play]; 5] = [
     &[(&[Part::Lines(FAULTY), Part::Lines(STUDENTS)], 2)],
     &[(&[Part::Lines(STUDENTS)], 2), (&[Part::Lines(STUDENTS)], 2)],
     &[(&[Part::Lines(SPREADSHEETS), Part::Lines(ROLLS), Part::Lines(OPEN), Part::Lines(LISTS)], 2)],

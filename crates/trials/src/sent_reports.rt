@@ -1,6 +1,6 @@
 //! Reports over a stream, byte for byte, and once more after the desk is opened anew.
 
-use plays::played::{Part, Sitting, play_all};
+use plays::played::{Part, Play, play_all};
 use plays::school::SCHOOL;
 use std::rt::HostRuntime;
 use std::test::Fail;
@@ -72,7 +72,7 @@ const BOTH: &str =
 
 /// The reports at one desk, and at a second one over its tables.
 #[rattlefmt::skip]
-static PLAYS: [&[Sitting]; 1] = [&[
+static PLAYS: [&[Play]; 1] = [&[
     (&[Part::Lines(SCHOOL), Part::Lines(OPEN), Part::Lines(REFUSED), Part::Lines(BEFORE), Part::Lines(CLOSE), Part::Lines(AFTER), Part::Lines(SECOND), Part::Lines(BOTH)], 3),
     (&[Part::Lines(BOTH)], 3),
 ]];

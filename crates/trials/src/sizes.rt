@@ -2,7 +2,7 @@
 //! round, and bodies far longer than those of the other tests.
 
 use crate::terms::EACH_ROUND;
-use plays::played::{Part, Sitting, play_all};
+use plays::played::{Part, Play, play_all};
 use plays::school::SCHOOL;
 use std::rt::HostRuntime;
 use std::test::Fail;
@@ -52,7 +52,7 @@ const SIXTY_FIVE: &str =
 
 /// Each play at tables of its own.
 #[rattlefmt::skip]
-static PLAYS: [&[Sitting]; 5] = [
+static PLAYS: [&[Play]; 5] = [
     &[(LARGEST, 500)],
     &[(&[Part::Counted(1, 7, EACH_ROUND), Part::Lines(SEVENTH)], 0)],
     &[(&[Part::Filled(10_000, "S,A^n", TEN_THOUSAND)], 1)],

@@ -1,7 +1,7 @@
 //! Rounds at a desk, byte for byte: lists, closings, placements and reopenings, through streams and after the desk is opened
 //! anew.
 
-use plays::played::{Part, Sitting, play_all};
+use plays::played::{Part, Play, play_all};
 use plays::school::SCHOOL;
 use spa::RANKS;
 use std::rt::HostRuntime;
@@ -164,7 +164,7 @@ const TWELVE: &str =
 
 /// Each play at tables of its own.
 #[rattlefmt::skip]
-static PLAYS: [&[Sitting]; 4] = [
+static PLAYS: [&[Play]; 4] = [
     &[
         (&[Part::Lines(SCHOOL), Part::Lines(SHUT), Part::Lines(LISTS), Part::Filled(RANKS as u32, r#""P","#, TOO_LONG), Part::Lines(CLOSED), Part::Lines(AFTER)], 3),
         (&[Part::Lines(AFTER)], 3),

@@ -6,7 +6,7 @@ use Rattle.wire.proofs.Known.{appends_compose}
 use Rattle.wire.specs.declared.outcome.Served.{Served}
 use Rattle.wire.specs.declared.outcome.StreamFault.{StreamFault}
 use Rattle.wire.specs.declared.outcome.StreamFault.TheVariants.{Read}
-use Rattle.wire.specs.Run.{Said}
+use Rattle.wire.specs.Run.{MessageText}
 use Rattle.web.specs.Connections.{IsStreamed, Connects, Connect, connection_line, lines_after, AllServed, SomeServed}
 use Rattle.web.specs.Serving.{end_text}
 use Rattle.web.proofs.Seen.{Shows, GivesBack, is_served_seen, served_back}
@@ -14,7 +14,7 @@ use Rattle.web.proofs.Seen.{Shows, GivesBack, is_served_seen, served_back}
 abbrev Came : Type 0
 Came = Result Served StreamFault
 
-module _ {D : Type 0} (step : D → Said → List ℕ → D → Type 0) where
+module _ {D : Type 0} (step : D → MessageText → List ℕ → D → Type 0) where
   -- one connection more
   connect_more : (before mid after : D) (came : List Came) (one : Came) → Connect step before came mid → Connects step mid one after → Connect step before (came ++ one ∷ []) after
   connect_more before mid after [] one so_far last = (after, subst (λ (d : D). Connects step d one after) so_far last, refl)
@@ -41,7 +41,7 @@ pub at_fault : {A E P : Type 0} (r : Result A E) → P → OnErr r P
 at_fault (Ok a) p = tt
 at_fault (Err e) p = p
 
-module _ {D : Type 0} (step : D → Said → List ℕ → D → Type 0) where
+module _ {D : Type 0} (step : D → MessageText → List ℕ → D → Type 0) where
   -- one more is served and told
   pub one_more : (before mid after : D) (n : ℕ) (w0 w w' : Option (List ℕ)) (one : Came) → AllServed step before n w0 w mid → Connects step mid one after
       → Appends w w' (connection_line (n + 1) one) → AllServed step before (n + 1) w0 w' after
@@ -74,7 +74,7 @@ module _ {D : Type 0} (step : D → Said → List ℕ → D → Type 0) where
   came_next before after (Err e) came streamed failed = inr failed
 
 -- connections at a desk are connections of what is seen of it
-module _ {D S : Type 0} (see : D → S) (step : S → Said → List ℕ → S → Type 0) (seen : D → Said → List ℕ → D → Type 0) (shows : Shows see step seen) where
+module _ {D S : Type 0} (see : D → S) (step : S → MessageText → List ℕ → S → Type 0) (seen : D → MessageText → List ℕ → D → Type 0) (shows : Shows see step seen) where
   connects_seen : (before after : D) (came : Came) → Connects seen before came after → Connects step (see before) came (see after)
   connects_seen before after came (inl s) = inl (s.0, s.1, s.2, s.3, is_served_seen see step end_text seen shows before after s.0 s.1 s.2 s.3 came s.4)
   connects_seen before after came (inr failed) = inr (failed.0, ap see failed.1)
@@ -84,7 +84,7 @@ module _ {D S : Type 0} (see : D → S) (step : S → Said → List ℕ → S �
   connect_seen before after (one ∷ more) c = (see c.0, connects_seen before c.0 one c.1, connect_seen c.0 after more c.2)
 
 -- what a step gives back connections do
-module _ {D : Type 0} (P : D → Type 0) (step : D → Said → List ℕ → D → Type 0) (back : GivesBack P step) where
+module _ {D : Type 0} (P : D → Type 0) (step : D → MessageText → List ℕ → D → Type 0) (back : GivesBack P step) where
   connects_back : (before after : D) (came : Came) → Connects step before came after → P after → P before
   connects_back before after came (inl s) p = served_back P step end_text back before after s.0 s.1 s.2 s.3 came s.4 p
   connects_back before after came (inr failed) p = subst P failed.1 p

@@ -3,24 +3,25 @@ use Rattle.std.proofs.Common.{◌≡◌, ◌⊎◌, inl, inr, ℕ, List, Option,
 use Rattle.sqlite_trees.specs.declared.store.Store.{Ghosts}
 use Rattle.rolls.specs.declared.refusal.Refusal.{Refusal}
 use Rattle.rolls.specs.declared.refusal.Refusal.TheVariants.{Memory, Storage}
-use Rattle.rolls.specs.declared.request.Plain.TheVariants.{PutSupervisor, PutProject, PutStudent, OpenRound, PutList, DropList, ReopenRound, GetSupervisor, GetProject, GetStudent, GetRound}
+use Rattle.rolls.specs.declared.request.Plain.{Plain}
+use Rattle.rolls.specs.declared.request.Plain.TheVariants.{PutSupervisor, PutProject, PutStudent, OpenRound, PutList, DropList, ReopenRound, GetRound}
 use Rattle.rolls.specs.declared.request.Reply.{Reply}
 use Rattle.rolls.specs.declared.request.Reply.TheVariants as reply
 use Rattle.rolls.specs.declared.request.Request.{Request}
 use Rattle.rolls.specs.declared.request.Request.TheVariants as request
 use Rattle.rolls.specs.Refusing.{refusal_of}
 use Rattle.rolls.specs.Run.{Makes, Step, refusal}
-use Rattle.allotment.specs.Layers.{layers}
+use Rattle.outside.specs.Layers.{layers}
 use Rattle.desk.specs.Keeping.{repeated_rows}
-use Rattle.desk.specs.Kept.{Kept}
+use Rattle.desk.specs.DeskState.{DeskState}
 use Rattle.desk.specs.Sessions.{AnswersAtOnce, GoesOn, IsToldRight}
 use Rattle.desk.specs.Causes.{IsHinderedToAsk}
 use Rattle.store.specs.Saving.{AreActedOn}
 use Rattle.tables.specs.Causes.{IsCaused}
 use Rattle.sqlite.specs.Held.{state}
-use Rattle.wire.specs.Run.{Said}
+use Rattle.wire.specs.Run.{MessageText}
 use Rattle.api.specs.Texts.{IsRead, refusal_text, text_of}
-use Rattle.web.specs.Serving.{Answers, AnswersAt, AnswersFrom, AnswersMessage, AtDesk, Gets, GetsAt, at_desk}
+use Rattle.web.specs.Serving.{AnswersRequest, AnswersAt, AnswersFrom, AnswersMessage, AtDesk, Gets, GetsAt, at_desk}
 
 -- an answer that is the one of a change has no text of the office in it
 no_read : (a b : Reply) → a ≡ b → IsRead (Ok a) → IsRead (Ok b)
@@ -45,19 +46,21 @@ wants_memory o n q allowed no_round new no_preview stays kept = record {
 }
 
 -- where there is no memory for the text of an answer, it is as if the request had found none: it is a read
+plain_wants : (o n : AtDesk) (p : Plain) (a : Reply) → IsRead (Ok a) → refusal layers o.office (request.Plain p) ≡ None → Makes layers o.office (request.Plain p) a n.office
+    → GoesOn o.office (request.Plain p) (Ok a) o.session n.session → Gets o (request.Plain p) (Err Memory) n
+plain_wants o n (PutSupervisor code label quota) a read allowed made goes = absurd (no_read a _ made.0 read)
+plain_wants o n (PutProject code label supervisor quota) a read allowed made goes = absurd (no_read a _ made.0 read)
+plain_wants o n (PutStudent code label) a read allowed made goes = absurd (no_read a _ made.0 read)
+plain_wants o n (OpenRound aim) a read allowed made goes = absurd (no_read a _ made.0 read)
+plain_wants o n (PutList student choices) a read allowed made goes = absurd (no_read a _ made.0 read)
+plain_wants o n (DropList student) a read allowed made goes = absurd (no_read a _ made.0 read)
+plain_wants o n ReopenRound a read allowed made goes = absurd (no_read a _ made.0 read)
+plain_wants o n (GetRound round) a read allowed made goes = absurd (no_read a _ made.0 read)
+plain_wants o n _ a read allowed made goes = wants_memory o n _ allowed (λ number is. cc) refl (λ is. cc) made.1 goes
+
 text_wants : (o n : AtDesk) (q : Request) (a : Reply) → IsRead (Ok a) → refusal layers o.office q ≡ None → Makes layers o.office q a n.office → GoesOn o.office q (Ok a) o.session n.session
     → Gets o q (Err Memory) n
-text_wants o n (request.Plain (PutSupervisor code label quota)) a read allowed made goes = absurd (no_read a _ made.0 read)
-text_wants o n (request.Plain (PutProject code label supervisor quota)) a read allowed made goes = absurd (no_read a _ made.0 read)
-text_wants o n (request.Plain (PutStudent code label)) a read allowed made goes = absurd (no_read a _ made.0 read)
-text_wants o n (request.Plain (OpenRound aim)) a read allowed made goes = absurd (no_read a _ made.0 read)
-text_wants o n (request.Plain (PutList student choices)) a read allowed made goes = absurd (no_read a _ made.0 read)
-text_wants o n (request.Plain (DropList student)) a read allowed made goes = absurd (no_read a _ made.0 read)
-text_wants o n (request.Plain ReopenRound) a read allowed made goes = absurd (no_read a _ made.0 read)
-text_wants o n (request.Plain (GetSupervisor code)) a read allowed made goes = wants_memory o n _ allowed (λ number is. cc) refl (λ is. cc) made.1 goes
-text_wants o n (request.Plain (GetProject code)) a read allowed made goes = wants_memory o n _ allowed (λ number is. cc) refl (λ is. cc) made.1 goes
-text_wants o n (request.Plain (GetStudent code)) a read allowed made goes = wants_memory o n _ allowed (λ number is. cc) refl (λ is. cc) made.1 goes
-text_wants o n (request.Plain (GetRound round)) a read allowed made goes = absurd (no_read a _ made.0 read)
+text_wants o n (request.Plain p) a read allowed made goes = plain_wants o n p a read allowed made goes
 text_wants o n request.Close a read allowed made goes = absurd (no_read a _ made.3 read)
 text_wants o n request.Preview a read allowed made goes = absurd (no_read a _ made.3 read)
 text_wants o n request.RoundText a read allowed made goes = wants_memory o n _ allowed (λ number is. cc) refl (λ is. cc) made.1 goes
@@ -66,12 +69,12 @@ text_wants o n (request.Import id kind bytes) a read allowed made goes = absurd 
 
 module _ {S : Type 0} (ghosts : Ghosts S) where
   -- what a desk promises of a request is what the request gets
-  pub gets_at : (o n : Kept S) (q : Request) (a : Result Reply Refusal) → Step layers o.office q a n.office → IsToldRight o.office q a → AnswersAtOnce o.office o.session q a → GoesOn o.office q a o.session n.session
+  pub gets_at : (o n : DeskState S) (q : Request) (a : Result Reply Refusal) → Step layers o.office q a n.office → IsToldRight o.office q a → AnswersAtOnce o.office o.session q a → GoesOn o.office q a o.session n.session
       → ((AreActedOn (state ghosts o.store).now.schema → ⊥) → IsCaused Storage (IsHinderedToAsk o.office q) a (state ghosts o.store) (state ghosts n.store)) → GetsAt ghosts o q a n
   gets_at o n q a step right at_once goes cause = record { gets = record { step = step; right = right; at_once = at_once; goes = goes }; cause = cause }
 
   -- a request that gets an answer is answered by its text, or as one that wants memory
-  pub answered_from : (o n : Kept S) (bytes : List ℕ) (q : Request) (a : Result Reply Refusal) → GetsAt ghosts o q a n
+  pub answered_from : (o n : DeskState S) (bytes : List ℕ) (q : Request) (a : Result Reply Refusal) → GetsAt ghosts o q a n
       → (bytes ≡ text_of a) ⊎ (IsRead a × (bytes ≡ refusal_text Memory)) → AnswersAt ghosts o (Ok q) bytes n
   answered_from o n bytes q a at (inl told) = (a, at, told)
   answered_from o n bytes q (Ok reply) at (inr told) =
@@ -79,9 +82,9 @@ module _ {S : Type 0} (ghosts : Ghosts S) where
   answered_from o n bytes q (Err refused) at (inr told) = absurd told.0
 
   -- a desk with its tables answers as what is seen of it
-  answers_seen : (o n : Kept S) (read : Result Request Refusal) (bytes : List ℕ) → AnswersAt ghosts o read bytes n → Answers (at_desk o) read bytes (at_desk n)
+  answers_seen : (o n : DeskState S) (read : Result Request Refusal) (bytes : List ℕ) → AnswersAt ghosts o read bytes n → AnswersRequest (at_desk o) read bytes (at_desk n)
   answers_seen o n (Ok q) bytes at = (at.0, at.1.gets, at.2)
   answers_seen o n (Err refusal) bytes at = (at.0, ap at_desk at.1)
 
-  pub message_seen : (o : Kept S) (words : Said) (bytes : List ℕ) (n : Kept S) → AnswersFrom ghosts o words bytes n → AnswersMessage (at_desk o) words bytes (at_desk n)
+  pub message_seen : (o : DeskState S) (words : MessageText) (bytes : List ℕ) (n : DeskState S) → AnswersFrom ghosts o words bytes n → AnswersMessage (at_desk o) words bytes (at_desk n)
   message_seen o words bytes n from = (from.read, from.is_read, answers_seen o n from.read bytes from.answers)

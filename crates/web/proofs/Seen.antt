@@ -1,18 +1,18 @@
 -- A run at a desk is a run of what is seen of it, and what a step gives back a run does.
 use Rattle.std.proofs.Common.{ℕ, List, [], ◌∷◌, Option, Result, Ok, Err, ap, sym, subst}
 use Rattle.wire.specs.Messages.{Message}
-use Rattle.wire.specs.Run.{Said, said, Run}
+use Rattle.wire.specs.Run.{MessageText, said, RunsMessages}
 use Rattle.wire.specs.Served.{IsServed, ServedTo, BrokeOff}
 use Rattle.wire.specs.declared.outcome.End.{End}
 use Rattle.wire.specs.declared.outcome.Served.{Served}
 use Rattle.wire.specs.declared.outcome.StreamFault.{StreamFault}
 
 -- a step that does as much as is seen
-abbrev pub Shows : {D S : Type 0} → (D → S) → (S → Said → List ℕ → S → Type 0) → (D → Said → List ℕ → D → Type 0) → Type 0
-Shows {D} see step seen = (before : D) (words : Said) (bytes : List ℕ) (after : D) → seen before words bytes after → step (see before) words bytes (see after)
+abbrev pub Shows : {D S : Type 0} → (D → S) → (S → MessageText → List ℕ → S → Type 0) → (D → MessageText → List ℕ → D → Type 0) → Type 0
+Shows {D} see step seen = (before : D) (words : MessageText) (bytes : List ℕ) (after : D) → seen before words bytes after → step (see before) words bytes (see after)
 
-module _ {D S : Type 0} (see : D → S) (step : S → Said → List ℕ → S → Type 0) (refusal : End → List ℕ) (seen : D → Said → List ℕ → D → Type 0) (shows : Shows see step seen) where
-  run_seen : (before after : D) (messages : List Message) (answers : List (List ℕ)) → Run seen before messages answers after → Run step (see before) messages answers (see after)
+module _ {D S : Type 0} (see : D → S) (step : S → MessageText → List ℕ → S → Type 0) (refusal : End → List ℕ) (seen : D → MessageText → List ℕ → D → Type 0) (shows : Shows see step seen) where
+  run_seen : (before after : D) (messages : List Message) (answers : List (List ℕ)) → RunsMessages seen before messages answers after → RunsMessages step (see before) messages answers (see after)
   run_seen before after [] [] r = ap see r
   run_seen before after [] (a ∷ answers) r = absurd r
   run_seen before after (m ∷ messages) [] r = absurd r
@@ -59,11 +59,11 @@ module _ {D S : Type 0} (see : D → S) (step : S → Said → List ℕ → S �
   }
 
 -- a step that gives back what holds behind it
-abbrev pub GivesBack : {D : Type 0} → (D → Type 0) → (D → Said → List ℕ → D → Type 0) → Type 0
-GivesBack {D} P step = (before : D) (words : Said) (bytes : List ℕ) (after : D) → step before words bytes after → P after → P before
+abbrev pub GivesBack : {D : Type 0} → (D → Type 0) → (D → MessageText → List ℕ → D → Type 0) → Type 0
+GivesBack {D} P step = (before : D) (words : MessageText) (bytes : List ℕ) (after : D) → step before words bytes after → P after → P before
 
-module _ {D : Type 0} (P : D → Type 0) (step : D → Said → List ℕ → D → Type 0) (refusal : End → List ℕ) (back : GivesBack P step) where
-  run_back : (before after : D) (messages : List Message) (answers : List (List ℕ)) → Run step before messages answers after → P after → P before
+module _ {D : Type 0} (P : D → Type 0) (step : D → MessageText → List ℕ → D → Type 0) (refusal : End → List ℕ) (back : GivesBack P step) where
+  run_back : (before after : D) (messages : List Message) (answers : List (List ℕ)) → RunsMessages step before messages answers after → P after → P before
   run_back before after [] [] r p = subst P (sym r) p
   run_back before after [] (a ∷ answers) r p = absurd r
   run_back before after (m ∷ messages) [] r p = absurd r

@@ -6,11 +6,11 @@ use Rattle.wire.specs.declared.outcome.End.TheVariants.{Closed, Unfinished, BadH
 use Rattle.wire.specs.declared.outcome.Served.{Served}
 use Rattle.wire.specs.declared.outcome.StreamFault.{StreamFault}
 use Rattle.wire.specs.declared.outcome.StreamFault.TheVariants.{Memory, Read, Write}
-use Rattle.wire.specs.Run.{Said}
+use Rattle.wire.specs.Run.{MessageText}
 use Rattle.wire.specs.Served.{IsServed}
 use Rattle.web.specs.Serving.{end_text}
 
-module _ {D : Type 0} (step : D → Said → List ℕ → D → Type 0) where
+module _ {D : Type 0} (step : D → MessageText → List ℕ → D → Type 0) where
   -- a stream was served at a desk, to its end or until a fault
   abbrev pub IsStreamed : D → Result Served StreamFault → D → Type 0
   IsStreamed before came after = (left0 w0 left w : Option (List ℕ)) × IsServed step end_text before left0 w0 came after left w
@@ -48,7 +48,7 @@ abbrev pub lines_after : ℕ → List (Result Served StreamFault) → List ℕ
 lines_after before [] = []
 lines_after before (came ∷ more) = connection_line (before + 1) came ++ lines_after (before + 1) more
 
-module _ {D : Type 0} (step : D → Said → List ℕ → D → Type 0) where
+module _ {D : Type 0} (step : D → MessageText → List ℕ → D → Type 0) where
   -- so many connections were served, and the line of each was written
   pub record AllServed (before : D) (count : ℕ) (w0 w : Option (List ℕ)) (after : D) : Type 0 where
     pub came : List (Result Served StreamFault)

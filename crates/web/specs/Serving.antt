@@ -9,26 +9,26 @@ use Rattle.rolls.specs.declared.request.Reply.{Reply}
 use Rattle.rolls.specs.State.{State}
 use Rattle.rolls.specs.declared.request.Request.{Request}
 use Rattle.rolls.specs.Run.{Step}
-use Rattle.solver.specs.Sitting.{Sitting}
-use Rattle.allotment.specs.Layers.{layers}
+use Rattle.solver.specs.SessionState.{SessionState}
+use Rattle.outside.specs.Layers.{layers}
 use Rattle.tables.specs.Causes.{IsCaused}
 use Rattle.store.specs.Saving.{AreActedOn}
 use Rattle.desk.specs.Causes.{IsHinderedToAsk}
-use Rattle.desk.specs.Kept.{Kept}
+use Rattle.desk.specs.DeskState.{DeskState}
 use Rattle.desk.specs.Sessions.{AnswersAtOnce, GoesOn, IsToldRight}
 use Rattle.wire.specs.declared.outcome.End.{End}
 use Rattle.wire.specs.declared.outcome.End.TheVariants.{Closed, Unfinished, BadHead, TooLarge, Hundred}
-use Rattle.wire.specs.Run.{Said}
+use Rattle.wire.specs.Run.{MessageText}
 use Rattle.api.specs.Requests.{IsReadAs}
 use Rattle.api.specs.Texts.{refusal_text, text_of}
 
 -- what is at a desk: an office, and the session that is kept, if any
 pub record AtDesk : Type 0 where
   pub office : State
-  pub session : Option Sitting
+  pub session : Option SessionState
 
 -- the same of a desk with its tables
-abbrev pub at_desk : {S : Type 0} → Kept S → AtDesk
+abbrev pub at_desk : {S : Type 0} → DeskState S → AtDesk
 at_desk desk = record { office = desk.office; session = desk.session }
 
 -- an office that was just opened: no session is kept
@@ -45,29 +45,29 @@ pub record Gets (before : AtDesk) (asked : Request) (answer : Result Reply Refus
 
 -- A request is answered by the text of the answer that it gets. What is no request leaves the office and the session, and its refusal is
 -- the answer.
-abbrev pub Answers : AtDesk → Result Request Refusal → List ℕ → AtDesk → Type 0
-Answers before (Ok asked) bytes after = (answer : Result Reply Refusal) × Gets before asked answer after × (bytes ≡ text_of answer)
-Answers before (Err refusal) bytes after = (bytes ≡ refusal_text refusal) × (after ≡ before)
+abbrev pub AnswersRequest : AtDesk → Result Request Refusal → List ℕ → AtDesk → Type 0
+AnswersRequest before (Ok asked) bytes after = (answer : Result Reply Refusal) × Gets before asked answer after × (bytes ≡ text_of answer)
+AnswersRequest before (Err refusal) bytes after = (bytes ≡ refusal_text refusal) × (after ≡ before)
 
 -- A message is answered as what is read of it. So want of memory takes the place of its answer where it takes memory to read it, and
 -- else only where it may be the answer of the request; never after a change.
-abbrev pub AnswersMessage : AtDesk → Said → List ℕ → AtDesk → Type 0
-AnswersMessage before said bytes after = (read : Result Request Refusal) × IsReadAs said read × Answers before read bytes after
+abbrev pub AnswersMessage : AtDesk → MessageText → List ℕ → AtDesk → Type 0
+AnswersMessage before said bytes after = (read : Result Request Refusal) × IsReadAs said read × AnswersRequest before read bytes after
 
 module _ {S : Type 0} (ghosts : Ghosts S) where
   -- the same where its tables are kept: a fault of the storage has its cause in them, unless a foreign key of another table acts there
-  pub record GetsAt (before : Kept S) (asked : Request) (answer : Result Reply Refusal) (after : Kept S) : Type 0 where
+  pub record GetsAt (before : DeskState S) (asked : Request) (answer : Result Reply Refusal) (after : DeskState S) : Type 0 where
     pub gets : Gets (at_desk before) asked answer (at_desk after)
     pub cause : (AreActedOn (state ghosts before.store).now.schema → ⊥)
         → IsCaused no.Storage (IsHinderedToAsk before.office asked) answer (state ghosts before.store) (state ghosts after.store)
 
   -- a request is answered so, or what is no request
-  abbrev pub AnswersAt : Kept S → Result Request Refusal → List ℕ → Kept S → Type 0
+  abbrev pub AnswersAt : DeskState S → Result Request Refusal → List ℕ → DeskState S → Type 0
   AnswersAt before (Ok asked) bytes after = (answer : Result Reply Refusal) × GetsAt before asked answer after × (bytes ≡ text_of answer)
   AnswersAt before (Err refusal) bytes after = (bytes ≡ refusal_text refusal) × (after ≡ before)
 
   -- a message is answered so, and a disk that is clean behind it was clean before it
-  pub record AnswersFrom (before : Kept S) (said : Said) (bytes : List ℕ) (after : Kept S) : Type 0 where
+  pub record AnswersFrom (before : DeskState S) (said : MessageText) (bytes : List ℕ) (after : DeskState S) : Type 0 where
     pub read : Result Request Refusal
     pub is_read : IsReadAs said read
     pub answers : AnswersAt before read bytes after

@@ -1,6 +1,6 @@
 -- The end of a stream at the end of its reader.
 use Rattle.std.proofs.Common.{◌≡◌, ℕ, List, Option, None, IfNone, sym, subst}
-use Rattle.wire.specs.declared.front.Front.TheVariants.{Open}
+use Rattle.wire.specs.declared.front.Judgement.TheVariants.{Open}
 use Rattle.wire.specs.Inside.Judged.{Judges}
 
 -- what is said where nothing was found

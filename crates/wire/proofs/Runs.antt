@@ -4,12 +4,12 @@ use Rattle.std.specs.List.{concat}
 use Rattle.std.specs.Io.KnownBytes.{Appends}
 use Rattle.wire.specs.declared.TheConstants.{MOST_MESSAGES}
 use Rattle.wire.specs.declared.front.Parts.{Parts}
-use Rattle.wire.specs.declared.front.Front.TheVariants.{Whole}
+use Rattle.wire.specs.declared.front.Judgement.TheVariants.{Whole}
 use Rattle.wire.specs.declared.outcome.End.{End}
 use Rattle.wire.specs.declared.outcome.End.TheVariants.{Closed, Unfinished, BadHead, TooLarge, Hundred}
-use Rattle.wire.specs.Messages.{Message, EndsAt, Splits, Begins, Stops}
+use Rattle.wire.specs.Messages.{Message, EndsAt, Splits, BeginsWith, Stops}
 use Rattle.wire.specs.Inside.Judged.{IsPartsOf, Judges}
-use Rattle.wire.specs.Run.{Said, said, Run, unread, last_words, last_count}
+use Rattle.wire.specs.Run.{MessageText, said, RunsMessages, unread, last_words, last_count}
 use Rattle.wire.specs.Inside.Run.{said_at}
 use Rattle.wire.specs.Inside.Served.{SoFar}
 use Rattle.wire.specs.Served.{ServedTo}
@@ -17,14 +17,14 @@ use Rattle.wire.specs.Inside.Taken.{Grows}
 use Rattle.wire.proofs.Known.{appends_compose, appends_none, consumes_compose, consumes_none}
 
 -- one more message is split off
-pub splits_more : (bytes : List ℕ) (ms : List Message) (rest after : List ℕ) (m : Message) → Splits bytes ms rest → Begins rest m after
+pub splits_more : (bytes : List ℕ) (ms : List Message) (rest after : List ℕ) (m : Message) → Splits bytes ms rest → BeginsWith rest m after
     → Splits bytes (ms ++ m ∷ []) after
-splits_more bytes [] rest after m s b = (after, subst (λ (t : List ℕ). Begins t m after) (sym s) b, refl)
+splits_more bytes [] rest after m s b = (after, subst (λ (t : List ℕ). BeginsWith t m after) (sym s) b, refl)
 splits_more bytes (k ∷ ms) rest after m s b = (s.0, s.1, splits_more s.0 ms rest after m s.2 b)
 
 -- a run goes on by one step
-pub run_more : {S : Type 0} (step : S → Said → List ℕ → S → Type 0) (s u t : S) (ms : List Message) (ks : List (List ℕ)) (m : Message) (a : List ℕ)
-    → Run step s ms ks u → step u (said m) a t → Run step s (ms ++ m ∷ []) (ks ++ a ∷ []) t
+pub run_more : {S : Type 0} (step : S → MessageText → List ℕ → S → Type 0) (s u t : S) (ms : List Message) (ks : List (List ℕ)) (m : Message) (a : List ℕ)
+    → RunsMessages step s ms ks u → step u (said m) a t → RunsMessages step s (ms ++ m ∷ []) (ks ++ a ∷ []) t
 run_more step s u t [] [] m a r x = (t, subst (λ v. step v (said m) a t) (sym r) x, refl)
 run_more step s u t [] (b ∷ ks) m a r x = absurd r
 run_more step s u t (k ∷ ms) [] m a r x = absurd r
@@ -40,15 +40,15 @@ pub said_same : (buffer : List ℕ) (p : Parts) (m : Message) → IsPartsOf buff
 said_same buffer p m h = λ i. record { method = h.method i; target = h.target i; body = h.body i }
 
 -- as many answers as messages
-pub run_counts : {S : Type 0} (step : S → Said → List ℕ → S → Type 0) (s t : S) (ms : List Message) (ks : List (List ℕ))
-    → Run step s ms ks t → length ms ≡ length ks
+pub run_counts : {S : Type 0} (step : S → MessageText → List ℕ → S → Type 0) (s t : S) (ms : List Message) (ks : List (List ℕ))
+    → RunsMessages step s ms ks t → length ms ≡ length ks
 run_counts step s t [] [] r = refl
 run_counts step s t [] (b ∷ ks) r = absurd r
 run_counts step s t (k ∷ ms) [] r = absurd r
 run_counts step s t (k ∷ ms) (b ∷ ks) r = let e = run_counts step r.0 t ms ks r.2 in omega arith
 
 -- nothing yet
-pub nothing_yet : {S : Type 0} (step : S → Said → List ℕ → S → Type 0) (before : S) (left w : Option (List ℕ))
+pub nothing_yet : {S : Type 0} (step : S → MessageText → List ℕ → S → Type 0) (before : S) (left w : Option (List ℕ))
     → SoFar step before left w left w [] 0 before
 nothing_yet step before left w = record {
   given = [];
@@ -62,7 +62,7 @@ nothing_yet step before left w = record {
 }
 
 -- more is read
-pub reads_on : {S : Type 0} (step : S → Said → List ℕ → S → Type 0) (before now : S) (left0 w0 left left' w : Option (List ℕ)) (rest rest' : List ℕ) (count : ℕ)
+pub reads_on : {S : Type 0} (step : S → MessageText → List ℕ → S → Type 0) (before now : S) (left0 w0 left left' w : Option (List ℕ)) (rest rest' : List ℕ) (count : ℕ)
     → SoFar step before left0 w0 left w rest count now → Grows rest rest' left left'
     → SoFar step before left0 w0 left' w rest' count now
 reads_on step before now left0 w0 left left' w rest rest' count so g = record {
@@ -81,7 +81,7 @@ reads_on step before now left0 w0 left left' w rest rest' count so g = record {
 }
 
 -- one more is answered
-pub answers_on : {S : Type 0} (step : S → Said → List ℕ → S → Type 0) (before now after : S) (left0 w0 left w w' : Option (List ℕ)) (rest : List ℕ) (count : ℕ)
+pub answers_on : {S : Type 0} (step : S → MessageText → List ℕ → S → Type 0) (before now after : S) (left0 w0 left w w' : Option (List ℕ)) (rest : List ℕ) (count : ℕ)
     (p : Parts) (a : List ℕ)
     → SoFar step before left0 w0 left w rest count now → Judges rest (Whole p) → step now (said_at rest p) a after → Appends w w' a
     → SoFar step before left0 w0 left w' (drop (p.head + p.body) rest) (count + 1) after
@@ -92,7 +92,7 @@ answers_on step before now after left0 w0 left w w' rest count p a so judged x w
   split = λ more. splits_more _ so.messages (rest ++ more) (drop (p.head + p.body) rest ++ more) judged.0 (so.split more) (judged.2 more);
   counted = simp length-append (omega (arith, so.counted));
   answers = so.answers ++ a ∷ [];
-  ran = run_more step before now after so.messages so.answers judged.0 a so.ran (subst (λ (q : Said). step now q a after) (said_same rest p judged.0 judged.1) x);
+  ran = run_more step before now after so.messages so.answers judged.0 a so.ran (subst (λ (q : MessageText). step now q a after) (said_same rest p judged.0 judged.1) x);
   wrote = subst (Appends w0 w') (sym (concat_more so.answers a)) (appends_compose w0 w w' (concat so.answers) a so.wrote wrote);
 }
 
@@ -105,7 +105,7 @@ ends_at count rest TooLarge few stops = (few, stops)
 ends_at count rest Hundred few stops = absurd stops
 
 -- the stream is at an end, and its last words are written
-pub ends_here : {S : Type 0} (step : S → Said → List ℕ → S → Type 0) (refusal : End → List ℕ) (before now : S) (left0 w0 left w w' : Option (List ℕ)) (rest : List ℕ) (count : ℕ) (end : End)
+pub ends_here : {S : Type 0} (step : S → MessageText → List ℕ → S → Type 0) (refusal : End → List ℕ) (before now : S) (left0 w0 left w w' : Option (List ℕ)) (rest : List ℕ) (count : ℕ) (end : End)
     → SoFar step before left0 w0 left w rest count now → count < MOST_MESSAGES → Stops (rest ++ unread left) end → Appends w w' (last_words refusal end)
     → ServedTo step refusal before left0 w0 left w' (record { answered = count + last_count end; end = end }) now
 ends_here step refusal before now left0 w0 left w w' rest count end so few stops wrote = record {
@@ -128,7 +128,7 @@ ends_here step refusal before now left0 w0 left w w' rest count end so few stops
 }
 
 -- a hundred messages were answered
-pub hundred_here : {S : Type 0} (step : S → Said → List ℕ → S → Type 0) (refusal : End → List ℕ) (before now : S) (left0 w0 left w : Option (List ℕ)) (rest : List ℕ)
+pub hundred_here : {S : Type 0} (step : S → MessageText → List ℕ → S → Type 0) (refusal : End → List ℕ) (before now : S) (left0 w0 left w : Option (List ℕ)) (rest : List ℕ)
     → SoFar step before left0 w0 left w rest MOST_MESSAGES now
     → ServedTo step refusal before left0 w0 left w (record { answered = MOST_MESSAGES; end = Hundred }) now
 hundred_here step refusal before now left0 w0 left w rest so = record {

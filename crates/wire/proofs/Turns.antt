@@ -4,16 +4,16 @@ use Rattle.std.specs.List.{concat}
 use Rattle.std.specs.Io.KnownBytes.{Appends}
 use Rattle.wire.specs.declared.TheConstants.{MOST_MESSAGES}
 use Rattle.wire.specs.declared.front.Parts.{Parts}
-use Rattle.wire.specs.declared.front.Front.TheVariants.{Whole, Open}
+use Rattle.wire.specs.declared.front.Judgement.TheVariants.{Whole, Open}
 use Rattle.wire.specs.declared.outcome.End.{End}
 use Rattle.wire.specs.Messages.{Stops}
 use Rattle.wire.specs.Inside.Judged.{Judges}
 use Rattle.wire.specs.declared.outcome.Served.{Served}
 use Rattle.wire.specs.declared.outcome.StreamFault.{StreamFault}
 use Rattle.wire.specs.declared.outcome.StreamFault.TheVariants.{Memory, Read, Write}
-use Rattle.wire.specs.Run.{Said, unread, last_words, last_count, read_failed, write_failed}
+use Rattle.wire.specs.Run.{MessageText, unread, last_words, last_count, read_failed, write_failed}
 use Rattle.wire.specs.Inside.Run.{said_at}
-use Rattle.wire.specs.Inside.Served.{SoFar, GoesOn, BreaksOff}
+use Rattle.wire.specs.Inside.Served.{SoFar, GoesOnServing, BreaksOff}
 use Rattle.wire.specs.Served.{IsServed, WroteUntil, ServedTo}
 use Rattle.wire.specs.Inside.Taken.{Grows}
 use Rattle.wire.proofs.Known.{appends_compose, appends_none, consumes_none}
@@ -32,7 +32,7 @@ pub no_memory_write : (fault : StreamFault) → fault ≡ Write → fault ≡ Me
 no_memory_write fault e f = let g : Write ≡ Memory = sym e ∙ f in cc
 
 -- the reader failed before a whole message had come
-pub breaks_reading : {S : Type 0} (step : S → Said → List ℕ → S → Type 0) (refusal : End → List ℕ) (left w left' : Option (List ℕ)) (rest rest' : List ℕ) (now : S) (fault : StreamFault)
+pub breaks_reading : {S : Type 0} (step : S → MessageText → List ℕ → S → Type 0) (refusal : End → List ℕ) (left w left' : Option (List ℕ)) (rest rest' : List ℕ) (now : S) (fault : StreamFault)
     → Grows rest rest' left left' → Judges rest' Open → fault ≡ Read → BreaksOff step refusal left w rest now left' w now fault
 breaks_reading step refusal left w left' rest rest' now fault grows still e before left0 w0 count so below =
     let now_so = reads_on step before now left0 w0 left left' w rest rest' count so grows in record {
@@ -49,7 +49,7 @@ breaks_reading step refusal left w left' rest rest' now fault grows still e befo
     }
 
 -- the writer failed within an answer
-pub breaks_writing : {S : Type 0} (step : S → Said → List ℕ → S → Type 0) (refusal : End → List ℕ) (left w left' w' : Option (List ℕ)) (rest rest' : List ℕ) (now after : S) (fault : StreamFault)
+pub breaks_writing : {S : Type 0} (step : S → MessageText → List ℕ → S → Type 0) (refusal : End → List ℕ) (left w left' w' : Option (List ℕ)) (rest rest' : List ℕ) (now after : S) (fault : StreamFault)
     (p : Parts) (a : List ℕ) (n : ℕ)
     → Grows rest rest' left left' → Judges rest' (Whole p) → step now (said_at rest' p) a after → n < length a → Appends w w' (take n a) → fault ≡ Write
     → BreaksOff step refusal left w rest now left' w' after fault
@@ -67,27 +67,27 @@ breaks_writing step refusal left w left' w' rest rest' now after fault p a n gro
       split = λ more. splits_more _ so_now.messages (rest' ++ more) (after_p ++ more) judged.0 (so_now.split more) (judged.2 more);
       answers = all ++ a ∷ [];
       ran = run_more step before now after so_now.messages all judged.0 a so_now.ran
-          (subst (λ (q : Said). step now q a after) (said_same rest' p judged.0 judged.1) x);
+          (subst (λ (q : MessageText). step now q a after) (said_same rest' p judged.0 judged.1) x);
       wrote = subst (λ (f : StreamFault). WroteUntil refusal f (all ++ a ∷ []) after_p left' w0 w') (sym e)
           (inl (all, a, refl, (n, part, appends_compose w0 w w' (concat all) (take n a) so_now.wrote wrote)));
     }
 
 -- a message was answered, and taken away
-pub message_goes_on : {S : Type 0} (step : S → Said → List ℕ → S → Type 0) (left w left' w' : Option (List ℕ)) (rest rest' rest'' : List ℕ) (now after : S) (p : Parts) (a : List ℕ)
+pub message_goes_on : {S : Type 0} (step : S → MessageText → List ℕ → S → Type 0) (left w left' w' : Option (List ℕ)) (rest rest' rest'' : List ℕ) (now after : S) (p : Parts) (a : List ℕ)
     → Grows rest rest' left left' → Judges rest' (Whole p) → step now (said_at rest' p) a after → Appends w w' a → rest'' ≡ drop (p.head + p.body) rest'
-    → GoesOn step left w rest now left' w' rest'' after 1
+    → GoesOnServing step left w rest now left' w' rest'' after 1
 message_goes_on step left w left' w' rest rest' rest'' now after p a grows judged x wrote e before left0 w0 count so =
     subst (λ (t : List ℕ). SoFar step before left0 w0 left' w' t (count + 1) after) (sym e)
     (answers_on step before now after left0 w0 left' w w' rest' count p a (reads_on step before now left0 w0 left left' w rest rest' count so grows) judged x wrote)
 
 -- the end has come, and all before it stands
-pub end_goes_on : {S : Type 0} (step : S → Said → List ℕ → S → Type 0) (left w left' : Option (List ℕ)) (rest rest' : List ℕ) (now : S)
-    → Grows rest rest' left left' → GoesOn step left w rest now left' w rest' now 0
+pub end_goes_on : {S : Type 0} (step : S → MessageText → List ℕ → S → Type 0) (left w left' : Option (List ℕ)) (rest rest' : List ℕ) (now : S)
+    → Grows rest rest' left left' → GoesOnServing step left w rest now left' w rest' now 0
 end_goes_on step left w left' rest rest' now grows before left0 w0 count so =
     subst (λ (k : ℕ). SoFar step before left0 w0 left' w rest' k now) (sym (add-zero count)) (reads_on step before now left0 w0 left left' w rest rest' count so grows)
 
 -- no memory for the buffers: nothing is read, asked or written
-pub nothing_served : {S : Type 0} (step : S → Said → List ℕ → S → Type 0) (refusal : End → List ℕ) (before : S) (left w : Option (List ℕ)) → IsServed step refusal before left w (Err Memory) before left w
+pub nothing_served : {S : Type 0} (step : S → MessageText → List ℕ → S → Type 0) (refusal : End → List ℕ) (before : S) (left w : Option (List ℕ)) → IsServed step refusal before left w (Err Memory) before left w
 nothing_served step refusal before left w = record {
   served = tt;
   broken = record {
@@ -106,10 +106,10 @@ nothing_served step refusal before left w = record {
 }
 
 -- the last words were written, or not all of them
-pub ended : {S : Type 0} (step : S → Said → List ℕ → S → Type 0) (refusal : End → List ℕ) (before now was : S) (left0 w0 left l w w1 w' : Option (List ℕ)) (rest r : List ℕ) (count : ℕ) (end : End)
+pub ended : {S : Type 0} (step : S → MessageText → List ℕ → S → Type 0) (refusal : End → List ℕ) (before now was : S) (left0 w0 left l w w1 w' : Option (List ℕ)) (rest r : List ℕ) (count : ℕ) (end : End)
     (result : Result Served StreamFault)
     → SoFar step before left0 w0 left w rest count was → count < MOST_MESSAGES
-    → Stops (r ++ unread l) end × GoesOn step left w rest was l w1 r now 0
+    → Stops (r ++ unread l) end × GoesOnServing step left w rest was l w1 r now 0
     → IfOk result (λ s. s ≡ record { answered = count + last_count end; end = end }) → OnOk result (Appends w1 w' (last_words refusal end))
     → IfErr result (λ e. e ≡ Write) → OnErr result ((n : ℕ) × (n < length (last_words refusal end)) × Appends w1 w' (take n (last_words refusal end)))
     → IsServed step refusal before left0 w0 result now l w'

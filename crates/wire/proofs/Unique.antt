@@ -8,7 +8,7 @@ use Rattle.wire.specs.declared.fields.Framing.{Framing}
 use Rattle.wire.specs.declared.fields.Framing.TheVariants.{Length, Wrong, Long}
 use Rattle.wire.specs.declared.outcome.End.{End}
 use Rattle.wire.specs.declared.outcome.End.TheVariants.{Closed, Unfinished, BadHead, TooLarge, Hundred}
-use Rattle.wire.specs.Messages.{Message, window, has_line, HeadAt, HeadFramed, framing, IsMalformed, BodyCut, Begins, Stops, Splits, EndsAt, Messages}
+use Rattle.wire.specs.Messages.{Message, window, has_line, HeadAt, HeadFramed, framing, IsMalformed, BodyCut, BeginsWith, Stops, Splits, EndsAt, Messages}
 
 -- one head stands at a place
 head_unique : (rest : List ℕ) (h k : RequestHead) → HeadAt rest h → HeadAt rest k → h ≡ k
@@ -30,7 +30,7 @@ parts_agree s t u v l e = (
 )
 
 -- one message stands at a place, and one rest comes after it
-pub begins_unique : (rest : List ℕ) (m k : Message) (a b : List ℕ) → Begins rest m a → Begins rest k b → (m ≡ k) × (a ≡ b)
+pub begins_unique : (rest : List ℕ) (m k : Message) (a b : List ℕ) → BeginsWith rest m a → BeginsWith rest k b → (m ≡ k) × (a ≡ b)
 begins_unique rest m k a b x y =
     let e = head_unique rest m.head k.head x.head y.head in
     let l = lengths_agree m.head k.head (length m.body) (length k.body) e x.framed y.framed in
@@ -54,7 +54,7 @@ no_head_in_nothing rest h x e =
     omega (arith, n, head_has_bytes h)
 
 -- where a message stands no end does
-pub begins_or_stops : (rest : List ℕ) (m : Message) (after : List ℕ) (end : End) → Begins rest m after → Stops rest end → ⊥
+pub begins_or_stops : (rest : List ℕ) (m : Message) (after : List ℕ) (end : End) → BeginsWith rest m after → Stops rest end → ⊥
 begins_or_stops rest m after Closed x stops = no_head_in_nothing rest m.head x.head stops
 begins_or_stops rest m after Unfinished x (inl cut) =
     let e = head_unique rest m.head cut.0 x.head cut.1 in
@@ -181,7 +181,7 @@ at_most : (n : ℕ) (rest : List ℕ) (e : End) → EndsAt n rest e → n ≤ MO
 at_most n rest e x = elim (few_ends n rest e x) [ inl a ↦ omega (arith, a.1) | inr a ↦ omega (arith, a.0) ]
 
 -- where one list ends the other does not go on
-ends_or_goes_on : (n more : ℕ) (rest after last : List ℕ) (m : Message) (d e : End) → EndsAt n rest d → Begins rest m after → EndsAt (n + suc more) last e → ⊥
+ends_or_goes_on : (n more : ℕ) (rest after last : List ℕ) (m : Message) (d e : End) → EndsAt n rest d → BeginsWith rest m after → EndsAt (n + suc more) last e → ⊥
 ends_or_goes_on n more rest after last m d e x b y = elim (few_ends n rest d x) [
   | inl a ↦ let k = at_most (n + suc more) last e y in omega (arith, a.1, k)
   | inr a ↦ begins_or_stops rest m after d b a.1

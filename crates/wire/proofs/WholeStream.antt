@@ -10,7 +10,7 @@ use Rattle.httparse.specs.declared.spans.RequestSpans.{RequestSpans}
 use Rattle.wire.specs.declared.TheConstants.{MOST_HEAD_BYTES, MOST_BODY_BYTES}
 use Rattle.wire.specs.declared.fields.Framing.{Framing}
 use Rattle.wire.specs.declared.fields.Framing.TheVariants.{Length}
-use Rattle.wire.specs.declared.front.Front.TheVariants.{Whole, Stop, Open}
+use Rattle.wire.specs.declared.front.Judgement.TheVariants.{Whole, Stop, Open}
 use Rattle.wire.specs.declared.outcome.End.TheVariants.{BadHead, TooLarge}
 use Rattle.wire.specs.Messages.{window, HeadFramed, framing, framing_of, has_line, IsMalformed}
 use Rattle.wire.specs.Inside.Judged.{Judges}

@@ -94,7 +94,7 @@ pub record IsOpen (rest : List ℕ) : Type 0 where
   pub well_formed : IsMalformed (window rest) → ⊥
 
 -- the rest begins with the message, and then comes after
-pub record Begins (rest : List ℕ) (m : Message) (after : List ℕ) : Type 0 where
+pub record BeginsWith (rest : List ℕ) (m : Message) (after : List ℕ) : Type 0 where
   pub head : HeadAt rest m.head
   pub framed : framing m.head ≡ Length (length m.body)
   pub whole : rest ≡ print_request m.head ++ m.body ++ after
@@ -116,7 +116,7 @@ IsCut rest = 0 < length rest → Stops rest Unfinished
 -- the bytes are these messages, and then the rest
 abbrev pub Splits : List ℕ → List Message → List ℕ → Type 0
 Splits bytes [] rest = bytes ≡ rest
-Splits bytes (m ∷ messages) rest = (after : List ℕ) × Begins bytes m after × Splits after messages rest
+Splits bytes (m ∷ messages) rest = (after : List ℕ) × BeginsWith bytes m after × Splits after messages rest
 
 -- why no further message is taken after that many
 abbrev pub EndsAt : ℕ → List ℕ → End → Type 0

@@ -7,21 +7,21 @@ use Rattle.wire.specs.declared.outcome.End.TheVariants.{Closed, Unfinished, BadH
 use Rattle.wire.specs.Messages.{Message}
 
 -- what a desk sees of a message
-pub record Said : Type 0 where
+pub record MessageText : Type 0 where
   pub method : List ℕ
   pub target : List ℕ
   pub body : List ℕ
 
 -- what a message says
-abbrev pub said : Message → Said
+abbrev pub said : Message → MessageText
 said m = record { method = m.head.method; target = m.head.target; body = m.body }
 
 -- step after step, these answers to these messages
-abbrev pub Run : {S : Type 0} → (S → Said → List ℕ → S → Type 0) → S → List Message → List (List ℕ) → S → Type 0
-Run {S} step s [] [] t = s ≡ t
-Run {S} step s (m ∷ messages) (a ∷ answers) t = (u : S) × step s (said m) a u × Run step u messages answers t
-Run {S} step s [] (a ∷ answers) t = ⊥
-Run {S} step s (m ∷ messages) [] t = ⊥
+abbrev pub RunsMessages : {S : Type 0} → (S → MessageText → List ℕ → S → Type 0) → S → List Message → List (List ℕ) → S → Type 0
+RunsMessages {S} step s [] [] t = s ≡ t
+RunsMessages {S} step s (m ∷ messages) (a ∷ answers) t = (u : S) × step s (said m) a u × RunsMessages step u messages answers t
+RunsMessages {S} step s [] (a ∷ answers) t = ⊥
+RunsMessages {S} step s (m ∷ messages) [] t = ⊥
 
 -- the bytes that are left, none where they are not known
 abbrev pub unread : Option (List ℕ) → List ℕ

@@ -8,20 +8,20 @@ use Rattle.wire.specs.Messages.{Message, Messages, Splits, Stops, IsCut}
 use Rattle.wire.specs.declared.outcome.Served.{Served}
 use Rattle.wire.specs.declared.outcome.StreamFault.{StreamFault}
 use Rattle.wire.specs.declared.outcome.StreamFault.TheVariants.{Memory, Read, Write}
-use Rattle.wire.specs.Run.{Said, Run, last_words, last_count, unread}
+use Rattle.wire.specs.Run.{MessageText, RunsMessages, last_words, last_count, unread}
 
 -- the answers of a run over the messages of these bytes were written, and then the end's refusal
-pub record Serves {S : Type 0} (step : S → Said → List ℕ → S → Type 0) (refusal : End → List ℕ)
+pub record Serves {S : Type 0} (step : S → MessageText → List ℕ → S → Type 0) (refusal : End → List ℕ)
     (before : S) (bytes out : List ℕ) (count : ℕ) (end : End) (after : S) : Type 0 where
   pub messages : List Message
   pub of_stream : Messages bytes messages end
   pub answers : List (List ℕ)
-  pub ran : Run step before messages answers after
+  pub ran : RunsMessages step before messages answers after
   pub written : out ≡ concat answers ++ last_words refusal end
   pub counted : count ≡ length answers + last_count end
 
 -- the bytes of the reader were served, those read and those left to it, and what was written are the answers
-pub record ServedTo {S : Type 0} (step : S → Said → List ℕ → S → Type 0) (refusal : End → List ℕ) (before : S)
+pub record ServedTo {S : Type 0} (step : S → MessageText → List ℕ → S → Type 0) (refusal : End → List ℕ) (before : S)
     (left0 w0 left w : Option (List ℕ)) (served : Served) (after : S) : Type 0 where
   pub given : List ℕ
   pub read : Consumes left0 left given
@@ -51,7 +51,7 @@ WroteUntil refusal Write answers rest left w0 w =
 WroteUntil refusal Memory answers rest left w0 w = (answers ≡ []) × (rest ≡ []) × Appends w0 w []
 
 -- of the bytes given, these messages were answered, and then that fault came; after the hundredth answer nothing is read, so no reader fails
-pub record BrokeOff {S : Type 0} (step : S → Said → List ℕ → S → Type 0) (refusal : End → List ℕ) (before : S)
+pub record BrokeOff {S : Type 0} (step : S → MessageText → List ℕ → S → Type 0) (refusal : End → List ℕ) (before : S)
     (left0 w0 left w : Option (List ℕ)) (now : S) (fault : StreamFault) : Type 0 where
   pub given : List ℕ
   pub read : Consumes left0 left given
@@ -61,12 +61,12 @@ pub record BrokeOff {S : Type 0} (step : S → Said → List ℕ → S → Type 
   pub rest : List ℕ
   pub split : (more : List ℕ) → Splits (given ++ more) messages (rest ++ more)
   pub answers : List (List ℕ)
-  pub ran : Run step before messages answers now
+  pub ran : RunsMessages step before messages answers now
   pub wrote : WroteUntil refusal fault answers rest left w0 w
 
 -- A stream was served to its end, or until a fault: so the desk was left, and so the reader and the writer. Want of memory comes before
 -- anything is read, asked or written.
-pub record IsServed {S : Type 0} (step : S → Said → List ℕ → S → Type 0) (refusal : End → List ℕ) (before : S) (left0 w0 : Option (List ℕ))
+pub record IsServed {S : Type 0} (step : S → MessageText → List ℕ → S → Type 0) (refusal : End → List ℕ) (before : S) (left0 w0 : Option (List ℕ))
     (result : Result Served StreamFault) (after : S) (left w : Option (List ℕ)) : Type 0 where
   pub served : IfOk result (λ served. ServedTo step refusal before left0 w0 left w served after)
   pub broken : IfErr result (λ fault. BrokeOff step refusal before left0 w0 left w after fault)

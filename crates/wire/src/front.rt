@@ -29,7 +29,7 @@ pub struct Parts {
 }
 
 /// What stands at the front of a stream.
-pub enum Front {
+pub enum Judgement {
     Whole(Parts),
     Stop(End),
     Open,
@@ -77,20 +77,20 @@ fn find_head(window: &[u8], headers: &mut [HeaderSpan]) -> Head
 }
 
 /// Says what stands at the front.
-pub fn judge(buf: &[u8], headers: &mut [HeaderSpan]) -> Front
+pub fn judge(buf: &[u8], headers: &mut [HeaderSpan]) -> Judgement
     requires { length headers.old ≡ FIELDS }
     ensures { Judges buf.now result }
 {
     let window = &buf[..MOST_HEAD_BYTES.min(buf.len())];
     match find_head(window, headers) {
         Head::Found(spans) => match framing_of(window, spans.version, &headers[..spans.headers]) {
-            Framing::Wrong => Front::Stop(End::BadHead),
-            Framing::Long => Front::Stop(End::TooLarge),
+            Framing::Wrong => Judgement::Stop(End::BadHead),
+            Framing::Long => Judgement::Stop(End::TooLarge),
             Framing::Length(body) => {
                 if buf.len() - spans.len < body {
-                    Front::Open
+                    Judgement::Open
                 } else {
-                    Front::Whole(Parts {
+                    Judgement::Whole(Parts {
                         method: spans.method,
                         target: spans.path,
                         head: spans.len,
@@ -99,12 +99,12 @@ pub fn judge(buf: &[u8], headers: &mut [HeaderSpan]) -> Front
                 }
             }
         },
-        Head::Malformed => Front::Stop(End::BadHead),
+        Head::Malformed => Judgement::Stop(End::BadHead),
         Head::Missing => {
             if buf.len() < MOST_HEAD_BYTES {
-                Front::Open
+                Judgement::Open
             } else {
-                Front::Stop(End::TooLarge)
+                Judgement::Stop(End::TooLarge)
             }
         }
     }

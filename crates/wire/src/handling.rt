@@ -1,7 +1,7 @@
 //! What answers messages.
 ghost use Rattle.std.specs.Prelude.{◌≡◌, ℕ, List};
 ghost use Rattle.wire.specs.Answers.{answer_bytes};
-ghost use Rattle.wire.specs.Run.{Said};
+ghost use Rattle.wire.specs.Run.{MessageText};
 
 use crate::MOST_SHORT_TEXT;
 use crate::outcome::End;
@@ -34,7 +34,7 @@ pub trait Handler<D> {
     ghost use Rattle.wire.specs.declared.outcome.End.{End};
 
     // From the first desk, a message that says this may be answered by these bytes, and leave the second.
-    ghost step: { D → Said → List ℕ → D → Type 0 };
+    ghost step: { D → MessageText → List ℕ → D → Type 0 };
 
     // What is written at an end that is refused.
     ghost refusal: { End → List ℕ };

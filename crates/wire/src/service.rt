@@ -7,13 +7,13 @@ ghost use Rattle.wire.specs.Inside.Judged.{IsPartsOf, Judges};
 ghost use Rattle.wire.specs.Inside.Run.{said_at};
 ghost use Rattle.wire.specs.Run.{last_words, last_count, unread, read_failed, write_failed};
 ghost use Rattle.wire.specs.Answers.{answer_bytes};
-ghost use Rattle.wire.specs.Inside.Served.{SoFar, GoesOn, BreaksOff};
+ghost use Rattle.wire.specs.Inside.Served.{SoFar, GoesOnServing, BreaksOff};
 ghost use Rattle.wire.specs.Served.{IsServed};
 
 use crate::MOST_MESSAGES;
 use crate::ending::finish;
 use crate::endpoints::{Sink, Source};
-use crate::front::{Front, Parts};
+use crate::front::{Judgement, Parts};
 use crate::handling::{Answer, Handler};
 use crate::outcome::{End, Served, StreamFault};
 use crate::window::{Next, Window};
@@ -29,7 +29,7 @@ fn serve_one<D, H: Handler<D>, W: Sink>(
     parts: Parts,
 ) -> Result<(), StreamFault>
     requires failures { W.failures writer.old < 2 ^ 64 - 1 }
-    requires parts { Judges window.old (Front.Whole parts) }
+    requires parts { Judges window.old (Judgement.Whole parts) }
     ensures ok { OnOk result ((a : List ℕ) × H.step desk.old (said_at window.old parts) a desk.new
         × Appends (W.written writer.old) (W.written writer.new) a) }
     ensures err { OnErr result ((a : List ℕ) × H.step desk.old (said_at window.old parts) a desk.new
@@ -61,12 +61,12 @@ fn turn<D, H: Handler<D>, R: Source, W: Sink>(
     requires read_failures { R.failures reader.old < 2 ^ 64 - 1 }
     requires open { R.ended reader.old ≡ false }
     requires write_failures { W.failures writer.old < 2 ^ 64 - 1 }
-    ensures answers { IfOk result (λ o. IfNone o ((R.ended reader.new ≡ false) × GoesOn H.step
+    ensures answers { IfOk result (λ o. IfNone o ((R.ended reader.new ≡ false) × GoesOnServing H.step
         (R.left reader.old) (W.written writer.old) window.old desk.old
         (R.left reader.new) (W.written writer.new) window.new desk.new 1)) }
     ensures ends { IfOk result (λ o. IfSome o (λ end.
         Stops (window.new ++ unread (R.left reader.new)) end
-        × GoesOn H.step
+        × GoesOnServing H.step
         (R.left reader.old) (W.written writer.old) window.old desk.old
         (R.left reader.new) (W.written writer.new) window.new desk.new 0)) }
     ensures breaks { IfErr result (λ fault. (fault ≢ StreamFault.Memory) × BreaksOff H.step H.refusal

@@ -1,13 +1,13 @@
 //! What has been read of a stream and not yet taken.
 ghost use Rattle.std.specs.Prelude.{◌≡◌, ◌+◌, ◌-◌, ◌^◌, ◌<◌, ◌≤◌, ◌==◌, false, List, Option, [], length, drop, IfOk, OnErr, IfErr, IfSome, IfNone};
 ghost use Rattle.wire.specs.Run.{read_failed};
-ghost use Rattle.wire.specs.Inside.Taken.{Grows, Finds, AtEndIfNone, IsOpenBut};
-ghost use Rattle.wire.specs.declared.front.Front.TheVariants.{Open};
+ghost use Rattle.wire.specs.Inside.Taken.{Grows, FindsMessage, AtEndIfNone, IsOpenBut};
+ghost use Rattle.wire.specs.declared.front.Judgement.TheVariants.{Open};
 ghost use Rattle.wire.specs.Inside.Judged.{Judges};
 
 use crate::MOST_MESSAGE_BYTES;
 use crate::endpoints::Source;
-use crate::front::{FIELDS, Front, Parts, judge};
+use crate::front::{FIELDS, Judgement, Parts, judge};
 use crate::outcome::{End, StreamFault};
 use httparse::spans::{EMPTY_HEADER_SPAN, HeaderSpan};
 use std::alloc::{AllocError, Global};
@@ -71,7 +71,7 @@ impl Window {
     }
 
     /// What stands at the front of what has come.
-    fn front(&mut self) -> Front
+    fn front(&mut self) -> Judgement
         ensures front { Judges self.old result }
         ensures same { self.new ≡ self.old }
     {
@@ -105,16 +105,16 @@ impl Window {
         requires failures { R.failures reader.old < 2 ^ 64 - 1 }
         requires open { R.ended reader.old ≡ false }
         ensures grows { Grows self.old self.new (R.left reader.old) (R.left reader.new) }
-        ensures some { IfOk result (λ found. IfSome found (λ next. Finds self.new (R.left reader.new) next × IsOpenBut next (R.ended reader.new))) }
+        ensures some { IfOk result (λ found. IfSome found (λ next. FindsMessage self.new (R.left reader.new) next × IsOpenBut next (R.ended reader.new))) }
         ensures none { IfOk result (λ found. IfNone found ((length self.old < MOST_MESSAGE_BYTES) × ((length self.old < length self.new) × (R.ended reader.new ≡ false)))) }
-        ensures open { OnErr result (Judges self.new Front.Open) }
+        ensures open { OnErr result (Judges self.new Judgement.Open) }
         ensures fault { IfErr result (λ e. e ≡ StreamFault.Read) }
         ensures count { R.failures reader.new ≡ R.failures reader.old + read_failed result }
     {
         match self.front() {
-            Front::Whole(parts) => Ok(Some(Next::Message(parts))),
-            Front::Stop(end) => Ok(Some(Next::Ends(end))),
-            Front::Open => match self.refill(reader) {
+            Judgement::Whole(parts) => Ok(Some(Next::Message(parts))),
+            Judgement::Stop(end) => Ok(Some(Next::Ends(end))),
+            Judgement::Open => match self.refill(reader) {
                 Err(fault) => Err(fault),
                 Ok(0) => Ok(Some(Next::Ends(if self.bytes().is_empty() {
                     End::Closed
@@ -131,8 +131,8 @@ impl Window {
         requires failures { R.failures reader.old < 2 ^ 64 - 1 }
         requires open { R.ended reader.old ≡ false }
         ensures grows { Grows self.old self.new (R.left reader.old) (R.left reader.new) }
-        ensures finds { IfOk result (λ next. Finds self.new (R.left reader.new) next × IsOpenBut next (R.ended reader.new)) }
-        ensures open { OnErr result (Judges self.new Front.Open) }
+        ensures finds { IfOk result (λ next. FindsMessage self.new (R.left reader.new) next × IsOpenBut next (R.ended reader.new)) }
+        ensures open { OnErr result (Judges self.new Judgement.Open) }
         ensures fault { IfErr result (λ e. e ≡ StreamFault.Read) }
         ensures count { R.failures reader.new ≡ R.failures reader.old + read_failed result }
     {

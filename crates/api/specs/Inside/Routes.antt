@@ -2,14 +2,14 @@
 use Rattle.std.specs.Prelude.{◌≡◌, ℕ, List}
 use Rattle.matchit.specs.Router.{RouteOf}
 use Rattle.api.specs.declared.routes.Methods.{Methods}
-use Rattle.api.specs.Routes.{Names, first_of}
+use Rattle.api.specs.Routes.{NamesRoute, first_of}
 
 -- a path as it is written, with what each method asks of it
-abbrev pub written : List ℕ × RouteOf Methods → List ℕ × Methods
-written r = (r.1.text, r.1.value)
+abbrev pub path_written : List ℕ × RouteOf Methods → List ℕ × Methods
+path_written r = (r.1.text, r.1.value)
 
 -- the path is that of a route, whose first parameter is this text
 pub record NamesBy (path : List ℕ) (methods : Methods) (code : List ℕ) : Type 0 where
   pub values : List (List ℕ)
-  pub names : Names path methods values
+  pub names : NamesRoute path methods values
   pub first : code ≡ first_of values

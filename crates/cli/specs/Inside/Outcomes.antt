@@ -1,14 +1,11 @@
 -- For proofs alone. What a line of the program comes to: what it prints where, and its status.
-use Rattle.std.specs.Prelude.{◌≡◌, ◌≢◌, ◌⊎◌, ℕ, ◌+◌, ◌<◌, List, length, take, Option}
+use Rattle.std.specs.Prelude.{◌≡◌, ◌⊎◌, ℕ, ◌+◌, ◌<◌, List, length, take, Option}
 use Rattle.std.specs.Io.KnownBytes.{Appends}
-use Rattle.std.specs.declared.io.ErrorKind.{ErrorKind}
-use Rattle.std.specs.declared.io.ErrorKind.TheVariants as kinds
 use Rattle.web.specs.Connections.{SomeServed}
-use Rattle.wire.specs.Run.{Said}
-use Rattle.cli.specs.declared.unread.Unread.TheVariants as unread
-use Rattle.cli.specs.Outcomes.{Outcome, listening, IsServed, of_unread}
+use Rattle.wire.specs.Run.{MessageText}
+use Rattle.cli.specs.Outcomes.{Outcome, listening, IsServed}
 
-module _ {D : Type 0} (step : D → Said → List ℕ → D → Type 0) where
+module _ {D : Type 0} (step : D → MessageText → List ℕ → D → Type 0) where
   -- so many connections were served at a desk and the lines of all were written, or the writer failed
   abbrev pub Serves : ℕ → ℕ → D → D → Option (List ℕ) → Option (List ℕ) → ℕ → ℕ → ℕ → Type 0
   Serves port count before after w0 w failures0 failures status =
@@ -20,7 +17,3 @@ module _ {D : Type 0} (step : D → Said → List ℕ → D → Type 0) where
   IsCutOff before port count w0 w after =
       ((n : ℕ) × (n < length (listening port)) × Appends w0 w (take n (listening port)) × (after ≡ before))
       ⊎ ((between : Option (List ℕ)) × Appends w0 between (listening port) × SomeServed step before count between w after)
-
--- what is told of an error of this kind that reading the arguments gave
-abbrev pub OfUnread : ErrorKind → Outcome → Type 0
-OfUnread kind o = (kind ≡ kinds.OutOfMemory → o ≡ of_unread unread.Memory) × (kind ≢ kinds.OutOfMemory → o ≡ of_unread unread.NotUtf8)

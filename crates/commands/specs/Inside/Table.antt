@@ -1,13 +1,13 @@
 -- For proofs alone. The lines of the program, each told once.
 use Rattle.std.specs.Prelude.{map}
 use Rattle.commands.specs.declared.table.Argument.{Argument as GivenArgument}
-use Rattle.commands.specs.declared.table.Row.{Row as GivenRow}
-use Rattle.commands.specs.Table.{Argument, Told}
+use Rattle.commands.specs.declared.table.Described.{Described as GivenRow}
+use Rattle.commands.specs.Table.{Argument, ToldLine}
 
 -- what the program tells of an argument
 abbrev pub argument_by : GivenArgument → Argument
 argument_by given = record { name = given.name.now; takes = given.takes; needed = given.needed }
 
 -- and of a line
-abbrev pub told_by : GivenRow → Told
+abbrev pub told_by : GivenRow → ToldLine
 told_by given = record { name = given.name.now; arguments = map argument_by given.arguments.now }

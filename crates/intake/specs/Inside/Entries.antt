@@ -12,8 +12,8 @@ use Rattle.intake.specs.declared.section.SectionName.{SectionName}
 use Rattle.intake.specs.declared.section.SectionName.TheVariants.{Aims, Supervisors, Projects, Students, Pairs, StudentPrices, ProjectPrices, SupervisorPrices}
 use Rattle.intake.specs.Parts.{Parts, Rise, IsPrice}
 use Rattle.intake.specs.Lines.{Row, Priced, priced, choice_code, line, round_lines, aim_rows, supervisor_row, project_row, student_row}
-use Rattle.intake.specs.Reading.{Begins}
-use Rattle.intake.specs.Inside.Draft.{IsDraft, HasNoPrices, NoneOrAll, AreUnpriced}
+use Rattle.intake.specs.Reading.{BeginsLines}
+use Rattle.intake.specs.Inside.PartialRound.{IsDraft, HasNoPrices, NoneOrAll, AreUnpriced}
 
 -- the letter of a section's lines
 abbrev pub letter_of : SectionName → List ℕ
@@ -151,8 +151,8 @@ AddsOne {E = E} May more new true = (e : E) × May e × (new ≡ more e)
 AddsOne {E = E} May more new false = (e : E) → ¬ May e
 
 -- the next entry of the section was added, or the row is of none
-abbrev pub Adds : SectionName → Parts → Row → Parts → Bool → Type 0
-Adds s old row new b = AddsOne (IsNext s old row) (with_entry s old) new b
+abbrev pub AddsEntry : SectionName → Parts → Row → Parts → Bool → Type 0
+AddsEntry s old row new b = AddsOne (IsNext s old row) (with_entry s old) new b
 
 -- the same of the next price of the codes
 abbrev pub AddsPrice : List (List ℕ) → List (List ℤ) → Row → List (List ℤ) → Bool → Type 0
@@ -161,7 +161,7 @@ AddsPrice codes old row new b = AddsOne (NextPrice codes old row) (λ v. old ++ 
 -- a line was added, or the lines with it begin no round text
 abbrev pub AddsLine : Parts → List ℕ → Parts → Bool → Type 0
 AddsLine old l new true = IsDraft new × (round_lines new ≡ round_lines old ++ l ∷ [])
-AddsLine old l new false = ¬ Begins (round_lines old ++ l ∷ [])
+AddsLine old l new false = ¬ BeginsLines (round_lines old ++ l ∷ [])
 
 -- the line of fields that begin with a letter
 abbrev pub line_of : List (List ℕ) → List ℕ

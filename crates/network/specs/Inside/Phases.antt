@@ -11,7 +11,7 @@ use Rattle.network.specs.Inside.Fair.{AreStudentsFair, NodesFair, IsFair, IsLow}
 use Rattle.network.specs.Inside.Marks.{is_seen, mark_at}
 use Rattle.network.specs.Inside.Search.{turn_or, IsFound}
 use Rattle.network.specs.Inside.Labels.{AreLabels, AreBlank, MayCompare}
-use Rattle.network.specs.Inside.Kept.{numbers_at, IsKept}
+use Rattle.network.specs.Inside.Seating.{numbers_at, IsSeating}
 use Rattle.network.specs.Inside.Push.{IsCounted, HasSteps}
 use Rattle.network.specs.declared.flow.Flow.{Flow}
 use Rattle.network.specs.declared.residual.Residual.{Residual}
@@ -49,19 +49,19 @@ pub record PushingFlow {G : Type 0} (o : Ops G) (f : Flow G) (marks : List (Mark
 -- the residual network between two admissions: the lists beside the flow are right
 pub record BetweenResidual {G : Type 0} (o : Ops G) (r : Residual G) : Type 0 where
   pub flow : BetweenFlow o r.flow
-  pub kept : IsKept r.flow r.kept
+  pub kept : IsSeating r.flow r.kept
 
 -- the same, searching
 pub record SearchingResidual {G : Type 0} (o : Ops G) (r : Residual G) (fresh : ℕ) : Type 0 where
   pub flow : SearchingFlow o r.flow fresh
-  pub kept : IsKept r.flow r.kept
+  pub kept : IsSeating r.flow r.kept
 
 -- the same, pushing for some student with some worth
 pub record PushingResidual {G : Type 0} (o : Ops G) (r : Residual G) (marks : List (Mark G)) (hole : ℕ) : Type 0 where
   pub fresh : ℕ
   pub top : G
   pub flow : PushingFlow o r.flow marks fresh top hole
-  pub kept : IsKept r.flow r.kept
+  pub kept : IsSeating r.flow r.kept
 
 -- a search for the student may begin: the labels of the last one are gone, and so many may be compared
 pub record MaySearch {G : Type 0} (o : Ops G) (r : Residual G) (l : Labels G) (fresh most : ℕ) : Type 0 where
@@ -76,7 +76,7 @@ pub record BetweenCalls {G : Type 0} (o : Ops G) (r : Residual G) (l : Labels G)
   pub few : l.compared ≤ MOST_RELAXATIONS * length r.flow.lists.items
 
 -- one step of a push: the next hole was settled earlier
-pub record IsNext {G : Type 0} (o : Ops G) (f : Flow G) (marks : List (Mark G)) (fresh : ℕ) (top : G) (hole next : ℕ) : Type 0 where
+pub record IsNextHole {G : Type 0} (o : Ops G) (f : Flow G) (marks : List (Mark G)) (fresh : ℕ) (top : G) (hole next : ℕ) : Type 0 where
   pub pushing : PushingFlow o f marks fresh top next
   pub falls : turn_or (length marks) (mark_at o marks next).turn < turn_or (length marks) (mark_at o marks hole).turn
 
@@ -84,8 +84,8 @@ pub record IsNext {G : Type 0} (o : Ops G) (f : Flow G) (marks : List (Mark G)) 
 pub record IsStepOn {G : Type 0} (o : Ops G) (r : Residual G) (marks : List (Mark G)) (hole next : ℕ) : Type 0 where
   pub fresh : ℕ
   pub top : G
-  pub step : IsNext o r.flow marks fresh top hole next
-  pub kept : IsKept r.flow r.kept
+  pub step : IsNextHole o r.flow marks fresh top hole next
+  pub kept : IsSeating r.flow r.kept
 
 -- the lists, the projects and the supervisors are the same: what students hold, the counts and the potentials may differ
 abbrev pub HasSameRolls : {G : Type 0} → Flow G → Flow G → Type 0
@@ -111,7 +111,7 @@ pub record HasEntered {G : Type 0} (old new : Flow G) (row : Row G) (has_place :
 -- the arcs out of a node with this label may be offered what the label makes of them
 pub record MayExpand {G : Type 0} (o : Ops G) (r : Residual G) (l : Labels G) (label : G) : Type 0 where
   pub compare : MayCompare o r.flow l label 2 MOST_ARCS
-  pub kept : IsKept r.flow r.kept
+  pub kept : IsSeating r.flow r.kept
 
 -- the offers of all students who are placed at a project
 abbrev pub OffersOfSeated : {G : Type 0} → Ops G → Residual G → ℕ → G → Origin → G → ℕ → Type 0

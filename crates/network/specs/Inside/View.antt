@@ -15,7 +15,7 @@ pub record IsAdmissible {G : Type 0} (o : Ops G) (f : Flow G) (list : List (ℕ 
   pub known : IsKnownList o (length f.projects.items) list
 
 -- supervisors with their quotas and projects with supervisor and quota, within the limits
-pub record AreRolls (supervisors : List ℕ) (projects : List (ℕ × ℕ)) : Type 0 where
+pub record AreQuotaRolls (supervisors : List ℕ) (projects : List (ℕ × ℕ)) : Type 0 where
   pub few_supervisors : length supervisors ≤ MOST_SUPERVISORS
   pub few_projects : length projects ≤ MOST_PROJECTS
   pub offered : All (λ p. p.0 < length supervisors) projects

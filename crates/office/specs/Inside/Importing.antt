@@ -5,7 +5,7 @@ use Rattle.rolls.specs.declared.row.Change.{Change}
 use Rattle.rolls.specs.State.{State}
 use Rattle.rolls.specs.Rows.{Turns}
 use Rattle.rolls.specs.Importing.{rows_refusal, after_rows}
-use Rattle.row_changes.specs.Changes.{changes_of_rows}
+use Rattle.step_laws.specs.Changes.{changes_of_rows}
 
 -- none of them was refused, and these are their changes, which turn the rows
 pub record AreMade (rows : List Plain) (old new : State) (changes : List Change) : Type 0 where

@@ -6,14 +6,14 @@ ghost use Rattle.rolls.specs.State.{has_project};
 ghost use Rattle.rolls.specs.declared.request.Plain.TheVariants as ask;
 ghost use Rattle.rolls.specs.Refusing.{plain_refusal};
 ghost use Rattle.rolls.specs.Answers.{IsDone};
-ghost use Rattle.row_changes.specs.Changes.{changes_of};
+ghost use Rattle.step_laws.specs.Changes.{changes_of};
 
 use super::Office;
 use crate::making::one_change;
 use rolls::{Change, Choices, Done, Listed, Reply, Text, Texts};
-use row_changes::list_changes;
 use spa::Code;
 use std::alloc::AllocError;
+use step_laws::list_changes;
 
 impl Office {
     /// The codes of projects on the roll.

@@ -1,12 +1,12 @@
-//! Placements, and what is counted of them, of rounds and of lists.
+//! Placements, and what is counted of them.
 
-ghost use Rattle.std.specs.Prelude.{◌≡◌, ℕ, ◌+◌, ◌<◌, ◌==◌, ◌&&◌, ◌≤◌, IsTrue, count_by, length, option_copied};
+ghost use Rattle.std.specs.Prelude.{◌≡◌, ℕ, ◌+◌, ◌<◌, ◌==◌, ◌&&◌, ◌≤◌, IsTrue, count_by, length};
 ghost use Rattle.spa.specs.declared.TheConstants.{MOST_STUDENTS};
-ghost use Rattle.rolls.specs.State.{last_round, round_is_open, list_of, placed_in_project, placed_with_supervisor};
+ghost use Rattle.rolls.specs.State.{placed_in_project, placed_with_supervisor};
 ghost use Rattle.rolls.specs.Stepping.{by_rank};
 
 use super::Office;
-use rolls::{Listed, Placement};
+use rolls::Placement;
 use spa::RANKS;
 
 impl Office {
@@ -15,33 +15,6 @@ impl Office {
         ensures all { let o = self.now in result.now ≡ o.placements }
     {
         self.placements.entries()
-    }
-
-    /// The number of the last round, 0 where there is none.
-    pub fn last_round(&self) -> u32
-        ensures { result ≡ last_round self.now }
-    {
-        self.rounds.entries().len() as u32
-    }
-
-    /// Whether a round is open.
-    pub(crate) fn round_is_open(&self) -> bool
-        ensures { result ≡ round_is_open self.now }
-    {
-        match self.rounds.by_number(self.last_round()) {
-            Some(round) => round.is_open,
-            None => false,
-        }
-    }
-
-    /// A student's list in a round.
-    pub fn list_of(&self, round: u32, student: &str) -> Option<&Listed>
-        ensures { option_copied result ≡ list_of self.now round student.now }
-    {
-        match self.rounds.by_number(round) {
-            Some(round) => round.lists.by_code(student),
-            None => None,
-        }
     }
 
     /// How many students all rounds placed with a supervisor: at most `spa::MOST_STUDENTS`.

@@ -1,18 +1,18 @@
 //! Rounds, with their lists, and requests that open one.
 
-ghost use Rattle.std.specs.Prelude.{◌≡◌, true, is_some, Some, None, IfOk, OnErr};
+ghost use Rattle.std.specs.Prelude.{◌≡◌, true, is_some, option_copied, Some, None, IfOk, OnErr};
 ghost use Rattle.rolls.specs.Roll.{put};
-ghost use Rattle.rolls.specs.State.{aim_key, aim_of, last_round, lists_of, round_of};
+ghost use Rattle.rolls.specs.State.{aim_key, aim_of, last_round, list_of, lists_of, round_is_open, round_of};
 ghost use Rattle.rolls.specs.declared.request.Plain.TheVariants as ask;
 ghost use Rattle.rolls.specs.Refusing.{plain_refusal};
 ghost use Rattle.rolls.specs.Answers.{IsDone};
-ghost use Rattle.row_changes.specs.Changes.{changes_of};
+ghost use Rattle.step_laws.specs.Changes.{changes_of};
 
 use super::Office;
 use rolls::{Done, Entries, Entry, Listed, Reply, Round, RoundAim};
-use row_changes::{kept_placements, opening_changes, reopening_changes};
 use spa::Aim;
 use std::alloc::AllocError;
+use step_laws::{kept_placements, opening_changes, reopening_changes};
 
 impl Office {
     /// The rounds, by number.
@@ -29,6 +29,34 @@ impl Office {
         match self.rounds.by_number(round) {
             Some(round) => round.lists.entries(),
             None => &[],
+        }
+    }
+
+    /// The number of the last round, 0 where there is none.
+    pub fn last_round(&self) -> u32
+        ensures { result ≡ last_round self.now }
+    {
+        let rounds = self.rounds.entries();
+        rounds.len() as u32
+    }
+
+    /// Whether a round is open.
+    pub(crate) fn round_is_open(&self) -> bool
+        ensures { result ≡ round_is_open self.now }
+    {
+        match self.rounds.by_number(self.last_round()) {
+            Some(round) => round.is_open,
+            None => false,
+        }
+    }
+
+    /// A student's list in a round.
+    pub fn list_of(&self, round: u32, student: &str) -> Option<&Listed>
+        ensures { option_copied result ≡ list_of self.now round student.now }
+    {
+        match self.rounds.by_number(round) {
+            Some(round) => round.lists.by_code(student),
+            None => None,
         }
     }
 

@@ -16,12 +16,12 @@ pub record ArePositions (supervisors : List Supervisor) (projects : List Project
   pub supervisor_there : (k : ℕ) (s : Supervisor) → slice_get supervisors k ≡ Some s → offers projects s.code project ≡ (l == k)
 
 -- a project stands nowhere on its roll, so no supervisor offers it
-pub record IsNowhere (supervisors : List Supervisor) (projects : List Project) (project : List ℕ) : Type 0 where
+pub record IsOffRoll (supervisors : List Supervisor) (projects : List Project) (project : List ℕ) : Type 0 where
   pub no_project : (k : ℕ) (e : Project) → slice_get projects k ≡ Some e → bytes_eq e.code project ≡ false
   pub no_supervisor : (s : List ℕ) → offers projects s project ≡ false
 
 -- one more placement is counted, if such a round made it, for its project and the project's supervisor
-pub record IsOneMore (up_to : Option ℕ) (supervisors : List Supervisor) (projects : List Project) (q : Placement) (old new : Counted) : Type 0 where
+pub record CountsPlacement (up_to : Option ℕ) (supervisors : List Supervisor) (projects : List Project) (q : Placement) (old new : Counted) : Type 0 where
   pub in_project : (k : ℕ) (e : Project) → slice_get projects k ≡ Some e → slice_index new.projects k ≡ slice_index old.projects k + cond (is_made_by up_to q && bytes_eq e.code q.project) 1 0
   pub with_supervisor : (k : ℕ) (s : Supervisor) → slice_get supervisors k ≡ Some s → slice_index new.supervisors k ≡ slice_index old.supervisors k + cond (is_made_by up_to q && offers projects s.code q.project) 1 0
   pub few_in_project : (k : ℕ) → slice_index new.projects k ≤ slice_index old.projects k + 1

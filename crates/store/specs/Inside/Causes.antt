@@ -1,7 +1,6 @@
 -- For proofs alone. Why the tables are not made, read or changed, for another cause than want of memory.
 use Rattle.std.specs.Prelude.{ℕ, Option}
 use Rattle.sqlite.specs.Effect.{Database}
-use Rattle.sqlite.specs.Order.{Row as Cells}
 use Rattle.sqlite.specs.State.{State}
 use Rattle.rolls.specs.declared.row.Change.{Change}
 use Rattle.rolls.specs.declared.row.Change.TheVariants.{Add, Put, Take, TakeList, TakePlacements}
@@ -9,23 +8,11 @@ use Rattle.row_data.specs.declared.table.Table.{Table}
 use Rattle.tables.specs.declared.fault.TableFault.{TableFault}
 use Rattle.tables.specs.declared.table.Group.TheVariants as group
 use Rattle.tables.specs.Table.{sharing, sql_of}
-use Rattle.tables.specs.Causes.{FailsToPut, FailsToWrite, IsHindered, IsHinderedToPut, IsUnread, Went, WentPutting}
+use Rattle.tables.specs.Causes.{FailsToPut, FailsToWrite, IsUnread}
 use Rattle.sqlite_rules.specs.Lists.{Has}
 use Rattle.editions.specs.declared.Edition.{Edition as AnEdition}
 use Rattle.store.specs.Editions.{rolls_of}
 use Rattle.store.specs.Rows.{columns, key_columns, list_columns, round_columns, table_at_key, table_of}
-use Rattle.store.specs.declared.saving.Way.{Way}
-use Rattle.store.specs.declared.saving.Way.TheVariants.{InPlace, New}
-
--- a row is refused that is brought into its table so
-abbrev pub IsHinderedToEnter : Way → Table → Cells → Option ℕ → Database → Type 0
-IsHinderedToEnter InPlace table row = IsHinderedToPut table row
-IsHinderedToEnter New table row = IsHindered (sql_of table).insert row
-
--- a row goes through that is brought into its table so
-abbrev pub WentEntering : Way → Table → Cells → Option ℕ → Database → Database → Type 0
-WentEntering InPlace table row = WentPutting table row
-WentEntering New table row = Went (sql_of table).insert row
 
 -- one of the tables of an edition cannot be read
 pub record IsHinderedReadingIn (e : AnEdition) (limit : Option ℕ) (db : Database) : Type 0 where
@@ -33,12 +20,7 @@ pub record IsHinderedReadingIn (e : AnEdition) (limit : Option ℕ) (db : Databa
   pub among : Has (rolls_of e) table
   pub hindered : IsUnread (sql_of table).select limit db
 
--- a row that is brought into its table so is refused with an error that is this fault
-abbrev pub FailsToEnter : Way → Table → Cells → TableFault → State → State → Type 0
-FailsToEnter InPlace table row = FailsToPut table row
-FailsToEnter New table row = FailsToWrite (sql_of table).insert row
-
--- a change is
+-- a change is refused with an error that is this fault
 abbrev pub FailsToChange : Change → TableFault → State → State → Type 0
 FailsToChange (Put row) = FailsToPut (table_of row) (columns row)
 FailsToChange (Add row) = FailsToWrite (sql_of (table_of row)).insert (columns row)

@@ -64,7 +64,7 @@ abbrev pub IsNoRow : Table → Cells → Type 0
 IsNoRow table cells = (row : Row) → is_in table row ≡ true → IsTyped row → columns row ≢ cells
 
 -- the rows of the table whose columns these are, each after its rowid
-pub record AreRowsOf (table : Table) (cells : List Cells) (rows : List Row) : Type 0 where
+pub record AreReadRows (table : Table) (cells : List Cells) (rows : List Row) : Type 0 where
   pub columns : map columns rows ≡ map (drop 1) cells
   pub kind : list_all (is_in table) rows ≡ true
 
@@ -123,7 +123,7 @@ pub record HoldsRows (e : AnEdition) (rows : List Row) (old new : Seen) : Type 0
   pub are : (office : State) → StandsIn e old.now office → AreRowsIn e rows office
 
 -- an office was found in the tables of an edition, with the changes that raise them, and nothing has changed
-pub record Finds (e : AnEdition) (office : State) (changes : List Change) (old new : Seen) : Type 0 where
+pub record FindsOffice (e : AnEdition) (office : State) (changes : List Change) (old new : Seen) : Type 0 where
   pub same : IsUnchanged old new
   pub holds : HoldIn e old.now (row_at e office)
   pub allowed : Allows e office

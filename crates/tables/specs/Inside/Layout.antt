@@ -16,7 +16,7 @@ use Rattle.sqlite_schema.specs.declared.schema.Column.{Column}
 use Rattle.sqlite_schema.specs.declared.schema.Reference.{Reference}
 use Rattle.sqlite_schema.specs.Names.{table_named}
 use Rattle.sqlite_schema.specs.Rules.{kind_code}
-use Rattle.tables.specs.Table.{Shape, Place, kind_in}
+use Rattle.tables.specs.Table.{TableShape, Place, kind_in}
 use Rattle.tables.specs.Inside.Inert.{is_passive}
 
 -- no value
@@ -86,15 +86,15 @@ abbrev pub is_untimed : AnyTable → Bool
 is_untimed t = (length t.computed == 0) && (length t.stamps.places == 0) && (length t.stamps.terms == 0) && (length t.stamps.formats == 0) && not t.is_counted
 
 -- the keys of the table are those that are told
-abbrev pub has_keys : Shape → AnyTable → Bool
+abbrev pub has_keys : TableShape → AnyTable → Bool
 has_keys shape t = same_key t.key shape.key && bytes_eq t.primary shape.primary && are_told (λ places list. bytes_eq list places) shape.uniques t.uniques && are_plain (length shape.uniques) t.orders
 
 -- the table is as one of this shape is made
-abbrev pub has_shape : Shape → AnyTable → Bool
+abbrev pub has_shape : TableShape → AnyTable → Bool
 has_shape shape t = bytes_eq t.name shape.name && has_keys shape t && are_told is_required shape.columns t.columns && are_of_one t.columns && are_told is_referring shape.links t.references && is_untimed t
 
 -- the schema's first table of this name is this one
-pub record IsNamed (schema : Schema) (name : List ℕ) (table : AnyTable) : Type 0 where
+pub record IsTableNamed (schema : Schema) (name : List ℕ) (table : AnyTable) : Type 0 where
   pub at : ℕ
   pub named : table_named schema name ≡ Some at
   pub there : slice_get schema.tables at ≡ Some table

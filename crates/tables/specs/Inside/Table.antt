@@ -3,12 +3,12 @@ use Rattle.std.specs.Prelude.{ℕ, List, map}
 use Rattle.std.specs.Borrow.{Bor}
 use Rattle.sqlite.specs.Kind.{Kind}
 use Rattle.tables.specs.declared.table.Shape.{Shape as Given}
-use Rattle.tables.specs.declared.table.Told.{Told}
+use Rattle.tables.specs.declared.table.ToldColumn.{ToldColumn}
 use Rattle.tables.specs.declared.table.Link.{Link}
-use Rattle.tables.specs.Table.{Shape, Sql}
+use Rattle.tables.specs.Table.{TableShape, Sql}
 
 -- what the program tells of a column
-abbrev pub column_by : Told → List ℕ × Kind
+abbrev pub column_by : ToldColumn → List ℕ × Kind
 column_by told = (told.0.now, told.1)
 
 -- of a reference
@@ -20,7 +20,7 @@ abbrev pub places_by : Bor (List ℕ) → List ℕ
 places_by places = places.now
 
 -- of a table
-abbrev pub told_by : Given → Shape
+abbrev pub told_by : Given → TableShape
 told_by given = record {
   name = given.name.now;
   columns = map column_by given.columns.now;

@@ -6,10 +6,10 @@ use Rattle.httparse.specs.declared.spans.HeaderSpan.{HeaderSpan}
 use Rattle.wire.specs.declared.front.Head.{Head}
 use Rattle.wire.specs.declared.front.Head.TheVariants.{Found, Malformed, Missing}
 use Rattle.wire.specs.declared.front.Parts.{Parts}
-use Rattle.wire.specs.declared.front.Front.{Front}
-use Rattle.wire.specs.declared.front.Front.TheVariants.{Whole, Stop, Open}
+use Rattle.wire.specs.declared.front.Judgement.{Judgement}
+use Rattle.wire.specs.declared.front.Judgement.TheVariants.{Whole, Stop, Open}
 use Rattle.wire.specs.declared.TheConstants.{MOST_MESSAGE_BYTES}
-use Rattle.wire.specs.Messages.{Message, has_line, IsMalformed, Begins, Stops, IsCut}
+use Rattle.wire.specs.Messages.{Message, has_line, IsMalformed, BeginsWith, Stops, IsCut}
 
 -- what a search for a head in the window found
 abbrev pub FindsHead : List ℕ → List HeaderSpan → Head → Type 0
@@ -29,10 +29,10 @@ pub record IsPartsOf (buf : List ℕ) (p : Parts) (m : Message) : Type 0 where
   pub body : slice_range buf p.head (p.head + p.body) ≡ m.body
 
 -- what stands at the front, whatever bytes follow; where that is open, the buffer has room, and how the stream ends if none follow
-abbrev pub Judges : List ℕ → Front → Type 0
+abbrev pub Judges : List ℕ → Judgement → Type 0
 Judges buf (Whole p) =
     (m : Message) × IsPartsOf buf p m
-    × ((more : List ℕ) → Begins (buf ++ more) m (drop (p.head + p.body) buf ++ more))
+    × ((more : List ℕ) → BeginsWith (buf ++ more) m (drop (p.head + p.body) buf ++ more))
 Judges buf (Stop end) = (more : List ℕ) → Stops (buf ++ more) end
 Judges buf Open =
     (length buf < MOST_MESSAGE_BYTES) × IsCut buf

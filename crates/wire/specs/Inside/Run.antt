@@ -2,10 +2,10 @@
 use Rattle.std.specs.Prelude.{ℕ, ◌+◌, List, slice_range}
 use Rattle.wire.specs.declared.front.Parts.{Parts}
 use Rattle.httparse.specs.Spans.{span_bytes}
-use Rattle.wire.specs.Run.{Said}
+use Rattle.wire.specs.Run.{MessageText}
 
 -- what stands at these parts of the buffer
-abbrev pub said_at : List ℕ → Parts → Said
+abbrev pub said_at : List ℕ → Parts → MessageText
 said_at buffer p = record {
   method = span_bytes buffer p.method;
   target = span_bytes buffer p.target;

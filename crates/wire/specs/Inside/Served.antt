@@ -6,11 +6,11 @@ use Rattle.wire.specs.declared.TheConstants.{MOST_MESSAGES}
 use Rattle.wire.specs.declared.outcome.End.{End}
 use Rattle.wire.specs.Messages.{Message, Splits}
 use Rattle.wire.specs.declared.outcome.StreamFault.{StreamFault}
-use Rattle.wire.specs.Run.{Said, Run}
+use Rattle.wire.specs.Run.{MessageText, RunsMessages}
 use Rattle.wire.specs.Served.{BrokeOff}
 
 -- so far, of the bytes given, these messages were answered, and the rest is kept
-pub record SoFar {S : Type 0} (step : S → Said → List ℕ → S → Type 0) (before : S) (left0 w0 : Option (List ℕ))
+pub record SoFar {S : Type 0} (step : S → MessageText → List ℕ → S → Type 0) (before : S) (left0 w0 : Option (List ℕ))
     (left w : Option (List ℕ)) (rest : List ℕ) (count : ℕ) (now : S) : Type 0 where
   pub given : List ℕ
   pub read : Consumes left0 left given
@@ -18,18 +18,18 @@ pub record SoFar {S : Type 0} (step : S → Said → List ℕ → S → Type 0) 
   pub split : (more : List ℕ) → Splits (given ++ more) messages (rest ++ more)
   pub counted : length messages ≡ count
   pub answers : List (List ℕ)
-  pub ran : Run step before messages answers now
+  pub ran : RunsMessages step before messages answers now
   pub wrote : Appends w0 w (concat answers)
 
 -- what was served so far goes on to this, by so many more answers
-abbrev pub GoesOn : {S : Type 0} → (S → Said → List ℕ → S → Type 0) → Option (List ℕ) → Option (List ℕ) → List ℕ → S
+abbrev pub GoesOnServing : {S : Type 0} → (S → MessageText → List ℕ → S → Type 0) → Option (List ℕ) → Option (List ℕ) → List ℕ → S
     → Option (List ℕ) → Option (List ℕ) → List ℕ → S → ℕ → Type 0
-GoesOn {S} step left w rest now left' w' rest' now' more =
+GoesOnServing {S} step left w rest now left' w' rest' now' more =
     (before : S) (left0 w0 : Option (List ℕ)) (count : ℕ)
     → SoFar step before left0 w0 left w rest count now → SoFar step before left0 w0 left' w' rest' (count + more) now'
 
 -- what was served so far breaks off here
-abbrev pub BreaksOff : {S : Type 0} → (S → Said → List ℕ → S → Type 0) → (End → List ℕ) → Option (List ℕ) → Option (List ℕ) → List ℕ → S
+abbrev pub BreaksOff : {S : Type 0} → (S → MessageText → List ℕ → S → Type 0) → (End → List ℕ) → Option (List ℕ) → Option (List ℕ) → List ℕ → S
     → Option (List ℕ) → Option (List ℕ) → S → StreamFault → Type 0
 BreaksOff {S} step refusal left w rest now left' w' now' fault =
     (before : S) (left0 w0 : Option (List ℕ)) (count : ℕ)

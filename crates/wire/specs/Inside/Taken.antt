@@ -1,7 +1,7 @@
 -- What reading on finds.
 use Rattle.std.specs.Prelude.{◌≡◌, ⊤, ℕ, ◌<◌, Bool, false, List, ◌++◌, length, Option}
 use Rattle.std.specs.Io.KnownBytes.{Consumes, IsAtEnd}
-use Rattle.wire.specs.declared.front.Front.TheVariants.{Whole}
+use Rattle.wire.specs.declared.front.Judgement.TheVariants.{Whole}
 use Rattle.wire.specs.Messages.{Stops}
 use Rattle.wire.specs.Inside.Judged.{Judges}
 use Rattle.wire.specs.declared.window.Next.{Next}
@@ -15,9 +15,9 @@ pub record Grows (old new : List ℕ) (left0 left : Option (List ℕ)) : Type 0 
   pub grown : new ≡ old ++ chunk
 
 -- what stands at the front now, of the buffer and what the reader has left
-abbrev pub Finds : List ℕ → Option (List ℕ) → Next → Type 0
-Finds buffer left (Message parts) = Judges buffer (Whole parts)
-Finds buffer left (Ends end) = Stops (buffer ++ unread left) end
+abbrev pub FindsMessage : List ℕ → Option (List ℕ) → Next → Type 0
+FindsMessage buffer left (Message parts) = Judges buffer (Whole parts)
+FindsMessage buffer left (Ends end) = Stops (buffer ++ unread left) end
 
 -- a reader that may be asked again has not ended: only where the stream's end was found it may have
 abbrev pub IsOpenBut : Next → Bool → Type 0

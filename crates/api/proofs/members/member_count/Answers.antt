@@ -4,17 +4,17 @@ use Rattle.std.specs.declared.alloc.Global.{Global}
 use Rattle.serde_json.specs.Data.{Data}
 use Rattle.serde_json.specs.View.{view, members_of, members_view}
 use Rattle.serde_json.specs.declared.value.Value.{Value}
-use Rattle.api.specs.Members.{count}
+use Rattle.api.specs.Members.{members_count}
 use Rattle.api.proofs.members.member_count.Goals as goal
 
 -- as many members as were given
-counted : (ms : List (String Global × Data)) → count (members_of ms) ≡ length ms
+counted : (ms : List (String Global × Data)) → members_count (members_of ms) ≡ length ms
 counted [] = refl
 counted (m ∷ ms) = let e = counted ms in omega arith
 
 -- as many members as values
-viewed : (ms : List (String Global × Value)) → count (members_view ms) ≡ length ms
+viewed : (ms : List (String Global × Value)) → members_count (members_view ms) ≡ length ms
 viewed ms = counted (map (λ m. (m.0, view m.1)) ms) ∙ simp length-map
 
 pub returns-in-Some : goal.returns-in-Some
-returns-in-Some c = ap Some (c.len.ensures.len ∙ sym (viewed c.in-Some.members.now.entries)) ∙ ap (option_map count) c.in-Some.ensures
+returns-in-Some c = ap Some (c.len.ensures.len ∙ sym (viewed c.in-Some.members.now.entries)) ∙ ap (option_map members_count) c.in-Some.ensures

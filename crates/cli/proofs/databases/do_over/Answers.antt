@@ -1,6 +1,6 @@
 use Rattle.std.proofs.Common.{refl, sym, subst, arith, inl, inr}
 use Rattle.sqlite.specs.Held.{Held, state}
-use Rattle.desk.specs.Kept.{Kept}
+use Rattle.desk.specs.DeskState.{DeskState}
 use Rattle.cli.specs.Databases.{ComesFrom, DoesOver, IsDone, TakesTo}
 use Rattle.cli.proofs.Opened.{found_for, was_clean, why_unopened}
 use Rattle.cli.proofs.Writers.{refused_ends, tells_more}
@@ -9,7 +9,7 @@ use Rattle.cli.proofs.databases.do_over.Goals as goal
 use Rattle.cli.proofs.databases.do_over.Goals.{After-into_connection}
 
 -- the office was opened, and this was done there
-did : (g : given.Over) (c : After-into_connection g) (Done : Kept g.row.S.Denot → Kept g.row.S.Denot → Type 0) → Done c.in-Ok.desk c.do_at-status.new.desk
+did : (g : given.Over) (c : After-into_connection g) (Done : DeskState g.row.S.Denot → DeskState g.row.S.Denot → Type 0) → Done c.in-Ok.desk c.do_at-status.new.desk
     → IsDone g.S.Store Done c.args.connection c.into_connection.result
 did g c Done done =
     let was = was_clean g.S.Store c.args.task c.in-Ok.desk c.do_at-status.new.desk c.do_at-status.ensures.taken in

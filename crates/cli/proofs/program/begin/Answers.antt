@@ -1,18 +1,18 @@
-use Rattle.std.proofs.Common.{List, String, arith, map, rules, string_bytes, subst}
+use Rattle.std.proofs.Common.{List, String, arith, map, refl, rules, string_bytes, subst}
 use Rattle.std.proofs.lemmas.Grind.{common_steps}
 use Rattle.std.specs.declared.alloc.Global.{Global}
 use Rattle.cli.specs.Outcomes.{ComesTo}
-use Rattle.cli.proofs.Writers.{at_ok, tells_more}
+use Rattle.cli.proofs.Writers.{tells_more}
 use Rattle.cli.proofs.program.begin.Goals as goal
 
-pub returns-then-len-gt1-clause-told : goal.returns-then-len-gt1-clause-told
-returns-then-len-gt1-clause-told g c =
-    at_ok _ _ c.args.given c.in-Ok.words c.in-Ok.is
-    (λ _. tells_more (ComesTo (map string_bytes c.deref.result.now)) (ComesTo (map string_bytes c.in-Ok.words.items))
-    (λ o is. subst (λ (ws : List (String Global)). ComesTo (map string_bytes ws) o) c.deref.ensures.value is) _ _ _ c.tell_line.ensures.told)
-
-pub returns-then-len-gt1-clause-file : goal.returns-then-len-gt1-clause-file
-returns-then-len-gt1-clause-file g c = rw c.in-Ok.is (λ _. rw (← c.deref.ensures.value) c.tell_line.ensures.file)
+pub returns-then-len-gt1-clause-line : goal.returns-then-len-gt1-clause-line
+returns-then-len-gt1-clause-line g c =
+    rw c.in-Ok.is (λ _. record {
+      told = tells_more (ComesTo (map string_bytes c.deref.result.now)) (ComesTo (map string_bytes c.in-Ok.words.items))
+          (λ o is. subst (λ (ws : List (String Global)). ComesTo (map string_bytes ws) o) c.deref.ensures.value is) _ _ _ c.tell_line.ensures.told;
+      file = rw (← c.deref.ensures.value) c.tell_line.ensures.file;
+      unread = refl;
+    })
 
 pub returns-in-Ok-clause-stream : goal.returns-in-Ok-clause-stream
-returns-in-Ok-clause-stream g c = rw c.in-Ok.is (λ few. first_of (search rules, grind (arith, common_steps)))
+returns-in-Ok-clause-stream g c = rw c.in-Ok.is (λ few. record { stream = first_of (search rules, grind (arith, common_steps)); silent = search rules; no_file = refl })

@@ -3,7 +3,7 @@ use Rattle.std.specs.Prelude.{IsSomeAnd}
 use Rattle.clap.specs.Words.{App, HasMatchesOf, Row, Text, app_of, fault_of, is_simple_and_free, kind_of, subcommand_of, subcommand_rows_of}
 use Rattle.clap.specs.declared.parser.matches.ArgMatches.{ArgMatches}
 use Rattle.commands.specs.Program.{program}
-use Rattle.commands.specs.Reading.{AreGiven, IsLineOf, IsReading}
+use Rattle.commands.specs.Reading.{AreGiven, IsLineOf, ReadsLine}
 use Rattle.commands.specs.declared.program.Kinds.{Kinds}
 use Rattle.commands.proofs.Faults.{is_fault, is_memory}
 use Rattle.commands.proofs.Simple.{both_left, program_is_simple}
@@ -42,7 +42,7 @@ pub returns-in-Err : goal.returns-in-Err
 returns-in-Err c =
     let words : List Text = map string_bytes c.args.words.now in
     let app : App = app_of c.in_ok-program.field-0 in
-    let reading : IsReading app words (Err c.fault_by.result) = record {
+    let reading : ReadsLine app words (Err c.fault_by.result) = record {
       line = tt;
       faultless = tt;
       fault = is_fault _ (kind_of c.in-Err.error) c.fault_by.result (c.in-Err.ensures.kinds (is_free c.args.kinds app c.in_ok-program.ensures)) c.fault_by.ensures;
@@ -51,6 +51,6 @@ returns-in-Err c =
     record {
       kinds = c.args.kinds;
       are_words = c.requires;
-      reading = subst (λ (a : App). IsReading a words (Err c.fault_by.result)) c.in_ok-program.ensures reading;
+      reading = subst (λ (a : App). ReadsLine a words (Err c.fault_by.result)) c.in_ok-program.ensures reading;
       given = tt;
     }

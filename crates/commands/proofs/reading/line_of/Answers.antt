@@ -4,11 +4,11 @@ use Rattle.std.specs.Str.{bytes_eq}
 use Rattle.std.proofs.lemmas.Slice.Eq.{bytes_eq-Decides}
 use Rattle.clap.specs.Words.{Text}
 use Rattle.commands.specs.Reading.{Each}
-use Rattle.commands.specs.Table.{Told, lines}
+use Rattle.commands.specs.Table.{ToldLine, lines}
 use Rattle.commands.proofs.reading.line_of.Goals as goal
 
 -- no line is found by a name that none has
-none_named : (P : Told → Type 0) (name : Text) (told : List Told) → Each (λ line. name ≢ line.name) told → IsSomeAnd (find (λ line. bytes_eq line.name name) told) P → ⊥
+none_named : (P : ToldLine → Type 0) (name : Text) (told : List ToldLine) → Each (λ line. name ≢ line.name) told → IsSomeAnd (find (λ line. bytes_eq line.name name) told) P → ⊥
 none_named P name [] others h = h
 none_named P name (line ∷ told) others h = go (bytes_eq line.name name) refl (none_named P name told others.1) h
   where

@@ -3,7 +3,7 @@ use Rattle.std.specs.Str.{bytes_eq}
 use Rattle.std.proofs.lemmas.Option.{slice_get_read}
 use Rattle.rolls.specs.declared.entries.Project.{Project}
 use Rattle.reports.proofs.Lines.{next, appended_chosen}
-use Rattle.reports.specs.Texts.{project_row}
+use Rattle.reports.specs.Texts.{project_line}
 use Rattle.reports.proofs.loads_report.push_offered.Goals as goal
 
 pub loop-position-preserved : goal.loop-position-preserved
@@ -12,4 +12,4 @@ loop-position-preserved c n are =
     let k = c.loop-position.position in
     let left = next all k c.index-projects-position.result c.loop-position-test.true c.index-projects-position.is in
     let at = ap (λ (ps : List Project). slice_get ps k) (sym c.projects-projects.ensures.all) ∙ slice_get_read all (length all) k c.index-projects-position.result refl c.loop-position-test.true c.index-projects-position.is in
-    appended_chosen (project_row c.args.office.now n) (λ p. bytes_eq c.args.supervisor.now p.supervisor) _ _ _ _ _ _ left (c.in_ok-push_project.ensures c.args.office.now n at are) (c.loop-position.invariant n are)
+    appended_chosen (project_line c.args.office.now n) (λ p. bytes_eq c.args.supervisor.now p.supervisor) _ _ _ _ _ _ left (c.in_ok-push_project.ensures c.args.office.now n at are) (c.loop-position.invariant n are)

@@ -3,7 +3,7 @@ use Rattle.std.specs.Fmt.{styled_text, styled_decimal}
 use Rattle.std.proofs.lemmas.Bool.{eq-eqb}
 use Rattle.reports.proofs.Widths.{left_code, right_number}
 use Rattle.reports.proofs.Lines.{joined, chosen}
-use Rattle.reports.specs.Texts.{left, right, placement_row}
+use Rattle.reports.specs.Texts.{left, right, placement_line}
 use Rattle.reports.proofs.placements_report.push_placement.Goals as goal
 
 pub returns-in_ok-writeln : goal.returns-in_ok-writeln
@@ -14,4 +14,4 @@ returns-in_ok-writeln c =
     let p = c.args.placement.now in
     c.in_ok-writeln.ensures.bytes ∙ (λ i. string_bytes c.args.out.now ++ (student i ++ (32 ∷ (project i ++ (32 ∷ (rank i ++ 10 ∷ []))))))
     ∙ ap (λ l. string_bytes c.args.out.now ++ l) (joined (left 16 p.student) (32 ∷ left 16 p.project) (32 ∷ right 2 p.rank) (10 ∷ []))
-    ∙ ap (λ l. string_bytes c.args.out.now ++ l) (chosen placement_row (λ p. p.round == c.args.round) c.args.placement.now (eq-eqb _ _ c.if-placement-round.true))
+    ∙ ap (λ l. string_bytes c.args.out.now ++ l) (chosen placement_line (λ p. p.round == c.args.round) c.args.placement.now (eq-eqb _ _ c.if-placement-round.true))

@@ -12,12 +12,12 @@ use Rattle.std.proofs.lemmas.List.{length-map}
 use Rattle.spa.specs.declared.aim.Aim.{Aim}
 use Rattle.spa.specs.Places.{Places}
 use Rattle.spa.specs.Matched.{HasPlaces}
-use Rattle.solver.specs.Inside.Kept.{IsKept}
+use Rattle.solver.specs.Inside.Kept.{IsNetworkKept}
 use Rattle.solver.proofs.session.ranked.Goals as goal
 use Rattle.solver.proofs.session.ranked.Goals.{in-Some, in_default}
 
 -- a student's place is one of a list of at most RANKS
-placed_within : {aim : Aim} {students : ℕ} (v : Seen (Places PLACES)) (s k : ℕ) → IsKept aim v students → HasPlaces (shape_of v) v.places → slice_get v.places s ≡ Some (Some k) → k - 1 < RANKS
+placed_within : {aim : Aim} {students : ℕ} (v : Seen (Places PLACES)) (s k : ℕ) → IsNetworkKept aim v students → HasPlaces (shape_of v) v.places → slice_get v.places s ≡ Some (Some k) → k - 1 < RANKS
 placed_within v s k kept places is =
     let inside = places.in_list s k is in
     let short : length (list_of (shape_of v) s) ≤ RANKS = list_short (shape_of v) kept.sound s in

@@ -7,10 +7,10 @@ use Rattle.store.proofs.NewTables.{founded}
 use Rattle.store.proofs.founding.make_tables.Goals as goal
 
 pub returns-clause-step : goal.returns-clause-step
-returns-clause-step g c = part_then _ _ _ _ _ _ _ _ (λ _ p q. founded _ refl _ _ _ p q) c.in_ok-make_each.ensures.step (rw (c.params-to_sql.ensures, c.params-to_sql-2.ensures, c.number_of.ensures) at c.insert.ensures.step)
+returns-clause-step g c = part_then _ _ _ _ _ _ _ _ (λ _ p q. founded _ refl _ _ _ p q) c.in_ok-make_each.ensures.step (rw (c.params-to_sql.ensures, c.params-to_sql-2.ensures, c.number_of.ensures) at c.enter.ensures.step)
 
 pub returns-clause-starved : goal.returns-clause-starved
 returns-clause-starved g c clean inside h =
-    let early : HasCleanDisk (state g.S.Store c.make_each.new.tx.conn.now) = omega (arith, c.insert.ensures.step.survives.clean) in
+    let early : HasCleanDisk (state g.S.Store c.make_each.new.tx.conn.now) = omega (arith, c.enter.ensures.step.survives.clean) in
     let made = c.in_ok-make_each.ensures.step.did early in
-    lacks_after _ _ _ made.committed (lacks _ _ _ _ (rw h at (c.insert.ensures.told clean (made.mode ∙ inside))))
+    lacks_after _ _ _ made.committed (lacks _ _ _ _ (rw h at (c.enter.ensures.told clean (made.mode ∙ inside))))

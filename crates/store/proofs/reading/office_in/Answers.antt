@@ -4,7 +4,7 @@ use Rattle.rolls.specs.declared.row.Row.{Row}
 use Rattle.rolls.specs.declared.row.Change.{Change}
 use Rattle.rolls.specs.From as from
 use Rattle.editions.specs.Editions.{upgrade}
-use Rattle.store.specs.Inside.Reading.{Finds}
+use Rattle.store.specs.Inside.Reading.{FindsOffice}
 use Rattle.store.specs.declared.fault.StoreFault.TheVariants.{Damaged}
 use Rattle.store.proofs.FoundOffice.{found_in}
 use Rattle.store.proofs.reading.office_in.Goals as goal
@@ -15,7 +15,7 @@ returns-clause-ok g c clean =
     let rows = c.in_ok-rows.rows.items in
     let office = c.in_ok-office.office in
     let made : c.in_ok-changes.changes.items ≡ upgrade e rows = rw c.deref.ensures.value at c.in_ok-changes.ensures in
-    subst (λ (changes : List Change). Finds e office changes (state g.S.Store c.args.conn.now) (state g.S.Store c.rows_in.new.conn)) (sym made)
+    subst (λ (changes : List Change). FindsOffice e office changes (state g.S.Store c.args.conn.now) (state g.S.Store c.rows_in.new.conn)) (sym made)
     (found_in c.renewal_law.ensures c.upgrade_law.ensures e rows office _ _ (c.in_ok-rows.ensures.rows clean) c.fit.ensures.fit (subst (λ (it : List Row). from.AreRowsOf it office) c.in_ok-all.ensures c.in_ok-office.ensures.rows))
 
 pub returns-clause-same : goal.returns-clause-same

@@ -1,6 +1,6 @@
 use Rattle.std.proofs.Common.{take}
-use Rattle.store.specs.Inside.Reading.{AreRowsOf}
+use Rattle.store.specs.Inside.Reading.{AreReadRows}
 use Rattle.store.proofs.rows.rows_with.Given as goal
 
 abbrev pub invariant-loop-cells : goal.invariant-loop-cells
-invariant-loop-cells l = AreRowsOf l.table (take l.cells-index l.all) l.rows.items
+invariant-loop-cells l = AreReadRows l.table (take l.cells-index l.all) l.rows.items

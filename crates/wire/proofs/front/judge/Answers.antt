@@ -8,7 +8,7 @@ use Rattle.wire.specs.declared.fields.Framing.{Framing}
 use Rattle.wire.specs.declared.fields.Framing.TheVariants.{Length, Wrong, Long}
 use Rattle.wire.specs.declared.front.Head.{Head}
 use Rattle.wire.specs.declared.front.Head.TheVariants.{Found, Malformed, Missing}
-use Rattle.wire.specs.declared.front.Front.TheVariants.{Whole, Open}
+use Rattle.wire.specs.declared.front.Judgement.TheVariants.{Whole, Open}
 use Rattle.wire.specs.Messages.{window, HeadFramed, framing_of}
 use Rattle.wire.specs.Inside.Judged.{FindsHead, Judges}
 use Rattle.wire.proofs.WholeStream.{framing_read, framed_stays, whole_message, cut_message, open_message, long_message, malformed_message}

@@ -3,7 +3,7 @@ use Rattle.wire.specs.declared.TheConstants.{MOST_MESSAGES}
 use Rattle.wire.specs.declared.outcome.End.{End}
 use Rattle.wire.specs.declared.outcome.End.TheVariants.{Hundred}
 use Rattle.wire.specs.declared.outcome.Served.{Served}
-use Rattle.wire.specs.Run.{Said}
+use Rattle.wire.specs.Run.{MessageText}
 use Rattle.wire.specs.Inside.Served.{SoFar}
 use Rattle.wire.specs.Served.{ServedTo}
 use Rattle.wire.proofs.Runs.{nothing_yet, hundred_here}
@@ -12,7 +12,7 @@ use Rattle.wire.proofs.Turns.{same_read, same_write, last_read, last_written, en
 use Rattle.wire.proofs.service.serve_messages.Goals as goal
 
 -- at first nothing was read, asked or written
-starts : {S : Type 0} (step : S → Said → List ℕ → S → Type 0) (before : S) (left w : Option (List ℕ)) (rest : List ℕ) → rest ≡ []
+starts : {S : Type 0} (step : S → MessageText → List ℕ → S → Type 0) (before : S) (left w : Option (List ℕ)) (rest : List ℕ) → rest ≡ []
     → SoFar step before left w left w rest 0 before
 starts step before left w rest e = subst (λ (t : List ℕ). SoFar step before left w left w t 0 before) (sym e) (nothing_yet step before left w)
 
@@ -55,7 +55,7 @@ pub returns-in_default-clause-served : goal.returns-in_default-clause-served
 returns-in_default-clause-served g c = nothing_served g.H.Handler.step g.H.Handler.refusal c.args.desk.now (g.R.Source.left c.args.reader.now) (g.W.Sink.written c.args.writer.now)
 
 -- a hundred messages were answered
-hundred : {S : Type 0} (step : S → Said → List ℕ → S → Type 0) (refusal : End → List ℕ) (before now : S) (left0 w0 left w : Option (List ℕ)) (rest : List ℕ) (count : ℕ)
+hundred : {S : Type 0} (step : S → MessageText → List ℕ → S → Type 0) (refusal : End → List ℕ) (before now : S) (left0 w0 left w : Option (List ℕ)) (rest : List ℕ) (count : ℕ)
     → SoFar step before left0 w0 left w rest count now → count ≡ MOST_MESSAGES → ServedTo step refusal before left0 w0 left w (record { answered = MOST_MESSAGES; end = Hundred }) now
 hundred step refusal before now left0 w0 left w rest count so e =
     hundred_here step refusal before now left0 w0 left w rest (subst (λ (k : ℕ). SoFar step before left0 w0 left w rest k now) e so)

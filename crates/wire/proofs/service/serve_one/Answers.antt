@@ -1,6 +1,6 @@
 use Rattle.std.proofs.Common.{◌≡◌, ◌∙◌, ℕ, ◌+◌, List, slice_range, ap, subst, sym, arith, add-zero}
 use Rattle.httparse.specs.Spans.{span_bytes}
-use Rattle.wire.specs.Run.{Said}
+use Rattle.wire.specs.Run.{MessageText}
 use Rattle.wire.specs.declared.front.Parts.{Parts}
 use Rattle.std.specs.Io.KnownBytes.{Appends}
 use Rattle.wire.specs.Answers.{answer_bytes}
@@ -19,7 +19,7 @@ says xs ys method target p same of_method of_target = λ i. record {
 pub returns-clause-ok : goal.returns-clause-ok
 returns-clause-ok g c = (
   answer_bytes c.answer-answer.result,
-  subst (λ (said : Said). g.H.Handler.step c.args.desk.now said (answer_bytes c.answer-answer.result) c.answer-answer.new.desk)
+  subst (λ (said : MessageText). g.H.Handler.step c.args.desk.now said (answer_bytes c.answer-answer.result) c.answer-answer.new.desk)
       (says _ _ _ _ c.args.parts c.bytes-bytes.ensures c.of.ensures c.of-2.ensures) c.answer-answer.ensures.step,
   subst (Appends (g.W.Sink.written c.args.writer.now) (g.W.Sink.written c.write_all.new.writer)) c.as_slice.ensures c.in_ok-write_all.ensures.ok,
 )

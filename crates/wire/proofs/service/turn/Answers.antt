@@ -4,7 +4,7 @@ use Rattle.wire.specs.declared.window.Next.{Next}
 use Rattle.wire.specs.declared.window.Next.TheVariants.{Message, Ends}
 use Rattle.wire.specs.declared.outcome.End.{End}
 use Rattle.wire.specs.declared.outcome.StreamFault.TheVariants.{Read, Write}
-use Rattle.wire.specs.Inside.Taken.{Finds, IsOpenBut}
+use Rattle.wire.specs.Inside.Taken.{FindsMessage, IsOpenBut}
 use Rattle.wire.specs.Run.{read_failed, write_failed}
 use Rattle.wire.proofs.Turns.{fault_counts, same_read, same_write, no_memory_read, no_memory_write, breaks_reading, breaks_writing, message_goes_on, end_goes_on}
 use Rattle.wire.proofs.service.turn.Goals as goal
@@ -14,8 +14,8 @@ still_read : (ended : Bool) (found : Next) (parts : Parts) → found ≡ Message
 still_read ended found parts e h = subst (λ (n : Next). IsOpenBut n ended) e h
 
 -- what was found, by its case
-found_as : (buffer : List ℕ) (left : Option (List ℕ)) (found next : Next) → found ≡ next → Finds buffer left found → Finds buffer left next
-found_as buffer left found next e h = subst (Finds buffer left) e h
+found_as : (buffer : List ℕ) (left : Option (List ℕ)) (found next : Next) → found ≡ next → FindsMessage buffer left found → FindsMessage buffer left next
+found_as buffer left found next e h = subst (FindsMessage buffer left) e h
 
 pub returns-in-Err-clause-breaks : goal.returns-in-Err-clause-breaks
 returns-in-Err-clause-breaks g c = (

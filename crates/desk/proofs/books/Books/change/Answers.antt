@@ -2,8 +2,8 @@ use Rattle.std.proofs.Common.{◌≡◌, inl, inr, Result, None, ap, subst, ◌�
 use Rattle.rolls.specs.State.{State}
 use Rattle.rolls.specs.Rows.{Turns}
 use Rattle.rolls.specs.Run.{Makes, refusal}
-use Rattle.allotment.specs.Layers.{layers}
-use Rattle.allotment.specs.Changes.{MayChange}
+use Rattle.outside.specs.Layers.{layers}
+use Rattle.outside.specs.Changes.{MayChange}
 use Rattle.sqlite.specs.Held.{state}
 use Rattle.sqlite.specs.State.{State as Seen}
 use Rattle.tables.specs.Causes.{IsCaused}
@@ -35,21 +35,21 @@ pub returns-clause-saved : goal.returns-clause-saved
 returns-clause-saved g c =
     let q = c.args.request in
     let old : State = c.args.self.now.office in
-    let next : State = c.made.new.office in
+    let next : State = c.make_change.new.office in
     let done = c.in-Ok.done in
-    let saved = c.settle.ensures.saved in
+    let saved = c.exchange.ensures.saved in
     let same = c.in_ok-next.ensures.same ∙ ap (λ k. k.office) c.self.view_is in
     let made = subst (λ (o : State). Makes layers o q done.reply next) same c.in-Ok.ensures.made.1 in
     let none = subst (λ (o : State). refusal layers o q ≡ None) same c.in-Ok.ensures.made.0 in
     let turns = subst (λ (o : State). Turns done.changes.items o next) same c.in-Ok.ensures.turns in
     let may = subst (λ (o : State). MayChange o q done.changes.items) same c.in-Ok.ensures.changes in
     record {
-      crash = call_carried q old next done (state g.S.Store c.args.self.now.store) (state g.S.Store c.settle.new.self.store) none made c.fit.ensures.fit turns c.keeps.ensures.tables saved.crash;
+      crash = call_carried q old next done (state g.S.Store c.args.self.now.store) (state g.S.Store c.exchange.new.self.store) none made c.fit.ensures.fit turns c.keeps.ensures.tables saved.crash;
       alone = λ _. saved.alone;
       stays_open = λ _. saved.stays_open;
       stays_shut = saved.stays_shut;
       acted_on = λ _. saved.acted_on;
-      cause = λ quiet. hindered_by Storage c.settle.result old next q done (state g.S.Store c.args.self.now.store) (state g.S.Store c.settle.new.self.store) (done.reply, (none, made)) may turns (saved.cause quiet);
+      cause = λ quiet. hindered_by Storage c.exchange.result old next q done (state g.S.Store c.args.self.now.store) (state g.S.Store c.exchange.new.self.store) (done.reply, (none, made)) may turns (saved.cause quiet);
     }
 
 pub returns-clause-refused : goal.returns-clause-refused

@@ -1,8 +1,8 @@
 use Rattle.std.proofs.Common.{◌≡◌, Option, sym, ap, subst, ◌∙◌}
 use Rattle.rolls.specs.State.{State}
 use Rattle.rolls.specs.Run.{Makes}
-use Rattle.solver.specs.Sitting.{Sitting}
-use Rattle.allotment.specs.Layers.{layers}
+use Rattle.solver.specs.SessionState.{SessionState}
+use Rattle.outside.specs.Layers.{layers}
 use Rattle.rolls.specs.declared.fate.Fate.{Fate}
 use Rattle.desk.specs.Sessions.{fate_of}
 use Rattle.desk.specs.Inside.Sessions.{MayMeet}
@@ -10,8 +10,8 @@ use Rattle.desk.proofs.SessionAfter.{meets}
 use Rattle.desk.proofs.desk.Desk.change.Goals as goal
 
 -- a session and its fate, taken for equal ones
-met_so : (f : Fate) (g : Fate) (o n : State) (old kept : Option Sitting) → f ≡ g → o ≡ n → old ≡ kept → MayMeet f o old → MayMeet g n kept
-met_so f g o n old kept e d k h = subst (λ (x : Fate). MayMeet x n kept) e (subst (λ (x : State). MayMeet f x kept) d (subst (λ (x : Option Sitting). MayMeet f o x) k h))
+met_so : (f : Fate) (g : Fate) (o n : State) (old kept : Option SessionState) → f ≡ g → o ≡ n → old ≡ kept → MayMeet f o old → MayMeet g n kept
+met_so f g o n old kept e d k h = subst (λ (x : Fate). MayMeet x n kept) e (subst (λ (x : State). MayMeet f x kept) d (subst (λ (x : Option SessionState). MayMeet f o x) k h))
 
 pub next_session-requires : goal.next_session-requires
 next_session-requires g c =

@@ -1,14 +1,14 @@
 use Rattle.std.proofs.Common.{sym, ap, subst, ◌∙◌}
 use Rattle.rolls.specs.declared.request.Request.TheVariants as request
 use Rattle.rolls.specs.Run.{Makes}
-use Rattle.allotment.specs.Layers.{layers}
+use Rattle.outside.specs.Layers.{layers}
 use Rattle.rolls.specs.State.{State}
-use Rattle.allotment.specs.Sittings.{SitsIn}
+use Rattle.outside.specs.Sittings.{IsSessionOf}
 use Rattle.desk.proofs.desk.Desk.preview.Goals as goal
 
 pub returns-clause-step : goal.returns-clause-step
 returns-clause-step g c =
     let o : State = c.args.self.now.office in
     let same = ap (λ d. let books = d.books in books.office) c.self-inside.view_is ∙ ap (λ k. k.office) c.self.view_is in
-    let sits : SitsIn o c.in_ok-session.session = subst (λ (x : State). SitsIn x c.in_ok-session.session) same c.in_ok-session.ensures.sits in
+    let sits : IsSessionOf o c.in_ok-session.session = subst (λ (x : State). IsSessionOf x c.in_ok-session.session) same c.in_ok-session.ensures.sits in
     (c.requires.allowed, subst (λ (x : State). Makes layers o request.Preview c.read_preview-reply.result x) (sym same) (c.read_preview-reply.ensures.made o sits))

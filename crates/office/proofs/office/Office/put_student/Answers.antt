@@ -5,7 +5,7 @@ use Rattle.rolls.specs.declared.request.Plain.TheVariants.{PutStudent}
 use Rattle.rolls.specs.Roll.{put}
 use Rattle.rolls.specs.State.{State, student_key, has_student}
 use Rattle.rolls.specs.Stepping.{after_plain}
-use Rattle.row_changes.specs.Changes.{put_or_added}
+use Rattle.step_laws.specs.Changes.{put_or_added}
 use Rattle.office.specs.View.{state_of}
 use Rattle.office.proofs.Known.{lent_is_there}
 use Rattle.office.proofs.Made.{made_fit, made_done}

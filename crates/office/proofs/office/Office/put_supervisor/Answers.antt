@@ -4,7 +4,7 @@ use Rattle.rolls.specs.declared.row.Row.TheVariants as row
 use Rattle.rolls.specs.declared.request.Plain.TheVariants.{PutSupervisor}
 use Rattle.rolls.specs.Roll.{put}
 use Rattle.rolls.specs.State.{State, supervisor_key, has_supervisor}
-use Rattle.row_changes.specs.Changes.{put_or_added}
+use Rattle.step_laws.specs.Changes.{put_or_added}
 use Rattle.rolls.specs.Stepping.{after_plain}
 use Rattle.office.specs.View.{state_of}
 use Rattle.office.proofs.Known.{lent_is_there}

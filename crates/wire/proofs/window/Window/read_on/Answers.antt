@@ -1,6 +1,6 @@
 use Rattle.std.proofs.Common.{◌∙◌, sym, subst, ℕ, List}
 use Rattle.wire.specs.Run.{unread}
-use Rattle.wire.specs.declared.front.Front.TheVariants.{Whole, Stop}
+use Rattle.wire.specs.declared.front.Judgement.TheVariants.{Whole, Stop}
 use Rattle.wire.specs.Inside.Judged.{Judges}
 use Rattle.wire.proofs.ReaderEnd.{still_open}
 use Rattle.wire.proofs.window.Window.read_on.Goals as goal

@@ -1,0 +1,6 @@
+use Rattle.std.proofs.Common.{◌≡◌, ◌++◌, drop, filter, map}
+use Rattle.editions.specs.Editions.{is_old, removal_of}
+use Rattle.editions.proofs.old_removals.Given as goal
+
+abbrev pub invariant-loop-row : goal.invariant-loop-row
+invariant-loop-row l = l.changes.items ++ map removal_of (filter is_old (drop l.row-index l.rows)) ≡ map removal_of (filter is_old l.rows)

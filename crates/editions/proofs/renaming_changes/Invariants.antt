@@ -1,0 +1,7 @@
+use Rattle.std.proofs.Common.{◌≡◌, ◌++◌, map}
+use Rattle.editions.specs.Editions.{renaming_changes}
+use Rattle.rolls.specs.declared.row.Change.TheVariants.{Add}
+use Rattle.editions.proofs.renaming_changes.Given as goal
+
+abbrev pub invariant-loop-row : goal.invariant-loop-row
+invariant-loop-row l = l.changes.items ++ map Add l.row-iterator.rest.items ≡ renaming_changes l.rows l.fn.more.items

@@ -1,0 +1,87 @@
+use Rattle.std.proofs.Common.{◌≡◌, ℕ, List, [], ◌∷◌, length, map, get_or, slice_get, Some, decimal, sym, ap, subst, ◌∙◌, arith}
+use denote.Ref.{Bor}
+use Rattle.std.proofs.lemmas.List.{length-map}
+use Rattle.std.proofs.lemmas.Result.{err_from_is_err_and}
+use Rattle.spa.specs.Instance.{supervisors_of}
+use Rattle.intake.specs.Parts.{Rise, IsRoll}
+use Rattle.intake.proofs.RowInDraft.{three_fields, project_added}
+use Rattle.intake.proofs.Lists.{blank, first_field}
+use Rattle.intake.proofs.Order.{get_found, key_at}
+use Rattle.intake.proofs.PairLine.{nowhere}
+use Rattle.intake.proofs.Rolls.{project_keys, supervisor_keys, comes_moved, contained, standing}
+use Rattle.intake.proofs.draft.PartialRound.add_project.Goals as goal
+
+pub next_code-requires : goal.next_code-requires
+next_code-requires c = subst Rise (project_keys c.args.self.now.projects.items ∙ ap (map (λ e. e.0)) (sym c.deref.ensures.value)) c.requires.instance.projects.rise
+
+pub returns-in_default-next_code : goal.returns-in_default-next_code
+returns-in_default-next_code c = λ e t.
+    c.in_default-next_code.ensures (comes_moved _ _ _ _ _ (project_keys c.args.self.now.projects.items ∙ ap (map (λ e. e.0)) (sym c.deref.ensures.value)) (first_field _ _ _ _ (sym t.is ∙ three_fields c.args.fields.now c.in-len3.len_at_least c.in-len3.len_below)) t.code)
+
+pub position_at-requires : goal.position_at-requires
+position_at-requires c = subst IsRoll (supervisor_keys c.args.self.now.supervisors.items ∙ ap (map (λ e. e.0)) (sym c.deref-2.ensures.value)) c.requires.instance.supervisors
+
+pub returns-in_default-position_at : goal.returns-in_default-position_at
+returns-in_default-position_at c = λ e t.
+    let row : (get_or c.args.fields.now 0 blank).now ∷ (get_or c.args.fields.now 1 blank).now ∷ (get_or c.args.fields.now 2 blank).now ∷ [] ≡ e.code ∷ e.supervisor ∷ decimal e.quota ∷ [] = sym (three_fields c.args.fields.now c.in-len3.len_at_least c.in-len3.len_below) ∙ t.is in
+    let second : (get_or c.args.fields.now 1 blank).now ≡ e.supervisor = cc in
+    let keys = supervisor_keys c.args.self.now.supervisors.items ∙ ap (map (λ e. e.0)) (sym c.deref-2.ensures.value) in
+    let at = standing (map (λ e. e.code) (supervisors_of c.args.self.now.supervisors.items)) e.supervisor t.known in
+    nowhere (map (λ e. e.0) c.deref-2.result.now) (length c.deref-2.result.now) at.0 (get_or c.args.fields.now 1 blank).now e.supervisor (sym (length-map c.deref-2.result.now (λ e. e.0))) second c.in_default-position_at.ensures
+    (ap (λ (l : List (List ℕ)). slice_get l at.0) (sym keys) ∙ at.2)
+
+pub returns : goal.returns
+returns c =
+    let read = rw c.in-Some.is at c.next_code.ensures in
+    let owner : ℕ = c.in-Some-position_at.owner in
+    let owners = ap (map (λ e. e.0)) c.deref-2.ensures.value ∙ sym (supervisor_keys c.args.self.now.supervisors.items) in
+    let at : slice_get (map (λ e. e.code) (supervisors_of c.args.self.now.supervisors.items)) owner ≡ Some (get_or c.args.fields.now 1 blank).now = ap (λ (l : List (List ℕ)). slice_get l owner) (sym owners) ∙ c.in-Some-position_at.ensures.1 in
+    let supervisor : c.copy-supervisor.result ≡ (get_or c.args.fields.now 1 blank).now =
+    c.copy-supervisor.ensures ∙ sym (key_at (λ e. e.0) c.args.self.now.supervisors.items owner c.index.result.now (omega (arith, c.in-Some-position_at.ensures.0, ap length c.deref-2.ensures.value)) c.index.ensures)
+    ∙ get_found (map (λ e. e.0) c.args.self.now.supervisors.items) owner (get_or c.args.fields.now 1 blank).now [] (ap (λ (l : List (List ℕ)). slice_get l owner) (sym (supervisor_keys c.args.self.now.supervisors.items)) ∙ at) in
+    let keys = ap (map (λ e. e.0)) c.deref.ensures.value ∙ sym (project_keys c.args.self.now.projects.items) in (
+      record { code = c.in-Some.code; supervisor = c.copy-supervisor.result; quota = c.in-Some-read_quota.quota },
+      record {
+        is = three_fields c.args.fields.now c.in-len3.len_at_least c.in-len3.len_below
+            ∙ ap (λ (x : List ℕ). x ∷ (get_or c.args.fields.now 1 blank).now ∷ (get_or c.args.fields.now 2 blank).now ∷ []) (sym read.0)
+            ∙ ap (λ (x : List ℕ). c.in-Some.code ∷ x ∷ (get_or c.args.fields.now 2 blank).now ∷ []) (sym supervisor)
+            ∙ ap (λ (x : List ℕ). c.in-Some.code ∷ c.copy-supervisor.result ∷ x ∷ []) c.in-Some-read_quota.ensures.1;
+        code = comes_moved _ _ _ _ _ keys (sym read.0) read.1;
+        quota = c.in-Some-read_quota.ensures.0;
+        known = contained _ owner c.copy-supervisor.result (at ∙ ap Some (sym supervisor));
+      },
+      project_added _ c.args.self.now.supervisors.items c.args.self.now.projects.items c.push.new.self.items (map (λ e. (e.0, e.1.items)) c.args.self.now.students.items) c.args.self.now.places.items _ _ _ c.in-Some.code c.copy-supervisor.result c.in-Some-read_quota.quota c.in_ok-push.ensures.items,
+    )
+
+pub read_quota-requires : goal.read_quota-requires
+read_quota-requires c = tt
+
+pub returns-in_default-read_quota : goal.returns-in_default-read_quota
+returns-in_default-read_quota c = λ e t.
+    let row : (get_or c.args.fields.now 0 blank).now ∷ (get_or c.args.fields.now 1 blank).now ∷ (get_or c.args.fields.now 2 blank).now ∷ [] ≡ e.code ∷ e.supervisor ∷ decimal e.quota ∷ [] = sym (three_fields c.args.fields.now c.in-len3.len_at_least c.in-len3.len_below) ∙ t.is in
+    let third : (get_or c.args.fields.now 2 blank).now ≡ decimal e.quota = cc in
+    c.in_default-read_quota.ensures e.quota t.quota third
+
+pub guess-guess-requires : goal.guess-guess-requires
+guess-guess-requires c = tt
+
+pub copy-supervisor-requires : goal.copy-supervisor-requires
+copy-supervisor-requires c = tt
+
+pub as_str-requires : goal.as_str-requires
+as_str-requires c = tt
+
+pub as_bytes-requires : goal.as_bytes-requires
+as_bytes-requires c = tt
+
+pub note-requires : goal.note-requires
+note-requires c = tt
+
+pub returns-in_default : goal.returns-in_default
+returns-in_default c = λ e t. absurd (omega (arith, ap length t.is, length-map c.args.fields.now (λ (f : Bor (List ℕ)). f.now), c.in_default.len_below))
+
+pub index-requires : goal.index-requires
+index-requires c = omega (arith, c.in-Some-position_at.ensures.0, ap length c.deref-2.ensures.value, c.args.self.now.supervisors.ok.0)
+
+pub returns-in_err-push : goal.returns-in_err-push
+returns-in_err-push c = let p = err_from_is_err_and c.from_residual.result c.from_residual.ensures.1 in rw p.1 tt

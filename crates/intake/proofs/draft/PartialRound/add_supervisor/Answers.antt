@@ -1,0 +1,53 @@
+use Rattle.std.proofs.Common.{◌≡◌, ℕ, List, [], ◌∷◌, length, map, get_or, decimal, sym, ap, subst, ◌∙◌, arith}
+use denote.Ref.{Bor}
+use Rattle.std.proofs.lemmas.List.{length-map}
+use Rattle.std.proofs.lemmas.Result.{err_from_is_err_and}
+use Rattle.intake.specs.Parts.{Rise}
+use Rattle.intake.proofs.RowInDraft.{two_fields, supervisor_added}
+use Rattle.intake.proofs.Lists.{blank, first_field}
+use Rattle.intake.proofs.Rolls.{supervisor_keys, comes_moved}
+use Rattle.intake.proofs.draft.PartialRound.add_supervisor.Goals as goal
+
+pub returns-in_default : goal.returns-in_default
+returns-in_default c = λ e t. absurd (omega (arith, ap length t.is, length-map c.args.fields.now (λ (f : Bor (List ℕ)). f.now), c.in_default.len_below))
+
+pub next_code-requires : goal.next_code-requires
+next_code-requires c = subst Rise (supervisor_keys c.args.self.now.supervisors.items ∙ ap (map (λ e. e.0)) (sym c.deref.ensures.value)) c.requires.instance.supervisors.rise
+
+pub returns-in_default-next_code : goal.returns-in_default-next_code
+returns-in_default-next_code c = λ e t.
+    c.in_default-next_code.ensures (comes_moved _ _ _ _ _ (supervisor_keys c.args.self.now.supervisors.items ∙ ap (map (λ e. e.0)) (sym c.deref.ensures.value)) (first_field _ _ _ _ (sym t.is ∙ two_fields c.args.fields.now c.in-len2.len_at_least c.in-len2.len_below)) t.code)
+
+pub returns : goal.returns
+returns c =
+    let read = rw c.in-Some.is at c.next_code.ensures in
+    let keys = ap (map (λ e. e.0)) c.deref.ensures.value ∙ sym (supervisor_keys c.args.self.now.supervisors.items) in (
+      record { code = c.in-Some.code; quota = c.in-Some-read_quota.quota },
+      record {
+        is = two_fields c.args.fields.now c.in-len2.len_at_least c.in-len2.len_below ∙ ap (λ (x : List ℕ). x ∷ (get_or c.args.fields.now 1 blank).now ∷ []) (sym read.0) ∙ ap (λ (x : List ℕ). c.in-Some.code ∷ x ∷ []) c.in-Some-read_quota.ensures.1;
+        code = comes_moved _ _ _ _ _ keys (sym read.0) read.1;
+        quota = c.in-Some-read_quota.ensures.0;
+      },
+      supervisor_added _ c.args.self.now.supervisors.items c.push.new.self.items c.args.self.now.projects.items (map (λ e. (e.0, e.1.items)) c.args.self.now.students.items) c.args.self.now.places.items _ _ _ c.in-Some.code c.in-Some-read_quota.quota c.in_ok-push.ensures.items,
+    )
+
+pub read_quota-requires : goal.read_quota-requires
+read_quota-requires c = tt
+
+pub returns-in_default-read_quota : goal.returns-in_default-read_quota
+returns-in_default-read_quota c = λ e t.
+    let row : (get_or c.args.fields.now 0 blank).now ∷ (get_or c.args.fields.now 1 blank).now ∷ [] ≡ e.code ∷ decimal e.quota ∷ [] = sym (two_fields c.args.fields.now c.in-len2.len_at_least c.in-len2.len_below) ∙ t.is in
+    let second : (get_or c.args.fields.now 1 blank).now ≡ decimal e.quota = cc in
+    c.in_default-read_quota.ensures e.quota t.quota second
+
+pub as_str-requires : goal.as_str-requires
+as_str-requires c = tt
+
+pub as_bytes-requires : goal.as_bytes-requires
+as_bytes-requires c = tt
+
+pub returns-in_err-push : goal.returns-in_err-push
+returns-in_err-push c = let p = err_from_is_err_and c.from_residual.result c.from_residual.ensures.1 in rw p.1 tt
+
+pub note-requires : goal.note-requires
+note-requires c = tt

@@ -1,7 +1,0 @@
--- The office that the parts of a draft stand for.
-use Rattle.loading.specs.declared.draft.Draft.{Draft}
-use Rattle.rolls.specs.State.{State}
-
--- what a draft holds
-abbrev pub drafted : Draft → State
-drafted d = record { supervisors = d.supervisors; projects = d.projects; students = d.students; rounds = d.rounds; aims = d.aims; placements = d.placements; imports = d.imports }
