@@ -1,0 +1,117 @@
+-- The rows that an office has in an edition, with tables renamed, and in the first one with the aims of its rounds, are its rows in the latest.
+use Rattle.std.proofs.Common.{◌≡◌, false, drop, List, [], ◌∷◌, ◌++◌, map, Option, Some, None, refl, sym, ap, ◌∙◌, append-nil}
+use Rattle.std.specs.Prelude.{IsPermutation}
+use Rattle.std.specs.List.{AllByRecursion}
+use Rattle.std.specs.Option.{option_map_or}
+use Rattle.std.proofs.lemmas.List.Elements.{All-from_recursion, recursion_from_All}
+use Rattle.std.proofs.lemmas.List.Sorted.{IsPermutation-map, All-permutation}
+use Rattle.sqlite_keyed.proofs.ListLemmas.{IsPermutation-same, all-map, all_unmap, all_weaker}
+use Rattle.spa.specs.declared.aim.Aim.{Aim}
+use Rattle.spa.specs.declared.aim.Aim.TheVariants.{Greedy, Generous}
+use Rattle.row_data.specs.declared.cell.Cell.TheVariants.{Number}
+use Rattle.row_data.specs.declared.table.Table.{Table}
+use Rattle.row_data.specs.declared.table.Table.TheVariants.{Round, RoundAim}
+use Rattle.rolls.specs.declared.rounds.RoundAim.{RoundAim as AimEntry}
+use Rattle.rolls.specs.declared.row.Row as roll
+use Rattle.rolls.specs.Roll.{find}
+use Rattle.rolls.specs.State.{State, aim_key}
+use Rattle.rolls.specs.Fit.{IsFit}
+use Rattle.rolls.proofs.Found.{holds_of_found}
+use Rattle.editions.specs.declared.Edition.TheVariants.{First, Second, Third}
+use Rattle.editions.specs.Editions.{aims_of}
+use Rattle.editions.specs.Editions.{renamed as row_renamed}
+use Rattle.row_lists.specs.Rows.{Cells, begins, same_table, rows_in, aim_cells}
+use Rattle.row_lists.specs.Made.{row_made}
+use Rattle.row_lists.specs.From.{of_table, AreRowsOf}
+use Rattle.row_lists.specs.Editions.{renamed, rows_in_edition, AreRowsIn, HaveNoLater}
+use Rattle.row_lists.specs.Laws.{Renews}
+use Rattle.row_lists.proofs.Changes.{by_table}
+use Rattle.row_lists.proofs.Renamed.{cells_in, of_made, cells_both, renamed_twice, swapped, aim_of_round, aims_come, no_others, greedy_rows, first_else}
+use Rattle.row_lists.proofs.Same.{from_same, to_same}
+
+-- ---- the second edition
+
+-- rows that are renamed are in the renamed tables
+name_swapped : (rows : List roll.Row) (t : Table) → of_table (map row_made (map row_renamed rows)) t ≡ of_table (map row_made rows) (renamed t)
+name_swapped rows t = of_made (map row_renamed rows) t ∙ swapped rows t ∙ sym (of_made rows (renamed t))
+
+-- so they are those of the office
+swaps : (rows : List roll.Row) (o : State) → AreRowsIn Second (map row_made rows) o → AreRowsOf (map row_made (map row_renamed rows)) o
+swaps rows o are t =
+    from_same (name_swapped rows t)
+    (to_same (are.same (renamed t)) (ap (rows_in o) (renamed_twice t)))
+
+-- and the other way round
+swaps_back : (rows : List roll.Row) (o : State) → AreRowsOf (map row_made (map row_renamed rows)) o → AreRowsIn Second (map row_made rows) o
+swaps_back rows o of = record {
+  same = λ t. from_same (ap (of_table (map row_made rows)) (sym (renamed_twice t)) ∙ sym (name_swapped rows (renamed t))) (of (renamed t));
+  allowed = tt;
+}
+
+-- ---- the first one
+
+-- a row of an aim that is not the generous one
+abbrev IsGreedy : Cells → Type 0
+IsGreedy cells = begins (Number 1 ∷ []) (drop 1 cells) ≡ false
+
+-- the aim that a round's row comes with is
+made_greedy : (cells : Cells) → IsGreedy (aim_of_round cells)
+made_greedy (Number n ∷ cells) = refl
+made_greedy _ = refl
+
+-- and an aim whose row is, is greedy
+greedy_aim : (a : AimEntry) → IsGreedy (aim_cells a) → a.aim ≡ Greedy
+greedy_aim a = by a.aim
+  where
+    by : (aim : Aim) → IsGreedy (aim_cells (record { round = a.round; aim = aim })) → aim ≡ Greedy
+    by Greedy h = refl
+    by Generous h = cc
+
+module _ (rows : List roll.Row) (o : State) (none : HaveNoLater First (map row_made rows)) (fit : IsFit o) where
+  -- the rows with the aims that they come with
+  all_at : (t : Table) → of_table (map row_made (rows ++ aims_of rows)) t ≡ of_table (map row_made rows) t ++ cells_in t (aims_of rows)
+  all_at t = of_made (rows ++ aims_of rows) t ∙ cells_both t rows (aims_of rows) ∙ ap (λ cells. cells ++ cells_in t (aims_of rows)) (sym (of_made rows t))
+
+  -- in other tables there are the rows themselves
+  elsewhere : (t : Table) → same_table t RoundAim ≡ false → of_table (map row_made (rows ++ aims_of rows)) t ≡ of_table (map row_made rows) t
+  elsewhere t other = all_at t ∙ ap (λ cells. of_table (map row_made rows) t ++ cells) (no_others rows t other) ∙ append-nil _
+
+  -- and in theirs the aims alone
+  here : of_table (map row_made (rows ++ aims_of rows)) RoundAim ≡ map aim_of_round (of_table (map row_made rows) Round)
+  here = all_at RoundAim ∙ ap (λ cells. cells ++ cells_in RoundAim (aims_of rows)) none ∙ aims_come rows ∙ ap (map aim_of_round) (sym (of_made rows Round))
+
+  -- with the aims they are rows of the second edition
+  with_aims : AreRowsIn First (map row_made rows) o → AreRowsIn Second (map row_made (rows ++ aims_of rows)) o
+  with_aims are = record {
+    same = by_table (λ t. IsPermutation (of_table (map row_made (rows ++ aims_of rows)) t) (rows_in_edition Second o t)) RoundAim
+        (from_same here (to_same (IsPermutation-map aim_of_round _ _ (are.same Round)) (greedy_rows o fit are.allowed)))
+        (λ t other. from_same (elsewhere t other) (to_same (are.same t) (first_else o t other)));
+    allowed = tt;
+  }
+
+  -- where they are such rows all rounds are greedy
+  all_greedy : AreRowsIn Second (map row_made (rows ++ aims_of rows)) o → AllByRecursion (λ (a : AimEntry). a.aim ≡ Greedy) o.aims
+  all_greedy are =
+      all_weaker (λ a. IsGreedy (aim_cells a)) (λ (a : AimEntry). a.aim ≡ Greedy) greedy_aim o.aims
+      (all_unmap IsGreedy aim_cells o.aims (recursion_from_All IsGreedy _ (All-permutation IsGreedy _ _
+      (from_same (sym here) (are.same RoundAim)) (All-from_recursion IsGreedy _ (all-map IsGreedy aim_of_round made_greedy (of_table (map row_made rows) Round))))))
+
+  -- and without the aims they are rows of the first
+  without_aims : AreRowsIn Second (map row_made (rows ++ aims_of rows)) o → AreRowsIn First (map row_made rows) o
+  without_aims are = record {
+    same = by_table (λ t. IsPermutation (of_table (map row_made rows) t) (rows_in_edition First o t)) RoundAim (IsPermutation-same _ _ none)
+        (λ t other. from_same (sym (elsewhere t other)) (to_same (are.same t) (sym (first_else o t other))));
+    allowed = λ n. greedy (find aim_key (n, []) o.aims) (λ a is. holds_of_found aim_key (λ (a : AimEntry). a.aim ≡ Greedy) (n, []) o.aims a (all_greedy are) is);
+  }
+    where
+      greedy : (x : Option AimEntry) → ((a : AimEntry) → x ≡ Some a → a.aim ≡ Greedy) → option_map_or (λ (a : AimEntry). a.aim) x Greedy ≡ Greedy
+      greedy None all = refl
+      greedy (Some a) all = all a refl
+
+pub renews : Renews
+renews First rows o none fit = (
+  λ are. swaps (rows ++ aims_of rows) o (with_aims rows o none fit are),
+  λ of. without_aims rows o none fit (swaps_back (rows ++ aims_of rows) o of),
+)
+renews Second rows o none fit = (swaps rows o, swaps_back rows o)
+renews Third rows o none fit = (λ are. are.same, λ of. record { same = of; allowed = tt })

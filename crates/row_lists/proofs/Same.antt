@@ -1,0 +1,9 @@
+-- Lists that are one before or behind a permutation.
+use Rattle.std.proofs.Common.{◌≡◌, List, sym, subst}
+use Rattle.std.specs.Prelude.{IsPermutation}
+
+pub from_same : {X : Type 0} {xs ys zs : List X} → xs ≡ ys → IsPermutation ys zs → IsPermutation xs zs
+from_same {zs = zs} e p = subst (λ l. IsPermutation l zs) (sym e) p
+
+pub to_same : {X : Type 0} {xs ys zs : List X} → IsPermutation xs ys → ys ≡ zs → IsPermutation xs zs
+to_same {xs = xs} p e = subst (IsPermutation xs) e p
