@@ -55,7 +55,7 @@ METHODS = ("get", "put", "post", "delete")
 def refusals():
     """Each refusal by its name: its number and its status."""
     text = read("crates", "rolls", "src", "refusal.rt")
-    rows = re.findall(r"Refusal::\w+(?: \{ \.\. \})? => Told \{ number: (\d+), status: (\d+), name: \"(\w+)\"", text)
+    rows = re.findall(r"Refusal::\w+(?: \{ \.\. \})? => RefusalRow \{ number: (\d+), status: (\d+), name: \"(\w+)\"", text)
     variants = re.findall(r"^    /// (\d+): ", text, re.M)
     if [number for number, _, _ in rows] != variants:
         sys.exit("openapi.py: refusal.rt has refusals that are not understood")
