@@ -15,7 +15,4 @@ is_read k (Number least most) word (Ok n) parsed below fit = refl
 is_read k (Number least most) word (Err e) parsed below fit =
     let within = accepts-Accepts false (Unsigned least most) word fit in
     absurd (parsed (within.0, omega (arith, below, within.3)))
-is_read k Word word r parsed below fit = absurd below
-is_read k ImportKind word r parsed below fit = absurd below
-is_read k ReportKind word r parsed below fit = absurd below
-is_read k Aim word r parsed below fit = absurd below
+is_read k _ word r parsed below fit = absurd below

@@ -6,7 +6,7 @@ ghost use Rattle.rolls.specs.Reads.{is_read};
 use crate::import::ImportKind;
 use crate::report::ReportKind;
 use crate::rounds::{Choices, Placement};
-use crate::row::Change;
+use row_data::Change;
 use row_data::{Bytes, Text, Texts};
 use spa::{Aim, Code, Label, RANKS};
 
