@@ -34,15 +34,11 @@ module _ {D : Type 0} {g : Ghosts D} {O E : Type 0} (image : Image) where
   asked_comes (Err refusal) came old new status at = at.1
 
   line_comes : (l : Line) (came : Came D g) (old new : Both O E) (status : ℕ) → LineAt image l came old new status → Tells (MayCome l) old new status
-  line_comes (line.Serve database port count) came old new status at = done_comes _ came old new status at
   line_comes (line.Import database kind id file) came old new status at =
       tells_more _ (ImportsFile (string_bytes id) kind) (λ o is. imports_file (string_bytes id) kind at.0 o at.1 is) _ _ _ (asked_comes at.0 came old new status at.2)
-  line_comes (line.OpenRound database aim) came old new status at = done_comes _ came old new status at
-  line_comes (line.ReopenRound database) came old new status at = done_comes _ came old new status at
-  line_comes (line.CloseRound database) came old new status at = done_comes _ came old new status at
-  line_comes (line.Report database kind round) came old new status at = done_comes _ came old new status at
   line_comes (line.Solve file) came old new status at = at.1
   line_comes (line.Check file) came old new status at = at.1
+  line_comes _ came old new status at = done_comes _ came old new status at
 
   command_comes : (words : List (List ℕ)) (command : Result Line LineFault) (came : Came D g) (old new : Both O E) (status : ℕ) → IsAnswer words command
       → CommandAt image command came old new status → Tells (ComesTo words) old new status

@@ -1,16 +1,11 @@
 -- Lists of entries: what is counted and found in them and in what is made of them, and how keys rise.
-use Rattle.std.proofs.Common.{◌≡◌, ◌⊎◌, ℕ, ◌≤◌, inl, inr, Bool, true, false, cond, List, [], ◌∷◌, length, map, count_by, find, Option, Some, is_some, option_map, refl, sym, ap, ◌∙◌, arith}
+use Rattle.std.proofs.Common.{◌≡◌, ℕ, ◌≤◌, inl, inr, Bool, true, false, cond, List, [], ◌∷◌, map, count_by, find, Option, Some, option_map, refl, ap, ◌∙◌, arith}
 use Rattle.std.specs.List.{AllByRecursion}
 use Rattle.std.specs.Str.{bytes_eq}
-use Rattle.std.specs.Cmp.{first_so, second_so}
-use Rattle.std.specs.Ordering.{is_lt, is_eq, ordering_reverse}
-use Rattle.std.specs.declared.cmp.Ordering.{Ordering}
-use Rattle.std.specs.declared.cmp.Ordering.TheVariants.{Less, Equal, Greater}
 use Rattle.std.proofs.lemmas.Bool.{cases_Bool}
 use Rattle.std.proofs.lemmas.List.Sums.{sum_by-cons}
-use Rattle.rolls.specs.Roll.{Key, key_cmp, same_key, has, find as entry, is_below, rises}
+use Rattle.rolls.specs.Roll.{Key, same_key, find as entry}
 use Rattle.rolls.proofs.EntryChange.{same_code}
-use Rattle.rolls.proofs.Places.{keys_total, find_below, below_all}
 
 -- ---- what holds of each
 
@@ -58,21 +53,3 @@ count_fewer t u (e ∷ es) h =
       | inl s ↦ let v = h.0 s in rw (c, d, s, v) (omega (arith, r))
       | inr s ↦ rw (c, d, s) (omega (arith, r))
     ]
-
--- ---- keys that rise
-
-module _ {E D : Type 0} (key : E → Key) (keyed : D → Key) (made : E → D) (same : (e f : E) → key_cmp (keyed (made e)) (keyed (made f)) ≡ key_cmp (key e) (key f)) where
-  below_made : (e : E) (es : List E) → is_below keyed (keyed (made e)) (map made es) ≡ is_below key (key e) es
-  below_made e [] = refl
-  below_made e (f ∷ es) =
-      let s = same e f in
-      let r = below_made e es in
-      rw (s, r) refl
-
-  -- what is made of entries rises as they do
-  pub rises_made : (es : List E) → rises keyed (map made es) ≡ rises key es
-  rises_made [] = refl
-  rises_made (e ∷ es) =
-      let b = below_made e es in
-      let r = rises_made es in
-      rw (b, r) refl

@@ -1,5 +1,5 @@
 -- An office with an open round: what its instance has.
-use Rattle.std.proofs.Common.{◌≡◌, ℕ, ◌-◌, ◌≤◌, true, false, List, [], length, Option, Some, None, slice_get, option_map, refl, sym, ap, ◌∙◌, arith}
+use Rattle.std.proofs.Common.{◌≡◌, ℕ, ◌-◌, true, false, List, [], Option, Some, None, option_map, refl, sym, ap, ◌∙◌, arith}
 use Rattle.std.specs.Option.{option_map_or}
 use Rattle.std.specs.Str.{bytes_eq}
 use Rattle.spa.specs.Instance as spa
@@ -7,11 +7,10 @@ use Rattle.spa.specs.Coded.{choices_of, offerer_of, places_in, places_with}
 use Rattle.rolls.specs.declared.entries.Supervisor.{Supervisor}
 use Rattle.rolls.specs.declared.entries.Project.{Project}
 use Rattle.rolls.specs.declared.rounds.Listed.{Listed}
-use Rattle.rolls.specs.declared.rounds.Placement.{Placement}
 use Rattle.rolls.specs.Roll.{Key, find}
-use Rattle.rolls.specs.State.{State, supervisor_key, project_key, student_key, list_key, placement_key, supervisor_of, project_of, list_of, lists_of, last_round, choices_in, has_student, is_offered_by, quota_in, quota_with, placed_in_project, placed_with_supervisor}
+use Rattle.rolls.specs.State.{State, supervisor_key, project_key, list_key, supervisor_of, project_of, list_of, lists_of, last_round, choices_in, is_offered_by, quota_in, quota_with, placed_in_project, placed_with_supervisor}
 use Rattle.rolls.specs.Instances.{round_instance}
-use Rattle.rolls.proofs.Found.{found_key, holds_of_found}
+use Rattle.rolls.proofs.Found.{found_key}
 use Rattle.closing.proofs.Entries.{find_made}
 
 -- ---- the instance of the last round

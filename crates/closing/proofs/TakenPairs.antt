@@ -3,7 +3,7 @@
 use Rattle.std.proofs.Common.{List, map, ◌≡◌, sym, ap, ◌∙◌, subst}
 use Rattle.spa.specs.Coded.{CodePair, taken, CodesSayTheSame}
 use Rattle.rolls.specs.declared.rounds.Placement.{Placement}
-use Rattle.rolls.specs.declared.row.Change.{Change}
+use Rattle.row_data.specs.declared.row.Change.{Change}
 use Rattle.rolls.specs.State.{last_round}
 use Rattle.rolls.specs.Instances.{round_instance}
 use Rattle.rolls.specs.Fit.{IsFit}

@@ -1,30 +1,24 @@
--- The students of a matching of the open round have no placement yet, and no two of its pairs are of one student: so each row of a
+-- The students of a matching of the open round have no placement yet, and no two of its pairs are of one student: so each
 -- placement that closing adds is new. Who has a list in the open round is placed by no round before, and no other is closed.
-use Rattle.std.proofs.Common.{◌≡◌, ℕ, ◌+◌, ◌<◌, ◌≤◌, Bool, true, false, cond, List, [], ◌∷◌, map, count_by, Option, Some, None, Contains, option_map, refl, ap, ◌∙◌, arith}
-use Rattle.std.specs.Prelude.{◌&&◌, nat_lt}
+use Rattle.std.proofs.Common.{◌≡◌, ℕ, ◌+◌, ◌<◌, ◌≤◌, Bool, true, false, cond, List, [], ◌∷◌, map, count_by, Option, Some, None, Contains, is_some, refl, sym, ap, subst, ◌∙◌, arith}
+use Rattle.std.specs.Prelude.{nat_lt}
 use Rattle.std.specs.Option.{option_map_or}
 use Rattle.std.specs.List.{AllByRecursion}
 use Rattle.std.specs.Str.{bytes_eq}
-use Rattle.std.proofs.lemmas.Bool.{lt-ltb}
-use Rattle.std.proofs.lemmas.Slice.Eq.{bytes_eq-Decides}
+use Rattle.std.proofs.lemmas.Bool.{false_from_ne_true, lt-ltb}
 use Rattle.std.proofs.lemmas.List.Sums.{sum_by-cons}
 use Rattle.spa.specs.Coded.{CodePair}
-use Rattle.rolls.specs.Roll.{Key}
+use Rattle.rolls.specs.Roll.{Key, find, of_code}
 use Rattle.rolls.specs.declared.rounds.Listed.{Listed}
 use Rattle.rolls.specs.declared.rounds.Placement.{Placement}
-use Rattle.rolls.specs.declared.row.Row.{Row}
-use Rattle.rolls.specs.declared.row.RowKey.{RowKey}
-use Rattle.rolls.specs.declared.row.RowKey.TheVariants as key
-use Rattle.rolls.specs.declared.row.Change.TheVariants as change
 use Rattle.rolls.specs.State.{State, list_key, placement_key, last_round, list_of, lists_of, choices_in, placement_of, is_placed_before}
 use Rattle.rolls.specs.Fit.{IsFit, ListFits, PlacementFits}
 use Rattle.rolls.specs.Closing.{MayClose, kept}
-use Rattle.rolls.specs.Rows.{placement_row, row_of, after_change, AreFresh}
-use Rattle.rolls.proofs.EntryChange.{all_weaker}
+use Rattle.rolls.proofs.EntryChange.{all_weaker, bytes_self, same_bytes, same_code}
 use Rattle.rolls.proofs.Found.{found_key, holds_of_found}
 use Rattle.rolls.proofs.LastRound.{closed_before}
-use Rattle.rolls.proofs.RowKeys.{apart_back}
 use Rattle.rolls.proofs.NoMoreThanFound.{all_two}
+use Rattle.row_lists.proofs.Keyed.{AreNew}
 use Rattle.closing.proofs.Kept.{pairs_listed}
 
 -- ---- no student twice
@@ -48,26 +42,24 @@ none_of s (e ∷ M) none = (
     first true h = absurd (omega (arith, h))
     first false h = refl
 
--- ---- each row is new
+-- ---- each placement is new
 
-module _ (o : State) where
-  -- the rows of placements that keep pairs of different students, none of whom has a row
-  added_fresh : (M : List CodePair) (rows : RowKey → Option Row) → ((s : List ℕ) → of_student s M ≤ 1) → AllByRecursion (λ (e : CodePair). rows (key.Placement e.student) ≡ None) M
-      → AreFresh (map (λ p. change.Add (placement_row p)) (map (kept o) M)) rows
-  added_fresh [] rows once none = tt
-  added_fresh (e ∷ M) rows once none =
-      let itself : bytes_eq e.student e.student ≡ true = (bytes_eq-Decides e.student e.student).1 refl in
-      let first : of_student e.student (e ∷ M) ≡ 1 + of_student e.student M = one_more e.student e M ∙ ap (λ b. cond b 1 0 + of_student e.student M) itself in
-      let others = none_of e.student M (omega (arith, once e.student, first)) in (
-        none.0,
-        added_fresh M (after_change (change.Add (placement_row (kept o e))) rows) (λ s. omega (arith, once s, one_more s e M))
-            (all_two (λ (f : CodePair). bytes_eq e.student f.student ≡ false) (λ (f : CodePair). rows (key.Placement f.student) ≡ None)
-            (λ (f : CodePair). after_change (change.Add (placement_row (kept o e))) rows (key.Placement f.student) ≡ None)
-            (λ f other free.
-            ap (λ b. cond b (Some (placement_row (kept o e))) (rows (key.Placement f.student)))
-            (apart_back (key.Placement e.student) (key.Placement f.student) (ap (λ b. b && true) other)) ∙ free)
-            M others none.1),
-      )
+other_way : (a b : List ℕ) → bytes_eq a b ≡ false → bytes_eq b a ≡ false
+other_way a b h = false_from_ne_true (bytes_eq b a) (λ t. let yes : bytes_eq a b ≡ true = subst (λ x. bytes_eq a x ≡ true) (sym (same_bytes b a t)) (bytes_self a) in cc)
+
+-- the placements that keep pairs of different students, none of whom has one
+added_new : (o : State) (M : List CodePair) (es : List Placement) → ((s : List ℕ) → of_student s M ≤ 1)
+    → AllByRecursion (λ (e : CodePair). is_some (find placement_key (of_code e.student) es) ≡ false) M → AreNew placement_key (map (kept o) M) es
+added_new o [] es once none = tt
+added_new o (e ∷ M) es once none =
+    let first : of_student e.student (e ∷ M) ≡ 1 + of_student e.student M = one_more e.student e M ∙ ap (λ b. cond b 1 0 + of_student e.student M) (bytes_self e.student) in
+    let others = none_of e.student M (omega (arith, once e.student, first)) in (
+      none.0,
+      added_new o M (kept o e ∷ es) (λ s. omega (arith, once s, one_more s e M))
+          (all_two (λ (f : CodePair). bytes_eq e.student f.student ≡ false) (λ (f : CodePair). is_some (find placement_key (of_code f.student) es) ≡ false)
+          (λ (f : CodePair). is_some (find placement_key (of_code f.student) (kept o e ∷ es)) ≡ false)
+          (λ f other free. ap (λ b. is_some (cond b (Some (kept o e)) (find placement_key (of_code f.student) es))) (same_code f.student e.student ∙ other_way e.student f.student other) ∙ free) M others none.1),
+    )
 
 module _ (M : List CodePair) (o : State) (fit : IsFit o) (may : MayClose o M) where
   -- who is placed is placed by a round before the open one
@@ -96,9 +88,9 @@ module _ (M : List CodePair) (o : State) (fit : IsFit o) (may : MayClose o M) wh
       by None is = refl
       by (Some p) is = absurd (let yes = placed_before e.student p is in let no_one = not_before e.student e.project listed in cc)
 
-  -- the rows of the pairs are new, where those of placements are as in the office
-  pub pairs_fresh : (rows : RowKey → Option Row) → ((s : List ℕ) → rows (key.Placement s) ≡ row_of o (key.Placement s)) → AreFresh (map (λ p. change.Add (placement_row p)) (map (kept o) M)) rows
-  pairs_fresh rows same =
-      added_fresh o M rows may.matching.student_once
-      (all_weaker (λ (e : CodePair). Contains (choices_in o (last_round o) e.student) e.project) (λ (e : CodePair). rows (key.Placement e.student) ≡ None)
-      (λ e listed. same e.student ∙ ap (option_map placement_row) (unplaced e listed)) M (pairs_listed M o fit may))
+  -- so the placements of the pairs are new
+  pub pairs_new : AreNew placement_key (map (kept o) M) o.placements
+  pairs_new =
+      added_new o M o.placements may.matching.student_once
+      (all_weaker (λ (e : CodePair). Contains (choices_in o (last_round o) e.student) e.project) (λ (e : CodePair). is_some (placement_of o e.student) ≡ false)
+      (λ e listed. ap is_some (unplaced e listed)) M (pairs_listed M o fit may))

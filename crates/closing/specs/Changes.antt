@@ -2,15 +2,16 @@
 use Rattle.std.specs.Prelude.{ℕ, ◌+◌, ◌==◌, ◌&&◌, false, List, ◌∷◌, map, length, count_by}
 use Rattle.spa.specs.Coded.{CodePair}
 use Rattle.rolls.specs.declared.rounds.Placement.{Placement}
-use Rattle.rolls.specs.declared.row.Row.TheVariants as row
-use Rattle.rolls.specs.declared.row.Change.{Change}
-use Rattle.rolls.specs.declared.row.Change.TheVariants as change
+use Rattle.row_data.specs.declared.table.Table.TheVariants.{Placement as PlacementTable}
+use Rattle.row_data.specs.declared.row.Change.{Change}
+use Rattle.row_data.specs.declared.row.Change.TheVariants.{Put, Add}
 use Rattle.rolls.specs.declared.request.Reply.{Reply}
 use Rattle.rolls.specs.declared.request.Reply.TheVariants as reply
 use Rattle.rolls.specs.Roll.{put_all}
 use Rattle.rolls.specs.State.{State, placement_key, last_round}
 use Rattle.rolls.specs.Stepping.{with_last, by_rank}
-use Rattle.rolls.specs.Rows.{placement_row}
+use Rattle.rolls.specs.Making.{round_row}
+use Rattle.rolls.specs.Rows.{placement_cells}
 use Rattle.rolls.specs.Closing.{kept}
 
 -- the office after the last round closes with these placements
@@ -21,9 +22,13 @@ after_placing ps o = record (with_last (λ r. record r { is_open = false }) o) {
 abbrev pub placed_reply : ℕ → List Placement → Reply
 placed_reply round ps = reply.Closed round (length ps) (by_rank (λ k. count_by (λ p. (p.round == round) && (p.rank == k + 1)) ps))
 
+-- a placement's row is added
+abbrev pub placement_added : Placement → Change
+placement_added p = Add (record { table = PlacementTable; cells = placement_cells p })
+
 -- the changes where a round closes with these placements: its row is put, and a row is added for each placement
 abbrev pub closing_changes : ℕ → List Placement → List Change
-closing_changes round ps = change.Put (row.Round round false) ∷ map (λ p. change.Add (placement_row p)) ps
+closing_changes round ps = Put (round_row round false) ∷ map placement_added ps
 
 -- the changes where the last round closes with the matching M
 abbrev pub close_changes : List CodePair → State → List Change

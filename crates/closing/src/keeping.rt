@@ -6,9 +6,8 @@ ghost use Rattle.closing.specs.Places.{placed_at, placed_by, ArePlacesIn};
 ghost use Rattle.closing.specs.Changes.{closing_changes};
 ghost use Rattle.rolls.specs.Roll.{put_all};
 ghost use Rattle.rolls.specs.State.{placement_key};
-ghost use Rattle.rolls.specs.Rows.{placement_row};
 
-use rolls::{Change, Entries, Listed, Placement, Row, Text};
+use rolls::{Change, Entries, Listed, Placement, round_row};
 use std::alloc::{AllocError, Global};
 
 /// The placement of a student at a place of the list, from 1.
@@ -60,18 +59,6 @@ pub fn placements_after(
     Ok(after)
 }
 
-/// The row of a placement.
-fn placement_row(alloc: Global, placement: &Placement) -> Result<Row, AllocError>
-    ensures { IfOk result (λ row. row ≡ placement_row placement.now) }
-{
-    Ok(Row::Placement {
-        student: Text::of(alloc, placement.student.as_str())?,
-        round: placement.round,
-        project: Text::of(alloc, placement.project.as_str())?,
-        rank: placement.rank,
-    })
-}
-
 /// The changes of the tables where a round closes with these placements: the round's row is put first, and then
 /// the rows of the placements are added.
 pub fn close_changes(
@@ -82,12 +69,9 @@ pub fn close_changes(
     ensures { IfOk result (λ changes. changes.items ≡ closing_changes round placed.now) }
 {
     let mut changes = Vec::new(alloc);
-    changes.push(Change::Put(Row::Round {
-        number: round,
-        is_open: false,
-    }))?;
+    changes.push(Change::Put(round_row(alloc, round, false)?))?;
     for placement in placed {
-        changes.push(Change::Add(placement_row(alloc, placement)?))?;
+        changes.push(Change::Add(placement.row(alloc)?))?;
     }
     Ok(changes)
 }

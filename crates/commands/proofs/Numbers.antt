@@ -7,7 +7,7 @@ use Rattle.clap.specs.declared.builder.value_parser.ValueParser.TheVariants.{Uns
 use Rattle.commands.specs.Inside.Reading.{IsNumberBelow}
 use Rattle.commands.specs.Reading.{fits}
 use Rattle.commands.specs.declared.table.Takes.{Takes}
-use Rattle.commands.specs.declared.table.Takes.TheVariants.{Word, Number, ImportKind, ReportKind, Aim}
+use Rattle.commands.specs.declared.table.Takes.TheVariants.{Number}
 
 -- a number of k bits is read
 pub is_read : {E : Type 0} (k : ℕ) (takes : Takes) (word : List ℕ) (r : Result ℕ E) → ParsesUnsigned k 10 word r → IsNumberBelow (2 ^ k) takes → fits takes word ≡ true → IsOk r
@@ -15,7 +15,4 @@ is_read k (Number least most) word (Ok n) parsed below fit = refl
 is_read k (Number least most) word (Err e) parsed below fit =
     let within = accepts-Accepts false (Unsigned least most) word fit in
     absurd (parsed (within.0, omega (arith, below, within.3)))
-is_read k Word word r parsed below fit = absurd below
-is_read k ImportKind word r parsed below fit = absurd below
-is_read k ReportKind word r parsed below fit = absurd below
-is_read k Aim word r parsed below fit = absurd below
+is_read k _ word r parsed below fit = absurd below

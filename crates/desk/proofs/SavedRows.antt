@@ -5,10 +5,11 @@ use Rattle.sqlite.specs.State.{State as Seen, HasCleanDisk, Survives}
 use Rattle.sqlite.proofs.StateLemmas.{survives_weaker}
 use Rattle.sqlite.specs.Tree.{Trees}
 use Rattle.tables.specs.Steps.{HasSaved, IsKept, IsLeft}
-use Rattle.rolls.specs.declared.row.Change.{Change}
+use Rattle.row_data.specs.declared.row.Change.{Change}
 use Rattle.rolls.specs.declared.request.Done.{Done}
 use Rattle.rolls.specs.State.{State}
-use Rattle.rolls.specs.Rows.{row_of, after_changes, Turns}
+use Rattle.row_data.specs.Changes.{after_changes}
+use Rattle.rolls.specs.Rows.{rows_in, Turns}
 use Rattle.rolls.specs.declared.request.Request.{Request}
 use Rattle.rolls.specs.Fit.{IsFit}
 use Rattle.rolls.specs.Run.{Makes, refusal}
@@ -26,7 +27,7 @@ use Rattle.desk.specs.Keeping.{CarriesOut, Keeps, StandsForOne}
 -- what is saved stands for the next office
 pub stands_after : (changes : List Change) (office next : State) (old new : Database) → Turns changes office next → Saves changes old new → StandsFor old office → StandsFor new next
 unfolding Saves
-stands_after changes office next old new turns saves stands = hold_same (rolls_of latest) (number_of latest) new (after_changes changes (row_of office)) (row_of next) turns.rows (saves (row_of office) stands)
+stands_after changes office next old new turns saves stands = hold_same (rolls_of latest) (number_of latest) new (after_changes changes (rows_in office)) (rows_in next) turns.rows (saves (rows_in office) stands)
 
 -- a disk that is clean was clean before
 pub was_clean : (old new : Seen) (P : Trees → Type 0) → Survives old new P → HasCleanDisk new → HasCleanDisk old

@@ -52,11 +52,7 @@ needs_no_table office request = is_some (refusal layers office request) || chang
 -- how many rows an import has that is asked for once more; none of another request
 abbrev pub repeated_rows : State → Request → Option ℕ
 repeated_rows office (request.Import id kind bytes) = kept_rows office id
-repeated_rows office (request.Plain p) = None
-repeated_rows office request.Close = None
-repeated_rows office request.Preview = None
-repeated_rows office request.RoundText = None
-repeated_rows office (request.Report kind round) = None
+repeated_rows office _ = None
 
 -- a kept import that is asked for once more, with the same kind and bytes, answers its own number of rows
 abbrev pub AnswersKept : State → Request → Result Reply Refusal → Type 0

@@ -1,4 +1,3 @@
-pub mod RowsMore
-pub mod Swapping
+pub mod OtherNames
 pub mod Renewing
 pub mod Upgrading

@@ -1,102 +1,206 @@
--- The changes of an upgrade, at one key: rows of tables of earlier editions go, and those that they become, and the aims of rounds, come.
-use Rattle.std.proofs.Common.{◌≡◌, ℕ, Bool, true, false, cond, List, [], ◌∷◌, ◌++◌, map, filter, Option, Some, None, is_some, refl, sym, ap, ◌∙◌}
-use Rattle.std.specs.Option.{option_map, option_map_or}
-use Rattle.rolls.specs.declared.row.Row.{Row}
-use Rattle.rolls.specs.declared.row.RowKey.{RowKey}
-use Rattle.rolls.specs.declared.row.RowKey.TheVariants as key
-use Rattle.rolls.specs.declared.row.Change.{Change}
-use Rattle.rolls.specs.declared.row.Change.TheVariants.{Add}
+-- The changes that raise an edition: old rows go by their keys, and come in the tables that took their tables' place, the aims of greedy rounds
+-- beside them. A row that goes is one of the edition's, so none is left in an old table.
+use Rattle.std.proofs.Common.{◌≡◌, Bool, true, false, not, cond, List, [], ◌∷◌, ◌++◌, map, filter, refl, sym, ap, subst, ◌∙◌, append-nil}
+use Rattle.std.specs.Prelude.{IsPermutation, ◌&&◌, ◌||◌}
+use Rattle.std.specs.List.{list_any, AllByRecursion}
+use Rattle.std.proofs.lemmas.Bool.{and_from, or_left, or_right}
+use Rattle.std.proofs.lemmas.List.Elements.{All-from_recursion, recursion_from_All, filter_passes}
+use Rattle.std.proofs.lemmas.List.Sorted.{IsPermutation-refl, IsPermutation-trans, IsPermutation-map, IsPermutation-middle, All-permutation}
+use Rattle.sqlite_keyed.proofs.ListLemmas.{filter-filter, filter_none, all_weaker, all_both, all-filter}
+use Rattle.row_data.specs.declared.table.Table.{Table}
+use Rattle.row_data.specs.declared.table.Table.TheVariants.{Round, OldChoice, OldPlacement, RoundAim, Choice, Placement}
+use Rattle.row_data.specs.declared.row.Change.TheVariants.{Add}
+use Rattle.row_data.specs.Rows.{AllRows, SameRows, Cells, RowOf, begins, key_in, keyed, of_table, same_table}
+use Rattle.row_data.specs.Changes.{IsFresh, AreFresh, TurnsRows, after_change, after_changes}
+use Rattle.row_data.proofs.Tables.{same_table_self}
+use Rattle.rolls.specs.Fit.{IsFit}
+use Rattle.rolls.specs.Rows.{aim_cells, rows_in}
 use Rattle.rolls.specs.State.{State}
-use Rattle.rolls.specs.Rows.{key_of, same_row, row_of, after_change, after_changes}
-use Rattle.rolls.specs.From.{row_in, are_apart}
+use Rattle.row_lists.proofs.Keyed.{begins_self}
+use Rattle.row_lists.proofs.Changes.{AreFree, after_both, fresh_both, change_elsewhere, nothing_turns}
+use Rattle.row_lists.proofs.Apart.{rows_apart, apart_free}
+use Rattle.row_lists.proofs.Same.{from_same, to_same}
+use Rattle.editions.specs.declared.Edition.{Edition}
 use Rattle.editions.specs.declared.Edition.TheVariants.{First, Second, Third}
-use Rattle.editions.specs.Editions.{renamed, renamed_key, row_at, aims_of, is_old, removal_of, renaming_changes, upgrade, Upgrades}
-use Rattle.editions.proofs.RowsMore.{added, apart_both, in_both, some_or}
-use Rattle.editions.proofs.Swapping.{apart_old, apart_swapped, in_old, in_swapped, is_old_key, key_twice, twice}
-use Rattle.editions.proofs.Renewing.{IsNoAim, aim_same, aim_there, aims_at, aims_else, apart_aims, by_aim, first_else, new_aim, plain_same}
+use Rattle.editions.specs.Editions.{Upgrades, aim_of_round, aims_of, is_old, removal_of, renamed, renamed_row, renaming_changes, rows_in_edition}
+use Rattle.editions.proofs.OtherNames.{is_in, rows_both, swapped, aims_come, no_others, greedy_rows, first_else}
 
--- changes one after another
-after_both : (xs ys : List Change) (f : RowKey → Option Row) → after_changes (xs ++ ys) f ≡ after_changes ys (after_changes xs f)
-after_both [] ys f = refl
-after_both (x ∷ xs) ys f = after_both xs ys (after_change x f)
+-- rows that are added stand beside those that were there
+all_added : (rs : List RowOf) (rows : AllRows) (t : Table) → IsPermutation (after_changes (map Add rs) rows t) (of_table rs t ++ rows t)
+all_added [] rows t = IsPermutation-refl _
+all_added (r ∷ rs) rows t = IsPermutation-trans _ _ _ (all_added rs (after_change (Add r) rows) t) (by (is_in t r))
+  where
+    by : (b : Bool) → IsPermutation (of_table rs t ++ cond b (r.cells ∷ rows t) (rows t)) (map (λ r. r.cells) (cond b (r ∷ filter (is_in t) rs) (filter (is_in t) rs)) ++ rows t)
+    by true = IsPermutation-middle (of_table rs t) r.cells (rows t)
+    by false = IsPermutation-refl _
 
-left_by : (b : Bool) (r : Row) (x y : Option Row) → cond (is_some x) None (cond b None y) ≡ cond (is_some (cond b (Some r) x)) None y
-left_by true r None y = refl
-left_by true r (Some s) y = refl
-left_by false r None y = refl
-left_by false r (Some s) y = refl
+-- each is new where those of its table are
+adds_fresh : (rs : List RowOf) (rows : AllRows) → ((t : Table) → AreFree t (of_table rs t) (rows t)) → AreFresh (map Add rs) rows
+adds_fresh [] rows free = tt
+adds_fresh (r ∷ rs) rows free = (
+  first (is_in r.table r) (same_table_self r.table) (free r.table),
+  adds_fresh rs (after_change (Add r) rows) (λ t. later t (is_in t r) (free t)),
+)
+  where
+    first : (b : Bool) → b ≡ true → AreFree r.table (map (λ r. r.cells) (cond b (r ∷ filter (is_in r.table) rs) (filter (is_in r.table) rs))) (rows r.table) → IsFresh (Add r) rows
+    first true is free = free.0
+    first false is free = cc
 
--- what stands at a key once rows are taken
-taken_out : (k : RowKey) (xs : List Row) (f : RowKey → Option Row) → after_changes (map removal_of xs) f k ≡ cond (is_some (row_in xs k)) None (f k)
-taken_out k [] f = refl
-taken_out k (x ∷ xs) f = taken_out k xs (after_change (removal_of x) f) ∙ left_by (same_row k (key_of x)) x (row_in xs k) (f k)
+    later : (t : Table) (b : Bool) → AreFree t (map (λ r. r.cells) (cond b (r ∷ filter (is_in t) rs) (filter (is_in t) rs))) (rows t) → AreFree t (of_table rs t) (cond b (r.cells ∷ rows t) (rows t))
+    later t true free = free.1
+    later t false free = free
 
-gone : (x : Option Row) → cond (is_some x) None x ≡ None
-gone None = refl
-gone (Some r) = refl
+-- ---- rows that go by their keys
 
--- Rows of an edition before the third, what comes beside them, which is of no other key than the aim of a round, and what stands.
-module _ (rows : List Row) (more : List Row) (o : State) (f : RowKey → Option Row) (apart : are_apart rows ≡ true) (more_apart : are_apart more ≡ true)
-    (each : (k : RowKey) → IsNoAim k → row_in rows k ≡ row_at Second o k) (stands : (k : RowKey) → IsNoAim k → f k ≡ row_at Second o k) (more_else : (k : RowKey) → IsNoAim k → row_in more k ≡ None) where
-  abbrev olds : List Row
+-- whether the removal of a row takes these cells out of a table
+abbrev takes : Table → Cells → RowOf → Bool
+takes t cells r = is_in t r && begins (key_in r.table r.cells) cells
+
+-- it takes the row itself
+all_taken : (t : Table) (rs : List RowOf) → AllByRecursion (λ cells. list_any (takes t cells) rs ≡ true) (of_table rs t)
+all_taken t [] = tt
+all_taken t (r ∷ rs) = by (is_in t r) refl (all_weaker (λ cells. list_any (takes t cells) rs ≡ true) (λ cells. list_any (takes t cells) (r ∷ rs) ≡ true) (λ cells h. or_right (takes t cells r) (list_any (takes t cells) rs) h) (of_table rs t) (all_taken t rs))
+  where
+    by : (b : Bool) → is_in t r ≡ b → AllByRecursion (λ cells. list_any (takes t cells) (r ∷ rs) ≡ true) (of_table rs t)
+        → AllByRecursion (λ cells. list_any (takes t cells) (r ∷ rs) ≡ true) (map (λ r. r.cells) (cond b (r ∷ filter (is_in t) rs) (filter (is_in t) rs)))
+    by true is rest = (or_left (takes t r.cells r) (list_any (takes t r.cells) rs) (and_from (is_in t r) (begins (key_in r.table r.cells) r.cells) is (begins_self (keyed r.table) r.cells)), rest)
+    by false is rest = rest
+
+-- so where each is taken none is left
+none_left : (t : Table) (rs : List RowOf) (rows : AllRows) → AllByRecursion (λ cells. list_any (takes t cells) rs ≡ true) (rows t) → after_changes (map removal_of rs) rows t ≡ []
+none_left t [] rows all = none (rows t) all
+  where
+    none : (xs : List Cells) → AllByRecursion (λ cells. false ≡ true) xs → xs ≡ []
+    none [] all = refl
+    none (x ∷ xs) all = absurd (let no : false ≡ true = all.0 in cc)
+none_left t (r ∷ rs) rows all = none_left t rs (after_change (removal_of r) rows) (by (is_in t r) all)
+  where
+    by : (b : Bool) → AllByRecursion (λ cells. ((b && begins (key_in r.table r.cells) cells) || list_any (takes t cells) rs) ≡ true) (rows t)
+        → AllByRecursion (λ cells. list_any (takes t cells) rs ≡ true) (cond b (filter (λ cells. not (begins (key_in r.table r.cells) cells)) (rows t)) (rows t))
+    by true all =
+        let stays = λ (cells : Cells). not (begins (key_in r.table r.cells) cells) in
+        let Taken = λ (cells : Cells). (begins (key_in r.table r.cells) cells || list_any (takes t cells) rs) ≡ true in
+        all_both Taken (λ cells. stays cells ≡ true) (λ cells. list_any (takes t cells) rs ≡ true)
+        (λ cells h stays. other (begins (key_in r.table r.cells) cells) (list_any (takes t cells) rs) h stays) (filter stays (rows t))
+        (all-filter Taken stays (rows t) all) (recursion_from_All (λ cells. stays cells ≡ true) _ (filter_passes stays (rows t)))
+      where
+        other : (a b : Bool) → (a || b) ≡ true → not a ≡ true → b ≡ true
+        other true b h stays = cc
+        other false b h stays = h
+    by false all = all
+
+-- and in other tables all are
+others_left : (t : Table) (rs : List RowOf) (rows : AllRows) → AllByRecursion (λ r. is_in t r ≡ false) rs → after_changes (map removal_of rs) rows t ≡ rows t
+others_left t [] rows all = refl
+others_left t (r ∷ rs) rows all = others_left t rs (after_change (removal_of r) rows) all.1 ∙ change_elsewhere (removal_of r) rows t all.0
+
+-- rows that go are not added
+removals_fresh : (rs : List RowOf) (rows : AllRows) → AreFresh (map removal_of rs) rows
+removals_fresh [] rows = tt
+removals_fresh (r ∷ rs) rows = (tt, removals_fresh rs (after_change (removal_of r) rows))
+
+-- ---- old rows
+
+-- the rows that are old
+olds_pass : (rows : List RowOf) → AllByRecursion (λ r. is_old r ≡ true) (filter is_old rows)
+olds_pass rows = recursion_from_All (λ r. is_old r ≡ true) _ (filter_passes is_old rows)
+
+-- they are of the old tables alone
+old_in : (t : Table) → same_table t OldChoice ≡ false → same_table t OldPlacement ≡ false → (r : RowOf) → is_old r ≡ true → is_in t r ≡ false
+old_in t c p r = by r.table
+  where
+    by : (u : Table) → (same_table OldChoice u || same_table OldPlacement u) ≡ true → same_table t u ≡ false
+    by OldChoice h = c
+    by OldPlacement h = p
+    by _ h = cc
+
+-- and all rows of these are old
+choice_is_old : (r : RowOf) → is_in OldChoice r ≡ true → is_old r ≡ true
+choice_is_old r h = or_left (is_in OldChoice r) (is_in OldPlacement r) h
+
+placement_is_old : (r : RowOf) → is_in OldPlacement r ≡ true → is_old r ≡ true
+placement_is_old r h = or_right (is_in OldChoice r) (is_in OldPlacement r) h
+
+-- so the old rows of such a table are all of them
+old_alone : (t : Table) → ((r : RowOf) → is_in t r ≡ true → is_old r ≡ true) → (rows : List RowOf) → of_table (filter is_old rows) t ≡ of_table rows t
+old_alone t old rows = ap (map (λ r. r.cells)) (filter-filter (is_in t) is_old old rows)
+
+-- ---- an upgrade
+
+-- Rows of an edition before the third, and what comes beside them: the aims of rounds alone.
+module _ (e : Edition) (rows more : List RowOf) (o : State) (fit : IsFit o) (are : SameRows (of_table rows) (rows_in_edition e o))
+    (was : (t : Table) → same_table t RoundAim ≡ false → rows_in_edition e o t ≡ rows_in o (renamed t)) (none : (t : Table) → same_table t RoundAim ≡ false → of_table more t ≡ [])
+    (aims_free : AreFree RoundAim (of_table more RoundAim) (rows_in_edition e o RoundAim)) (aims : IsPermutation (of_table more RoundAim ++ rows_in_edition e o RoundAim) (rows_in o RoundAim)) where
+  -- the edition's old rows
+  abbrev olds : List RowOf
   olds = filter is_old rows
 
-  -- a row that comes in the place of one that goes is none of the others
-  moved_none : (k : RowKey) (r : Row) → row_in (map renamed olds) k ≡ Some r → row_in more k ≡ None
-  moved_none k r found = by_aim (λ k. row_in (map renamed olds) k ≡ Some r → row_in more k ≡ None) k
-      (λ n there. absurd (let e : None ≡ Some r = sym (in_swapped olds (key.RoundAim n) ∙ ap (option_map renamed) (in_old (key.RoundAim n) rows)) ∙ there in cc))
-      (λ other there. more_else k other) found
+  -- the rows that come
+  abbrev news : List RowOf
+  news = map renamed_row olds ++ more
 
-  -- what stands at a key after the changes
-  moved_at : (k : RowKey) → after_changes (renaming_changes rows more) f k
-      ≡ option_map_or Some (option_map_or Some (option_map renamed (cond (is_old_key (renamed_key k)) (row_in rows (renamed_key k)) None)) (row_in more k)) (cond (is_some (cond (is_old_key k) (row_in rows k) None)) None (f k))
-  moved_at k =
-      ap (λ (g : RowKey → Option Row). g k) (after_both (map removal_of olds) (map Add (map renamed olds ++ more)) f)
-      ∙ added k (map renamed olds ++ more) (after_changes (map removal_of olds) f) (apart_both (map renamed olds) more (apart_swapped olds ∙ apart_old rows apart) more_apart moved_none)
-      ∙ ap (λ x. option_map_or Some x (after_changes (map removal_of olds) f k)) (in_both (map renamed olds) more k ∙ ap (λ x. option_map_or Some x (row_in more k)) (in_swapped olds k ∙ ap (option_map renamed) (in_old (renamed_key k) rows)))
-      ∙ ap (λ x. option_map_or Some (option_map_or Some (option_map renamed (cond (is_old_key (renamed_key k)) (row_in rows (renamed_key k)) None)) (row_in more k)) x) (taken_out k olds f ∙ ap (λ x. cond (is_some x) None (f k)) (in_old k rows))
+  -- what is left of the edition's rows
+  abbrev left : AllRows
+  left t = after_changes (map removal_of olds) (rows_in_edition e o) t
 
-  -- a key of a row that has no other name
-  plain_at : (k : RowKey) → IsNoAim k → option_map_or Some (row_in more k) (f k) ≡ row_at Second o k
-  plain_at k other = ap (λ x. option_map_or Some x (f k)) (more_else k other) ∙ stands k other
+  -- all stay that are of no old table
+  stay : (t : Table) → same_table t OldChoice ≡ false → same_table t OldPlacement ≡ false → left t ≡ rows_in_edition e o t
+  stay t c p = others_left t olds (rows_in_edition e o) (all_weaker (λ r. is_old r ≡ true) (λ r. is_in t r ≡ false) (old_in t c p) olds (olds_pass rows))
 
-  -- a key of a row that came in the place of another
-  new_at : (k : RowKey) → IsNoAim k → IsNoAim (renamed_key k) → row_of o (renamed_key k) ≡ None → option_map_or Some (option_map_or Some (option_map renamed (row_in rows (renamed_key k))) (row_in more k)) (f k) ≡ row_of o k
-  new_at k other swapped_other none =
-      ap (λ x. option_map_or Some (option_map_or Some (option_map renamed (row_in rows (renamed_key k))) x) (f k)) (more_else k other)
-      ∙ ap (λ x. option_map_or Some x (f k)) (some_or (option_map renamed (row_in rows (renamed_key k))) ∙ ap (option_map renamed) (each (renamed_key k) swapped_other) ∙ twice (row_of o (renamed_key (renamed_key k))) ∙ ap (row_of o) (key_twice k))
-      ∙ ap (λ x. option_map_or Some (row_of o k) x) (stands k other ∙ ap (option_map renamed) none)
-      ∙ some_or (row_of o k)
+  -- and none of an old one
+  gone : (t : Table) → ((r : RowOf) → is_in t r ≡ true → is_old r ≡ true) → left t ≡ []
+  gone t old =
+      let Taken = λ (cells : Cells). list_any (takes t cells) olds ≡ true in
+      none_left t olds (rows_in_edition e o) (recursion_from_All Taken _ (All-permutation Taken _ _ (are t) (All-from_recursion Taken _
+      (subst (AllByRecursion Taken) (old_alone t old rows) (all_taken t olds)))))
 
-  -- a key of a row that went
-  old_at : (k : RowKey) → IsNoAim k → option_map_or Some (row_in more k) (cond (is_some (row_in rows k)) None (f k)) ≡ None
-  old_at k other =
-      ap (λ x. option_map_or Some x (cond (is_some (row_in rows k)) None (f k))) (more_else k other)
-      ∙ ap (λ x. cond (is_some x) None (f k)) (each k other) ∙ ap (λ x. cond (is_some (row_at Second o k)) None x) (stands k other) ∙ gone (row_at Second o k)
+  -- what comes in a table that took no place comes beside the old rows
+  beside : (t : Table) → same_table (renamed t) OldChoice ≡ false → same_table (renamed t) OldPlacement ≡ false → of_table news t ≡ of_table more t
+  beside t c p =
+      rows_both t (map renamed_row olds) more
+      ∙ ap (λ cells. cells ++ of_table more t) (swapped olds t ∙ ap (map (λ r. r.cells)) (filter_none (is_in (renamed t)) olds (all_weaker (λ r. is_old r ≡ true) (λ r. is_in (renamed t) r ≡ false) (old_in (renamed t) c p) olds (olds_pass rows))))
 
-  pub moved_else : (k : RowKey) → IsNoAim k → after_changes (renaming_changes rows more) f k ≡ row_of o k
-  moved_else (key.Supervisor code) other = moved_at (key.Supervisor code) ∙ plain_at (key.Supervisor code) other ∙ plain_same (key.Supervisor code) tt o
-  moved_else (key.Project code) other = moved_at (key.Project code) ∙ plain_at (key.Project code) other ∙ plain_same (key.Project code) tt o
-  moved_else (key.Student code) other = moved_at (key.Student code) ∙ plain_at (key.Student code) other ∙ plain_same (key.Student code) tt o
-  moved_else (key.Round n) other = moved_at (key.Round n) ∙ plain_at (key.Round n) other ∙ plain_same (key.Round n) tt o
-  moved_else (key.Import id) other = moved_at (key.Import id) ∙ plain_at (key.Import id) other ∙ plain_same (key.Import id) tt o
-  moved_else (key.Choice n s p) other = moved_at (key.Choice n s p) ∙ new_at (key.Choice n s p) other (λ m e. cc) refl
-  moved_else (key.Placement s) other = moved_at (key.Placement s) ∙ new_at (key.Placement s) other (λ m e. cc) refl
-  moved_else (key.OldChoice n s p) other = moved_at (key.OldChoice n s p) ∙ old_at (key.OldChoice n s p) other
-  moved_else (key.OldPlacement s) other = moved_at (key.OldPlacement s) ∙ old_at (key.OldPlacement s) other
-  moved_else (key.RoundAim n) other = absurd (other n refl)
+  -- in one that took a place come the rows of the old one
+  come : (t u : Table) → of_table (map renamed_row olds) t ≡ of_table rows u → of_table more t ≡ [] → rows_in_edition e o u ≡ rows_in o t → IsPermutation (of_table news t) (rows_in o t)
+  come t u moved nothing there =
+      from_same (rows_both t (map renamed_row olds) more ∙ (λ i. moved i ++ nothing i) ∙ append-nil _) (to_same (are u) there)
 
-  -- the aim of a round comes with the others, or stands
-  pub moved_aim : (n : ℕ) → after_changes (renaming_changes rows more) f (key.RoundAim n) ≡ option_map_or Some (row_in more (key.RoundAim n)) (f (key.RoundAim n))
-  moved_aim n = moved_at (key.RoundAim n)
+  choices_come : IsPermutation (of_table news Choice) (rows_in o Choice)
+  choices_come = come Choice OldChoice (swapped olds Choice ∙ old_alone OldChoice choice_is_old rows) (none Choice refl) (was OldChoice refl)
 
--- the changes turn the rows of the office
+  placements_come : IsPermutation (of_table news Placement) (rows_in o Placement)
+  placements_come = come Placement OldPlacement (swapped olds Placement ∙ old_alone OldPlacement placement_is_old rows) (none Placement refl) (was OldPlacement refl)
+
+  -- what comes in a table is new there
+  free : (t : Table) → AreFree t (of_table news t) (left t)
+  free Choice = subst (AreFree Choice (of_table news Choice)) (sym (stay Choice refl refl ∙ was Choice refl)) (apart_free Choice _ _ choices_come (rows_apart o fit Choice))
+  free Placement = subst (AreFree Placement (of_table news Placement)) (sym (stay Placement refl refl ∙ was Placement refl)) (apart_free Placement _ _ placements_come (rows_apart o fit Placement))
+  free RoundAim = subst (λ cells. AreFree RoundAim cells (left RoundAim)) (sym (beside RoundAim refl refl)) (subst (AreFree RoundAim (of_table more RoundAim)) (sym (stay RoundAim refl refl)) aims_free)
+  free t = subst (λ cells. AreFree t cells (left t)) (sym (beside t refl refl ∙ none t refl)) tt
+
+  -- and a table has then what comes, and what is left
+  then : (t : Table) → IsPermutation (of_table news t ++ left t) (rows_in o t)
+  then Choice = from_same (ap (λ cells. of_table news Choice ++ cells) (stay Choice refl refl ∙ was Choice refl) ∙ append-nil _) choices_come
+  then Placement = from_same (ap (λ cells. of_table news Placement ++ cells) (stay Placement refl refl ∙ was Placement refl) ∙ append-nil _) placements_come
+  then RoundAim = from_same (λ i. beside RoundAim refl refl i ++ stay RoundAim refl refl i) aims
+  then OldChoice = to_same (IsPermutation-refl _) (λ i. (beside OldChoice refl refl ∙ none OldChoice refl) i ++ gone OldChoice choice_is_old i)
+  then OldPlacement = to_same (IsPermutation-refl _) (λ i. (beside OldPlacement refl refl ∙ none OldPlacement refl) i ++ gone OldPlacement placement_is_old i)
+  then t = to_same (IsPermutation-refl _) (λ i. (beside t refl refl ∙ none t refl) i ++ (stay t refl refl ∙ was t refl) i)
+
+  raised : TurnsRows (renaming_changes rows more) (rows_in_edition e o) (rows_in o)
+  raised = record {
+    fresh = fresh_both (map removal_of olds) (map Add news) (rows_in_edition e o) (removals_fresh olds (rows_in_edition e o)) (adds_fresh news left free);
+    rows = λ t.
+        from_same (ap (λ (rows : AllRows). rows t) (after_both (map removal_of olds) (map Add news) (rows_in_edition e o)))
+        (IsPermutation-trans _ _ _ (all_added news left t) (then t));
+  }
+
 pub upgrades : Upgrades
-upgrades First rows o fit in_it k = by_aim (λ k. after_changes (upgrade First rows) (row_at First o) k ≡ row_of o k) k
-    (λ n. moved_aim rows (aims_of rows) o (row_at First o) in_it.apart (apart_aims rows in_it.apart) (λ k other. in_it.each k ∙ first_else o k other) (λ k other. first_else o k other) (λ k other. aims_else k other rows) n
-    ∙ some_or (row_in (aims_of rows) (key.RoundAim n)) ∙ aims_at rows n ∙ ap (λ x. option_map_or new_aim x None) (in_it.each (key.Round n) ∙ plain_same (key.Round n) tt o) ∙ aim_there o fit n (in_it.allowed n))
-    (moved_else rows (aims_of rows) o (row_at First o) in_it.apart (apart_aims rows in_it.apart) (λ k other. in_it.each k ∙ first_else o k other) (λ k other. first_else o k other) (λ k other. aims_else k other rows) k)
-upgrades Second rows o fit in_it k = by_aim (λ k. after_changes (upgrade Second rows) (row_at Second o) k ≡ row_of o k) k
-    (λ n. moved_aim rows [] o (row_at Second o) in_it.apart refl (λ k other. in_it.each k) (λ k other. refl) (λ k other. refl) n ∙ aim_same o n)
-    (moved_else rows [] o (row_at Second o) in_it.apart refl (λ k other. in_it.each k) (λ k other. refl) (λ k other. refl) k)
-upgrades Third rows o fit in_it k = refl
+upgrades Third rows o fit are = nothing_turns (rows_in o)
+upgrades Second rows o fit are = raised Second rows [] o fit are.same (λ t other. refl) (λ t other. refl) tt (IsPermutation-refl _)
+upgrades First rows o fit are = raised First rows (aims_of rows) o fit are.same (first_else o) (no_others rows) (apart_free RoundAim _ _ aims (rows_apart o fit RoundAim)) (from_same (append-nil _) aims)
+  where
+    aims : IsPermutation (of_table (aims_of rows) RoundAim) (map aim_cells o.aims)
+    aims =
+        from_same (aims_come rows)
+        (to_same (IsPermutation-map aim_of_round _ _ (are.same Round)) (greedy_rows o fit are.allowed))

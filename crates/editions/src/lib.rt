@@ -5,13 +5,11 @@
 //! changes raises the tables. Nothing here knows of SQL: the changes are made as those of a request are.
 #![tactic(auto)]
 
-ghost use Rattle.std.specs.Prelude.{◌≡◌, ◌++◌, IfOk, map, filter, cond, Some, None};
-ghost use Rattle.rolls.specs.Rows.{key_of};
+ghost use Rattle.std.specs.Prelude.{◌≡◌, ◌++◌, IfOk, map, filter};
 ghost use Rattle.editions.specs.Editions as says;
 ghost use Rattle.editions.specs.Editions.{Renews, Upgrades};
 
-use rolls::{Change, Row, RowKey, Text};
-use spa::Aim;
+use rolls::{Cell, Change, Row, Table};
 use std::alloc::{AllocError, Global};
 
 /// An edition of the tables.
@@ -31,72 +29,40 @@ fn aims_of(alloc: Global, rows: &[Row]) -> Result<Vec<Row>, AllocError>
 {
     let mut aims = Vec::new(alloc);
     for row in rows {
-        if let Row::Round { number, .. } = row {
-            aims.push(Row::RoundAim {
-                round: *number,
-                aim: Aim::Greedy,
-            })?;
+        if matches!(row.table(), Table::Round) {
+            let number = row.cells()[0].copy(alloc)?;
+            let cells = vec![in alloc; number, Cell::Number(0)]?;
+            aims.push(Row::of(Table::RoundAim, cells))?;
         }
     }
     Ok(aims)
 }
 
-/// A row of a table of earlier editions as one of the table that took its place, and the other way round.
-fn renamed(row: Row) -> Row
-    ensures { result ≡ says.renamed row }
+/// The table that took a table's place, and the other way round.
+fn renamed_table(table: Table) -> Table
+    ensures { result ≡ says.renamed table }
 {
-    match row {
-        Row::Choice {
-            round,
-            student,
-            place,
-            project,
-        } => Row::OldChoice {
-            round,
-            student,
-            place,
-            project,
-        },
-        Row::Placement {
-            student,
-            round,
-            project,
-            rank,
-        } => Row::OldPlacement {
-            student,
-            round,
-            project,
-            rank,
-        },
-        Row::OldChoice {
-            round,
-            student,
-            place,
-            project,
-        } => Row::Choice {
-            round,
-            student,
-            place,
-            project,
-        },
-        Row::OldPlacement {
-            student,
-            round,
-            project,
-            rank,
-        } => Row::Placement {
-            student,
-            round,
-            project,
-            rank,
-        },
+    match table {
+        Table::Choice => Table::OldChoice,
+        Table::Placement => Table::OldPlacement,
+        Table::OldChoice => Table::Choice,
+        Table::OldPlacement => Table::Placement,
         other => other,
     }
 }
 
+/// A row of a table of earlier editions as one of the table that took its place, and the other way round.
+fn renamed(row: Row) -> Row
+    ensures { result ≡ says.renamed_row row }
+{
+    let _ = row.cells();
+    let table = renamed_table(row.table());
+    row.moved(table)
+}
+
 /// The same of each of these rows.
 fn all_renamed(alloc: Global, rows: Vec<Row>) -> Result<Vec<Row>, AllocError>
-    ensures { IfOk result (λ all. all.items ≡ map says.renamed rows.items) }
+    ensures { IfOk result (λ all. all.items ≡ map says.renamed_row rows.items) }
 {
     let mut all = Vec::with_capacity(alloc, rows.len())?;
     for row in rows {
@@ -120,75 +86,21 @@ pub fn renewed(alloc: Global, edition: Edition, mut rows: Vec<Row>) -> Result<Ve
     }
 }
 
-/// The key of a row of a table of earlier editions; none of another row.
-fn old_key(alloc: Global, row: &Row) -> Result<Option<RowKey>, AllocError>
-    ensures { IfOk result (λ key. key ≡ cond (says.is_old row.now) (Some (key_of row.now)) None) }
+/// Whether a row is of a table of earlier editions.
+fn is_old(row: &Row) -> bool
+    ensures { result ≡ says.is_old row.now }
 {
-    match row {
-        Row::OldChoice {
-            round,
-            student,
-            place,
-            ..
-        } => {
-            let student = Text::of(alloc, student.as_str())?;
-            Ok(Some(RowKey::OldChoice(*round, student, *place)))
-        }
-        Row::OldPlacement { student, .. } => {
-            let student = Text::of(alloc, student.as_str())?;
-            Ok(Some(RowKey::OldPlacement(student)))
-        }
-        _ => Ok(None),
-    }
+    matches!(row.table(), Table::OldChoice | Table::OldPlacement)
 }
 
-/// A row of a table of earlier editions as one of the table that took its place; none of another row.
-fn old_renamed(alloc: Global, row: &Row) -> Result<Option<Row>, AllocError>
-    ensures { IfOk result (λ new. new ≡ cond (says.is_old row.now) (Some (says.renamed row.now)) None) }
-{
-    match row {
-        Row::OldChoice {
-            round,
-            student,
-            place,
-            project,
-        } => {
-            let student = Text::of(alloc, student.as_str())?;
-            let project = Text::of(alloc, project.as_str())?;
-            Ok(Some(Row::Choice {
-                round: *round,
-                student,
-                place: *place,
-                project,
-            }))
-        }
-        Row::OldPlacement {
-            student,
-            round,
-            project,
-            rank,
-        } => {
-            let student = Text::of(alloc, student.as_str())?;
-            let project = Text::of(alloc, project.as_str())?;
-            Ok(Some(Row::Placement {
-                student,
-                round: *round,
-                project,
-                rank: *rank,
-            }))
-        }
-        _ => Ok(None),
-    }
-}
-
-/// The old_removals of the rows of tables of earlier editions.
+/// The removals of the rows of tables of earlier editions.
 fn old_removals(alloc: Global, rows: &[Row]) -> Result<Vec<Change>, AllocError>
     ensures { IfOk result (λ changes. changes.items ≡ map says.removal_of (filter says.is_old rows.now)) }
 {
     let mut changes = Vec::new(alloc);
     for row in rows {
-        if let Some(key) = old_key(alloc, row)? {
-            changes.push(Change::Take(key))?;
+        if is_old(row) {
+            changes.push(Change::Remove(row.key(alloc)?))?;
         }
     }
     Ok(changes)
@@ -196,12 +108,12 @@ fn old_removals(alloc: Global, rows: &[Row]) -> Result<Vec<Change>, AllocError>
 
 /// Those rows as they stand in the tables that took their place.
 fn all_old_renamed(alloc: Global, rows: &[Row]) -> Result<Vec<Row>, AllocError>
-    ensures { IfOk result (λ all. all.items ≡ map says.renamed (filter says.is_old rows.now)) }
+    ensures { IfOk result (λ all. all.items ≡ map says.renamed_row (filter says.is_old rows.now)) }
 {
     let mut all = Vec::new(alloc);
     for row in rows {
-        if let Some(new) = old_renamed(alloc, row)? {
-            all.push(new)?;
+        if is_old(row) {
+            all.push(renamed(row.copy(alloc)?))?;
         }
     }
     Ok(all)

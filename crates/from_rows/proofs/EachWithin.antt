@@ -14,8 +14,8 @@ use Rattle.spa.specs.declared.TheConstants.{MOST_SUPERVISORS, MOST_PROJECTS, MOS
 use Rattle.rolls.specs.declared.TheConstants.{MOST_ROUNDS, MOST_IMPORTS}
 use Rattle.std.specs.Cmp.{first_so, second_so}
 use Rattle.from_rows.specs.Inside.Whole.{are_few, are_offered}
-use Rattle.from_rows.proofs.Taken.{at_most}
-use Rattle.from_rows.proofs.DraftIsFit.{tested}
+use Rattle.sqlite_keyed.proofs.ListLemmas.{all_from_test}
+use Rattle.from_rows.proofs.Tests.{at_most}
 
 -- a project has no more students than its quota
 abbrev pub project_within : State → Project → Bool
@@ -73,5 +73,5 @@ counted_rolls o ss ps s p supervisors_rise projects_rise few offered =
       projects_rise = projects_rise;
       few_supervisors = at_most _ _ (first_so (nat_le (length o.supervisors) MOST_SUPERVISORS) rest few);
       few_projects = at_most _ _ (first_so (nat_le (length o.projects) MOST_PROJECTS) more (second_so (nat_le (length o.supervisors) MOST_SUPERVISORS) rest few));
-      offered = tested (λ p. has_supervisor o p.supervisor) o.projects offered;
+      offered = all_from_test (λ p. has_supervisor o p.supervisor) o.projects offered;
     }))

@@ -1,8 +1,11 @@
+pub mod Tests
+pub mod Told
 pub mod Stages
-pub mod OneMoreRow
 pub mod Taken
+pub mod Gathered
+pub mod Choices
+pub mod FitDrafted
 pub mod Takes
-pub mod HeldRows
 pub mod DraftIsFit
 pub mod EachWithin
 pub mod Chosen

@@ -1,32 +1,40 @@
--- One row is taken in: nothing stood at its key, it turns what is held, and what is known of entries one by one stays known.
-use Rattle.std.proofs.Common.{◌≡◌, ℕ, ◌≤◌, Bool, true, false, not, cond, List, [], ◌∷◌, length, Option, Some, None, is_some, refl, sym, ap, subst, ◌∙◌, arith}
-use Rattle.std.specs.Prelude.{◌&&◌, nat_le, IsTrue}
-use Rattle.std.specs.Cmp.{first_so, second_so}
+-- One row is taken in: of its table the rows that are held then are it and those that were held, in whatever order, and of each other
+-- table they stay. Entries stay in the order of their keys, each of its form.
+use Rattle.std.proofs.Common.{◌≡◌, ℕ, ◌+◌, ◌≤◌, ◌==◌, Bool, true, false, cond, suc, List, [], ◌∷◌, ◌++◌, map, length, Option, Some, None, is_some, refl, sym, ap, subst, ◌∙◌, arith, append_assoc}
+use Rattle.std.specs.Prelude.{◌&&◌, flat_map, IsPermutation}
 use Rattle.std.specs.List.{AllByRecursion}
-use Rattle.std.specs.Str.{bytes_eq}
+use Rattle.std.specs.Option.{option_map_or}
 use Rattle.std.proofs.lemmas.Bool.Decides.{nat_tests}
 use Rattle.std.proofs.lemmas.List.{length-append}
-use Rattle.spa.specs.declared.TheConstants.{MOST_PLACES}
-use Rattle.spa.specs.Text.{is_code, is_label}
-use Rattle.rolls.specs.declared.TheConstants.{MOST_IMPORT_BYTES}
-use Rattle.spa.specs.declared.aim.Aim.{Aim}
-use Rattle.rolls.specs.declared.entries.Supervisor.{Supervisor}
-use Rattle.rolls.specs.declared.entries.Project.{Project}
-use Rattle.rolls.specs.declared.entries.Student.{Student}
+use Rattle.std.proofs.lemmas.List.Sorted.{IsPermutation-refl, IsPermutation-sym, IsPermutation-trans, IsPermutation-cons, IsPermutation-map, IsPermutation-middle, IsPermutation-append_left}
+use Rattle.sqlite_keyed.proofs.ListLemmas.{IsPermutation-same, IsPermutation-flat_map}
+use Rattle.spa.specs.Text.{is_code}
+use Rattle.row_data.specs.declared.cell.Cell.TheVariants.{Text, Number}
+use Rattle.row_data.specs.declared.table.Table.{Table}
+use Rattle.row_data.specs.declared.table.Table.TheVariants.{Supervisor, Project, Student, Round, Import, RoundAim, Choice, Placement}
+use Rattle.row_data.specs.Rows.{Cells, of_table}
+use Rattle.rolls.specs.declared.entries.Supervisor.{Supervisor as SupervisorEntry}
+use Rattle.rolls.specs.declared.entries.Project.{Project as ProjectEntry}
+use Rattle.rolls.specs.declared.entries.Student.{Student as StudentEntry}
+use Rattle.rolls.specs.declared.rounds.Round.{Round as RoundEntry}
 use Rattle.rolls.specs.declared.rounds.Listed.{Listed}
-use Rattle.rolls.specs.declared.import.ImportKind.{ImportKind}
-use Rattle.rolls.specs.declared.row.Row.{Row}
-use Rattle.rolls.specs.declared.row.Row.TheVariants as row
-use Rattle.rolls.specs.declared.row.RowKey.{RowKey}
-use Rattle.rolls.specs.Roll.{Key, put, rises}
-use Rattle.rolls.specs.State.{State, empty, supervisor_key, project_key, student_key, round_key, aim_key, list_key, placement_key, import_key, lists_of}
+use Rattle.rolls.specs.declared.rounds.Placement.{Placement as PlacementEntry}
+use Rattle.rolls.specs.declared.rounds.RoundAim.{RoundAim as AimEntry}
+use Rattle.rolls.specs.declared.import.Import.{Import as ImportEntry}
+use Rattle.rolls.specs.Roll.{Key, find, has, put, take_out, rises}
+use Rattle.rolls.specs.State.{State, empty, supervisor_key, project_key, student_key, round_key, aim_key, list_key, placement_key, import_key, round_of, lists_of}
 use Rattle.rolls.specs.Fit.{SupervisorFits, StudentFits, ImportFits}
-use Rattle.rolls.specs.Rows.{row_of, key_of, same_row}
-use Rattle.rolls.proofs.Places.{rises-put}
+use Rattle.rolls.specs.Rows.{supervisor_cells, project_cells, student_cells, round_cells, aim_cells, placement_cells, import_cells, choice_cells, choice_rows, list_rows, rows_of_round, rows_in}
 use Rattle.rolls.proofs.EntryChange.{all-put}
-use Rattle.rolls.proofs.RowsDetermine.{IsShaped}
-use Rattle.from_rows.specs.Inside.Gathering.{after_row, with_row, has_form, is_new, with_choice, choices_among}
-use Rattle.from_rows.proofs.OneMoreRow.{turns_with, lists_kept, absent, is_next, chosen_with, chosen_is, lists_chosen}
+use Rattle.rolls.proofs.Found.{found_key, holds_of_found}
+use Rattle.rolls.proofs.Places.{rises-put}
+use Rattle.rolls.proofs.Shaped.{IsShaped}
+use Rattle.row_lists.proofs.Keyed.{added_beside, found_beside, none_taken, put_beside}
+use Rattle.row_lists.proofs.Same.{from_same, to_same}
+use Rattle.from_rows.specs.Inside.Told.{supervisor_in, project_in, student_in, round_in, aim_in, placement_in, import_in}
+use Rattle.from_rows.specs.Inside.Gathering.{after_cells, choices_among, with_choice, with_new, with_next}
+use Rattle.from_rows.proofs.Tests.{has_form}
+use Rattle.from_rows.proofs.Told.{IsTold, ProjectForm, PlacementForm, AimForm, supervisor_told, project_told, student_told, round_told, round_aim_told, placement_told, import_told}
 
 -- ---- what is known of entries that were taken in, whether or not they go together
 
@@ -39,208 +47,217 @@ pub record AreOf {E : Type 0} (key : E → Key) (Form : E → Type 0) (es : List
 put_of : {E : Type 0} (key : E → Key) (Form : E → Type 0) (e : E) (es : List E) → Form e → AreOf key Form es → AreOf key Form (put key e es)
 put_of key Form e es h are = record { rise = rises-put key e es are.rise; each = all-put key Form e es h are.each }
 
--- a project with a code, a label and a quota within the limit, whoever offers it
-abbrev pub ProjectForm : Project → Type 0
-ProjectForm p = record {
-  code : IsTrue (is_code p.code);
-  label : IsTrue (is_label p.label);
-  quota : p.quota ≤ MOST_PLACES;
-}
-
 -- a list of some projects
 abbrev pub HasChoices : Listed → Type 0
 HasChoices l = 1 ≤ length l.choices
 
--- the three rolls
-pub record AreRolls (ss : List Supervisor) (ps : List Project) (ts : List Student) : Type 0 where
-  pub supervisors : AreOf supervisor_key SupervisorFits ss
-  pub projects : AreOf project_key ProjectForm ps
-  pub students : AreOf student_key StudentFits ts
+-- a round with such lists
+abbrev pub RoundForm : RoundEntry → Type 0
+RoundForm r = AreOf list_key HasChoices r.lists
 
--- what the rows that were taken in so far make
-pub record IsDrafted (o : State) : Type 0 where
-  pub rolls : AreRolls o.supervisors o.projects o.students
-  pub rounds : rises round_key o.rounds ≡ true
-  pub lists : (n : ℕ) → AreOf list_key HasChoices (lists_of o n)
-  pub aims : rises aim_key o.aims ≡ true
-  pub placements : rises placement_key o.placements ≡ true
-  pub imports : AreOf import_key ImportFits o.imports
+-- what the rows of a table that were taken in so far make
+abbrev pub AreDrafted : State → Table → Type 0
+AreDrafted o Supervisor = AreOf supervisor_key SupervisorFits o.supervisors
+AreDrafted o Project = AreOf project_key ProjectForm o.projects
+AreDrafted o Student = AreOf student_key StudentFits o.students
+AreDrafted o Round = AreOf round_key RoundForm o.rounds
+AreDrafted o RoundAim = AreOf aim_key AimForm o.aims
+AreDrafted o Placement = AreOf placement_key PlacementForm o.placements
+AreDrafted o Import = AreOf import_key ImportFits o.imports
+AreDrafted o _ = Unit
 
-pub drafted_shaped : (o : State) → IsDrafted o → IsShaped o
-drafted_shaped o d = record {
-  supervisors_rise = d.rolls.supervisors.rise;
-  projects_rise = d.rolls.projects.rise;
-  students_rise = d.rolls.students.rise;
-  rounds_rise = d.rounds;
-  lists_rise = λ n. (d.lists n).rise;
-  lists_some = λ n. (d.lists n).each;
-  aims_rise = d.aims;
-  placements_rise = d.placements;
-  imports_rise = d.imports.rise;
-}
+-- and those of all tables
+abbrev pub IsDrafted : State → Type 0
+IsDrafted o = (table : Table) → AreDrafted o table
 
 pub empty_drafted : IsDrafted empty
-empty_drafted = record {
-  rolls = record { supervisors = record { rise = refl; each = tt }; projects = record { rise = refl; each = tt }; students = record { rise = refl; each = tt } };
-  rounds = refl;
-  lists = λ n. record { rise = refl; each = tt };
-  aims = refl;
-  placements = refl;
-  imports = record { rise = refl; each = tt };
+empty_drafted Supervisor = record { rise = refl; each = tt }
+empty_drafted Project = record { rise = refl; each = tt }
+empty_drafted Student = record { rise = refl; each = tt }
+empty_drafted Round = record { rise = refl; each = tt }
+empty_drafted RoundAim = record { rise = refl; each = tt }
+empty_drafted Placement = record { rise = refl; each = tt }
+empty_drafted Import = record { rise = refl; each = tt }
+empty_drafted _ = tt
+
+-- the lists of a round are so
+pub lists_drafted : (o : State) → IsDrafted o → (n : ℕ) → AreOf list_key HasChoices (lists_of o n)
+lists_drafted o d n = of_round (round_of o n) refl
+  where
+    of_round : (x : Option RoundEntry) → round_of o n ≡ x → AreOf list_key HasChoices (option_map_or (λ r. r.lists) x [])
+    of_round None is = record { rise = refl; each = tt }
+    of_round (Some r) is = holds_of_found round_key RoundForm (n, []) o.rounds r (d Round).each is
+
+-- so keys rise, and each list has choices
+pub drafted_shaped : (o : State) → IsDrafted o → IsShaped o
+drafted_shaped o d = record {
+  supervisors_rise = (d Supervisor).rise;
+  projects_rise = (d Project).rise;
+  students_rise = (d Student).rise;
+  rounds_rise = (d Round).rise;
+  lists_rise = λ n. (lists_drafted o d n).rise;
+  lists_some = λ n. (lists_drafted o d n).each;
+  aims_rise = (d RoundAim).rise;
+  placements_rise = (d Placement).rise;
+  imports_rise = (d Import).rise;
 }
 
--- one more row was taken in
-pub record IsTaken (o : State) (r : Row) (n : State) : Type 0 where
-  pub fresh : row_of o (key_of r) ≡ None
-  pub turns : (k : RowKey) → cond (same_row k (key_of r)) (Some r) (row_of o k) ≡ row_of n k
-  pub drafted : IsDrafted o → IsDrafted n
+-- ---- a row of an entry
 
--- ---- each kind of row
+-- of a table, the rows that are held with a row more, and what is known of the entries
+abbrev pub TakenAt : State → Table → Cells → State → Table → Type 0
+TakenAt o t row n table = IsPermutation (of_table (record { table = t; cells = row } ∷ []) table ++ rows_in o table) (rows_in n table) × AreDrafted n table
 
-pub at_most : (n limit : ℕ) → nat_le n limit ≡ true → n ≤ limit
-at_most n limit h = grind (arith, nat_tests)
+-- a row of a table was taken in
+abbrev pub IsTaken : State → Table → Cells → State → Type 0
+IsTaken o t row n = (table : Table) → TakenAt o t row n table
 
-drafted_supervisor : (o : State) (code label : List ℕ) (quota : ℕ) → has_form o (row.Supervisor code label quota) ≡ true → IsDrafted o → IsDrafted (with_row (row.Supervisor code label quota) o)
-drafted_supervisor o code label quota form d =
-    let rest = second_so (is_code code) (is_label label && nat_le quota MOST_PLACES) form in
-    let fits : SupervisorFits (record { code = code; label = label; quota = quota }) = record {
-      code = first_so (is_code code) (is_label label && nat_le quota MOST_PLACES) form;
-      label = first_so (is_label label) (nat_le quota MOST_PLACES) rest;
-      quota = at_most quota MOST_PLACES (second_so (is_label label) (nat_le quota MOST_PLACES) rest);
-    } in
-    record {
-      rolls = record { supervisors = put_of supervisor_key SupervisorFits _ o.supervisors fits d.rolls.supervisors; projects = d.rolls.projects; students = d.rolls.students };
-      rounds = d.rounds;
-      lists = d.lists;
-      aims = d.aims;
-      placements = d.placements;
-      imports = d.imports;
-    }
+module _ {E : Type 0} (key : E → Key) (cells : E → Cells) (Form : E → Type 0) (e : E) (row : Cells) (es : List E) where
+  entry_beside : cells e ≡ row → AreOf key Form es → has key (key e) es ≡ false → IsPermutation (row ∷ map cells es) (map cells (put key e es))
+  entry_beside is are free = from_same (ap (λ r. r ∷ map cells es) (sym is)) (IsPermutation-map cells _ _ (added_beside key e es are.rise free))
 
-drafted_project : (o : State) (code label supervisor : List ℕ) (quota : ℕ) → has_form o (row.Project code label supervisor quota) ≡ true → IsDrafted o → IsDrafted (with_row (row.Project code label supervisor quota) o)
-drafted_project o code label supervisor quota form d =
-    let rest = second_so (is_code code) (is_label label && (is_code supervisor && nat_le quota MOST_PLACES)) form in
-    let fits : ProjectForm (record { code = code; label = label; supervisor = supervisor; quota = quota }) = record {
-      code = first_so (is_code code) (is_label label && (is_code supervisor && nat_le quota MOST_PLACES)) form;
-      label = first_so (is_label label) (is_code supervisor && nat_le quota MOST_PLACES) rest;
-      quota = at_most quota MOST_PLACES (second_so (is_code supervisor) (nat_le quota MOST_PLACES) (second_so (is_label label) (is_code supervisor && nat_le quota MOST_PLACES) rest));
-    } in
-    record {
-      rolls = record { supervisors = d.rolls.supervisors; projects = put_of project_key ProjectForm _ o.projects fits d.rolls.projects; students = d.rolls.students };
-      rounds = d.rounds;
-      lists = d.lists;
-      aims = d.aims;
-      placements = d.placements;
-      imports = d.imports;
-    }
+  -- an entry of a new key is taken in with the row that tells it
+  entry_taken : IsTold cells Form row e → AreOf key Form es → has key (key e) es ≡ false → IsPermutation (row ∷ map cells es) (map cells (put key e es)) × AreOf key Form (put key e es)
+  entry_taken told are free = (entry_beside told.is are free, put_of key Form e es told.form are)
 
-drafted_student : (o : State) (code label : List ℕ) → has_form o (row.Student code label) ≡ true → IsDrafted o → IsDrafted (with_row (row.Student code label) o)
-drafted_student o code label form d =
-    let fits : StudentFits (record { code = code; label = label }) = record { code = first_so (is_code code) (is_label label) form; label = second_so (is_code code) (is_label label) form } in
-    record {
-      rolls = record { supervisors = d.rolls.supervisors; projects = d.rolls.projects; students = put_of student_key StudentFits _ o.students fits d.rolls.students };
-      rounds = d.rounds;
-      lists = d.lists;
-      aims = d.aims;
-      placements = d.placements;
-      imports = d.imports;
-    }
+module _ (o : State) (d : IsDrafted o) (row : Cells) where
+  taken_supervisor : (e : SupervisorEntry) → supervisor_in row ≡ Some e → has supervisor_key (supervisor_key e) o.supervisors ≡ false → IsTaken o Supervisor row (record o { supervisors = put supervisor_key e o.supervisors })
+  taken_supervisor e is free Supervisor = entry_taken supervisor_key supervisor_cells SupervisorFits e row o.supervisors (supervisor_told row e is) (d Supervisor) free
+  taken_supervisor e is free table = (IsPermutation-refl _, d table)
 
-drafted_round : (o : State) (number : ℕ) (is_open : Bool) → row_of o (key_of (row.Round number is_open)) ≡ None → IsDrafted o → IsDrafted (with_row (row.Round number is_open) o)
-drafted_round o number is_open free d = record {
-  rolls = d.rolls;
-  rounds = rises-put round_key (record { number = number; is_open = is_open; lists = [] }) o.rounds d.rounds;
-  lists = λ n. subst (AreOf list_key HasChoices) (sym (lists_kept o (record { number = number; is_open = is_open; lists = [] }) (absent number _ free) n)) (d.lists n);
-  aims = d.aims;
-  placements = d.placements;
-  imports = d.imports;
-}
+  taken_project : (e : ProjectEntry) → project_in row ≡ Some e → has project_key (project_key e) o.projects ≡ false → IsTaken o Project row (record o { projects = put project_key e o.projects })
+  taken_project e is free Project = entry_taken project_key project_cells ProjectForm e row o.projects (project_told row e is) (d Project) free
+  taken_project e is free table = (IsPermutation-refl _, d table)
 
-chosen_lists : (o : State) (n : ℕ) (s c : List ℕ) (k : ℕ) (b : Bool) → AreOf list_key HasChoices (lists_of o n) → AreOf list_key HasChoices (lists_of o k)
-    → AreOf list_key HasChoices (cond b (with_choice s c (lists_of o n)) (lists_of o k))
-chosen_lists o n s c k true there here =
-    put_of list_key HasChoices _ (lists_of o n) (let more = length-append (choices_among s (lists_of o n)) (c ∷ []) in omega (arith, more)) there
-chosen_lists o n s c k false there here = here
+  taken_student : (e : StudentEntry) → student_in row ≡ Some e → has student_key (student_key e) o.students ≡ false → IsTaken o Student row (record o { students = put student_key e o.students })
+  taken_student e is free Student = entry_taken student_key student_cells StudentFits e row o.students (student_told row e is) (d Student) free
+  taken_student e is free table = (IsPermutation-refl _, d table)
 
-drafted_choice : (o : State) (n : ℕ) (s : List ℕ) (p : ℕ) (c : List ℕ) → has_form o (row.Choice n s p c) ≡ true → IsDrafted o → IsDrafted (with_row (row.Choice n s p c) o)
-drafted_choice o n s p c form d =
-    let next = is_next o n s p c form in
-    let chosen : IsDrafted (chosen_with o next.round s c) = record {
-      rolls = d.rolls;
-      rounds = rises-put round_key (record next.round { lists = with_choice s c next.round.lists }) o.rounds d.rounds;
-      lists = λ k. subst (AreOf list_key HasChoices) (sym (lists_chosen o n s p c next k)) (chosen_lists o n s c k (bytes_eq (k ∷ []) (n ∷ [])) (d.lists n) (d.lists k));
-      aims = d.aims;
-      placements = d.placements;
-      imports = d.imports;
-    } in
-    subst IsDrafted (chosen_is o n s p c next) chosen
+  taken_aim : (e : AimEntry) → aim_in row ≡ Some e → has aim_key (aim_key e) o.aims ≡ false → IsTaken o RoundAim row (record o { aims = put aim_key e o.aims })
+  taken_aim e is free RoundAim = entry_taken aim_key aim_cells AimForm e row o.aims (round_aim_told row e is) (d RoundAim) free
+  taken_aim e is free table = (IsPermutation-refl _, d table)
 
-drafted_placement : (o : State) (student : List ℕ) (round : ℕ) (project : List ℕ) (rank : ℕ) → IsDrafted o → IsDrafted (with_row (row.Placement student round project rank) o)
-drafted_placement o student round project rank d = record {
-  rolls = d.rolls;
-  rounds = d.rounds;
-  lists = d.lists;
-  aims = d.aims;
-  placements = rises-put placement_key (record { student = student; round = round; project = project; rank = rank }) o.placements d.placements;
-  imports = d.imports;
-}
+  taken_placement : (e : PlacementEntry) → placement_in row ≡ Some e → has placement_key (placement_key e) o.placements ≡ false → IsTaken o Placement row (record o { placements = put placement_key e o.placements })
+  taken_placement e is free Placement = entry_taken placement_key placement_cells PlacementForm e row o.placements (placement_told row e is) (d Placement) free
+  taken_placement e is free table = (IsPermutation-refl _, d table)
 
-drafted_aim : (o : State) (round : ℕ) (aim : Aim) → IsDrafted o → IsDrafted (with_row (row.RoundAim round aim) o)
-drafted_aim o round aim d = record {
-  rolls = d.rolls;
-  rounds = d.rounds;
-  lists = d.lists;
-  aims = rises-put aim_key (record { round = round; aim = aim }) o.aims d.aims;
-  placements = d.placements;
-  imports = d.imports;
-}
+  taken_import : (e : ImportEntry) → import_in row ≡ Some e → has import_key (import_key e) o.imports ≡ false → IsTaken o Import row (record o { imports = put import_key e o.imports })
+  taken_import e is free Import = entry_taken import_key import_cells ImportFits e row o.imports (import_told row e is) (d Import) free
+  taken_import e is free table = (IsPermutation-refl _, d table)
 
-drafted_import : (o : State) (id : List ℕ) (kind : ImportKind) (bytes : List ℕ) (rows : ℕ) → has_form o (row.Import id kind bytes rows) ≡ true → IsDrafted o → IsDrafted (with_row (row.Import id kind bytes rows) o)
-drafted_import o id kind bytes rows form d =
-    let rest = second_so (is_code id) (nat_le (length bytes) MOST_IMPORT_BYTES && nat_le rows MOST_IMPORT_BYTES) form in
-    let fits : ImportFits (record { id = id; kind = kind; bytes = bytes; rows = rows }) = record {
-      id = first_so (is_code id) (nat_le (length bytes) MOST_IMPORT_BYTES && nat_le rows MOST_IMPORT_BYTES) form;
-      bytes = at_most (length bytes) MOST_IMPORT_BYTES (first_so (nat_le (length bytes) MOST_IMPORT_BYTES) (nat_le rows MOST_IMPORT_BYTES) rest);
-      rows = at_most rows MOST_IMPORT_BYTES (second_so (nat_le (length bytes) MOST_IMPORT_BYTES) (nat_le rows MOST_IMPORT_BYTES) rest);
-    } in
-    record {
-      rolls = d.rolls;
-      rounds = d.rounds;
-      lists = d.lists;
-      aims = d.aims;
-      placements = d.placements;
-      imports = put_of import_key ImportFits _ o.imports fits d.imports;
-    }
+  -- a round comes without lists, and so without choices
+  taken_round : (e : RoundEntry) → round_in row ≡ Some e → has round_key (round_key e) o.rounds ≡ false → IsTaken o Round row (record o { rounds = put round_key e o.rounds })
+  taken_round e is free Round =
+      let told = round_told row e is in (
+        entry_beside round_key round_cells RoundForm e row o.rounds told.is (d Round) free,
+        put_of round_key RoundForm e o.rounds (subst (AreOf list_key HasChoices) (sym told.form) (record { rise = refl; each = tt })) (d Round),
+      )
+  taken_round e is free Choice = (
+    from_same (ap (λ ls. flat_map (list_rows e.number) ls ++ flat_map rows_of_round o.rounds) (sym (round_told row e is).form))
+        (IsPermutation-flat_map rows_of_round _ _ (added_beside round_key e o.rounds (d Round).rise free)),
+    tt,
+  )
+  taken_round e is free table = (IsPermutation-refl _, d table)
 
-drafted_with : (o : State) (r : Row) → has_form o r ≡ true → row_of o (key_of r) ≡ None → IsDrafted o → IsDrafted (with_row r o)
-drafted_with o (row.Supervisor code label quota) form free = drafted_supervisor o code label quota form
-drafted_with o (row.Project code label supervisor quota) form free = drafted_project o code label supervisor quota form
-drafted_with o (row.Student code label) form free = drafted_student o code label form
-drafted_with o (row.Round number is_open) form free = drafted_round o number is_open free
-drafted_with o (row.Choice n s p c) form free = drafted_choice o n s p c form
-drafted_with o (row.Placement student round project rank) form free = drafted_placement o student round project rank
-drafted_with o (row.RoundAim round aim) form free = drafted_aim o round aim
-drafted_with o (row.Import id kind bytes rows) form free = drafted_import o id kind bytes rows form
-drafted_with o (row.OldChoice n s p c) form free = absurd (let e : false ≡ true = form in cc)
-drafted_with o (row.OldPlacement student round project rank) form free = absurd (let e : false ≡ true = form in cc)
+-- ---- a row of a choice
+
+-- a choice behind the others has the row behind theirs
+rows_on : (n : ℕ) (s : List ℕ) (place : ℕ) (cs : List (List ℕ)) (c : List ℕ) → choice_rows n s place (cs ++ c ∷ []) ≡ choice_rows n s place cs ++ choice_cells n s (length cs + place) c ∷ []
+rows_on n s place [] c = ap (λ p. choice_cells n s p c ∷ []) (omega arith)
+rows_on n s place (x ∷ cs) c =
+    let next : length cs + suc place ≡ suc (length cs) + place = omega arith in
+    ap (λ rows. choice_cells n s place x ∷ rows) (rows_on n s (suc place) cs c ∙ ap (λ p. choice_rows n s (suc place) cs ++ choice_cells n s p c ∷ []) next)
+
+-- between what stands beside it
+between : {X : Type 0} (x : X) (xs ys zs : List X) → IsPermutation zs (xs ++ ys) → IsPermutation (x ∷ zs) ((xs ++ x ∷ []) ++ ys)
+between x xs ys zs same =
+    IsPermutation-trans _ _ _ (IsPermutation-cons x _ _ same)
+    (to_same (IsPermutation-sym _ _ (IsPermutation-middle xs x ys)) (sym (append_assoc xs (x ∷ []) ys)))
+
+module _ (n : ℕ) (s c : List ℕ) (lists : List Listed) (rise : rises list_key lists ≡ true) where
+  abbrev others : List Cells
+  others = flat_map (list_rows n) (take_out list_key (0, s) lists)
+
+  -- the rows of lists are those of a student's beside the others
+  lists_beside : IsPermutation (flat_map (list_rows n) lists) (choice_rows n s 1 (choices_among s lists) ++ others)
+  lists_beside = of_list (find list_key (0, s) lists) refl
+    where
+      of_list : (x : Option Listed) → find list_key (0, s) lists ≡ x → IsPermutation (flat_map (list_rows n) lists) (choice_rows n s 1 (option_map_or (λ l. l.choices) x []) ++ others)
+      of_list None is = IsPermutation-same _ _ (ap (flat_map (list_rows n)) (sym (none_taken list_key (0, s) lists (ap is_some is))))
+      of_list (Some l) is =
+          let student : s ≡ l.student = ap (λ (q : Key). q.1) (found_key list_key (0, s) lists l is) in
+          to_same (IsPermutation-sym _ _ (IsPermutation-flat_map (list_rows n) _ _ (found_beside list_key (0, s) l lists rise is))) (ap (λ t. choice_rows n t 1 l.choices ++ others) (sym student))
+
+  -- with one more choice of the student its row comes beside them
+  choice_beside : IsPermutation (choice_cells n s (length (choices_among s lists) + 1) c ∷ flat_map (list_rows n) lists) (flat_map (list_rows n) (with_choice s c lists))
+  choice_beside =
+      IsPermutation-trans _ _ _ (between _ (choice_rows n s 1 (choices_among s lists)) others _ lists_beside)
+      (from_same (ap (λ rows. rows ++ others) (sym (rows_on n s 1 (choices_among s lists) c)))
+      (IsPermutation-flat_map (list_rows n) _ _ (put_beside list_key (record { student = s; choices = choices_among s lists ++ c ∷ [] }) lists rise)))
+
+module _ (o : State) (d : IsDrafted o) (s c : List ℕ) (r : RoundEntry) (found : round_of o r.number ≡ Some r) where
+  abbrev new : RoundEntry
+  new = record r { lists = with_choice s c r.lists }
+
+  old_beside : IsPermutation (r ∷ take_out round_key (round_key r) o.rounds) o.rounds
+  old_beside = found_beside round_key (round_key r) r o.rounds (d Round).rise found
+
+  new_beside : IsPermutation (new ∷ take_out round_key (round_key r) o.rounds) (put round_key new o.rounds)
+  new_beside = put_beside round_key new o.rounds (d Round).rise
+
+  lists_form : RoundForm r
+  lists_form = holds_of_found round_key RoundForm (round_key r) o.rounds r (d Round).each found
+
+  taken_choice : IsTaken o Choice (choice_cells r.number s (length (choices_among s r.lists) + 1) c) (record o { rounds = put round_key new o.rounds })
+  taken_choice Round = (
+    IsPermutation-trans _ _ _ (IsPermutation-sym _ _ (IsPermutation-map round_cells _ _ old_beside)) (IsPermutation-map round_cells _ _ new_beside),
+    put_of round_key RoundForm new o.rounds (put_of list_key HasChoices _ r.lists (let more = length-append (choices_among s r.lists) (c ∷ []) in omega (arith, more)) lists_form) (d Round),
+  )
+  taken_choice Choice = (
+    IsPermutation-trans _ _ _ (IsPermutation-cons _ _ _ (IsPermutation-sym _ _ (IsPermutation-flat_map rows_of_round _ _ old_beside)))
+        (IsPermutation-trans _ _ _ (IsPermutation-append_left (flat_map rows_of_round (take_out round_key (round_key r) o.rounds)) _ _ (choice_beside r.number s c r.lists lists_form.rise))
+        (IsPermutation-flat_map rows_of_round _ _ new_beside)),
+    tt,
+  )
+  taken_choice table = (IsPermutation-refl _, d table)
 
 -- ---- any row
 
-inner_some : {A : Type 0} (b : Bool) (x y : A) → cond b (Some x) None ≡ Some y → (b ≡ true) × (x ≡ y)
-inner_some true x y h = (refl, cc)
-inner_some false x y h = cc
+module _ {E : Type 0} (key : E → Key) (es : List E) (held : List E → State) (P : State → Type 0) (n : State) where
+  -- what is held with an entry more is so with one of a new key
+  new_taken : (x : Option E) → ((e : E) → x ≡ Some e → has key (key e) es ≡ false → P (held (put key e es))) → with_new key es held x ≡ Some n → P n
+  new_taken None each h = cc
+  new_taken (Some e) each h = by (has key (key e) es) refl h
+    where
+      by : (b : Bool) → has key (key e) es ≡ b → cond b None (Some (held (put key e es))) ≡ Some n → P n
+      by true free h = cc
+      by false free h = let same : held (put key e es) ≡ n = cc in subst P same (each e refl free)
 
-not_found : {A : Type 0} (x : Option A) → not (is_some x) ≡ true → x ≡ None
-not_found None h = refl
-not_found (Some x) h = cc
+next_taken : (o : State) → IsDrafted o → (k : ℕ) (s : List ℕ) (place : ℕ) (c : List ℕ) (n : State) (x : Option RoundEntry) → round_of o k ≡ x → with_next o s place c x ≡ Some n → IsTaken o Choice (choice_cells k s place c) n
+next_taken o d k s place c n None is h = cc
+next_taken o d k s place c n (Some r) is h =
+    let number : k ≡ r.number = ap (λ (q : Key). q.0) (found_key round_key (k, []) o.rounds r is) in
+    let form = has_form (length (choices_among s r.lists) + 1 == place) _ n h in
+    let at_place : length (choices_among s r.lists) + 1 ≡ place = grind (arith, nat_tests, form.0) in
+    subst (IsTaken o Choice (choice_cells k s place c)) form.1
+    (subst (λ row. IsTaken o Choice row (record o { rounds = put round_key (record r { lists = with_choice s c r.lists }) o.rounds })) (λ i. choice_cells (sym number i) s (at_place i) c)
+    (taken_choice o d s c r (ap (round_of o) (sym number) ∙ is)))
 
-pub taken : (o : State) (r : Row) (n : State) → after_row o r ≡ Some n → IsTaken o r n
-taken o r n h =
-    let parts = inner_some (has_form o r && is_new o r) (with_row r o) n h in
-    let form = first_so (has_form o r) (is_new o r) parts.0 in
-    let free = not_found (row_of o (key_of r)) (second_so (has_form o r) (is_new o r) parts.0) in
-    subst (λ (n : State). IsTaken o r n) parts.1 (record { fresh = free; turns = turns_with o r form free; drafted = drafted_with o r form free })
+choice_taken : (o : State) → IsDrafted o → (row : Cells) (n : State) → after_cells o Choice row ≡ Some n → IsTaken o Choice row n
+choice_taken o d (Number k ∷ Text s ∷ Number place ∷ Text c ∷ []) n h = by (is_code s && is_code c) h
+  where
+    by : (b : Bool) → cond b (with_next o s place c (round_of o k)) None ≡ Some n → IsTaken o Choice (Number k ∷ Text s ∷ Number place ∷ Text c ∷ []) n
+    by true h = next_taken o d k s place c n (round_of o k) refl h
+    by false h = cc
+choice_taken o d _ n h = cc
 
--- a row of this form, at whose key nothing is held, is taken in
-pub takes_form : (o : State) (r : Row) → has_form o r ≡ true → row_of o (key_of r) ≡ None → after_row o r ≡ Some (with_row r o)
-takes_form o r form free = ap (λ b. cond (b && is_new o r) (Some (with_row r o)) None) form ∙ ap (λ x. cond (not (is_some x)) (Some (with_row r o)) None) free
+pub taken : (o : State) → IsDrafted o → (t : Table) (row : Cells) (n : State) → after_cells o t row ≡ Some n → IsTaken o t row n
+taken o d Supervisor row n = new_taken supervisor_key o.supervisors (λ es. record o { supervisors = es }) (IsTaken o Supervisor row) n (supervisor_in row) (taken_supervisor o d row)
+taken o d Project row n = new_taken project_key o.projects (λ es. record o { projects = es }) (IsTaken o Project row) n (project_in row) (taken_project o d row)
+taken o d Student row n = new_taken student_key o.students (λ es. record o { students = es }) (IsTaken o Student row) n (student_in row) (taken_student o d row)
+taken o d Round row n = new_taken round_key o.rounds (λ es. record o { rounds = es }) (IsTaken o Round row) n (round_in row) (taken_round o d row)
+taken o d RoundAim row n = new_taken aim_key o.aims (λ es. record o { aims = es }) (IsTaken o RoundAim row) n (aim_in row) (taken_aim o d row)
+taken o d Choice row n = choice_taken o d row n
+taken o d Placement row n = new_taken placement_key o.placements (λ es. record o { placements = es }) (IsTaken o Placement row) n (placement_in row) (taken_placement o d row)
+taken o d Import row n = new_taken import_key o.imports (λ es. record o { imports = es }) (IsTaken o Import row) n (import_in row) (taken_import o d row)
+taken o d _ row n = λ h. cc

@@ -1,3 +1,4 @@
 -- What proofs need and no public clause says.
+pub mod Told
 pub mod Gathering
 pub mod Whole

@@ -4,4 +4,12 @@ use Rattle.rolls.specs.State.{State}
 
 -- what a draft holds
 abbrev pub drafted : PartialOffice → State
-drafted d = record { supervisors = d.supervisors; projects = d.projects; students = d.students; rounds = d.rounds; aims = d.aims; placements = d.placements; imports = d.imports }
+drafted d = record {
+  supervisors = d.supervisors;
+  projects = d.projects;
+  students = d.students;
+  rounds = d.rounds;
+  aims = d.aims;
+  placements = d.placements;
+  imports = d.imports;
+}

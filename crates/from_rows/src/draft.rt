@@ -1,16 +1,18 @@
 //! What rows hold.
 
-ghost use Rattle.std.specs.Prelude.{◌≡◌, ◌+◌, ◌==◌, ◌++◌, ◌∷◌, [], false, length, IfOk, OnOk, Some, None, Err};
-ghost use Rattle.rolls.specs.State.{empty};
+ghost use Rattle.std.specs.Prelude.{◌≡◌, ◌+◌, ◌==◌, ◌++◌, ◌∷◌, [], true, false, length, IfOk, OnOk, Some, None, Err};
+ghost use Rattle.rolls.specs.Roll.{has, put};
+ghost use Rattle.rolls.specs.State.{empty, round_of};
 ghost use Rattle.from_rows.specs.View.{drafted};
-ghost use Rattle.from_rows.specs.Inside.Gathering.{after_row, choices_among, with_choice};
+ghost use Rattle.from_rows.specs.Inside.Gathering.{after_cells, after_row, choices_among, with_choice, with_next};
 
+use crate::cells::{aim_of, flag_in, kind_in};
 use crate::fault::RowsFault;
 use rolls::{
-    Bytes, Choices, Entries, Import, ImportKind, Listed, MOST_IMPORT_BYTES, Placement, Project,
-    Round, RoundAim, Row, Student, Supervisor, Text,
+    Cell, Choices, Entries, Entry, Import, Listed, MOST_IMPORT_BYTES, Placement, Project, Round,
+    RoundAim, Row, Student, Supervisor, Table,
 };
-use spa::{Aim, Code, Label, MOST_PLACES, RANKS};
+use spa::{Code, Label, MOST_PLACES, RANKS};
 use std::alloc::{AllocError, Global};
 
 /// The parts of an office.
@@ -84,6 +86,20 @@ fn add_choice(
     Ok(())
 }
 
+/// Puts an entry of a new key among others.
+fn put_new<E: Entry + Drop>(entries: &mut Entries<E>, entry: E) -> Result<(), RowsFault>
+    ensures new { OnOk result (has E.key (E.key entry) entries.old ≡ false) }
+    ensures put { OnOk result (entries.new ≡ put E.key entry entries.old) }
+    ensures unfit { result ≡ Err RowsFault.Unfit → has E.key (E.key entry) entries.old ≡ true }
+{
+    let (round, code) = entry.key();
+    if entries.find(round, code).is_some() {
+        return Err(RowsFault::Unfit);
+    }
+    entries.put(entry)?;
+    Ok(())
+}
+
 impl PartialOffice {
     /// Nothing yet. Takes no memory.
     pub fn new(alloc: Global) -> Self
@@ -101,172 +117,197 @@ impl PartialOffice {
     }
 
     /// Takes in a supervisor's row.
-    fn take_supervisor(
-        &mut self,
-        alloc: Global,
-        code: &Text,
-        label: &Text,
-        quota: u32,
-    ) -> Result<(), RowsFault>
-        ensures taken { OnOk result (after_row (drafted self.old) (Row.Supervisor code.now label.now quota) ≡ Some (drafted self.new)) }
-        ensures unfit { result ≡ Err RowsFault.Unfit → after_row (drafted self.old) (Row.Supervisor code.now label.now quota) ≡ None }
+    fn take_supervisor(&mut self, alloc: Global, cells: &[Cell]) -> Result<(), RowsFault>
+        ensures taken { OnOk result (after_cells (drafted self.old) Table.Supervisor cells.now ≡ Some (drafted self.new)) }
+        ensures unfit { result ≡ Err RowsFault.Unfit → after_cells (drafted self.old) Table.Supervisor cells.now ≡ None }
     {
+        let [Cell::Text(code), Cell::Text(label), Cell::Number(quota)] = cells else {
+            return Err(RowsFault::Unfit);
+        };
         let code = Code::read(code.as_str())?;
         let label = Label::read(alloc, label.as_str())?;
-        if quota > MOST_PLACES {
+        if *quota > MOST_PLACES {
             return Err(RowsFault::Unfit);
         }
-        if self.supervisors.by_code(code.as_str()).is_some() {
-            return Err(RowsFault::Unfit);
-        }
-        self.supervisors.put(Supervisor { code, label, quota })?;
-        Ok(())
+        let quota = *quota;
+        put_new(&mut self.supervisors, Supervisor { code, label, quota })
     }
 
-    /// Takes in the row of a project with this code and this label.
-    fn take_project(
-        &mut self,
-        alloc: Global,
-        named: (&Text, &Text),
-        supervisor: &Text,
-        quota: u32,
-    ) -> Result<(), RowsFault>
-        ensures taken { OnOk result (after_row (drafted self.old) (Row.Project named.entry.0.now named.entry.1.now supervisor.now quota) ≡ Some (drafted self.new)) }
-        ensures unfit { result ≡ Err RowsFault.Unfit → after_row (drafted self.old) (Row.Project named.entry.0.now named.entry.1.now supervisor.now quota) ≡ None }
+    /// Takes in a project's row.
+    fn take_project(&mut self, alloc: Global, cells: &[Cell]) -> Result<(), RowsFault>
+        ensures taken { OnOk result (after_cells (drafted self.old) Table.Project cells.now ≡ Some (drafted self.new)) }
+        ensures unfit { result ≡ Err RowsFault.Unfit → after_cells (drafted self.old) Table.Project cells.now ≡ None }
     {
-        let code = Code::read(named.0.as_str())?;
-        let label = Label::read(alloc, named.1.as_str())?;
+        let [
+            Cell::Text(code),
+            Cell::Text(label),
+            Cell::Text(supervisor),
+            Cell::Number(quota),
+        ] = cells
+        else {
+            return Err(RowsFault::Unfit);
+        };
+        let code = Code::read(code.as_str())?;
+        let label = Label::read(alloc, label.as_str())?;
         let supervisor = Code::read(supervisor.as_str())?;
-        if quota > MOST_PLACES {
+        if *quota > MOST_PLACES {
             return Err(RowsFault::Unfit);
         }
-        if self.projects.by_code(code.as_str()).is_some() {
-            return Err(RowsFault::Unfit);
-        }
-        self.projects.put(Project {
+        let quota = *quota;
+        let project = Project {
             code,
             label,
             supervisor,
             quota,
-        })?;
-        Ok(())
+        };
+        put_new(&mut self.projects, project)
     }
 
     /// Takes in a student's row.
-    fn take_student(&mut self, alloc: Global, code: &Text, label: &Text) -> Result<(), RowsFault>
-        ensures taken { OnOk result (after_row (drafted self.old) (Row.Student code.now label.now) ≡ Some (drafted self.new)) }
-        ensures unfit { result ≡ Err RowsFault.Unfit → after_row (drafted self.old) (Row.Student code.now label.now) ≡ None }
+    fn take_student(&mut self, alloc: Global, cells: &[Cell]) -> Result<(), RowsFault>
+        ensures taken { OnOk result (after_cells (drafted self.old) Table.Student cells.now ≡ Some (drafted self.new)) }
+        ensures unfit { result ≡ Err RowsFault.Unfit → after_cells (drafted self.old) Table.Student cells.now ≡ None }
     {
+        let [Cell::Text(code), Cell::Text(label)] = cells else {
+            return Err(RowsFault::Unfit);
+        };
         let code = Code::read(code.as_str())?;
         let label = Label::read(alloc, label.as_str())?;
-        if self.students.by_code(code.as_str()).is_some() {
-            return Err(RowsFault::Unfit);
-        }
-        self.students.put(Student { code, label })?;
-        Ok(())
+        put_new(&mut self.students, Student { code, label })
     }
 
     /// Takes in a round's row. Its lists come later.
-    fn take_round(&mut self, alloc: Global, number: u32, is_open: bool) -> Result<(), RowsFault>
-        ensures taken { OnOk result (after_row (drafted self.old) (Row.Round number is_open) ≡ Some (drafted self.new)) }
-        ensures unfit { result ≡ Err RowsFault.Unfit → after_row (drafted self.old) (Row.Round number is_open) ≡ None }
+    fn take_round(&mut self, alloc: Global, cells: &[Cell]) -> Result<(), RowsFault>
+        ensures taken { OnOk result (after_cells (drafted self.old) Table.Round cells.now ≡ Some (drafted self.new)) }
+        ensures unfit { result ≡ Err RowsFault.Unfit → after_cells (drafted self.old) Table.Round cells.now ≡ None }
     {
-        if self.rounds.by_number(number).is_some() {
+        let [Cell::Number(number), Cell::Number(is_open)] = cells else {
             return Err(RowsFault::Unfit);
-        }
-        self.rounds.put(Round {
+        };
+        let Some(is_open) = flag_in(*is_open) else {
+            return Err(RowsFault::Unfit);
+        };
+        let number = *number;
+        let lists = Entries::new(alloc);
+        let round = Round {
             number,
             is_open,
-            lists: Entries::new(alloc),
-        })?;
-        Ok(())
+            lists,
+        };
+        put_new(&mut self.rounds, round)
     }
 
-    /// Takes in the row of a choice, a project at a place, as the next of its list.
-    fn take_choice(
+    /// Takes in a student's choice in a round, a project at a place, as the next of the list.
+    fn choose(
         &mut self,
         alloc: Global,
         round: u32,
-        student: &Text,
-        choice: (u32, &Text),
+        student: Code,
+        choice: (u32, Code),
     ) -> Result<(), RowsFault>
-        ensures taken { OnOk result (after_row (drafted self.old) (Row.Choice round student.now choice.entry.0 choice.entry.1.now) ≡ Some (drafted self.new)) }
-        ensures unfit { result ≡ Err RowsFault.Unfit → after_row (drafted self.old) (Row.Choice round student.now choice.entry.0 choice.entry.1.now) ≡ None }
+        ensures taken { let o = drafted self.old in OnOk result (with_next o student choice.0 choice.1 (round_of o round) ≡ Some (drafted self.new)) }
+        ensures unfit { let o = drafted self.old in result ≡ Err RowsFault.Unfit → with_next o student choice.0 choice.1 (round_of o round) ≡ None }
     {
-        let student = Code::read(student.as_str())?;
-        let project = Code::read(choice.1.as_str())?;
-        let mut held = match self.rounds.remove(round, "")? {
-            Some(held) => held,
-            None => return Err(RowsFault::Unfit),
+        let (place, project) = choice;
+        let Some(mut held) = self.rounds.remove(round, "")? else {
+            return Err(RowsFault::Unfit);
         };
-        add_choice(alloc, &mut held.lists, student, choice.0, project)?;
+        add_choice(alloc, &mut held.lists, student, place, project)?;
         self.rounds.put(held)?;
         Ok(())
     }
 
-    /// Takes in a placement's row.
-    fn take_placement(
-        &mut self,
-        student: &Text,
-        round: u32,
-        project: &Text,
-        rank: u32,
-    ) -> Result<(), RowsFault>
-        ensures taken { OnOk result (after_row (drafted self.old) (Row.Placement student.now round project.now rank) ≡ Some (drafted self.new)) }
-        ensures unfit { result ≡ Err RowsFault.Unfit → after_row (drafted self.old) (Row.Placement student.now round project.now rank) ≡ None }
+    /// Takes in the row of a choice, as the next of its list.
+    fn take_choice(&mut self, alloc: Global, cells: &[Cell]) -> Result<(), RowsFault>
+        ensures taken { OnOk result (after_cells (drafted self.old) Table.Choice cells.now ≡ Some (drafted self.new)) }
+        ensures unfit { result ≡ Err RowsFault.Unfit → after_cells (drafted self.old) Table.Choice cells.now ≡ None }
     {
+        let [
+            Cell::Number(round),
+            Cell::Text(student),
+            Cell::Number(place),
+            Cell::Text(project),
+        ] = cells
+        else {
+            return Err(RowsFault::Unfit);
+        };
         let student = Code::read(student.as_str())?;
         let project = Code::read(project.as_str())?;
-        if self.placements.by_code(student.as_str()).is_some() {
+        self.choose(alloc, *round, student, (*place, project))
+    }
+
+    /// Takes in a placement's row.
+    fn take_placement(&mut self, cells: &[Cell]) -> Result<(), RowsFault>
+        ensures taken { OnOk result (after_cells (drafted self.old) Table.Placement cells.now ≡ Some (drafted self.new)) }
+        ensures unfit { result ≡ Err RowsFault.Unfit → after_cells (drafted self.old) Table.Placement cells.now ≡ None }
+    {
+        let [
+            Cell::Text(student),
+            Cell::Number(round),
+            Cell::Text(project),
+            Cell::Number(rank),
+        ] = cells
+        else {
             return Err(RowsFault::Unfit);
-        }
-        self.placements.put(Placement {
+        };
+        let student = Code::read(student.as_str())?;
+        let project = Code::read(project.as_str())?;
+        let (round, rank) = (*round, *rank);
+        let placement = Placement {
             student,
             round,
             project,
             rank,
-        })?;
-        Ok(())
+        };
+        put_new(&mut self.placements, placement)
     }
 
     /// Takes in the row of a round's aim.
-    fn take_aim(&mut self, round: u32, aim: Aim) -> Result<(), RowsFault>
-        ensures taken { OnOk result (after_row (drafted self.old) (Row.RoundAim round aim) ≡ Some (drafted self.new)) }
-        ensures unfit { result ≡ Err RowsFault.Unfit → after_row (drafted self.old) (Row.RoundAim round aim) ≡ None }
+    fn take_aim(&mut self, cells: &[Cell]) -> Result<(), RowsFault>
+        ensures taken { OnOk result (after_cells (drafted self.old) Table.RoundAim cells.now ≡ Some (drafted self.new)) }
+        ensures unfit { result ≡ Err RowsFault.Unfit → after_cells (drafted self.old) Table.RoundAim cells.now ≡ None }
     {
-        if self.aims.by_number(round).is_some() {
+        let [Cell::Number(round), Cell::Number(generous)] = cells else {
             return Err(RowsFault::Unfit);
-        }
-        self.aims.put(RoundAim { round, aim })?;
-        Ok(())
+        };
+        let Some(generous) = flag_in(*generous) else {
+            return Err(RowsFault::Unfit);
+        };
+        let round = *round;
+        let aim = aim_of(generous);
+        put_new(&mut self.aims, RoundAim { round, aim })
     }
 
     /// Takes in an import's row. Its text is shared with the row.
-    fn take_import(
-        &mut self,
-        id: &Text,
-        kind: ImportKind,
-        bytes: &Bytes,
-        rows: u32,
-    ) -> Result<(), RowsFault>
-        ensures taken { OnOk result (after_row (drafted self.old) (Row.Import id.now kind bytes.now rows) ≡ Some (drafted self.new)) }
-        ensures unfit { result ≡ Err RowsFault.Unfit → after_row (drafted self.old) (Row.Import id.now kind bytes.now rows) ≡ None }
+    fn take_import(&mut self, cells: &[Cell]) -> Result<(), RowsFault>
+        ensures taken { OnOk result (after_cells (drafted self.old) Table.Import cells.now ≡ Some (drafted self.new)) }
+        ensures unfit { result ≡ Err RowsFault.Unfit → after_cells (drafted self.old) Table.Import cells.now ≡ None }
     {
-        let id = Code::read(id.as_str())?;
-        if bytes.as_slice().len() > MOST_IMPORT_BYTES || rows as usize > MOST_IMPORT_BYTES {
+        let [
+            Cell::Text(id),
+            Cell::Text(word),
+            Cell::Bytes(bytes),
+            Cell::Number(rows),
+        ] = cells
+        else {
             return Err(RowsFault::Unfit);
-        }
-        if self.imports.by_code(id.as_str()).is_some() {
+        };
+        let id = Code::read(id.as_str())?;
+        let Some(kind) = kind_in(word.as_str()) else {
+            return Err(RowsFault::Unfit);
+        };
+        if bytes.as_slice().len() > MOST_IMPORT_BYTES || *rows as usize > MOST_IMPORT_BYTES {
             return Err(RowsFault::Unfit);
         }
         let bytes = bytes.copy()?;
-        self.imports.put(Import {
+        let rows = *rows;
+        let import = Import {
             id,
             kind,
             bytes,
             rows,
-        })?;
-        Ok(())
+        };
+        put_new(&mut self.imports, import)
     }
 
     /// Takes in a row.
@@ -274,38 +315,17 @@ impl PartialOffice {
         ensures taken { OnOk result (after_row (drafted self.old) row.now ≡ Some (drafted self.new)) }
         ensures unfit { result ≡ Err RowsFault.Unfit → after_row (drafted self.old) row.now ≡ None }
     {
-        match row {
-            Row::Supervisor { code, label, quota } => {
-                self.take_supervisor(alloc, code, label, *quota)
-            }
-            Row::Project {
-                code,
-                label,
-                supervisor,
-                quota,
-            } => self.take_project(alloc, (code, label), supervisor, *quota),
-            Row::Student { code, label } => self.take_student(alloc, code, label),
-            Row::Round { number, is_open } => self.take_round(alloc, *number, *is_open),
-            Row::Choice {
-                round,
-                student,
-                place,
-                project,
-            } => self.take_choice(alloc, *round, student, (*place, project)),
-            Row::Placement {
-                student,
-                round,
-                project,
-                rank,
-            } => self.take_placement(student, *round, project, *rank),
-            Row::RoundAim { round, aim } => self.take_aim(*round, *aim),
-            Row::Import {
-                id,
-                kind,
-                bytes,
-                rows,
-            } => self.take_import(id, *kind, bytes, *rows),
-            Row::OldChoice { .. } | Row::OldPlacement { .. } => Err(RowsFault::Unfit),
+        let cells = row.cells();
+        match row.table() {
+            Table::Supervisor => self.take_supervisor(alloc, cells),
+            Table::Project => self.take_project(alloc, cells),
+            Table::Student => self.take_student(alloc, cells),
+            Table::Round => self.take_round(alloc, cells),
+            Table::RoundAim => self.take_aim(cells),
+            Table::Choice => self.take_choice(alloc, cells),
+            Table::Placement => self.take_placement(cells),
+            Table::Import => self.take_import(cells),
+            _ => Err(RowsFault::Unfit),
         }
     }
 }

@@ -3,26 +3,35 @@
 ghost use Rattle.std.specs.Prelude.{◌≡◌, IfOk, OnOk, Some, None, Err};
 ghost use Rattle.rolls.specs.State.{State, empty};
 ghost use Rattle.rolls.specs.Fit.{IsFit};
-ghost use Rattle.rolls.specs.Rows.{key_of};
-ghost use Rattle.rolls.specs.From.{AreRowsOf};
+ghost use Rattle.rolls.specs.Rows.{AreRowsOf};
 ghost use Rattle.from_rows.specs.View.{drafted};
-ghost use Rattle.from_rows.specs.Inside.Gathering.{stage_of, at_stage, staged, gathered};
+ghost use Rattle.from_rows.specs.Inside.Gathering.{place_in, stage_of, at_stage, staged, gathered};
 
 use crate::draft::PartialOffice;
 use crate::fault::RowsFault;
-use rolls::Row;
+use rolls::{Cell, Row, Table};
 use spa::RANKS;
 use std::alloc::Global;
 
 /// How many stages there are: one for each place of a list, and one before them.
 const STAGES: u32 = RANKS as u32 + 1;
 
+/// The place of a choice in its list, where a list can have it.
+fn place_in(cells: &[Cell]) -> u32
+    ensures { result ≡ place_in cells.now }
+{
+    match cells {
+        [_, _, Cell::Number(place), _] if *place < STAGES => *place,
+        _ => 0,
+    }
+}
+
 /// The stage at which a row is taken in: a choice at its place, and all else before the choices.
 fn stage_of(row: &Row) -> u32
-    ensures { result ≡ stage_of (key_of row.now) }
+    ensures { result ≡ stage_of row.now }
 {
-    match row {
-        Row::Choice { place, .. } if *place < STAGES => *place,
+    match row.table() {
+        Table::Choice => place_in(row.cells()),
         _ => 0,
     }
 }

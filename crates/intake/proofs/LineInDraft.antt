@@ -57,11 +57,5 @@ no_line old [] d f h b = other_only old [] [] (goes_on old [] [] d (All-cons IsF
   where
     nil : (s : SectionName) → [] ≡ letter_of s → ⊥
     nil Aims e = cc
-    nil Supervisors e = cc
-    nil Projects e = cc
-    nil Students e = cc
-    nil Pairs e = cc
-    nil StudentPrices e = cc
-    nil ProjectPrices e = cc
-    nil SupervisorPrices e = cc
+    nil _ e = cc
 no_line old (l ∷ row) d f h b = other_only old l row (goes_on old l row d f b) (h l row refl)

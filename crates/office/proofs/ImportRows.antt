@@ -8,26 +8,33 @@ use Rattle.rolls.specs.declared.TheConstants.{MOST_IMPORTS}
 use Rattle.rolls.specs.declared.import.Import.{Import}
 use Rattle.rolls.specs.declared.import.ImportKind.{ImportKind}
 use Rattle.rolls.specs.declared.request.Reply.TheVariants as reply
-use Rattle.rolls.specs.declared.row.Row.TheVariants as row
-use Rattle.rolls.specs.declared.row.Change.TheVariants as change
+use Rattle.row_data.specs.declared.table.Table.TheVariants.{Import as ImportTable}
+use Rattle.row_data.specs.declared.row.Change.TheVariants.{Add}
 use Rattle.rolls.specs.declared.refusal.Refusal.{Refusal}
 use Rattle.rolls.specs.declared.refusal.Refusal.TheVariants as no
 use Rattle.rolls.specs.declared.request.Plain.{Plain}
 use Rattle.rolls.specs.declared.request.Done.{Done}
-use Rattle.rolls.specs.declared.row.Change.{Change}
-use Rattle.rolls.specs.Roll.{of_code, find}
+use Rattle.row_data.specs.declared.row.Change.{Change}
+use Rattle.rolls.specs.Roll.{of_code, find, rises}
 use Rattle.rolls.specs.State.{State, import_key, import_of, has_import, kept_rows}
-use Rattle.rolls.specs.Rows.{Turns, import_row}
+use Rattle.rolls.specs.Rows.{Turns, import_cells}
 use Rattle.rolls.specs.Refusing.{first, plain_refusal, import_tests}
 use Rattle.rolls.specs.Stepping.{after_plain}
 use Rattle.rolls.specs.Told.{number_of}
 use Rattle.rolls.specs.Importing.{or_else, at_record, rows_refusal, after_rows, import_refusal, with_import}
 use Rattle.rolls.specs.Answers.{IsDone, Imports}
 use Rattle.rolls.proofs.NoRefusal.{allowed}
-use Rattle.step_laws.specs.Changes.{put_or_added, changes_of, changes_of_rows, import_changes}
-use Rattle.step_laws.proofs.ImportChanges.{turns_follow, keep_none}
-use Rattle.step_laws.proofs.OneRowTurns.{turns_import}
+use Rattle.rolls.specs.Making.{put_or_added, changes_of}
+use Rattle.step_laws.specs.Changes.{changes_of_rows, import_changes}
+use Rattle.step_laws.proofs.ImportChanges.{keep_none}
+use Rattle.row_lists.proofs.Changes.{turns_follow}
+use Rattle.row_lists.proofs.OneRow.{turns_import}
 use Rattle.office.specs.Inside.Importing.{AreMade}
+use Rattle.office.proofs.ReadAnswers.{no_turns}
+
+-- an import's row is added
+abbrev pub import_added : Import → Change
+import_added i = Add (record { table = ImportTable; cells = import_cells i })
 
 -- all rows but the rest were made, so many of them, and with these changes
 pub record IsUnderWay (rows rest : List Plain) (old now : State) (changes : List Change) (made : ℕ) : Type 0 where
@@ -42,7 +49,7 @@ pub none_made : (rows all : List Plain) (old : State) → all ≡ rows → IsUnd
 none_made rows all old is = record {
   refusal = ap (rows_refusal 1 old) (sym is);
   after = ap (λ (ps : List Plain). after_rows ps old) (sym is);
-  turns = record { fresh = tt; rows = λ k. refl };
+  turns = no_turns old;
   exact = ap (λ (ps : List Plain). changes_of_rows ps old) (sym is);
   counted = let same = ap length is in omega (arith, same);
 }
@@ -65,7 +72,7 @@ module _ (rows left rest : List Plain) (p : Plain) (old now : State) (changes : 
         ∙ ap (λ (k : ℕ). rows_refusal k (after_plain p now) rest) (let one : suc (made + 1) ≡ (made + 1) + 1 = omega arith in one)
         ∙ ap (λ (o : State). rows_refusal ((made + 1) + 1) o rest) (sym is.after);
     after = way.after ∙ ap (λ (ps : List Plain). after_rows ps now) next ∙ ap (after_rows rest) (sym is.after);
-    turns = subst (λ (cs : List Change). Turns cs old new) (sym added) (turns_follow changes done.changes.items old now new way.turns is.changes);
+    turns = subst (λ (cs : List Change). Turns cs old new) (sym added) (turns_follow changes done.changes.items _ _ _ way.turns is.changes);
     exact =
         way.exact
         ∙ ap (λ (ps : List Plain). changes ++ changes_of_rows ps now) next
@@ -93,7 +100,7 @@ something_kept (Some i) n h = refl
 module _ (id : List ℕ) (kind : ImportKind) (bytes : List ℕ) (rows : List Plain) (old : State) where
   -- what changes where a kept import changes nothing
   abbrev unless_kept : Bool → List Change
-  unless_kept b = if b then [] else changes_of_rows rows old ++ change.Add (row.Import id kind bytes (length rows)) ∷ []
+  unless_kept b = if b then [] else changes_of_rows rows old ++ import_added (record { id = id; kind = kind; bytes = bytes; rows = length rows }) ∷ []
 
   -- a kept import changes nothing
   pub kept_unchanged : (n : ℕ) → kept_rows old id ≡ Some n → [] ≡ import_changes id kind bytes rows old
@@ -101,9 +108,9 @@ module _ (id : List ℕ) (kind : ImportKind) (bytes : List ℕ) (rows : List Pla
 
   -- a new one changes what its rows do, and last comes its own row
   pub new_changes : kept_rows old id ≡ None → (mid : State) (changes : List Change) → AreMade rows old mid changes
-      → changes ++ change.Add (row.Import id kind bytes (length rows)) ∷ [] ≡ import_changes id kind bytes rows old
+      → changes ++ import_added (record { id = id; kind = kind; bytes = bytes; rows = length rows }) ∷ [] ≡ import_changes id kind bytes rows old
   new_changes free mid changes made =
-      ap (λ (cs : List Change). cs ++ change.Add (row.Import id kind bytes (length rows)) ∷ []) made.exact
+      ap (λ (cs : List Change). cs ++ import_added (record { id = id; kind = kind; bytes = bytes; rows = length rows }) ∷ []) made.exact
       ∙ sym (ap unless_kept (nothing_kept (import_of old id) free))
 
 module _ (id : List ℕ) (kind : ImportKind) (bytes : List ℕ) (rows : List Plain) (old : State) (passed : first (import_tests old id kind bytes) ≡ None) where
@@ -115,7 +122,7 @@ module _ (id : List ℕ) (kind : ImportKind) (bytes : List ℕ) (rows : List Pla
         allowed = ap (λ (x : Option Refusal). or_else x (if has_import old id then None else rows_refusal 1 old rows)) passed ∙ ap (λ (b : Bool). if b then None else rows_refusal 1 old rows) kept;
         after = sym (ap (λ (b : Bool). if b then old else with_import (record { id = id; kind = kind; bytes = bytes; rows = length rows }) (after_rows rows old)) kept);
         reply = answer ∙ sym (ap (λ (x : Option ℕ). reply.Rows (unwrap_or x (length rows))) is);
-        changes = subst (λ (cs : List Change). Turns cs old old) (sym none) (record { fresh = tt; rows = λ k. refl });
+        changes = subst (λ (cs : List Change). Turns cs old old) (sym none) (no_turns old);
       }
 
   module _ (free : kept_rows old id ≡ None) where
@@ -139,19 +146,20 @@ module _ (id : List ℕ) (kind : ImportKind) (bytes : List ℕ) (rows : List Pla
           ∙ (allowed (import_tests old id kind bytes) passed).1.1.1.0
 
       -- its row is added
-      row_added : (i : Import) → i.id ≡ id → Turns (change.Add (import_row i) ∷ []) mid (with_import i mid)
-      row_added i own = subst (λ (b : Bool). Turns (put_or_added b (import_row i) ∷ []) mid (with_import i mid))
-          (ap (has_import mid) own ∙ ap (λ (is : List Import). is_some (find import_key (of_code id) is)) private_same ∙ private_new) (turns_import i mid)
+      row_added : rises import_key old.imports ≡ true → (i : Import) → i.id ≡ id → Turns (import_added i ∷ []) mid (with_import i mid)
+      row_added rise i own = subst (λ (b : Bool). Turns (put_or_added b (record { table = ImportTable; cells = import_cells i }) ∷ []) mid (with_import i mid))
+          (ap (has_import mid) own ∙ ap (λ (is : List Import). is_some (find import_key (of_code id) is)) private_same ∙ private_new)
+          (turns_import i mid (ap (rises import_key) private_same ∙ rise))
 
       -- all rows were made, and it is kept
-      pub import_made : (new : State) → new ≡ with_import (record { id = id; kind = kind; bytes = bytes; rows = length rows }) mid → (done : Done) → done.reply ≡ reply.Rows (length rows)
-          → done.changes.items ≡ changes ++ change.Add (import_row (record { id = id; kind = kind; bytes = bytes; rows = length rows })) ∷ [] → Imports id kind bytes rows old new (Ok done)
-      import_made new is done answer changed =
+      pub import_made : rises import_key old.imports ≡ true → (new : State) → new ≡ with_import (record { id = id; kind = kind; bytes = bytes; rows = length rows }) mid → (done : Done) → done.reply ≡ reply.Rows (length rows)
+          → done.changes.items ≡ changes ++ import_added (record { id = id; kind = kind; bytes = bytes; rows = length rows }) ∷ [] → Imports id kind bytes rows old new (Ok done)
+      import_made rise new is done answer changed =
           let i : Import = record { id = id; kind = kind; bytes = bytes; rows = length rows } in
           record {
             allowed = rows_decide ∙ made.allowed;
             after = is ∙ ap (with_import i) made.after ∙ sym (ap (λ (b : Bool). if b then old else with_import i (after_rows rows old)) private_new);
             reply = answer ∙ sym (ap (λ (x : Option ℕ). reply.Rows (unwrap_or x (length rows))) free);
             changes = subst (λ (cs : List Change). Turns cs old new) (sym changed)
-                (turns_follow changes (change.Add (import_row i) ∷ []) old mid new made.turns (subst (Turns (change.Add (import_row i) ∷ []) mid) (sym is) (row_added i refl)));
+                (turns_follow changes (import_added i ∷ []) _ _ _ made.turns (subst (Turns (import_added i ∷ []) mid) (sym is) (row_added rise i refl)));
           }

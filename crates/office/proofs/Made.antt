@@ -11,9 +11,9 @@ use Rattle.rolls.specs.Rows.{Turns}
 use Rattle.rolls.specs.Refusing.{plain_refusal}
 use Rattle.rolls.specs.Stepping.{after_plain, plain_reply, with_last}
 use Rattle.rolls.specs.Answers.{IsDone}
-use Rattle.step_laws.specs.Changes.{changes_of}
+use Rattle.rolls.specs.Making.{changes_of}
 use Rattle.step_laws.proofs.StaysFit.{stays_fit}
-use Rattle.step_laws.proofs.PlainTurns.{changes_turn}
+use Rattle.row_lists.proofs.PlainTurns.{changes_turn}
 
 module _ (q : Plain) (inside old : State) (seen : inside ≡ old) (none : plain_refusal old q ≡ None) (fit : IsFit inside) where
   pub made_fit : (new : State) → new ≡ after_plain q old → IsFit new

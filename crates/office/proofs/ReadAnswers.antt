@@ -1,5 +1,6 @@
 -- A read answers, and changes nothing.
-use Rattle.std.proofs.Common.{◌≡◌, [], None, refl, sym, subst}
+use Rattle.std.proofs.Common.{◌≡◌, [], None, sym, subst}
+use Rattle.std.proofs.lemmas.List.Sorted.{IsPermutation-refl}
 use Rattle.rolls.specs.declared.request.Done.{Done}
 use Rattle.rolls.specs.State.{State}
 use Rattle.rolls.specs.Rows.{Turns}
@@ -8,13 +9,17 @@ use Rattle.rolls.specs.Refusing.{plain_refusal}
 use Rattle.rolls.specs.Stepping.{after_plain, plain_reply}
 use Rattle.rolls.specs.Answers.{IsDone}
 
+-- no changes turn no rows
+pub no_turns : (o : State) → Turns [] o o
+no_turns o = record { fresh = tt; rows = λ table. IsPermutation-refl _ }
+
 -- the step of a read
 pub read_done : (q : Plain) (o : State) (done : Done) → plain_refusal o q ≡ None → o ≡ after_plain q o → done.reply ≡ plain_reply q o → done.changes.items ≡ [] → IsDone q o o done
 read_done q o done none after answer unchanged = record {
   allowed = none;
   after = after;
   reply = answer;
-  changes = subst (λ cs. Turns cs o o) (sym unchanged) (record { fresh = tt; rows = λ k. refl });
+  changes = subst (λ cs. Turns cs o o) (sym unchanged) (no_turns o);
 }
 
 -- the same, where the request is named in two ways

@@ -2,9 +2,10 @@
 
 ghost use Rattle.std.specs.Prelude.{◌≡◌, ℕ, List, [], ◌∷◌, IfOk, IsTrue};
 ghost use Rattle.spa.specs.Text.{is_code, is_label};
-ghost use Rattle.step_laws.specs.Changes.{put_or_added};
+ghost use Rattle.rolls.specs.Making.{put_or_added};
+ghost use Rattle.rolls.specs.Rows.{project_cells, student_cells, supervisor_cells};
 
-use rolls::{Change, Project, Row, Student, Supervisor, Text};
+use rolls::{Change, Project, Row, Student, Supervisor, Table, Text};
 use spa::{Code, Label};
 use std::alloc::{AllocError, Global};
 
@@ -58,15 +59,14 @@ pub(crate) fn new_supervisor(
     requires code_form { IsTrue (is_code code) }
     requires label_form { IsTrue (is_label label) }
     ensures made { IfOk result (λ made. made.0 ≡ record { code = code; label = label; quota = quota }) }
-    ensures changes { IfOk result (λ made. let changes = made.1 in changes.items ≡ put_or_added known (Row.Supervisor code label quota) ∷ []) }
+    ensures changes { IfOk result (λ made. let changes = made.1 in changes.items ≡ put_or_added known (record { table = Table.Supervisor; cells = supervisor_cells made.0 }) ∷ []) }
 {
     let supervisor = Supervisor {
         code: code_of(code.as_str()),
         label: label_of(alloc, label.as_str())?,
         quota,
     };
-    let row = Row::Supervisor { code, label, quota };
-    let changes = one_change(alloc, put_or_added(known, row))?;
+    let changes = one_change(alloc, put_or_added(known, supervisor.row(alloc)?))?;
     Ok((supervisor, changes))
 }
 
@@ -83,7 +83,7 @@ pub(crate) fn new_project(
     requires label_form { IsTrue (is_label label) }
     requires supervisor_form { IsTrue (is_code supervisor) }
     ensures made { IfOk result (λ made. made.0 ≡ record { code = code; label = label; supervisor = supervisor; quota = quota }) }
-    ensures changes { IfOk result (λ made. let changes = made.1 in changes.items ≡ put_or_added known (Row.Project code label supervisor quota) ∷ []) }
+    ensures changes { IfOk result (λ made. let changes = made.1 in changes.items ≡ put_or_added known (record { table = Table.Project; cells = project_cells made.0 }) ∷ []) }
 {
     let project = Project {
         code: code_of(code.as_str()),
@@ -91,13 +91,7 @@ pub(crate) fn new_project(
         supervisor: code_of(supervisor.as_str()),
         quota,
     };
-    let row = Row::Project {
-        code,
-        label,
-        supervisor,
-        quota,
-    };
-    let changes = one_change(alloc, put_or_added(known, row))?;
+    let changes = one_change(alloc, put_or_added(known, project.row(alloc)?))?;
     Ok((project, changes))
 }
 
@@ -111,13 +105,12 @@ pub(crate) fn new_student(
     requires code_form { IsTrue (is_code code) }
     requires label_form { IsTrue (is_label label) }
     ensures made { IfOk result (λ made. made.0 ≡ record { code = code; label = label }) }
-    ensures changes { IfOk result (λ made. let changes = made.1 in changes.items ≡ put_or_added known (Row.Student code label) ∷ []) }
+    ensures changes { IfOk result (λ made. let changes = made.1 in changes.items ≡ put_or_added known (record { table = Table.Student; cells = student_cells made.0 }) ∷ []) }
 {
     let student = Student {
         code: code_of(code.as_str()),
         label: label_of(alloc, label.as_str())?,
     };
-    let row = Row::Student { code, label };
-    let changes = one_change(alloc, put_or_added(known, row))?;
+    let changes = one_change(alloc, put_or_added(known, student.row(alloc)?))?;
     Ok((student, changes))
 }

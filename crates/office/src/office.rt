@@ -14,8 +14,8 @@ ghost use Rattle.rolls.specs.State.{State, empty};
 ghost use Rattle.rolls.specs.Fit.{IsFit};
 ghost use Rattle.rolls.specs.Refusing.{first, plain_refusal, refusal_of, round_tests};
 ghost use Rattle.rolls.specs.Answers.{Answers, IsDone};
-ghost use Rattle.rolls.specs.From.{AreRowsOf};
-ghost use Rattle.step_laws.specs.Changes.{changes_of};
+ghost use Rattle.rolls.specs.Rows.{AreRowsOf};
+ghost use Rattle.rolls.specs.Making.{changes_of};
 ghost use Rattle.from_rows.specs.View.{drafted};
 
 use from_rows::{PartialOffice, RowsFault, gather};

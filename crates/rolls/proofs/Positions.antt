@@ -19,7 +19,7 @@ use Rattle.rolls.specs.Inside.Counted.{ArePositions, IsOffRoll}
 use Rattle.rolls.proofs.EntryChange.{same_code, all_weaker}
 use Rattle.rolls.proofs.Found.{found_key}
 use Rattle.rolls.proofs.Places.{find_below}
-use Rattle.rolls.proofs.RowKeys.{same_bytes, bytes_self}
+use Rattle.rolls.proofs.EntryChange.{same_bytes, bytes_self}
 
 module _ {E : Type 0} (key : E → Key) (code : E → List ℕ) (coded : (e : E) → key e ≡ (0, code e)) where
   one_itself : (e : E) → same_key (0, code e) (key e) ≡ true

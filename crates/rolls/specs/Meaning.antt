@@ -9,31 +9,25 @@ use Rattle.rolls.specs.declared.request.Reply.TheVariants as reply
 use Rattle.rolls.specs.declared.request.Plain.{Plain}
 use Rattle.rolls.specs.declared.request.Plain.TheVariants.{PutSupervisor, PutProject, PutStudent, OpenRound, PutList, DropList, ReopenRound, GetSupervisor, GetProject, GetStudent, GetRound}
 use Rattle.rolls.specs.Roll.{of_code, put, take_out}
-use Rattle.rolls.specs.State.{State, supervisor_key, project_key, student_key, list_key, supervisor_of, project_of, student_of, aim_of, placement_of, has_supervisor, has_project, has_student, has_list, last_round, is_open, lists_of, open_choices, placed_in_project, placed_with_supervisor, placed_in_round, placed_at_rank}
-use Rattle.rolls.specs.declared.row.Row.TheVariants as row
-use Rattle.rolls.specs.declared.row.Change.{Change}
-use Rattle.rolls.specs.declared.row.Change.TheVariants as change
-use Rattle.rolls.specs.Making.{put_or_added, list_changes, opening_changes, reopening_changes}
+use Rattle.rolls.specs.State.{State, supervisor_key, project_key, student_key, list_key, supervisor_of, project_of, student_of, aim_of, placement_of, has_supervisor, has_project, has_student, last_round, is_open, lists_of, open_choices, placed_in_project, placed_with_supervisor, placed_in_round, placed_at_rank}
 use Rattle.rolls.specs.Tests.{supervisor_tests, project_tests, student_tests, opening_tests, list_tests, drop_tests, reopening_tests, round_tests}
 use Rattle.rolls.specs.Moves.{with_last, after_opening, after_reopening, list_fate, by_rank, answer_of}
 
--- By what it is judged, what it makes of an office, what it answers, what it changes in the tables, what becomes of a session,
--- and whether it only reads.
+-- By what it is judged, what it makes of an office, what it answers, what becomes of a session, and whether it only reads.
 pub record Meaning : Type 0 where
   pub tests : State → List (Bool × Refusal)
   pub after : State → State
   pub reply : State → Reply
-  pub changes : State → List Change
   pub fate : State → Fate
   pub reads : Bool
 
 -- one that changes the office
-abbrev pub changing : (State → List (Bool × Refusal)) → (State → State) → (State → Reply) → (State → List Change) → (State → Fate) → Meaning
-changing tests after reply changes fate = record { tests = tests; after = after; reply = reply; changes = changes; fate = fate; reads = false }
+abbrev pub changing : (State → List (Bool × Refusal)) → (State → State) → (State → Reply) → (State → Fate) → Meaning
+changing tests after reply fate = record { tests = tests; after = after; reply = reply; fate = fate; reads = false }
 
 -- one that only reads
 abbrev pub reading : (State → List (Bool × Refusal)) → (State → Reply) → Meaning
-reading tests reply = record { tests = tests; after = λ o. o; reply = reply; changes = λ o. []; fate = λ o. Stays; reads = true }
+reading tests reply = record { tests = tests; after = λ o. o; reply = reply; fate = λ o. Stays; reads = true }
 
 -- each request's; a put makes its key's entry the request's value
 abbrev pub meaning : Plain → Meaning
@@ -42,40 +36,35 @@ meaning (PutSupervisor code label quota) =
     (λ o. supervisor_tests o code label quota)
     (λ o. record o { supervisors = put supervisor_key (record { code = code; label = label; quota = quota }) o.supervisors })
     (λ o. reply.Done)
-    (λ o. put_or_added (has_supervisor o code) (row.Supervisor code label quota) ∷ [])
     (λ o. Ends)
 meaning (PutProject code label supervisor quota) =
     changing
     (λ o. project_tests o code label supervisor quota)
     (λ o. record o { projects = put project_key (record { code = code; label = label; supervisor = supervisor; quota = quota }) o.projects })
     (λ o. reply.Done)
-    (λ o. put_or_added (has_project o code) (row.Project code label supervisor quota) ∷ [])
     (λ o. Ends)
 meaning (PutStudent code label) =
     changing
     (λ o. student_tests o code label)
     (λ o. record o { students = put student_key (record { code = code; label = label }) o.students })
     (λ o. reply.Done)
-    (λ o. put_or_added (has_student o code) (row.Student code label) ∷ [])
     (λ o. Stays)
 meaning (OpenRound aim) =
-    changing opening_tests (after_opening aim) (λ o. reply.Opened (last_round o + 1)) (λ o. opening_changes (last_round o + 1) aim) (λ o. Ends)
+    changing opening_tests (after_opening aim) (λ o. reply.Opened (last_round o + 1)) (λ o. Ends)
 meaning (PutList student choices) =
     changing
     (λ o. list_tests o student choices)
     (with_last (λ r. record r { lists = put list_key (record { student = student; choices = choices }) r.lists }))
     (λ o. reply.Done)
-    (λ o. list_changes (last_round o) student (has_list o (last_round o) student) choices)
     (λ o. list_fate o student)
 meaning (DropList student) =
     changing
     (λ o. drop_tests o student)
     (with_last (λ r. record r { lists = take_out list_key (of_code student) r.lists }))
     (λ o. reply.Done)
-    (λ o. change.TakeList (last_round o) student ∷ [])
     (λ o. Ends)
 meaning ReopenRound =
-    changing reopening_tests after_reopening (λ o. reply.Opened (last_round o)) (λ o. reopening_changes (last_round o)) (λ o. Ends)
+    changing reopening_tests after_reopening (λ o. reply.Opened (last_round o)) (λ o. Ends)
 meaning (GetSupervisor code) =
     reading
     (λ o. (not (has_supervisor o code), no.UnknownSupervisor) ∷ [])

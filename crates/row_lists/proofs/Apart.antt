@@ -11,18 +11,18 @@ use Rattle.sqlite_keyed.proofs.ListLemmas.{IsPermutation-filter, none_counted, a
 use Rattle.row_data.specs.declared.cell.Cell.TheVariants.{Number}
 use Rattle.row_data.specs.declared.table.Table.{Table}
 use Rattle.row_data.specs.declared.table.Table.TheVariants.{Supervisor, Project, Student, Round, Import, RoundAim, Choice, Placement}
+use Rattle.row_data.specs.Rows.{Cells, begins, keyed, key_in}
 use Rattle.rolls.specs.Roll.{Key, same_key, find, rises}
 use Rattle.rolls.specs.State.{State, supervisor_key, project_key, student_key, round_key, aim_key, placement_key, import_key, choices_in}
 use Rattle.rolls.specs.Fit.{IsFit}
-use Rattle.rolls.proofs.RowKeys.{bytes_self}
-use Rattle.rolls.proofs.RowsDetermine.{fit_shaped}
-use Rattle.step_laws.proofs.RowsLeft.{code_test}
-use Rattle.row_lists.specs.Rows.{Cells, begins, keyed, key_in, choice_rows, list_rows, rows_of_round, supervisor_cells, project_cells, student_cells, round_cells, aim_cells, placement_cells, import_cells}
-use Rattle.row_lists.specs.From.{AreApart}
+use Rattle.rolls.specs.Rows.{choice_rows, list_rows, rows_of_round, supervisor_cells, project_cells, student_cells, round_cells, aim_cells, placement_cells, import_cells}
+use Rattle.rolls.proofs.EntryChange.{bytes_self}
+use Rattle.rolls.proofs.Shaped.{fit_shaped}
+use Rattle.row_lists.specs.Apart.{AreApart}
 use Rattle.row_lists.specs.Laws.{RowsApart}
 use Rattle.row_lists.proofs.Keyed.{begins_both, begins_self}
 use Rattle.row_lists.proofs.Changes.{AreFree}
-use Rattle.row_lists.proofs.Rounds.{number_test}
+use Rattle.row_lists.proofs.KeyTests.{number_test, code_test}
 use Rattle.row_lists.proofs.Lists.{head, choice_key}
 use Rattle.row_lists.proofs.Choices.{picked, placed, place_key, placed_rise, choice_row, as_placed, rows_are}
 
@@ -57,7 +57,7 @@ choice_once : (o : State) → IsFit o → (n : ℕ) (s : List ℕ) (p : ℕ) →
 choice_once o fit n s p =
     subst (λ xs. length xs ≤ 1)
     (sym (sym (filter-filter (begins (choice_key n s p)) (begins (head n s)) (λ row h. first_so _ _ (sym (begins_both (head n s) (Number p ∷ []) row) ∙ h)) (flat_map rows_of_round o.rounds))
-    ∙ ap (filter (begins (choice_key n s p))) (rows_are n s o fit ∙ as_placed n s 1 (choices_in o n s))))
+    ∙ ap (filter (begins (choice_key n s p))) (rows_are n s o (fit_shaped o fit) ∙ as_placed n s 1 (choices_in o n s))))
     (one_picked place_key (choice_row n s) (p, []) (begins (choice_key n s p)) (place_tells n s p) (placed 1 (choices_in o n s)) (placed_rise 1 (choices_in o n s)))
 
 choices_apart : (o : State) → IsFit o → AreApart Choice (flat_map rows_of_round o.rounds)

@@ -1,15 +1,16 @@
 -- Changes one after another: what a change makes of rows in one order it makes of them in any other, and so it is with what is new among them.
-use Rattle.std.proofs.Common.{◌≡◌, Bool, true, false, not, cond, drop, List, [], ◌∷◌, ◌++◌, map, refl, sym, ap, subst, ◌∙◌}
+use Rattle.std.proofs.Common.{◌≡◌, Bool, true, false, not, cond, List, [], ◌∷◌, ◌++◌, map, refl, sym, ap, subst, ◌∙◌}
 use Rattle.std.specs.Prelude.{IsPermutation}
 use Rattle.std.specs.List.{list_any}
-use Rattle.std.proofs.lemmas.List.{map-append}
-use Rattle.std.proofs.lemmas.List.Sorted.{IsPermutation-cons, IsPermutation-sym, IsPermutation-trans, IsPermutation-middle, list_any-IsPermutation}
+use Rattle.std.proofs.lemmas.List.Sorted.{IsPermutation-refl, IsPermutation-cons, IsPermutation-sym, IsPermutation-trans, IsPermutation-middle, list_any-IsPermutation}
 use Rattle.sqlite_keyed.proofs.ListLemmas.{IsPermutation-filter}
 use Rattle.row_data.specs.declared.table.Table.{Table}
-use Rattle.row_lists.specs.Rows.{AllRows, SameRows, Cells, Change, Put, Add, Remove, begins, key_in, makes, same_table, changed, after_change, after_changes, IsFresh, AreFresh, Turns, rows_in}
-use Rattle.row_lists.specs.Made.{made}
-use Rattle.row_lists.specs.Laws.{TurnsFollow, OfficesFollow}
-use Rattle.row_lists.proofs.Tables.{same_table_is, same_table_self}
+use Rattle.row_data.specs.declared.row.Change.{Change}
+use Rattle.row_data.specs.declared.row.Change.TheVariants.{Put, Add, Remove}
+use Rattle.row_data.specs.Rows.{AllRows, SameRows, Cells, begins, key_in, same_table}
+use Rattle.row_data.specs.Changes.{is_in_part, makes, changed, after_change, after_changes, IsFresh, AreFresh, TurnsRows}
+use Rattle.row_data.proofs.Tables.{same_table_is, same_table_self}
+use Rattle.row_lists.specs.Laws.{TurnsFollow}
 use Rattle.row_lists.proofs.Same.{from_same}
 
 -- ---- rows in another order
@@ -18,7 +19,7 @@ use Rattle.row_lists.proofs.Same.{from_same}
 same_made : (c : Change) (xs ys : List Cells) → IsPermutation xs ys → IsPermutation (makes c xs) (makes c ys)
 same_made (Put r) xs ys h = IsPermutation-cons r.cells _ _ (IsPermutation-filter (λ row. not (begins (key_in r.table r.cells) row)) xs ys h)
 same_made (Add r) xs ys h = IsPermutation-cons r.cells xs ys h
-same_made (Remove p) xs ys h = IsPermutation-filter (λ row. not (begins p.cells (drop p.before row))) xs ys h
+same_made (Remove p) xs ys h = IsPermutation-filter (λ row. not (is_in_part p row)) xs ys h
 
 -- of the rows of all tables
 same_change : (c : Change) (rows others : AllRows) → SameRows rows others → SameRows (after_change c rows) (after_change c others)
@@ -55,6 +56,10 @@ pub fresh_both : (cs ds : List Change) (rows : AllRows) → AreFresh cs rows →
 fresh_both [] ds rows first second = second
 fresh_both (c ∷ cs) ds rows first second = (first.0, fresh_both cs ds (after_change c rows) first.1 second)
 
+-- no change turns no row
+pub nothing_turns : (rows : AllRows) → TurnsRows [] rows rows
+nothing_turns rows = record { fresh = tt; rows = λ table. IsPermutation-refl _ }
+
 pub turns_follow : TurnsFollow
 turns_follow cs ds old mid new first second = record {
   fresh = fresh_both cs ds old first.fresh (all_fresh ds mid (after_changes cs old) (λ table. IsPermutation-sym _ _ (first.rows table)) second.fresh);
@@ -62,10 +67,6 @@ turns_follow cs ds old mid new first second = record {
       from_same (ap (λ (rows : AllRows). rows table) (after_both cs ds old))
       (IsPermutation-trans _ _ _ (same_changes ds (after_changes cs old) mid first.rows table) (second.rows table));
 }
-
-pub offices_follow : OfficesFollow
-offices_follow cs ds o m n first second =
-    subst (λ es. Turns es (rows_in o) (rows_in n)) (sym (map-append made cs ds)) (turns_follow (map made cs) (map made ds) (rows_in o) (rows_in m) (rows_in n) first second)
 
 -- ---- changes of one table
 
@@ -90,7 +91,7 @@ pub change_elsewhere : (c : Change) (rows : AllRows) (table : Table) → same_ta
 change_elsewhere c rows table other = ap (λ b. cond b (makes c (rows table)) (rows table)) other
 
 -- so a change turns rows where it makes of those of its table what is wanted there
-pub one_turns : (c : Change) (old new : AllRows) → IsFresh c old → IsPermutation (makes c (old (changed c))) (new (changed c)) → SameElsewhere (changed c) old new → Turns (c ∷ []) old new
+pub one_turns : (c : Change) (old new : AllRows) → IsFresh c old → IsPermutation (makes c (old (changed c))) (new (changed c)) → SameElsewhere (changed c) old new → TurnsRows (c ∷ []) old new
 one_turns c old new fresh here elsewhere = record {
   fresh = (fresh, tt);
   rows = by_table (λ table. IsPermutation (after_change c old table) (new table)) (changed c)
@@ -109,7 +110,7 @@ AreFree t (r ∷ new) rows = (list_any (begins (key_in t r)) rows ≡ false) × 
 abbrev pub add : Table → Cells → Change
 add t cells = Add (record { table = t; cells = cells })
 
-pub added_turns : (t : Table) (new : List Cells) (old after : AllRows) → AreFree t new (old t) → IsPermutation (new ++ old t) (after t) → SameElsewhere t old after → Turns (map (add t) new) old after
+pub added_turns : (t : Table) (new : List Cells) (old after : AllRows) → AreFree t new (old t) → IsPermutation (new ++ old t) (after t) → SameElsewhere t old after → TurnsRows (map (add t) new) old after
 added_turns t [] old after free here elsewhere = record { fresh = tt; rows = by_table (λ table. IsPermutation (old table) (after table)) t here elsewhere }
 added_turns t (r ∷ new) old after free here elsewhere =
     let more : AllRows = after_change (add t r) old in

@@ -11,17 +11,17 @@ use Rattle.std.proofs.lemmas.List.{map-id}
 use Rattle.std.proofs.lemmas.List.Elements.{filter-append}
 use Rattle.sqlite_keyed.proofs.ListLemmas.{filter_none, IsPermutation-flat_map, IsPermutation-filter}
 use Rattle.row_data.specs.declared.cell.Cell.TheVariants.{Text, Number}
+use Rattle.row_data.specs.Rows.{Cells, begins}
 use Rattle.rolls.specs.declared.rounds.Round.{Round as RoundEntry}
 use Rattle.rolls.specs.declared.rounds.Listed.{Listed}
 use Rattle.rolls.specs.Roll.{Key, same_key, find, is_below, rises}
 use Rattle.rolls.specs.State.{State, round_key, list_key, round_of, choices_in}
-use Rattle.rolls.specs.Fit.{IsFit}
+use Rattle.rolls.specs.Rows.{choice_cells, choice_rows, list_rows, rows_of_round}
 use Rattle.rolls.proofs.EntryChange.{is_equal}
 use Rattle.rolls.proofs.Found.{found_key}
-use Rattle.rolls.proofs.LastRound.{rounds_rise}
 use Rattle.rolls.proofs.Places.{find_below}
 use Rattle.rolls.proofs.Same.{keys_exact}
-use Rattle.row_lists.specs.Rows.{Cells, begins, choice_rows, list_rows, rows_of_round}
+use Rattle.rolls.proofs.Shaped.{IsShaped}
 use Rattle.row_lists.proofs.Keyed.{filter_alike}
 use Rattle.row_lists.proofs.Found.{same_self, entries_same}
 use Rattle.row_lists.proofs.Lists.{head, own_begin, others_begin}
@@ -77,7 +77,7 @@ chosen n (c ∷ cs) = ap (λ xs. c ∷ xs) (chosen (suc n) cs)
 module _ (round : ℕ) (student : List ℕ) where
   -- the row of a choice at its place
   abbrev pub choice_row : ℕ × List ℕ → Cells
-  choice_row p = Number round ∷ Text student ∷ Number p.0 ∷ Text p.1 ∷ []
+  choice_row p = choice_cells round student p.0 p.1
 
   -- which gives it back
   choice_of : Cells → Option (ℕ × List ℕ)
@@ -123,8 +123,8 @@ module _ (n : ℕ) (s : List ℕ) where
   own l = filter_alike picks (same_key (0, s) (list_key l)) (list_rows n l) (own_begin n s l)
 
   -- an office's rows that begin so are those of what the student lists in the round
-  pub rows_are : (o : State) → IsFit o → filter picks (flat_map rows_of_round o.rounds) ≡ choice_rows n s 1 (choices_in o n s)
-  rows_are o fit = picked round_key rows_of_round (n, []) picks (λ r other. filter_none picks (rows_of_round r) (others_begin n s r other)) o.rounds (rounds_rise o fit.numbered) ∙ in_round (round_of o n) refl
+  pub rows_are : (o : State) → IsShaped o → filter picks (flat_map rows_of_round o.rounds) ≡ choice_rows n s 1 (choices_in o n s)
+  rows_are o shaped = picked round_key rows_of_round (n, []) picks (λ r other. filter_none picks (rows_of_round r) (others_begin n s r other)) o.rounds shaped.rounds_rise ∙ in_round (round_of o n) refl
     where
       of_list : (ls : List Listed) (x : Option Listed) → find list_key (0, s) ls ≡ x → option_map_or (λ l. filter picks (list_rows n l)) x [] ≡ choice_rows n s 1 (option_map_or (λ (l : Listed). l.choices) x [])
       of_list ls None is = refl
@@ -136,12 +136,12 @@ module _ (n : ℕ) (s : List ℕ) where
       in_round None is = refl
       in_round (Some r) is =
           let same : (n, []) ≡ round_key r = found_key round_key (n, []) o.rounds r is in
-          let rise : rises list_key r.lists ≡ true = subst (λ (x : Option RoundEntry). rises list_key (option_map_or (λ r. r.lists) x []) ≡ true) is (fit.lists_rise n) in
+          let rise : rises list_key r.lists ≡ true = subst (λ (x : Option RoundEntry). rises list_key (option_map_or (λ r. r.lists) x []) ≡ true) is (shaped.lists_rise n) in
           ap (λ (q : Key). filter picks (flat_map (list_rows q.0) r.lists)) (sym same)
           ∙ picked list_key (list_rows n) (0, s) picks (λ l other. own l ∙ ap (λ b. cond b (list_rows n l) []) other) r.lists rise ∙ of_list r.lists (find list_key (0, s) r.lists) refl
 
 -- offices with the same rows of choices have the same choices
-pub same_choices : (o m : State) → IsFit o → IsFit m → IsPermutation (flat_map rows_of_round o.rounds) (flat_map rows_of_round m.rounds) → (n : ℕ) (s : List ℕ) → choices_in o n s ≡ choices_in m n s
+pub same_choices : (o m : State) → IsShaped o → IsShaped m → IsPermutation (flat_map rows_of_round o.rounds) (flat_map rows_of_round m.rounds) → (n : ℕ) (s : List ℕ) → choices_in o n s ≡ choices_in m n s
 same_choices o m fo fm same n s =
     choices_same n s _ _
     (from_same (sym (rows_are n s o fo)) (to_same (IsPermutation-filter (picks n s) _ _ same) (rows_are n s m fm)))

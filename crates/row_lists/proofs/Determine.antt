@@ -1,7 +1,8 @@
 -- The rows of an office determine it: those of one row each give back their entries, a round is what its row says with its lists, and a list is
 -- what its student lists, since it has choices.
 use Rattle.std.proofs.Common.{◌≡◌, ℕ, ◌≤◌, true, false, cond, List, [], ◌∷◌, map, length, Option, Some, None, refl, sym, ap, subst, ◌∙◌, arith, Bool}
-use Rattle.std.specs.Prelude.{◌==◌}
+use Rattle.std.specs.Prelude.{◌==◌, ◌&&◌}
+use Rattle.std.specs.Ordering.{is_lt}
 use Rattle.std.specs.List.{AllByRecursion}
 use Rattle.std.specs.Option.{option_map_or}
 use Rattle.std.specs.Str.{bytes_eq}
@@ -9,6 +10,7 @@ use Rattle.spa.specs.declared.aim.Aim.{Aim}
 use Rattle.spa.specs.declared.aim.Aim.TheVariants.{Greedy, Generous}
 use Rattle.row_data.specs.declared.cell.Cell.TheVariants.{Text, Number, Bytes}
 use Rattle.row_data.specs.declared.table.Table.TheVariants.{Supervisor, Project, Student, Round, Import, RoundAim, Choice, Placement}
+use Rattle.row_data.specs.Rows.{Cells, SameRows}
 use Rattle.rolls.specs.declared.entries.Supervisor.{Supervisor as SupervisorEntry}
 use Rattle.rolls.specs.declared.entries.Project.{Project as ProjectEntry}
 use Rattle.rolls.specs.declared.entries.Student.{Student as StudentEntry}
@@ -20,13 +22,12 @@ use Rattle.rolls.specs.declared.import.Import.{Import as ImportEntry}
 use Rattle.rolls.specs.declared.import.ImportKind.{ImportKind}
 use Rattle.rolls.specs.declared.import.ImportKind.TheVariants.{Supervisors, Projects, Students, Lists}
 use Rattle.rolls.specs.Kinds.{word_of}
-use Rattle.rolls.specs.Roll.{Key, find}
+use Rattle.rolls.specs.Roll.{Key, key_cmp, find, is_below, rises}
 use Rattle.rolls.specs.State.{State, supervisor_key, project_key, student_key, round_key, list_key, aim_key, placement_key, import_key, lists_of, choices_in}
+use Rattle.rolls.specs.Rows.{is_generous, rows_in, supervisor_cells, project_cells, student_cells, round_cells, aim_cells, placement_cells, import_cells}
 use Rattle.rolls.proofs.Found.{found_key, holds_of_found}
 use Rattle.rolls.proofs.Same.{same_found}
-use Rattle.rolls.proofs.RowsDetermine.{IsShaped, fit_shaped}
-use Rattle.closing.proofs.Entries.{rises_made}
-use Rattle.row_lists.specs.Rows.{is_generous, Cells, supervisor_cells, project_cells, student_cells, round_cells, aim_cells, placement_cells, import_cells}
+use Rattle.rolls.proofs.Shaped.{IsShaped, fit_shaped}
 use Rattle.row_lists.specs.Laws.{RowsGiveOffice}
 use Rattle.row_lists.proofs.Found.{StandsIn, each_found, entries_same, by_found}
 use Rattle.row_lists.proofs.Choices.{rows_give, rows_same, same_choices}
@@ -119,6 +120,18 @@ list_is ls s some = by (find list_key (0, s) ls) refl
         of_some l l.choices refl (holds_of_found list_key (λ l. 1 ≤ length l.choices) (0, s) ls l some is)
         ∙ ap (λ (k : Key). list_of_choices k.1 l.choices) (sym (found_key list_key (0, s) ls l is))
 
+-- ---- keys that rise
+
+module _ {E D : Type 0} (key : E → Key) (keyed : D → Key) (made : E → D) (same : (e f : E) → key_cmp (keyed (made e)) (keyed (made f)) ≡ key_cmp (key e) (key f)) where
+  below_made : (e : E) (es : List E) → is_below keyed (keyed (made e)) (map made es) ≡ is_below key (key e) es
+  below_made e [] = refl
+  below_made e (f ∷ es) = λ i. is_lt (same e f i) && below_made e es i
+
+  -- what is made of entries rises as they do
+  pub rises_made : (es : List E) → rises keyed (map made es) ≡ rises key es
+  rises_made [] = refl
+  rises_made (e ∷ es) = λ i. below_made e es i && rises_made es i
+
 -- ---- an office
 
 module _ (o m : State) (fo : IsShaped o) (fm : IsShaped m) (same : (n : ℕ) (s : List ℕ) → choices_in o n s ≡ choices_in m n s) where
@@ -138,17 +151,12 @@ filled : (o : State) (rs : List RoundEntry) → AllByRecursion (StandsIn round_k
 filled o [] all = refl
 filled o (r ∷ rs) all = λ i. record r { lists = sym (ap (λ (x : Option RoundEntry). option_map_or (λ r. r.lists) x []) all.0) i } ∷ filled o rs all.1 i
 
-pub rows_determine : RowsGiveOffice
+-- offices of this shape with the same rows are one
+pub shaped_determine : (o m : State) → IsShaped o → IsShaped m → SameRows (rows_in o) (rows_in m) → o ≡ m
 unfolding supervisor_in project_in student_in placement_in
-rows_determine o m fit_o fit_m same =
+shaped_determine o m fo fm same =
     λ i. record { supervisors = supervisors i; projects = projects i; students = students i; rounds = rounds i; aims = aims i; placements = placements i; imports = imports i }
   where
-    fo : IsShaped o
-    fo = fit_shaped o fit_o
-
-    fm : IsShaped m
-    fm = fit_shaped m fit_m
-
     supervisors : o.supervisors ≡ m.supervisors
     supervisors = entries_same supervisor_key _ _ fo.supervisors_rise fm.supervisors_rise (rows_same supervisor_cells supervisor_in (λ e. refl) _ _ (same Supervisor))
 
@@ -168,7 +176,7 @@ rows_determine o m fit_o fit_m same =
     imports = entries_same import_key _ _ fo.imports_rise fm.imports_rise (rows_same import_cells import_in import_back _ _ (same Import))
 
     choices : (n : ℕ) (s : List ℕ) → choices_in o n s ≡ choices_in m n s
-    choices = same_choices o m fit_o fit_m (same Choice)
+    choices = same_choices o m fo fm (same Choice)
 
     lists : (n : ℕ) → lists_of o n ≡ lists_of m n
     lists n = same_found list_key _ _ (fo.lists_rise n) (fm.lists_rise n) (λ q. by_found list_key _ _ (list_too o m fo fm choices n q) (list_too m o fm fo (λ n s. sym (choices n s)) n q))
@@ -182,3 +190,6 @@ rows_determine o m fit_o fit_m same =
     rounds =
         filled o o.rounds (each_found round_key o.rounds fo.rounds_rise) ∙ ap (map (with_lists o)) bares
         ∙ (λ i. map (λ (r : RoundEntry). record r { lists = lists r.number i }) (map bare m.rounds)) ∙ sym (filled m m.rounds (each_found round_key m.rounds fm.rounds_rise))
+
+pub rows_determine : RowsGiveOffice
+rows_determine o m fit_o fit_m same = shaped_determine o m (fit_shaped o fit_o) (fit_shaped m fit_m) same

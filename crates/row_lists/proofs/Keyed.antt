@@ -13,12 +13,12 @@ use Rattle.std.proofs.lemmas.List.Sorted.{IsPermutation-refl, IsPermutation-sym,
 use Rattle.sqlite_keyed.proofs.ListLemmas.{IsPermutation-same, filter-map, filter_same, filter_all, filter_none, all_weaker, any_from_none}
 use Rattle.row_data.specs.declared.cell.Cell.{Cell}
 use Rattle.row_data.specs.declared.cell.Cell.TheVariants.{Text, Number, Bytes}
+use Rattle.row_data.specs.Rows.{Cells, begins, same_cell}
 use Rattle.rolls.specs.Roll.{Key, key_cmp, same_key, by_order, find, has, put, put_all, take_out, is_below, rises}
 use Rattle.rolls.proofs.EntryChange.{find-put, is_equal}
 use Rattle.rolls.proofs.Places.{below_all, find_below, rises-put}
-use Rattle.rolls.proofs.RowKeys.{bytes_self}
+use Rattle.rolls.proofs.EntryChange.{bytes_self}
 use Rattle.rolls.proofs.Same.{keys_exact}
-use Rattle.row_lists.specs.Rows.{Cells, begins, same_cell}
 
 module _ {E : Type 0} (key : E → Key) where
   -- an entry stays unless it has the key

@@ -1,16 +1,12 @@
-pub mod Tables
 pub mod Same
+pub mod KeyTests
 pub mod Keyed
 pub mod Changes
 pub mod OneRow
 pub mod Rounds
 pub mod Lists
 pub mod PlainTurns
-pub mod Closing
 pub mod Found
-pub mod Renamed
 pub mod Choices
 pub mod Apart
-pub mod Upgrading
-pub mod Renewing
 pub mod Determine

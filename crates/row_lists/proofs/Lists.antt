@@ -11,21 +11,23 @@ use Rattle.std.proofs.lemmas.List.Sorted.{IsPermutation-refl, IsPermutation-sym,
 use Rattle.sqlite_keyed.proofs.ListLemmas.{all-flat_map, all_of, filter_all, IsPermutation-flat_map, IsPermutation-filter, all_weaker, none_from_any, any_from_none}
 use Rattle.row_data.specs.declared.cell.Cell.TheVariants.{Text, Number}
 use Rattle.row_data.specs.declared.table.Table.TheVariants.{Round, Choice}
+use Rattle.row_data.specs.declared.row.Change.TheVariants.{Remove}
+use Rattle.row_data.specs.declared.row.Change.{Change}
+use Rattle.row_data.specs.Rows.{AllRows, Cells, begins}
+use Rattle.row_data.specs.Changes.{after_change, TurnsRows}
 use Rattle.rolls.specs.declared.rounds.Round.{Round as RoundEntry}
 use Rattle.rolls.specs.declared.rounds.Listed.{Listed}
-use Rattle.rolls.specs.declared.row.Change.TheVariants as change
 use Rattle.rolls.specs.Roll.{same_key, find, take_out, put, rises}
 use Rattle.rolls.specs.State.{State, round_key, list_key, last_round, round_of, has_list, is_open}
 use Rattle.rolls.specs.Fit.{IsFit}
 use Rattle.rolls.specs.Stepping.{with_last}
+use Rattle.rolls.specs.Making.{list_part, list_changes, choices_added}
+use Rattle.rolls.specs.Rows.{choice_cells, choice_rows, list_rows, rows_of_round, rows_in, round_cells, Turns}
 use Rattle.rolls.proofs.LastRound.{has_reading}
-use Rattle.step_laws.specs.Changes.{list_changes, choices_added}
-use Rattle.step_laws.proofs.RowsLeft.{code_test}
-use Rattle.row_lists.specs.Rows.{AllRows, Cells, Change, begins, choice_rows, list_rows, rows_of_round, rows_in, round_cells, after_change, Turns}
-use Rattle.row_lists.specs.Made.{made, TurnsLists}
+use Rattle.row_lists.proofs.KeyTests.{and_true, number_test, code_test}
 use Rattle.row_lists.proofs.Keyed.{none_taken, rows_left, rows_stay, filter_alike, none_left, begins_both}
 use Rattle.row_lists.proofs.Changes.{SameElsewhere, AreFree, add, added_turns, change_elsewhere}
-use Rattle.row_lists.proofs.Rounds.{and_true, number_test, put_last, number, old_beside, new_beside, same_rows}
+use Rattle.row_lists.proofs.Rounds.{put_last, number, old_beside, new_beside, same_rows}
 use Rattle.row_lists.proofs.Same.{from_same, to_same}
 
 -- ---- the rows of a list
@@ -79,11 +81,11 @@ none_at n s p rows h =
     rows (none_from_any (begins (head n s)) rows h))
 
 -- a row of another place has not the key
-other_place : (n : ℕ) (s : List ℕ) (p q : ℕ) (c : List ℕ) → (p ≡ q → ⊥) → begins (choice_key n s p) (Number n ∷ Text s ∷ Number q ∷ Text c ∷ []) ≡ false
+other_place : (n : ℕ) (s : List ℕ) (p q : ℕ) (c : List ℕ) → (p ≡ q → ⊥) → begins (choice_key n s p) (choice_cells n s q c) ≡ false
 other_place n s p q c other =
-    begins_both (head n s) (Number p ∷ []) (Number n ∷ Text s ∷ Number q ∷ Text c ∷ [])
-    ∙ ap (λ b. begins (head n s) (Number n ∷ Text s ∷ Number q ∷ Text c ∷ []) && (b && true)) (false_from_ne_true (p == q) (λ h. other (eqb-true p q h)))
-    ∙ and_false (begins (head n s) (Number n ∷ Text s ∷ Number q ∷ Text c ∷ []))
+    begins_both (head n s) (Number p ∷ []) (choice_cells n s q c)
+    ∙ ap (λ b. begins (head n s) (choice_cells n s q c) && (b && true)) (false_from_ne_true (p == q) (λ h. other (eqb-true p q h)))
+    ∙ and_false (begins (head n s) (choice_cells n s q c))
   where
     and_false : (b : Bool) → (b && false) ≡ false
     and_false true = refl
@@ -94,14 +96,14 @@ choices_free : (n : ℕ) (s : List ℕ) (place : ℕ) (cs : List (List ℕ)) (ro
 choices_free n s place [] rows none = tt
 choices_free n s place (c ∷ cs) rows none = (
   none place (omega arith),
-  choices_free n s (suc place) cs ((Number n ∷ Text s ∷ Number place ∷ Text c ∷ []) ∷ rows) (λ p above.
+  choices_free n s (suc place) cs (choice_cells n s place c ∷ rows) (λ p above.
       ap (λ b. b || list_any (begins (choice_key n s p)) rows) (other_place n s p place c (λ same. omega (arith, same, above))) ∙ none p (omega (arith, above))),
 )
 
 -- the changes that add choices add their rows
-made_choices : (n : ℕ) (s : List ℕ) (place : ℕ) (cs : List (List ℕ)) → map made (choices_added n s place cs) ≡ map (add Choice) (choice_rows n s place cs)
-made_choices n s place [] = refl
-made_choices n s place (c ∷ cs) = ap (λ rest. add Choice (Number n ∷ Text s ∷ Number place ∷ Text c ∷ []) ∷ rest) (made_choices n s (suc place) cs)
+added_rows : (n : ℕ) (s : List ℕ) (place : ℕ) (cs : List (List ℕ)) → choices_added n s place cs ≡ map (add Choice) (choice_rows n s place cs)
+added_rows n s place [] = refl
+added_rows n s place (c ∷ cs) = ap (λ rest. add Choice (choice_cells n s place c) ∷ rest) (added_rows n s (suc place) cs)
 
 -- ---- the open round
 
@@ -173,20 +175,20 @@ module _ (g : List Listed → List Listed) (s : List ℕ) (new : List (List ℕ)
     elsewhere _ h = IsPermutation-refl _
 
     -- the new choices are added where the rest stands
-    added_to : (rows : AllRows) → IsPermutation (rows Choice) rest → SameElsewhere Choice rows (rows_in after) → Turns (map made (choices_added n s 1 new)) rows (rows_in after)
+    added_to : (rows : AllRows) → IsPermutation (rows Choice) rest → SameElsewhere Choice rows (rows_in after) → TurnsRows (choices_added n s 1 new) rows (rows_in after)
     added_to rows same else =
-        subst (λ cs. Turns cs rows (rows_in after)) (sym (made_choices n s 1 new))
+        subst (λ cs. TurnsRows cs rows (rows_in after)) (sym (added_rows n s 1 new))
         (added_turns Choice (choice_rows n s 1 new) rows (rows_in after) (free_there (rows Choice) same) (come (rows Choice) same) else)
 
     -- there is a list to be taken out, or none
-    by : (has : Bool) → (has ≡ false → has_list o n s ≡ false) → TurnsLists (list_changes n s has new) o after
+    by : (has : Bool) → (has ≡ false → has_list o n s ≡ false) → Turns (list_changes n s has new) o after
     by false absent = added_to (rows_in o) (none_over (absent refl)) elsewhere
     by true absent =
-        let taken : Change = made (change.TakeList n s) in
+        let taken : Change = Remove (list_part n s) in
         let turns = added_to (after_change taken (rows_in o)) left_over (λ table other. from_same (change_elsewhere taken (rows_in o) table other) (elsewhere table other)) in
         record { fresh = (tt, turns.fresh); rows = turns.rows }
 
-  pub turns_lists : (has : Bool) → (has ≡ false → has_list o n s ≡ false) → TurnsLists (list_changes n s has new) o (with_last with_new o)
+  pub turns_lists : (has : Bool) → (has ≡ false → has_list o n s ≡ false) → Turns (list_changes n s has new) o (with_last with_new o)
   turns_lists has absent =
       let there = has_reading (λ (r : RoundEntry). r.is_open) false true (round_of o n) opened (λ h. true≢false (sym h)) in
-      subst (λ (after : State). TurnsLists (list_changes n s has new) o after) (sym (put_last with_new o there.0 there.1)) (by there.0 there.1 has absent)
+      subst (λ (after : State). Turns (list_changes n s has new) o after) (sym (put_last with_new o there.0 there.1)) (by there.0 there.1 has absent)

@@ -1,32 +1,28 @@
 -- A put of an entry that has one row: the row goes in the place of the one with its key, or comes where none has it.
-use Rattle.std.proofs.Common.{◌≡◌, Bool, true, false, not, cond, List, [], ◌∷◌, map, Some, is_some, refl, sym, ap, subst, ◌∙◌}
+use Rattle.std.proofs.Common.{◌≡◌, Bool, true, false, not, cond, List, [], ◌∷◌, map, Some, is_some, refl, sym, ap, ◌∙◌}
 use Rattle.std.specs.Prelude.{IsPermutation, ◌||◌}
 use Rattle.std.specs.List.{list_any}
 use Rattle.std.proofs.lemmas.List.Sorted.{IsPermutation-refl, IsPermutation-map}
 use Rattle.row_data.specs.declared.table.Table.{Table}
 use Rattle.row_data.specs.declared.table.Table.TheVariants.{Supervisor, Project, Student, Import}
+use Rattle.row_data.specs.declared.row.Change.TheVariants.{Put, Add}
+use Rattle.row_data.specs.Rows.{AllRows, Cells, RowOf, begins, key_in, without}
+use Rattle.row_data.specs.Changes.{TurnsRows}
 use Rattle.rolls.specs.declared.entries.Supervisor.{Supervisor as SupervisorEntry}
 use Rattle.rolls.specs.declared.entries.Project.{Project as ProjectEntry}
 use Rattle.rolls.specs.declared.entries.Student.{Student as StudentEntry}
-use Rattle.rolls.specs.declared.row.Row as roll
+use Rattle.rolls.specs.declared.import.Import.{Import as ImportEntry}
 use Rattle.rolls.specs.Roll.{Key, same_key, find, has, put, take_out, rises}
-use Rattle.rolls.specs.Rows.{supervisor_row, project_row, student_row, import_row}
-use Rattle.rolls.specs.State.{State, supervisor_key, project_key, student_key, import_key, has_supervisor, has_project, has_student}
+use Rattle.rolls.specs.Rows.{rows_in, supervisor_cells, project_cells, student_cells, import_cells, Turns}
+use Rattle.rolls.specs.State.{State, supervisor_key, project_key, student_key, import_key, has_supervisor, has_project, has_student, has_import}
 use Rattle.rolls.specs.Importing.{with_import}
-use Rattle.step_laws.specs.Changes.{put_or_added}
+use Rattle.rolls.specs.Making.{put_or_added}
 use Rattle.step_laws.proofs.FitAfterPut.{with_supervisor, with_project, with_student}
-use Rattle.step_laws.proofs.RowsLeft.{code_test}
-use Rattle.row_lists.specs.Rows.{AllRows, Cells, Row, Put, Add, Turns, begins, key_in, without, rows_in, supervisor_cells, project_cells, student_cells, import_cells}
-use Rattle.row_lists.specs.Made.{row_made, made, TurnsLists}
 use Rattle.row_lists.specs.Laws.{KeepingTurns}
+use Rattle.row_lists.proofs.KeyTests.{code_test}
 use Rattle.row_lists.proofs.Keyed.{AreNew, put_beside, none_taken, row_left}
 use Rattle.row_lists.proofs.Changes.{SameElsewhere, AreFree, one_turns}
 use Rattle.row_lists.proofs.Same.{from_same, to_same}
-
--- a row is put or added as its cells are
-made_either : (known : Bool) (r : roll.Row) → made (put_or_added known r) ≡ cond known (Put (row_made r)) (Add (row_made r))
-made_either true r = refl
-made_either false r = refl
 
 module _ {E : Type 0} (key : E → Key) (row : E → Cells) (t : Table) (tells : (e x : E) → begins (key_in t (row e)) (row x) ≡ same_key (key e) (key x)) where
   -- a row has the key of an entry where the entry is there
@@ -46,7 +42,7 @@ module _ {E : Type 0} (key : E → Key) (row : E → Cells) (t : Table) (tells :
   -- the rows of the table before and after an entry is put
   module _ (e : E) (es : List E) (old new : AllRows) (rise : rises key es ≡ true) (before : old t ≡ map row es) (after : new t ≡ map row (put key e es)) (elsewhere : SameElsewhere t old new) where
     -- the entry's row
-    abbrev new_row : Row
+    abbrev new_row : RowOf
     new_row = record { table = t; cells = row e }
 
     -- it stands beside those of the other entries
@@ -56,52 +52,55 @@ module _ {E : Type 0} (key : E → Key) (row : E → Cells) (t : Table) (tells :
         (to_same (IsPermutation-map row _ _ (put_beside key e es rise)) (sym after))
 
     -- a put of the row
-    pub entry_put : Turns (Put new_row ∷ []) old new
+    pub entry_put : TurnsRows (Put new_row ∷ []) old new
     entry_put =
         one_turns (Put new_row) old new tt
         (beside _ (ap (without (key_in t (row e))) before ∙ row_left key row (key e) (λ x. not (begins (key_in t (row e)) x)) (λ x. ap not (tells e x)) es)) elsewhere
 
     -- one that is added, where no entry has its key
-    pub entry_added : has key (key e) es ≡ false → Turns (Add new_row ∷ []) old new
+    pub entry_added : has key (key e) es ≡ false → TurnsRows (Add new_row ∷ []) old new
     entry_added none =
         one_turns (Add new_row) old new
         (ap (list_any (begins (key_in t (row e)))) before ∙ any_found e es ∙ none)
         (beside _ (before ∙ ap (map row) (sym (none_taken key (key e) es none)))) elsewhere
 
     -- and one that is put or added as the entry is known or not
-    entry_turns : (r : roll.Row) → row_made r ≡ new_row → Turns (made (put_or_added (has key (key e) es) r) ∷ []) old new
-    entry_turns r is = subst (λ c. Turns (c ∷ []) old new) (sym (made_either (has key (key e) es) r ∙ ap (λ n. cond (has key (key e) es) (Put n) (Add n)) is)) (by (has key (key e) es) refl)
+    entry_turns : TurnsRows (put_or_added (has key (key e) es) new_row ∷ []) old new
+    entry_turns = by (has key (key e) es) refl
       where
-        by : (known : Bool) → has key (key e) es ≡ known → Turns (cond known (Put new_row) (Add new_row) ∷ []) old new
+        by : (known : Bool) → has key (key e) es ≡ known → TurnsRows (put_or_added known new_row ∷ []) old new
         by true h = entry_put
         by false h = entry_added h
 
 -- ---- the rolls, and imports
 
-pub turns_supervisor : (o : State) (s : SupervisorEntry) → rises supervisor_key o.supervisors ≡ true → TurnsLists (put_or_added (has_supervisor o s.code) (supervisor_row s) ∷ []) o (with_supervisor o s)
-turns_supervisor o s rise = entry_turns supervisor_key supervisor_cells Supervisor (λ e x. code_test e.code x.code) s o.supervisors (rows_in o) (rows_in (with_supervisor o s)) rise refl refl others (supervisor_row s) refl
+pub turns_supervisor : (o : State) (s : SupervisorEntry) → rises supervisor_key o.supervisors ≡ true → Turns (put_or_added (has_supervisor o s.code) (record { table = Supervisor; cells = supervisor_cells s }) ∷ []) o (with_supervisor o s)
+turns_supervisor o s rise = entry_turns supervisor_key supervisor_cells Supervisor (λ e x. code_test e.code x.code) s o.supervisors (rows_in o) (rows_in (with_supervisor o s)) rise refl refl others
   where
     others : SameElsewhere Supervisor (rows_in o) (rows_in (with_supervisor o s))
     others Supervisor h = cc
     others _ h = IsPermutation-refl _
 
-pub turns_project : (o : State) (p : ProjectEntry) → rises project_key o.projects ≡ true → TurnsLists (put_or_added (has_project o p.code) (project_row p) ∷ []) o (with_project o p)
-turns_project o p rise = entry_turns project_key project_cells Project (λ e x. code_test e.code x.code) p o.projects (rows_in o) (rows_in (with_project o p)) rise refl refl others (project_row p) refl
+pub turns_project : (o : State) (p : ProjectEntry) → rises project_key o.projects ≡ true → Turns (put_or_added (has_project o p.code) (record { table = Project; cells = project_cells p }) ∷ []) o (with_project o p)
+turns_project o p rise = entry_turns project_key project_cells Project (λ e x. code_test e.code x.code) p o.projects (rows_in o) (rows_in (with_project o p)) rise refl refl others
   where
     others : SameElsewhere Project (rows_in o) (rows_in (with_project o p))
     others Project h = cc
     others _ h = IsPermutation-refl _
 
-pub turns_student : (o : State) (s : StudentEntry) → rises student_key o.students ≡ true → TurnsLists (put_or_added (has_student o s.code) (student_row s) ∷ []) o (with_student o s)
-turns_student o s rise = entry_turns student_key student_cells Student (λ e x. code_test e.code x.code) s o.students (rows_in o) (rows_in (with_student o s)) rise refl refl others (student_row s) refl
+pub turns_student : (o : State) (s : StudentEntry) → rises student_key o.students ≡ true → Turns (put_or_added (has_student o s.code) (record { table = Student; cells = student_cells s }) ∷ []) o (with_student o s)
+turns_student o s rise = entry_turns student_key student_cells Student (λ e x. code_test e.code x.code) s o.students (rows_in o) (rows_in (with_student o s)) rise refl refl others
   where
     others : SameElsewhere Student (rows_in o) (rows_in (with_student o s))
     others Student h = cc
     others _ h = IsPermutation-refl _
 
-pub turns_import : KeepingTurns
-turns_import i o fit = entry_turns import_key import_cells Import (λ e x. code_test e.id x.id) i o.imports (rows_in o) (rows_in (with_import i o)) fit.imports.rise refl refl others (import_row i) refl
+pub turns_import : (i : ImportEntry) (o : State) → rises import_key o.imports ≡ true → Turns (put_or_added (has_import o i.id) (record { table = Import; cells = import_cells i }) ∷ []) o (with_import i o)
+turns_import i o rise = entry_turns import_key import_cells Import (λ e x. code_test e.id x.id) i o.imports (rows_in o) (rows_in (with_import i o)) rise refl refl others
   where
     others : SameElsewhere Import (rows_in o) (rows_in (with_import i o))
     others Import h = cc
     others _ h = IsPermutation-refl _
+
+pub keeping_turns : KeepingTurns
+keeping_turns i o fit = turns_import i o fit.imports.rise

@@ -1,42 +1,31 @@
 -- The next round opens, or the last one opens again or closes: its row comes or is put in its place, its lists keep their rows, and placements go.
-use Rattle.std.proofs.Common.{◌≡◌, ℕ, ◌+◌, ◌≤◌, Bool, true, false, not, List, [], ◌∷◌, map, inl, inr, Option, Some, is_some, refl, sym, ap, subst, ◌∙◌, arith}
+use Rattle.std.proofs.Common.{◌≡◌, ℕ, ◌+◌, ◌≤◌, Bool, true, false, not, List, [], ◌∷◌, map, Option, Some, is_some, refl, sym, ap, subst, ◌∙◌, arith}
 use Rattle.std.specs.Prelude.{flat_map, IsPermutation, ◌&&◌, ◌==◌}
 use Rattle.std.specs.Option.{option_map_or}
 use Rattle.std.proofs.lemmas.Bool.Decides.{nat_tests}
-use Rattle.std.proofs.lemmas.Bool.{cases_eq, eqb-true, eq-eqb, false_from_ne_true}
 use Rattle.std.proofs.lemmas.List.Sorted.{IsPermutation-refl, IsPermutation-sym, IsPermutation-trans}
 use Rattle.sqlite_keyed.proofs.ListLemmas.{IsPermutation-same, IsPermutation-flat_map, filter-map, filter_same}
 use Rattle.spa.specs.declared.aim.Aim.{Aim}
-use Rattle.row_data.specs.declared.cell.Cell.TheVariants.{Number}
 use Rattle.row_data.specs.declared.table.Table.TheVariants.{Round, RoundAim, Choice, Placement}
+use Rattle.row_data.specs.declared.row.Change.TheVariants.{Put, Add, Remove}
+use Rattle.row_data.specs.declared.row.Change.{Change}
+use Rattle.row_data.specs.Changes.{TurnsRows}
 use Rattle.rolls.specs.declared.rounds.Round.{Round as RoundEntry}
 use Rattle.rolls.specs.declared.rounds.RoundAim.{RoundAim as AimEntry}
 use Rattle.rolls.specs.declared.rounds.Placement.{Placement as PlacementEntry}
-use Rattle.rolls.specs.Roll.{same_key, find, put, take_out}
+use Rattle.rolls.specs.Roll.{find, put, take_out}
 use Rattle.rolls.specs.State.{State, round_key, aim_key, last_round, round_of}
 use Rattle.rolls.specs.Fit.{IsFit}
 use Rattle.rolls.specs.Stepping.{with_last, after_opening, after_reopening}
-use Rattle.rolls.proofs.LastRound.{aimed_found, no_round_above, some_round, round_number, rounds_rise, same_round, other_round}
-use Rattle.rolls.proofs.RowsDetermine.{fit_shaped}
-use Rattle.step_laws.specs.Changes.{opening_changes, reopening_changes}
-use Rattle.row_lists.specs.Rows.{Put, Add, Remove, Change, flag, aim_cells, round_cells, placement_cells, rows_of_round, rows_in, Turns}
-use Rattle.row_lists.specs.Made.{TurnsLists}
+use Rattle.rolls.specs.Making.{round_row, placed_part, opening_changes, reopening_changes}
+use Rattle.rolls.specs.Rows.{aim_cells, round_cells, placement_cells, rows_of_round, rows_in, Turns}
+use Rattle.rolls.proofs.LastRound.{aimed_found, no_round_above, some_round, round_number, rounds_rise}
+use Rattle.rolls.proofs.Shaped.{fit_shaped}
+use Rattle.row_lists.proofs.KeyTests.{and_true, number_test}
 use Rattle.row_lists.proofs.Keyed.{put_beside, found_beside, added_beside}
 use Rattle.row_lists.proofs.Changes.{SameElsewhere, one_turns, turns_follow}
 use Rattle.row_lists.proofs.OneRow.{entry_put, entry_added}
 use Rattle.row_lists.proofs.Same.{from_same}
-
--- a test and nothing more
-pub and_true : (b : Bool) → (b && true) ≡ b
-and_true true = refl
-and_true false = refl
-
--- numbers are the same as keys
-pub number_test : (n m : ℕ) → ((n == m) && true) ≡ same_key (n, []) (m, [])
-number_test n m = and_true (n == m) ∙ elim (cases_eq n m) [
-  | inl same ↦ eq-eqb n m same ∙ sym (same_round n m same)
-  | inr other ↦ false_from_ne_true (n == m) (λ h. other (eqb-true n m h)) ∙ sym (other_round n m other)
-]
 
 -- ---- the last round
 
@@ -65,14 +54,14 @@ module _ (o : State) (fit : IsFit o) (r new : RoundEntry) (is : round_of o (last
 
 -- the row of the last round is put
 pub round_turns : (o : State) → IsFit o → 1 ≤ last_round o → (now : Bool)
-    → Turns (Put (record { table = Round; cells = Number (last_round o) ∷ flag now ∷ [] }) ∷ []) (rows_in o) (rows_in (with_last (λ r. record r { is_open = now }) o))
+    → TurnsRows (Put (round_row (last_round o) now) ∷ []) (rows_in o) (rows_in (with_last (λ r. record r { is_open = now }) o))
 round_turns o fit some now = (let it = some_round o fit.numbered (last_round o) some (omega arith) in turned it.0 it.1)
   where
     turned : (r : RoundEntry) → round_of o (last_round o) ≡ Some r
-        → Turns (Put (record { table = Round; cells = Number (last_round o) ∷ flag now ∷ [] }) ∷ []) (rows_in o) (rows_in (with_last (λ r. record r { is_open = now }) o))
+        → TurnsRows (Put (round_row (last_round o) now) ∷ []) (rows_in o) (rows_in (with_last (λ r. record r { is_open = now }) o))
     turned r is =
-        subst (λ (s : State). Turns (Put (record { table = Round; cells = Number (last_round o) ∷ flag now ∷ [] }) ∷ []) (rows_in o) (rows_in s)) (sym (put_last (λ r. record r { is_open = now }) o r is))
-        (subst (λ m. Turns (Put (record { table = Round; cells = Number m ∷ flag now ∷ [] }) ∷ []) (rows_in o) (rows_in (record o { rounds = put round_key (record r { is_open = now }) o.rounds }))) (number o fit r (record r { is_open = now }) is refl)
+        subst (λ (s : State). TurnsRows (Put (round_row (last_round o) now) ∷ []) (rows_in o) (rows_in s)) (sym (put_last (λ r. record r { is_open = now }) o r is))
+        (subst (λ m. TurnsRows (Put (round_row m now) ∷ []) (rows_in o) (rows_in (record o { rounds = put round_key (record r { is_open = now }) o.rounds }))) (number o fit r (record r { is_open = now }) is refl)
         (entry_put round_key round_cells Round (λ e x. number_test e.number x.number) (record r { is_open = now }) o.rounds (rows_in o) (rows_in (record o { rounds = put round_key (record r { is_open = now }) o.rounds }))
         (rounds_rise o fit.numbered) refl refl others))
       where
@@ -88,14 +77,14 @@ turned_test : (n m : ℕ) → ((n == m) && true) ≡ (m == n)
 turned_test n m = and_true (n == m) ∙ grind (arith, nat_tests)
 
 -- the round's row is put, and then its placements go
-pub turns_reopened : (o : State) → IsFit o → 1 ≤ last_round o → TurnsLists (reopening_changes (last_round o)) o (after_reopening o)
+pub turns_reopened : (o : State) → IsFit o → 1 ≤ last_round o → Turns (reopening_changes (last_round o)) o (after_reopening o)
 turns_reopened o fit some =
     turns_follow (Put _ ∷ []) (left_out ∷ []) (rows_in o) (rows_in (with_last (λ r. record r { is_open = true }) o)) (rows_in (after_reopening o)) (round_turns o fit some true)
     (one_turns left_out (rows_in (with_last (λ r. record r { is_open = true }) o)) (rows_in (after_reopening o)) tt
     (IsPermutation-same _ _ (filter-map _ placement_cells o.placements ∙ ap (map placement_cells) (filter_same _ _ (λ (p : PlacementEntry). ap not (turned_test (last_round o) p.round)) o.placements))) others)
   where
     left_out : Change
-    left_out = Remove (record { table = Placement; before = 1; cells = Number (last_round o) ∷ [] })
+    left_out = Remove (placed_part (last_round o))
 
     others : SameElsewhere Placement (rows_in (with_last (λ r. record r { is_open = true }) o)) (rows_in (after_reopening o))
     others Placement h = cc
@@ -104,7 +93,7 @@ turns_reopened o fit some =
 -- ---- the next round
 
 -- the round's row is added, and then that of its aim
-pub turns_opened : (aim : Aim) (o : State) → IsFit o → TurnsLists (opening_changes (last_round o + 1) aim) o (after_opening aim o)
+pub turns_opened : (aim : Aim) (o : State) → IsFit o → Turns (opening_changes (last_round o + 1) aim) o (after_opening aim o)
 turns_opened aim o fit =
     turns_follow (Add _ ∷ []) (Add _ ∷ []) (rows_in o) (rows_in (record o { rounds = put round_key next o.rounds })) (rows_in (after_opening aim o))
     (entry_added round_key round_cells Round (λ e x. number_test e.number x.number) next o.rounds (rows_in o) (rows_in (record o { rounds = put round_key next o.rounds })) (rounds_rise o fit.numbered) refl refl others no_round)

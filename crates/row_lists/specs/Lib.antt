@@ -1,5 +1,2 @@
-pub mod Rows
-pub mod Made
-pub mod From
-pub mod Editions
+pub mod Apart
 pub mod Laws

@@ -1,10 +1,13 @@
-//! The rows of an office as SQL has them: of each table a list of rows, each a list of cells, in whatever order.
+//! What changes make of the rows of an office, and what its rows say of it.
 //!
-//! `specs/Rows.antt` says which rows an office has and what changes make of rows, and `specs/Laws.antt` what is proved of both.
+//! The rows are those of `rolls`: of each table a list of rows, each a list of cells, in whatever order. Nothing here runs: each
+//! function is a law, and `specs/Laws.antt` has them.
+//!
+//! Promised: the changes of a plain request that is not refused turn the rows of a fit office into those of the office after it,
+//! and add none at a key that has one; so does the row of an import that is kept, and so do changes one after another. The rows of
+//! a fit office have different keys in each table, and no other fit office has the same rows.
 #![tactic(auto)]
 
 mod laws;
 
-pub use laws::{
-    closing_law, following_law, keeping_law, renewal_law, rows_law, turns_law, upgrade_law,
-};
+pub use laws::{following_law, keeping_law, rows_law, turns_law};

@@ -3,8 +3,4 @@ pub mod FitAfterPut
 pub mod StayingRounds
 pub mod KnownChoices
 pub mod StaysFit
-pub mod RowsLeft
-pub mod OneRowTurns
-pub mod PlainTurns
-pub mod OneMore
 pub mod ImportChanges

@@ -12,7 +12,7 @@ use Rattle.rolls.specs.Roll.{put, take_out, same_key}
 use Rattle.spa.specs.declared.aim.Aim.{Aim}
 use Rattle.rolls.specs.State.{State, list_key, lists_of, placement_of, last_round}
 use Rattle.rolls.specs.Fit.{IsFit, ListFits}
-use Rattle.rolls.specs.declared.request.Plain.TheVariants.{PutSupervisor, PutProject, PutStudent, OpenRound, PutList, DropList, ReopenRound, GetSupervisor, GetProject, GetStudent, GetRound}
+use Rattle.rolls.specs.declared.request.Plain.TheVariants.{PutSupervisor, PutProject, PutStudent, OpenRound, PutList, DropList, ReopenRound}
 use Rattle.rolls.specs.Refusing.{plain_refusal, supervisor_tests, project_tests, student_tests, opening_tests, list_tests, drop_tests}
 use Rattle.rolls.specs.Stepping.{after_plain}
 use Rattle.rolls.proofs.NoRefusal.{allowed}

@@ -1,36 +1,21 @@
 -- What plain requests and imports make of a fit office.
-use Rattle.std.specs.Prelude.{◌≡◌, ◌&&◌, ◌++◌, not, nat_le, false, List, [], ◌∷◌, length, None}
+use Rattle.std.specs.Prelude.{◌≡◌, ◌&&◌, not, nat_le, false, List, length, None}
 use Rattle.rolls.specs.declared.TheConstants.{MOST_IMPORTS}
 use Rattle.rolls.specs.declared.request.Plain.{Plain}
 use Rattle.rolls.specs.declared.import.Import.{Import}
-use Rattle.rolls.specs.declared.row.Change.{Change}
 use Rattle.rolls.specs.State.{State, has_import}
 use Rattle.rolls.specs.Fit.{IsFit, ImportFits}
-use Rattle.rolls.specs.Rows.{Turns, import_row}
 use Rattle.rolls.specs.Importing.{after_rows, with_import}
 use Rattle.rolls.specs.Refusing.{plain_refusal}
 use Rattle.rolls.specs.Stepping.{after_plain}
-use Rattle.step_laws.specs.Changes.{put_or_added, changes_of}
 
 -- a fit office is fit after each plain request that it does not refuse
 abbrev pub StaysFit : Type 0
 StaysFit = (q : Plain) (o : State) → IsFit o → plain_refusal o q ≡ None → IsFit (after_plain q o)
 
--- and the changes of the request turn its rows into those of the office after it
-abbrev pub ChangesTurn : Type 0
-ChangesTurn = (q : Plain) (o : State) → IsFit o → plain_refusal o q ≡ None → Turns (changes_of q o) o (after_plain q o)
-
--- changes that turn one office into another, and then it into a third, turn the first into the third
-abbrev pub TurnsFollow : Type 0
-TurnsFollow = (cs ds : List Change) (o m n : State) → Turns cs o m → Turns ds m n → Turns (cs ++ ds) o n
-
 -- a fit office that keeps one import more is fit, where the import fits and there is room for it
 abbrev pub KeepingFits : Type 0
 KeepingFits = (i : Import) (o : State) → IsFit o → ImportFits i → (not (has_import o i.id) && nat_le MOST_IMPORTS (length o.imports)) ≡ false → IsFit (with_import i o)
-
--- and its row turns the rows: added where the import is new
-abbrev pub KeepingTurns : Type 0
-KeepingTurns = (i : Import) (o : State) → Turns (put_or_added (has_import o i.id) (import_row i) ∷ []) o (with_import i o)
 
 -- plain requests keep no import
 abbrev pub ImportsStay : Type 0

@@ -2,9 +2,10 @@
 
 ghost use Rattle.std.specs.Prelude.{◌≡◌, ◌≤◌, IfOk, length};
 ghost use Rattle.spa.specs.declared.TheConstants.{RANKS};
-ghost use Rattle.step_laws.specs.Changes as says;
+ghost use Rattle.rolls.specs.Making as says;
+ghost use Rattle.step_laws.specs.Changes.{kept_placements};
 
-use rolls::{Change, Placement, Row, Text};
+use rolls::{Change, Placement, RoundAim, choice_row, list_part, placed_part, round_row};
 use spa::{Aim, Code};
 use std::alloc::{AllocError, Global};
 
@@ -19,7 +20,7 @@ fn list_taken(
 {
     let mut changes = Vec::new(alloc);
     if has_list {
-        changes.push(Change::TakeList(round, Text::of(alloc, student)?))?;
+        changes.push(Change::Remove(list_part(alloc, round, student)?))?;
     }
     Ok(changes)
 }
@@ -38,12 +39,9 @@ pub fn list_changes(
 {
     let mut changes = list_taken(alloc, round, student, has_list)?;
     for (place, code) in new.iter().enumerate() {
-        changes.push(Change::Add(Row::Choice {
-            round,
-            student: Text::of(alloc, student)?,
-            place: place as u32 + 1,
-            project: Text::of(alloc, code.as_str())?,
-        }))?;
+        let place = place as u32 + 1;
+        let row = choice_row(alloc, round, student, place, code.as_str())?;
+        changes.push(Change::Add(row))?;
     }
     Ok(changes)
 }
@@ -53,11 +51,8 @@ pub fn opening_changes(alloc: Global, round: u32, aim: Aim) -> Result<Vec<Change
     ensures { IfOk result (λ changes. changes.items ≡ says.opening_changes round aim) }
 {
     let mut changes = Vec::new(alloc);
-    changes.push(Change::Add(Row::Round {
-        number: round,
-        is_open: true,
-    }))?;
-    changes.push(Change::Add(Row::RoundAim { round, aim }))?;
+    changes.push(Change::Add(round_row(alloc, round, true)?))?;
+    changes.push(Change::Add(RoundAim { round, aim }.row(alloc)?))?;
     Ok(changes)
 }
 
@@ -66,11 +61,8 @@ pub fn reopening_changes(alloc: Global, round: u32) -> Result<Vec<Change>, Alloc
     ensures { IfOk result (λ changes. changes.items ≡ says.reopening_changes round) }
 {
     let mut changes = Vec::new(alloc);
-    changes.push(Change::Put(Row::Round {
-        number: round,
-        is_open: true,
-    }))?;
-    changes.push(Change::TakePlacements(round))?;
+    changes.push(Change::Put(round_row(alloc, round, true)?))?;
+    changes.push(Change::Remove(placed_part(alloc, round)?))?;
     Ok(changes)
 }
 
@@ -80,7 +72,7 @@ pub fn kept_placements(
     placements: &[Placement],
     round: u32,
 ) -> Result<Vec<Placement>, AllocError>
-    ensures { IfOk result (λ kept. kept.items ≡ says.kept_placements round placements.now) }
+    ensures { IfOk result (λ kept. kept.items ≡ kept_placements round placements.now) }
 {
     let mut kept = Vec::new(alloc);
     for placement in placements {

@@ -1,5 +1,5 @@
 -- Why a call of the store failed, from why the statement did on which it ended.
-use Rattle.std.proofs.Common.{◌≡◌, ◌≤◌, ◌<◌, ◌+◌, inl, inr, ℕ, List, [], ◌∷◌, ◌++◌, take, get_or, length, Option, Some, Result, slice_get, refl, sym, ap, subst, ◌∙◌}
+use Rattle.std.proofs.Common.{◌≡◌, ◌≤◌, ◌<◌, ◌+◌, inl, inr, ℕ, List, [], ◌∷◌, ◌++◌, take, get_or, length, Option, Some, slice_get, refl, sym, ap, subst, ◌∙◌}
 use Rattle.std.proofs.lemmas.List.{take_more, take_all}
 use Rattle.sqlite.specs.Effect.{Database}
 use Rattle.sqlite.specs.State.{State as Seen, HasCleanDisk, Survives, IsUnchanged}
@@ -9,26 +9,22 @@ use Rattle.row_data.specs.declared.table.Table.{Table}
 use Rattle.row_data.specs.declared.table.Table.TheVariants.{Edition}
 use Rattle.std.proofs.lemmas.Bool.{cases_Bool}
 use Rattle.sqlite_rules.specs.Lists.{Has}
-use Rattle.rolls.specs.declared.row.Row.{Row}
-use Rattle.tables.specs.Causes.{FailsToEnter, IsCausedInside, IsHinderedToEnter, IsRunInside, IsStopped, IsToldInside, IsUnread, LacksMemory, WentEntering}
+use Rattle.tables.specs.Causes.{IsStopped, IsUnread, LacksMemory}
 use Rattle.tables.proofs.Starved.{lacks, lacks_put}
-use Rattle.rolls.specs.declared.row.Change.{Change}
-use Rattle.rolls.specs.declared.row.Change.TheVariants.{Add, Put, Take, TakeList, TakePlacements}
-use Rattle.tables.specs.declared.table.Group.TheVariants as group
+use Rattle.row_data.specs.declared.row.Change.{Change}
+use Rattle.row_data.specs.declared.row.Change.TheVariants.{Add, Put, Remove}
+use Rattle.row_data.specs.Rows.{RowOf}
 use Rattle.store.specs.Inside.Reading.{ReadsSome}
 use Rattle.editions.specs.declared.Edition.{Edition as AnEdition}
 use Rattle.store.specs.Editions.{rolls_of}
 use Rattle.store.specs.Reading.{AreAllListed}
-use Rattle.store.specs.Rows.{columns, key_columns, list_columns, round_columns, table_at_key, table_of}
+use Rattle.store.specs.Rows.{removal, values}
 use Rattle.store.proofs.ListedTables.{is_next}
-use Rattle.tables.specs.Table.{sharing, sql_of}
+use Rattle.tables.specs.Table.{sql_of}
 use Rattle.tables.proofs.Causes.{stopped_after, stopped_as}
 use Rattle.store.specs.declared.fault.StoreFault.TheVariants.{Storage}
 use Rattle.store.specs.Inside.Faults.{of_table}
-use Rattle.store.specs.Inside.Saving.{entering}
-use Rattle.tables.specs.declared.statements.Entering.{Entering}
-use Rattle.tables.specs.declared.statements.Entering.TheVariants.{InPlace, New}
-use Rattle.store.specs.Causes.{GoesThrough, IsHinderedAfter, IsHinderedChange, IsHinderedReading, Ran}
+use Rattle.store.specs.Causes.{IsHinderedAfter, IsHinderedReading, Ran}
 use Rattle.store.specs.Inside.Causes.{FailsToChange, IsHinderedReadingIn}
 
 -- a fault of the storage is one of a statement
@@ -69,7 +65,7 @@ hindered_reading e table a b listed among =
     stopped_as (IsUnread (sql_of table).select) IsHinderedReading a b (λ h. record { edition = e; listed = listed; table = table; among = among; hindered = h })
 
 -- one of the tables of an edition cannot be read, where those before it were
-pub table_unread : (e : AnEdition) (tables : List Table) → tables ≡ rolls_of e → (i : ℕ) (rows : List Row) (a b c : Seen) (d : Table) → i < length tables
+pub table_unread : (e : AnEdition) (tables : List Table) → tables ≡ rolls_of e → (i : ℕ) (rows : List RowOf) (a b c : Seen) (d : Table) → i < length tables
     → ReadsSome tables i rows a b → Survives a b (λ _. ⊥) → HasCleanDisk b → b.faults ≤ c.faults
     → IsStopped (IsUnread (sql_of (get_or tables i d)).select) b c → IsStopped (IsHinderedReadingIn e) a c
 table_unread e tables are i rows a b c d low some survives clean up stops = elim (cases_Bool a.is_open) [
@@ -95,26 +91,8 @@ rows_unread e a b c listed same survives clean up =
       hindered = subst (IsUnread (sql_of h.table).select a.step_limit) same.0.now_is h.hindered;
     })
 
--- a row that is refused as it is brought into its table is a change that is refused
-pub refused_entering : {A : Type 0} (way : Entering) (r : Row) (result : Result A TableFault) (a b : Seen) → IsCausedInside (IsHinderedToEnter way (table_of r) (columns r)) result a b → IsCausedInside (IsHinderedChange (entering way r)) result a b
-refused_entering InPlace r result a b h = h
-refused_entering New r result a b h = h
-
--- and one that is brought into its table is a change that goes through
-pub went_entering : {A : Type 0} (way : Entering) (r : Row) (result : Result A TableFault) (a b : Seen) → IsRunInside (WentEntering way (table_of r) (columns r)) result a b → IsRunInside (GoesThrough (entering way r)) result a b
-went_entering InPlace r result a b h = h
-went_entering New r result a b h = h
-
--- and one that fails, with the fault of its statement
-pub failed_entering : {A : Type 0} (way : Entering) (r : Row) (result : Result A TableFault) (a b : Seen)
-    → IsToldInside (FailsToEnter way (table_of r) (columns r)) result a b → IsToldInside (FailsToChange (entering way r)) result a b
-failed_entering InPlace r result a b h = h
-failed_entering New r result a b h = h
-
 -- a change that finds no memory
 pub lacks_change : (change : Change) (old new : Seen) → FailsToChange change fault.Memory old new → LacksMemory old new
-lacks_change (Put row) old new it = lacks_put (table_of row) (columns row) old new it
-lacks_change (Add row) old new it = lacks (sql_of (table_of row)).insert (columns row) old new it
-lacks_change (Take key) old new it = lacks (sql_of (table_at_key key)).delete (key_columns key) old new it
-lacks_change (TakeList round student) old new it = lacks (sharing group.List).removal (list_columns round student) old new it
-lacks_change (TakePlacements round) old new it = lacks (sharing group.Placed).removal (round_columns round) old new it
+lacks_change (Put row) old new it = lacks_put row.table (values row.cells) old new it
+lacks_change (Add row) old new it = lacks (sql_of row.table).insert (values row.cells) old new it
+lacks_change (Remove part) old new it = lacks (removal part.group) (values part.cells) old new it

@@ -1,13 +1,12 @@
 -- Changes one after another.
-use Rattle.std.proofs.Common.{◌≡◌, ℕ, ◌+◌, ◌<◌, List, [], ◌∷◌, ◌++◌, length, get_or, take, refl, sym, ap, subst, ◌∙◌, Result, Ok, Err, OnOk, IsTrue, Option}
+use Rattle.std.proofs.Common.{◌≡◌, ℕ, ◌+◌, ◌<◌, List, [], ◌∷◌, ◌++◌, length, get_or, take, refl, sym, ap, subst, ◌∙◌, Result, Ok, Err, OnOk, IsTrue}
 use Rattle.std.proofs.lemmas.List.{take_more}
 use Rattle.sqlite.specs.Effect.{Database}
 use Rattle.sqlite.specs.State.{State}
-use Rattle.rolls.specs.declared.row.Row.{Row}
-use Rattle.rolls.specs.declared.row.RowKey.{RowKey}
-use Rattle.rolls.specs.declared.row.Change.{Change}
-use Rattle.rolls.specs.declared.row.Change.TheVariants.{Add, Put, Take, TakeList, TakePlacements}
-use Rattle.rolls.specs.Rows.{AreFresh, IsFresh, after_change, after_changes}
+use Rattle.row_data.specs.declared.row.Change.{Change}
+use Rattle.row_data.specs.declared.row.Change.TheVariants.{Add, Put, Remove}
+use Rattle.row_data.specs.Changes.{after_changes, table_of}
+use Rattle.row_lists.proofs.Changes.{after_both, fresh_both}
 use Rattle.sqlite.specs.Tree.{Trees}
 use Rattle.tables.specs.Steps.{HasStepped, HasSaved, IsLeft}
 use Rattle.tables.specs.Inside.Steps.{Stays}
@@ -18,22 +17,11 @@ use Rattle.sqlite_rules.specs.Lists.{Has}
 use Rattle.tables.specs.Table.{Lists, table_at}
 use Rattle.store.specs.Saving.{AddsNew, AllNeed, AreInert, Applies, IsSaving, LeavesOthers, Needs, Saves, Spares}
 use Rattle.store.specs.Inside.Saving.{AppliesOne}
-use Rattle.store.specs.Rows.{table_at_key}
-use Rattle.store.proofs.Columns.{in_rolls}
 
 -- no change applies nothing
 pub applies_none : (db : Database) → Applies [] db db
 unfolding Applies
 applies_none db need rows t = (t, record { schema = refl; others = λ any h apart. refl }, tt)
-
-after_more : (cs : List Change) (c : Change) (rows : RowKey → Option Row) → after_changes (cs ++ c ∷ []) rows ≡ after_change c (after_changes cs rows)
-after_more [] c rows = refl
-after_more (d ∷ cs) c rows = after_more cs c (after_change d rows)
-
--- a row that is added after others at a free key is one of those that are
-fresh_more : (cs : List Change) (c : Change) (rows : RowKey → Option Row) → AreFresh cs rows → IsFresh c (after_changes cs rows) → AreFresh (cs ++ c ∷ []) rows
-fresh_more [] c rows all one = (one, tt)
-fresh_more (d ∷ cs) c rows all one = (all.0, fresh_more cs c (after_change d rows) all.1 one)
 
 -- what spares the other tables twice spares them
 spares_then : (x y z : Database) → Spares x y → Spares y z → Spares x z
@@ -56,10 +44,8 @@ all_needed (c ∷ cs) s inert = (one c, all_needed cs s inert)
   where
     one : (c : Change) → Needs c s
     one (Add row) = tt
-    one (Put row) = inert
-    one (Take k) = inert (table_at_key k) (in_rolls k)
-    one (TakeList n t) = inert
-    one (TakePlacements n) = inert
+    one (Put row) = inert row.table
+    one (Remove part) = inert (table_of part)
 
 applies_then : (cs : List Change) (c : Change) (x y z : Database) → Applies cs x y → AppliesOne c y z → Applies (cs ++ c ∷ []) x z
 unfolding Applies AppliesOne
@@ -67,7 +53,7 @@ applies_then cs c x y z p q need rows t =
     let needs = need_more cs c x.schema need in
     let first = p needs.0 rows t in
     let then = q (subst (Needs c) (sym first.1.schema) needs.1) (after_changes cs rows) first.0 in
-    (subst (TablesHold z) (sym (after_more cs c rows)) then.0, spares_then x y z first.1 then.1, fresh_more cs c rows first.2 then.2)
+    (subst (TablesHold z) (sym (after_both cs (c ∷ []) rows)) then.0, spares_then x y z first.1 then.1, fresh_both cs (c ∷ []) rows first.2 (then.2, tt))
 
 -- nothing was changed yet
 pub changes_none : (s : State) → Stays (Applies []) s s

@@ -1,59 +1,45 @@
--- The rows of a fit office have UTF-8 texts and small quotas.
-use Rattle.std.proofs.Common.{◌≡◌, inl, inr, List, [], ◌∷◌, Bool, true, false, cond, filter, map, Option, Some, None, is_some, ℕ, zero, suc, ◌<◌, ◌≤◌, ◌-◌, length, slice_get, IsTrue, refl, sym, ap, subst, ◌∙◌, arith}
-use Rattle.std.specs.Option.{option_map, option_map_or}
-use Rattle.std.specs.List.{AllByRecursion}
+-- Each row of a fit office is a row of its table, with UTF-8 texts and small numbers.
+use Rattle.std.proofs.Common.{◌≡◌, inl, inr, List, [], ◌∷◌, Bool, true, false, map, Option, Some, None, is_some, ℕ, zero, suc, ◌<◌, ◌≤◌, ◌+◌, ◌-◌, length, slice_get, IsTrue, IsUtf8, refl, sym, ap, subst, ◌∙◌, arith}
+use Rattle.std.specs.Option.{option_map_or}
+use Rattle.std.specs.List.{AllByRecursion, list_all}
+use Rattle.std.specs.Str.{IsAscii}
+use Rattle.std.specs.Cmp.{first_so, second_so}
+use Rattle.std.proofs.lemmas.Bool.{eqb-true}
+use Rattle.std.specs.Prelude.{◌==◌, nat_lt}
+use Rattle.std.proofs.lemmas.Bool.Decides.{nat_tests}
+use Rattle.std.proofs.lemmas.Str.{IsUtf8-from_ascii}
+use Rattle.sqlite_keyed.proofs.ListLemmas.{all_map, all-flat_map, all_weaker}
+use Rattle.sqlite_rules.specs.Lists.{Has}
 use Rattle.spa.specs.Text.{is_code}
 use Rattle.spa.specs.declared.TheConstants.{RANKS}
+use Rattle.spa.proofs.Texts.{code_utf8, label_utf8}
 use Rattle.rolls.specs.declared.TheConstants.{MOST_ROUNDS}
 use Rattle.rolls.specs.declared.rounds.Listed.{Listed}
-use Rattle.rolls.specs.declared.rounds.Round.{Round}
-use Rattle.rolls.proofs.RowsDetermine.{choice_at}
-use Rattle.std.proofs.lemmas.Bool.{and_parts, or_parts, not-true, cases_Bool}
-use Rattle.sqlite.specs.Order.{Row as Cells}
-use Rattle.sqlite_rules.specs.Lists.{Has}
-use Rattle.rolls.specs.declared.row.Row.{Row}
-use Rattle.rolls.specs.declared.row.Row.TheVariants as row
-use Rattle.rolls.specs.declared.row.RowKey.{RowKey}
+use Rattle.rolls.specs.declared.rounds.Placement.{Placement as PlacementEntry}
+use Rattle.rolls.specs.declared.rounds.Round.{Round as RoundEntry}
+use Rattle.rolls.specs.declared.rounds.RoundAim.{RoundAim as AimEntry}
+use Rattle.rolls.specs.declared.import.ImportKind.{ImportKind}
+use Rattle.rolls.specs.declared.import.ImportKind.TheVariants.{Supervisors}
+use Rattle.rolls.specs.Fit.{IsFit, SupervisorFits, ProjectFits, StudentFits, ListFits, PlacementFits, ImportFits, are_aimed}
+use Rattle.rolls.specs.Kinds.{word_of}
 use Rattle.rolls.specs.Roll.{Key, find}
-use Rattle.spa.proofs.Texts.{code_utf8, label_utf8}
-use Rattle.rolls.specs.State.{State, supervisor_of, project_of, student_of, round_of, round_aim_of, placement_of, import_of, supervisor_key, project_key, student_key, list_key, placement_key, import_key, has_supervisor, has_project, has_student, last_round, lists_of, list_of, choices_in}
-use Rattle.rolls.specs.Fit.{IsFit, SupervisorFits, ProjectFits, StudentFits, ListFits, PlacementFits, ImportFits}
+use Rattle.rolls.specs.Rows.{supervisor_cells, project_cells, student_cells, round_cells, aim_cells, placement_cells, import_cells, list_rows, rows_of_round, choice_rows, rows_in, flag, is_generous}
+use Rattle.rolls.specs.State.{State, supervisor_of, project_of, student_of, round_of, supervisor_key, project_key, student_key, round_key, list_key, has_supervisor, has_project, has_student, list_of, choices_in}
 use Rattle.rolls.proofs.Found.{found_key, holds_of_found}
-use Rattle.rolls.proofs.LastRound.{aimed_found, round_within}
-use Rattle.rolls.specs.Rows.{key_of, same_row, row_of, supervisor_row, project_row, student_row, round_row, aim_row, placement_row, import_row, choice_in}
-use Rattle.rolls.specs.From.{row_in, are_apart}
+use Rattle.rolls.proofs.LastRound.{round_within}
+use Rattle.rolls.proofs.Shaped.{numbered_rise}
 use Rattle.row_data.specs.declared.table.Table.{Table}
+use Rattle.row_data.specs.declared.table.Table.TheVariants.{Edition, Supervisor, Project, Student, Round, Import, RoundAim, Choice, Placement}
+use Rattle.row_data.specs.Rows.{Cells}
+use Rattle.row_lists.proofs.Found.{StandsIn, each_found}
 use Rattle.editions.specs.declared.Edition.{Edition as AnEdition}
 use Rattle.editions.specs.declared.Edition.TheVariants.{First, Second, Third}
-use Rattle.editions.specs.Editions.{row_at, renamed, renamed_key}
-use Rattle.editions.proofs.Swapping.{key_swapped, row_twice}
-use Rattle.editions.proofs.Renewing.{by_aim, first_else}
-use Rattle.store.specs.Rows.{columns, is_in, columns_of, AreRowsAt}
-use Rattle.store.specs.Inside.Reading.{IsTyped}
-use Rattle.rolls.proofs.RowKeys.{same_row_is, same_row_self}
-use Rattle.std.specs.List.{list_any}
+use Rattle.editions.specs.Editions.{renamed, rows_in_edition}
+use Rattle.store.specs.Inside.Reading.{IsTyped, IsTypedRow}
 
-mapped : {X Y : Type 0} (f : X → Y) (o : Option X) (y : Y) → option_map f o ≡ Some y → (x : X) × (o ≡ Some x) × (f x ≡ y)
-mapped f None y h = absurd (cc)
-mapped f (Some x) y h = (x, refl, cc)
-
-any_has : (k : RowKey) (rest : List Row) (r : Row) → Has rest r → same_row k (key_of r) ≡ true → list_any (λ t. same_row k (key_of t)) rest ≡ false → true ≡ false
-any_has k [] r h same none = absurd h
-any_has k (s ∷ rest) r (inl e) same none = sym same ∙ ap (λ t. same_row k (key_of t)) e ∙ (or_parts _ _ none).0
-any_has k (s ∷ rest) r (inr h) same none = any_has k rest r h same (or_parts _ _ none).1
-
--- each row stands at its key
-row_stands : (list : List Row) (r : Row) → are_apart list ≡ true → Has list r → row_in list (key_of r) ≡ Some r
-row_stands [] r apart h = absurd h
-row_stands (s ∷ rest) r apart (inl same) = subst (λ t. row_in (t ∷ rest) (key_of r) ≡ Some r) same (ap (λ b. cond b (Some r) (row_in rest (key_of r))) (same_row_self (key_of r)))
-row_stands (s ∷ rest) r apart (inr h) =
-    let parts = and_parts _ _ apart in
-    elim (cases_Bool (same_row (key_of r) (key_of s))) [
-      | inl same ↦
-          let e = same_row_is (key_of r) (key_of s) same in
-          absurd (let f = any_has (key_of s) rest r h (subst (λ k. same_row k (key_of r) ≡ true) e (same_row_self (key_of r))) (not-true _ parts.0) in cc)
-      | inr other ↦ ap (λ b. cond b (Some s) (row_in rest (key_of r))) other ∙ row_stands rest r parts.1 h
-    ]
+-- what holds of an entry holds of the row that is made of it
+all_made : {E : Type 0} (Fits : E → Type 0) (P : Cells → Type 0) (row : E → Cells) → ((e : E) → Fits e → P (row e)) → (es : List E) → AllByRecursion Fits es → AllByRecursion P (map row es)
+all_made Fits P row f es all = all_map P row es (all_weaker Fits (λ e. P (row e)) f es all)
 
 -- what is on a roll has an entry
 entry : {E : Type 0} (x : Option E) → is_some x ≡ true → (e : E) × (x ≡ Some e)
@@ -69,6 +55,20 @@ all_at : {X : Type 0} (P : X → Type 0) (xs : List X) (i : ℕ) (x : X) → All
 all_at P [] i x all h = absurd (cc)
 all_at P (y ∷ ys) zero x all h = let same : y ≡ x = cc in subst P same all.0
 all_at P (y ∷ ys) (suc i) x all h = all_at P ys i x all.1 h
+
+ascii : (bs : List ℕ) → list_all (λ b. nat_lt b 128) bs ≡ true → IsAscii bs
+ascii [] h i = omega arith
+ascii (b ∷ bs) h zero = let low = first_so (nat_lt b 128) (list_all (λ b. nat_lt b 128) bs) h in grind (arith, nat_tests, low)
+ascii (b ∷ bs) h (suc i) = ascii bs (second_so (nat_lt b 128) (list_all (λ b. nat_lt b 128) bs) h) i
+
+-- the word of a kind is UTF-8
+word_utf8 : (kind : ImportKind) → IsUtf8 (word_of kind)
+word_utf8 Supervisors = IsUtf8-from_ascii (word_of Supervisors) (ascii (word_of Supervisors) refl)
+word_utf8 kind = IsUtf8-from_ascii (word_of kind) (ascii (word_of kind) refl)
+
+flag_small : (b : Bool) → IsTyped (flag b)
+flag_small true = omega arith
+flag_small false = omega arith
 
 module _ (o : State) (fit : IsFit o) where
   -- codes on the rolls are codes
@@ -87,134 +87,102 @@ module _ (o : State) (fit : IsFit o) where
       let it = entry (student_of o code) h in
       ap (λ (k : Key). is_code k.1) (found_key student_key (0, code) o.students it.0 it.1) ∙ (holds_of_found student_key StudentFits (0, code) o.students it.0 fit.students.each it.1).code
 
-  -- what is listed stands in a list
-  listed : (round : ℕ) (student : List ℕ) (i : ℕ) (project : List ℕ) (x : Option Listed) → list_of o round student ≡ x → slice_get (option_map_or (λ l. l.choices) x []) i ≡ Some project
-      → (l : Listed) × (list_of o round student ≡ Some l) × (slice_get l.choices i ≡ Some project)
-  listed round student i project None is h = absurd (cc)
-  listed round student i project (Some l) is h = (l, is, h)
+  -- a round has a small number, and its lists fit
+  record IsKnown (r : RoundEntry) : Type 0 where
+    number : r.number ≤ MOST_ROUNDS
+    lists : AllByRecursion (ListFits o r.number) r.lists
 
-  -- and a list in a round
-  round_there : (round : ℕ) (student : List ℕ) (l : Listed) (x : Option Round) → round_of o round ≡ x → find list_key (0, student) (option_map_or (λ r. r.lists) x []) ≡ Some l → round ≤ last_round o
-  round_there round student l None is h = absurd (cc)
-  round_there round student l (Some r) is h = (round_within o fit.numbered round r is).within
-
-  -- a choice that stands in a round: its round, its student and its project are known, and its place is one of a list's
-  record IsStanding (n : ℕ) (s : List ℕ) (k : ℕ) (p : List ℕ) : Type 0 where
-    round : n ≤ MOST_ROUNDS
-    student : is_code s ≡ true
-    place : k ≤ RANKS
-    project : is_code p ≡ true
-
-  choice_stands : (round : ℕ) (student : List ℕ) (i : ℕ) (project : List ℕ) → slice_get (choices_in o round student) i ≡ Some project → IsStanding round student (suc i) project
-  choice_stands round student i project h =
-      let there = listed round student i project (list_of o round student) refl h in
-      let l = there.0 in
-      let fits = holds_of_found list_key (ListFits o round) (0, student) (lists_of o round) l (fit.lists_fit round) there.1 in
-      let number = round_there round student l (round_of o round) refl there.1 in
+  known : (n : ℕ) (r : RoundEntry) → round_of o n ≡ Some r → IsKnown r
+  known n r is =
+      let within = round_within o fit.numbered n r is in
+      let same : n ≡ r.number = ap (λ (k : Key). k.0) (found_key round_key (n, []) o.rounds r is) in
       record {
-        round = omega (arith, number, fit.few_rounds);
-        student = ap (λ (k : Key). is_code k.1) (found_key list_key (0, student) (lists_of o round) l there.1) ∙ student_is_code l.student fits.student;
-        place = let low = below l.choices i project there.2 in omega (arith, low, fits.choices.few);
-        project = project_is_code project (all_at (λ p. IsTrue (has_project o p)) l.choices i project fits.projects there.2);
+        number = omega (arith, within.within, fit.few_rounds, same);
+        lists = subst (λ m. AllByRecursion (ListFits o m) r.lists) same (subst (λ x. AllByRecursion (ListFits o n) (option_map_or (λ r. r.lists) x [])) is (fit.lists_fit n));
       }
 
-typed_at : (o : State) → IsFit o → (r : Row) → row_of o (key_of r) ≡ Some r → IsTyped r
-unfolding mapped
-typed_at o fit (row.Supervisor code label quota) h =
-    let it = mapped supervisor_row (supervisor_of o code) (row.Supervisor code label quota) h in
-    let s = it.0 in
-    let fits = holds_of_found supervisor_key SupervisorFits (0, code) o.supervisors s fit.supervisors.each it.1 in
-    subst IsTyped it.2 (code_utf8 s.code fits.code, label_utf8 s.label fits.label, omega (arith, fits.quota))
-typed_at o fit (row.Project code label supervisor quota) h =
-    let it = mapped project_row (project_of o code) (row.Project code label supervisor quota) h in
-    let p = it.0 in
-    let fits = holds_of_found project_key (ProjectFits o) (0, code) o.projects p fit.projects.each it.1 in
-    subst IsTyped it.2 (code_utf8 p.code fits.code, label_utf8 p.label fits.label, code_utf8 p.supervisor (supervisor_is_code o fit p.supervisor fits.supervisor), omega (arith, fits.quota))
-typed_at o fit (row.Student code label) h =
-    let it = mapped student_row (student_of o code) (row.Student code label) h in
-    let s = it.0 in
-    let fits = holds_of_found student_key StudentFits (0, code) o.students s fit.students.each it.1 in
-    subst IsTyped it.2 (code_utf8 s.code fits.code, label_utf8 s.label fits.label)
-typed_at o fit (row.Round number is_open) h =
-    let it = mapped round_row (round_of o number) (row.Round number is_open) h in
-    let low = (round_within o fit.numbered number it.0 it.1).within in
-    omega (arith, low, fit.few_rounds)
-typed_at o fit (row.Choice round student zero project) h = absurd (cc)
-typed_at o fit (row.Choice round student (suc i) project) h =
-    let it = mapped (row.Choice round student (suc i)) (choice_in (choices_in o round student) (suc i)) (row.Choice round student (suc i) project) h in
-    let same : it.0 ≡ project = let chosen = it.2 in cc in
-    let stands = choice_stands o fit round student i project (sym (choice_at (choices_in o round student) i) ∙ it.1 ∙ ap Some same) in
-    (omega (arith, stands.round), code_utf8 student stands.student, omega (arith, stands.place), code_utf8 project stands.project)
-typed_at o fit (row.Placement student round project rank) h =
-    let it = mapped placement_row (placement_of o student) (row.Placement student round project rank) h in
-    let p = it.0 in
-    let fits = holds_of_found placement_key (PlacementFits o) (0, student) o.placements p fit.placements_fit it.1 in
-    let stands = choice_stands o fit p.round p.student (p.rank - 1) p.project fits.listed in
-    subst IsTyped it.2 (code_utf8 p.student stands.student, omega (arith, stands.round), code_utf8 p.project stands.project, omega (arith, stands.place, fits.rank))
-typed_at o fit (row.RoundAim round aim) h =
-    let it = mapped aim_row (round_aim_of o round) (row.RoundAim round aim) h in
-    let there : is_some (round_of o round) ≡ true = sym (aimed_found round o.aims o.rounds fit.aimed) ∙ ap is_some it.1 in
-    let r = entry (round_of o round) there in
-    let low = (round_within o fit.numbered round r.0 r.1).within in
-    omega (arith, low, fit.few_rounds)
-typed_at o fit (row.Import id kind bytes rows) h =
-    let it = mapped import_row (import_of o id) (row.Import id kind bytes rows) h in
-    let i = it.0 in
-    let fits = holds_of_found import_key ImportFits (0, id) o.imports i fit.imports.each it.1 in
-    subst IsTyped it.2 (code_utf8 i.id fits.id, omega (arith, fits.rows))
-typed_at o fit (row.OldChoice round student place project) h = cc
-typed_at o fit (row.OldPlacement student round project rank) h = cc
+  rounds_known : AllByRecursion IsKnown o.rounds
+  rounds_known = all_weaker (StandsIn round_key o.rounds) IsKnown (λ r is. known r.number r is) o.rounds (each_found round_key o.rounds (numbered_rise 1 o.rounds fit.numbered))
 
--- a row is as the program has it where the one by its other name is
-typed_swapped : (r : Row) → IsTyped (renamed r) → IsTyped r
-typed_swapped (row.Supervisor c l q) h = h
-typed_swapped (row.Project c l s q) h = h
-typed_swapped (row.Student c l) h = h
-typed_swapped (row.Round n o) h = h
-typed_swapped (row.Choice n s k p) h = h
-typed_swapped (row.Placement s n p k) h = h
-typed_swapped (row.RoundAim n a) h = h
-typed_swapped (row.Import i k b n) h = h
-typed_swapped (row.OldChoice n s k p) h = h
-typed_swapped (row.OldPlacement s n p k) h = h
+  aims_small : (aims : List AimEntry) (rs : List RoundEntry) → are_aimed aims rs ≡ true → AllByRecursion IsKnown rs → AllByRecursion (λ a. a.round ≤ MOST_ROUNDS) aims
+  aims_small [] rs h all = tt
+  aims_small (a ∷ aims) (r ∷ rs) h all =
+      let same = eqb-true a.round r.number (first_so (a.round == r.number) (are_aimed aims rs) h) in
+      (omega (arith, same, all.0.number), aims_small aims rs (second_so (a.round == r.number) (are_aimed aims rs) h) all.1)
+  aims_small (a ∷ aims) [] h all = absurd (cc)
 
--- the row that an office has in the last edition, where it has this one in an earlier one
-unswapped : (o : State) (r : Row) (x : Option Row) → option_map renamed x ≡ Some r → x ≡ Some (renamed r)
-unswapped o r None h = cc
-unswapped o r (Some s) h = ap Some (sym (row_twice s) ∙ ap renamed (let same : renamed s ≡ r = cc in same))
+  -- the rows of a list
+  choices_typed : (round : ℕ) (student : List ℕ) (place : ℕ) (cs : List (List ℕ)) → round ≤ MOST_ROUNDS → is_code student ≡ true → place + length cs ≤ RANKS + 1 → AllByRecursion (λ c. IsTrue (has_project o c)) cs
+      → AllByRecursion (IsTypedRow Choice) (choice_rows round student place cs)
+  choices_typed round student place [] n s few all = tt
+  choices_typed round student place (c ∷ cs) n s few all =
+      ((refl, (omega (arith, n), (code_utf8 student s, (omega (arith, few), (code_utf8 c (project_is_code c all.0), tt))))), choices_typed round student (suc place) cs n s (omega (arith, few)) all.1)
 
--- a row that an office has in an edition is as the program has it
-typed_second : (o : State) → IsFit o → (r : Row) → row_at Second o (key_of r) ≡ Some r → IsTyped r
-typed_second o fit r h = typed_swapped r (typed_at o fit (renamed r) (ap (row_of o) (key_swapped r) ∙ unswapped o r (row_of o (renamed_key (key_of r))) h))
+  list_typed : (n : ℕ) (l : Listed) → n ≤ MOST_ROUNDS → ListFits o n l → AllByRecursion (IsTypedRow Choice) (list_rows n l)
+  list_typed n l small fits = choices_typed n l.student 1 l.choices small (student_is_code l.student fits.student) (let few = fits.choices.few in omega (arith, few)) fits.projects
 
-typed_in : (e : AnEdition) (o : State) → IsFit o → (r : Row) → row_at e o (key_of r) ≡ Some r → IsTyped r
-typed_in Third o fit r h = typed_at o fit r h
-typed_in Second o fit r h = typed_second o fit r h
-typed_in First o fit r h = by_aim (λ k. row_at First o k ≡ Some r → k ≡ key_of r → IsTyped r) (key_of r)
-    (λ n there same. cc)
-    (λ other there same. typed_second o fit r (sym (first_else o (key_of r) other) ∙ there)) h refl
+  round_typed : (r : RoundEntry) → IsKnown r → AllByRecursion (IsTypedRow Choice) (rows_of_round r)
+  round_typed r is = all-flat_map (IsTypedRow Choice) (list_rows r.number) r.lists (all_weaker (ListFits o r.number) _ (λ l fits. list_typed r.number l is.number fits) r.lists is.lists)
 
--- each row of a fit office has UTF-8 texts and a small quota
-pub is_typed : (e : AnEdition) (o : State) (list : List Row) (r : Row) → IsFit o → AreRowsAt list (row_at e o) → Has list r → IsTyped r
-is_typed e o list r fit at h = typed_in e o fit r (sym (at.each (key_of r)) ∙ row_stands list r at.apart h)
+  -- what a student chooses in a round stands in a list of it
+  record IsChosen (n : ℕ) (student : List ℕ) (i : ℕ) (project : List ℕ) : Type 0 where
+    number : n ≤ MOST_ROUNDS
+    student_code : is_code student ≡ true
+    low : i < RANKS
+    project_code : is_code project ≡ true
 
-filtered_go : (p : Row → Bool) (s r : Row) (rest : List Row) (b : Bool) → p s ≡ b → (Has (filter p rest) r → Has rest r × (p r ≡ true)) → Has (cond b (s ∷ filter p rest) (filter p rest)) r → Has (s ∷ rest) r × (p r ≡ true)
-filtered_go p s r rest true is later (inl same) = (inl same, ap p same ∙ is)
-filtered_go p s r rest true is later (inr h) = let it = later h in (inr it.0, it.1)
-filtered_go p s r rest false is later h = let it = later h in (inr it.0, it.1)
+  chosen : (n : ℕ) (student : List ℕ) (i : ℕ) (project : List ℕ) → slice_get (choices_in o n student) i ≡ Some project → IsChosen n student i project
+  chosen n student i project h = by_round (round_of o n) refl (list_of o n student) refl h
+    where
+      by_round : (x : Option RoundEntry) → round_of o n ≡ x → (y : Option Listed) → find list_key (0, student) (option_map_or (λ r. r.lists) x []) ≡ y → slice_get (option_map_or (λ l. l.choices) y []) i ≡ Some project → IsChosen n student i project
+      by_round (Some r) is (Some l) found at =
+          let it = known n r is in
+          let same : n ≡ r.number = ap (λ (k : Key). k.0) (found_key round_key (n, []) o.rounds r is) in
+          let fits = holds_of_found list_key (ListFits o r.number) (0, student) r.lists l it.lists found in
+          record {
+            number = omega (arith, same, it.number);
+            student_code = ap (λ (k : Key). is_code k.1) (found_key list_key (0, student) r.lists l found) ∙ student_is_code l.student fits.student;
+            low = let low = below l.choices i project at in omega (arith, low, fits.choices.few);
+            project_code = project_is_code project (all_at (λ c. IsTrue (has_project o c)) l.choices i project fits.projects at);
+          }
+      by_round x is None found at = absurd (cc)
+      by_round None is y found at = absurd (cc)
 
-filtered : (p : Row → Bool) (rest : List Row) (r : Row) → Has (filter p rest) r → Has rest r × (p r ≡ true)
-filtered p [] r h = absurd h
-filtered p (s ∷ rest) r h = filtered_go p s r rest (p s) refl (filtered p rest r) h
+  placement_typed : (p : PlacementEntry) → PlacementFits o p → IsTypedRow Placement (placement_cells p)
+  placement_typed p fits =
+      let it = chosen p.round p.student (p.rank - 1) p.project fits.listed in
+      (refl, (code_utf8 p.student it.student_code, (omega (arith, it.number), (code_utf8 p.project it.project_code, (omega (arith, it.low, fits.rank), tt)))))
 
-unmapped : (rows : List Row) (cells : Cells) → Has (map columns rows) cells → (r : Row) × Has rows r × (cells ≡ columns r)
-unmapped [] cells h = absurd h
-unmapped (r ∷ rows) cells (inl same) = (r, inl refl, same)
-unmapped (r ∷ rows) cells (inr h) = let it = unmapped rows cells h in (it.0, inr it.1, it.2)
+  -- the rows of the latest edition
+  latest_rows : (table : Table) → AllByRecursion (IsTypedRow table) (rows_in o table)
+  latest_rows Supervisor = all_made SupervisorFits (IsTypedRow Supervisor) supervisor_cells (λ s fits. (refl, (code_utf8 s.code fits.code, (label_utf8 s.label fits.label, (omega (arith, fits.quota), tt))))) o.supervisors fit.supervisors.each
+  latest_rows Project = all_made (ProjectFits o) (IsTypedRow Project) project_cells
+      (λ p fits. (refl, (code_utf8 p.code fits.code, (label_utf8 p.label fits.label, (code_utf8 p.supervisor (supervisor_is_code p.supervisor fits.supervisor), (omega (arith, fits.quota), tt)))))) o.projects fit.projects.each
+  latest_rows Student = all_made StudentFits (IsTypedRow Student) student_cells (λ s fits. (refl, (code_utf8 s.code fits.code, (label_utf8 s.label fits.label, tt)))) o.students fit.students.each
+  latest_rows Round = all_made IsKnown (IsTypedRow Round) round_cells (λ r is. (refl, (omega (arith, is.number), (flag_small r.is_open, tt)))) o.rounds rounds_known
+  latest_rows RoundAim = all_made (λ a. a.round ≤ MOST_ROUNDS) (IsTypedRow RoundAim) aim_cells (λ a small. (refl, (omega (arith, small), (flag_small (is_generous a.aim), tt)))) o.aims (aims_small o.aims o.rounds fit.aimed rounds_known)
+  latest_rows Choice = all-flat_map (IsTypedRow Choice) rows_of_round o.rounds (all_weaker IsKnown _ round_typed o.rounds rounds_known)
+  latest_rows Placement = all_made (PlacementFits o) (IsTypedRow Placement) placement_cells placement_typed o.placements fit.placements_fit
+  latest_rows Import = all_made ImportFits (IsTypedRow Import) import_cells (λ i fits. (refl, (code_utf8 i.id fits.id, (word_utf8 i.kind, (tt, (omega (arith, fits.rows), tt)))))) o.imports fit.imports.each
+  latest_rows _ = tt
 
--- columns of a table are those of a row of it
-pub row_of_columns : (table : Table) (list : List Row) (cells : Cells) → Has (columns_of table list) cells → (r : Row) × Has list r × (is_in table r ≡ true) × (cells ≡ columns r)
-row_of_columns table list cells h =
-    let it = unmapped (filter (is_in table) list) cells h in
-    let kept = filtered (is_in table) list it.0 it.1 in
-    (it.0, kept.0, kept.1, it.2)
+  -- those of tables that take others' places
+  renamed_rows : (table : Table) → AllByRecursion (IsTypedRow table) (rows_in o (renamed table))
+  renamed_rows Edition = tt
+  renamed_rows table = latest_rows (renamed table)
+
+  first_rows : (table : Table) → AllByRecursion (IsTypedRow table) (rows_in_edition First o table)
+  first_rows RoundAim = tt
+  first_rows table = renamed_rows table
+
+-- the rows of a fit office in an edition
+pub fit_rows : (e : AnEdition) (o : State) → IsFit o → (table : Table) → AllByRecursion (IsTypedRow table) (rows_in_edition e o table)
+fit_rows First o fit table = first_rows o fit table
+fit_rows Second o fit table = renamed_rows o fit table
+fit_rows Third o fit table = latest_rows o fit table
+
+-- what is among columns that are made of rows is made of one
+pub one_of_all : {X Y : Type 0} (P : X → Type 0) (f : X → Y) (xs : List X) (y : Y) → AllByRecursion P xs → Has (map f xs) y → (x : X) × P x × (f x ≡ y)
+one_of_all P f [] y all h = absurd h
+one_of_all P f (x ∷ xs) y all (inl same) = (x, all.0, sym same)
+one_of_all P f (x ∷ xs) y all (inr h) = one_of_all P f xs y all.1 h

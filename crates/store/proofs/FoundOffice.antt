@@ -1,21 +1,21 @@
 -- The office of rows that were read in an edition, and the changes that raise its tables.
-use Rattle.std.proofs.Common.{◌≡◌, Bool, true, false, cond, List, [], ◌∷◌, ◌++◌, map, filter, inl, inr, refl}
+use Rattle.std.proofs.Common.{◌≡◌, Bool, true, false, cond, List, [], ◌∷◌, ◌++◌, map, filter, inl, inr, refl, sym}
+use Rattle.std.specs.Prelude.{◌||◌}
 use Rattle.sqlite.specs.Schema.{Schema}
 use Rattle.sqlite.specs.State.{State as Seen}
-use Rattle.rolls.specs.declared.row.Row.{Row}
-use Rattle.rolls.specs.declared.row.Row.TheVariants as row
-use Rattle.rolls.specs.declared.row.Change.{Change}
-use Rattle.rolls.specs.declared.row.Change.TheVariants.{Add}
+use Rattle.row_data.specs.declared.row.Change.{Change}
+use Rattle.row_data.specs.declared.row.Change.TheVariants.{Add}
+use Rattle.row_data.specs.Rows.{RowOf, of_table, same_table}
+use Rattle.row_data.proofs.Tables.{same_table_is}
 use Rattle.rolls.specs.Fit.{IsFit}
-use Rattle.rolls.specs.From as from
-use Rattle.rolls.specs.From.{row_in}
+use Rattle.rolls.specs.Rows.{AreRowsOf}
 use Rattle.rolls.specs.State.{State}
 use Rattle.editions.specs.declared.Edition.{Edition as AnEdition}
 use Rattle.editions.specs.declared.Edition.TheVariants.{First, Second, Third}
-use Rattle.editions.specs.Editions.{Renews, Upgrades, aims_of, is_old, renaming_changes, renewed, row_at, renamed, removal_of, upgrade}
+use Rattle.editions.specs.Editions.{Renews, Upgrades, aims_of, is_old, renaming_changes, renewed, rows_in_edition, renamed_row, removal_of, upgrade}
 use Rattle.row_data.specs.declared.table.Table.TheVariants.{OldChoice, OldPlacement}
 use Rattle.store.specs.Editions.{number_of, raised, rolls_of}
-use Rattle.store.specs.Rows.{IsAmong, table_of}
+use Rattle.store.specs.Rows.{IsAmong}
 use Rattle.store.specs.Saving.{AllNeed, AreLeftAmong, IsLeftAlone}
 use Rattle.store.specs.Inside.Raising.{AskRaised}
 use Rattle.store.specs.Inside.Reading.{FindsOffice, HoldsRows}
@@ -24,22 +24,24 @@ use Rattle.store.proofs.Standing.{hold_same}
 -- ---- what the changes of an upgrade ask of the schema
 
 -- a row of earlier editions is of a table of which rows are taken out
-taken_asks : (schema : Schema) → AreLeftAmong raised schema → (r : Row) → is_old r ≡ true → IsLeftAlone (table_of r) schema
+taken_asks : (schema : Schema) → AreLeftAmong raised schema → (r : RowOf) → is_old r ≡ true → IsLeftAlone r.table schema
 unfolding IsAmong
-taken_asks schema left (row.OldChoice n s p c) is = left OldChoice (inr (inl refl))
-taken_asks schema left (row.OldPlacement s n c k) is = left OldPlacement (inr (inr (inl refl)))
-taken_asks schema left _ is = absurd (cc)
+taken_asks schema left r is = by (same_table OldChoice r.table) refl is
+  where
+    by : (b : Bool) → same_table OldChoice r.table ≡ b → (b || same_table OldPlacement r.table) ≡ true → IsLeftAlone r.table schema
+    by true same h = left r.table (inr (inl (sym (same_table_is _ _ same))))
+    by false other h = left r.table (inr (inr (inl (sym (same_table_is _ _ h)))))
 
 module _ (schema : Schema) (left : AreLeftAmong raised schema) where
-  takes_by : (r : Row) (rows : List Row) → AllNeed (map removal_of (filter is_old rows)) schema → (b : Bool) → is_old r ≡ b → AllNeed (map removal_of (cond b (r ∷ filter is_old rows) (filter is_old rows))) schema
-  takes_by r rows rest true is = (taken_asks schema left r is, rest)
+  takes_by : (r : RowOf) (rows : List RowOf) → AllNeed (map removal_of (filter is_old rows)) schema → (b : Bool) → is_old r ≡ b → AllNeed (map removal_of (cond b (r ∷ filter is_old rows) (filter is_old rows))) schema
+  takes_by r rows rest true is = ((λ _. taken_asks schema left r is), rest)
   takes_by r rows rest false is = rest
 
-  takes_ask : (rows : List Row) → AllNeed (map removal_of (filter is_old rows)) schema
+  takes_ask : (rows : List RowOf) → AllNeed (map removal_of (filter is_old rows)) schema
   takes_ask [] = tt
   takes_ask (r ∷ rows) = takes_by r rows (takes_ask rows) (is_old r) refl
 
-  adds_ask : (rows : List Row) → AllNeed (map Add rows) schema
+  adds_ask : (rows : List RowOf) → AllNeed (map Add rows) schema
   adds_ask [] = tt
   adds_ask (r ∷ rows) = (tt, adds_ask rows)
 
@@ -47,26 +49,26 @@ module _ (schema : Schema) (left : AreLeftAmong raised schema) where
   both_ask [] ys p q = q
   both_ask (x ∷ xs) ys p q = (p.0, both_ask xs ys p.1 q)
 
-  moves_ask : (rows more : List Row) → AllNeed (renaming_changes rows more) schema
-  moves_ask rows more = both_ask (map removal_of (filter is_old rows)) (map Add (map renamed (filter is_old rows) ++ more)) (takes_ask rows) (adds_ask (map renamed (filter is_old rows) ++ more))
+  moves_ask : (rows more : List RowOf) → AllNeed (renaming_changes rows more) schema
+  moves_ask rows more = both_ask (map removal_of (filter is_old rows)) (map Add (map renamed_row (filter is_old rows) ++ more)) (takes_ask rows) (adds_ask (map renamed_row (filter is_old rows) ++ more))
 
-upgrade_asks : (e : AnEdition) (rows : List Row) → AskRaised (upgrade e rows)
+upgrade_asks : (e : AnEdition) (rows : List RowOf) → AskRaised (upgrade e rows)
 upgrade_asks First rows schema left = moves_ask schema left rows (aims_of rows)
 upgrade_asks Second rows schema left = moves_ask schema left rows []
 upgrade_asks Third rows schema left = tt
 
 -- the office of the rows that were read, and what raises them
-pub found_in : Renews → Upgrades → (e : AnEdition) (rows : List Row) (office : State) (old new : Seen) → HoldsRows e rows old new → IsFit office → from.AreRowsOf (renewed e rows) office
+pub found_in : Renews → Upgrades → (e : AnEdition) (rows : List RowOf) (office : State) (old new : Seen) → HoldsRows e rows old new → IsFit office → AreRowsOf (renewed e rows) office
     → FindsOffice e office (upgrade e rows) old new
 found_in renews upgrades e rows office old new h fit of =
     let in_it = (renews e rows office h.none_later fit).1 of in
     record {
       same = h.same;
-      holds = hold_same (rolls_of e) (number_of e) old.now (row_in rows) (row_at e office) in_it.each (h.holds in_it.apart);
+      holds = hold_same (rolls_of e) (number_of e) old.now (of_table rows) (rows_in_edition e office) in_it.same h.holds;
       allowed = in_it.allowed;
       fit = fit;
       asks = upgrade_asks e rows;
-      turned = upgrades e rows office fit in_it;
+      turned = (upgrades e rows office fit in_it).rows;
       rows = rows;
       are = in_it;
       raise = refl;

@@ -1,15 +1,17 @@
-mod Cells
+mod Among
+mod Begins
+mod SqlKinds
+mod Permutation
 pub mod Standing
-mod Keys
-mod Columns
-mod OneStatement
+mod CellByCell
+mod Gathered
+mod Held
 mod ChangesInTurn
 mod NewTables
 mod Inertness
 mod ListedTables
 mod Commit
 mod AllRows
-mod Permutation
 mod Fitness
 mod ReadRows
 mod Raised

@@ -2,7 +2,7 @@
 use Rattle.std.proofs.Common.{◌≡◌, ◌≢◌, ◌⊎◌, inl, inr, ℕ, ◌+◌, ◌<◌, List, [], ◌∷◌, length, get_or, take, map, drop, refl, sym, ap, subst, ◌∙◌, arith}
 use Rattle.std.proofs.lemmas.List.{take_more, take_all, get_or_default}
 use Rattle.sqlite_rules.proofs.ListLemmas.{has_either, has_at}
-use Rattle.sqlite.specs.Order.{Row as Cells}
+use Rattle.sqlite.specs.Order.{Row as Values}
 use Rattle.sqlite.specs.Schema.{Schema}
 use Rattle.sqlite.specs.State.{State as Seen}
 use Rattle.sqlite_rules.specs.Lists.{Has}
@@ -12,7 +12,7 @@ use Rattle.tables.specs.Table.{Place, Lists, rules_of, table_at}
 use Rattle.tables.specs.Layout.{IsListed, IsUnlisted}
 use Rattle.tables.specs.Steps.{Shows}
 use Rattle.tables.proofs.Runs.{listed_at_one}
-use Rattle.store.proofs.Columns.{among_or_not}
+use Rattle.store.proofs.Among.{among_or_not}
 use Rattle.store.specs.Rows.{IsAmong}
 use Rattle.store.specs.Reading.{AreAllListed}
 use Rattle.store.specs.Inside.Reading.{IsAlone, IsElsewhere, IsListedAlone, IsNoRow, HoldsNoRow}
@@ -104,5 +104,5 @@ has_mapped f (y ∷ xs) x (inl same) = inl (ap f same)
 has_mapped f (y ∷ xs) x (inr h) = inr (has_mapped f xs x h)
 
 -- a table with columns that no row has
-pub holds_none : (table : Table) (cells : List Cells) (one : Cells) (old new : Seen) → Shows (table_at table) cells old new → Has cells one → IsNoRow table (drop 1 one) → HoldsNoRow table old.now
-holds_none table cells one old new shows among none = record { all = map (drop 1) cells; cells = drop 1 one; among = has_mapped (drop 1) cells one among; none = none; holds = shows.stands }
+pub holds_none : (table : Table) (all : List Values) (one : Values) (old new : Seen) → Shows (table_at table) all old new → Has all one → IsNoRow table (drop 1 one) → HoldsNoRow table old.now
+holds_none table all one old new shows among none = record { all = map (drop 1) all; columns = drop 1 one; among = has_mapped (drop 1) all one among; none = none; holds = shows.stands }

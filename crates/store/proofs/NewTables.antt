@@ -1,5 +1,5 @@
 -- The tables that were made stand for the empty office.
-use Rattle.std.proofs.Common.{◌≡◌, ◌≢◌, ◌⊎◌, ◌+◌, ◌<◌, ◌≤◌, ◌++◌, ℕ, List, [], ◌∷◌, length, get_or, take, inl, inr, ◌-◌, true, false, cond, Option, None, refl, sym, ap, subst, ◌∙◌}
+use Rattle.std.proofs.Common.{◌≡◌, ◌≢◌, ◌⊎◌, ◌+◌, ◌<◌, ◌≤◌, ◌++◌, ℕ, List, [], ◌∷◌, length, get_or, take, inl, inr, map, refl, sym, ap, subst, ◌∙◌}
 use Rattle.std.proofs.lemmas.List.{take_more, take_all}
 use Rattle.sqlite.specs.Effect.{Database}
 use Rattle.sqlite.specs.Schema.{Schema}
@@ -9,16 +9,10 @@ use Rattle.sqlite.specs.Tree.{Trees}
 use Rattle.sqlite.specs.declared.types.Value.{Value}
 use Rattle.sqlite_rules.specs.Lists.{Has}
 use Rattle.sqlite_rules.proofs.ListLemmas.{all_has, has_either, has_got}
-use Rattle.rolls.specs.declared.row.RowKey.{RowKey}
-use Rattle.rolls.specs.declared.row.RowKey.TheVariants as key
-use Rattle.rolls.specs.declared.row.Row.TheVariants as row
-use Rattle.rolls.specs.Rows.{row_of, choice_in}
-use Rattle.std.specs.Prelude.{nat_le, slice_get}
-use Rattle.std.specs.Option.{option_map}
-use Rattle.rolls.specs.From.{row_in}
+use Rattle.rolls.specs.Rows.{rows_in}
 use Rattle.rolls.specs.State.{State, empty}
 use Rattle.row_data.specs.declared.table.Table.{Table}
-use Rattle.row_data.specs.declared.table.Table.TheVariants.{Edition}
+use Rattle.row_data.specs.declared.table.Table.TheVariants.{Edition, Supervisor}
 use Rattle.tables.specs.Table.{Place, Lists, rules_of, key_in, table_at}
 use Rattle.tables.specs.Keyed.{Stands}
 use Rattle.tables.specs.Writes.{Creates, Adds}
@@ -26,20 +20,15 @@ use Rattle.tables.specs.Steps.{HasStepped, IsLeft}
 use Rattle.tables.specs.Inside.Steps.{Stays}
 use Rattle.tables.proofs.Runs.{listed_once, stands_apart, stands_beside, stays_none, stays_then, stays_stepped, decide_table}
 use Rattle.store.specs.Editions.{latest, number_of}
-use Rattle.store.specs.Rows.{stored_tables, rolls, AreRowsAt}
+use Rattle.store.specs.Rows.{stored_tables, rolls, values}
 use Rattle.store.specs.Tables.{AreRuled, AreRuledAmong, Brings, LeavesTables, MakesTables, StandsFor, HasNone, Opens, numbered}
 use Rattle.store.specs.Inside.Tables.{Empties}
-use Rattle.store.proofs.Columns.{apart_edition, stands_among}
+use Rattle.store.proofs.Among.{apart_edition, stands_among}
 
-nothing_at : (place : ℕ) → ◌≡◌ {A = Option (List ℕ)} None (choice_in [] place)
-nothing_at place = elim (nat_le 1 place) as (λ t. ◌≡◌ {A = Option (List ℕ)} None (cond t (slice_get [] (place - 1)) None)) [ true ↦ refl | false ↦ refl ]
-
-no_row : (k : RowKey) → row_in [] k ≡ row_of empty k
-no_row (key.Choice round student place) = ap (option_map (row.Choice round student place)) (nothing_at place)
-no_row _ = refl
-
-no_rows : AreRowsAt [] (row_of empty)
-no_rows = record { apart = refl; each = no_row }
+-- the empty office has no rows
+no_rows : (table : Table) → rows_in empty table ≡ []
+no_rows Supervisor = refl
+no_rows _ = refl
 
 -- no table was made yet
 pub made_none : (s : Seen) → Stays (MakesTables []) s s
@@ -116,12 +105,11 @@ empty_stands row is a b c m n =
       places = m.places;
       edition_apart = λ table among. m.apart table Edition (inr (stands_among rolls table among)) first (apart_edition table among);
       apart = λ x y p q. m.apart x y (inr (stands_among rolls x p)) (inr (stands_among rolls y q));
-      list = [];
-      at = no_rows;
-      beyond = λ table none. refl;
+      none = λ table away. no_rows table;
       editions = subst (λ all. Stands (table_at Edition) (m.places Edition) all c) is done.0;
       rolls = λ table among.
-          stands_apart (table_at table) (m.places table) refl [] (m.places Edition).tree b c (m.apart table Edition (inr (stands_among rolls table among)) first (apart_edition table among)) done.1 (m.stand table (inr (stands_among rolls table among)));
+          subst (λ held. Stands (table_at table) (m.places table) (map values held) c) (sym (no_rows table))
+          (stands_apart (table_at table) (m.places table) refl [] (m.places Edition).tree b c (m.apart table Edition (inr (stands_among rolls table among)) first (apart_edition table among)) done.1 (m.stand table (inr (stands_among rolls table among))));
     }
 
 -- and are as they are made here

@@ -6,11 +6,11 @@ use Rattle.sqlite.specs.State.{State as Seen, HasCleanDisk, IsUnchanged, Survive
 use Rattle.sqlite.specs.Effect.{Database}
 use Rattle.sqlite.specs.Tree.{Trees}
 use Rattle.sqlite.proofs.StateLemmas.{survives_then}
-use Rattle.rolls.specs.declared.row.Change.{Change}
+use Rattle.row_data.specs.declared.row.Change.{Change}
 use Rattle.rolls.specs.State.{State}
 use Rattle.editions.specs.declared.Edition.{Edition as AnEdition}
 use Rattle.editions.specs.declared.Edition.TheVariants.{First, Second, Third}
-use Rattle.editions.specs.Editions.{row_at}
+use Rattle.editions.specs.Editions.{rows_in_edition}
 use Rattle.tables.specs.Steps.{HasSaved, IsKept, IsLeft}
 use Rattle.tables.specs.Causes.{IsStopped}
 use Rattle.tables.specs.Table.{Lists}
@@ -35,14 +35,14 @@ earlier_of Third other = absurd (other refl)
 
 -- tables of the latest edition were read
 pub opens_found : (e : AnEdition) (office : State) (changes : List Change) (old new : Seen) → e ≡ latest → FindsOffice e office changes old new → Opens old.now new.now office
-opens_found e office changes old new is found = inr (inl (found.same.0.now_is, subst (λ it. HoldIn it old.now (row_at it office)) is found.holds))
+opens_found e office changes old new is found = inr (inl (found.same.0.now_is, subst (λ it. HoldIn it old.now (rows_in_edition it office)) is found.holds))
 
 module _ (e : AnEdition) (office : State) (changes : List Change) (old mid : Seen) (earlier : IsEarlier e) (alone : HasNoneOf (beyond e) old.now.schema) (found : FindsOffice e office changes old mid) where
   -- tables of an earlier edition were read and raised
   raised : (db : Database) → Rises e changes mid.now db → Raises old.now db office
   unfolding Rises
   raised db rises =
-      let done = rises found.asks (row_at e office) (subst (λ it. HoldIn e it (row_at e office)) (sym found.same.0.now_is) found.holds) in
+      let done = rises found.asks (rows_in_edition e office) (subst (λ it. HoldIn e it (rows_in_edition e office)) (sym found.same.0.now_is) found.holds) in
       record {
         edition = e;
         earlier = earlier;
@@ -59,7 +59,7 @@ module _ (e : AnEdition) (office : State) (changes : List Change) (old mid : See
   pub raised_others : (new : Seen) → HasSaved (Rises e changes) mid new → LeavesTables old.now new.now
   unfolding Rises
   raised_others new saved =
-      let done = saved.step found.asks (row_at e office) (subst (λ it. HoldIn e it (row_at e office)) (sym found.same.0.now_is) found.holds) in
+      let done = saved.step found.asks (rows_in_edition e office) (subst (λ it. HoldIn e it (rows_in_edition e office)) (sym found.same.0.now_is) found.holds) in
       subst (λ (db : Database). LeavesTables db new.now) found.same.0.now_is done.2
 
   -- what a crash leaves of that
@@ -89,7 +89,7 @@ pub unfit_all : (e : AnEdition) (db : Database) → HasNoneOf (beyond e) db.sche
 unfit_all e db alone later unfit f office fit stands = elim (one_or_apart e f) [
   | inl same ↦ unfit office fit (subst (λ it. StandsIn it db office) (sym same) stands)
   | inr (inl apart) ↦ later f apart.later stands.alone
-  | inr (inr apart) ↦ not_beyond f e db (row_at f office) stands.holds apart alone
+  | inr (inr apart) ↦ not_beyond f e db (rows_in_edition f office) stands.holds apart alone
 ]
 
 -- tables of an earlier edition were read, and are not raised

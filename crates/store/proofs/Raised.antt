@@ -1,17 +1,16 @@
 -- Tables of an earlier edition are raised: the number is another, tables come beside those that stand, and rows are added.
-use Rattle.std.proofs.Common.{◌≡◌, ◌≢◌, ◌↔◌, IsTrue, arith, ◌⊎◌, inl, inr, ℕ, pos, Bool, true, false, not, cond, List, [], ◌∷◌, ◌++◌, Option, refl, sym, ap, subst, ◌∙◌, true≢false}
+use Rattle.std.proofs.Common.{◌≡◌, ◌≢◌, ◌↔◌, IsTrue, arith, ◌⊎◌, inl, inr, ℕ, pos, Bool, true, false, not, cond, List, [], ◌∷◌, ◌++◌, map, Option, refl, sym, ap, subst, ◌∙◌, true≢false}
 use Rattle.std.specs.Prelude.{◌&&◌}
 use Rattle.sqlite.specs.declared.types.Value.TheVariants.{Int}
 use Rattle.sqlite.specs.Effect.{Database}
-use Rattle.sqlite.specs.Order.{Row as Cells}
+use Rattle.sqlite.specs.Order.{Row as Values}
 use Rattle.sqlite.specs.Schema.{Schema}
 use Rattle.sqlite.specs.State.{State as Seen, HasCleanDisk, IsUnchanged, Survives}
 use Rattle.sqlite.specs.Table.{Table as AnyTable}
 use Rattle.sqlite_rules.specs.Lists.{Has}
 use Rattle.sqlite_rules.proofs.ListLemmas.{all_has, has_either, has_got}
-use Rattle.rolls.specs.declared.row.Row.{Row}
-use Rattle.rolls.specs.declared.row.RowKey.{RowKey}
-use Rattle.rolls.specs.declared.row.Change.{Change}
+use Rattle.row_data.specs.declared.row.Change.{Change}
+use Rattle.row_data.specs.Rows.{AllRows}
 use Rattle.editions.specs.declared.Edition.{Edition as AnEdition}
 use Rattle.editions.specs.declared.Edition.TheVariants.{First, Second, Third}
 use Rattle.row_data.specs.declared.table.Table.{Table}
@@ -30,16 +29,17 @@ use Rattle.store.proofs.Causes.{unchanged_before}
 use Rattle.store.proofs.Commit.{dropped_by}
 use Rattle.store.specs.Causes.{latest_number}
 use Rattle.store.specs.Editions.{beyond, latest, number_of, raised, rolls_of}
-use Rattle.store.specs.Rows.{IsAmong, IsRollTable, columns_of, rolls}
+use Rattle.store.specs.Rows.{IsAmong, IsRollTable, rolls, values}
 use Rattle.store.specs.Saving.{Applies, AreActedOnAmong, AreLeftAmong, IsLeftAlone, Spares}
 use Rattle.store.specs.Tables.{AreRuledAmong, LeavesTables, MakesTables, TablesHold, TablesOf, numbered}
 use Rattle.store.specs.Inside.Raising.{Extends, Lifts, Rises}
 use Rattle.store.proofs.Standing.{stand_as}
-use Rattle.store.proofs.Columns.{among_or_not, fresh_beyond, has_left, int_self, is_among, stands_among}
+use Rattle.store.proofs.Among.{among_or_not, fresh_beyond, has_left, is_among, stands_among}
+use Rattle.store.proofs.Begins.{int_self}
 
 -- ---- tables more
 
-module _ (tables more : List Table) (number : ℕ) (rows : RowKey → Option Row) (old new : Database) (fresh : (table : Table) → Has more table → IsAmong tables table → ⊥)
+module _ (tables more : List Table) (number : ℕ) (rows : AllRows) (old new : Database) (fresh : (table : Table) → Has more table → IsAmong tables table → ⊥)
     (t : TablesOf tables number old rows) (m : MakesTables more old new) where
   -- where a table stands
   at : (table : Table) → IsAmong more table ⊎ (IsAmong more table → ⊥) → Place
@@ -50,13 +50,13 @@ module _ (tables more : List Table) (number : ℕ) (rows : RowKey → Option Row
   early table was h = elim (has_either tables more table (stands_among (tables ++ more) table h)) [ inl e ↦ is_among tables table e | inr l ↦ absurd (was (is_among more table l)) ]
 
   -- a table that stood stands
-  kept : (table : Table) (place : Place) (held : List Cells) → Stands (table_at table) place held old → Stands (table_at table) place held new
+  kept : (table : Table) (place : Place) (held : List Values) → Stands (table_at table) place held old → Stands (table_at table) place held new
   kept table place held stands =
       let other = m.others (table_at table place) stands.listed in
       stands_kept (table_at table) place refl held old new other.0 other.1 stands
 
   -- in another tree than one that was made
-  away : (table : Table) (place : Place) (held : List Cells) → Stands (table_at table) place held old → (q : Table) → IsAmong more q → place.tree ≢ (m.places q).tree
+  away : (table : Table) (place : Place) (held : List Values) → Stands (table_at table) place held old → (q : Table) → IsAmong more q → place.tree ≢ (m.places q).tree
   away table place held stands q made = (m.others (table_at table place) stands.listed).2 q (stands_among more q made)
 
   edition_at : (table : Table) (d : IsAmong more table ⊎ (IsAmong more table → ⊥)) → IsAmong (tables ++ more) table → (at table d).tree ≢ t.edition.tree
@@ -67,15 +67,15 @@ module _ (tables more : List Table) (number : ℕ) (rows : RowKey → Option Row
   apart_at : (x y : Table) (d : IsAmong more x ⊎ (IsAmong more x → ⊥)) (e : IsAmong more y ⊎ (IsAmong more y → ⊥)) → IsAmong (tables ++ more) x → IsAmong (tables ++ more) y → x ≢ y → (at x d).tree ≢ (at y e).tree
   unfolding at
   apart_at x y (inl a) (inl b) h k apart = m.apart x y (stands_among more x a) (stands_among more y b) apart
-  apart_at x y (inl a) (inr o) h k apart = λ e. away y (t.places y) (columns_of y t.list) (t.rolls y (early y o k)) x a (sym e)
-  apart_at x y (inr o) (inl b) h k apart = away x (t.places x) (columns_of x t.list) (t.rolls x (early x o h)) y b
+  apart_at x y (inl a) (inr o) h k apart = λ e. away y (t.places y) (map values (rows y)) (t.rolls y (early y o k)) x a (sym e)
+  apart_at x y (inr o) (inl b) h k apart = away x (t.places x) (map values (rows x)) (t.rolls x (early x o h)) y b
   apart_at x y (inr o) (inr p) h k apart = t.apart x y (early x o h) (early y p k) apart
 
-  stand_at : (table : Table) (d : IsAmong more table ⊎ (IsAmong more table → ⊥)) → IsAmong (tables ++ more) table → Stands (table_at table) (at table d) (columns_of table t.list) new
+  stand_at : (table : Table) (d : IsAmong more table ⊎ (IsAmong more table → ⊥)) → IsAmong (tables ++ more) table → Stands (table_at table) (at table d) (map values (rows table)) new
   unfolding at
   stand_at table (inl made) h =
-      subst (λ held. Stands (table_at table) (m.places table) held new) (sym (t.beyond table (fresh table (stands_among more table made)))) (m.stand table (stands_among more table made))
-  stand_at table (inr was) h = kept table (t.places table) (columns_of table t.list) (t.rolls table (early table was h))
+      subst (λ held. Stands (table_at table) (m.places table) (map values held) new) (sym (t.none table (fresh table (stands_among more table made)))) (m.stand table (stands_among more table made))
+  stand_at table (inr was) h = kept table (t.places table) (map values (rows table)) (t.rolls table (early table was h))
 
   -- the tables are there, with those that were made
   pub more_tables : TablesOf (tables ++ more) number new rows
@@ -84,9 +84,7 @@ module _ (tables more : List Table) (number : ℕ) (rows : RowKey → Option Row
     places = λ table. at table (among_or_not more table);
     edition_apart = λ table. edition_at table (among_or_not more table);
     apart = λ x y. apart_at x y (among_or_not more x) (among_or_not more y);
-    list = t.list;
-    at = t.at;
-    beyond = λ table none. t.beyond table (λ h. none (is_among (tables ++ more) table (has_left tables more table (stands_among tables table h))));
+    none = λ table away. t.none table (λ h. away (is_among (tables ++ more) table (has_left tables more table (stands_among tables table h))));
     editions = kept Edition t.edition (numbered number) t.editions;
     rolls = λ table. stand_at table (among_or_not more table);
   }
@@ -106,13 +104,13 @@ one_row : (n m : ℕ) → with_row (Int (pos 1) ∷ []) (Int (pos 1) ∷ Int (po
 one_row n m = ap (λ (b : Bool). (Int (pos 1) ∷ Int (pos m) ∷ []) ∷ cond (not (b && true)) (numbered n) []) (int_self (pos 1))
 
 -- the tables with another number, under the same schema
-other_number : (tables : List Table) (number other : ℕ) (rows : RowKey → Option Row) (old new : Database) → IsLeftAlone Edition old.schema → TablesOf tables number old rows
+other_number : (tables : List Table) (number other : ℕ) (rows : AllRows) (old new : Database) → IsLeftAlone Edition old.schema → TablesOf tables number old rows
     → Puts (table_at Edition) (Int (pos 1) ∷ []) (Int (pos 1) ∷ Int (pos other) ∷ []) old new → TablesOf tables other new rows × (new.schema ≡ old.schema)
 unfolding Puts
 other_number tables number other rows old new alone t puts =
     let done = puts t.edition (numbered number) (alone t.edition t.editions.listed) t.editions in (
-      stand_as tables number other old new rows rows t (λ k. refl) (subst (λ held. Stands (table_at Edition) t.edition held new) (one_row number other) done.0)
-          (λ table h. stands_apart (table_at table) (t.places table) refl (columns_of table t.list) t.edition.tree old new (t.edition_apart table h) done.1 (t.rolls table h)),
+      stand_as tables number other old new rows t (subst (λ held. Stands (table_at Edition) t.edition held new) (one_row number other) done.0)
+          (λ table h. stands_apart (table_at table) (t.places table) refl (map values (rows table)) t.edition.tree old new (t.edition_apart table h) done.1 (t.rolls table h)),
       done.1.schema,
     )
 
@@ -135,7 +133,7 @@ old_placements First = inr (inr (inr (inr (inr (inl refl)))))
 old_placements Second = inr (inr (inr (inr (inr (inl refl)))))
 old_placements Third = inr (inr (inr (inr (inr (inl refl)))))
 
-module _ (e : AnEdition) (number : ℕ) (rows : RowKey → Option Row) (old new : Database) (t : TablesOf (rolls_of e) number old rows) (m : MakesTables (beyond e) old new) where
+module _ (e : AnEdition) (number : ℕ) (rows : AllRows) (old new : Database) (t : TablesOf (rolls_of e) number old rows) (m : MakesTables (beyond e) old new) where
   stood : (table : Table) → IsAmong raised table → (place : Place) × Lists old.schema (table_at table place)
   unfolding IsAmong
   stood table (inl is) = (t.edition, subst (λ it. Lists old.schema (table_at it t.edition)) (sym is) t.editions.listed)
@@ -166,7 +164,7 @@ in_edition e table among none = elim (has_either (rolls_of e) (beyond e) table (
 ]
 
 -- each other table stays, where tables are made and rows changed
-others_extended : (e : AnEdition) (number : ℕ) (rows : RowKey → Option Row) (a b c : Database) → TablesOf (rolls_of e) number a rows → MakesTables (beyond e) a b → Spares b c → LeavesTables a c
+others_extended : (e : AnEdition) (number : ℕ) (rows : AllRows) (a b c : Database) → TablesOf (rolls_of e) number a rows → MakesTables (beyond e) a b → Spares b c → LeavesTables a c
 unfolding LeavesTables
 others_extended e number rows a b c t m spares any listed other =
     let was = m.others any listed in
@@ -185,7 +183,7 @@ others_extended e number rows a b c t m spares any listed other =
     )
 
 -- and where the number of the edition is put first
-others_lifted : (tables : List Table) (number other : ℕ) (rows : RowKey → Option Row) (a b c : Database) → IsLeftAlone Edition a.schema → TablesOf tables number a rows
+others_lifted : (tables : List Table) (number other : ℕ) (rows : AllRows) (a b c : Database) → IsLeftAlone Edition a.schema → TablesOf tables number a rows
     → Puts (table_at Edition) (Int (pos 1) ∷ []) (Int (pos 1) ∷ Int (pos other) ∷ []) a b → LeavesTables b c → LeavesTables a c
 unfolding Puts LeavesTables
 others_lifted tables number other rows a b c alone t puts later any listed away =

@@ -1,9 +1,10 @@
 -- What was read from the tables says whether they stand for a fit office.
-use Rattle.std.proofs.Common.{◌≡◌, ◌≢◌, ℕ, List, [], ◌∷◌, map, drop, refl, sym, ap, subst, nat_lt, ◌^◌, true, IsTrue, length, Option, arith, inl, inr, pos, get_or, ◌∙◌}
+use Rattle.std.proofs.Common.{◌≡◌, ◌≢◌, ℕ, List, [], ◌∷◌, map, drop, refl, sym, ap, subst, nat_lt, ◌^◌, true, IsTrue, length, arith, inl, inr, pos, get_or, ◌∙◌}
 use Rattle.std.specs.List.Sorted.{IsPermutation}
 use Rattle.std.proofs.lemmas.List.Sorted.{IsPermutation-trans, IsPermutation-sym, length_permutation}
 use Rattle.sqlite_rules.specs.Lists.{Has}
-use Rattle.sqlite.specs.Order.{Row as Cells, column}
+use Rattle.sqlite.specs.Order.{Row as Values, column}
+use Rattle.sqlite.specs.declared.types.Value.{Value}
 use Rattle.sqlite.specs.declared.types.Value.TheVariants.{Int}
 use Rattle.sqlite.specs.Effect.{Database}
 use Rattle.sqlite.specs.State.{State as Seen, IsLive}
@@ -11,31 +12,38 @@ use Rattle.tables.specs.Table.{Place, Lists, table_at}
 use Rattle.tables.specs.Keyed.{Stands}
 use Rattle.tables.specs.Steps.{Shows}
 use Rattle.tables.proofs.Runs.{low_tree}
-use Rattle.rolls.specs.declared.row.Row.{Row}
 use Rattle.rolls.specs.State.{State}
-use Rattle.rolls.specs.From.{are_apart, row_in}
 use Rattle.row_data.specs.declared.table.Table.{Table}
 use Rattle.row_data.specs.declared.table.Table.TheVariants.{Edition}
-use Rattle.rolls.specs.declared.row.RowKey.{RowKey}
+use Rattle.row_data.specs.Rows.{AllRows, RowOf, of_table}
 use Rattle.editions.specs.declared.Edition.{Edition as AnEdition}
-use Rattle.editions.specs.Editions.{AreRowsIn, row_at}
+use Rattle.editions.specs.Editions.{AreRowsIn, rows_in_edition}
 use Rattle.store.specs.Editions.{number_of, rolls_of}
-use Rattle.store.specs.Rows.{IsAmong, columns_of}
+use Rattle.store.specs.Rows.{IsAmong, values}
 use Rattle.store.specs.Tables.{HoldIn, StandsIn, numbered}
 use Rattle.store.specs.Reading.{AreAllListed, IsUnfitIn}
-use Rattle.store.specs.Inside.Reading.{HoldsCells, HoldsNoRow}
-use Rattle.store.proofs.Cells.{two_after}
-use Rattle.store.proofs.Permutation.{has_permuted, rows_permuted, permuted_by_tables}
-use Rattle.store.proofs.Fitness.{is_typed, row_of_columns}
+use Rattle.store.specs.Inside.Reading.{HoldsColumns, HoldsNoRow}
+use Rattle.store.proofs.Among.{among_or_not}
+use Rattle.store.proofs.Permutation.{has_permuted, rows_permuted}
+use Rattle.sqlite_keyed.proofs.ListLemmas.{IsPermutation-same}
+use Rattle.store.proofs.Fitness.{fit_rows, one_of_all}
+
+-- three columns, of which the first is the rowid
+two_after : (cells : Values) (a b : Value) → length cells ≡ 3 → column cells 1 ≡ a → column cells 2 ≡ b → ◌≡◌ {A = Values} (a ∷ b ∷ []) (drop 1 cells)
+two_after [] a b h p q = absurd (omega (arith, h))
+two_after (w ∷ []) a b h p q = absurd (omega (arith, h))
+two_after (w ∷ x ∷ []) a b h p q = absurd (omega (arith, h))
+two_after (w ∷ x ∷ y ∷ []) a b h p q = λ i. sym p i ∷ sym q i ∷ []
+two_after (w ∷ x ∷ y ∷ z ∷ more) a b h p q = absurd (omega (arith, h))
 
 -- one row with these two columns after its rowid is that of the edition with this number
-pub is_numbered : (number : ℕ) (all : List Cells) (cells : Cells) → length all ≡ 1 → cells ≡ get_or all 0 cells → length cells ≡ 3 → column cells 1 ≡ Int (pos 1) → column cells 2 ≡ Int (pos number) → map (drop 1) all ≡ numbered number
+pub is_numbered : (number : ℕ) (all : List Values) (cells : Values) → length all ≡ 1 → cells ≡ get_or all 0 cells → length cells ≡ 3 → column cells 1 ≡ Int (pos 1) → column cells 2 ≡ Int (pos number) → map (drop 1) all ≡ numbered number
 is_numbered number [] cells one is three p q = absurd (omega (arith, one))
-is_numbered number (x ∷ []) cells one is three p q = ap (λ (row : Cells). drop 1 row ∷ []) (sym is) ∙ ap (λ (row : Cells). row ∷ []) (sym (two_after cells (Int (pos 1)) (Int (pos number)) three p q))
+is_numbered number (x ∷ []) cells one is three p q = ap (λ (row : Values). drop 1 row ∷ []) (sym is) ∙ ap (λ (row : Values). row ∷ []) (sym (two_after cells (Int (pos 1)) (Int (pos number)) three p q))
 is_numbered number (x ∷ y ∷ more) cells one is three p q = absurd (omega (arith, one))
 
 -- tables that hold rows are listed
-pub listed_in : (e : AnEdition) (db : Database) (rows : RowKey → Option Row) → HoldIn e db rows → AreAllListed (rolls_of e) db.schema
+pub listed_in : (e : AnEdition) (db : Database) (rows : AllRows) → HoldIn e db rows → AreAllListed (rolls_of e) db.schema
 listed_in e db rows t = record {
   edition = t.edition;
   places = t.places;
@@ -47,15 +55,15 @@ listed_in e db rows t = record {
 
 -- tables that are listed otherwise stand for no office
 pub unlisted : (e : AnEdition) (db : Database) → (AreAllListed (rolls_of e) db.schema → ⊥) → IsUnfitIn e db
-unlisted e db none office fit stands = none (listed_in e db (row_at e office) stands.holds)
+unlisted e db none office fit stands = none (listed_in e db (rows_in_edition e office) stands.holds)
 
-one_has : (x : Cells) (rows : List Cells) → length rows ≡ 1 → ((y : Cells) → Has rows y → Has (x ∷ []) y) → rows ≡ x ∷ []
+one_has : (x : Values) (rows : List Values) → length rows ≡ 1 → ((y : Values) → Has rows y → Has (x ∷ []) y) → rows ≡ x ∷ []
 one_has x [] h among = absurd (omega (arith, h))
 one_has x (y ∷ []) h among = elim (among y (inl refl)) [ inl same ↦ ap (λ z. z ∷ []) same | inr none ↦ absurd none ]
 one_has x (y ∷ z ∷ rows) h among = absurd (omega (arith, h))
 
 -- one row alone is in one order
-alone : (x : Cells) (rows : List Cells) → IsPermutation rows (x ∷ []) → rows ≡ x ∷ []
+alone : (x : Values) (rows : List Values) → IsPermutation rows (x ∷ []) → rows ≡ x ∷ []
 alone x rows same = one_has x rows (sym (length_permutation rows (x ∷ []) same)) (has_permuted rows (x ∷ []) same)
 
 module _ (s : Seen) (live : IsLive s) (open_ : IsTrue s.is_open) where
@@ -66,7 +74,7 @@ module _ (s : Seen) (live : IsLive s) (open_ : IsTrue s.is_open) where
   low_at table place listed = low_tree s.now.schema s.now.trees (table_at table place) (live open_).0 listed
 
   -- another number
-  pub other_number : (e : AnEdition) (rows : List Cells) (new : Seen) → Shows (table_at Edition) rows s new → map (drop 1) rows ≢ numbered (number_of e) → IsUnfitIn e s.now
+  pub other_number : (e : AnEdition) (rows : List Values) (new : Seen) → Shows (table_at Edition) rows s new → map (drop 1) rows ≢ numbered (number_of e) → IsUnfitIn e s.now
   other_number e rows new shows other office fit stands =
       let t = stands.holds in
       let here = shows.stands t.edition t.editions.listed (low_edition t.edition t.editions.listed) in
@@ -78,33 +86,35 @@ module _ (s : Seen) (live : IsLive s) (open_ : IsTrue s.is_open) where
       let t = stands.holds in
       let there = t.rolls table among in
       let here = n.holds (t.places table) there.listed (low_at table (t.places table) there.listed) in
-      let same : IsPermutation n.all (columns_of table t.list) = IsPermutation-trans _ _ _ here.holds (IsPermutation-sym _ _ there.holds) in
-      let it = row_of_columns table t.list n.cells (has_permuted _ _ same n.cells n.among) in
-      n.none it.0 it.2 (is_typed e office t.list it.0 fit t.at it.1) (sym it.3)
+      let same = IsPermutation-trans _ _ _ here.holds (IsPermutation-sym _ _ there.holds) in
+      let it = one_of_all _ values (rows_in_edition e office table) n.columns (fit_rows e office fit table) (has_permuted n.all _ same n.columns n.among) in
+      n.none it.0 it.1 it.2
 
   -- rows that were read, those of the tables of an edition alone
-  module _ (e : AnEdition) (rows : List Row) (holds : (table : Table) → IsAmong (rolls_of e) table → HoldsCells table (columns_of table rows) s.now) (beyond : (table : Table) → (IsAmong (rolls_of e) table → ⊥) → columns_of table rows ≡ []) where
+  module _ (e : AnEdition) (rows : List RowOf) (holds : (table : Table) → IsAmong (rolls_of e) table → HoldsColumns table (map values (of_table rows table)) s.now) (others : (table : Table) → (IsAmong (rolls_of e) table → ⊥) → of_table rows table ≡ []) where
     -- they are those of an office that the tables stand for
     pub are_in : (office : State) → StandsIn e s.now office → AreRowsIn e rows office
     are_in office stands =
         let t = stands.holds in
-        let each : (table : Table) → IsAmong (rolls_of e) table → IsPermutation (columns_of table t.list) (columns_of table rows) = λ table among.
-        let there = t.rolls table among in
-        let here = holds table among (t.places table) there.listed (low_at table (t.places table) there.listed) in
-        IsPermutation-trans _ _ _ there.holds (IsPermutation-sym _ _ here.holds) in
-        let at = rows_permuted t.list rows (row_at e office) (permuted_by_tables (rolls_of e) t.list rows t.beyond beyond each) t.at in
-        record { apart = at.apart; each = at.each; allowed = stands.allowed }
+        record {
+          same = λ table. elim (among_or_not (rolls_of e) table) [
+            | inl among ↦
+                let there = t.rolls table among in
+                let here = holds table among (t.places table) there.listed (low_at table (t.places table) there.listed) in
+                rows_permuted _ _ (IsPermutation-trans _ _ _ here.holds (IsPermutation-sym _ _ there.holds))
+            | inr away ↦ IsPermutation-same _ _ (others table away ∙ sym (t.none table away))
+          ];
+          allowed = stands.allowed;
+        }
 
-    -- and the tables hold them, where no key stands twice
-    pub stood : (l : AreAllListed (rolls_of e) s.now.schema) (number : List Cells) (mid : Seen) → Shows (table_at Edition) number s mid → map (drop 1) number ≡ numbered (number_of e) → IsTrue (are_apart rows) → HoldIn e s.now (row_in rows)
-    stood l number mid shows is apart = record {
+    -- and the tables hold them
+    pub stood : (l : AreAllListed (rolls_of e) s.now.schema) (number : List Values) (mid : Seen) → Shows (table_at Edition) number s mid → map (drop 1) number ≡ numbered (number_of e) → HoldIn e s.now (of_table rows)
+    stood l number mid shows is = record {
       edition = l.edition;
       places = l.places;
       edition_apart = l.edition_apart;
       apart = l.apart;
-      list = rows;
-      at = record { apart = apart; each = λ k. refl };
-      beyond = beyond;
+      none = others;
       editions = subst (λ all. Stands (table_at Edition) l.edition all s.now) is (shows.stands l.edition l.edition_listed (low_edition l.edition l.edition_listed));
       rolls = λ table among. holds table among (l.places table) (l.rolls_listed table among) (low_at table (l.places table) (l.rolls_listed table among));
     }

@@ -1,9 +1,10 @@
 -- Two databases with the same trees list the same tables, so these hold the same rows, in one edition, and the rows determine the office.
-use Rattle.std.proofs.Common.{◌≡◌, ◌⊎◌, ◌<◌, arith, ℕ, List, Option, refl, sym, subst, ◌∙◌, map, inl, inr}
+use Rattle.std.proofs.Common.{◌≡◌, ◌⊎◌, ◌<◌, arith, ℕ, List, refl, sym, subst, ◌∙◌, map, inl, inr}
 use Rattle.std.specs.List.Sorted.{IsPermutation}
 use Rattle.std.proofs.lemmas.List.Sorted.{IsPermutation-trans, IsPermutation-sym}
+use Rattle.sqlite_keyed.proofs.ListLemmas.{IsPermutation-same}
 use Rattle.sqlite.specs.Effect.{Database, IsDatabase}
-use Rattle.sqlite.specs.Order.{Row as Cells}
+use Rattle.sqlite.specs.Order.{Row as Values}
 use Rattle.sqlite.specs.Table.{Table as AnyTable}
 use Rattle.sqlite_rules.specs.Lists.{Has}
 use Rattle.row_data.specs.declared.table.Table.{Table}
@@ -12,45 +13,44 @@ use Rattle.tables.specs.Table.{Place, cells, table_at}
 use Rattle.tables.specs.Keyed.{Stands}
 use Rattle.tables.proofs.SameTrees.{listed_so, stands_so}
 use Rattle.tables.proofs.Runs.{listed_once}
-use Rattle.rolls.specs.declared.row.Row.{Row}
-use Rattle.rolls.specs.declared.row.RowKey.{RowKey}
-use Rattle.rolls.specs.declared.row.RowKey.TheVariants as key
+use Rattle.row_data.specs.Rows.{AllRows, RowOf, SameRows, of_table}
+use Rattle.row_lists.specs.Laws.{RowsGiveOffice}
 use Rattle.rolls.specs.Fit.{IsFit}
-use Rattle.rolls.specs.From.{AreRowsOf, row_in}
-use Rattle.rolls.specs.Laws.{RowsGiveOffice}
+use Rattle.rolls.specs.Rows.{AreRowsOf}
 use Rattle.rolls.specs.State.{State}
 use Rattle.editions.specs.declared.Edition.{Edition as AnEdition}
 use Rattle.editions.specs.declared.Edition.TheVariants.{First, Second, Third}
-use Rattle.editions.specs.Editions.{HaveNoLater, Renews, renewed, row_at}
-use Rattle.store.specs.Rows.{columns_of, stored_tables}
+use Rattle.editions.specs.Editions.{HaveNoLater, Renews, renewed, rows_in_edition}
+use Rattle.store.specs.Rows.{stored_tables, values}
 use Rattle.store.specs.Editions.{beyond, latest, number_of, rolls_of}
 use Rattle.store.specs.Tables.{HasNoneOf, HoldIn, Opens, StandsIn, TablesOf, numbered}
-use Rattle.store.proofs.Columns.{is_among}
+use Rattle.store.proofs.Among.{among_or_not, is_among}
+use Rattle.store.proofs.Gathered.{gathered, of_gathered}
 use Rattle.store.proofs.Standing.{in_latest, stand_as}
-use Rattle.store.proofs.Permutation.{rows_permuted, permuted_by_tables}
+use Rattle.store.proofs.Permutation.{rows_permuted}
 
 -- so their tables hold the same rows
-holds_so : (tables : List Table) (number : ℕ) (a b : Database) (rows : RowKey → Option Row) → IsDatabase a → IsDatabase b → b.trees ≡ a.trees → TablesOf tables number a rows → TablesOf tables number b rows
+holds_so : (tables : List Table) (number : ℕ) (a b : Database) (rows : AllRows) → IsDatabase a → IsDatabase b → b.trees ≡ a.trees → TablesOf tables number a rows → TablesOf tables number b rows
 holds_so tables number a b rows p q trees t =
     let all = listed_so a b p q trees in
-    stand_as tables number number a b rows rows t (λ k. refl) (stands_so (table_at Edition) t.edition (numbered number) a b all trees t.editions)
-    (λ table among. stands_so (table_at table) (t.places table) (columns_of table t.list) a b all trees (t.rolls table among))
+    stand_as tables number number a b rows t (stands_so (table_at Edition) t.edition (numbered number) a b all trees t.editions)
+    (λ table among. stands_so (table_at table) (t.places table) (map values (rows table)) a b all trees (t.rolls table among))
 
 -- what a table holds it holds at one place
-held_once : (table : Table) (p q : Place) (xs ys : List Cells) (db : Database) → Stands (table_at table) p xs db → Stands (table_at table) q ys db → IsPermutation xs ys
+held_once : (table : Table) (p q : Place) (xs ys : List Values) (db : Database) → Stands (table_at table) p xs db → Stands (table_at table) q ys db → IsPermutation xs ys
 held_once table p q xs ys db s t =
     let same : table_at table p ≡ table_at table q = listed_once db.schema (table_at table) p q refl s.listed t.listed in
     IsPermutation-trans _ _ _ (subst (λ (it : AnyTable). IsPermutation xs (map (cells it) (db.trees it.tree))) same s.holds) (IsPermutation-sym _ _ t.holds)
 
--- the tables hold one row at each key at most
-one_row : (e : AnEdition) (db : Database) (rows others : RowKey → Option Row) → HoldIn e db rows → HoldIn e db others → (k : RowKey) → rows k ≡ others k
-one_row e db rows others s t k =
-    let same = permuted_by_tables (rolls_of e) s.list t.list s.beyond t.beyond (λ table among. held_once table (s.places table) (t.places table) (columns_of table s.list) (columns_of table t.list) db (s.rolls table among) (t.rolls table among)) in
-    let at = rows_permuted s.list t.list rows same s.at in
-    sym (at.each k) ∙ t.at.each k
+-- the tables hold the same rows, in whatever order
+same_rows : (e : AnEdition) (db : Database) (rows others : AllRows) → HoldIn e db rows → HoldIn e db others → SameRows rows others
+same_rows e db rows others s t table = elim (among_or_not (rolls_of e) table) [
+  | inl among ↦ rows_permuted _ _ (held_once table (s.places table) (t.places table) (map values (rows table)) (map values (others table)) db (s.rolls table among) (t.rolls table among))
+  | inr away ↦ IsPermutation-same _ _ (s.none table away ∙ sym (t.none table away))
+]
 
 -- a table that is listed is there
-listed_there : (table : Table) (place : Place) (held : List Cells) (db : Database) (tables : List Table) → Stands (table_at table) place held db → Has tables table → HasNoneOf tables db.schema → ⊥
+listed_there : (table : Table) (place : Place) (held : List Values) (db : Database) (tables : List Table) → Stands (table_at table) place held db → Has tables table → HasNoneOf tables db.schema → ⊥
 listed_there table place held db tables stands among none =
     let missing = none table among in
     let there = stands.listed.named in
@@ -75,25 +75,25 @@ one_or_apart Third Second = inr (inl (record { table = Choice; there = inr (inr 
 one_or_apart Third Third = inl refl
 
 -- tables that hold rows in an edition are not all missing
-pub not_beyond : (e f : AnEdition) (db : Database) (rows : RowKey → Option Row) → HoldIn e db rows → Apart e f → HasNoneOf (beyond f) db.schema → ⊥
-not_beyond e f db rows t apart = listed_there apart.table (t.places apart.table) (columns_of apart.table t.list) db (beyond f) (t.rolls apart.table (is_among (rolls_of e) apart.table apart.there)) apart.beyond
+pub not_beyond : (e f : AnEdition) (db : Database) (rows : AllRows) → HoldIn e db rows → Apart e f → HasNoneOf (beyond f) db.schema → ⊥
+not_beyond e f db rows t apart = listed_there apart.table (t.places apart.table) (map values (rows apart.table)) db (beyond f) (t.rolls apart.table (is_among (rolls_of e) apart.table apart.there)) apart.beyond
 
 -- no row of an office in an edition is of a later one
-none_later : (e : AnEdition) (list : List Row) (office : State) → ((k : RowKey) → row_in list k ≡ row_at e office k) → HaveNoLater e list
-none_later First list office at = λ n. at (key.RoundAim n)
+none_later : (e : AnEdition) (list : List RowOf) (office : State) → ((table : Table) → of_table list table ≡ rows_in_edition e office table) → HaveNoLater e list
+none_later First list office at = at RoundAim
 none_later Second list office at = tt
 none_later Third list office at = tt
 
 -- the tables stand for one office in an edition
 one_office : RowsGiveOffice → Renews → (e : AnEdition) (db : Database) (office again : State) → StandsIn e db office → StandsIn e db again → IsFit office → IsFit again → again ≡ office
 one_office one renews e db office again s t fit fits =
-    let list = s.holds.list in
-    let at = s.holds.at in
-    let none = none_later e list office at.each in
-    let same = one_row e db (row_at e office) (row_at e again) s.holds t.holds in
-    let of : AreRowsOf (renewed e list) office = (renews e list office none fit).0 (record { apart = at.apart; each = at.each; allowed = s.allowed }) in
-    let of_again : AreRowsOf (renewed e list) again = (renews e list again none fits).0 (record { apart = at.apart; each = λ k. at.each k ∙ same k; allowed = t.allowed }) in
-    one again office fits fit (λ k. sym (of_again.each k) ∙ of.each k)
+    let list = gathered (rows_in_edition e office) in
+    let at = of_gathered (rows_in_edition e office) in
+    let none = none_later e list office at in
+    let same = same_rows e db (rows_in_edition e office) (rows_in_edition e again) s.holds t.holds in
+    let of : AreRowsOf (renewed e list) office = (renews e list office none fit).0 (record { same = λ table. IsPermutation-same _ _ (at table); allowed = s.allowed }) in
+    let of_again : AreRowsOf (renewed e list) again = (renews e list again none fits).0 (record { same = λ table. IsPermutation-trans _ _ _ (IsPermutation-same _ _ (at table)) (same table); allowed = t.allowed }) in
+    one again office fits fit (λ table. IsPermutation-trans _ _ _ (IsPermutation-sym _ _ (of_again table)) (of table))
 
 -- so do those of two databases with the same trees, in any editions
 same_office : RowsGiveOffice → Renews → (e f : AnEdition) (db found : Database) (office again : State) → IsDatabase db → IsDatabase found → found.trees ≡ db.trees → StandsIn e db office → StandsIn f found again → IsFit office → IsFit again
@@ -101,18 +101,18 @@ same_office : RowsGiveOffice → Renews → (e f : AnEdition) (db found : Databa
 same_office one renews e f db found office again sound here trees s t fit fits = elim (one_or_apart e f) [
   | inl same ↦ one_office one renews f found office again
       (subst (λ it. StandsIn it found office) same (record { holds = held; allowed = s.allowed; alone = subst (λ it. HasNoneOf (beyond it) found.schema) (sym same) t.alone })) t fit fits
-  | inr (inl apart) ↦ absurd (not_beyond e f found (row_at e office) (holds_so (rolls_of e) (number_of e) db found (row_at e office) sound here trees s.holds) apart t.alone)
-  | inr (inr apart) ↦ absurd (not_beyond f e db (row_at f again) (holds_so (rolls_of f) (number_of f) found db (row_at f again) here sound (sym trees) t.holds) apart s.alone)
+  | inr (inl apart) ↦ absurd (not_beyond e f found (rows_in_edition e office) (holds_so (rolls_of e) (number_of e) db found (rows_in_edition e office) sound here trees s.holds) apart t.alone)
+  | inr (inr apart) ↦ absurd (not_beyond f e db (rows_in_edition f again) (holds_so (rolls_of f) (number_of f) found db (rows_in_edition f again) here sound (sym trees) t.holds) apart s.alone)
 ]
   where
-    held : HoldIn e found (row_at e office)
-    held = holds_so (rolls_of e) (number_of e) db found (row_at e office) sound here trees s.holds
+    held : HoldIn e found (rows_in_edition e office)
+    held = holds_so (rolls_of e) (number_of e) db found (rows_in_edition e office) sound here trees s.holds
 
 -- what is opened from the trees alone
 pub opens_again : RowsGiveOffice → Renews → (e : AnEdition) (db found opened : Database) (office again : State) → IsDatabase db → IsDatabase found → found.trees ≡ db.trees → StandsIn e db office → IsFit office → IsFit again → Opens found opened again
     → again ≡ office
 opens_again one renews e db found opened office again sound here trees stands fit fits (inl made) =
-    let held = holds_so (rolls_of e) (number_of e) db found (row_at e office) sound here trees stands.holds in
+    let held = holds_so (rolls_of e) (number_of e) db found (rows_in_edition e office) sound here trees stands.holds in
     absurd (listed_there Edition held.edition (numbered (number_of e)) found stored_tables held.editions (inl refl) made.0)
 opens_again one renews e db found opened office again sound here trees stands fit fits (inr (inl is)) =
     same_office one renews e latest db found office again sound here trees stands (in_latest is.1) fit fits

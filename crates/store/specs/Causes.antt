@@ -3,39 +3,34 @@ use Rattle.std.specs.Prelude.{◌≡◌, ◌⊎◌, pos, ℕ, List, [], ◌∷�
 use Rattle.sqlite.specs.declared.types.Value.TheVariants.{Int}
 use Rattle.sqlite.specs.Effect.{Database}
 use Rattle.sqlite_rules.specs.Lists.{Has}
-use Rattle.rolls.specs.declared.row.Change.{Change}
-use Rattle.rolls.specs.declared.row.Change.TheVariants.{Add, Put, Take, TakeList, TakePlacements}
+use Rattle.row_data.specs.declared.row.Change.{Change}
+use Rattle.row_data.specs.declared.row.Change.TheVariants.{Add, Put, Remove}
 use Rattle.row_data.specs.declared.table.Table.{Table}
 use Rattle.row_data.specs.declared.table.Table.TheVariants.{Edition}
-use Rattle.tables.specs.declared.table.Group.TheVariants as group
-use Rattle.tables.specs.Table.{sharing, sql_of}
+use Rattle.row_data.specs.Rows.{RowOf}
+use Rattle.tables.specs.Table.{sql_of}
 use Rattle.tables.specs.Causes.{IsHindered, IsHinderedToPut, IsUnread, IsUnready, Went, WentPutting}
-use Rattle.sqlite.specs.Order.{Row as Cells}
+use Rattle.sqlite.specs.Order.{Row as Values}
 use Rattle.editions.specs.declared.Edition.{Edition as AnEdition}
 use Rattle.store.specs.Editions.{IsEarlier, beyond, latest, number_of, raised, rolls_of}
 use Rattle.store.specs.Reading.{AreAllListed}
-use Rattle.store.specs.Rows.{columns, stored_tables, key_columns, list_columns, round_columns, table_at_key, table_of}
+use Rattle.store.specs.Rows.{removal, stored_tables, values}
 use Rattle.store.specs.Saving.{AreActedOnAmong}
 use Rattle.store.specs.Tables.{HasNone, StandsIn}
-use Rattle.rolls.specs.declared.row.Row.{Row}
 use Rattle.rolls.specs.State.{State}
 use Rattle.editions.specs.Editions.{AreRowsIn, upgrade}
 
 -- a change is refused
 abbrev pub IsHinderedChange : Change → Option ℕ → Database → Type 0
-IsHinderedChange (Put row) = IsHinderedToPut (table_of row) (columns row)
-IsHinderedChange (Add row) = IsHindered (sql_of (table_of row)).insert (columns row)
-IsHinderedChange (Take key) = IsHindered (sql_of (table_at_key key)).delete (key_columns key)
-IsHinderedChange (TakeList round student) = IsHindered (sharing group.List).removal (list_columns round student)
-IsHinderedChange (TakePlacements round) = IsHindered (sharing group.Placed).removal (round_columns round)
+IsHinderedChange (Put row) = IsHinderedToPut row.table (values row.cells)
+IsHinderedChange (Add row) = IsHindered (sql_of row.table).insert (values row.cells)
+IsHinderedChange (Remove part) = IsHindered (removal part.group) (values part.cells)
 
 -- a change goes through
 abbrev pub GoesThrough : Change → Option ℕ → Database → Database → Type 0
-GoesThrough (Put row) = WentPutting (table_of row) (columns row)
-GoesThrough (Add row) = Went (sql_of (table_of row)).insert (columns row)
-GoesThrough (Take key) = Went (sql_of (table_at_key key)).delete (key_columns key)
-GoesThrough (TakeList round student) = Went (sharing group.List).removal (list_columns round student)
-GoesThrough (TakePlacements round) = Went (sharing group.Placed).removal (round_columns round)
+GoesThrough (Put row) = WentPutting row.table (values row.cells)
+GoesThrough (Add row) = Went (sql_of row.table).insert (values row.cells)
+GoesThrough (Remove part) = Went (removal part.group) (values part.cells)
 
 -- several go through one after another
 abbrev pub Ran : {X : Type 0} → (X → Option ℕ → Database → Database → Type 0) → List X → Option ℕ → Database → Database → Type 0
@@ -47,7 +42,7 @@ abbrev pub RanTables : List Table → Option ℕ → Database → Database → T
 RanTables = Ran (λ table. Went (sql_of table).create [])
 
 -- the row of the latest edition
-abbrev pub latest_number : Cells
+abbrev pub latest_number : Values
 latest_number = Int (pos 1) ∷ Int (pos (number_of latest)) ∷ []
 
 -- one of several is refused, once those before it went through
@@ -113,7 +108,7 @@ pub record IsHinderedRaising (limit : Option ℕ) (db : Database) : Type 0 where
   pub earlier : IsEarlier edition
   pub office : State
   pub stands : StandsIn edition db office
-  pub rows : List Row
+  pub rows : List RowOf
   pub are : AreRowsIn edition rows office
   pub hindered : IsHinderedToRaise edition (upgrade edition rows) limit db
 

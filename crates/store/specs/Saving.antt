@@ -1,5 +1,5 @@
 -- What saving changes does to the tables.
-use Rattle.std.specs.Prelude.{◌≡◌, ◌≢◌, ⊤, List, Option}
+use Rattle.std.specs.Prelude.{◌≡◌, ◌≢◌, ⊤, List}
 use Rattle.std.specs.List.{AllByRecursion}
 use Rattle.sqlite.specs.Schema.{Schema}
 use Rattle.sqlite.specs.Table.{Table as AnyTable}
@@ -7,13 +7,12 @@ use Rattle.sqlite_rules.specs.Lists.{Has}
 use Rattle.row_data.specs.declared.table.Table.{Table}
 use Rattle.sqlite.specs.Effect.{Database}
 use Rattle.sqlite.specs.State.{State as Seen}
-use Rattle.rolls.specs.declared.row.Row.{Row}
-use Rattle.rolls.specs.declared.row.RowKey.{RowKey}
-use Rattle.rolls.specs.declared.row.Change.{Change}
-use Rattle.rolls.specs.declared.row.Change.TheVariants.{Add, Take}
-use Rattle.rolls.specs.Rows.{AreFresh, after_changes}
+use Rattle.row_data.specs.declared.row.Change.{Change}
+use Rattle.row_data.specs.declared.row.Change.TheVariants.{Add}
+use Rattle.row_data.specs.Rows.{AllRows}
+use Rattle.row_data.specs.Changes.{AreFresh, after_changes, changed}
 use Rattle.tables.specs.Table.{Place, Lists, table_at}
-use Rattle.store.specs.Rows.{IsAmong, IsRollTable, rolls, table_at_key}
+use Rattle.store.specs.Rows.{IsAmong, IsRollTable, rolls}
 use Rattle.tables.specs.Writes.{IsInert}
 use Rattle.tables.specs.Inert.{IsActedOn}
 use Rattle.tables.specs.Steps.{HasSaved}
@@ -45,7 +44,7 @@ AreActedOn = AreActedOnAmong rolls
 
 -- whatever rows the tables held, they hold those after the changes
 unfoldable pub Saves : List Change → Database → Database → Type 0
-Saves changes old new = (rows : RowKey → Option Row) → TablesHold old rows → TablesHold new (after_changes changes rows)
+Saves changes old new = (rows : AllRows) → TablesHold old rows → TablesHold new (after_changes changes rows)
 
 -- the schema is as it was, and so is each table of it in whose tree no roll is listed
 pub record Spares (old new : Database) : Type 0 where
@@ -55,14 +54,12 @@ pub record Spares (old new : Database) : Type 0 where
 
 -- where the tables held rows, the other tables are left alone
 unfoldable pub LeavesOthers : Database → Database → Type 0
-LeavesOthers old new = (rows : RowKey → Option Row) → TablesHold old rows → Spares old new
+LeavesOthers old new = (rows : AllRows) → TablesHold old rows → Spares old new
 
--- what a change asks of the schema: where it adds a row, nothing; where it takes one out, that no foreign key acts on its table; and
--- else that none acts on the tables of the rolls
+-- what a change asks of the schema: where it adds a row, nothing, and else that no foreign key acts on its table
 abbrev pub Needs : Change → Schema → Type 0
 Needs (Add row) schema = ⊤
-Needs (Take at) schema = IsLeftAlone (table_at_key at) schema
-Needs _ schema = AreInert schema
+Needs c schema = IsRollTable (changed c) → IsLeftAlone (changed c) schema
 
 -- what changes ask of it
 abbrev pub AllNeed : List Change → Schema → Type 0
@@ -71,11 +68,11 @@ AllNeed changes schema = AllByRecursion (λ change. Needs change schema) changes
 -- the same, of a run of statements, which spare the other tables and add rows of new keys alone
 unfoldable pub Applies : List Change → Database → Database → Type 0
 Applies changes old new =
-    AllNeed changes old.schema → (rows : RowKey → Option Row) → TablesHold old rows → TablesHold new (after_changes changes rows) × Spares old new × AreFresh changes rows
+    AllNeed changes old.schema → (rows : AllRows) → TablesHold old rows → TablesHold new (after_changes changes rows) × Spares old new × AreFresh changes rows
 
 -- where the tables held rows, nothing stood at the key of a row when its turn to be added came
 unfoldable pub AddsNew : List Change → Database → Type 0
-AddsNew changes old = (rows : RowKey → Option Row) → TablesHold old rows → AreFresh changes rows
+AddsNew changes old = (rows : AllRows) → TablesHold old rows → AreFresh changes rows
 
 -- these changes were saved: the tables hold the rows after them, each other table stays, a crash leaves what is seen, and no row was added at
 -- a key that has one

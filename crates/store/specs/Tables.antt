@@ -1,17 +1,16 @@
 -- When the tables of a database hold the rows of an office.
-use Rattle.std.specs.Prelude.{◌≡◌, ◌≢◌, ◌⊎◌, ℕ, pos, false, List, [], ◌∷◌, Option}
+use Rattle.std.specs.Prelude.{◌≡◌, ◌≢◌, ◌⊎◌, ℕ, pos, false, List, [], ◌∷◌, map}
 use Rattle.sqlite.specs.declared.types.Value.TheVariants.{Int}
-use Rattle.sqlite.specs.Order.{Row as Cells}
+use Rattle.sqlite.specs.Order.{Row as Values}
 use Rattle.sqlite.specs.Schema.{Schema}
 use Rattle.sqlite.specs.Table.{Table as AnyTable}
 use Rattle.sqlite.specs.Tree.{Trees}
 use Rattle.sqlite.specs.Effect.{Database}
 use Rattle.sqlite.specs.State.{State as Seen}
 use Rattle.sqlite_rules.specs.Lists.{Has}
-use Rattle.rolls.specs.declared.row.Row.{Row}
-use Rattle.rolls.specs.declared.row.RowKey.{RowKey}
-use Rattle.rolls.specs.Rows.{row_of}
+use Rattle.rolls.specs.Rows.{rows_in}
 use Rattle.rolls.specs.State.{State, empty}
+use Rattle.row_data.specs.Rows.{AllRows}
 use Rattle.row_data.specs.declared.table.Table.{Table}
 use Rattle.row_data.specs.declared.table.Table.TheVariants.{Edition as EditionTable}
 use Rattle.tables.specs.Table.{Place, Lists, made_here, rules_of, shape_of, table_at}
@@ -19,39 +18,37 @@ use Rattle.tables.specs.Inert.{IsActedOn}
 use Rattle.tables.specs.Keyed.{Stands}
 use Rattle.tables.specs.Layout.{is_there}
 use Rattle.editions.specs.declared.Edition.{Edition}
-use Rattle.editions.specs.Editions.{Allows, row_at}
+use Rattle.editions.specs.Editions.{Allows, rows_in_edition}
 use Rattle.rolls.specs.Fit.{IsFit}
 use Rattle.store.specs.Editions.{IsEarlier, beyond, latest, number_of, rolls_of}
-use Rattle.store.specs.Rows.{AreRowsAt, IsAmong, columns_of, stored_tables}
+use Rattle.store.specs.Rows.{IsAmong, stored_tables, values}
 
 -- the one row of `edition`, with this number
-abbrev pub numbered : ℕ → List Cells
+abbrev pub numbered : ℕ → List Values
 numbered number = (Int (pos 1) ∷ Int (pos number) ∷ []) ∷ []
 
--- The edition's table has this number. These tables are listed with their columns and rules, each in a tree of its own, and at each
--- key there is exactly this row, in one of them. What else the schema lists is not looked at.
-pub record TablesOf (tables : List Table) (number : ℕ) (db : Database) (rows : RowKey → Option Row) : Type 0 where
+-- The edition's table has this number. These tables are listed with their columns and rules, each in a tree of its own, and hold
+-- these rows, in whatever order; no other table has rows. What else the schema lists is not looked at.
+pub record TablesOf (tables : List Table) (number : ℕ) (db : Database) (rows : AllRows) : Type 0 where
   pub edition : Place
   pub places : Table → Place
   pub edition_apart : (table : Table) → IsAmong tables table → (places table).tree ≢ edition.tree
   pub apart : (a b : Table) → IsAmong tables a → IsAmong tables b → a ≢ b → (places a).tree ≢ (places b).tree
-  pub list : List Row
-  pub at : AreRowsAt list rows
-  pub beyond : (table : Table) → (IsAmong tables table → ⊥) → columns_of table list ≡ []
+  pub none : (table : Table) → (IsAmong tables table → ⊥) → rows table ≡ []
   pub editions : Stands (table_at EditionTable) edition (numbered number) db
-  pub rolls : (table : Table) → IsAmong tables table → Stands (table_at table) (places table) (columns_of table list) db
+  pub rolls : (table : Table) → IsAmong tables table → Stands (table_at table) (places table) (map values (rows table)) db
 
 -- the tables hold these rows in an edition
-abbrev pub HoldIn : Edition → Database → (RowKey → Option Row) → Type 0
+abbrev pub HoldIn : Edition → Database → AllRows → Type 0
 HoldIn e = TablesOf (rolls_of e) (number_of e)
 
 -- the same of the edition in which they are made
-abbrev pub TablesHold : Database → (RowKey → Option Row) → Type 0
+abbrev pub TablesHold : Database → AllRows → Type 0
 TablesHold = HoldIn latest
 
 -- the tables hold the rows of this office, and nothing else
 abbrev pub StandsFor : Database → State → Type 0
-StandsFor db office = TablesHold db (row_of office)
+StandsFor db office = TablesHold db (rows_in office)
 
 -- none of these tables is there
 abbrev pub HasNoneOf : List Table → Schema → Type 0
@@ -72,7 +69,7 @@ AreRuled = AreRuledAmong stored_tables
 -- The tables stand for an office in an edition: they hold the rows that it has there, and nothing else; it may be told there; and no
 -- table has the name of one of a later edition.
 pub record StandsIn (e : Edition) (db : Database) (office : State) : Type 0 where
-  pub holds : HoldIn e db (row_at e office)
+  pub holds : HoldIn e db (rows_in_edition e office)
   pub allowed : Allows e office
   pub alone : HasNoneOf (beyond e) db.schema
 

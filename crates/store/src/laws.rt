@@ -3,11 +3,12 @@
 ghost use Rattle.store.specs.Laws.{OpensAgain};
 
 use editions::renewal_law;
+use row_lists::rows_law;
 
 /// Tables that stand for an office are opened as that office and no other, from the trees of their database alone.
 pub fn opening_law()
     ensures { OpensAgain }
 {
-    rolls::rows_law();
+    rows_law();
     renewal_law();
 }

@@ -9,8 +9,8 @@
 //! says what a crash leaves, which opens as the office that its tables stand for (`opening_law`). Other tables
 //! are left alone. Begin with `specs/Tables.antt`, then `store.rt`.
 //!
-//! A further table of rows is one of `TABLES` more, and an arm where rows are read and written; a further edition is an arm each in
-//! `edition.rt` and in `specs/Editions.antt`.
+//! A further table of rows is one of `TABLES` more; a further edition is an arm each in `edition.rt` and in
+//! `specs/Editions.antt`.
 #![tactic(auto)]
 
 mod all_tables;

@@ -12,7 +12,7 @@ ghost use Rattle.store.specs.Inside.Causes.{IsHinderedReadingIn};
 ghost use Rattle.tables.specs.Steps.{Rests};
 ghost use Rattle.rolls.specs.State.{State};
 ghost use Rattle.rolls.specs.Fit.{IsFit};
-ghost use Rattle.rolls.specs.From.{AreRowsOf};
+ghost use Rattle.rolls.specs.Rows.{AreRowsOf};
 ghost use Rattle.store.specs.Editions.{number_of, rolls_of};
 ghost use Rattle.store.specs.Tables.{numbered};
 ghost use Rattle.tables.specs.Layout.{IsListed};

@@ -1,176 +1,105 @@
 //! Changes, in a transaction.
 
-ghost use Rattle.std.specs.Prelude.{◌≡◌, ◌≢◌, cond, IsTrue, false, OnOk, OnErr};
+ghost use Rattle.std.specs.Prelude.{◌≡◌, ◌≢◌, IsTrue, false, OnOk, OnErr};
 ghost use Rattle.sqlite.specs.Effect.{IsDatabase};
 ghost use Rattle.sqlite.specs.State.{HasCleanDisk, Survives};
 ghost use Rattle.sqlite.specs.Held.{state};
-ghost use Rattle.tables.specs.Causes.{IsCaused, IsCausedInside, IsRunInside, IsStarvedInside, IsToldInside};
+ghost use Rattle.sqlite.specs.Values.{bound, bound_value};
+ghost use Rattle.sqlite_value.specs.Value.{owned};
+ghost use Rattle.tables.specs.Causes.{FailsToEnter, FailsToWrite, IsCaused, IsCausedInside, IsHindered, IsHinderedToEnter, IsRunInside, IsStarvedInside, IsToldInside, Went, WentEntering};
 ghost use Rattle.tables.specs.Steps.{Does, HasSaved, HasStepped, IsKept, IsLeft};
 ghost use Rattle.tables.specs.Inside.Steps.{Stays};
+ghost use Rattle.tables.specs.Table.{IsRowOf, key_in, table_at};
+ghost use Rattle.tables.specs.Writes.{Enters};
 ghost use Rattle.store.specs.Causes.{GoesThrough, IsHinderedAmong, IsHinderedChange, IsHinderedToSave};
 ghost use Rattle.store.specs.Inside.Causes.{FailsToChange};
-ghost use Rattle.store.specs.Rows.{is_generous};
+ghost use Rattle.store.specs.Rows.{removal, value_of, values};
 ghost use Rattle.store.specs.Saving.{Applies, AreActedOn, LeavesOthers, Saves};
-ghost use Rattle.store.specs.Inside.Saving.{AppliesOne, entering};
+ghost use Rattle.store.specs.Inside.Saving.{AppliesOne, IsPartOf, Leaves};
 
 use crate::fault::StoreFault;
-use rolls::{Change, Row, RowKey};
-use spa::Aim;
-use sqlite::{Alter, Connection, Transaction, params};
+use row_data::{Cell, Change, Group, Table};
+use sqlite::{Alter, Connection, Transaction};
+use sqlite_value::value::ValueRef;
+use tables::Group as Sharing;
 use tables::fault::TableFault;
 use tables::ready::need_open;
 use tables::statements::{Entering, delete, delete_group, enter};
-use tables::{Group, Table};
 
-/// The number that stands for a truth value.
-fn flag(value: bool) -> u32
-    ensures { result ≡ cond value 1 0 }
+/// The value of a cell.
+fn value(cell: &Cell) -> ValueRef<'_>
+    ensures { bound_value (owned result) ≡ value_of cell.now }
 {
-    if value { 1 } else { 0 }
-}
-
-/// Whether an aim is the generous one.
-fn is_generous(aim: Aim) -> bool
-    ensures { result ≡ is_generous aim }
-{
-    match aim {
-        Aim::Greedy => false,
-        Aim::Generous => true,
+    match cell {
+        Cell::Text(text) => ValueRef::Text(text.as_str().as_bytes()),
+        Cell::Number(number) => ValueRef::Int(i64::from(*number)),
+        Cell::Bytes(bytes) => ValueRef::Blob(bytes.as_slice()),
     }
 }
 
-/// Brings a row into its table.
-fn write_row<S: Alter>(
+/// Brings the row of these cells into its table.
+fn enter_cells<S: Alter>(
     tx: &mut Transaction<'_, S>,
     way: Entering,
-    row: &Row,
+    table: Table,
+    cells: &[Cell],
 ) -> Result<(), TableFault>
+    requires { IsRowOf table (values cells.now) }
+
     ensures same_reference { tx.new.conn.ghost_name ≡ tx.old.conn.ghost_name }
-    ensures step { Does (HasStepped (AppliesOne (entering way row.now))) result (state S.Store tx.old.conn.now) (state S.Store tx.new.conn.now) }
-    ensures ran { IsRunInside (GoesThrough (entering way row.now)) result (state S.Store tx.old.conn.now) (state S.Store tx.new.conn.now) }
-    ensures told { IsToldInside (FailsToChange (entering way row.now)) result (state S.Store tx.old.conn.now) (state S.Store tx.new.conn.now) }
-    ensures cause { IsCausedInside (IsHinderedChange (entering way row.now)) result (state S.Store tx.old.conn.now) (state S.Store tx.new.conn.now) }
+    ensures step { Does (HasStepped (Enters way (table_at table) (key_in table (values cells.now)) (values cells.now))) result (state S.Store tx.old.conn.now) (state S.Store tx.new.conn.now) }
+    ensures ran { IsRunInside (WentEntering way table (values cells.now)) result (state S.Store tx.old.conn.now) (state S.Store tx.new.conn.now) }
+    ensures told { IsToldInside (FailsToEnter way table (values cells.now)) result (state S.Store tx.old.conn.now) (state S.Store tx.new.conn.now) }
+    ensures cause { IsCausedInside (IsHinderedToEnter way table (values cells.now)) result (state S.Store tx.old.conn.now) (state S.Store tx.new.conn.now) }
 {
-    match row {
-        Row::Supervisor { code, label, quota } => enter(
-            tx,
-            way,
-            Table::Supervisor,
-            params![code.as_str(), label.as_str(), *quota],
-        ),
-        Row::Project {
-            code,
-            label,
-            supervisor,
-            quota,
-        } => enter(
-            tx,
-            way,
-            Table::Project,
-            params![code.as_str(), label.as_str(), supervisor.as_str(), *quota],
-        ),
-        Row::Student { code, label } => {
-            enter(
-                tx,
-                way,
-                Table::Student,
-                params![code.as_str(), label.as_str()],
-            )
-        }
-        Row::Round { number, is_open } => {
-            enter(tx, way, Table::Round, params![*number, flag(*is_open)])
-        }
-        Row::Choice {
-            round,
-            student,
-            place,
-            project,
-        } => enter(
-            tx,
-            way,
-            Table::Choice,
-            params![*round, student.as_str(), *place, project.as_str()],
-        ),
-        Row::Placement {
-            student,
-            round,
-            project,
-            rank,
-        } => enter(
-            tx,
-            way,
-            Table::Placement,
-            params![student.as_str(), *round, project.as_str(), *rank],
-        ),
-        Row::OldChoice {
-            round,
-            student,
-            place,
-            project,
-        } => enter(
-            tx,
-            way,
-            Table::OldChoice,
-            params![*round, student.as_str(), *place, project.as_str()],
-        ),
-        Row::OldPlacement {
-            student,
-            round,
-            project,
-            rank,
-        } => enter(
-            tx,
-            way,
-            Table::OldPlacement,
-            params![student.as_str(), *round, project.as_str(), *rank],
-        ),
-        Row::RoundAim { round, aim } => enter(
-            tx,
-            way,
-            Table::RoundAim,
-            params![*round, flag(is_generous(*aim))],
-        ),
-        Row::Import {
-            id,
-            kind,
-            bytes,
-            rows,
-        } => enter(
-            tx,
-            way,
-            Table::Import,
-            params![id.as_str(), kind.word(), bytes.as_slice(), *rows],
-        ),
+    match cells {
+        [a, b] => enter(tx, way, table, &[value(a), value(b)]),
+        [a, b, c] => enter(tx, way, table, &[value(a), value(b), value(c)]),
+        [a, b, c, d] => enter(tx, way, table, &[value(a), value(b), value(c), value(d)]),
+        _ => unreachable!(),
     }
 }
 
-/// Takes the row with a key out of its table.
-fn take_row<S: Alter>(tx: &mut Transaction<'_, S>, key: &RowKey) -> Result<(), TableFault>
+/// Takes the rows of a group that share these values out of their table.
+fn leave<S: Alter>(
+    tx: &mut Transaction<'_, S>,
+    group: Group,
+    shared: &[ValueRef<'_>],
+) -> Result<(), TableFault>
+    requires { IsPartOf group (bound shared.now) }
+
     ensures same_reference { tx.new.conn.ghost_name ≡ tx.old.conn.ghost_name }
-    ensures step { Does (HasStepped (AppliesOne (Change.Take key.now))) result (state S.Store tx.old.conn.now) (state S.Store tx.new.conn.now) }
-    ensures ran { IsRunInside (GoesThrough (Change.Take key.now)) result (state S.Store tx.old.conn.now) (state S.Store tx.new.conn.now) }
-    ensures told { IsToldInside (FailsToChange (Change.Take key.now)) result (state S.Store tx.old.conn.now) (state S.Store tx.new.conn.now) }
-    ensures cause { IsCausedInside (IsHinderedChange (Change.Take key.now)) result (state S.Store tx.old.conn.now) (state S.Store tx.new.conn.now) }
+    ensures step { Does (HasStepped (Leaves group (bound shared.now))) result (state S.Store tx.old.conn.now) (state S.Store tx.new.conn.now) }
+    ensures ran { IsRunInside (Went (removal group) (bound shared.now)) result (state S.Store tx.old.conn.now) (state S.Store tx.new.conn.now) }
+    ensures told { IsToldInside (FailsToWrite (removal group) (bound shared.now)) result (state S.Store tx.old.conn.now) (state S.Store tx.new.conn.now) }
+    ensures cause { IsCausedInside (IsHindered (removal group) (bound shared.now)) result (state S.Store tx.old.conn.now) (state S.Store tx.new.conn.now) }
 {
-    match key {
-        RowKey::Supervisor(code) => delete(tx, Table::Supervisor, params![code.as_str()]),
-        RowKey::Project(code) => delete(tx, Table::Project, params![code.as_str()]),
-        RowKey::Student(code) => delete(tx, Table::Student, params![code.as_str()]),
-        RowKey::Round(number) => delete(tx, Table::Round, params![*number]),
-        RowKey::Choice(round, student, place) => {
-            delete(tx, Table::Choice, params![*round, student.as_str(), *place])
-        }
-        RowKey::Placement(student) => delete(tx, Table::Placement, params![student.as_str()]),
-        RowKey::OldChoice(round, student, place) => delete(
-            tx,
-            Table::OldChoice,
-            params![*round, student.as_str(), *place],
-        ),
-        RowKey::OldPlacement(student) => {
-            delete(tx, Table::OldPlacement, params![student.as_str()])
-        }
-        RowKey::RoundAim(round) => delete(tx, Table::RoundAim, params![*round]),
-        RowKey::Import(id) => delete(tx, Table::Import, params![id.as_str()]),
+    match group {
+        Group::Key(table) => delete(tx, table, shared),
+        Group::List => delete_group(tx, Sharing::List, shared),
+        Group::Placed => delete_group(tx, Sharing::Placed, shared),
+    }
+}
+
+/// Takes the rows of a group that share these cells out of their table.
+fn leave_cells<S: Alter>(
+    tx: &mut Transaction<'_, S>,
+    group: Group,
+    cells: &[Cell],
+) -> Result<(), TableFault>
+    requires { IsPartOf group (values cells.now) }
+
+    ensures same_reference { tx.new.conn.ghost_name ≡ tx.old.conn.ghost_name }
+    ensures step { Does (HasStepped (Leaves group (values cells.now))) result (state S.Store tx.old.conn.now) (state S.Store tx.new.conn.now) }
+    ensures ran { IsRunInside (Went (removal group) (values cells.now)) result (state S.Store tx.old.conn.now) (state S.Store tx.new.conn.now) }
+    ensures told { IsToldInside (FailsToWrite (removal group) (values cells.now)) result (state S.Store tx.old.conn.now) (state S.Store tx.new.conn.now) }
+    ensures cause { IsCausedInside (IsHindered (removal group) (values cells.now)) result (state S.Store tx.old.conn.now) (state S.Store tx.new.conn.now) }
+{
+    match cells {
+        [a] => leave(tx, group, &[value(a)]),
+        [a, b] => leave(tx, group, &[value(a), value(b)]),
+        [a, b, c] => leave(tx, group, &[value(a), value(b), value(c)]),
+        _ => unreachable!(),
     }
 }
 
@@ -183,13 +112,9 @@ fn apply<S: Alter>(tx: &mut Transaction<'_, S>, change: &Change) -> Result<(), T
     ensures cause { IsCausedInside (IsHinderedChange change.now) result (state S.Store tx.old.conn.now) (state S.Store tx.new.conn.now) }
 {
     match change {
-        Change::Put(row) => write_row(tx, Entering::InPlace, row),
-        Change::Add(row) => write_row(tx, Entering::New, row),
-        Change::Take(key) => take_row(tx, key),
-        Change::TakeList(round, student) => {
-            delete_group(tx, Group::List, params![*round, student.as_str()])
-        }
-        Change::TakePlacements(round) => delete_group(tx, Group::Placed, params![*round]),
+        Change::Put(row) => enter_cells(tx, Entering::InPlace, row.table(), row.cells()),
+        Change::Add(row) => enter_cells(tx, Entering::New, row.table(), row.cells()),
+        Change::Remove(part) => leave_cells(tx, part.group(), part.cells()),
     }
 }
 

@@ -192,11 +192,7 @@ module _ (old new : State) where
 
   for_reason : (U : Type 0) (cause : StoreError) → HasReason old new U cause → HasReason same new U cause
   for_reason U OutOfMemory h = h
-  for_reason U Io h = h
-  for_reason U Corrupt h = h
-  for_reason U Full h = h
-  for_reason U Broken h = h
-  for_reason U Unstorable h = h
+  for_reason U _ h = h
 
   fails_so : (U : Type 0) (e : Error) → Fails old new U e → Fails same new U e
   fails_so U e it = (it.0, it.1, for_reason U it.0 it.2, undone it.3, it.4)

@@ -34,15 +34,11 @@ same_number a b h = (Decides-eqb a b).0 h
 
 nothing_is : (v : Value) → is_nothing v ≡ true → v ≡ value.Null
 nothing_is value.Null h = refl
-nothing_is (value.Int n) h = absurd (cc)
-nothing_is (value.Real n) h = absurd (cc)
-nothing_is (value.Text n) h = absurd (cc)
-nothing_is (value.Blob n) h = absurd (cc)
+nothing_is _ h = cc
 
 binary_is : (c : Collation) → is_binary c ≡ true → c ≡ collation.Binary
 binary_is collation.Binary h = refl
-binary_is collation.NoCase h = absurd (cc)
-binary_is collation.RTrim h = absurd (cc)
+binary_is _ h = cc
 
 kind_is : (a b : Kind) → (kind_code a == kind_code b) ≡ true → a ≡ b
 kind_is Integer Integer h = refl

@@ -1,5 +1,5 @@
 -- Statements one after the other, and what they leave alone.
-use Rattle.std.proofs.Common.{◌≡◌, ◌≢◌, ◌⊎◌, inl, inr, arith, ℕ, List, [], ◌∷◌, refl, sym, subst, ◌∙◌, IsTrue, true, false, Bool, map, ap, ◌<◌, ◌^◌, nat_lt, Option, Some, slice_get, Result, Ok, Err, get_or}
+use Rattle.std.proofs.Common.{◌≡◌, ◌≢◌, ◌⊎◌, inl, inr, arith, ℕ, List, [], ◌∷◌, refl, sym, subst, ◌∙◌, IsTrue, true, false, Bool, map, ap, ◌<◌, ◌^◌, nat_lt, Option, Some, slice_get, Result, Ok, Err}
 use Rattle.std.specs.List.{AllByRecursion, AllZip}
 use Rattle.std.proofs.lemmas.Bool.Decides.{Decides-ltb}
 use Rattle.sqlite_schema.specs.Names.{table_named}
@@ -15,10 +15,9 @@ use Rattle.sqlite.proofs.StateLemmas.{survives_then}
 use Rattle.sqlite.specs.Tree.{Trees}
 use Rattle.sqlite_rules.proofs.ListLemmas.{all_has, all_from, has_got}
 use Rattle.row_data.specs.declared.table.Table.{Table as Ours}
-use Rattle.row_data.specs.declared.table.Table.TheVariants.{Edition, Supervisor, Project, Student, Round, OldChoice, OldPlacement, Import, RoundAim, Choice, Placement}
-use Rattle.tables.specs.Table.{Place, Rules, Lists, all_tables, cells, table_at, number_of, same_table}
+pub use Rattle.row_data.proofs.Tables.{same_table_is, same_table_self}
+use Rattle.tables.specs.Table.{Place, Rules, Lists, cells, table_at, same_table}
 use Rattle.std.proofs.lemmas.Bool.{cases_Bool}
-use Rattle.std.proofs.lemmas.Bool.Decides.{Decides-eqb}
 use Rattle.tables.specs.Keyed.{IsKeyed, Stands}
 use Rattle.tables.specs.Writes.{WritesOnly, Creates}
 use Rattle.tables.specs.Steps.{Does, HasStepped, IsPart, Rests}
@@ -123,30 +122,6 @@ listed_once schema table p q named l m =
 -- the tree of a table of the product is that of its place, and its name is told
 pub listed_at_one : (table : Ours) (schema : Schema) (p q : Place) → Lists schema (table_at table p) → Lists schema (table_at table q) → p.tree ≡ q.tree
 listed_at_one table schema p q l m = ap (λ (t : Table). t.tree) (listed_once schema (table_at table) p q refl l m)
-
-abbrev table_numbered : ℕ → Ours
-table_numbered n = get_or all_tables n Edition
-
-numbered_back : (table : Ours) → table_numbered (number_of table) ≡ table
-numbered_back Edition = refl
-numbered_back Supervisor = refl
-numbered_back Project = refl
-numbered_back Student = refl
-numbered_back Round = refl
-numbered_back OldChoice = refl
-numbered_back OldPlacement = refl
-numbered_back Import = refl
-numbered_back RoundAim = refl
-numbered_back Choice = refl
-numbered_back Placement = refl
-
--- tables that are tested to be one are one
-pub same_table_is : (a b : Ours) → same_table a b ≡ true → a ≡ b
-same_table_is a b h = sym (numbered_back a) ∙ ap table_numbered ((Decides-eqb (number_of a) (number_of b)).0 h) ∙ numbered_back b
-
--- a table is itself
-pub same_table_self : (a : Ours) → same_table a a ≡ true
-same_table_self a = (Decides-eqb (number_of a) (number_of a)).1 refl
 
 -- two tables are one or two
 pub decide_table : (a b : Ours) → (a ≡ b) ⊎ (a ≢ b)

@@ -24,6 +24,7 @@ use Rattle.sqlite_value.specs.Keys.{plain}
 use Rattle.sqlite_value.specs.declared.keys.Order.{Order}
 use Rattle.row_data.specs.declared.table.Table.{Table}
 use Rattle.row_data.specs.declared.table.Table.TheVariants.{Edition, Supervisor, Project, Student, Round, OldChoice, OldPlacement, Import, RoundAim, Choice, Placement}
+pub use Rattle.row_data.specs.Rows.{all_tables, same_table}
 use Rattle.tables.specs.declared.table.Group.{Group}
 use Rattle.tables.specs.declared.table.Group.TheVariants as group
 
@@ -79,9 +80,8 @@ against op place value = op2 (Compare op Binary) (col 1 place) (lit value)
 abbrev pub between : ℕ → ℕ → ℕ → Term
 between place low high = op2 And (against Ge place (Int (pos low))) (against Le place (Int (pos high)))
 
--- All that is told of a table: a number of its own, its shape, the texts of its statements, and the CHECK rules that it is made with.
+-- All that is told of a table here: its shape, the texts of its statements, and the CHECK rules that it is made with.
 pub record Telling : Type 0 where
-  pub number : ℕ
   pub shape : TableShape
   pub sql : Sql
   pub checks : List Term
@@ -89,7 +89,6 @@ pub record Telling : Type 0 where
 -- the tables, each told once
 abbrev pub telling : Table → Telling
 telling Edition = record {
-  number = 0;
   shape = by_rowid (codes "edition") ((codes "id", Integer) ∷ (codes "number", Integer) ∷ []) [];
   sql = record {
     create = codes "CREATE TABLE edition (id INTEGER NOT NULL PRIMARY KEY CHECK (id = 1), number INTEGER NOT NULL) STRICT";
@@ -101,7 +100,6 @@ telling Edition = record {
   checks = against Eq 0 (Int (pos 1)) ∷ [];
 }
 telling Supervisor = record {
-  number = 1;
   shape = by_text (codes "supervisor") ((codes "code", Text) ∷ (codes "label", Text) ∷ (codes "quota", Integer) ∷ []) [];
   sql = record {
     create = codes "CREATE TABLE supervisor (code TEXT NOT NULL PRIMARY KEY, label TEXT NOT NULL, quota INTEGER NOT NULL CHECK (quota BETWEEN 0 AND 500)) STRICT";
@@ -113,7 +111,6 @@ telling Supervisor = record {
   checks = between 3 0 500 ∷ [];
 }
 telling Project = record {
-  number = 2;
   shape = by_text (codes "project") ((codes "code", Text) ∷ (codes "label", Text) ∷ (codes "supervisor", Text) ∷ (codes "quota", Integer) ∷ []) ((3, codes "supervisor", codes "code") ∷ []);
   sql = record {
     create = codes "CREATE TABLE project (code TEXT NOT NULL PRIMARY KEY, label TEXT NOT NULL, supervisor TEXT NOT NULL REFERENCES supervisor (code), quota INTEGER NOT NULL CHECK (quota BETWEEN 0 AND 500)) STRICT";
@@ -125,7 +122,6 @@ telling Project = record {
   checks = between 4 0 500 ∷ [];
 }
 telling Student = record {
-  number = 3;
   shape = by_text (codes "student") ((codes "code", Text) ∷ (codes "label", Text) ∷ []) [];
   sql = record {
     create = codes "CREATE TABLE student (code TEXT NOT NULL PRIMARY KEY, label TEXT NOT NULL) STRICT";
@@ -137,7 +133,6 @@ telling Student = record {
   checks = [];
 }
 telling Round = record {
-  number = 4;
   shape = by_rowid (codes "round") ((codes "number", Integer) ∷ (codes "open", Integer) ∷ []) [];
   sql = record {
     create = codes "CREATE TABLE round (number INTEGER NOT NULL PRIMARY KEY, open INTEGER NOT NULL CHECK (open IN (0, 1))) STRICT";
@@ -149,7 +144,6 @@ telling Round = record {
   checks = op2 Or (against Eq 2 (Int (pos 0))) (against Eq 2 (Int (pos 1))) ∷ [];
 }
 telling OldChoice = record {
-  number = 5;
   shape = choices (codes "choice");
   sql = record {
     create = codes "CREATE TABLE choice (round INTEGER NOT NULL REFERENCES round (number), student TEXT NOT NULL REFERENCES student (code), place INTEGER NOT NULL CHECK (place BETWEEN 1 AND 8), project TEXT NOT NULL REFERENCES project (code), PRIMARY KEY (round, student, place), UNIQUE (round, student, project)) STRICT";
@@ -161,7 +155,6 @@ telling OldChoice = record {
   checks = between 3 1 8 ∷ [];
 }
 telling OldPlacement = record {
-  number = 6;
   shape = placements (codes "placement");
   sql = record {
     create = codes "CREATE TABLE placement (student TEXT NOT NULL PRIMARY KEY REFERENCES student (code), round INTEGER NOT NULL REFERENCES round (number), project TEXT NOT NULL REFERENCES project (code), rank INTEGER NOT NULL CHECK (rank BETWEEN 1 AND 8)) STRICT";
@@ -173,7 +166,6 @@ telling OldPlacement = record {
   checks = between 4 1 8 ∷ [];
 }
 telling Import = record {
-  number = 7;
   shape = by_text (codes "import") ((codes "id", Text) ∷ (codes "kind", Text) ∷ (codes "bytes", Blob) ∷ (codes "rows", Integer) ∷ []) [];
   sql = record {
     create = codes "CREATE TABLE import (id TEXT NOT NULL PRIMARY KEY, kind TEXT NOT NULL CHECK (kind IN ('supervisors', 'projects', 'students', 'lists')), bytes BLOB NOT NULL, rows INTEGER NOT NULL) STRICT";
@@ -185,7 +177,6 @@ telling Import = record {
   checks = op2 Or (op2 Or (against Eq 2 (Words (codes "supervisors"))) (against Eq 2 (Words (codes "projects")))) (op2 Or (against Eq 2 (Words (codes "students"))) (against Eq 2 (Words (codes "lists")))) ∷ [];
 }
 telling RoundAim = record {
-  number = 8;
   shape = by_rowid (codes "round_aim") ((codes "round", Integer) ∷ (codes "generous", Integer) ∷ []) ((0, codes "round", codes "number") ∷ []);
   sql = record {
     create = codes "CREATE TABLE round_aim (round INTEGER NOT NULL PRIMARY KEY REFERENCES round (number), generous INTEGER NOT NULL CHECK (generous IN (0, 1))) STRICT";
@@ -197,7 +188,6 @@ telling RoundAim = record {
   checks = op2 Or (against Eq 2 (Int (pos 0))) (against Eq 2 (Int (pos 1))) ∷ [];
 }
 telling Choice = record {
-  number = 9;
   shape = choices (codes "choice12");
   sql = record {
     create = codes "CREATE TABLE choice12 (round INTEGER NOT NULL REFERENCES round (number), student TEXT NOT NULL REFERENCES student (code), place INTEGER NOT NULL CHECK (place BETWEEN 1 AND 12), project TEXT NOT NULL REFERENCES project (code), PRIMARY KEY (round, student, place), UNIQUE (round, student, project)) STRICT";
@@ -209,7 +199,6 @@ telling Choice = record {
   checks = between 3 1 12 ∷ [];
 }
 telling Placement = record {
-  number = 10;
   shape = placements (codes "placement12");
   sql = record {
     create = codes "CREATE TABLE placement12 (student TEXT NOT NULL PRIMARY KEY REFERENCES student (code), round INTEGER NOT NULL REFERENCES round (number), project TEXT NOT NULL REFERENCES project (code), rank INTEGER NOT NULL CHECK (rank BETWEEN 1 AND 12)) STRICT";
@@ -220,13 +209,6 @@ telling Placement = record {
   };
   checks = between 4 1 12 ∷ [];
 }
-
--- all of them, by their numbers
-abbrev pub all_tables : List Table
-all_tables = Edition ∷ Supervisor ∷ Project ∷ Student ∷ Round ∷ OldChoice ∷ OldPlacement ∷ Import ∷ RoundAim ∷ Choice ∷ Placement ∷ []
-
-abbrev pub number_of : Table → ℕ
-number_of table = (telling table).number
 
 abbrev pub shape_of : Table → TableShape
 shape_of table = (telling table).shape
@@ -254,10 +236,6 @@ pub record Place : Type 0 where
 -- the rules of a table that is made here: it is STRICT, and each reference names its column
 abbrev pub rules_of : Table → Rules
 rules_of table = record { is_strict = true; bare = []; checks = checks_of table }
-
--- whether two tables are one
-abbrev pub same_table : Table → Table → Bool
-same_table a b = number_of a == number_of b
 
 -- the kind of a column that is told to have this one: BLOB is a kind in a STRICT table alone, and else converts nothing
 abbrev pub kind_in : Kind → Bool → Kind

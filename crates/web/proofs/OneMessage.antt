@@ -4,7 +4,7 @@ use Rattle.sqlite_trees.specs.declared.store.Store.{Ghosts}
 use Rattle.rolls.specs.declared.refusal.Refusal.{Refusal}
 use Rattle.rolls.specs.declared.refusal.Refusal.TheVariants.{Memory, Storage}
 use Rattle.rolls.specs.declared.request.Plain.{Plain}
-use Rattle.rolls.specs.declared.request.Plain.TheVariants.{PutSupervisor, PutProject, PutStudent, OpenRound, PutList, DropList, ReopenRound, GetRound}
+use Rattle.rolls.specs.declared.request.Plain.TheVariants.{GetSupervisor, GetProject, GetStudent, GetRound}
 use Rattle.rolls.specs.declared.request.Reply.{Reply}
 use Rattle.rolls.specs.declared.request.Reply.TheVariants as reply
 use Rattle.rolls.specs.declared.request.Request.{Request}
@@ -48,15 +48,10 @@ wants_memory o n q allowed no_round new no_preview stays kept = record {
 -- where there is no memory for the text of an answer, it is as if the request had found none: it is a read
 plain_wants : (o n : AtDesk) (p : Plain) (a : Reply) → IsRead (Ok a) → refusal layers o.office (request.Plain p) ≡ None → Makes layers o.office (request.Plain p) a n.office
     → GoesOn o.office (request.Plain p) (Ok a) o.session n.session → Gets o (request.Plain p) (Err Memory) n
-plain_wants o n (PutSupervisor code label quota) a read allowed made goes = absurd (no_read a _ made.0 read)
-plain_wants o n (PutProject code label supervisor quota) a read allowed made goes = absurd (no_read a _ made.0 read)
-plain_wants o n (PutStudent code label) a read allowed made goes = absurd (no_read a _ made.0 read)
-plain_wants o n (OpenRound aim) a read allowed made goes = absurd (no_read a _ made.0 read)
-plain_wants o n (PutList student choices) a read allowed made goes = absurd (no_read a _ made.0 read)
-plain_wants o n (DropList student) a read allowed made goes = absurd (no_read a _ made.0 read)
-plain_wants o n ReopenRound a read allowed made goes = absurd (no_read a _ made.0 read)
-plain_wants o n (GetRound round) a read allowed made goes = absurd (no_read a _ made.0 read)
-plain_wants o n _ a read allowed made goes = wants_memory o n _ allowed (λ number is. cc) refl (λ is. cc) made.1 goes
+plain_wants o n (GetSupervisor code) a read allowed made goes = wants_memory o n _ allowed (λ number is. cc) refl (λ is. cc) made.1 goes
+plain_wants o n (GetProject code) a read allowed made goes = wants_memory o n _ allowed (λ number is. cc) refl (λ is. cc) made.1 goes
+plain_wants o n (GetStudent code) a read allowed made goes = wants_memory o n _ allowed (λ number is. cc) refl (λ is. cc) made.1 goes
+plain_wants o n _ a read allowed made goes = absurd (no_read a _ made.0 read)
 
 text_wants : (o n : AtDesk) (q : Request) (a : Reply) → IsRead (Ok a) → refusal layers o.office q ≡ None → Makes layers o.office q a n.office → GoesOn o.office q (Ok a) o.session n.session
     → Gets o q (Err Memory) n

@@ -1,6 +1,6 @@
 use Rattle.std.proofs.Common.{◌≡◌, ◌++◌, drop, filter, map}
-use Rattle.editions.specs.Editions.{is_old, renamed}
+use Rattle.editions.specs.Editions.{is_old, renamed_row}
 use Rattle.editions.proofs.all_old_renamed.Given as goal
 
 abbrev pub invariant-loop-row : goal.invariant-loop-row
-invariant-loop-row l = l.all.items ++ map renamed (filter is_old (drop l.row-index l.rows)) ≡ map renamed (filter is_old l.rows)
+invariant-loop-row l = l.all.items ++ map renamed_row (filter is_old (drop l.row-index l.rows)) ≡ map renamed_row (filter is_old l.rows)

@@ -1,6 +1,6 @@
 use Rattle.std.proofs.Common.{◌≡◌, ◌++◌, map}
-use Rattle.editions.specs.Editions.{renamed}
+use Rattle.editions.specs.Editions.{renamed_row}
 use Rattle.editions.proofs.all_renamed.Given as goal
 
 abbrev pub invariant-loop-row : goal.invariant-loop-row
-invariant-loop-row l = l.all.items ++ map renamed l.row-iterator.rest.items ≡ map renamed l.fn.rows.items
+invariant-loop-row l = l.all.items ++ map renamed_row l.row-iterator.rest.items ≡ map renamed_row l.fn.rows.items

@@ -1,44 +1,52 @@
 -- What rows hold, taken in stage by stage.
-use Rattle.std.specs.Prelude.{ℕ, zero, suc, ◌+◌, ◌==◌, nat_le, Bool, true, false, not, ◌&&◌, List, [], ◌∷◌, ◌++◌, length, Option, Some, None, is_some, if◌then◌else◌}
+use Rattle.std.specs.Prelude.{ℕ, zero, suc, ◌+◌, ◌==◌, nat_le, ◌&&◌, List, [], ◌∷◌, ◌++◌, length, Option, Some, None, if◌then◌else◌}
 use Rattle.std.specs.List.{filter}
 use Rattle.std.specs.Option.{option_map_or, option_and_then}
-use Rattle.spa.specs.declared.TheConstants.{RANKS, MOST_PLACES}
-use Rattle.spa.specs.Text.{is_code, is_label}
+use Rattle.spa.specs.declared.TheConstants.{RANKS}
+use Rattle.spa.specs.Text.{is_code}
 use Rattle.spa.specs.declared.text.TextFault.{TextFault}
 use Rattle.spa.specs.declared.text.TextFault.TheVariants.{Memory as NoMemory, Form}
-use Rattle.rolls.specs.declared.TheConstants.{MOST_IMPORT_BYTES}
+use Rattle.row_data.specs.declared.cell.Cell.TheVariants.{Text, Number}
+use Rattle.row_data.specs.declared.table.Table.{Table}
+use Rattle.row_data.specs.declared.table.Table.TheVariants.{Supervisor, Project, Student, Round, Import, RoundAim, Choice, Placement}
+use Rattle.row_data.specs.Rows.{Cells, RowOf}
 use Rattle.rolls.specs.declared.rounds.Listed.{Listed}
-use Rattle.rolls.specs.declared.row.Row.{Row}
-use Rattle.rolls.specs.declared.row.Row.TheVariants as row
-use Rattle.rolls.specs.declared.row.RowKey.{RowKey}
-use Rattle.rolls.specs.declared.row.RowKey.TheVariants as key
-use Rattle.rolls.specs.Roll.{of_code, find, put}
-use Rattle.rolls.specs.State.{State, supervisor_key, project_key, student_key, round_key, aim_key, list_key, placement_key, import_key, round_of, has_round, choices_in}
-use Rattle.rolls.specs.Rows.{key_of, row_of}
+use Rattle.rolls.specs.declared.rounds.Round.{Round as RoundEntry}
+use Rattle.rolls.specs.Roll.{Key, of_code, find, has, put}
+use Rattle.rolls.specs.State.{State, supervisor_key, project_key, student_key, round_key, aim_key, list_key, placement_key, import_key, round_of}
 use Rattle.from_rows.specs.declared.fault.RowsFault.{RowsFault}
 use Rattle.from_rows.specs.declared.fault.RowsFault.TheVariants.{Memory, Unfit}
+use Rattle.from_rows.specs.Inside.Told.{where_so, supervisor_in, project_in, student_in, round_in, aim_in, placement_in, import_in}
 
 -- a text of a row that is no code or label stands in no office
 abbrev pub fault_of_text : TextFault → RowsFault
 fault_of_text NoMemory = Memory
 fault_of_text Form = Unfit
 
--- the stage at which a row is taken in: a choice at its place in its list, and all else before the choices
-abbrev pub stage_of : RowKey → ℕ
-stage_of (key.Choice round student place) = if nat_le place RANKS then place else 0
-stage_of _ = 0
+-- the place of a choice in its list, where a list can have it
+abbrev pub place_in : Cells → ℕ
+place_in (_ ∷ _ ∷ Number place ∷ _ ∷ []) = if nat_le place RANKS then place else 0
+place_in _ = 0
+
+-- the stage at which a row of a table is taken in: a choice at its place, and all else before the choices
+abbrev pub stage_in : Table → Cells → ℕ
+stage_in Choice cells = place_in cells
+stage_in _ cells = 0
+
+abbrev pub stage_of : RowOf → ℕ
+stage_of r = stage_in r.table r.cells
 
 -- the rows of a stage
-abbrev pub at_stage : ℕ → List Row → List Row
-at_stage stage rows = filter (λ r. stage_of (key_of r) == stage) rows
+abbrev pub at_stage : ℕ → List RowOf → List RowOf
+at_stage stage rows = filter (λ r. stage_of r == stage) rows
 
 -- the rows of so many stages from this one on, stage by stage
-abbrev pub stages : ℕ → ℕ → List Row → List Row
+abbrev pub stages : ℕ → ℕ → List RowOf → List RowOf
 stages zero stage rows = []
 stages (suc n) stage rows = at_stage stage rows ++ stages n (suc stage) rows
 
 -- all rows, stage by stage
-abbrev pub staged : List Row → List Row
+abbrev pub staged : List RowOf → List RowOf
 staged rows = stages (RANKS + 1) 0 rows
 
 -- what a student lists among these
@@ -49,42 +57,40 @@ choices_among student lists = option_map_or (λ l. l.choices) (find list_key (of
 abbrev pub with_choice : List ℕ → List ℕ → List Listed → List Listed
 with_choice student project lists = put list_key (record { student = student; choices = choices_among student lists ++ project ∷ [] }) lists
 
--- what is held with one more row
-abbrev pub with_row : Row → State → State
-with_row (row.Supervisor code label quota) o = record o { supervisors = put supervisor_key (record { code = code; label = label; quota = quota }) o.supervisors }
-with_row (row.Project code label supervisor quota) o = record o { projects = put project_key (record { code = code; label = label; supervisor = supervisor; quota = quota }) o.projects }
-with_row (row.Student code label) o = record o { students = put student_key (record { code = code; label = label }) o.students }
-with_row (row.Round number is_open) o = record o { rounds = put round_key (record { number = number; is_open = is_open; lists = [] }) o.rounds }
-with_row (row.Choice round student place project) o =
-    record o { rounds = option_map_or (λ r. put round_key (record r { lists = with_choice student project r.lists }) o.rounds) (round_of o round) o.rounds }
-with_row (row.Placement student round project rank) o = record o { placements = put placement_key (record { student = student; round = round; project = project; rank = rank }) o.placements }
-with_row (row.RoundAim round aim) o = record o { aims = put aim_key (record { round = round; aim = aim }) o.aims }
-with_row (row.Import id kind bytes rows) o = record o { imports = put import_key (record { id = id; kind = kind; bytes = bytes; rows = rows }) o.imports }
-with_row (row.OldChoice round student place project) o = o
-with_row (row.OldPlacement student round project rank) o = o
+-- what is held with an entry more; none where there is no entry, or one with its key is held
+abbrev pub with_new : {E : Type 0} → (E → Key) → List E → (List E → State) → Option E → Option State
+with_new key es held None = None
+with_new key es held (Some e) = if has key (key e) es then None else Some (held (put key e es))
 
--- whether a row has the form of an entry's, and a choice is the next of its list, in a round that is held; one of the tables of earlier editions has it never
-abbrev pub has_form : State → Row → Bool
-has_form o (row.Supervisor code label quota) = is_code code && (is_label label && nat_le quota MOST_PLACES)
-has_form o (row.Project code label supervisor quota) = is_code code && (is_label label && (is_code supervisor && nat_le quota MOST_PLACES))
-has_form o (row.Student code label) = is_code code && is_label label
-has_form o (row.Round number is_open) = true
-has_form o (row.Choice round student place project) = is_code student && (is_code project && (has_round o round && (length (choices_in o round student) + 1 == place)))
-has_form o (row.Placement student round project rank) = is_code student && is_code project
-has_form o (row.RoundAim round aim) = true
-has_form o (row.Import id kind bytes rows) = is_code id && (nat_le (length bytes) MOST_IMPORT_BYTES && nat_le rows MOST_IMPORT_BYTES)
-has_form o (row.OldChoice round student place project) = false
-has_form o (row.OldPlacement student round project rank) = false
+-- what is held with one more choice; none where it is not the next of its list, or its round is not held
+abbrev pub with_next : State → List ℕ → ℕ → List ℕ → Option RoundEntry → Option State
+with_next o student place project None = None
+with_next o student place project (Some r) =
+    where_so (length (choices_among student r.lists) + 1 == place)
+    (record o { rounds = put round_key (record r { lists = with_choice student project r.lists }) o.rounds })
 
--- whether nothing is held at a row's key
-abbrev pub is_new : State → Row → Bool
-is_new o r = not (is_some (row_of o (key_of r)))
+-- what is held with one more row of choices
+abbrev pub after_choice : State → Cells → Option State
+after_choice o (Number n ∷ Text student ∷ Number place ∷ Text project ∷ []) =
+    if is_code student && is_code project then with_next o student place project (round_of o n) else None
+after_choice o _ = None
 
--- what is held with one more row; none where the row has not the form, or its key is held already
-abbrev pub after_row : State → Row → Option State
-after_row o r = if has_form o r && is_new o r then Some (with_row r o) else None
+-- what is held with one more row of a table; none where the row is not one of an office, or its key is held already
+abbrev pub after_cells : State → Table → Cells → Option State
+after_cells o Supervisor cells = with_new supervisor_key o.supervisors (λ es. record o { supervisors = es }) (supervisor_in cells)
+after_cells o Project cells = with_new project_key o.projects (λ es. record o { projects = es }) (project_in cells)
+after_cells o Student cells = with_new student_key o.students (λ es. record o { students = es }) (student_in cells)
+after_cells o Round cells = with_new round_key o.rounds (λ es. record o { rounds = es }) (round_in cells)
+after_cells o RoundAim cells = with_new aim_key o.aims (λ es. record o { aims = es }) (aim_in cells)
+after_cells o Choice cells = after_choice o cells
+after_cells o Placement cells = with_new placement_key o.placements (λ es. record o { placements = es }) (placement_in cells)
+after_cells o Import cells = with_new import_key o.imports (λ es. record o { imports = es }) (import_in cells)
+after_cells o _ cells = None
+
+abbrev pub after_row : State → RowOf → Option State
+after_row o r = after_cells o r.table r.cells
 
 -- what is held after all of them
-abbrev pub gathered : State → List Row → Option State
+abbrev pub gathered : State → List RowOf → Option State
 gathered o [] = Some o
 gathered o (r ∷ rows) = option_and_then (λ n. gathered n rows) (after_row o r)

@@ -28,11 +28,13 @@ is_list o n l =
 
 -- the rounds have the numbers from 1 on, each has an aim, all but the last are closed, and each list is one of its round
 abbrev pub are_rounds : State → Bool
-are_rounds o = are_numbered 1 o.rounds && (are_aimed o.aims o.rounds && (only_last_open o.rounds && list_all (λ r. list_all (is_list o r.number) r.lists) o.rounds))
+are_rounds o =
+    are_numbered 1 o.rounds && (are_aimed o.aims o.rounds && (only_last_open o.rounds && list_all (λ r. list_all (is_list o r.number) r.lists) o.rounds))
 
 -- a placement by a closed round, of a project that stands at the rank in the student's list of that round
 abbrev pub is_placement : State → Placement → Bool
-is_placement o p = is_closed o p.round && (nat_le 1 p.rank && option_map_or (bytes_eq p.project) (slice_get (choices_in o p.round p.student) (p.rank - 1)) false)
+is_placement o p =
+    is_closed o p.round && (nat_le 1 p.rank && option_map_or (bytes_eq p.project) (slice_get (choices_in o p.round p.student) (p.rank - 1)) false)
 
 -- no project and no supervisor has more students than the quota
 abbrev pub are_within : State → Bool

@@ -1,7 +1,7 @@
 -- Plain requests that were made one after another.
 use Rattle.std.specs.Prelude.{◌≡◌, List, None}
 use Rattle.rolls.specs.declared.request.Plain.{Plain}
-use Rattle.rolls.specs.declared.row.Change.{Change}
+use Rattle.row_data.specs.declared.row.Change.{Change}
 use Rattle.rolls.specs.State.{State}
 use Rattle.rolls.specs.Rows.{Turns}
 use Rattle.rolls.specs.Importing.{rows_refusal, after_rows}

@@ -14,7 +14,7 @@ use super::Office;
 use crate::making::code_of;
 use rolls::{
     Bytes, Change, Done, Import, ImportKind, MOST_IMPORT_BYTES, MOST_IMPORTS, Plain, Refusal,
-    Reply, Row, Text,
+    Reply, Text,
 };
 use spa::is_code_text;
 use std::alloc::AllocError;
@@ -106,21 +106,18 @@ impl Office {
         ensures changes { IfOk result (λ done. let changes = done.changes in changes.items ≡ import_changes id kind bytes rows.items self.old) }
         ensures err { IfErr result (λ refusal. (refusal ≡ Refusal.Memory) ⊎ (rows_refusal 1 self.old rows.items ≡ Some refusal)) }
     {
+        self.fit();
         let count = rows.len() as u32;
         let mut changes = self.make_all(rows)?;
         let import = Import {
             id: code_of(id.as_str()),
             kind,
-            bytes: bytes.copy()?,
-            rows: count,
-        };
-        self.keep(import)?;
-        changes.push(Change::Add(Row::Import {
-            id,
-            kind,
             bytes,
             rows: count,
-        }))?;
+        };
+        let row = import.row(self.alloc)?;
+        self.keep(import)?;
+        changes.push(Change::Add(row))?;
         Ok(Done {
             reply: Reply::Rows(count),
             changes,

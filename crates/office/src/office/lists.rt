@@ -6,11 +6,11 @@ ghost use Rattle.rolls.specs.State.{has_project};
 ghost use Rattle.rolls.specs.declared.request.Plain.TheVariants as ask;
 ghost use Rattle.rolls.specs.Refusing.{plain_refusal};
 ghost use Rattle.rolls.specs.Answers.{IsDone};
-ghost use Rattle.step_laws.specs.Changes.{changes_of};
+ghost use Rattle.rolls.specs.Making.{changes_of};
 
 use super::Office;
 use crate::making::one_change;
-use rolls::{Change, Choices, Done, Listed, Reply, Text, Texts};
+use rolls::{Change, Choices, Done, Listed, Reply, Text, Texts, list_part};
 use spa::Code;
 use std::alloc::AllocError;
 use step_laws::list_changes;
@@ -63,7 +63,8 @@ impl Office {
         let round = self.last_round();
         let mut last = self.last()?;
         last.lists.take_out(0, student.as_str())?;
-        let changes = one_change(self.alloc, Change::TakeList(round, student))?;
+        let part = list_part(self.alloc, round, student.as_str())?;
+        let changes = one_change(self.alloc, Change::Remove(part))?;
         self.rounds.put(last)?;
         Ok(Done {
             reply: Reply::Done,

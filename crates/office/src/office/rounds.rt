@@ -6,7 +6,7 @@ ghost use Rattle.rolls.specs.State.{aim_key, aim_of, last_round, list_of, lists_
 ghost use Rattle.rolls.specs.declared.request.Plain.TheVariants as ask;
 ghost use Rattle.rolls.specs.Refusing.{plain_refusal};
 ghost use Rattle.rolls.specs.Answers.{IsDone};
-ghost use Rattle.step_laws.specs.Changes.{changes_of};
+ghost use Rattle.rolls.specs.Making.{changes_of};
 
 use super::Office;
 use rolls::{Done, Entries, Entry, Listed, Reply, Round, RoundAim};

@@ -1,5 +1,5 @@
 -- For proofs alone. The texts of the reports on a round: lines of bytes, each ended by 10.
-use Rattle.std.specs.Prelude.{ℕ, ◌-◌, Some}
+use Rattle.std.specs.Prelude.{ℕ, Some}
 use Rattle.spa.specs.Counted.{Counted}
 use Rattle.rolls.specs.Counted.{AreCounted}
 use Rattle.rolls.specs.State.{State}

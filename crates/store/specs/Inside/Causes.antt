@@ -2,17 +2,16 @@
 use Rattle.std.specs.Prelude.{ℕ, Option}
 use Rattle.sqlite.specs.Effect.{Database}
 use Rattle.sqlite.specs.State.{State}
-use Rattle.rolls.specs.declared.row.Change.{Change}
-use Rattle.rolls.specs.declared.row.Change.TheVariants.{Add, Put, Take, TakeList, TakePlacements}
+use Rattle.row_data.specs.declared.row.Change.{Change}
+use Rattle.row_data.specs.declared.row.Change.TheVariants.{Add, Put, Remove}
 use Rattle.row_data.specs.declared.table.Table.{Table}
 use Rattle.tables.specs.declared.fault.TableFault.{TableFault}
-use Rattle.tables.specs.declared.table.Group.TheVariants as group
-use Rattle.tables.specs.Table.{sharing, sql_of}
+use Rattle.tables.specs.Table.{sql_of}
 use Rattle.tables.specs.Causes.{FailsToPut, FailsToWrite, IsUnread}
 use Rattle.sqlite_rules.specs.Lists.{Has}
 use Rattle.editions.specs.declared.Edition.{Edition as AnEdition}
 use Rattle.store.specs.Editions.{rolls_of}
-use Rattle.store.specs.Rows.{columns, key_columns, list_columns, round_columns, table_at_key, table_of}
+use Rattle.store.specs.Rows.{removal, values}
 
 -- one of the tables of an edition cannot be read
 pub record IsHinderedReadingIn (e : AnEdition) (limit : Option ℕ) (db : Database) : Type 0 where
@@ -22,8 +21,6 @@ pub record IsHinderedReadingIn (e : AnEdition) (limit : Option ℕ) (db : Databa
 
 -- a change is refused with an error that is this fault
 abbrev pub FailsToChange : Change → TableFault → State → State → Type 0
-FailsToChange (Put row) = FailsToPut (table_of row) (columns row)
-FailsToChange (Add row) = FailsToWrite (sql_of (table_of row)).insert (columns row)
-FailsToChange (Take key) = FailsToWrite (sql_of (table_at_key key)).delete (key_columns key)
-FailsToChange (TakeList round student) = FailsToWrite (sharing group.List).removal (list_columns round student)
-FailsToChange (TakePlacements round) = FailsToWrite (sharing group.Placed).removal (round_columns round)
+FailsToChange (Put row) = FailsToPut row.table (values row.cells)
+FailsToChange (Add row) = FailsToWrite (sql_of row.table).insert (values row.cells)
+FailsToChange (Remove part) = FailsToWrite (removal part.group) (values part.cells)

@@ -1,7 +1,8 @@
 use Rattle.std.proofs.Common.{◌≡◌, sym, ap, true, ◌∙◌}
 use Rattle.from_rows.specs.Inside.Whole.{is_whole}
 use Rattle.from_rows.specs.View.{drafted}
-use Rattle.from_rows.proofs.HeldRows.{unread_unfit, gathered_rows, gathered_forms, gathered_is}
+use Rattle.from_rows.proofs.Gathered.{gathered_drafted, gathered_rows}
+use Rattle.from_rows.proofs.Takes.{gathered_is, unread_unfit}
 use Rattle.from_rows.proofs.Faults.{handed_on}
 use Rattle.from_rows.proofs.DraftIsFit.{whole_fit, fit_whole}
 use Rattle.from_rows.proofs.gathering.gather.Goals as goal
@@ -18,7 +19,7 @@ returns-in_err-need_whole-clause-unfit c =
     cc
 
 pub returns-clause-fit : goal.returns-clause-fit
-returns-clause-fit c = whole_fit (drafted c.in_ok-draft.draft) (gathered_forms c.args.rows.now _ c.in_ok-draft.ensures.found) c.in_ok-need_whole.ensures.ok
+returns-clause-fit c = whole_fit (drafted c.in_ok-draft.draft) (gathered_drafted c.args.rows.now _ c.in_ok-draft.ensures.found) c.in_ok-need_whole.ensures.ok
 
 pub returns-clause-rows : goal.returns-clause-rows
 returns-clause-rows c = gathered_rows c.args.rows.now (drafted c.in_ok-draft.draft) c.in_ok-draft.ensures.found

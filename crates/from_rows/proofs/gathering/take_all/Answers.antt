@@ -2,7 +2,7 @@ use Rattle.std.proofs.Common.{◌≡◌, suc, ◌+◌, ◌-◌, ◌∙◌, arith
 use Rattle.spa.specs.declared.TheConstants.{RANKS}
 use Rattle.from_rows.specs.View.{drafted}
 use Rattle.from_rows.proofs.Faults.{handed_on}
-use Rattle.from_rows.proofs.HeldRows.{gathered_on, gathered_off}
+use Rattle.from_rows.proofs.Gathered.{gathered_on, gathered_off}
 use Rattle.from_rows.proofs.gathering.take_all.Goals as goal
 
 pub returns-in_err-take_stage-clause-unfit : goal.returns-in_err-take_stage-clause-unfit

@@ -3,7 +3,7 @@ use Rattle.sqlite_rules.specs.Lists.{Has}
 use Rattle.row_data.specs.declared.table.Table.{Table}
 use Rattle.store.specs.Saving.{IsLeftAlone, IsActedOnAt}
 use Rattle.store.proofs.ListedTables.{so_far, of_each, is_next}
-use Rattle.store.proofs.Columns.{is_among, stands_among}
+use Rattle.store.proofs.Among.{is_among, stands_among}
 use Rattle.store.proofs.quiet.are_left_among.Goals as goal
 
 pub loop-table-init : goal.loop-table-init

@@ -5,7 +5,7 @@ use Rattle.tables.proofs.Runs.{rests_then, survives_both, survives_none}
 use Rattle.store.specs.declared.fault.StoreFault.TheVariants.{Damaged}
 use Rattle.store.specs.Inside.Reading.{HoldsUnread, ReadsAll, ReadsSome}
 use Rattle.store.proofs.AllRows.{reads_none, reads_more, reads_all, unread_then}
-use Rattle.store.proofs.Columns.{are_once, once, some_tables}
+use Rattle.store.proofs.Among.{are_once, once, some_tables}
 use Rattle.store.specs.declared.fault.StoreFault.TheVariants.{Storage}
 use Rattle.store.proofs.Causes.{table_unread}
 use Rattle.store.proofs.reading.read_rows.Goals as goal

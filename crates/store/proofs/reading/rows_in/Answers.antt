@@ -1,5 +1,5 @@
 use Rattle.std.proofs.Common.{◌≡◌, ◌≢◌, inl, refl, sym, ap, ◌∙◌, Err, List, map, drop, subst, arith, rules}
-use Rattle.sqlite.specs.Order.{Row as Cells}
+use Rattle.sqlite.specs.Order.{Row as Values}
 use Rattle.sqlite.specs.State.{HasCleanDisk}
 use Rattle.sqlite.specs.Held.{state}
 use Rattle.tables.proofs.Runs.{rests_then, survives_both}
@@ -10,7 +10,7 @@ use Rattle.store.specs.Tables.{numbered}
 use Rattle.store.specs.Reading.{AreAllListed}
 use Rattle.store.proofs.AllRows.{none_back, holds_back, unchanged_then}
 use Rattle.store.proofs.Causes.{hindered_reading, of_storage, rows_unread}
-use Rattle.store.proofs.Columns.{none_later}
+use Rattle.store.proofs.Among.{none_later}
 use Rattle.store.proofs.ReadRows.{are_in, other_number, stood, unlisted, unread}
 use Rattle.store.proofs.reading.rows_in.Goals as goal
 
@@ -22,7 +22,7 @@ returns-then-not-are_all_listed-clause-damaged g c clean h =
 pub returns-in_err-need_number-clause-damaged : goal.returns-in_err-need_number-clause-damaged
 returns-in_err-need_number-clause-damaged g c clean h =
     let shows = c.in_ok-number.ensures.rows clean in
-    let other = subst (λ (all : List Cells). map (drop 1) all ≢ numbered (number_of c.args.edition)) c.as_slice.ensures.value c.in_err-need_number.ensures.err.1 in
+    let other = subst (λ (all : List Values). map (drop 1) all ≢ numbered (number_of c.args.edition)) c.as_slice.ensures.value c.in_err-need_number.ensures.err.1 in
     other_number (state g.S.Store c.args.conn.now) c.schema.ensures.live shows.same.0.was_open c.args.edition _ _ shows other
 
 pub returns-in_err-rows-clause-damaged : goal.returns-in_err-rows-clause-damaged
@@ -40,13 +40,13 @@ returns-clause-rows g c clean =
     let shows = c.in_ok-number.ensures.rows early in
     let all = c.in_ok-rows.ensures.rows clean in
     let listed = subst (AreAllListed (rolls_of c.args.edition)) c.schema.ensures.value (subst (λ tables. AreAllListed tables c.schema.result.now) c.rolls_of.ensures (c.are_all_listed.ensures.right c.if-not-are_all_listed.false)) in
-    let number = subst (λ (rows : List Cells). map (drop 1) rows ≡ numbered (number_of c.args.edition)) c.as_slice.ensures.value c.in_ok-need_number.ensures.ok in
+    let number = subst (λ (rows : List Values). map (drop 1) rows ≡ numbered (number_of c.args.edition)) c.as_slice.ensures.value c.in_ok-need_number.ensures.ok in
     let rows = c.in_ok-rows.rows.items in
     record {
       same = unchanged_then _ _ _ shows.same all.same;
-      none_later = none_later c.args.edition rows all.beyond;
-      holds = λ apart. stood old c.schema.ensures.live shows.same.0.was_open c.args.edition rows (λ table among. holds_back table _ _ _ shows.same.0.now_is (all.holds table among)) all.beyond listed _ _ shows number apart;
-      are = are_in old c.schema.ensures.live shows.same.0.was_open c.args.edition rows (λ table among. holds_back table _ _ _ shows.same.0.now_is (all.holds table among)) all.beyond;
+      none_later = none_later c.args.edition rows all.others;
+      holds = stood old c.schema.ensures.live shows.same.0.was_open c.args.edition rows (λ table among. holds_back table _ _ _ shows.same.0.now_is (all.holds table among)) all.others listed _ _ shows number;
+      are = are_in old c.schema.ensures.live shows.same.0.was_open c.args.edition rows (λ table among. holds_back table _ _ _ shows.same.0.now_is (all.holds table among)) all.others;
     }
 
 pub returns-in_err-rows-clause-rests : goal.returns-in_err-rows-clause-rests

@@ -1,9 +1,9 @@
 use Rattle.std.proofs.Common.{◌≡◌, Err, rules}
+use Rattle.sqlite_rules.proofs.ListLemmas.{has_at}
 use Rattle.store.specs.declared.fault.StoreFault.TheVariants.{Damaged}
-use Rattle.store.proofs.Cells.{has_at}
 use Rattle.store.proofs.rows.rows_with.Goals as goal
 
 pub returns-in_err-row_with-clause-damaged : goal.returns-in_err-row_with-clause-damaged
 returns-in_err-row_with-clause-damaged c h =
     let was : c.row_with.result ≡ Err Damaged = search rules in
-    (c.cells-item.result, has_at _ _ _ c.loop-cells-test.true c.cells-item.is, c.row_with.ensures.damaged was)
+    (c.columns-item.result, has_at _ _ _ c.loop-columns-test.true c.columns-item.is, c.row_with.ensures.damaged was)

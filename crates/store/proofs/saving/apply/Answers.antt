@@ -1,17 +1,26 @@
 use Rattle.tables.proofs.Runs.{part_as, stepped_as}
-use Rattle.store.proofs.OneStatement.{hold_list, hold_placed}
+use Rattle.tables.specs.declared.statements.Entering.TheVariants.{InPlace, New}
+use Rattle.store.proofs.Held.{hold_enter, hold_leave}
+use Rattle.store.proofs.SqlKinds.{is_part, is_row}
 use Rattle.store.proofs.saving.apply.Goals as goal
 
-pub returns-in-TakeList-clause-step : goal.returns-in-TakeList-clause-step
-returns-in-TakeList-clause-step g c =
-    rw c.in-TakeList.is (part_as _ _ _ _ _ (λ _ p. stepped_as _ _ _ _ (hold_list _ _ _ _) p) (rw (c.params-to_sql.ensures, c.params-to_sql-in-TakeList.ensures, c.as_str.ensures) at c.delete_group.ensures.step))
+pub returns-in-Put-clause-step : goal.returns-in-Put-clause-step
+returns-in-Put-clause-step g c = rw c.in-Put.is (part_as _ _ _ _ _ (λ _ p. stepped_as _ _ _ _ (hold_enter InPlace _ _ _ c.cells.ensures.row) p) (rw (c.table.ensures, c.cells.ensures.cells) at c.enter_cells.ensures.step))
 
-pub returns-in-TakePlacements-clause-step : goal.returns-in-TakePlacements-clause-step
-returns-in-TakePlacements-clause-step g c =
-    rw c.in-TakePlacements.is (part_as _ _ _ _ _ (λ _ p. stepped_as _ _ _ _ (hold_placed _ _ _) p) (rw c.params-to_sql-in-TakePlacements.ensures at c.delete_group-in-TakePlacements.ensures.step))
+pub returns-in-Add-clause-step : goal.returns-in-Add-clause-step
+returns-in-Add-clause-step g c = rw c.in-Add.is (part_as _ _ _ _ _ (λ _ p. stepped_as _ _ _ _ (hold_enter New _ _ _ c.cells-in-Add.ensures.row) p) (rw (c.table-in-Add.ensures, c.cells-in-Add.ensures.cells) at c.enter_cells-in-Add.ensures.step))
+
+pub returns-in-Remove-clause-step : goal.returns-in-Remove-clause-step
+returns-in-Remove-clause-step g c = rw c.in-Remove.is (part_as _ _ _ _ _ (λ _ p. stepped_as _ _ _ _ (hold_leave _ _ _ c.cells-in-Remove.ensures.part) p) (rw (c.group.ensures, c.cells-in-Remove.ensures.cells) at c.leave_cells.ensures.step))
+
+pub enter_cells-requires : goal.enter_cells-requires
+enter_cells-requires g c = rw (c.table.ensures, c.cells.ensures.cells) (is_row _ c.cells.ensures.row)
+
+pub enter_cells-requires-in-Add : goal.enter_cells-requires-in-Add
+enter_cells-requires-in-Add g c = rw (c.table-in-Add.ensures, c.cells-in-Add.ensures.cells) (is_row _ c.cells-in-Add.ensures.row)
+
+pub leave_cells-requires : goal.leave_cells-requires
+leave_cells-requires g c = rw (c.group.ensures, c.cells-in-Remove.ensures.cells) (is_part _ c.cells-in-Remove.ensures.part)
 
 pub returns-in-Put-clause-cause : goal.returns-in-Put-clause-cause
-returns-in-Put-clause-cause g c = rw c.in-Put.is c.write_row.ensures.cause
-
-pub returns-in-Put-clause-told : goal.returns-in-Put-clause-told
-returns-in-Put-clause-told g c = rw c.in-Put.is c.write_row.ensures.told
+returns-in-Put-clause-cause g c = rw c.in-Put.is (rw (c.table.ensures, c.cells.ensures.cells) at c.enter_cells.ensures.cause)

@@ -6,7 +6,7 @@ use Rattle.tables.proofs.Causes.{stopped_as}
 use Rattle.store.specs.Causes.{IsHinderedAmong, IsHinderedToSave}
 use Rattle.store.specs.Saving.{Applies}
 use Rattle.store.proofs.Causes.{of_storage}
-use Rattle.store.proofs.Commit.{made_run, sound_run, saved_by, saved_after, left_by, left_after, dropped_by}
+use Rattle.store.proofs.Commit.{left_after, dropped_by}
 use Rattle.store.proofs.Raised.{stopped_after_all}
 use Rattle.store.proofs.saving.save_all.Goals as goal
 

@@ -57,7 +57,10 @@ returns-then-eq-clause-opened g c = record {
       opens_found c.edition_of-edition.result c.in_ok-office.office c.in_ok-office.changes.items _ _ latest_one (c.in_ok-office.ensures.ok clean);
   others = λ clean. others_kept _ _ (c.in_ok-office.ensures.same clean).0.now_is;
   ended = search rules;
-  alone = λ clean trees h. search rules;
+  alone = λ clean trees h.
+      let up : IsTrue (state g.S.Store c.office_in.new.conn).is_open = (c.in_ok-office.ensures.same clean).0.is_open in
+      let settled : trees ≡ (state g.S.Store c.office_in.new.conn).committed.trees = g.met.S.Store.settled c.office_in.new.conn.store trees up h in
+      settled ∙ search rules;
   is_open = λ clean. search rules;
   crash = search rules;
 }

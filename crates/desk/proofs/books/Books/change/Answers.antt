@@ -31,6 +31,11 @@ hindered_by storage result office next q done old new carried may turns caused c
       ];
     }
 
+pub exchange-requires : goal.exchange-requires
+exchange-requires g c =
+    let same = c.in_ok-next.ensures.same ∙ ap (λ k. k.office) c.self.view_is in
+    record { turns = subst (λ (o : State). Turns c.in-Ok.done.changes.items o c.make_change.new.office) same c.in-Ok.ensures.turns }
+
 pub returns-clause-saved : goal.returns-clause-saved
 returns-clause-saved g c =
     let q = c.args.request in

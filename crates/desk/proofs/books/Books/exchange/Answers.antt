@@ -2,7 +2,7 @@ use Rattle.std.proofs.Common.{◌≡◌, List, Err, Result, IsTrue, refl, sym, a
 use Rattle.sqlite.specs.State.{State as Seen, Survives}
 use Rattle.sqlite.specs.Held.{state}
 use Rattle.tables.specs.Steps.{IsLeft}
-use Rattle.rolls.specs.declared.row.Change.{Change}
+use Rattle.row_data.specs.declared.row.Change.{Change}
 use Rattle.rolls.specs.State.{State}
 use Rattle.rolls.specs.Rows.{Turns}
 use Rattle.rolls.specs.declared.refusal.Refusal.{Refusal}

@@ -1,17 +1,19 @@
-use Rattle.std.proofs.Common.{◌≡◌, ℕ, List, [], ◌∷◌, refl, ap, ◌∙◌}
+use Rattle.std.proofs.Common.{◌≡◌, List, [], ◌∷◌, refl, ap, ◌∙◌}
 use Rattle.rolls.specs.declared.rounds.Round.{Round}
 use Rattle.rolls.specs.declared.rounds.Listed.{Listed}
 use Rattle.rolls.specs.Roll.{put, take_out}
 use Rattle.rolls.specs.State.{list_key, round_key}
 use Rattle.rolls.specs.Stepping.{after_plain}
-use Rattle.rolls.specs.declared.row.Change.TheVariants as change
+use Rattle.row_data.specs.declared.row.Change.TheVariants.{Remove}
+use Rattle.rolls.specs.Making.{list_part}
 use Rattle.office.specs.View.{state_of}
 use Rattle.office.proofs.Made.{made_fit, made_done, last_put}
 use Rattle.rolls.specs.declared.request.Plain.TheVariants.{DropList}
+use Rattle.office.proofs.office.Office.drop_list.Goals.{After-drop-student-inside-2}
 use Rattle.office.proofs.office.Office.drop_list.Goals as goal
 
 -- the office after it
-after : (c : goal.In_ok-put) → record (state_of c.self.inside) { rounds = c.put.new.self } ≡ after_plain (DropList c.args.student) c.args.self.now
+after : (c : After-drop-student-inside-2) → record (state_of c.self.inside) { rounds = c.put.new.self } ≡ after_plain (DropList c.args.student) c.args.self.now
 after c =
     let last : Round = c.in_ok-last.last in
     let lists = c.in_ok-take_out.ensures.ok ∙ (λ i. take_out list_key (0, c.as_str.ensures i) last.lists) in
@@ -22,7 +24,8 @@ pub invariant_of-self-2 : goal.invariant_of-self-2
 invariant_of-self-2 c = made_fit (DropList c.args.student) (state_of c.self.inside) c.args.self.now c.self.view_is c.requires.allowed c.self.invariant _ (after c)
 
 pub returns-clause-changes : goal.returns-clause-changes
-returns-clause-changes c = c.in_ok-changes.ensures ∙ ap (λ (n : ℕ). change.TakeList n c.args.student ∷ []) c.last_round-round.ensures
+returns-clause-changes c =
+    c.in_ok-changes.ensures ∙ ap (λ p. Remove p ∷ []) c.in_ok-part.ensures ∙ (λ i. Remove (list_part (c.last_round-round.ensures i) (c.as_str-2.ensures i)) ∷ [])
 
 pub returns-clause-ok : goal.returns-clause-ok
 returns-clause-ok c =

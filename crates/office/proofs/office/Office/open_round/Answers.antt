@@ -4,7 +4,7 @@ use Rattle.rolls.specs.declared.request.Plain.TheVariants.{OpenRound}
 use Rattle.rolls.specs.Roll.{put}
 use Rattle.rolls.specs.State.{State, aim_key, round_key}
 use Rattle.rolls.specs.Stepping.{after_plain}
-use Rattle.step_laws.specs.Changes.{opening_changes}
+use Rattle.rolls.specs.Making.{opening_changes}
 use Rattle.office.specs.View.{state_of}
 use Rattle.office.proofs.Made.{made_fit, made_done}
 use Rattle.office.proofs.office.Office.open_round.Goals as goal

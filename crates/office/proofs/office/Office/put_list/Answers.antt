@@ -7,7 +7,7 @@ use Rattle.rolls.specs.Roll.{Key, put}
 use Rattle.rolls.specs.State.{State, has_project, list_key, round_key, student_key, last_round, has_list}
 use Rattle.rolls.specs.Stepping.{after_plain}
 use Rattle.rolls.proofs.Found.{found_key}
-use Rattle.step_laws.specs.Changes.{list_changes}
+use Rattle.rolls.specs.Making.{list_changes}
 use Rattle.office.specs.View.{state_of}
 use Rattle.office.proofs.Known.{lent_is_there}
 use Rattle.office.proofs.Made.{made_fit, made_done, last_put}

@@ -1,11 +1,12 @@
-use Rattle.std.proofs.Common.{◌≡◌, Bool, List, [], ◌∷◌, is_some, refl, ap, ◌∙◌}
+use Rattle.std.proofs.Common.{◌≡◌, List, [], ◌∷◌, is_some, refl, ap, ◌∙◌}
 use Rattle.rolls.specs.declared.entries.Student.{Student}
-use Rattle.rolls.specs.declared.row.Row.TheVariants as row
+use Rattle.row_data.specs.declared.table.Table.TheVariants.{Student as StudentTable}
 use Rattle.rolls.specs.declared.request.Plain.TheVariants.{PutStudent}
 use Rattle.rolls.specs.Roll.{put}
 use Rattle.rolls.specs.State.{State, student_key, has_student}
 use Rattle.rolls.specs.Stepping.{after_plain}
-use Rattle.step_laws.specs.Changes.{put_or_added}
+use Rattle.rolls.specs.Making.{put_or_added}
+use Rattle.rolls.specs.Rows.{student_cells}
 use Rattle.office.specs.View.{state_of}
 use Rattle.office.proofs.Known.{lent_is_there}
 use Rattle.office.proofs.Made.{made_fit, made_done}
@@ -26,7 +27,9 @@ known_is c =
     ∙ (λ i. let o : State = c.self.view_is i in has_student o (c.as_str.ensures i))
 
 pub returns-clause-changes : goal.returns-clause-changes
-returns-clause-changes c = c.in_ok-student.ensures.changes ∙ ap (λ (b : Bool). put_or_added b (row.Student c.args.code c.args.label) ∷ []) (known_is c)
+returns-clause-changes c =
+    c.in_ok-student.ensures.changes
+    ∙ (λ i. put_or_added (known_is c i) (record { table = StudentTable; cells = student_cells (c.in_ok-student.ensures.made i) }) ∷ [])
 
 pub returns-clause-ok : goal.returns-clause-ok
 returns-clause-ok c = made_done (PutStudent c.args.code c.args.label) (state_of c.self.inside) c.args.self.now c.self.view_is c.requires.allowed c.self.invariant _ (after c) _ refl (returns-clause-changes c)

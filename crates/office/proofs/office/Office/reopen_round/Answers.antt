@@ -8,7 +8,8 @@ use Rattle.rolls.specs.State.{State, placement_key, last_round}
 use Rattle.rolls.specs.Fit.{IsFit}
 use Rattle.rolls.specs.Stepping.{after_plain}
 use Rattle.rolls.proofs.Places.{rises-filter}
-use Rattle.step_laws.specs.Changes.{reopening_changes, kept_placements}
+use Rattle.rolls.specs.Making.{reopening_changes}
+use Rattle.step_laws.specs.Changes.{kept_placements}
 use Rattle.office.specs.View.{state_of}
 use Rattle.office.proofs.Made.{made_fit, made_done, last_put}
 use Rattle.office.proofs.ListPuts.{reopening_found}

@@ -1,0 +1,24 @@
+-- Cells are the same where the keys that they tell are.
+use Rattle.std.proofs.Common.{◌≡◌, ℕ, Bool, true, false, List, [], inl, inr, refl, sym, ◌∙◌}
+use Rattle.std.specs.Prelude.{◌&&◌, ◌==◌}
+use Rattle.std.specs.Str.{bytes_eq}
+use Rattle.std.proofs.lemmas.Bool.{cases_eq, eqb-true, eq-eqb, false_from_ne_true}
+use Rattle.rolls.specs.Roll.{same_key}
+use Rattle.rolls.proofs.EntryChange.{same_code}
+use Rattle.rolls.proofs.LastRound.{same_round, other_round}
+
+-- a test and nothing more
+pub and_true : (b : Bool) → (b && true) ≡ b
+and_true true = refl
+and_true false = refl
+
+-- numbers
+pub number_test : (n m : ℕ) → ((n == m) && true) ≡ same_key (n, []) (m, [])
+number_test n m = and_true (n == m) ∙ elim (cases_eq n m) [
+  | inl same ↦ eq-eqb n m same ∙ sym (same_round n m same)
+  | inr other ↦ false_from_ne_true (n == m) (λ h. other (eqb-true n m h)) ∙ sym (other_round n m other)
+]
+
+-- codes
+pub code_test : (a b : List ℕ) → (bytes_eq a b && true) ≡ same_key (0, a) (0, b)
+code_test a b = and_true (bytes_eq a b) ∙ sym (same_code a b)

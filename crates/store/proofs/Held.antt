@@ -1,0 +1,101 @@
+-- What one statement makes of the tables: of the rows of its table what the change makes of them, and of the others nothing.
+use Rattle.std.proofs.Common.{◌≡◌, ◌≢◌, Bool, false, not, List, [], ◌∷◌, filter, length, map, drop, refl, sym, ap, subst, ◌∙◌, true≢false}
+use Rattle.std.specs.Prelude.{◌||◌, eqb}
+use Rattle.std.specs.List.{list_any}
+use Rattle.std.proofs.lemmas.Bool.{not-true}
+use Rattle.std.proofs.lemmas.List.{drop-map}
+use Rattle.sqlite_keyed.proofs.ListLemmas.{filter-map, filter_same, none_counted}
+use Rattle.sqlite.specs.Effect.{Database}
+use Rattle.sqlite.specs.Order.{Row as Values}
+use Rattle.sqlite_rules.proofs.ListLemmas.{all_has}
+use Rattle.row_data.specs.declared.table.Table.{Table}
+use Rattle.row_data.specs.declared.table.Table.TheVariants.{Edition}
+use Rattle.row_data.specs.declared.row.Change.{Change}
+use Rattle.row_data.specs.declared.row.Change.TheVariants.{Add, Put, Remove}
+use Rattle.row_data.specs.Rows.{AllRows, Cells, IsPart, IsRow, PartOf, RowOf, begins, key_in, same_table, shared_by}
+use Rattle.row_data.specs.Changes.{after_change, changed, is_in_part, makes, table_of}
+use Rattle.row_data.proofs.Tables.{same_table_self}
+use Rattle.row_lists.proofs.Changes.{by_table, change_elsewhere, change_here}
+use Rattle.tables.specs.Table as sql
+use Rattle.tables.specs.Table.{table_at}
+use Rattle.tables.specs.Keyed.{Stands}
+use Rattle.tables.specs.Writes.{Enters, Puts, Removes, WritesOnly, begins_with, goes_on}
+use Rattle.tables.proofs.Runs.{stands_apart}
+use Rattle.tables.specs.declared.statements.Entering.{Entering}
+use Rattle.tables.specs.declared.statements.Entering.TheVariants.{InPlace, New}
+use Rattle.store.specs.Editions.{latest, number_of}
+use Rattle.store.specs.Rows.{IsRollTable, values}
+use Rattle.store.specs.Saving.{Spares}
+use Rattle.store.specs.Tables.{TablesHold, numbered}
+use Rattle.store.specs.Inside.Saving.{AppliesOne, Leaves, entering}
+use Rattle.store.proofs.Begins.{begins_same}
+use Rattle.store.proofs.SqlKinds.{key_so, part_in_rolls, row_in_rolls}
+
+module _ (c : Change) (old new : Database) (rows : AllRows) (t : TablesHold old rows) (among : IsRollTable (changed c)) (only : WritesOnly (t.places (changed c)).tree old new) where
+  abbrev q : Table
+  q = changed c
+
+  other_than : (table : Table) → same_table table q ≡ false → table ≢ q
+  other_than table other e = true≢false (sym (same_table_self q) ∙ ap (λ x. same_table x q) (sym e) ∙ other)
+
+  -- the table that is written holds what the change makes, and the others what they held
+  held : Stands (table_at q) (t.places q) (map values (makes c (rows q))) new → TablesHold new (after_change c rows)
+  held stands = record {
+    edition = t.edition;
+    places = t.places;
+    edition_apart = t.edition_apart;
+    apart = t.apart;
+    none = by_table (λ x. (IsRollTable x → ⊥) → after_change c rows x ≡ []) q (λ away. absurd (away among)) (λ x other away. change_elsewhere c rows x other ∙ t.none x away);
+    editions = stands_apart (table_at Edition) t.edition refl (numbered (number_of latest)) (t.places q).tree old new (λ e. t.edition_apart q among (sym e)) only t.editions;
+    rolls = by_table (λ x. IsRollTable x → Stands (table_at x) (t.places x) (map values (after_change c rows x)) new) q
+        (λ here. subst (λ held. Stands (table_at q) (t.places q) (map values held) new) (sym (change_here c rows)) stands)
+        (λ x other there. subst (λ held. Stands (table_at x) (t.places x) (map values held) new) (sym (change_elsewhere c rows x other))
+        (stands_apart (table_at x) (t.places x) refl (map values (rows x)) (t.places q).tree old new (t.apart x q there among (other_than x other)) only (t.rolls x there)));
+  }
+
+  spared : Spares old new
+  spared = record { schema = only.schema; others = λ any h apart. all_has _ old.schema.tables any only.others h (apart q among (t.places q) (t.rolls q among).listed) }
+
+-- SQL's test of columns finds the rows that a test of cells finds
+module _ (p : Cells → Bool) (found : Values → Bool) (same : (row : Cells) → found (values row) ≡ p row) where
+  left_so : (rows : List Cells) → filter (λ v. not (found v)) (map values rows) ≡ map values (filter (λ r. not (p r)) rows)
+  left_so rows = filter-map (λ v. not (found v)) values rows ∙ ap (map values) (filter_same _ _ (λ row. ap not (same row)) rows)
+
+  any_so : (rows : List Cells) → list_any p rows ≡ list_any found (map values rows)
+  any_so [] = refl
+  any_so (r ∷ rows) = λ i. sym (same r) i || any_so rows i
+
+  none_so : (rows : List Cells) → filter found (map values rows) ≡ [] → list_any p rows ≡ false
+  none_so rows none = any_so rows ∙ not-true _ (sym (none_counted found (map values rows)) ∙ ap (λ vs. eqb (length vs) 0) none)
+
+-- a row's key
+key_found : (r : RowOf) (row : Cells) → begins_with (sql.key_in r.table (values r.cells)) (values row) ≡ begins (key_in r.table r.cells) row
+key_found r row = ap (λ key. begins_with key (values row)) (key_so r.table r.cells) ∙ begins_same (key_in r.table r.cells) row
+
+-- a part
+part_found : (p : PartOf) (row : Cells) → goes_on (let s = shared_by p.group in s.1) (values p.cells) (values row) ≡ is_in_part p row
+part_found p row = ap (begins_with (values p.cells)) (drop-map _ (let s = shared_by p.group in s.1) row) ∙ begins_same p.cells (drop (let s = shared_by p.group in s.1) row)
+
+-- a row that was put in its table, or added to it
+pub hold_enter : (way : Entering) (r : RowOf) (old new : Database) → IsRow r → Enters way (table_at r.table) (sql.key_in r.table (values r.cells)) (values r.cells) old new → AppliesOne (entering way r) old new
+unfolding AppliesOne Puts
+hold_enter InPlace r old new is puts need rows t =
+    let among = row_in_rolls r is in
+    let place = t.places r.table in
+    let done = puts place (map values (rows r.table)) (need among place (t.rolls r.table among).listed) (t.rolls r.table among) in
+    let made = ap (λ more. values r.cells ∷ more) (left_so _ _ (key_found r) (rows r.table)) in
+    (held (Put r) old new rows t among done.1 (subst (λ held. Stands (table_at r.table) place held new) made done.0), spared (Put r) old new rows t among done.1, tt)
+hold_enter New r old new is adds need rows t =
+    let among = row_in_rolls r is in
+    let done = adds (t.places r.table) (map values (rows r.table)) (t.rolls r.table among) in
+    (held (Add r) old new rows t among done.1 done.0, spared (Add r) old new rows t among done.1, none_so _ _ (key_found r) (rows r.table) done.2)
+
+-- a part that was taken out
+pub hold_leave : (p : PartOf) (old new : Database) → IsPart p → Leaves p.group (values p.cells) old new → AppliesOne (Remove p) old new
+unfolding AppliesOne Removes
+hold_leave p old new is removes need rows t =
+    let q = table_of p in
+    let among = part_in_rolls p is in
+    let place = t.places q in
+    let done = removes place (map values (rows q)) (need among place (t.rolls q among).listed) (t.rolls q among) in
+    (held (Remove p) old new rows t among done.1 (subst (λ held. Stands (table_at q) place held new) (left_so _ _ (part_found p) (rows q)) done.0), spared (Remove p) old new rows t among done.1, tt)

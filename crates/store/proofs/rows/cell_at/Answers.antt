@@ -1,0 +1,12 @@
+use Rattle.std.proofs.Common.{rules}
+use Rattle.row_data.specs.declared.cell.Cell.TheVariants.{Text, Bytes}
+use Rattle.store.proofs.rows.cell_at.Goals as goal
+
+pub returns-in_err-text-in-Text-Text-clause-memory : goal.returns-in_err-text-in-Text-Text-clause-memory
+returns-in_err-text-in-Text-Text-clause-memory c h = (Text c.in-Ok-from_utf8.text.now, search rules, search rules, search rules)
+
+pub returns-in_err-bytes-in-Bytes-Blob-clause-memory : goal.returns-in_err-bytes-in-Bytes-Blob-clause-memory
+returns-in_err-bytes-in-Bytes-Blob-clause-memory c h = (Bytes c.in-Bytes-Blob.bytes.now, tt, search rules, search rules)
+
+pub returns-in_err-new-in-Bytes-Blob-clause-memory : goal.returns-in_err-new-in-Bytes-Blob-clause-memory
+returns-in_err-new-in-Bytes-Blob-clause-memory c h = (Bytes c.in-Bytes-Blob.bytes.now, tt, search rules, search rules)
