@@ -1,4 +1,5 @@
 mod RowInDraft
+pub mod Alone
 mod Bad
 mod Ends
 mod Widths

@@ -1,5 +1,5 @@
 -- What is left to write.
-use Rattle.std.proofs.Common.{◌≡◌, ℕ, ◌+◌, ◌-◌, ◌<◌, ◌≤◌, ℤ, List, [], ◌∷◌, ◌++◌, length, get_or, map, take, drop, codes, Option, Some, None, flat_map, refl, sym, ap, ◌∙◌, subst, inl, inr, decimal, arith, append_assoc, append-nil, add-one, drop-cons}
+use Rattle.std.proofs.Common.{◌≡◌, ℕ, ◌+◌, ◌-◌, ◌<◌, ◌≤◌, ℤ, List, [], ◌∷◌, ◌++◌, length, get_or, map, drop, codes, Option, Some, None, flat_map, refl, sym, ap, ◌∙◌, subst, inl, inr, decimal, arith, append_assoc, append-nil, add-one, drop-cons}
 use Rattle.std.specs.Fmt.{signed_decimal}
 use Rattle.std.proofs.lemmas.Bool.{cases_lt}
 use Rattle.std.proofs.lemmas.List.{get_or-map, drop_all}
@@ -7,11 +7,11 @@ use Rattle.spa.specs.declared.aim.Aim.{Aim}
 use Rattle.spa.specs.Shape.{IsPlaceOf, choice_at}
 use Rattle.spa.specs.Codes.{code_at}
 use Rattle.std.proofs.lemmas.List.Concat.{flat_map-append}
-use Rattle.spa.specs.Instance.{Student, supervisor_codes, project_codes, student_codes}
+use Rattle.spa.specs.Instance.{supervisor_codes, project_codes, student_codes}
 use Rattle.spa.specs.Named.{Named, IsFit, instance_of, supervisors_named, projects_named, students_named}
 use Rattle.verdict.specs.declared.prices.Prices.{Prices}
-use Rattle.intake.specs.View.{alone, proved}
-use Rattle.intake.specs.Lines.{Row, sections, round_text, line, ended, section_lines, aim_rows, supervisor_row, project_row, student_row, pair_rows, price_rows}
+use Rattle.intake.specs.View.{proved}
+use Rattle.intake.specs.Lines.{sections, instance_text, round_text, line, ended, section_lines, aim_rows, supervisor_row, project_row, student_row, pair_rows, price_rows}
 
 -- a line x is written, and the rest is left
 pub next : (out new x rest whole : List ℕ) → new ≡ out ++ (x ++ []) → out ++ (x ++ rest) ≡ whole → new ++ rest ≡ whole
@@ -49,34 +49,6 @@ four out p q r s a b c d ep eq er es =
 -- all eight of them
 pub eight : (a b c d e f g h : List (List ℕ)) → ended (a ++ (b ++ (c ++ (d ++ [])))) ++ ended (e ++ (f ++ (g ++ (h ++ [])))) ≡ ended (a ++ (b ++ (c ++ (d ++ (e ++ (f ++ (g ++ (h ++ []))))))))
 eight a b c d e f g h = simp (flat_map-append, append_assoc, append-nil)
-
--- nobody has a place
-pub no_pairs : {X : Type 0} (es : List Student) (xs : List X) → pair_rows es (map (λ x. None) xs) ≡ []
-no_pairs [] [] = refl
-no_pairs [] (x ∷ xs) = refl
-no_pairs (e ∷ es) [] = refl
-no_pairs (e ∷ es) (x ∷ xs) = no_pairs es xs
-
--- there are no prices
-pub no_prices : (cs : List (List ℕ)) → price_rows cs [] ≡ []
-no_prices [] = refl
-no_prices (c ∷ cs) = refl
-
--- sections without lines write nothing
-no_lines : (a b c d : List (List ℕ)) (m u y z : List Row) → m ≡ [] → u ≡ [] → y ≡ [] → z ≡ []
-    → ended (a ++ (b ++ (c ++ (d ++ [])))) ≡ ended (a ++ (b ++ (c ++ (d ++ (map (line (codes "M")) m ++ (map (line (codes "U")) u ++ (map (line (codes "Y")) y ++ (map (line (codes "Z")) z ++ []))))))))
-no_lines a b c d m u y z hm hu hy hz = rw (hm, hu, hy, hz) refl
-
--- the sections of an aim and an instance alone
-pub instance_alone : (i : Named) (aim : Aim) → ended (flat_map section_lines (take 4 (sections (alone i aim)))) ≡ round_text (alone i aim)
-instance_alone i aim =
-    no_lines (map (line (codes "A")) (aim_rows aim)) (map (line (codes "S")) (map supervisor_row (supervisors_named i.supervisor_codes i.shape.supervisors)))
-    (map (line (codes "P")) (map project_row (projects_named i.supervisor_codes i.project_codes i.shape.projects)))
-    (map (line (codes "C")) (map student_row (students_named i.project_codes i.student_codes i.shape.students)))
-    (pair_rows (students_named i.project_codes i.student_codes i.shape.students) (map (λ e. None) i.shape.students))
-    (price_rows (student_codes (instance_of i)) []) (price_rows (project_codes (instance_of i)) []) (price_rows (supervisor_codes (instance_of i)) [])
-    (no_pairs (students_named i.project_codes i.student_codes i.shape.students) i.shape.students)
-    (no_prices (student_codes (instance_of i))) (no_prices (project_codes (instance_of i))) (no_prices (supervisor_codes (instance_of i)))
 
 -- an option that is no value
 pub is_none : (o : Option ℕ) → ((x : ℕ) → o ≡ Some x → ⊥) → o ≡ None
@@ -138,7 +110,7 @@ one_more P xs n before here k d below = elim (cases_lt k n) [
 ]
 
 -- the instance's sections, and then those of a matching and prices
-pub joined : (i : Named) (aim : Aim) (places : List (Option ℕ)) (prices : Prices) (out new : List ℕ) → out ≡ ended (flat_map section_lines (take 4 (sections (alone i aim))))
+pub joined : (i : Named) (aim : Aim) (places : List (Option ℕ)) (prices : Prices) (out new : List ℕ) → out ≡ instance_text aim (instance_of i)
     → new ≡ out ++ ended (flat_map section_lines (drop 4 (sections (proved i aim places prices)))) → new ≡ round_text (proved i aim places prices)
 joined i aim places prices out new e f =
     f ∙ ap (λ (o : List ℕ). o ++ ended (flat_map section_lines (drop 4 (sections (proved i aim places prices))))) e

@@ -4,7 +4,7 @@ use Rattle.std.specs.Fmt.{signed_decimal}
 use Rattle.spa.specs.declared.aim.Aim.{Aim}
 use Rattle.spa.specs.declared.aim.Aim.TheVariants.{Greedy, Generous}
 use Rattle.spa.specs.Codes.{code_at}
-use Rattle.spa.specs.Instance.{Supervisor, Project, Student, supervisor_codes, project_codes, student_codes}
+use Rattle.spa.specs.Instance.{Instance, Supervisor, Project, Student, supervisor_codes, project_codes, student_codes}
 use Rattle.intake.specs.Parts.{Parts}
 
 -- the fields of a line after its letter
@@ -68,15 +68,18 @@ priced p =
 abbrev pub price_section : Priced → Section
 price_section s = record { letter = s.letter; rows = price_rows s.codes s.prices }
 
--- the sections in their order
+-- the sections of an aim and an instance
+abbrev pub instance_sections : Aim → Instance → List Section
+instance_sections aim l =
+    record { letter = codes "A"; rows = aim_rows aim }
+    ∷ record { letter = codes "S"; rows = map supervisor_row l.supervisors }
+    ∷ record { letter = codes "P"; rows = map project_row l.projects }
+    ∷ record { letter = codes "C"; rows = map student_row l.students }
+    ∷ []
+
+-- all sections in their order
 abbrev pub sections : Parts → List Section
-sections p =
-    record { letter = codes "A"; rows = aim_rows p.aim }
-    ∷ record { letter = codes "S"; rows = map supervisor_row p.instance.supervisors }
-    ∷ record { letter = codes "P"; rows = map project_row p.instance.projects }
-    ∷ record { letter = codes "C"; rows = map student_row p.instance.students }
-    ∷ record { letter = codes "M"; rows = pair_rows p.instance.students p.places }
-    ∷ map price_section (priced p)
+sections p = instance_sections p.aim p.instance ++ record { letter = codes "M"; rows = pair_rows p.instance.students p.places } ∷ map price_section (priced p)
 
 -- the letter, and each field after a comma
 abbrev pub line : List ℕ → Row → List ℕ
@@ -89,6 +92,10 @@ section_lines s = map (line s.letter) s.rows
 -- each line with an LF after it
 abbrev pub ended : List (List ℕ) → List ℕ
 ended lines = flat_map (λ l. l ++ 10 ∷ []) lines
+
+-- the text of an aim and an instance alone
+abbrev pub instance_text : Aim → Instance → List ℕ
+instance_text aim l = ended (flat_map section_lines (instance_sections aim l))
 
 -- the lines of all sections
 abbrev pub round_lines : Parts → List (List ℕ)

@@ -1,7 +1,7 @@
 //! Round texts, written.
 #![tactic(auto)]
 
-ghost use Rattle.std.specs.Prelude.{◌≡◌, ◌≤◌, ◌++◌, map, flat_map, take, drop, codes, IfOk, IfSome, OnOk, string_bytes, length, All, IsTrue};
+ghost use Rattle.std.specs.Prelude.{◌≡◌, ◌≤◌, ◌++◌, map, flat_map, drop, codes, IfOk, IfSome, OnOk, string_bytes, length, All, IsTrue};
 ghost use Rattle.spa.specs.Text.{is_code};
 ghost use Rattle.spa.specs.declared.TheConstants.{PLACES};
 ghost use Rattle.spa.specs.declared.aim.Aim.{Aim};
@@ -11,8 +11,8 @@ ghost use Rattle.spa.specs.Matched.{IsMatched, HasPlaces};
 ghost use Rattle.verdict.specs.Verdict.{HasShape};
 ghost use Rattle.intake.specs.declared.TheConstants.{MOST_BYTES};
 ghost use Rattle.intake.specs.Parts.{Rise, IsRoundParts};
-ghost use Rattle.intake.specs.Lines.{Section, aim_rows, supervisor_row, project_row, student_row, pair_rows, price_rows, sections, section_lines, ended, round_text};
-ghost use Rattle.intake.specs.View.{alone, proved, written};
+ghost use Rattle.intake.specs.Lines.{Section, aim_rows, supervisor_row, project_row, student_row, pair_rows, price_rows, sections, section_lines, ended, instance_text, round_text};
+ghost use Rattle.intake.specs.View.{proved, written};
 
 use crate::lines::{push_pair, push_price, push_project, push_student, push_supervisor};
 use spa::{Aim, Code, Instance, Matching, PLACES};
@@ -116,7 +116,7 @@ fn write_prices(
 
 /// Appends the lines of an aim and an instance.
 fn write_instance(out: &mut String, instance: &Instance, aim: Aim) -> Result<(), AllocError>
-    ensures text { OnOk result (string_bytes out.new ≡ string_bytes out.old ++ ended (flat_map section_lines (take 4 (sections (alone instance.now aim))))) }
+    ensures text { OnOk result (string_bytes out.new ≡ string_bytes out.old ++ instance_text aim (instance_of instance.now)) }
     ensures supervisors { OnOk result (All (λ c. IsTrue (is_code c)) instance.now.supervisor_codes) }
     ensures projects { OnOk result (All (λ c. IsTrue (is_code c)) instance.now.project_codes) }
     ensures students { OnOk result (All (λ c. IsTrue (is_code c)) instance.now.student_codes) }

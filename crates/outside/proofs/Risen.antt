@@ -1,5 +1,5 @@
--- What the writing of a round text asks: codes of entries in the order of their keys rise, and nobody has a place.
-use Rattle.std.proofs.Common.{◌≡◌, ℕ, true, List, [], ◌∷◌, length, map, Option, None, refl, sym, ap, ◌∙◌, arith}
+-- What the writing of a round text asks: codes of entries in the order of their keys rise.
+use Rattle.std.proofs.Common.{◌≡◌, ℕ, true, List, [], ◌∷◌, map, refl, sym, ◌∙◌, arith}
 use Rattle.std.specs.Prelude.{All}
 use Rattle.std.specs.Cmp.{first_so, second_so}
 use Rattle.std.specs.Ordering.{is_lt}
@@ -7,7 +7,6 @@ use Rattle.std.specs.declared.cmp.Ordering.{Ordering}
 use Rattle.std.specs.declared.cmp.Ordering.TheVariants.{Less, Equal, Greater}
 use Rattle.std.proofs.lemmas.List.Elements.{All-cons}
 use Rattle.std.proofs.lemmas.List.Kept.{AllPairs-cons}
-use Rattle.spa.specs.Named.{students_named}
 use Rattle.rolls.specs.Roll.{Key, key_cmp, code_cmp, is_below, rises}
 use Rattle.intake.specs.Parts.{Rise}
 
@@ -28,11 +27,3 @@ module _ {E F : Type 0} (key : E → Key) (entry : E → F) (code : F → List �
   pub risen : (es : List E) → rises key es ≡ true → Rise (map code (map entry es))
   risen [] h = λ i j d less low. absurd (omega (arith, low))
   risen (e ∷ es) h = AllPairs-cons (λ a b. code_cmp a b ≡ Less) (code (entry e)) (map code (map entry es)) (before_all e es (first_so (is_below key (key e) es) (rises key es) h)) (risen es (second_so (is_below key (key e) es) (rises key es) h))
-
--- no place for each of the students, by lists and by codes
-pub no_places : (projects codes : List (List ℕ)) (lists : List (List ℕ)) → length codes ≡ length lists
-    → ◌≡◌ {A = List (Option ℕ)} (map (λ _. None) lists) (map (λ _. None) (students_named projects codes lists))
-no_places projects [] [] same = refl
-no_places projects [] (ps ∷ lists) same = absurd (omega (arith, same))
-no_places projects (c ∷ codes) [] same = absurd (omega (arith, same))
-no_places projects (c ∷ codes) (ps ∷ lists) same = ap (λ (ks : List (Option ℕ)). None ∷ ks) (no_places projects codes lists (omega (arith, same)))

@@ -1,12 +1,12 @@
-use Rattle.std.proofs.Common.{ℕ, ◌-◌, List, [], Option, refl, sym, ap, subst, ◌∙◌}
+use Rattle.std.proofs.Common.{◌-◌, map, None, refl, sym, ap, subst, ◌∙◌}
 use Rattle.spa.specs.Instance.{Instance, Supervisor, Project, Student, supervisor_codes, project_codes, student_codes}
-use Rattle.spa.specs.Named.{Named, instance_of}
+use Rattle.spa.specs.Named.{Named, instance_of, students_named}
 use Rattle.rolls.specs.State.{State, supervisor_key, project_key, list_key, last_round, lists_of, placed_in_project, placed_with_supervisor}
 use Rattle.rolls.specs.declared.request.Reply.TheVariants as reply
-use Rattle.intake.specs.Parts.{Parts, Rise}
-use Rattle.intake.specs.Lines.{round_text}
-use Rattle.outside.specs.Layers.{round_alone}
-use Rattle.outside.proofs.Risen.{risen, no_places}
+use Rattle.intake.specs.Parts.{Rise}
+use Rattle.intake.specs.Lines.{instance_text}
+use Rattle.intake.proofs.Alone.{no_pairs, instance_alone}
+use Rattle.outside.proofs.Risen.{risen}
 use Rattle.outside.proofs.round_text.Goals as goal
 
 pub write_round-requires-clause-supervisors : goal.write_round-requires-clause-supervisors
@@ -30,7 +30,7 @@ write_round-requires-clause-students c =
 pub returns : goal.returns
 returns c =
     let i : Named = c.in_ok-instance.instance in
-    let nobody = no_places i.project_codes i.student_codes i.shape.students c.fit-2.ensures.students.one_each in
-    let parts : List (Option ℕ) → Parts = λ ks. record { aim = c.last_aim-aim.result; instance = instance_of i; places = ks; student_prices = []; project_prices = []; supervisor_prices = [] } in
-    let text = c.in_ok-of.ensures ∙ c.as_str.ensures.value ∙ c.in_ok-text.ensures.text ∙ ap (λ (ks : List (Option ℕ)). round_text (parts ks)) nobody ∙ (λ k. round_text (round_alone (c.last_aim-aim.ensures.aim k) (c.in_ok-instance.ensures.instance k))) in
+    let nobody = no_pairs (students_named i.project_codes i.student_codes i.shape.students) i.shape.students in
+    let alone = instance_alone c.last_aim-aim.result (instance_of i) (map (λ e. None) i.shape.students) nobody in
+    let text = c.in_ok-of.ensures ∙ c.as_str.ensures.value ∙ c.in_ok-text.ensures.text ∙ sym alone ∙ (λ k. instance_text (c.last_aim-aim.ensures.aim k) (c.in_ok-instance.ensures.instance k)) in
     record { made = (ap reply.Text text, refl) }

@@ -1,17 +1,19 @@
-use Rattle.std.proofs.Common.{◌≡◌, ℕ, ◌≤◌, List, length, ◌++◌, flat_map, take, string_bytes, Option, IfSome, ap, ◌∙◌, sym, subst}
+use Rattle.std.proofs.Common.{◌≡◌, ℕ, ◌≤◌, List, length, ◌++◌, map, string_bytes, Option, None, IfSome, ap, ◌∙◌, sym, subst}
 use denote.Ref.{Bor}
 use Rattle.spa.specs.declared.aim.Aim.{Aim}
 use Rattle.spa.specs.declared.matching.Matching.{Matching}
 use Rattle.verdict.specs.declared.prices.Prices.{Prices}
 use Rattle.spa.specs.Matched.{IsMatched}
+use Rattle.spa.specs.Named.{instance_of, students_named}
 use Rattle.verdict.specs.Verdict.{HasShape}
 use Rattle.intake.specs.declared.TheConstants.{MOST_BYTES}
 use Rattle.intake.specs.Parts.{IsRoundParts}
-use Rattle.intake.specs.Lines.{round_text, ended, sections, section_lines}
-use Rattle.intake.specs.View.{written, alone}
+use Rattle.intake.specs.Lines.{round_text, instance_text}
+use Rattle.intake.specs.View.{written}
 use Rattle.intake.proofs.Whole.{HasForms, HasRises, HasNumbers, alone_whole, proved_whole}
 use Rattle.intake.proofs.Size.{text_small}
-use Rattle.intake.proofs.RestOfText.{joined, instance_alone}
+use Rattle.intake.proofs.Alone.{no_pairs, instance_alone}
+use Rattle.intake.proofs.RestOfText.{joined}
 use Rattle.intake.proofs.write.write_round.Goals as goal
 use Rattle.intake.proofs.write.write_round.Goals.{in-Some+in_ok-write_proof, in_default}
 
@@ -19,7 +21,7 @@ pub returns : goal.returns
 returns c =
     let i = c.args.instance.now in
     let aim : Aim = c.args.aim in
-    let written_so : string_bytes c.write_instance.new.out ≡ ended (flat_map section_lines (take 4 (sections (alone i aim)))) = c.in_ok-write_instance.ensures.text ∙ ap (λ (o : List ℕ). o ++ ended (flat_map section_lines (take 4 (sections (alone i aim))))) c.new-out.ensures.bytes in
+    let written_so : string_bytes c.write_instance.new.out ≡ instance_text aim (instance_of i) = c.in_ok-write_instance.ensures.text ∙ ap (λ (o : List ℕ). o ++ instance_text aim (instance_of i)) c.new-out.ensures.bytes in
     let form : HasForms i = record { supervisors = c.in_ok-write_instance.ensures.supervisors; projects = c.in_ok-write_instance.ensures.projects; students = c.in_ok-write_instance.ensures.students } in
     let rise : HasRises i = record { supervisors = c.requires.supervisors; projects = c.requires.projects; students = c.requires.students } in
     elim c.match-proof.branch [
@@ -33,7 +35,7 @@ returns c =
           record { text = text; small = subst (λ (out : List ℕ). length out ≤ MOST_BYTES) (sym text) (text_small (written i aim c.args.proof) parts); parts = parts }
       | in_default w ↦
           let shown = λ (p : Option (Bor Matching × Bor Prices)). round_text (written i aim p) in
-          let text = ap string_bytes w.out-is ∙ written_so ∙ instance_alone i aim ∙ ap shown (sym w.in_default.is) in
+          let text = ap string_bytes w.out-is ∙ written_so ∙ instance_alone aim (instance_of i) (map (λ e. None) i.shape.students) (no_pairs (students_named i.project_codes i.student_codes i.shape.students) i.shape.students) ∙ ap shown (sym w.in_default.is) in
           let parts : IsRoundParts (written i aim c.args.proof) = subst (λ (p : Option (Bor Matching × Bor Prices)). IsRoundParts (written i aim p)) (sym w.in_default.is) (alone_whole i aim c.fit.ensures form rise) in
           record { text = text; small = subst (λ (out : List ℕ). length out ≤ MOST_BYTES) (sym text) (text_small (written i aim c.args.proof) parts); parts = parts }
     ]

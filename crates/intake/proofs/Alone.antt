@@ -1,0 +1,30 @@
+-- The text of a round in which nobody has a place, and nothing a price, is that of its aim and instance.
+use Rattle.std.proofs.Common.{◌≡◌, ℕ, List, [], ◌∷◌, ◌++◌, map, codes, Option, None, refl}
+use Rattle.spa.specs.declared.aim.Aim.{Aim}
+use Rattle.spa.specs.Instance.{Instance, Student, supervisor_codes, project_codes, student_codes}
+use Rattle.intake.specs.Lines.{Row, line, ended, aim_rows, supervisor_row, project_row, student_row, pair_rows, price_rows, instance_text, round_text}
+
+-- nobody has a place
+pub no_pairs : {X : Type 0} (es : List Student) (xs : List X) → pair_rows es (map (λ x. None) xs) ≡ []
+no_pairs [] [] = refl
+no_pairs [] (x ∷ xs) = refl
+no_pairs (e ∷ es) [] = refl
+no_pairs (e ∷ es) (x ∷ xs) = no_pairs es xs
+
+-- there are no prices
+no_prices : (cs : List (List ℕ)) → price_rows cs [] ≡ []
+no_prices [] = refl
+no_prices (c ∷ cs) = refl
+
+-- sections without lines write nothing
+no_lines : (a b c d : List (List ℕ)) (m u y z : List Row) → m ≡ [] → u ≡ [] → y ≡ [] → z ≡ []
+    → ended (a ++ (b ++ (c ++ (d ++ [])))) ≡ ended (a ++ (b ++ (c ++ (d ++ (map (line (codes "M")) m ++ (map (line (codes "U")) u ++ (map (line (codes "Y")) y ++ (map (line (codes "Z")) z ++ []))))))))
+no_lines a b c d m u y z hm hu hy hz = rw (hm, hu, hy, hz) refl
+
+-- parts in which nobody has a place, and nothing a price, have the text of the aim and the instance alone
+pub instance_alone : (aim : Aim) (l : Instance) (places : List (Option ℕ)) → pair_rows l.students places ≡ []
+    → instance_text aim l ≡ round_text (record { aim = aim; instance = l; places = places; student_prices = []; project_prices = []; supervisor_prices = [] })
+instance_alone aim l places nobody =
+    no_lines (map (line (codes "A")) (aim_rows aim)) (map (line (codes "S")) (map supervisor_row l.supervisors)) (map (line (codes "P")) (map project_row l.projects))
+    (map (line (codes "C")) (map student_row l.students)) (pair_rows l.students places) (price_rows (student_codes l) []) (price_rows (project_codes l) []) (price_rows (supervisor_codes l) [])
+    nobody (no_prices (student_codes l)) (no_prices (project_codes l)) (no_prices (supervisor_codes l))
