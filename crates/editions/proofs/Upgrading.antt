@@ -8,11 +8,11 @@ use Rattle.std.proofs.lemmas.List.Elements.{All-from_recursion, recursion_from_A
 use Rattle.std.proofs.lemmas.List.Sorted.{IsPermutation-refl, IsPermutation-trans, IsPermutation-map, IsPermutation-middle, All-permutation}
 use Rattle.sqlite_keyed.proofs.ListLemmas.{filter-filter, filter_none, all_weaker, all_both, all-filter}
 use Rattle.row_data.specs.declared.table.Table.{Table}
-use Rattle.row_data.specs.declared.table.Table.TheVariants.{Round, OldChoice, OldPlacement, RoundAim, Choice, Placement}
+use Rattle.row_data.specs.declared.table.Table.TheVariants.{Edition as EditionTable, Round, RoundAim}
 use Rattle.row_data.specs.declared.row.Change.TheVariants.{Add}
 use Rattle.row_data.specs.Rows.{AllRows, SameRows, Cells, RowOf, begins, key_in, keyed, of_table, same_table}
 use Rattle.row_data.specs.Changes.{IsFresh, AreFresh, TurnsRows, after_change, after_changes}
-use Rattle.row_data.proofs.Tables.{same_table_self}
+use Rattle.row_data.proofs.Tables.{same_table_is, same_table_self}
 use Rattle.rolls.specs.Fit.{IsFit}
 use Rattle.rolls.specs.Rows.{aim_cells, rows_in}
 use Rattle.rolls.specs.State.{State}
@@ -22,8 +22,8 @@ use Rattle.row_lists.proofs.Apart.{rows_apart, apart_free}
 use Rattle.row_lists.proofs.Same.{from_same, to_same}
 use Rattle.editions.specs.declared.Edition.{Edition}
 use Rattle.editions.specs.declared.Edition.TheVariants.{First, Second, Third}
-use Rattle.editions.specs.Editions.{Upgrades, aim_of_round, aims_of, is_old, removal_of, renamed, renamed_row, renaming_changes, rows_in_edition}
-use Rattle.editions.proofs.OtherNames.{is_in, rows_both, swapped, aims_come, no_others, greedy_rows, first_else}
+use Rattle.editions.specs.Editions.{Upgrades, aim_of_round, aims_of, is_old, is_old_table, removal_of, renamed, renamed_row, renaming_changes, rows_in_edition}
+use Rattle.editions.proofs.OtherNames.{is_in, rows_both, renamed_twice, swapped, aims_come, no_others, greedy_rows, first_else}
 
 -- rows that are added stand beside those that were there
 all_added : (rs : List RowOf) (rows : AllRows) (t : Table) → IsPermutation (after_changes (map Add rs) rows t) (of_table rs t ++ rows t)
@@ -105,25 +105,43 @@ removals_fresh (r ∷ rs) rows = (tt, removals_fresh rs (after_change (removal_o
 olds_pass : (rows : List RowOf) → AllByRecursion (λ r. is_old r ≡ true) (filter is_old rows)
 olds_pass rows = recursion_from_All (λ r. is_old r ≡ true) _ (filter_passes is_old rows)
 
--- they are of the old tables alone
-old_in : (t : Table) → same_table t OldChoice ≡ false → same_table t OldPlacement ≡ false → (r : RowOf) → is_old r ≡ true → is_in t r ≡ false
-old_in t c p r = by r.table
+-- a row is old as its table is
+old_as : (t : Table) (r : RowOf) → is_in t r ≡ true → is_old r ≡ is_old_table t
+old_as t r is = ap is_old_table (sym (same_table_is t r.table is))
+
+-- so old rows are of the old tables alone
+old_in : (t : Table) → is_old_table t ≡ false → (r : RowOf) → is_old r ≡ true → is_in t r ≡ false
+old_in t new r old = by (is_in t r) refl
   where
-    by : (u : Table) → (same_table OldChoice u || same_table OldPlacement u) ≡ true → same_table t u ≡ false
-    by OldChoice h = c
-    by OldPlacement h = p
-    by _ h = cc
+    by : (b : Bool) → is_in t r ≡ b → b ≡ false
+    by true is = sym old ∙ old_as t r is ∙ new
+    by false is = refl
 
 -- and all rows of these are old
-choice_is_old : (r : RowOf) → is_in OldChoice r ≡ true → is_old r ≡ true
-choice_is_old r h = or_left (is_in OldChoice r) (is_in OldPlacement r) h
+old_alone : (t : Table) → is_old_table t ≡ true → (rows : List RowOf) → of_table (filter is_old rows) t ≡ of_table rows t
+old_alone t old rows = ap (map (λ r. r.cells)) (filter-filter (is_in t) is_old (λ r is. old_as t r is ∙ old) rows)
 
-placement_is_old : (r : RowOf) → is_in OldPlacement r ≡ true → is_old r ≡ true
-placement_is_old r h = or_right (is_in OldChoice r) (is_in OldPlacement r) h
+-- what took an old table's place is no old one, and neither has the aims; an office has no rows in an old one
+took_new : (t : Table) → is_old_table (renamed t) ≡ true → is_old_table t ≡ false
+took_new EditionTable h = cc
+took_new _ h = cc
 
--- so the old rows of such a table are all of them
-old_alone : (t : Table) → ((r : RowOf) → is_in t r ≡ true → is_old r ≡ true) → (rows : List RowOf) → of_table (filter is_old rows) t ≡ of_table rows t
-old_alone t old rows = ap (map (λ r. r.cells)) (filter-filter (is_in t) is_old old rows)
+took_other : (t : Table) → is_old_table (renamed t) ≡ true → same_table t RoundAim ≡ false
+took_other EditionTable h = cc
+took_other _ h = cc
+
+old_other : (t : Table) → is_old_table t ≡ true → same_table t RoundAim ≡ false
+old_other EditionTable h = cc
+old_other _ h = cc
+
+none_old : (o : State) (t : Table) → is_old_table t ≡ true → rows_in o t ≡ []
+none_old o EditionTable h = cc
+none_old o _ h = cc
+
+-- and a table that is neither keeps its name
+own_name : (t : Table) → is_old_table t ≡ false → is_old_table (renamed t) ≡ false → renamed t ≡ t
+own_name EditionTable old took = refl
+own_name _ old took = cc
 
 -- ---- an upgrade
 
@@ -132,66 +150,70 @@ module _ (e : Edition) (rows more : List RowOf) (o : State) (fit : IsFit o) (are
     (was : (t : Table) → same_table t RoundAim ≡ false → rows_in_edition e o t ≡ rows_in o (renamed t)) (none : (t : Table) → same_table t RoundAim ≡ false → of_table more t ≡ [])
     (aims_free : AreFree RoundAim (of_table more RoundAim) (rows_in_edition e o RoundAim)) (aims : IsPermutation (of_table more RoundAim ++ rows_in_edition e o RoundAim) (rows_in o RoundAim)) where
   -- the edition's old rows
-  abbrev olds : List RowOf
-  olds = filter is_old rows
+  abbrev left_behind : List RowOf
+  left_behind = filter is_old rows
 
   -- the rows that come
   abbrev news : List RowOf
-  news = map renamed_row olds ++ more
+  news = map renamed_row left_behind ++ more
 
   -- what is left of the edition's rows
   abbrev left : AllRows
-  left t = after_changes (map removal_of olds) (rows_in_edition e o) t
+  left t = after_changes (map removal_of left_behind) (rows_in_edition e o) t
 
   -- all stay that are of no old table
-  stay : (t : Table) → same_table t OldChoice ≡ false → same_table t OldPlacement ≡ false → left t ≡ rows_in_edition e o t
-  stay t c p = others_left t olds (rows_in_edition e o) (all_weaker (λ r. is_old r ≡ true) (λ r. is_in t r ≡ false) (old_in t c p) olds (olds_pass rows))
+  stay : (t : Table) → is_old_table t ≡ false → left t ≡ rows_in_edition e o t
+  stay t new = others_left t left_behind (rows_in_edition e o) (all_weaker (λ r. is_old r ≡ true) (λ r. is_in t r ≡ false) (old_in t new) left_behind (olds_pass rows))
 
   -- and none of an old one
-  gone : (t : Table) → ((r : RowOf) → is_in t r ≡ true → is_old r ≡ true) → left t ≡ []
+  gone : (t : Table) → is_old_table t ≡ true → left t ≡ []
   gone t old =
-      let Taken = λ (cells : Cells). list_any (takes t cells) olds ≡ true in
-      none_left t olds (rows_in_edition e o) (recursion_from_All Taken _ (All-permutation Taken _ _ (are t) (All-from_recursion Taken _
-      (subst (AllByRecursion Taken) (old_alone t old rows) (all_taken t olds)))))
+      let Taken = λ (cells : Cells). list_any (takes t cells) left_behind ≡ true in
+      none_left t left_behind (rows_in_edition e o) (recursion_from_All Taken _ (All-permutation Taken _ _ (are t) (All-from_recursion Taken _
+      (subst (AllByRecursion Taken) (old_alone t old rows) (all_taken t left_behind)))))
 
   -- what comes in a table that took no place comes beside the old rows
-  beside : (t : Table) → same_table (renamed t) OldChoice ≡ false → same_table (renamed t) OldPlacement ≡ false → of_table news t ≡ of_table more t
-  beside t c p =
-      rows_both t (map renamed_row olds) more
-      ∙ ap (λ cells. cells ++ of_table more t) (swapped olds t ∙ ap (map (λ r. r.cells)) (filter_none (is_in (renamed t)) olds (all_weaker (λ r. is_old r ≡ true) (λ r. is_in (renamed t) r ≡ false) (old_in (renamed t) c p) olds (olds_pass rows))))
+  beside : (t : Table) → is_old_table (renamed t) ≡ false → of_table news t ≡ of_table more t
+  beside t new =
+      rows_both t (map renamed_row left_behind) more
+      ∙ ap (λ cells. cells ++ of_table more t) (swapped left_behind t ∙ ap (map (λ r. r.cells)) (filter_none (is_in (renamed t)) left_behind (all_weaker (λ r. is_old r ≡ true) (λ r. is_in (renamed t) r ≡ false) (old_in (renamed t) new) left_behind (olds_pass rows))))
 
-  -- in one that took a place come the rows of the old one
-  come : (t u : Table) → of_table (map renamed_row olds) t ≡ of_table rows u → of_table more t ≡ [] → rows_in_edition e o u ≡ rows_in o t → IsPermutation (of_table news t) (rows_in o t)
-  come t u moved nothing there =
-      from_same (rows_both t (map renamed_row olds) more ∙ (λ i. moved i ++ nothing i) ∙ append-nil _) (to_same (are u) there)
+  module _ (t : Table) (took : is_old_table (renamed t) ≡ true) where
+    -- in one that took a place come the rows of the old one
+    come : IsPermutation (of_table news t) (rows_in o t)
+    come =
+        from_same (rows_both t (map renamed_row left_behind) more ∙ (λ i. (swapped left_behind t ∙ old_alone (renamed t) took rows) i ++ none t (took_other t took) i) ∙ append-nil _)
+        (to_same (are (renamed t)) (was (renamed t) (old_other (renamed t) took) ∙ ap (rows_in o) (renamed_twice t)))
 
-  choices_come : IsPermutation (of_table news Choice) (rows_in o Choice)
-  choices_come = come Choice OldChoice (swapped olds Choice ∙ old_alone OldChoice choice_is_old rows) (none Choice refl) (was OldChoice refl)
-
-  placements_come : IsPermutation (of_table news Placement) (rows_in o Placement)
-  placements_come = come Placement OldPlacement (swapped olds Placement ∙ old_alone OldPlacement placement_is_old rows) (none Placement refl) (was OldPlacement refl)
+    -- where no row was
+    empty : left t ≡ []
+    empty = stay t (took_new t took) ∙ was t (took_other t took) ∙ none_old o (renamed t) took
 
   -- what comes in a table is new there
   free : (t : Table) → AreFree t (of_table news t) (left t)
-  free Choice = subst (AreFree Choice (of_table news Choice)) (sym (stay Choice refl refl ∙ was Choice refl)) (apart_free Choice _ _ choices_come (rows_apart o fit Choice))
-  free Placement = subst (AreFree Placement (of_table news Placement)) (sym (stay Placement refl refl ∙ was Placement refl)) (apart_free Placement _ _ placements_come (rows_apart o fit Placement))
-  free RoundAim = subst (λ cells. AreFree RoundAim cells (left RoundAim)) (sym (beside RoundAim refl refl)) (subst (AreFree RoundAim (of_table more RoundAim)) (sym (stay RoundAim refl refl)) aims_free)
-  free t = subst (λ cells. AreFree t cells (left t)) (sym (beside t refl refl ∙ none t refl)) tt
+  free t = by t (is_old_table (renamed t)) (same_table t RoundAim) refl refl
+    where
+      by : (t : Table) (took aim : Bool) → is_old_table (renamed t) ≡ took → same_table t RoundAim ≡ aim → AreFree t (of_table news t) (left t)
+      by t true aim took is = subst (AreFree t (of_table news t)) (sym (empty t took)) (apart_free t _ _ (come t took) (rows_apart o fit t))
+      by t false true took is = subst (λ u. AreFree u (of_table news u) (left u)) (sym (same_table_is t RoundAim is))
+          (subst (λ cells. AreFree RoundAim cells (left RoundAim)) (sym (beside RoundAim refl)) (subst (AreFree RoundAim (of_table more RoundAim)) (sym (stay RoundAim refl)) aims_free))
+      by t false false took is = subst (λ cells. AreFree t cells (left t)) (sym (beside t took ∙ none t is)) tt
 
   -- and a table has then what comes, and what is left
   then : (t : Table) → IsPermutation (of_table news t ++ left t) (rows_in o t)
-  then Choice = from_same (ap (λ cells. of_table news Choice ++ cells) (stay Choice refl refl ∙ was Choice refl) ∙ append-nil _) choices_come
-  then Placement = from_same (ap (λ cells. of_table news Placement ++ cells) (stay Placement refl refl ∙ was Placement refl) ∙ append-nil _) placements_come
-  then RoundAim = from_same (λ i. beside RoundAim refl refl i ++ stay RoundAim refl refl i) aims
-  then OldChoice = to_same (IsPermutation-refl _) (λ i. (beside OldChoice refl refl ∙ none OldChoice refl) i ++ gone OldChoice choice_is_old i)
-  then OldPlacement = to_same (IsPermutation-refl _) (λ i. (beside OldPlacement refl refl ∙ none OldPlacement refl) i ++ gone OldPlacement placement_is_old i)
-  then t = to_same (IsPermutation-refl _) (λ i. (beside t refl refl ∙ none t refl) i ++ (stay t refl refl ∙ was t refl) i)
+  then t = by t (is_old_table (renamed t)) (same_table t RoundAim) (is_old_table t) refl refl refl
+    where
+      by : (t : Table) (took aim old : Bool) → is_old_table (renamed t) ≡ took → same_table t RoundAim ≡ aim → is_old_table t ≡ old → IsPermutation (of_table news t ++ left t) (rows_in o t)
+      by t true aim old took is was_old = from_same (ap (λ cells. of_table news t ++ cells) (empty t took) ∙ append-nil _) (come t took)
+      by t false true old took is was_old = subst (λ u. IsPermutation (of_table news u ++ left u) (rows_in o u)) (sym (same_table_is t RoundAim is)) (from_same (λ i. beside RoundAim refl i ++ stay RoundAim refl i) aims)
+      by t false false true took is was_old = from_same (λ i. (beside t took ∙ none t is) i ++ gone t was_old i) (to_same (IsPermutation-refl _) (sym (none_old o t was_old)))
+      by t false false false took is was_old = from_same (λ i. (beside t took ∙ none t is) i ++ (stay t was_old ∙ was t is ∙ ap (rows_in o) (own_name t was_old took)) i) (IsPermutation-refl _)
 
   raised : TurnsRows (renaming_changes rows more) (rows_in_edition e o) (rows_in o)
   raised = record {
-    fresh = fresh_both (map removal_of olds) (map Add news) (rows_in_edition e o) (removals_fresh olds (rows_in_edition e o)) (adds_fresh news left free);
+    fresh = fresh_both (map removal_of left_behind) (map Add news) (rows_in_edition e o) (removals_fresh left_behind (rows_in_edition e o)) (adds_fresh news left free);
     rows = λ t.
-        from_same (ap (λ (rows : AllRows). rows t) (after_both (map removal_of olds) (map Add news) (rows_in_edition e o)))
+        from_same (ap (λ (rows : AllRows). rows t) (after_both (map removal_of left_behind) (map Add news) (rows_in_edition e o)))
         (IsPermutation-trans _ _ _ (all_added news left t) (then t));
   }
 

@@ -1,5 +1,6 @@
 -- The rows of an office in each edition of the tables, and the changes that bring those of an earlier one to the latest.
-use Rattle.std.specs.Prelude.{◌≡◌, ◌↔◌, ℕ, ◌||◌, Bool, false, ⊤, List, [], ◌∷◌, ◌++◌, map, filter, take}
+use Rattle.std.specs.Prelude.{◌≡◌, ◌↔◌, ℕ, Bool, false, ⊤, List, [], ◌∷◌, ◌++◌, map, filter, take}
+use Rattle.std.specs.List.{list_any}
 use Rattle.spa.specs.declared.aim.Aim.TheVariants.{Greedy}
 use Rattle.row_data.specs.declared.table.Table.{Table}
 use Rattle.row_data.specs.declared.table.Table.TheVariants.{Round, OldChoice, OldPlacement, RoundAim, Choice, Placement}
@@ -62,9 +63,17 @@ renewed First rows = map renamed_row (rows ++ aims_of rows)
 renewed Second rows = map renamed_row rows
 renewed Third rows = rows
 
--- whether a row is of a table of earlier editions
+-- the tables of earlier editions
+abbrev pub olds : List Table
+olds = OldChoice ∷ OldPlacement ∷ []
+
+-- whether a table is one of them
+abbrev pub is_old_table : Table → Bool
+is_old_table table = list_any (same_table table) olds
+
+-- whether a row is of one of them
 abbrev pub is_old : RowOf → Bool
-is_old r = same_table OldChoice r.table || same_table OldPlacement r.table
+is_old r = is_old_table r.table
 
 -- its removal
 abbrev pub removal_of : RowOf → Change

@@ -1,7 +1,7 @@
 -- The tables of the editions: which is among which, and that none comes twice.
 use Rattle.std.proofs.Common.{◌≡◌, ◌≢◌, ◌⊎◌, inl, inr, ℕ, zero, suc, ◌<◌, List, [], ◌∷◌, ◌++◌, length, get_or, take, Bool, true, not, refl, sym, ap, ◌∙◌, arith, true≢false}
-use Rattle.std.specs.Prelude.{◌&&◌, false}
-use Rattle.std.specs.List.{list_any}
+use Rattle.std.specs.Prelude.{◌&&◌, ◌||◌, false}
+use Rattle.std.specs.List.{list_any, list_all}
 use Rattle.std.proofs.lemmas.Bool.{and_parts, or_parts, not-true}
 use Rattle.std.proofs.lemmas.List.{get_or_default}
 use Rattle.sqlite_rules.specs.Lists.{Has}
@@ -9,11 +9,11 @@ use Rattle.sqlite_rules.proofs.ListLemmas.{has_at, some_from}
 use Rattle.row_data.specs.declared.table.Table.{Table}
 use Rattle.row_data.specs.declared.table.Table.TheVariants.{Choice, Edition, Placement, RoundAim}
 use Rattle.row_data.specs.Rows.{RowOf, of_table, same_table}
-use Rattle.row_data.proofs.Tables.{same_table_self}
+use Rattle.row_data.proofs.Tables.{same_table_is, same_table_self}
 use Rattle.tables.proofs.Runs.{decide_table}
 use Rattle.editions.specs.declared.Edition.{Edition as AnEdition}
 use Rattle.editions.specs.declared.Edition.TheVariants.{First, Second, Third}
-use Rattle.editions.specs.Editions.{HaveNoLater}
+use Rattle.editions.specs.Editions.{HaveNoLater, olds}
 use Rattle.store.specs.Editions.{beyond, rolls_of}
 use Rattle.store.specs.Rows.{IsAmong, IsRollTable, rolls}
 
@@ -51,6 +51,30 @@ pub not_among : (p : Table) (tables : List Table) → list_any (same_table p) ta
 not_among p [] none table h e = absurd h
 not_among p (q ∷ qs) none table (inl is) e = true≢false (sym (same_table_self p) ∙ ap (same_table p) (sym e ∙ is) ∙ (or_parts (same_table p q) (list_any (same_table p) qs) none).0)
 not_among p (q ∷ qs) none table (inr h) e = not_among p qs (or_parts (same_table p q) (list_any (same_table p) qs) none).1 table h e
+
+-- a table that is tested to be one of these is among them
+pub tested_among : (tables : List Table) (p : Table) → list_any (same_table p) tables ≡ true → Has tables p
+tested_among [] p h = cc
+tested_among (q ∷ qs) p h = by (same_table p q) refl h (tested_among qs p)
+  where
+    by : (b : Bool) → same_table p q ≡ b → (b || list_any (same_table p) qs) ≡ true → (list_any (same_table p) qs ≡ true → Has qs p) → (p ≡ q) ⊎ Has qs p
+    by true same h rest = inl (same_table_is p q same)
+    by false other h rest = inr (rest h)
+
+-- the tables of earlier editions are there in each edition
+olds_tested : (e : AnEdition) → list_all (λ old. list_any (same_table old) (rolls_of e)) olds ≡ true
+olds_tested First = refl
+olds_tested Second = refl
+olds_tested Third = refl
+
+all_tested : (test : Table → Bool) (tables : List Table) → list_all test tables ≡ true → (table : Table) → Has tables table → test table ≡ true
+all_tested test [] all table h = absurd h
+all_tested test (t ∷ ts) all table (inl is) = ap test is ∙ (and_parts _ _ all).0
+all_tested test (t ∷ ts) all table (inr h) = all_tested test ts (and_parts _ _ all).1 table h
+
+pub old_among : (e : AnEdition) (table : Table) → IsAmong olds table → IsAmong (rolls_of e) table
+unfolding IsAmong
+old_among e table h = tested_among (rolls_of e) table (all_tested (λ old. list_any (same_table old) (rolls_of e)) olds (olds_tested e) table h)
 
 -- no roll is the edition
 pub apart_edition : (table : Table) → IsRollTable table → table ≢ Edition

@@ -1,24 +1,22 @@
 -- The office of rows that were read in an edition, and the changes that raise its tables.
-use Rattle.std.proofs.Common.{◌≡◌, Bool, true, false, cond, List, [], ◌∷◌, ◌++◌, map, filter, inl, inr, refl, sym}
-use Rattle.std.specs.Prelude.{◌||◌}
+use Rattle.std.proofs.Common.{◌≡◌, Bool, true, false, cond, List, [], ◌∷◌, ◌++◌, map, filter, inr, refl}
 use Rattle.sqlite.specs.Schema.{Schema}
 use Rattle.sqlite.specs.State.{State as Seen}
 use Rattle.row_data.specs.declared.row.Change.{Change}
 use Rattle.row_data.specs.declared.row.Change.TheVariants.{Add}
-use Rattle.row_data.specs.Rows.{RowOf, of_table, same_table}
-use Rattle.row_data.proofs.Tables.{same_table_is}
+use Rattle.row_data.specs.Rows.{RowOf, of_table}
 use Rattle.rolls.specs.Fit.{IsFit}
 use Rattle.rolls.specs.Rows.{AreRowsOf}
 use Rattle.rolls.specs.State.{State}
 use Rattle.editions.specs.declared.Edition.{Edition as AnEdition}
 use Rattle.editions.specs.declared.Edition.TheVariants.{First, Second, Third}
-use Rattle.editions.specs.Editions.{Renews, Upgrades, aims_of, is_old, renaming_changes, renewed, rows_in_edition, renamed_row, removal_of, upgrade}
-use Rattle.row_data.specs.declared.table.Table.TheVariants.{OldChoice, OldPlacement}
+use Rattle.editions.specs.Editions.{Renews, Upgrades, aims_of, is_old, olds, renaming_changes, renewed, rows_in_edition, renamed_row, removal_of, upgrade}
 use Rattle.store.specs.Editions.{number_of, raised, rolls_of}
 use Rattle.store.specs.Rows.{IsAmong}
 use Rattle.store.specs.Saving.{AllNeed, AreLeftAmong, IsLeftAlone}
 use Rattle.store.specs.Inside.Raising.{AskRaised}
 use Rattle.store.specs.Inside.Reading.{FindsOffice, HoldsRows}
+use Rattle.store.proofs.Among.{tested_among}
 use Rattle.store.proofs.Standing.{hold_same}
 
 -- ---- what the changes of an upgrade ask of the schema
@@ -26,11 +24,7 @@ use Rattle.store.proofs.Standing.{hold_same}
 -- a row of earlier editions is of a table of which rows are taken out
 taken_asks : (schema : Schema) → AreLeftAmong raised schema → (r : RowOf) → is_old r ≡ true → IsLeftAlone r.table schema
 unfolding IsAmong
-taken_asks schema left r is = by (same_table OldChoice r.table) refl is
-  where
-    by : (b : Bool) → same_table OldChoice r.table ≡ b → (b || same_table OldPlacement r.table) ≡ true → IsLeftAlone r.table schema
-    by true same h = left r.table (inr (inl (sym (same_table_is _ _ same))))
-    by false other h = left r.table (inr (inr (inl (sym (same_table_is _ _ h)))))
+taken_asks schema left r is = left r.table (inr (tested_among olds r.table is))
 
 module _ (schema : Schema) (left : AreLeftAmong raised schema) where
   takes_by : (r : RowOf) (rows : List RowOf) → AllNeed (map removal_of (filter is_old rows)) schema → (b : Bool) → is_old r ≡ b → AllNeed (map removal_of (cond b (r ∷ filter is_old rows) (filter is_old rows))) schema

@@ -14,7 +14,7 @@ use Rattle.row_data.specs.Rows.{AllRows}
 use Rattle.editions.specs.declared.Edition.{Edition as AnEdition}
 use Rattle.editions.specs.declared.Edition.TheVariants.{First, Second, Third}
 use Rattle.row_data.specs.declared.table.Table.{Table}
-use Rattle.row_data.specs.declared.table.Table.TheVariants.{Edition, OldChoice, OldPlacement}
+use Rattle.row_data.specs.declared.table.Table.TheVariants.{Edition}
 use Rattle.tables.specs.Table.{Place, Lists, table_at}
 use Rattle.tables.specs.Inert.{IsActedOn}
 use Rattle.tables.specs.Keyed.{Stands}
@@ -34,7 +34,7 @@ use Rattle.store.specs.Saving.{Applies, AreActedOnAmong, AreLeftAmong, IsLeftAlo
 use Rattle.store.specs.Tables.{AreRuledAmong, LeavesTables, MakesTables, TablesHold, TablesOf, numbered}
 use Rattle.store.specs.Inside.Raising.{Extends, Lifts, Rises}
 use Rattle.store.proofs.Standing.{stand_as}
-use Rattle.store.proofs.Among.{among_or_not, fresh_beyond, has_left, is_among, stands_among}
+use Rattle.store.proofs.Among.{among_or_not, fresh_beyond, has_left, is_among, old_among, stands_among}
 use Rattle.store.proofs.Begins.{int_self}
 
 -- ---- tables more
@@ -121,25 +121,11 @@ pub left_so : (tables : List Table) (schema : Schema) → (AreActedOnAmong table
 left_so tables schema none table among place listed = inert_so schema place.tree (λ acts. none (table, among, (place, listed, acts)))
 
 -- those of which rows are replaced or taken out are there in each edition
-old_choices : (e : AnEdition) → IsAmong (rolls_of e) OldChoice
-unfolding IsAmong
-old_choices First = inr (inr (inr (inr (inl refl))))
-old_choices Second = inr (inr (inr (inr (inl refl))))
-old_choices Third = inr (inr (inr (inr (inl refl))))
-
-old_placements : (e : AnEdition) → IsAmong (rolls_of e) OldPlacement
-unfolding IsAmong
-old_placements First = inr (inr (inr (inr (inr (inl refl)))))
-old_placements Second = inr (inr (inr (inr (inr (inl refl)))))
-old_placements Third = inr (inr (inr (inr (inr (inl refl)))))
-
 module _ (e : AnEdition) (number : ℕ) (rows : AllRows) (old new : Database) (t : TablesOf (rolls_of e) number old rows) (m : MakesTables (beyond e) old new) where
   stood : (table : Table) → IsAmong raised table → (place : Place) × Lists old.schema (table_at table place)
   unfolding IsAmong
   stood table (inl is) = (t.edition, subst (λ it. Lists old.schema (table_at it t.edition)) (sym is) t.editions.listed)
-  stood table (inr (inl is)) = (t.places OldChoice, subst (λ it. Lists old.schema (table_at it (t.places OldChoice))) (sym is) (t.rolls OldChoice (old_choices e)).listed)
-  stood table (inr (inr (inl is))) = (t.places OldPlacement, subst (λ it. Lists old.schema (table_at it (t.places OldPlacement))) (sym is) (t.rolls OldPlacement (old_placements e)).listed)
-  stood table (inr (inr (inr none))) = absurd none
+  stood table (inr is) = (t.places table, (t.rolls table (old_among e table is)).listed)
 
   -- where none acted before tables were made, none acts then
   pub quiet_then : (AreActedOnAmong raised old.schema → ⊥) → AreActedOnAmong raised new.schema → ⊥

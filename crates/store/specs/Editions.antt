@@ -2,8 +2,9 @@
 use Rattle.std.specs.Prelude.{ℕ, ⊤, List, [], ◌∷◌, drop, take}
 use Rattle.editions.specs.declared.Edition.{Edition}
 use Rattle.editions.specs.declared.Edition.TheVariants.{First, Second, Third}
+use Rattle.editions.specs.Editions.{olds}
 use Rattle.row_data.specs.declared.table.Table.{Table}
-use Rattle.row_data.specs.declared.table.Table.TheVariants.{Edition as EditionTable, OldChoice, OldPlacement}
+use Rattle.row_data.specs.declared.table.Table.TheVariants.{Edition as EditionTable}
 use Rattle.store.specs.Rows.{rolls}
 
 -- the edition in which tables are made
@@ -30,7 +31,7 @@ beyond Third = []
 
 -- the tables of which rows are replaced or taken out where those of an earlier edition are raised
 abbrev pub raised : List Table
-raised = EditionTable ∷ OldChoice ∷ OldPlacement ∷ []
+raised = EditionTable ∷ olds
 
 -- it is not the latest
 abbrev pub IsEarlier : Edition → Type 0
