@@ -169,10 +169,19 @@ fn message(alloc: Global, asked: &str, body: &str) -> Result<Vec<u8>, AllocError
 }
 
 /// The message of a line.
-pub fn message_of(alloc: Global, line: &str) -> Result<Vec<u8>, AllocError> {
+fn message_of(alloc: Global, line: &str) -> Result<Vec<u8>, AllocError> {
     let (asked, rest) = first_cell(line);
     let (body, _answer) = first_cell(rest);
     message(alloc, asked, body)
+}
+
+/// The messages of lines, one behind another.
+pub fn messages_of(alloc: Global, lines: &str) -> Result<Vec<u8>, AllocError> {
+    let mut bytes = Vec::new(alloc);
+    for line in lines.lines() {
+        bytes.extend_from_slice(&message_of(alloc, line)?)?;
+    }
+    Ok(bytes)
 }
 
 /// The answer with this status and body, which is JSON where it begins with a brace, and else a text.

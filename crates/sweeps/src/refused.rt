@@ -9,7 +9,7 @@ use plays::judged::holds;
 use plays::kept::{keeps, kept_by};
 use plays::opened::{desk_over, new_desk};
 use plays::played::{
-    Outcome, Part, answer_of, asked, message_of, play_lines, play_parts, served, whole,
+    Outcome, Part, answer_of, asked, messages_of, play_lines, play_parts, served, whole,
 };
 use plays::school::{LISTED, SCHOOL};
 use rolls::Refusal;
@@ -131,15 +131,6 @@ fn all_allowed(alloc: Global, row: Row) -> Result<Vec<Allowed>, Fail> {
     Ok(all)
 }
 
-/// The messages of lines.
-fn messages(alloc: Global, lines: &str) -> Result<Vec<u8>, AllocError> {
-    let mut bytes = Vec::new(alloc);
-    for line in lines.lines() {
-        bytes.extend_from_slice(&message_of(alloc, line)?)?;
-    }
-    Ok(bytes)
-}
-
 /// Asks the requests of a row with the nth request for memory refused. What came of them, and whether it was refused.
 fn refused(
     alloc: Global,
@@ -147,7 +138,7 @@ fn refused(
     row: Row,
     n: u32,
 ) -> Result<(Outcome, bool), AllocError> {
-    let bytes = messages(alloc, row.1)?;
+    let bytes = messages_of(alloc, row.1)?;
     let taken = Vec::with_capacity(alloc, 10_000)?;
     arm(alloc, n);
     let got = served(alloc, desk, whole(&bytes), taken, (10_000, None));

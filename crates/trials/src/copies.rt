@@ -5,47 +5,60 @@
 use crate::printed::{parted, print_rows, prints, write_files};
 use cli::line;
 use plays::judged::holds;
-use plays::school::SCHOOL_FILES;
+use plays::played::messages_of;
+use plays::school::{LISTED, SCHOOL, SCHOOL_FILES};
 use std::io::Write;
 use std::net::{Ipv4Addr, Shutdown, TcpListener, TcpStream};
 use std::rt::HostRuntime;
 use std::test::Fail;
 use std::{fs, io};
 
-/// Lines of each kind but one, also refused ones: each is done on a copy of the file that the line before left.
+/// Lines of each kind but one, also a refused one: each is done on a copy of the file that the line before left.
 #[rattlefmt::skip]
 static LINES: &str =
-    r#"spadesk import a1.db supervisors I1 supervisors.csv | 0 | rows 1^n                                 |
-       spadesk import a2.db projects I2 projects.csv       | 0 | rows 3^n                                 |
-       spadesk import a3.db students I1 students.csv       | 1 |                                          | refused 27: ImportIdUsed^n
-       spadesk import a4.db students I3 students.csv       | 0 | rows 3^n                                 |
-       spadesk open-round a5.db                            | 0 | round 1^n                                |
-       spadesk import a6.db lists I4 lists.csv             | 0 | rows 3^n                                 |
-       spadesk close-round a7.db                           | 0 | round 1 size 2 profile 0 2 0 0 0 0 0 0 0 0 0 0^n |
-       spadesk report a8.db unplaced 2                     | 1 |                                          | refused 26: UnknownRound^n
-       spadesk report a9.db placements 1                   | 0 | A                Q                 2^nC                P                 2^n |
-       spadesk reopen-round a10.db                         | 0 | round 1^n                                |
-       spadesk reopen-round a11.db                         | 1 |                                          | refused 18: RoundIsOpen^n
-       spadesk import a12.db lists I4 lists.csv            | 0 | rows 3^n                                 |"#;
+    r#"spadesk import line1.db supervisors I1 supervisors.csv | 0 | rows 1^n                                                                     |
+       spadesk import line2.db projects I2 projects.csv       | 0 | rows 3^n                                                                     |
+       spadesk import line3.db students I3 students.csv       | 0 | rows 3^n                                                                     |
+       spadesk open-round line4.db                            | 0 | round 1^n                                                                    |
+       spadesk import line5.db lists I4 lists.csv             | 0 | rows 3^n                                                                     |
+       spadesk close-round line6.db                           | 0 | round 1 size 2 profile 0 2 0 0^0^n                                           |
+       spadesk report line7.db placements 1                   | 0 | A                Q                 2^nC                P                 2^n |
+       spadesk reopen-round line8.db                          | 0 | round 1^n                                                                    |
+       spadesk reopen-round line9.db                          | 1 |                                                                              | refused 18: RoundIsOpen^n
+       spadesk import line10.db lists I4 lists.csv            | 0 | rows 3^n                                                                     |"#;
 
-/// What the copies are after a connection of the line `serve`, which takes a list away and closes the round.
+/// What a client asks of the line `serve`, another one of a copy of the file that it left, and so on: the last one asks of a round that is
+/// closed, and its placements stand. With each the number of answers.
+#[rattlefmt::skip]
+static ASKED: [(&str, u32); 4] = [
+    (SCHOOL, 7),
+    (LISTED, 3),
+    (
+        r#"PUT /lists/B | {"choices":["Z"]}
+       DELETE /lists/A
+       POST /rounds/close"#,
+        3,
+    ),
+    (
+        r#"GET /rounds/1
+       GET /students/C"#,
+        2,
+    ),
+];
+
+/// What the last copy is.
 #[rattlefmt::skip]
 static SERVED: &str =
-    r#"spadesk report a14.db placements 1 | 0 | C                P                 2^n |
-       spadesk report a14.db unplaced 1   | 0 | B                Bob^n                 |
-       spadesk report a14.db loads 1      | 0 | L                     1    5^n  P                   1    1^n  Q                   0    1^n  Z                   0    0^n |
-       spadesk open-round a14.db          | 0 | round 2^n                              |
-       spadesk report a14.db unplaced 2   | 0 |                                        |"#;
+    r#"spadesk report client5.db placements 1 | 0 | C                P                 2^n |
+       spadesk report client5.db unplaced 1   | 0 | B                Bob^n                 |
+       spadesk report client5.db loads 1      | 0 | L                     1    5^n  P                   1    1^n  Q                   0    1^n  Z                   0    0^n |
+       spadesk open-round client5.db          | 0 | round 2^n                              |
+       spadesk report client5.db unplaced 2   | 0 |                                        |"#;
 
-/// What a client asks, and what another one asks of the round that is closed then: its placements stand.
-const ASKED: &str = "DELETE /lists/A HTTP/1.1\r\n\r\nPOST /rounds/close HTTP/1.1\r\n\r\n";
-
-const ASKED_AFTERWARDS: &str = "GET /rounds/1 HTTP/1.1\r\n\r\nGET /students/C HTTP/1.1\r\n\r\n";
-
-/// Copies a file alone, as it is after the line with this number.
-fn copy_after(rt: &HostRuntime, number: u32) -> Result<(), Fail> {
-    let from = format!(in rt.alloc(); "a{number}.db")?;
-    let to = format!(in rt.alloc(); "a{}.db", number.wrapping_add(1))?;
+/// Copies a file alone, as it is after the line or the client with this number.
+fn copy_after(rt: &HostRuntime, name: &str, number: u32) -> Result<(), Fail> {
+    let from = format!(in rt.alloc(); "{name}{number}.db")?;
+    let to = format!(in rt.alloc(); "{name}{}.db", number.wrapping_add(1))?;
     fs::copy(rt, &from, &to)?;
     Ok(())
 }
@@ -55,7 +68,7 @@ fn copy_after(rt: &HostRuntime, number: u32) -> Result<(), Fail> {
 struct Caller<'a> {
     rt: &'a HostRuntime,
     port: u16,
-    asked: &'a str,
+    asked: &'a [u8],
     client: Option<TcpStream>,
     /// Whether the port was open at another address of this machine.
     is_open_elsewhere: bool,
@@ -68,7 +81,7 @@ impl Write for Caller<'_> {
             let elsewhere = (Ipv4Addr::new(127, 0, 0, 2), self.port);
             self.is_open_elsewhere = TcpStream::connect(self.rt, elsewhere).is_ok();
             let mut client = TcpStream::connect(self.rt, (Ipv4Addr::LOCALHOST, self.port))?;
-            client.write_all(self.asked.as_bytes())?;
+            client.write_all(self.asked)?;
             client.shutdown(Shutdown::Write)?;
             self.client = Some(client);
         }
@@ -80,24 +93,29 @@ impl Write for Caller<'_> {
     }
 }
 
-/// Serves one connection of a caller who asks this, by a line over this file and a port that is free.
-fn serves_caller(rt: &HostRuntime, database: &str, asked: &str) -> Result<(), Fail> {
+/// Serves one connection of a caller who asks these lines and gets so many answers, by a line over this file and a port that is free.
+fn serves_caller(
+    rt: &HostRuntime,
+    database: &str,
+    (lines, count): (&str, u32),
+) -> Result<(), Fail> {
     let listener = TcpListener::bind(rt, (Ipv4Addr::LOCALHOST, 0))?;
     let port = listener.local_addr()?.port();
     drop(listener);
     let words = format!(in rt.alloc(); "spadesk serve {database} {port} 1")?;
+    let asked = messages_of(rt.alloc(), lines)?;
     let mut caller = Caller {
         rt,
         port,
-        asked,
+        asked: &asked,
         client: None,
         is_open_elsewhere: false,
         told: Vec::new(rt.alloc()),
     };
     let status = line(rt, parted(rt, &words)?, &mut caller, Vec::new(rt.alloc()));
-    let want = format!(in rt.alloc(); "listening {port}\nconnection 1: 2 answers, closed\n")?;
+    let want = format!(in rt.alloc(); "listening {port}\nconnection 1: {count} answers, closed\n")?;
     let is_told = status == 0 && caller.told.as_slice() == want.as_bytes();
-    holds(is_told, "a caller is served")?;
+    holds(is_told, lines)?;
     holds(!caller.is_open_elsewhere, "at one address alone")
 }
 
@@ -107,12 +125,21 @@ fn a_file_that_is_closed_is_the_whole_database(rt: HostRuntime) -> Result<(), Fa
     let mut number = 1;
     for row in LINES.lines() {
         print_rows(&rt, row)?;
-        copy_after(&rt, number)?;
+        copy_after(&rt, "line", number)?;
         number = number.wrapping_add(1);
     }
-    serves_caller(&rt, "a13.db", ASKED)?;
-    copy_after(&rt, 13)?;
-    serves_caller(&rt, "a14.db", ASKED_AFTERWARDS)?;
+    Ok(())
+}
+
+#[test]
+fn a_file_that_was_served_is_the_whole_database(rt: HostRuntime) -> Result<(), Fail> {
+    let mut number = 1;
+    for asked in ASKED {
+        let database = format!(in rt.alloc(); "client{number}.db")?;
+        serves_caller(&rt, &database, asked)?;
+        copy_after(&rt, "client", number)?;
+        number = number.wrapping_add(1);
+    }
     print_rows(&rt, SERVED)
 }
 

@@ -50,10 +50,17 @@ const NO_JSON: &str = r#"PUT /students/S1 | $ | 400 Bad Request | {"fault":"Json
 const SIXTY_FIVE: &str =
     r#"PUT /lists/A | {"choices":[$"P"]} | 400 Bad Request | {"fault":"ListLength","number":23}"#;
 
+/// The largest rolls.
+static ROLLS: [&[Play]; 1] = [&[(LARGEST, 500)]];
+
+#[test]
+fn the_largest_rolls_are_told(rt: HostRuntime) -> Result<(), Fail> {
+    play_all(rt.alloc(), ROLLS.as_slice())
+}
+
 /// Each play at tables of its own.
 #[rattlefmt::skip]
-static PLAYS: [&[Play]; 5] = [
-    &[(LARGEST, 500)],
+static PLAYS: [&[Play]; 4] = [
     &[(&[Part::Counted(1, 7, EACH_ROUND), Part::Lines(SEVENTH)], 0)],
     &[(&[Part::Filled(10_000, "S,A^n", TEN_THOUSAND)], 1)],
     &[(&[Part::Filled(5_000, "x", NO_JSON)], 0)],
