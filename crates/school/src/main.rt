@@ -1,0 +1,37 @@
+//! Plays commands of the program, and requests over HTTP, over the files of databases.
+//!
+//! The arguments name files of rows. A row that tells something else than it says is printed with what it told, and behind each file how
+//! many of its rows were compared. `docs/TESTS.md` says what a row may be. A further row costs no proof.
+#![tactic(auto)]
+
+// Texts that are written out of a row, and what a row says is told.
+mod texts;
+// Requests at the desk of a database file, and SQL over it.
+mod over_files;
+// Rows in turn.
+mod row_files;
+// Why rows are not played to their end.
+mod unplayed;
+
+use row_files::play_file;
+use std::env;
+use std::process::ExitCode;
+use std::rt::HostRuntime;
+use unplayed::Unplayed;
+
+/// Plays each file that an argument names.
+fn play_all(rt: &HostRuntime) -> Result<(), Unplayed> {
+    let words: Vec<String> = env::args(rt)?.collect(rt.alloc())?;
+    let mut is_name = false;
+    for name in &words {
+        if is_name {
+            play_file(rt, name)?;
+        }
+        is_name = true;
+    }
+    Ok(())
+}
+
+fn main(rt: HostRuntime) -> ExitCode {
+    ExitCode::from(u8::from(play_all(&rt).is_err()))
+}
