@@ -14,8 +14,8 @@
 //!
 //! What one of them costs is the difference between two runs by the difference of their N.
 //!
-//! Arguments that name no benchmark are a line of the program, and are done as the program does them. The gate runs each
-//! program once: `spadesk` on a line that is refused, `stream` on a stream, and this one on a fault of the line.
+//! Arguments that name no benchmark are a line of the program, and are done as the program does them. The gate runs
+//! each program once: `spadesk` on a stream, and this one on a fault of the line.
 #![tactic(auto)]
 
 use cli::start;

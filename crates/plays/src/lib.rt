@@ -1,10 +1,11 @@
-//! What the tests share: requests that are played at a desk, readers and writers in pieces, tables of text, and how a row fails.
+//! What the tests of a desk share: requests that are played at it, its tables, and a small school.
 #![tactic(auto)]
 
-pub mod cells;
-pub mod judged;
+pub use rows::{cells, judged, pieces};
+
+mod hand_made;
 pub mod kept;
+pub mod offices;
 pub mod opened;
-pub mod pieces;
 pub mod played;
 pub mod school;

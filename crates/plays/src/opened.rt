@@ -2,12 +2,15 @@
 
 use desk::Desk;
 use rolls::{Plain, Request, Text};
-use sqlite::{Connection, MemStore};
+use sqlite::{Alter, Connection, MemStore};
 use std::alloc::Global;
 use std::test::Fail;
 
 /// The desk over a database.
-pub fn desk_over(alloc: Global, connection: Connection<MemStore>) -> Result<Desk<MemStore>, Fail> {
+pub fn desk_over<S: Alter + Drop>(
+    alloc: Global,
+    connection: Connection<S>,
+) -> Result<Desk<S>, Fail> {
     match Desk::open(alloc, connection) {
         Ok(desk) => Ok(desk),
         Err((refusal, _connection)) => Err(Fail::new(format_args!("refused {}", refusal.number()))),

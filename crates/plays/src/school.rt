@@ -11,15 +11,6 @@ pub const SCHOOL: &str =
        PUT /students/B    | {"name":"Bob"}                              | 200 OK | {"ok":true}
        PUT /students/C    | {"name":"Cy"}                               | 200 OK | {"ok":true}"#;
 
-/// The same school as files of imports, with lists: A lists P and Q, B lists Z, and C lists Z and P.
-#[rattlefmt::skip]
-pub static SCHOOL_FILES: [(&str, &str); 4] = [
-    ("supervisors.csv", "code,name,quota\nL,Lee,5\n"),
-    ("projects.csv",    "code,name,supervisor,quota\nP,Pumps,L,1\nQ,Quays,L,1\nZ,Zinc,L,0\n"),
-    ("students.csv",    "code,name\nA,Ann\nB,Bob\nC,Cy\n"),
-    ("lists.csv",       "student,choices\nA,P Q\nB,Z\nC,Z P\n"),
-];
-
 /// A round is open, in which A lists P and Q, and C lists Z and P.
 #[rattlefmt::skip]
 pub const LISTED: &str =

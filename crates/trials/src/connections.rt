@@ -1,10 +1,10 @@
 //! Connections on loopback, served one after another.
 
-use crate::printed::prints;
+use cli::line;
 use desk::Desk;
-use plays::judged::holds;
-use plays::opened::new_desk;
-use sqlite::{Alter, MemStore};
+use plays::opened::desk_over;
+use rows::judged::holds;
+use sqlite::{Alter, Connection};
 use std::io::{Read, Write};
 use std::net::{Ipv4Addr, Shutdown, TcpListener, TcpStream};
 use std::rt::HostRuntime;
@@ -49,6 +49,20 @@ fn answers(rt: &HostRuntime, clients: &mut [TcpStream]) -> Result<Vec<Vec<u8>>, 
     Ok(all)
 }
 
+/// Serves so many connections. What is told of them.
+fn told<S: Alter>(
+    rt: &HostRuntime,
+    desk: &mut Desk<S>,
+    listener: &TcpListener,
+    count: u32,
+) -> Result<Vec<u8>, Fail> {
+    let mut out = Watched::new(Vec::new(rt.alloc()));
+    if serve_on(rt.alloc(), desk, listener, count, &mut out).is_err() {
+        return Err(Fail::new("the lines are not told"));
+    }
+    Ok(out.into_inner())
+}
+
 /// Serves one connection for each of these texts, one after another. The lines that are told, and what each was answered.
 pub(crate) fn answered<S: Alter>(
     rt: &HostRuntime,
@@ -59,19 +73,16 @@ pub(crate) fn answered<S: Alter>(
     let listener = TcpListener::bind(rt, (Ipv4Addr::LOCALHOST, 0))?;
     let port = listener.local_addr()?.port();
     let mut clients = clients(rt, port, texts)?;
-    let mut out = Watched::new(Vec::new(rt.alloc()));
-    if serve_on(rt.alloc(), desk, &listener, count, &mut out).is_err() {
-        return Err(Fail::new("the lines are not told"));
-    }
+    let told = told(rt, desk, &listener, count)?;
     let answers = answers(rt, &mut clients)?;
-    Ok((out.into_inner(), answers))
+    Ok((told, answers))
 }
 
 /// Two connections, of which the first sends two puts.
 const TWO: &[u8] = b"connection 1: 2 answers, closed\nconnection 2: 0 answers, closed\n";
 
 /// Serves them at a desk.
-fn serve_two(rt: &HostRuntime, desk: &mut Desk<MemStore>) -> Result<(), Fail> {
+fn serve_two<S: Alter>(rt: &HostRuntime, desk: &mut Desk<S>) -> Result<(), Fail> {
     let puts = String::from_str(rt.alloc(), PUTS)?;
     let (told, answers) = answered(rt, desk, &[puts, String::new(rt.alloc())], 2)?;
     holds(told.as_slice() == TWO, "two connections")?;
@@ -82,12 +93,6 @@ fn serve_two(rt: &HostRuntime, desk: &mut Desk<MemStore>) -> Result<(), Fail> {
     holds(are_answers, "two answers")
 }
 
-#[test]
-fn two_connections_are_served_in_turn(rt: HostRuntime) -> Result<(), Fail> {
-    let mut desk = new_desk(rt.alloc())?;
-    serve_two(&rt, &mut desk)
-}
-
 /// Messages after which nothing is read, how often they come, and what is told of a client that could send more.
 #[rattlefmt::skip]
 static LEFT_OPEN: [(&str, usize, &[u8]); 3] = [
@@ -96,44 +101,89 @@ static LEFT_OPEN: [(&str, usize, &[u8]); 3] = [
     ("PUT /students/S1 HTTP/1.1\r\nContent-Length: 65537\r\n\r\n", 1,   b"connection 1: 1 answers, too-large\n"),
 ];
 
-/// Serves one connection. What is told of it.
-fn told(
+/// Serves a client that has sent this message so often, and compares what is told of it.
+fn serve_left_open<S: Alter>(
     rt: &HostRuntime,
-    desk: &mut Desk<MemStore>,
+    desk: &mut Desk<S>,
     listener: &TcpListener,
-) -> Result<Vec<u8>, Fail> {
-    let mut out = Watched::new(Vec::new(rt.alloc()));
-    if serve_on(rt.alloc(), desk, listener, 1, &mut out).is_err() {
-        return Err(Fail::new("the lines are not told"));
+    (message, times, want): (&str, usize, &[u8]),
+) -> Result<(), Fail> {
+    let bytes = message.repeat(rt.alloc(), times)?;
+    let client = open_client(rt, listener.local_addr()?.port(), &bytes)?;
+    let told = told(rt, desk, listener, 1)?;
+    drop(client);
+    holds(told.as_slice() == want, message)
+}
+
+/// Serves such a client of each row.
+fn serve_open<S: Alter>(rt: &HostRuntime, desk: &mut Desk<S>) -> Result<(), Fail> {
+    let listener = TcpListener::bind(rt, (Ipv4Addr::LOCALHOST, 0))?;
+    for row in LEFT_OPEN.as_slice() {
+        serve_left_open(rt, desk, &listener, *row)?;
     }
-    Ok(out.into_inner())
+    Ok(())
+}
+
+/// Serves a connection of a listener that waits for nobody, so that there is no client to accept.
+fn serve_nobody<S: Alter>(rt: &HostRuntime, desk: &mut Desk<S>) -> Result<(), Fail> {
+    let listener = TcpListener::bind(rt, (Ipv4Addr::LOCALHOST, 0))?;
+    listener.set_nonblocking(true)?;
+    let told = told(rt, desk, &listener, 1)?;
+    let want = b"connection 1: read fault\n".as_slice();
+    holds(told.as_slice() == want, "no client")
+}
+
+/// Who calls.
+#[derive(Clone, Copy)]
+enum Callers {
+    Two,
+    LeftOpen,
+    Nobody,
+}
+
+/// Serves them at the desk over new tables.
+fn serve<S: Alter + Drop>(
+    rt: &HostRuntime,
+    connection: Connection<S>,
+    callers: Callers,
+) -> Result<(), Fail> {
+    let mut desk = desk_over(rt.alloc(), connection)?;
+    match callers {
+        Callers::Two => serve_two(rt, &mut desk),
+        Callers::LeftOpen => serve_open(rt, &mut desk),
+        Callers::Nobody => serve_nobody(rt, &mut desk),
+    }
+}
+
+#[test]
+fn two_connections_are_served_in_turn(rt: HostRuntime) -> Result<(), Fail> {
+    serve(&rt, Connection::open_in_memory(rt.alloc())?, Callers::Two)
 }
 
 // Where more were read, the client would be waited for without end.
 #[test]
 fn a_client_that_stays_open_is_not_waited_for(rt: HostRuntime) -> Result<(), Fail> {
-    let mut desk = new_desk(rt.alloc())?;
-    let listener = TcpListener::bind(&rt, (Ipv4Addr::LOCALHOST, 0))?;
-    let port = listener.local_addr()?.port();
-    for (message, times, want) in LEFT_OPEN {
-        let bytes = message.repeat(rt.alloc(), times)?;
-        let client = open_client(&rt, port, &bytes)?;
-        let told = told(&rt, &mut desk, &listener)?;
-        holds(told.as_slice() == want, message)?;
-        drop(client);
-    }
-    Ok(())
+    let connection = Connection::open_in_memory(rt.alloc())?;
+    serve(&rt, connection, Callers::LeftOpen)
 }
 
-// A listener that waits for nobody has no client to accept.
 #[test]
 fn a_connection_that_cannot_be_accepted_counts_as_one(rt: HostRuntime) -> Result<(), Fail> {
-    let mut desk = new_desk(rt.alloc())?;
-    let listener = TcpListener::bind(&rt, (Ipv4Addr::LOCALHOST, 0))?;
-    listener.set_nonblocking(true)?;
-    let told = told(&rt, &mut desk, &listener)?;
-    let want = b"connection 1: read fault\n".as_slice();
-    holds(told.as_slice() == want, "no client")
+    let connection = Connection::open_in_memory(rt.alloc())?;
+    serve(&rt, connection, Callers::Nobody)
+}
+
+/// Does the line that serves this database on a port, and compares what it prints on standard error.
+fn compare_refusal(rt: &HostRuntime, database: &str, port: u16, want: &str) -> Result<(), Fail> {
+    let words = format!(in rt.alloc(); "spadesk serve {database} {port} 1")?;
+    let mut list = Vec::new(rt.alloc());
+    for word in words.split(' ') {
+        list.push(String::from_str(rt.alloc(), word)?)?;
+    }
+    let (mut out, mut err) = (Vec::new(rt.alloc()), Vec::new(rt.alloc()));
+    let status = line(rt, list, &mut out, &mut err);
+    let is_told = out.is_empty() && err.as_slice() == want.as_bytes();
+    holds(is_told && status == 1, database)
 }
 
 // A port that a listener has cannot be bound once more; a database that cannot be opened is told before.
@@ -141,9 +191,7 @@ fn a_connection_that_cannot_be_accepted_counts_as_one(rt: HostRuntime) -> Result
 fn a_port_that_is_taken_is_told(rt: HostRuntime) -> Result<(), Fail> {
     let listener = TcpListener::bind(&rt, (Ipv4Addr::LOCALHOST, 0))?;
     let port = listener.local_addr()?.port();
-    let words = format!(in rt.alloc(); "spadesk serve taken.db {port} 1")?;
-    let message = format!(in rt.alloc(); "no port {port}\n")?;
-    prints(&rt, &words, (b"", message.as_bytes()), 1)?;
-    let words = format!(in rt.alloc(); "spadesk serve no-such-folder/taken.db {port} 1")?;
-    prints(&rt, &words, (b"", b"refused 2: Storage\n"), 1)
+    let no_port = format!(in rt.alloc(); "no port {port}\n")?;
+    compare_refusal(&rt, "taken.db", port, &no_port)?;
+    compare_refusal(&rt, "no-such-folder/taken.db", port, "refused 2: Storage\n")
 }

@@ -1,31 +1,15 @@
-//! The file of a database that no program has open, copied alone: it is the same office.
-//!
-//! All tests run in one folder, so no two of them name the same database.
+//! The file of a database that was served, copied alone: it is the same office.
 
-use crate::printed::{parted, print_rows, prints, write_files};
+use crate::printed::{parted, print_rows};
 use cli::line;
 use plays::judged::holds;
 use plays::played::messages_of;
-use plays::school::{LISTED, SCHOOL, SCHOOL_FILES};
+use plays::school::{LISTED, SCHOOL};
 use std::io::Write;
 use std::net::{Ipv4Addr, Shutdown, TcpListener, TcpStream};
 use std::rt::HostRuntime;
 use std::test::Fail;
 use std::{fs, io};
-
-/// Lines of each kind but one, also a refused one: each is done on a copy of the file that the line before left.
-#[rattlefmt::skip]
-static LINES: &str =
-    r#"spadesk import line1.db supervisors I1 supervisors.csv | 0 | rows 1^n                                                                     |
-       spadesk import line2.db projects I2 projects.csv       | 0 | rows 3^n                                                                     |
-       spadesk import line3.db students I3 students.csv       | 0 | rows 3^n                                                                     |
-       spadesk open-round line4.db                            | 0 | round 1^n                                                                    |
-       spadesk import line5.db lists I4 lists.csv             | 0 | rows 3^n                                                                     |
-       spadesk close-round line6.db                           | 0 | round 1 size 2 profile 0 2 0 0^0^n                                           |
-       spadesk report line7.db placements 1                   | 0 | A                Q                 2^nC                P                 2^n |
-       spadesk reopen-round line8.db                          | 0 | round 1^n                                                                    |
-       spadesk reopen-round line9.db                          | 1 |                                                                              | refused 18: RoundIsOpen^n
-       spadesk import line10.db lists I4 lists.csv            | 0 | rows 3^n                                                                     |"#;
 
 /// What a client asks of the line `serve`, another one of a copy of the file that it left, and so on: the last one asks of a round that is
 /// closed, and its placements stand. With each the number of answers.
@@ -55,10 +39,10 @@ static SERVED: &str =
        spadesk open-round client5.db          | 0 | round 2^n                              |
        spadesk report client5.db unplaced 2   | 0 |                                        |"#;
 
-/// Copies a file alone, as it is after the line or the client with this number.
-fn copy_after(rt: &HostRuntime, name: &str, number: u32) -> Result<(), Fail> {
-    let from = format!(in rt.alloc(); "{name}{number}.db")?;
-    let to = format!(in rt.alloc(); "{name}{}.db", number.wrapping_add(1))?;
+/// Copies a file alone, as it is after the client with this number.
+fn copy_after(rt: &HostRuntime, number: u32) -> Result<(), Fail> {
+    let from = format!(in rt.alloc(); "client{number}.db")?;
+    let to = format!(in rt.alloc(); "client{}.db", number.wrapping_add(1))?;
     fs::copy(rt, &from, &to)?;
     Ok(())
 }
@@ -120,54 +104,13 @@ fn serves_caller(
 }
 
 #[test]
-fn a_file_that_is_closed_is_the_whole_database(rt: HostRuntime) -> Result<(), Fail> {
-    write_files(&rt, SCHOOL_FILES.as_slice())?;
-    let mut number = 1;
-    for row in LINES.lines() {
-        print_rows(&rt, row)?;
-        copy_after(&rt, "line", number)?;
-        number = number.wrapping_add(1);
-    }
-    Ok(())
-}
-
-#[test]
 fn a_file_that_was_served_is_the_whole_database(rt: HostRuntime) -> Result<(), Fail> {
     let mut number = 1;
-    for asked in ASKED {
+    for asked in ASKED.as_slice() {
         let database = format!(in rt.alloc(); "client{number}.db")?;
-        serves_caller(&rt, &database, asked)?;
-        copy_after(&rt, "client", number)?;
+        serves_caller(&rt, &database, *asked)?;
+        copy_after(&rt, number)?;
         number = number.wrapping_add(1);
     }
     print_rows(&rt, SERVED)
-}
-
-/// The first so many bytes of a file, as a file of its own, are refused, and stay as they are.
-fn refuses_beginning(rt: &HostRuntime, len: usize) -> Result<(), Fail> {
-    let bytes = fs::read(rt, "whole.db")?;
-    let name = format!(in rt.alloc(); "cut{len}.db")?;
-    let beginning = &bytes[..len.min(bytes.len())];
-    fs::write(rt, &name, beginning)?;
-    let words = format!(in rt.alloc(); "spadesk open-round {name}")?;
-    prints(rt, &words, (b"", b"refused 2: Storage\n"), 1)?;
-    let left = fs::read(rt, &name)?;
-    holds(left.as_slice() == beginning, &name)
-}
-
-/// Files of no byte and of one become an office.
-#[rattlefmt::skip]
-static BLANK: &str =
-    r#"spadesk open-round none.db | 0 | round 1^n |
-       spadesk open-round one.db  | 0 | round 1^n |"#;
-
-#[test]
-fn a_copy_that_is_cut_off_is_refused(rt: HostRuntime) -> Result<(), Fail> {
-    prints(&rt, "spadesk open-round whole.db", (b"round 1\n", b""), 0)?;
-    for len in [2, 99, 4_096, 61_440, 65_535] {
-        refuses_beginning(&rt, len)?;
-    }
-    fs::write(&rt, "none.db", "")?;
-    fs::write(&rt, "one.db", "S")?;
-    print_rows(&rt, BLANK)
 }

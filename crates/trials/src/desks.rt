@@ -1,10 +1,10 @@
 //! A desk over a database: what is put is read back, also by another desk.
 
 use desk::Desk;
-use plays::judged::holds;
-use plays::opened::{desk_over, new_desk, put_student};
+use plays::opened::{desk_over, put_student};
 use rolls::{Plain, Refusal, Reply, Request, Text};
-use sqlite::MemStore;
+use rows::judged::holds;
+use sqlite::{Alter, Connection};
 use std::alloc::Global;
 use std::rt::HostRuntime;
 use std::test::Fail;
@@ -41,22 +41,27 @@ fn are_answers(answers: &[Result<Reply, Refusal>]) -> bool {
 }
 
 /// Asks those requests as one list.
-fn run(alloc: Global, desk: &mut Desk<MemStore>) -> Result<(), Fail> {
+fn run<S: Alter>(alloc: Global, desk: &mut Desk<S>) -> Result<(), Fail> {
     let answers = desk.run(requests(alloc)?)?;
     holds(are_answers(&answers), "a put and two reads")
 }
 
 /// Reads the student at another desk.
-fn read(alloc: Global, desk: &mut Desk<MemStore>) -> Result<(), Fail> {
+fn read<S: Alter>(alloc: Global, desk: &mut Desk<S>) -> Result<(), Fail> {
     let answer = desk.ask(get_student(alloc, "S1")?);
     holds(is_named(&answer, "Ann"), "another desk")
+}
+
+/// Does both over tables.
+fn run_and_read<S: Alter + Drop>(alloc: Global, connection: Connection<S>) -> Result<(), Fail> {
+    let mut desk = desk_over(alloc, connection)?;
+    run(alloc, &mut desk)?;
+    let mut again = desk_over(alloc, desk.into_connection())?;
+    read(alloc, &mut again)
 }
 
 // The student is put, read, and read again by another desk over the same database.
 #[test]
 fn a_student_put_is_read_back(rt: HostRuntime) -> Result<(), Fail> {
-    let mut desk = new_desk(rt.alloc())?;
-    run(rt.alloc(), &mut desk)?;
-    let mut again = desk_over(rt.alloc(), desk.into_connection())?;
-    read(rt.alloc(), &mut again)
+    run_and_read(rt.alloc(), Connection::open_in_memory(rt.alloc())?)
 }

@@ -1,9 +1,9 @@
 //! An office and its tables without a desk: what is applied is saved, and loaded as it was.
 
 use office::Office;
-use plays::judged::{holds, well};
 use rolls::{Done, Plain, Refusal, Text};
-use sqlite::{Connection, MemStore};
+use rows::judged::{holds, well};
+use sqlite::{Alter, Connection};
 use std::alloc::Global;
 use std::rt::HostRuntime;
 use std::test::Fail;
@@ -50,18 +50,22 @@ fn applied(alloc: Global, office: &mut Office) -> Result<Done, Fail> {
 }
 
 /// Saves what was applied, and loads the office again.
-fn saved(store: &mut Store<MemStore>, done: &Done) -> Result<(), Fail> {
+fn saved<S: Alter>(store: &mut Store<S>, done: &Done) -> Result<(), Fail> {
     well(store.save(&done.changes), "a saving")?;
     let loaded = well(store.load(), "a loading")?;
     holds(has_student(&loaded), "what is loaded")
 }
 
-#[test]
-fn what_is_applied_and_saved_is_loaded(rt: HostRuntime) -> Result<(), Fail> {
-    let connection = Connection::open_in_memory(rt.alloc())?;
-    let Ok((mut store, mut office)) = Store::open(rt.alloc(), connection) else {
+/// Applies and saves it over tables.
+fn save_over<S: Alter + Drop>(alloc: Global, connection: Connection<S>) -> Result<(), Fail> {
+    let Ok((mut store, mut office)) = Store::open(alloc, connection) else {
         return Err(Fail::new("an opening"));
     };
-    let done = applied(rt.alloc(), &mut office)?;
+    let done = applied(alloc, &mut office)?;
     saved(&mut store, &done)
+}
+
+#[test]
+fn what_is_applied_and_saved_is_loaded(rt: HostRuntime) -> Result<(), Fail> {
+    save_over(rt.alloc(), Connection::open_in_memory(rt.alloc())?)
 }

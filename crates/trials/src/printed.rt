@@ -3,7 +3,6 @@
 use cli::line;
 use plays::cells::{body_of, first_cell};
 use plays::judged::holds;
-use std::fs;
 use std::rt::HostRuntime;
 use std::test::Fail;
 
@@ -74,27 +73,6 @@ fn print_row(rt: &HostRuntime, row: &str) -> Result<(), Fail> {
 pub(crate) fn print_rows(rt: &HostRuntime, rows: &str) -> Result<(), Fail> {
     for row in rows.lines() {
         print_row(rt, row)?;
-    }
-    Ok(())
-}
-
-/// The same of rows before which stands the text of the file `round.txt`.
-pub(crate) fn print_rounds(rt: &HostRuntime, rows: &str) -> Result<(), Fail> {
-    for row in rows.lines() {
-        let (text, rest) = first_cell(row);
-        fs::write(rt, "round.txt", &body_of(rt.alloc(), text)?)?;
-        print_row(rt, rest)?;
-    }
-    Ok(())
-}
-
-/// Writes each file.
-pub(crate) fn write_files(
-    rt: &HostRuntime,
-    files: &[(&'static str, &'static str)],
-) -> Result<(), Fail> {
-    for (name, text) in files {
-        fs::write(rt, name, *text)?;
     }
     Ok(())
 }

@@ -1,15 +1,13 @@
 //! The session that a desk keeps: where there is one, and that it tells what a new one would.
 
 use desk::Desk;
-use plays::cells::{first_cell, ranks};
-use plays::judged::holds;
-use plays::opened::{desk_over, new_desk};
-use plays::played::{Part, numbered, play_at, play_lines, play_parts};
-use plays::school::SCHOOL;
-use rolls::{Reply, Request};
-use spa::RANKS;
-use sqlite::{Connection, MemStore};
-use std::alloc::Global;
+use plays::offices::{play_over, play_rows};
+use plays::opened::desk_over;
+use plays::played::{asked, numbered, play_lines};
+use rows::cells::first_cell;
+use rows::judged::holds;
+use sqlite::{Alter, Connection};
+use std::alloc::{AllocError, Global};
 use std::rt::HostRuntime;
 use std::test::Fail;
 
@@ -27,7 +25,7 @@ const SECOND: &str = r#"PUT /lists/C | {"choices":["Z","P"]} | 200 OK | {"ok":tr
 const PREVIEW: &str = r#"GET /preview || 200 OK | {"profile":[0,2,0,0^,],"size":2}"#;
 
 /// The relaxations of the session that is kept after these lines.
-fn steps_after(alloc: Global, desk: &mut Desk<MemStore>, lines: &str) -> Result<u64, Fail> {
+fn steps_after<S: Alter>(alloc: Global, desk: &mut Desk<S>, lines: &str) -> Result<u64, Fail> {
     play_lines(alloc, desk, lines)?;
     let steps = desk.session_steps();
     holds(steps.is_some(), "a session is kept")?;
@@ -35,8 +33,8 @@ fn steps_after(alloc: Global, desk: &mut Desk<MemStore>, lines: &str) -> Result<
 }
 
 // After A there are 6 nodes and 11 arcs, after C 7 nodes and 14 arcs.
-fn compare_steps(alloc: Global, desk: &mut Desk<MemStore>) -> Result<(), Fail> {
-    play_lines(alloc, desk, SCHOOL)?;
+fn compare_steps<S: Alter>(alloc: Global, desk: &mut Desk<S>) -> Result<(), Fail> {
+    play_rows(alloc, desk, "", "play SCHOOL")?;
     let start = steps_after(alloc, desk, OPEN)?;
     let first = steps_after(alloc, desk, FIRST)?;
     let second = steps_after(alloc, desk, SECOND)?;
@@ -46,41 +44,53 @@ fn compare_steps(alloc: Global, desk: &mut Desk<MemStore>) -> Result<(), Fail> {
     holds(last == second, PREVIEW)
 }
 
-#[test]
-fn first_lists_join_the_session(rt: HostRuntime) -> Result<(), Fail> {
-    let mut desk = new_desk(rt.alloc())?;
-    compare_steps(rt.alloc(), &mut desk)
-}
-
-/// Twelve students and nine projects, in an open round whose session is begun.
+/// Twelve students and nine projects.
 #[rattlefmt::skip]
-const TWELVE: [Part; 4] = [
-    Part::Lines(r#"POST /imports/supervisors/I1 | code,name,quota^nL,Lee,9^n | 200 OK | {"rows":1}"#),
-    Part::Filled(9, "P$,Pumps,L,1^n", r#"POST /imports/projects/I2 | code,name,supervisor,quota^n$ | 200 OK | {"rows":9}"#),
-    Part::Filled(12, "S$,Ann^n", r#"POST /imports/students/I3 | code,name^n$ | 200 OK | {"rows":12}"#),
-    Part::Lines(OPEN),
-];
+const TWELVE: &str =
+    r#"POST /imports/supervisors/I1 | code,name,quota^nL,Lee,9^n | 200 OK | {"rows":1}
+       fill 9 | P$,Pumps,L,1^n | POST /imports/projects/I2 | code,name,supervisor,quota^n$ | 200 OK | {"rows":9}
+       fill 12 | S$,Ann^n | POST /imports/students/I3 | code,name^n$ | 200 OK | {"rows":12}"#;
 
 /// A first list of nine projects.
 #[rattlefmt::skip]
 const NINE: &str =
     r#"PUT /lists/S$ | {"choices":["P1000","P1001","P1002","P1003","P1004","P1005","P1006","P1007","P1008"]} | 200 OK | {"ok":true}"#;
 
+const NINE_OF_TWELVE: &str =
+    r#"GET /preview || 200 OK | {"profile":[1,1,1,1,1,1,1,1,1,0,0,0],"size":9}"#;
+
 /// Each of the twelve lists all nine, and nine are placed, one at each rank.
-fn compare_twelve(alloc: Global, desk: &mut Desk<MemStore>) -> Result<(), Fail> {
-    play_parts(alloc, desk, TWELVE.as_slice())?;
+fn compare_twelve<S: Alter>(alloc: Global, desk: &mut Desk<S>) -> Result<(), Fail> {
+    play_rows(alloc, desk, "", TWELVE)?;
+    steps_after(alloc, desk, OPEN)?;
     for n in 1000..1012 {
         steps_after(alloc, desk, &numbered(alloc, NINE, n)?)?;
     }
-    let told = preview(desk);
-    holds(told == Some((9, ranks(&[1; 9]))), "nine of twelve")?;
+    steps_after(alloc, desk, NINE_OF_TWELVE)?;
     Ok(())
+}
+
+/// Does both, each at the desk over tables of its own.
+fn compare_joined<S: Alter + Drop>(
+    alloc: Global,
+    connection: Connection<S>,
+    are_twelve: bool,
+) -> Result<(), Fail> {
+    let mut desk = desk_over(alloc, connection)?;
+    if are_twelve {
+        return compare_twelve(alloc, &mut desk);
+    }
+    compare_steps(alloc, &mut desk)
+}
+
+#[test]
+fn first_lists_join_the_session(rt: HostRuntime) -> Result<(), Fail> {
+    compare_joined(rt.alloc(), Connection::open_in_memory(rt.alloc())?, false)
 }
 
 #[test]
 fn all_first_lists_join_the_session(rt: HostRuntime) -> Result<(), Fail> {
-    let mut desk = new_desk(rt.alloc())?;
-    compare_twelve(rt.alloc(), &mut desk)
+    compare_joined(rt.alloc(), Connection::open_in_memory(rt.alloc())?, true)
 }
 
 /// A supervisor, a project without a place and two students. Before each request stands whether a session is kept after it.
@@ -160,65 +170,79 @@ static GENEROUS: &str =
        kept | GET /preview        |                                             | 200 OK | {"profile":[0,2,0,0^,],"size":2}
        none | POST /rounds/close  |                                             | 200 OK | {"profile":[0,2,0,0^,],"round":1,"size":2}"#;
 
-/// Size and profile of a preview.
-fn preview(desk: &mut Desk<MemStore>) -> Option<(u32, [u32; RANKS])> {
-    match desk.ask(Request::Preview) {
-        Ok(Reply::Preview { size, profile }) => Some((size, profile)),
-        _ => None,
-    }
+/// Whether a preview is answered, by both desks the same.
+fn preview_alike<S: Alter>(
+    alloc: Global,
+    desk: &mut Desk<S>,
+    other: &mut Desk<S>,
+) -> Result<bool, AllocError> {
+    let told = asked(alloc, desk, "GET /preview")?;
+    let is_same = asked(alloc, other, "GET /preview")?.as_slice() == told.as_slice();
+    Ok(is_same && told.starts_with(b"HTTP/1.1 200 OK\r\n"))
 }
 
 /// Compares the preview of a desk with that of one which is opened over these tables, whose session is its own.
-fn compare_previews(
+fn compare_previews<S: Alter + Drop>(
     alloc: Global,
-    desk: &mut Desk<MemStore>,
-    connection: Connection<MemStore>,
+    desk: &mut Desk<S>,
+    connection: Connection<S>,
     exchange: &str,
-) -> Result<Connection<MemStore>, Fail> {
+) -> Result<Connection<S>, Fail> {
     let mut other = desk_over(alloc, connection)?;
-    let told = preview(&mut other);
-    holds(told.is_some() && preview(desk) == told, exchange)?;
+    holds(preview_alike(alloc, desk, &mut other)?, exchange)?;
     Ok(other.into_connection())
 }
 
 /// Plays a line at a desk, and at one that is opened for it over tables of its own, and compares whether a session is kept.
-fn compare_session(
+fn compare_session<S: Alter + Drop>(
     alloc: Global,
-    desk: &mut Desk<MemStore>,
-    connection: Connection<MemStore>,
-    line: &'static str,
-) -> Result<Connection<MemStore>, Fail> {
+    desk: &mut Desk<S>,
+    connection: Connection<S>,
+    line: &str,
+) -> Result<Connection<S>, Fail> {
     let (mark, exchange) = first_cell(line);
     play_lines(alloc, desk, exchange)?;
     let is_kept = desk.session_steps().is_some();
     holds(is_kept == (mark == "kept"), exchange)?;
-    let connection = play_at(alloc, connection, &[Part::Lines(exchange)])?;
+    let (_count, connection) = play_over(alloc, connection, "", exchange)?;
     if is_kept {
         return compare_previews(alloc, desk, connection, exchange);
     }
     Ok(connection)
 }
 
-/// Plays all lines.
-fn compare_sessions(
+/// Plays lines at a desk and beside it.
+fn compare_lines<S: Alter + Drop>(
     alloc: Global,
-    desk: &mut Desk<MemStore>,
-    mut connection: Connection<MemStore>,
-    lines: &'static str,
-) -> Result<Connection<MemStore>, Fail> {
+    desk: &mut Desk<S>,
+    mut other: Connection<S>,
+    lines: &str,
+) -> Result<Connection<S>, Fail> {
     for line in lines.lines() {
-        connection = compare_session(alloc, desk, connection, line)?;
+        other = compare_session(alloc, desk, other, line)?;
     }
-    Ok(connection)
+    Ok(other)
+}
+
+/// Plays the lines before these, and these, at the desk over tables and beside it.
+fn compare_sessions<S: Alter + Drop>(
+    alloc: Global,
+    connection: Connection<S>,
+    other: Connection<S>,
+    lines: &str,
+) -> Result<(), Fail> {
+    let mut desk = desk_over(alloc, connection)?;
+    let other = compare_lines(alloc, &mut desk, other, BEFORE)?;
+    compare_lines(alloc, &mut desk, other, lines)?;
+    Ok(())
 }
 
 #[test]
 fn a_session_is_kept_just_where_it_may_be(rt: HostRuntime) -> Result<(), Fail> {
     for lines in [MIXED, GENEROUS] {
-        let mut desk = new_desk(rt.alloc())?;
         let connection = Connection::open_in_memory(rt.alloc())?;
-        let connection = compare_sessions(rt.alloc(), &mut desk, connection, BEFORE)?;
-        compare_sessions(rt.alloc(), &mut desk, connection, lines)?;
+        let other = Connection::open_in_memory(rt.alloc())?;
+        compare_sessions(rt.alloc(), connection, other, lines)?;
     }
     Ok(())
 }
