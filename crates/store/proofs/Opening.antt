@@ -5,6 +5,7 @@ use Rattle.sqlite_trees.specs.declared.store.Store.{Ghosts}
 use Rattle.sqlite.specs.State.{State as Seen, HasCleanDisk, IsUnchanged, Survives}
 use Rattle.sqlite.specs.Effect.{Database}
 use Rattle.sqlite.specs.Tree.{Trees}
+use Rattle.sqlite.specs.Schema.{Schema}
 use Rattle.sqlite.proofs.StateLemmas.{survives_then}
 use Rattle.row_data.specs.declared.row.Change.{Change}
 use Rattle.rolls.specs.State.{State}
@@ -17,11 +18,12 @@ use Rattle.tables.specs.Table.{Lists}
 use Rattle.tables.proofs.Causes.{stopped_after}
 use Rattle.store.specs.Causes.{IsHinderedOpening, IsHinderedToRaise}
 use Rattle.store.specs.Editions.{IsEarlier, beyond, latest, number_of, rolls_of}
+use Rattle.store.specs.Inside.Editions.{IsEditionOf}
 use Rattle.store.specs.Reading.{IsDamaged, IsUnfitIn}
 use Rattle.store.specs.declared.fault.StoreFault.{StoreFault}
 use Rattle.store.specs.declared.fault.StoreFault.TheVariants.{Damaged, Storage}
 use Rattle.store.specs.Opening.{IsLeftUnopened}
-use Rattle.store.specs.Tables.{Brings, HasNoneOf, HoldIn, LeavesTables, Opens, Raises, StandsIn}
+use Rattle.store.specs.Tables.{Brings, HasNone, HasNoneOf, HoldIn, LeavesTables, Opens, Raises, StandsIn}
 use Rattle.store.specs.Inside.Raising.{Rises}
 use Rattle.store.specs.Inside.Reading.{FindsOffice}
 use Rattle.store.proofs.Standing.{hold_same}
@@ -32,6 +34,14 @@ pub earlier_of : (e : AnEdition) → e ≢ latest → IsEarlier e
 earlier_of First other = tt
 earlier_of Second other = tt
 earlier_of Third other = absurd (other refl)
+
+-- the edition that was found is that of the tables
+pub edition_there : (e : AnEdition) (one two there : Schema) → one ≡ there → two ≡ there → (HasNone one → ⊥) → HasNoneOf (beyond e) two → ((f : AnEdition) → number_of f < number_of e → HasNoneOf (beyond f) two → ⊥) → IsEditionOf e there
+edition_there e one two there p q some alone later = record {
+  some = λ none. some (subst HasNone (sym p) none);
+  alone = subst (HasNoneOf (beyond e)) q alone;
+  later = subst (λ (s : Schema). (f : AnEdition) → number_of f < number_of e → HasNoneOf (beyond f) s → ⊥) q later;
+}
 
 -- tables of the latest edition were read
 pub opens_found : (e : AnEdition) (office : State) (changes : List Change) (old new : Seen) → e ≡ latest → FindsOffice e office changes old new → Opens old.now new.now office

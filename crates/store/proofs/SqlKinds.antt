@@ -119,7 +119,18 @@ row_long table cells h =
     let w = widths table in
     (omega (arith, long, same, w.0), omega (arith, long, same, w.1))
 
--- three cells, where search has too many to try
+-- the values of one to four cells
+pub one : (cells : Cells) (a : Cell) → 1 ≤ length cells → length cells < 2 → a ≡ get_or cells 0 a → values cells ≡ value_of a ∷ []
+one [] a low high p = absurd (omega (arith, low))
+one (x ∷ []) a low high p = λ i. value_of (sym p i) ∷ []
+one (x ∷ y ∷ more) a low high p = absurd (omega (arith, high))
+
+pub two : (cells : Cells) (a b : Cell) → 2 ≤ length cells → length cells < 3 → a ≡ get_or cells 0 a → b ≡ get_or cells 1 b → values cells ≡ value_of a ∷ value_of b ∷ []
+two [] a b low high p q = absurd (omega (arith, low))
+two (x ∷ []) a b low high p q = absurd (omega (arith, low))
+two (x ∷ y ∷ []) a b low high p q = λ i. value_of (sym p i) ∷ value_of (sym q i) ∷ []
+two (x ∷ y ∷ z ∷ more) a b low high p q = absurd (omega (arith, high))
+
 pub three : (cells : Cells) (a b c : Cell) → 3 ≤ length cells → length cells < 4 → a ≡ get_or cells 0 a → b ≡ get_or cells 1 b → c ≡ get_or cells 2 c → values cells ≡ value_of a ∷ value_of b ∷ value_of c ∷ []
 three [] a b c low high p q r = absurd (omega (arith, low))
 three (x ∷ []) a b c low high p q r = absurd (omega (arith, low))

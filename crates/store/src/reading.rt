@@ -117,10 +117,11 @@ fn need_number(all: &[Cells], edition: Edition) -> Result<(), StoreFault>
     ensures ok { OnOk result (map (drop 1) all.now ≡ numbered (number_of edition)) }
     ensures err { IfErr result (λ fault. (fault ≡ StoreFault.Damaged) × (map (drop 1) all.now ≢ numbered (number_of edition))) }
 {
-    if !are_numbered(all, edition) {
-        return Err(StoreFault::Damaged);
+    if are_numbered(all, edition) {
+        Ok(())
+    } else {
+        Err(StoreFault::Damaged)
     }
-    Ok(())
 }
 
 /// The rows of a table.

@@ -6,6 +6,8 @@ ghost use Rattle.sqlite.specs.Held.{state};
 ghost use Rattle.tables.specs.Steps.{IsKept, IsLeft};
 ghost use Rattle.tables.specs.Causes.{IsCaused};
 ghost use Rattle.store.specs.Causes.{IsHinderedReading, IsHinderedToSave};
+ghost use Rattle.store.specs.Editions.{IsEarlier, latest};
+ghost use Rattle.store.specs.Inside.Editions.{IsEditionOf};
 ghost use Rattle.store.specs.Tables.{HasNone, StandsFor};
 ghost use Rattle.store.specs.Opening.{IsOpening, IsLeftUnopened};
 ghost use Rattle.store.specs.Reading.{AreListed, IsUnfit};
@@ -18,6 +20,7 @@ use crate::quiet::are_left;
 use crate::raising::raise;
 use crate::reading::office_in;
 use crate::saving::save_all;
+use editions::Edition;
 use office::Office;
 use rolls::Change;
 use sqlite::{Alter, Connection};
@@ -46,6 +49,49 @@ impl<S: Alter> Model for Store<S> {
     ghost view = { λ s. s.conn };
 }
 
+/// The empty office, of tables that are made.
+fn open_new<S: Alter>(alloc: Global, conn: &mut Connection<S>) -> Result<Office, StoreFault>
+    requires idle { conn.old.in_transaction ≡ false }
+    requires none { HasNone (state S.Store conn.old).now.schema }
+    ensures opened { IfOk result (IsOpening S.Store conn.old conn.new) }
+    ensures unopened { IfErr result (λ fault. IsLeftUnopened S.Store (fault ≡ StoreFault.Storage) (fault ≡ StoreFault.Damaged) conn.old conn.new) }
+{
+    found(conn)?;
+    Ok(Office::new(alloc))
+}
+
+/// The office of tables of the latest edition.
+fn open_latest<S: Alter>(alloc: Global, conn: &mut Connection<S>) -> Result<Office, StoreFault>
+    requires idle { conn.old.in_transaction ≡ false }
+    requires whole { IsTrue (state S.Store conn.old).is_open → (state S.Store conn.old).now ≡ (state S.Store conn.old).committed }
+    requires edition { IsEditionOf latest (state S.Store conn.old).now.schema }
+    ensures opened { IfOk result (IsOpening S.Store conn.old conn.new) }
+    ensures unopened { IfErr result (λ fault. IsLeftUnopened S.Store (fault ≡ StoreFault.Storage) (fault ≡ StoreFault.Damaged) conn.old conn.new) }
+    ensures unlisted { (AreListed (state S.Store conn.old).now.schema → ⊥) → result ≡ Err StoreFault.Damaged }
+{
+    let (read, _) = office_in(alloc, conn, LATEST)?;
+    Ok(read)
+}
+
+/// The office of tables of an earlier edition, which are raised.
+fn open_earlier<S: Alter>(
+    alloc: Global,
+    conn: &mut Connection<S>,
+    edition: Edition,
+) -> Result<Office, StoreFault>
+    requires idle { conn.old.in_transaction ≡ false }
+    requires whole { IsTrue (state S.Store conn.old).is_open → (state S.Store conn.old).now ≡ (state S.Store conn.old).committed }
+    requires edition { IsEditionOf edition (state S.Store conn.old).now.schema }
+    requires earlier { IsEarlier edition }
+    ensures opened { IfOk result (IsOpening S.Store conn.old conn.new) }
+    ensures unopened { IfErr result (λ fault. IsLeftUnopened S.Store (fault ≡ StoreFault.Storage) (fault ≡ StoreFault.Damaged) conn.old conn.new) }
+    ensures unlisted { (AreListed (state S.Store conn.old).now.schema → ⊥) → result ≡ Err StoreFault.Damaged }
+{
+    let (raised, changes) = office_in(alloc, conn, edition)?;
+    raise(conn, edition, &changes)?;
+    Ok(raised)
+}
+
 /// The office of the tables, which are made where none of them is there.
 fn open_tables<S: Alter>(alloc: Global, conn: &mut Connection<S>) -> Result<Office, StoreFault>
     ensures opened { IfOk result (IsOpening S.Store conn.old conn.new) }
@@ -57,16 +103,13 @@ fn open_tables<S: Alter>(alloc: Global, conn: &mut Connection<S>) -> Result<Offi
         return Err(StoreFault::Storage);
     }
     if has_none(conn.schema()) {
-        found(conn)?;
-        return Ok(Office::new(alloc));
+        return open_new(alloc, conn);
     }
     let edition = edition_of(conn.schema());
-    let (office, changes) = office_in(alloc, conn, edition)?;
     if edition == LATEST {
-        return Ok(office);
+        return open_latest(alloc, conn);
     }
-    raise(conn, edition, &changes)?;
-    Ok(office)
+    open_earlier(alloc, conn, edition)
 }
 
 impl<S: Alter> Store<S> {

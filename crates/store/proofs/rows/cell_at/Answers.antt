@@ -10,3 +10,6 @@ returns-in_err-bytes-in-Bytes-Blob-clause-memory c h = (Bytes c.in-Bytes-Blob.by
 
 pub returns-in_err-new-in-Bytes-Blob-clause-memory : goal.returns-in_err-new-in-Bytes-Blob-clause-memory
 returns-in_err-new-in-Bytes-Blob-clause-memory c h = (Bytes c.in-Bytes-Blob.bytes.now, tt, search rules, search rules)
+
+pub returns-in_default-2-clause-memory : goal.returns-in_default-2-clause-memory
+returns-in_default-2-clause-memory c = search rules

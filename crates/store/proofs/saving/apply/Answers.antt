@@ -24,3 +24,12 @@ leave_cells-requires g c = rw (c.group.ensures, c.cells-in-Remove.ensures.cells)
 
 pub returns-in-Put-clause-cause : goal.returns-in-Put-clause-cause
 returns-in-Put-clause-cause g c = rw c.in-Put.is (rw (c.table.ensures, c.cells.ensures.cells) at c.enter_cells.ensures.cause)
+
+pub returns-in-Add-clause-ran : goal.returns-in-Add-clause-ran
+returns-in-Add-clause-ran g c = rw c.in-Add.is (rw (c.table-in-Add.ensures, c.cells-in-Add.ensures.cells) at c.enter_cells-in-Add.ensures.ran)
+
+pub returns-in-Add-clause-told : goal.returns-in-Add-clause-told
+returns-in-Add-clause-told g c = rw c.in-Add.is (rw (c.table-in-Add.ensures, c.cells-in-Add.ensures.cells) at c.enter_cells-in-Add.ensures.told)
+
+pub returns-in-Add-clause-cause : goal.returns-in-Add-clause-cause
+returns-in-Add-clause-cause g c = rw c.in-Add.is (rw (c.table-in-Add.ensures, c.cells-in-Add.ensures.cells) at c.enter_cells-in-Add.ensures.cause)

@@ -27,3 +27,63 @@ returns-in_err-apply_all-clause-cause g c settled clean h =
     let was : c.apply_all.result ≡ Err Storage = search rules in
     stopped_after_all (IsHinderedAmong c.args.changes.now) (IsHinderedToSave c.args.changes.now) (state g.S.Store c.args.conn.now) (state g.S.Store c.need_open.new.conn) (state g.S.Store c.transaction-tx.result.conn.now) (state g.S.Store c.apply_all.new.tx.conn.now) _
     c.in_ok-need_open.ensures.same c.need_open.ensures.survives begins c.apply_all.ensures.step.survives (λ limit db it. inr it) (λ early. c.apply_all.ensures.cause (ap (λ (s : Seen). s.in_transaction) begins) early was) (search rules) clean
+
+pub returns-clause-ok : goal.returns-clause-ok
+returns-clause-ok g c = search rules
+
+pub returns-clause-err : goal.returns-clause-err
+returns-clause-err g c = search rules
+
+pub returns-clause-faults : goal.returns-clause-faults
+returns-clause-faults g c = search rules
+
+pub returns-clause-cause : goal.returns-clause-cause
+returns-clause-cause g c = search rules
+
+pub returns-clause-crash : goal.returns-clause-crash
+returns-clause-crash g c = search rules
+
+pub returns-clause-ended : goal.returns-clause-ended
+returns-clause-ended g c = search rules
+
+pub returns-clause-begun : goal.returns-clause-begun
+returns-clause-begun g c = search rules
+
+pub returns-in_err-commit-clause-ok : goal.returns-in_err-commit-clause-ok
+returns-in_err-commit-clause-ok g c = search rules
+
+pub returns-in_err-commit-clause-err : goal.returns-in_err-commit-clause-err
+returns-in_err-commit-clause-err g c = search rules
+
+pub returns-in_err-commit-clause-faults : goal.returns-in_err-commit-clause-faults
+returns-in_err-commit-clause-faults g c = search rules
+
+pub returns-in_err-commit-clause-cause : goal.returns-in_err-commit-clause-cause
+returns-in_err-commit-clause-cause g c = search rules
+
+pub returns-in_err-commit-clause-crash : goal.returns-in_err-commit-clause-crash
+returns-in_err-commit-clause-crash g c = search rules
+
+pub returns-in_err-commit-clause-ended : goal.returns-in_err-commit-clause-ended
+returns-in_err-commit-clause-ended g c = search rules
+
+pub returns-in_err-commit-clause-begun : goal.returns-in_err-commit-clause-begun
+returns-in_err-commit-clause-begun g c = search rules
+
+pub returns-in_err-need_open-clause-ok : goal.returns-in_err-need_open-clause-ok
+returns-in_err-need_open-clause-ok g c = search rules
+
+pub returns-in_err-need_open-clause-err : goal.returns-in_err-need_open-clause-err
+returns-in_err-need_open-clause-err g c = search rules
+
+pub returns-in_err-need_open-clause-faults : goal.returns-in_err-need_open-clause-faults
+returns-in_err-need_open-clause-faults g c = search rules
+
+pub returns-in_err-need_open-clause-crash : goal.returns-in_err-need_open-clause-crash
+returns-in_err-need_open-clause-crash g c = search rules
+
+pub returns-in_err-need_open-clause-ended : goal.returns-in_err-need_open-clause-ended
+returns-in_err-need_open-clause-ended g c = search rules
+
+pub returns-in_err-need_open-clause-begun : goal.returns-in_err-need_open-clause-begun
+returns-in_err-need_open-clause-begun g c = search rules

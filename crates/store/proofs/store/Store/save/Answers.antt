@@ -1,4 +1,4 @@
-use Rattle.std.proofs.Common.{OnOk, subst}
+use Rattle.std.proofs.Common.{OnOk, rules, subst}
 use Rattle.sqlite.proofs.StateLemmas.{survives_weaker}
 use Rattle.sqlite.specs.State.{HasCleanDisk, Survives}
 use Rattle.sqlite.specs.Held.{state}
@@ -18,3 +18,6 @@ returns-clause-crash g c =
     let inert = subst AreInert c.schema.ensures.value (c.are_left.ensures.sound c.if-not-are_left.false) in
     subst (λ k. Survives (state g.S.Store k) (state g.S.Store c.save_all.new.conn) (IsLeft (Saves c.args.changes.now) (state g.S.Store k))) c.self.view_is
     (survives_weaker _ _ _ _ (λ clean trees h. saves_left _ _ trees inert h) c.save_all.ensures.crash)
+
+pub returns-then-not-are_left-clause-cause : goal.returns-then-not-are_left-clause-cause
+returns-then-not-are_left-clause-cause g c = search rules

@@ -1,0 +1,5 @@
+use Rattle.std.proofs.Common.{rules}
+use Rattle.store.proofs.fault.StoreFaultFromRowsFault.from.Goals as goal
+
+pub returns-in-Unfit : goal.returns-in-Unfit
+returns-in-Unfit c = search rules
