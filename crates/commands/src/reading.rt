@@ -93,23 +93,39 @@ fn aim(given: &ArgMatches<'_>) -> Aim
     }
 }
 
+/// The line that serves connections.
+fn serve_line(alloc: Global, given: &ArgMatches<'_>) -> Result<Line, AllocError>
+    requires { AreGiven (codes "serve") (rows_of (found_of given.now)) }
+    ensures { IfOk result (IsLineOf (codes "serve") (rows_of (found_of given.now))) }
+{
+    Ok(Line::Serve {
+        database: text(alloc, given, &DATABASE)?,
+        port: port(given),
+        count: number(given, &COUNT),
+    })
+}
+
+/// The line that imports a file.
+fn import_line(alloc: Global, given: &ArgMatches<'_>) -> Result<Line, AllocError>
+    requires { AreGiven (codes "import") (rows_of (found_of given.now)) }
+    ensures { IfOk result (IsLineOf (codes "import") (rows_of (found_of given.now))) }
+{
+    Ok(Line::Import {
+        database: text(alloc, given, &DATABASE)?,
+        kind: import(given),
+        id: text(alloc, given, &ID)?,
+        file: text(alloc, given, &FILE)?,
+    })
+}
+
 /// The line of the subcommand that was used.
 fn line_of(alloc: Global, name: &str, given: &ArgMatches<'_>) -> Result<Line, AllocError>
     requires { AreGiven name.now (rows_of (found_of given.now)) }
     ensures { IfOk result (IsLineOf name.now (rows_of (found_of given.now))) }
 {
     match name {
-        "serve" => Ok(Line::Serve {
-            database: text(alloc, given, &DATABASE)?,
-            port: port(given),
-            count: number(given, &COUNT),
-        }),
-        "import" => Ok(Line::Import {
-            database: text(alloc, given, &DATABASE)?,
-            kind: import(given),
-            id: text(alloc, given, &ID)?,
-            file: text(alloc, given, &FILE)?,
-        }),
+        "serve" => serve_line(alloc, given),
+        "import" => import_line(alloc, given),
         "open-round" => Ok(Line::OpenRound {
             database: text(alloc, given, &DATABASE)?,
             aim: aim(given),
