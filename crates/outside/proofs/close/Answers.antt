@@ -53,3 +53,11 @@ returns-clause-changes c =
     let ks = c.in_ok-solved.solved.matching.places.items in
     let found = taken_best c.places_law.ensures.taken o c.last_aim-aim.result c.last_aim-aim.ensures.aim c.in_ok-instance.instance ks c.fit.ensures c.in_ok-instance.ensures.instance c.in_ok-solved.ensures.proved.matched c.in_ok-solved.ensures.best c.requires.open in
     changes_so o (taken (round_instance o).students ks) found.0 found.1 _ c.close.ensures.changes
+
+pub close-requires-clause-matching : goal.close-requires-clause-matching
+close-requires-clause-matching c = record {
+  instance = c.in_ok-instance.instance;
+  fit = c.fit.ensures;
+  same = c.in_ok-instance.ensures.instance;
+  matched = c.in_ok-solved.ensures.proved.matched;
+}

@@ -1,3 +1,4 @@
+use Rattle.std.proofs.Common.{rules}
 use Rattle.sqlite.specs.Files.{file_state}
 use Rattle.cli.proofs.Opened.{of_file}
 use Rattle.cli.proofs.named.do_on.Goals as goal
@@ -16,3 +17,6 @@ returns-in-Ok g c =
       left = did.2;
       closing = did.3;
     }
+
+pub returns-in-Err : goal.returns-in-Err
+returns-in-Err g c = search rules

@@ -16,3 +16,6 @@ returns-then-len-gt1-clause-line g c =
 
 pub returns-in-Ok-clause-stream : goal.returns-in-Ok-clause-stream
 returns-in-Ok-clause-stream g c = rw c.in-Ok.is (λ few. record { stream = first_of (search rules, grind (arith, common_steps)); silent = search rules; no_file = refl })
+
+pub returns-clause-unread : goal.returns-clause-unread
+returns-clause-unread g c = search rules

@@ -1,4 +1,4 @@
-use Rattle.std.proofs.Common.{sym, ap, ◌∙◌}
+use Rattle.std.proofs.Common.{sym, ap, ◌∙◌, rules}
 use Rattle.rolls.specs.Roll.{put}
 use Rattle.rolls.specs.State.{placement_key}
 use Rattle.closing.proofs.ManyPuts.{put_all_more}
@@ -7,3 +7,6 @@ use Rattle.closing.proofs.keeping.placements_after.Goals as goal
 pub loop-placement-preserved : goal.loop-placement-preserved
 loop-placement-preserved c =
     c.in_ok-put.ensures.ok ∙ ap (put placement_key c.in-Some.placement) c.loop-placement.invariant ∙ sym (put_all_more placement_key c.loop-placement.yielded c.args.placements.now c.in-Some.placement)
+
+pub loop-placement-init : goal.loop-placement-init
+loop-placement-init c = search rules

@@ -1,4 +1,4 @@
-use Rattle.std.proofs.Common.{◌≡◌, ℕ, List, IfOk, sym, subst}
+use Rattle.std.proofs.Common.{◌≡◌, ℕ, List, IfOk, sym, subst, rules}
 use Rattle.rolls.specs.declared.request.Plain.{Plain}
 use Rattle.desk.specs.Sessions.{list_fate, plain_fate}
 use Rattle.desk.proofs.sessions.plain_fate.Goals as goal
@@ -7,3 +7,6 @@ pub returns-in-PutList : goal.returns-in-PutList
 returns-in-PutList c =
     subst (λ (p : Plain). IfOk c.list_fate.result (λ fate. fate ≡ plain_fate c.args.office.now p)) (sym c.in-PutList.is)
     (subst (λ (student : List ℕ). IfOk c.list_fate.result (λ fate. fate ≡ list_fate c.args.office.now student)) c.as_str.ensures c.list_fate.ensures)
+
+pub returns-in-PutSupervisor : goal.returns-in-PutSupervisor
+returns-in-PutSupervisor c = search rules

@@ -1,4 +1,8 @@
+use Rattle.std.proofs.Common.{rules}
 use Rattle.solver.proofs.solving.found_or_admitted.Goals as goal
 
 pub returns-in-Some-clause-best : goal.returns-in-Some-clause-best
 returns-in-Some-clause-best c = c.verdict_law.ensures c.args.aim c.in-Some.solved.matching.places.items c.in-Some.solved.prices (rw c.in-Some.is at c.requires)
+
+pub returns-in-Some-clause-taken : goal.returns-in-Some-clause-taken
+returns-in-Some-clause-taken c = search rules

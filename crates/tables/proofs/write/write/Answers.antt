@@ -25,3 +25,6 @@ pub returns-in-Err-clause-cause : goal.returns-in-Err-clause-cause
 returns-in-Err-clause-cause g c inside clean h =
     let other : fault_of c.in-Err.error ≡ Storage = let told = c.from.ensures in cc in
     stopped _ _ _ _ _ other (rw c.in-Err.is at (c.execute.ensures.runs clean inside))
+
+pub returns-in-Err-clause-told : goal.returns-in-Err-clause-told
+returns-in-Err-clause-told g c = search rules

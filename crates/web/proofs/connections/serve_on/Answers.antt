@@ -1,4 +1,4 @@
-use Rattle.std.proofs.Common.{◌∙◌}
+use Rattle.std.proofs.Common.{◌∙◌, rules}
 use Rattle.web.specs.Serving.{AnswersFrom}
 use Rattle.web.proofs.OneConnection.{at_fault, came_next, one_cut, one_more}
 use Rattle.web.proofs.connections.serve_on.Goals as goal
@@ -15,3 +15,9 @@ returns-in_err-write_line-clause-broken g c =
     at_fault c.from_residual.result
     (one_cut (AnswersFrom g.S.Store) _ _ _ c.loop-before.before c.args.count _ _ _ c.serve_accepted-came.result c.loop-before-test.true c.loop-before.invariant.served
     (came_next (AnswersFrom g.S.Store) _ _ c.accept.result c.serve_accepted-came.result c.serve_accepted-came.ensures.served c.serve_accepted-came.ensures.unaccepted) c.in_err-write_line.ensures.err)
+
+pub loop-before-init : goal.loop-before-init
+loop-before-init g c = search rules
+
+pub returns-clause-served : goal.returns-clause-served
+returns-clause-served g c = search rules

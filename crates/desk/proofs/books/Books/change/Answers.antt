@@ -1,4 +1,4 @@
-use Rattle.std.proofs.Common.{◌≡◌, inl, inr, Result, None, ap, subst, ◌∙◌}
+use Rattle.std.proofs.Common.{◌≡◌, inl, inr, Result, None, ap, subst, ◌∙◌, rules}
 use Rattle.rolls.specs.State.{State}
 use Rattle.rolls.specs.Rows.{Turns}
 use Rattle.rolls.specs.Run.{Makes, refusal}
@@ -60,3 +60,9 @@ returns-clause-saved g c =
 pub returns-clause-refused : goal.returns-clause-refused
 returns-clause-refused g c told =
     subst (λ (o : State). refusal layers o c.args.request ≡ None) (c.in_ok-next.ensures.same ∙ ap (λ k. k.office) c.self.view_is) c.in-Ok.ensures.made.0
+
+pub returns-in-Err-clause-refused : goal.returns-in-Err-clause-refused
+returns-in-Err-clause-refused g c = search rules
+
+pub returns-in-Err-clause-saved : goal.returns-in-Err-clause-saved
+returns-in-Err-clause-saved g c = search rules

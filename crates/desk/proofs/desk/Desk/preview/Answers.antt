@@ -1,4 +1,4 @@
-use Rattle.std.proofs.Common.{sym, ap, subst, ◌∙◌}
+use Rattle.std.proofs.Common.{sym, ap, subst, ◌∙◌, rules}
 use Rattle.rolls.specs.declared.request.Request.TheVariants as request
 use Rattle.rolls.specs.Run.{Makes}
 use Rattle.outside.specs.Layers.{layers}
@@ -12,3 +12,6 @@ returns-clause-step g c =
     let same = ap (λ d. let books = d.books in books.office) c.self-inside.view_is ∙ ap (λ k. k.office) c.self.view_is in
     let sits : IsSessionOf o c.in_ok-session.session = subst (λ (x : State). IsSessionOf x c.in_ok-session.session) same c.in_ok-session.ensures.sits in
     (c.requires.allowed, subst (λ (x : State). Makes layers o request.Preview c.read_preview-reply.result x) (sym same) (c.read_preview-reply.ensures.made o sits))
+
+pub returns-clause-session : goal.returns-clause-session
+returns-clause-session g c = search rules

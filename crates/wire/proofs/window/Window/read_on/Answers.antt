@@ -1,4 +1,4 @@
-use Rattle.std.proofs.Common.{◌∙◌, sym, subst, ℕ, List}
+use Rattle.std.proofs.Common.{rules, ◌∙◌, sym, subst, ℕ, List}
 use Rattle.wire.specs.Run.{unread}
 use Rattle.wire.specs.declared.front.Judgement.TheVariants.{Whole, Stop}
 use Rattle.wire.specs.Inside.Judged.{Judges}
@@ -14,3 +14,12 @@ returns-in-Stop-clause-some g c =
 
 pub returns-in-Err-clause-open : goal.returns-in-Err-clause-open
 returns-in-Err-clause-open g c = still_open c.args.self.now c.refill.new.self (c.in-Err.ensures.same ∙ c.front.ensures.same) c.in-Open.ensures.front
+
+pub returns-then-is_empty-clause-count : goal.returns-then-is_empty-clause-count
+returns-then-is_empty-clause-count g c = search rules
+
+pub returns-else-is_empty-clause-open : goal.returns-else-is_empty-clause-open
+returns-else-is_empty-clause-open g c = search rules
+
+pub returns-else-is_empty-clause-count : goal.returns-else-is_empty-clause-count
+returns-else-is_empty-clause-count g c = search rules

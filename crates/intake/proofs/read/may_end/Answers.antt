@@ -1,0 +1,1 @@
+use Rattle.intake.proofs.read.may_end.Goals as goal
