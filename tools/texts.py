@@ -5,7 +5,7 @@ tools/texts.py             each with its place; ends with status 1 where there i
 tools/texts.py --words     the words of each page
 
 What is named is there: a file, by its path from the top, from the crate or from the folder of who names it; and a figure, which counts
-where it has a comma, as 65,536, and stands in a comment of the code or of a wrong body: some constant or text of the code has it.
+where it has a comma, as 65,536, and stands in a comment of the code: some constant or text of the code has it.
 
 A page can be read: no line is above 140 columns, no sentence above 45 words, no cell of a table above 30 words, and no word stands for
 two things. A page is a text in Markdown outside crates. Commands and texts in code are not sentences. Words that stand for two things are
@@ -62,7 +62,7 @@ def misnamed(texts):
     held = {figure for line in lines if not COMMENT.match(line) for figure in re.findall(r"\d+", line.replace("_", ""))}
     for name, text in texts.items():
         for at, line in enumerate(text.splitlines(), 1):
-            is_comment = COMMENT.match(line) or (name.endswith("README.md") and "must-fail" in name)
+            is_comment = COMMENT.match(line)
             if name.endswith(".md") or is_comment:
                 paths = [path for path in PATH.findall(line) if not ELSEWHERE.match(path)]
                 yield from (f"{name}:{at}: {path}" for path in paths if not is_there(path, name, files))

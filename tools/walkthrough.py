@@ -2,7 +2,7 @@
 """Runs every command of the walkthroughs, and compares what it prints with what they show.
 
 tools/walkthrough.py SPADESK [--write] [TEXT..]     needs curl, jq and sqlite3
-tools/walkthrough.py                                only compares the texts of the test with those of the example, and says what is
+tools/walkthrough.py                                only compares the rows of the gate with the texts of the example, and says what is
                                                     wrong in comments and pages (tools/texts.py)
 
 Each TEXT is one of WALKTHROUGHS, and without any all of them are run. The commands are the lines after a `$` in its console blocks;
@@ -12,9 +12,9 @@ They run from the top to the end in a folder of their own, beside the files of t
 With --write the text shows what was printed. After each command, and once `serve` has ended, a copy of the database file alone is held
 beside one with its log: each report on each must be the same, and each row that SQLite reads.
 
-The lines of the first round, and what is served there, are also a test of the gate, crates/trials/src/walkthrough.rt, which has the
-texts of the example for its own. Here each of them is compared with the example, file by file, line by line and request by request,
-up to the title behind which the test has nothing.
+The commands of the first round, and what is served there, are also rows of the gate, crates/school/data/walkthrough.rows, which have the
+texts of the example for their own. Here each of them is compared with the example, file by file, command by command and request by
+request, up to the title behind which there are no rows.
 """
 import contextlib
 import difflib
@@ -31,7 +31,7 @@ import nginx
 import texts
 from office import TOP, copy, line, read, rows, written
 
-TEST = os.path.join(TOP, "crates", "trials", "src", "walkthrough.rt")
+ROWS = os.path.join(TOP, "crates", "school", "data", "walkthrough.rows")
 FIRST = "examples/first-round/README.md"
 UNTESTED = "\n## Anyone can check it\n"
 
@@ -51,18 +51,19 @@ def shown_commands(text):
     return [pair for block in blocks for pair in re.findall(r"^\$ (.*)\n((?:(?!\$ ).*\n)*)", block, re.M)]
 
 
-def compare_test():
-    """Ends where the test does not have the files, the lines and the requests of the first round."""
-    test = read(TEST)
+def compare_rows():
+    """Ends where the rows do not have the files, the commands and the requests of the first round."""
+    played = read(ROWS)
     commands = shown_commands(read(FIRST).partition(UNTESTED)[0])
     folder = WALKTHROUGHS[FIRST]
-    wanted = [f'r#"{read(os.path.join(folder, name))}"#' for name in os.listdir(os.path.join(TOP, folder)) if name.endswith(".csv")]
-    missing = [text for text in wanted if text not in test]
-    rows = re.findall(r"^ *(?:r#\")?(spadesk .*?) +\| 0 \| ?(.*?)(?:\"#;)?$", test, re.M)
+    sheets = [name for name in os.listdir(os.path.join(TOP, folder)) if name.endswith(".csv")]
+    wanted = [f"file {name} | " + read(os.path.join(folder, name)).replace("\n", "^n") + "\n" for name in sheets]
+    missing = [text for text in wanted if text not in played]
+    rows = re.findall(r"^(spadesk .*?) +\| 0 \| (.*?) ?\|$", played, re.M)
     lines = [(command, told) for command, told in commands if command.startswith("spadesk ") and "&" not in command]
     if lines != [(words, out.replace("^n", "\n")) for words, out in rows]:
         missing.append("the lines of the program as they are shown")
-    requests = re.findall(r"(GET|POST) (\S+) +\| (\{.*\})", test)
+    requests = re.findall(r"(GET|POST) (\S+) +\| \| 200 OK \| (\{.*\})", played)
     for command, told in commands:
         asked = re.search(r"curl -s (-X POST )?http://[^/]+(/\S+)( \| jq )?", command)
         if asked:
@@ -71,7 +72,7 @@ def compare_test():
             if not any(told.strip() in body if asked[3] else told.strip() == body for body in answers):
                 missing.append(command)
     if missing:
-        sys.exit("the test does not have:\n" + "\n".join(missing))
+        sys.exit("the rows do not have:\n" + "\n".join(missing))
 
 
 def seen(path, ends, env):
@@ -169,7 +170,7 @@ def play(text, program):
 def main(program=None, *words):
     is_written = "--write" in words
     if not is_written:
-        compare_test()
+        compare_rows()
         if texts.main():
             sys.exit(1)
     if program is None:

@@ -1,7 +1,10 @@
 #!/usr/bin/env python3
-"""Lists the wrong bodies of each crate, which the prover must refuse: the name of each, and what goes wrong.
+"""Lists what a mutant shows that goes wrong, and the mutant that shows it: a function's body with one mistake, which the prover must refuse.
 
 tools/wrong_bodies.py [CRATE..]     of these crates, or of all
+
+A mutant shows what the lines `why:` of its file say: the first is what it does itself. Each further line is a mistake that was refused by
+itself once, in the same function or in one below, and goes wrong in the same way, so that this mutant stands for it.
 """
 import re
 import sys
@@ -11,11 +14,16 @@ from office import listed, read
 
 def main(*crates):
     paths = listed(*(f"crates/{crate}/must-fail/*.edit" for crate in crates or ["*"]))
+    shown = 0
     for path in paths:
         _, crate, _, name = path.removesuffix(".edit").split("/")
-        why = re.search("^why: (.*)", read(path), re.M)
-        print(f"{crate:12} {name:45} {why[1].strip() if why else ''}")
-    print(f"{len(paths)} wrong bodies")
+        whys = re.findall("^why: (.*)", read(path), re.M)
+        if not whys:
+            sys.exit(f"{path} does not say what goes wrong")
+        for why in whys:
+            print(f"{crate:12} {name:45} {why.strip()}")
+        shown += len(whys)
+    print(f"{shown} mistakes, shown by {len(paths)} mutants")
 
 
 if __name__ == "__main__":
