@@ -1,7 +1,7 @@
 #!/usr/bin/env python3
 """Checks by its prices that the matching of a round text is best by the aim of the text.
 
-tools/check_round.py FILE     prints what `spadesk check FILE` prints, also of a text with a bad line
+tools/check_round.py FILE     prints what `spadesk check FILE` prints, also of a text with a bad line; status 1 where that is not `best`
 
 It knows the format and the five conditions (docs/FORMATS.md, docs/PROOF.md) and nothing else of this repository: who does not
 trust the program can read these lines. Rows of thirteen numbers are compared as Python compares tuples, the first number first; those
@@ -68,7 +68,7 @@ class Round:
 
     def add(self, line):
         kind, *fields = line.split(",")
-        need(kind in SECTIONS and len(fields) >= 1)
+        need(kind in list(SECTIONS) and len(fields) >= 1)
         if kind == "A":
             need(self.section is None and fields == ["generous"])
             self.read = generous
@@ -150,4 +150,6 @@ def judged(it):
 
 
 if __name__ == "__main__":
-    print(checked(open(sys.argv[1], "rb").read().decode("latin-1")))
+    answer = checked(open(sys.argv[1], "rb").read().decode("latin-1"))
+    print(answer)
+    sys.exit(not answer.startswith("best "))

@@ -4,8 +4,8 @@
 tools/second_checker.py SPADESK [TEXTS [SEED]]
 
 Each text is a small round, greedy or generous, that the program has solved. Of four texts one stays as it is; in one the aim, a price,
-a pair, a quota or a list is changed; and in two a line stands twice, changes places with another, is missing, or is one of another text.
-Both must tell the same, also which line is the first bad one.
+a pair, a quota or a list is changed; and in two a line stands twice, changes places with another, is missing, lost its first letter, or is
+one of another text. Both must tell the same, also which line is the first bad one.
 """
 import collections
 import os
@@ -50,21 +50,24 @@ def changed(draw, text):
 
 # Lines that stand in no text, or in few.
 FOREIGN = ["", "X", "S", "S,", "A,generous", "A,greedy", "S,L9,05", "S,L000,501", "S,l000,1", "S,L000,1\r", "P,P000,L007,1", "C,S000"]
+FOREIGN += [",", "SP,P000,L000,1"]
 FOREIGN += ["C,S000,P000,P000", "C,S077,P000", "M,S000,P077", "M,S077,P000", "U,S000,0", "U,S000" + ",0" * 13, "Y,P000" + ",-0" * 13]
 FOREIGN += ["Z,L000" + ",1000001" * 13, "Z,L000" + ",0" * 14]
 
 
 def relined(draw, text, other):
-    """The text with a line twice, with two lines exchanged, without a line, without its last byte, or with a line of another text."""
+    """The text with a line twice, two exchanged, one missing, one without its first letter or of another text, or without its last byte."""
     lines = text.splitlines() or [""]
     at, to = draw.randrange(len(lines)), draw.randrange(len(lines))
-    way = draw.choice(("double", "swap", "miss", "cut", "foreign"))
+    way = draw.choice(("double", "swap", "miss", "behead", "cut", "foreign"))
     if way == "double":
         lines.insert(draw.choice((at, to)), lines[at])
     elif way == "swap":
         lines[at], lines[to] = lines[to], lines[at]
     elif way == "miss":
         del lines[at]
+    elif way == "behead":
+        lines[at] = lines[at][1:]
     elif way == "cut":
         return text[:-1]
     else:
