@@ -51,6 +51,44 @@ REPORTS = {
     "room": ("Places left", "Project,Title,Supervisor,Project has,Supervisor has,Places left"),
     "lists": ("Lists", "Student,Name,Choices"),
 }
+ZEROS = ",0" * 11
+# Two prices near 2^53 lose in floating point what they pay too little: three first choices are possible, and one is told as best.
+FORGED_PRICES = f"""S,A,1
+S,B,2
+P,PA,A,1
+P,PB,B,1
+P,PC,B,1
+C,S2,PB,PC
+C,S3,PC,PB
+C,S9,PA
+M,S2,PC
+M,S3,PB
+M,S9,PA
+U,S2,1,1,1{ZEROS[2:]}
+U,S3,1,1,1{ZEROS[2:]}
+U,S9,1,-9007199254740991{ZEROS}
+Y,PA,0,0{ZEROS}
+Y,PB,0,0{ZEROS}
+Y,PC,0,0{ZEROS}
+Z,A,0,9007199254740992{ZEROS}
+Z,B,0,0{ZEROS}
+"""
+# Each student's list, and then another one under the same code.
+FORGED_LIST = f"""S,B,2
+P,PB,B,1
+P,PC,B,1
+C,S2,PB,PC
+C,S3,PC,PB
+C,S2,PC,PB
+C,S3,PB,PC
+M,S2,PC
+M,S3,PB
+U,S2,1,1{ZEROS}
+U,S3,1,1{ZEROS}
+Y,PB,0,0{ZEROS}
+Y,PC,0,0{ZEROS}
+Z,B,0,0{ZEROS}
+"""
 # Whether the browser would ask before the page is left.
 LEAVING = "const it = new Event('beforeunload', { cancelable: true }); dispatchEvent(it); return it.defaultPrevented"
 
@@ -411,6 +449,24 @@ class Trial:
             self.check("the lot, drawn anew", shown, drawn(file.read()))
         return name
 
+    def no_proofs(self, name):
+        """What the page says of texts that are no proof: of a forger, or of a proof of which a line stands twice or half."""
+        with open(name, encoding="ascii") as file:
+            proof = file.read()
+        lines = proof.splitlines(keepends=True)
+        pair = next(at for at, line in enumerate(lines) if line.startswith("M,"))
+        none = "is no text of a round"
+        return [
+            (f"{none}: line 1 is wrong", "hello"),
+            (f"{none}: line 1 is wrong", "M,x,y\nU,x,1\n"),
+            ("has no student, so there is nothing to prove", ""),
+            (f"{none}: line 14 is wrong", FORGED_PRICES),
+            (f"{none}: line 6 is wrong", FORGED_LIST),
+            (f"{none}: line {pair + 2} is wrong", "".join(lines[: pair + 1] + lines[pair:])),
+            (f"{none}: line {len(lines)} is wrong", proof[:-9]),
+            (none, "\n" * 524289),
+        ]
+
     def first_round(self):
         it = self.it
         self.check("at first", it.text("#state"), "There has been no round yet.")
@@ -454,8 +510,9 @@ class Trial:
         other = re.sub(rb"(?m)^M,S04,CIPHER$", b"M,S04,PATTERNS", open(name, "rb").read())
         it.choose(self.file("other.txt", other), field="#opened")
         self.check("another pair in the proof", it.text("#verdict"), "other.txt: not proved (fault 5).")
-        it.choose(self.file("none.txt", "M,x,y\nU,x,1\n"), field="#opened")
-        self.check("no proof", it.text("#verdict"), "none.txt: not proved (fault 1).")
+        for words, content in self.no_proofs(name):
+            it.choose(self.file("none.txt", content), field="#opened")
+            self.check(f"no proof: {content[:20]!r}", it.text("#verdict"), f"none.txt {words}.")
         self.reports(1)
         it.pick("#kind", "placements")
         it.write("#filter", "hopper")
