@@ -52,7 +52,7 @@ REPORTS = {
     "lists": ("Lists", "Student,Name,Choices"),
 }
 ZEROS = ",0" * 11
-# Two prices near 2^53 lose in floating point what they pay too little: three first choices are possible, and one is told as best.
+# Two prices near 2^53 lose in floating point what they pay too little: three first choices are possible, and one is called best.
 FORGED_PRICES = f"""S,A,1
 S,B,2
 P,PA,A,1

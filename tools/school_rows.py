@@ -1,10 +1,10 @@
 #!/usr/bin/env python3
-"""Prints rows of a school at all limits at once, through twelve rounds, and what each must tell.
+"""Prints rows of a school at all limits at once, through twelve rounds, and what each must print.
 
 tools/school_rows.py > crates/school/data/full.rows
 
 There are 100 supervisors, 400 projects and 500 students, with codes and names at their longest, lists of twelve, and 200 imports, of which
-those with records have 65,536 bytes. What is told comes from the books that are kept here, as docs/FORMATS.md says, and who is placed is
+those with records have 65,536 bytes. What is expected comes from the books that are kept here, as docs/FORMATS.md says, and who is placed is
 known by construction: of the projects of a list at most one has room, and of those who list it one lists it first. So the best matching is
 the only one of its profile, by either aim.
 
@@ -21,7 +21,7 @@ PREFIX = {"supervisor": "L23456789012", "project": "P23456789012", "student": "S
 REPORTS = "profile", "loads", "unplaced", "placements"
 
 
-def told(text):
+def cell(text):
     """The cell of a text: a long one by its length and its hash."""
     if len(text) < 100:
         return text.replace("\n", "^n")
@@ -164,7 +164,7 @@ class Rows:
         self.add("", f"at {name}.db")
 
     def command(self, words, out):
-        self.add(f"spadesk {words} | 0 | {told(out)} |")
+        self.add(f"spadesk {words} | 0 | {cell(out)} |")
 
     def ask(self, counted, asked, body, answer):
         self.add(f"{counted} | {asked} | {body} | 200 OK | {answer}")
@@ -209,7 +209,7 @@ class Rows:
         self.ask("0 1 kept", "GET /preview", "", f'{{"profile":[{profile}],"size":{len(ranks)}}}')
 
     def text(self, line):
-        self.ask("0 1 kept", "GET /roundtext", "", told(line + self.books.round_text()))
+        self.ask("0 1 kept", "GET /roundtext", "", cell(line + self.books.round_text()))
 
     def open(self, number, aim):
         self.ask("0 1 none", "POST /rounds", f'{{"aim":"{aim}"}}', f'{{"round":{number}}}')
@@ -228,7 +228,7 @@ class Rows:
     def reports(self, numbers):
         for number in numbers:
             for kind in REPORTS:
-                self.ask("0 1", f"GET /reports/{kind}/{number}", "", told(self.books.report(kind, number)))
+                self.ask("0 1", f"GET /reports/{kind}/{number}", "", cell(self.books.report(kind, number)))
 
     def rolls(self):
         piece, length = roll("supervisor", ",4", 0, SUPERVISORS, 2)
