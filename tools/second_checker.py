@@ -1,21 +1,26 @@
 #!/usr/bin/env python3
-"""Compares `check` of the program with tools/check_round.py on a thousand round texts.
+"""Compares `check` of the program with tools/check_round.py, and with the proved code in the pages, on a thousand round texts.
 
-tools/second_checker.py SPADESK [TEXTS [SEED]]
+tools/second_checker.py SPADESK [TEXTS [SEED]]     needs node for the pages
 
 Each text is a small round, greedy or generous, that the program has solved. Of four texts one stays as it is; in one the aim, a price,
 a pair, a quota or a list is changed; and in two a line stands twice, changes places with another, is missing, lost its first letter, or is
-one of another text. Both must tell the same, also which line is the first bad one.
+one of another text. Forged proofs and files that are none come first. All must tell the same, also which line is the first bad one; and
+the pages must solve each round as `solve` does.
 """
 import collections
+import json
 import os
 import random
 import re
+import shutil
+import subprocess
 import sys
 import tempfile
 
 from check_round import RANKS, checked
-from office import line, round_text, written
+from office import TOP, line, round_text, written
+from page import FORGED_LIST, FORGED_PRICES
 
 GENEROUS = "A,generous\n"
 
@@ -82,18 +87,33 @@ def told(program, command, text):
         return ran.stdout or ran.stderr
 
 
-def main(program, texts="1000", seed="1"):
+def by_page(page, call, texts):
+    """What the proved code in a page tells of each of these texts."""
+    words = ["node", f"{TOP}/tools/page_lines.mjs", f"{TOP}/page/{page}", call]
+    return json.loads(subprocess.run(words, input=json.dumps(texts), stdout=subprocess.PIPE, text=True, check=True).stdout)
+
+
+def compare(name, texts, answers, told):
+    for text, answer, other in zip(texts, answers, told, strict=True):
+        if other.strip() != answer.strip():
+            sys.exit(f"second_checker.py: the program tells {answer!r} and {name} {other!r} of\n{text}")
+
+
+def main(program, number="1000", seed="1"):
     draw = random.Random(int(seed))
-    kinds, before = collections.Counter(), ""
-    for at in range(int(texts)):
-        solved = told(program, "solve", drawn(draw))
-        text = (solved, changed(draw, solved), relined(draw, solved, before), relined(draw, solved, before))[at % 4]
+    rounds, texts, before = [], ["", "hello", "M,x,y\nU,x,1\n", FORGED_PRICES, FORGED_LIST], ""
+    for at in range(int(number)):
+        rounds.append(drawn(draw))
+        solved = told(program, "solve", rounds[-1])
+        texts.append((solved, changed(draw, solved), relined(draw, solved, before), relined(draw, solved, before))[at % 4])
         before = solved
-        answer = told(program, "check", text).strip()
-        if checked(text) != answer:
-            sys.exit(f"second_checker.py: the program tells {answer!r} and check_round.py {checked(text)!r} of\n{text}")
-        kinds[re.match(r"best|bad line|\w+ \d+", answer)[0]] += 1
-    print(", ".join(f"{kinds[kind]} {kind}" for kind in sorted(kinds)))
+    answers = [told(program, "check", text) for text in texts]
+    compare("check_round.py", texts, answers, map(checked, texts))
+    for page in ("office.html", "check.html") if shutil.which("node") else ():
+        compare(page, texts, answers, by_page(page, "page_check", texts))
+        compare(page, rounds, [told(program, "solve", text) for text in rounds], by_page(page, "page_solve", rounds))
+    kinds = collections.Counter(re.match(r"best|bad line|\w+ \d+", answer)[0] for answer in answers)
+    print(", ".join(f"{kinds[kind]} {kind}" for kind in sorted(kinds)), "" if shutil.which("node") else "; there is no node here")
 
 
 if __name__ == "__main__":

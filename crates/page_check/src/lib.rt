@@ -1,0 +1,77 @@
+//! The lines on round files for a host that is no program, such as a page in a browser: bytes in, bytes out.
+//!
+//! Promised: what `page_check` and `page_solve` put into `out` is what `spadesk check FILE` and `spadesk solve FILE` print of the
+//! same bytes. Begin with `specs/Told.antt`. What a host owes, nothing here can hold it to: `text` and `out` are memory of the
+//! module, apart from each other and from its heap.
+#![tactic(auto)]
+
+ghost use Rattle.std.specs.Prelude.{◌≡◌, ◌≢◌, IfOk, take, string_bytes};
+ghost use Rattle.page_check.specs.Told.{line_of, refused_line, IsToldOfCheck, IsToldOfSolve};
+
+use rolls::Refusal;
+use round_files::{Trouble, checked, solved};
+use std::alloc::{AllocError, Global};
+use std::fmt::Write;
+
+/// Puts what `spadesk check FILE` prints of these bytes at the start of `out`, and answers its number of bytes: 0 where memory
+/// or room is short.
+#[unsafe(no_mangle)]
+pub extern "C" fn page_check(alloc: Global, text: &[u8], out: &mut [u8]) -> usize
+    ensures { result ≢ 0 → IsToldOfCheck text.now (take result out.new) }
+{
+    match told(alloc, checked(alloc, text)) {
+        Ok(line) => put(out, line.as_bytes()),
+        Err(_) => 0,
+    }
+}
+
+/// Puts what `spadesk solve FILE` prints of these bytes at the start of `out`, and answers its number of bytes: 0 where memory
+/// or room is short.
+#[unsafe(no_mangle)]
+pub extern "C" fn page_solve(alloc: Global, text: &[u8], out: &mut [u8]) -> usize
+    ensures { result ≢ 0 → IsToldOfSolve text.now (take result out.new) }
+{
+    match told(alloc, solved(alloc, text)) {
+        Ok(line) => put(out, line.as_bytes()),
+        Err(_) => 0,
+    }
+}
+
+/// What the program prints of a result.
+fn told(alloc: Global, came: Result<String, Trouble>) -> Result<String, AllocError>
+    ensures { IfOk result (λ text. string_bytes text ≡ line_of came) }
+{
+    match came {
+        Ok(text) => Ok(text),
+        Err(Trouble::Failed(text)) => Ok(text),
+        Err(Trouble::BadLine(number)) => {
+            let mut line = String::new(alloc);
+            writeln!(line, "bad line {number}")?;
+            Ok(line)
+        }
+        Err(Trouble::Refused(refusal)) => refused(alloc, refusal),
+    }
+}
+
+/// The line of a refusal.
+fn refused(alloc: Global, refusal: Refusal) -> Result<String, AllocError>
+    ensures { IfOk result (λ text. string_bytes text ≡ refused_line refusal) }
+{
+    let mut line = String::new(alloc);
+    let number = refusal.number();
+    let name = refusal.name();
+    writeln!(line, "refused {number}: {name}")?;
+    Ok(line)
+}
+
+/// Puts a text at the start of a room, and answers its number of bytes: 0 where there is no room.
+fn put(out: &mut [u8], text: &[u8]) -> usize
+    ensures { result ≢ 0 → take result out.new ≡ text.now }
+{
+    let n = text.len();
+    if out.len() < n {
+        return 0;
+    }
+    out[..n].copy_from_slice(text);
+    n
+}
