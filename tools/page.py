@@ -41,7 +41,7 @@ OWN_WORDS = {2, 3, 4, 5, 6, 7, 8, 9, 12, 27, 28, 29, 30}
 
 AIMS = {
     "greedy": "the most first choices, then the most second, and so on",
-    "generous": "the fewest twelfth choices, then the fewest eleventh, and so on",
+    "generous": "the fewest last choices, then the fewest next to last, and so on",
 }
 REPORTS = {
     "placements": ("Placements", "Student,Name,Project,Title,Supervisor,Choice"),
@@ -97,7 +97,7 @@ def ordinal(rank):
     return f"{rank}{({1: 'st', 2: 'nd', 3: 'rd'}).get(rank, 'th')}"
 
 
-PARTS = ("first_round", "term", "hostile", "refusals", "mistakes", "drawn", "greatest", "student")
+PARTS = ("first_round", "term", "habits", "hostile", "refusals", "mistakes", "drawn", "greatest", "student")
 SERVICE, WEB, DRIVER = free_port(), free_port(), free_port()
 
 
@@ -109,27 +109,6 @@ def sealed(page):
             rf"({tag}-src 'sha256-)[^']*", lambda it: it[1] + base64.b64encode(hashlib.sha256(inner.encode()).digest()).decode(), page
         )
     return page
-
-
-def drawn(text):
-    """The students of a round text in the order of the lot, drawn anew: a hash of quotas and lists, SplitMix64, a shuffle."""
-    rows, word = [line.split(",") for line in text.splitlines()], (1 << 64) - 1
-    supervisors, projects, students = ([row[1:] for row in rows if row[0] == kind] for kind in "SPC")
-    owner, offer = ({row[0]: at for at, row in enumerate(rows)} for rows in (supervisors, projects))
-    numbers = [number for _, by, quota in projects for number in (owner[by], int(quota))] + [int(quota) for _, quota in supervisors]
-    for _, *choices in students:
-        numbers += [len(choices), *(offer[code] for code in choices)]
-    state = 0xCBF29CE484222325
-    for number in numbers:
-        state = (state ^ number) * 0x100000001B3 & word
-    order = [row[0] for row in students]
-    for last in range(len(order) - 1, 0, -1):
-        state = state + 0x9E3779B97F4A7C15 & word
-        mixed = (state ^ state >> 30) * 0xBF58476D1CE4E5B9 & word
-        mixed = (mixed ^ mixed >> 27) * 0x94D049BB133111EB & word
-        chosen = (mixed ^ mixed >> 31) % (last + 1)
-        order[last], order[chosen] = order[chosen], order[last]
-    return order
 
 
 def config(folder):
@@ -202,10 +181,16 @@ class Browser:
         self.send("POST", "/url", {"url": f"http://{user}@127.0.0.1:{WEB}{path}"})
         self.rest()
 
+    def reveal(self, css):
+        """Goes to the step of the page that has an element."""
+        self.run("const it = document.querySelector(arguments[0])?.closest('main > section[hidden]'); if (it) go(it.id)", css)
+
     def found(self, css):
+        self.reveal(css)
         return self.send("POST", "/element", {"using": "css selector", "value": css})[ELEMENT]
 
     def press(self, css):
+        self.reveal(css)
         self.run("document.querySelector(arguments[0]).scrollIntoView({ block: 'center' })", css)
         self.send("POST", f"/element/{self.found(css)}/click", {})
         self.rest()
@@ -223,16 +208,19 @@ class Browser:
 
     def pick(self, css, value):
         self.run(
-            "const it = document.querySelector(arguments[0]); it.value = arguments[1]; it.dispatchEvent(new Event('change'))", css, value
+            "const it = document.querySelector(arguments[0]); it.value = arguments[1]; it.dispatchEvent(new Event('change', { bubbles: true }))",
+            css,
+            value,
         )
         self.rest()
 
     def text(self, css):
+        self.reveal(css)
         return self.run("return document.querySelector(arguments[0])?.innerText", css)
 
     def numbers(self):
         """The numbers of the bars."""
-        return [int(row[1]) for row in self.table("#doing")]
+        return [int(row[1]) for row in self.table("#doing .bars")]
 
     def marks(self, css=".wrong"):
         return self.run("return [...document.querySelectorAll(arguments[0] + ' mark')].map(it => it.textContent)", css)
@@ -274,10 +262,11 @@ class Trial:
         shutil.rmtree(f"{self.folder}/cache", ignore_errors=True)
         self.it.go()
 
-    def line(self, *words):
-        """What a line prints, of a copy of the database and its log where it has one."""
+    def line(self, *words, either=False):
+        """What a line prints, of a copy of the database and its log where it has one; also what it prints as an error, if that is wanted."""
         file = copy(self.database, f"{self.folder}/copy.db")
-        return subprocess.run([*self.program, *(file if it == "DB" else it for it in words)], capture_output=True, text=True).stdout
+        ran = subprocess.run([*self.program, *(file if it == "DB" else it for it in words)], capture_output=True, text=True)
+        return ran.stdout + (ran.stderr if either else "")
 
     def file(self, name, content):
         with open(f"{self.folder}/{name}", "wb") as file:
@@ -306,6 +295,14 @@ class Trial:
             with open(f"{self.shots}/{name}.png", "wb") as file:
                 file.write(base64.b64decode(picture))
 
+    def open(self):
+        """Opens the next round: that is asked first."""
+        self.it.press("#open")
+        if before := json.loads(asked("GET", "/rounds/1")[1]).get("placed"):
+            final = f"Round 1 can then not be reopened: its {before} places are final." if before > 1 else "its 1 place is final"
+            self.check("what becomes final is said", final in self.it.text("#sure p"))
+        self.it.press("#sure button.main")
+
     def refused(self, name, content, number, inner=None, row=1):
         """A sheet of one's own is refused, and told with its words; the row counts from 1 under the first."""
         it = self.it
@@ -315,16 +312,16 @@ class Trial:
         if inner in (None, 19):
             self.check(
                 f"refusal {number} {inner or ''}",
-                told.startswith(f"Refused {number}: ")
+                (not inner or told.startswith(f"Row {row + 1} of {name}: "))
                 and words[1] in told
                 and words[2] in told
-                and (not inner or f"Row {row + 1} of {name}" in told),
+                and f"Refusal {inner or number}, {words[0]}" in told,
             )
         else:
             told += it.text(".wrong") or ""
             self.check(
                 f"refusal {number} {inner}",
-                told.startswith(f"1 row of {name} is refused.") and " ".join(words[1:]) in told and f"{inner} {words[0]}. " in told,
+                told.startswith(f"1 row of {name} is refused.") and f"{words[1]} {words[2]} Refusal {inner}, {words[0]}" in told,
             )
             self.check("its row", [cells[0] for cells in it.table(".wrong")], [str(row + 1)])
 
@@ -335,7 +332,7 @@ class Trial:
         it.press("#send")
         self.check(
             f"{name}, the first row alone",
-            (it.text("#told").startswith("Refused 29: Row\n") and f"Row 2 of {name}" in it.text("#told"), it.text(".wrong")),
+            (it.text("#told").startswith(f"Row 2 of {name}: "), it.text(".wrong")),
             (True, None),
         )
 
@@ -370,7 +367,7 @@ class Trial:
         self.check("closed", it.text("#state"), f"Round {number} is closed, {aim}: {all} placed.")
         self.bars("its bars", f"Round {number} has placed {all} with a list:", students, ranks)
         choices = "".join(f", {count} with the {ordinal(at)} choice" for at, count in enumerate(ranks, 1) if count)
-        words = f"Round {number} is closed. It placed {all}{choices}. Now save its proof, below."
+        words = f"Round {number} is closed. It placed {all}{choices}. Now save its proof."
         self.check("told", it.text("#told").splitlines()[0], words)
         best = f"no placing has more students than {placed}, and none of {placed} has a better profile than {' '.join(map(str, ranks))}."
         words = f"Round {number}: checked here. It is the best: {best}"
@@ -444,9 +441,6 @@ class Trial:
         )
         it.choose(name, field="#opened")
         self.check("by the page, opened again", it.text("#verdict").startswith(f"proof{number}.txt: checked here"))
-        shown = it.run("return document.querySelector(arguments[0]).textContent.split(' ')", f"#lot{number} p:last-child")
-        with open(name) as file:
-            self.check("the lot, drawn anew", shown, drawn(file.read()))
         return name
 
     def no_proofs(self, name):
@@ -455,7 +449,7 @@ class Trial:
             proof = file.read()
         lines = proof.splitlines(keepends=True)
         pair = next(at for at, line in enumerate(lines) if line.startswith("M,"))
-        none = "is no text of a round"
+        none = "is no round’s file"
         return [
             (f"{none}: line 1 is wrong", "hello"),
             (f"{none}: line 1 is wrong", "M,x,y\nU,x,1\n"),
@@ -464,27 +458,52 @@ class Trial:
             (f"{none}: line 6 is wrong", FORGED_LIST),
             (f"{none}: line {pair + 2} is wrong", "".join(lines[: pair + 1] + lines[pair:])),
             (f"{none}: line {len(lines)} is wrong", proof[:-9]),
-            (none, "\n" * 524289),
+            (f"{none}: it is too large", "\n" * 524289),
         ]
+
+    def certified(self, name, codes):
+        """The page that only checks, from disk: of the proof, of forged ones and of files that are none, and each student's own line."""
+        it, proof = self.it, open(name, encoding="ascii").read()
+        it.send("POST", "/url", {"url": f"file://{TOP}/page/check.html"})
+        told = lambda: [line for line in it.text("#said").splitlines() if line][1]
+        for words, content in [("", proof), *self.no_proofs(name)]:
+            file = self.file("given.txt", content)
+            it.choose(file, field="#file")
+            time.sleep(0.3)
+            wanted = f"This {words}." if words else "Proved: no other way to give out the places is better."
+            self.check(f"by check.html: {content[:20]!r}", (told(), it.text("#line")), (wanted, self.line("check", file, either=True).strip()))
+            self.check("an own line is asked for", it.run("return !document.querySelector('#own').hidden"), content == proof)
+        it.choose(name, field="#file")
+        rows = [line.split(",") for line in proof.splitlines()]
+        places = {row[1]: row[2] for row in rows if row[0] == "M"}
+        for code, *choices in (row[1:] for row in rows if row[0] == "C" and row[1] in codes):
+            it.write("#code", code.lower())
+            has = f"You have {places[code]}, your choice {choices.index(places[code]) + 1}." if code in places else "You have no place."
+            self.check(f"the list of {code}", it.text("#mine"), f"Your list: {', '.join(choices)}. {has}")
+        it.write("#code", "NOBODY")
+        self.check("a code without a list", it.text("#mine"), "This code has no list in the round.")
 
     def first_round(self):
         it = self.it
         self.check("at first", it.text("#state"), "There has been no round yet.")
-        self.check("the aims", all(f"{aim}: {words}" in it.text("#doing") for aim, words in AIMS.items()))
+        self.check("the aims", all(f"{aim}: {words}" in it.text("#opening") for aim, words in AIMS.items()))
         it.choose(*FIRST)
         saved = time.strftime("%Y, %H:%M", time.localtime(os.path.getmtime(FIRST[1])))
         self.check("when it was saved", f"{saved}: students, 20 rows: 20 new" in it.text("#chosen"))
         self.shot("sheets")
         it.press("#send")
-        self.check("lists before a round", "19 NoRoundOpen" in it.text("#told") and "Bring in 1 sheet" in it.text("#chosen"))
-        self.check("as a refusal", it.run("return document.querySelector('#told').className"), "bad")
-        self.shot("refused")
+        self.check("lists before a round", ("This file waits: lists come in" in it.text("#chosen"), it.text("#send")), (True, None))
         it.press("#open")
-        self.check("opened", it.text("#told").splitlines()[0], "Round 1 is open, greedy. Now the lists may come in.")
+        words = f"It will be greedy, and stay so: of the ways to place as many students as possible it takes one with {AIMS['greedy']}"
+        self.check("the question", it.text("#sure p").startswith(f"Open round 1? {words}"))
+        it.press("#sure button:not(.main)")
+        self.check("not opened", it.text("#state"), "There has been no round yet.")
+        self.open()
+        self.check("opened", it.text("#told").splitlines()[0], "Round 1 is open, greedy. Now the lists can come in.")
         it.run("const it = document.querySelector('#send'); it.click(); it.click()")
         it.rest()
         self.check("lists in a round, pressed twice", it.text("#state"), "Round 1 is open, greedy, with 20 lists.")
-        self.check("all came in", it.text("#told").startswith("All came in: supervisors.csv, 5 rows; projects.csv, 10 rows; "))
+        self.check("all came in", it.text("#told").startswith("All imported: supervisors.csv, 5 rows; projects.csv, 10 rows; "))
         self.check("as no refusal", it.run("return document.querySelector('#told').className"), "")
         self.preview(1, 20)
         self.check("its aim", f"it takes one with {AIMS['greedy']}" in it.text("#doing"))
@@ -492,10 +511,10 @@ class Trial:
         self.check("its text", self.saved("round1.txt").decode(), asked("GET", "/roundtext")[1])
         self.check("nothing is to be saved", it.run(LEAVING), False)
         self.shot("open")
-        it.press("#close")
+        it.press("#close-round")
         it.press("#sure button:not(.main)")
         self.check("not closed", it.text("#state").startswith("Round 1 is open"))
-        it.press("#close")
+        it.press("#close-round")
         places = "20 of 20 students, 14 with the 1st choice, 4 with the 2nd choice, 2 with the 3rd choice"
         words = "They keep their places in later rounds. As long as round 1 is the last, it can be reopened."
         self.check("the question", it.text("#sure p"), f"Close round 1? It would place {places}. {words}")
@@ -509,7 +528,7 @@ class Trial:
         name = self.proof(1)
         other = re.sub(rb"(?m)^M,S04,CIPHER$", b"M,S04,PATTERNS", open(name, "rb").read())
         it.choose(self.file("other.txt", other), field="#opened")
-        self.check("another pair in the proof", it.text("#verdict"), "other.txt: not proved (fault 5).")
+        self.check("another pair in the proof", it.text("#verdict"), "other.txt: not proved, since the prices are worth more than the places that were given.")
         for words, content in self.no_proofs(name):
             it.choose(self.file("none.txt", content), field="#opened")
             self.check(f"no proof: {content[:20]!r}", it.text("#verdict"), f"none.txt {words}.")
@@ -527,6 +546,7 @@ class Trial:
         self.check("saved as CSV", rows[1:], [row for row in it.table()])
         self.room(1)
         self.shot("room")
+        self.certified(name, ("S01", "S04", "S20"))
         it.go()
         self.check(
             "loaded anew, without the text of the round", it.text("#proofs").startswith("Round 1 was closed before this page was loaded")
@@ -542,25 +562,25 @@ class Trial:
         self.head("lists", 1)
         self.stop()
         it.press("#again")
-        told = "The web server answers 502\n\nThe service cannot be reached. Wait a moment, then send it again: "
+        told = "The service cannot be reached. Wait a moment and try again: "
         self.check("the service is down", it.text("#told").startswith(told))
         it.choose(FIRST[1])
         self.check(
             "a sheet that cannot be compared",
-            (it.text("#told").startswith("The web server answers 502"), it.text("#chosen").endswith("students, 20 rows\nBring in 1 sheet")),
+            (it.text("#told").startswith("The service cannot be reached"), it.text("#chosen").endswith("students, 20 rows\nImport 1 file")),
             (True, True),
         )
         self.serve("first_round.db")
-        it.press("#again")
+        it.press("#retry")
         self.check("and up again", it.text("#state"), "Round 1 is open, greedy, with 20 lists.")
         with open(f"{self.folder}/asked") as file:
-            self.check("imports sent, one of them twice", file.read().count('"POST /imports/'), 5)
+            self.check("imports sent, one of them pressed twice", file.read().count('"POST /imports/'), 4)
 
     def term(self):
         it, folder = self.it, os.path.dirname(TERM[0])
         it.choose(*TERM[1:])
         it.press("#send")
-        it.press("#open")
+        self.open()
         it.choose(TERM[0], f"{folder}/more-lists.csv")
         it.press("#send")
         it.write("#code", "s11")
@@ -577,13 +597,17 @@ class Trial:
         it.press("#list button")
         self.shot("entry")
         it.press("#drop")
+        self.check("the question", it.text("#sure p"), "Withdraw the list of S12? It is PRIMES DOSE.")
+        it.press("#sure button.main")
+        self.check("what it was", it.run("return document.querySelector('#list').elements.list.value"), "PRIMES DOSE")
         self.check(
             "a late student, with a list that is taken away", asked("GET", "/students/S12")[1], '{"list":null,"name":"Zoë","placed":null}'
         )
         it.choose(self.file("students.csv", read("examples", "term", "students.csv") + "S12,Zoë\n"))
+        it.press("#send")
         it.pick("#kind", "missing")
         self.check("who has no list", it.table(), [["S12", "Zoë"]])
-        it.press("#close")
+        it.press("#close-round")
         it.press("#sure button.main")
         self.reports(1)
         it.pick("#kind", "placements")
@@ -613,19 +637,19 @@ class Trial:
         self.check("an older file, chosen again, is another import", json.loads(asked("GET", "/projects/NEURONS")[1])["quota"], 2)
         it.choose(f"{folder}/withdrawn.csv")
         it.press("#send")
-        it.press("#close")
+        it.press("#close-round")
         it.press("#sure button.main")
         self.proof(1)
         it.choose(*(f"{folder}/{name}.csv" for name in ("more-places", "more-supervision", "late")))
         it.press("#send")
         it.press("input[value=generous]")
-        it.press("#open")
+        self.open()
         waiting = [line.split()[0] for line in self.line("report", "DB", "unplaced", "1").splitlines()] + ["S12", "S13"]
         it.choose(self.file("second.csv", "student,choices\n" + "".join(f"{code},PLATES DOSE MEMORY\n" for code in waiting)))
         it.press("#send")
         it.pick("#kind", "missing")
         self.check("nobody is without a list or a place", it.table(), [])
-        it.press("#close")
+        it.press("#close-round")
         it.press("#sure button.main")
         self.closed(2, "generous")
         second = next(line.split()[0] for line in self.line("report", "DB", "placements", "1").splitlines() if line.endswith(" 2"))
@@ -642,6 +666,94 @@ class Trial:
             self.check(f"the entry {code}", it.text("#found p"), words)
         self.reports(2)
         self.proof(2)
+
+    def habits(self):
+        """Sheets as people have them: further columns, choices in columns, other first rows, workbooks, and what is clear but for its form."""
+        it = self.it
+        it.press("#empty-lists")
+        self.check("an empty sheet", self.saved("lists.csv"), b"student,choices\n")
+        it.choose(self.file("book.xlsx", b"PK\x03\x04 sheet"))
+        self.check("a workbook", "book.xlsx is a workbook of a spreadsheet. Save it as CSV there" in it.text("#chosen"))
+        supervisors = self.file("supervisors.csv", "code,name,quota\nL,Lee,2.0\nm,May,1\n")
+        projects = self.file("projects.csv", "Titel;K\u00fcrzel;Pl\u00e4tze;Wer\nBridges;P1;2;L\nRails;P2;1;M\nSails;P3;0;M\n")
+        students = self.file("students.csv", "email,Code,Name\na@x,S1,Ann\nb@x,S2,Bob\nc@x, s3,Cy\n")
+        it.choose(supervisors, projects, students)
+        self.check("columns that are passed over", "Passed over: the column email." in it.text("#chosen"))
+        it.pick(".asked select", "projects")
+        for key, at in (("code", 1), ("name", 0), ("supervisor", 3), ("quota", 2)):
+            it.pick(f".asked select[name={key}]", str(at))
+        it.press(".asked button")
+        self.check("a first row that was asked about", "projects, 3 rows: 3 new" in it.text("#chosen"))
+        mended = [["2", "quota", "2.0", "2"], ["3", "code", "m", "M"], ["4", "code", " s3", "S3"]]
+        self.check("what is clear is shown", it.table("#chosen .mend"), mended)
+        while it.text(".mend button"):
+            it.press(".mend button")
+        it.press("#send")
+        read = lambda path: json.loads(asked("GET", path)[1])
+        found = [read("/supervisors/M")["quota"], read("/projects/P1"), read("/students/S3")["name"]]
+        self.check("and is mended", found, [1, {"name": "Bridges", "placed": 0, "quota": 2, "supervisor": "L"}, "Cy"])
+        it.choose(self.file("own.csv", "K\u00fcrzel,Titel\n"), projects)
+        self.check("it is not asked again", it.run("return document.querySelectorAll('.asked').length"), 1)
+        lists = self.file("lists.csv", "student,choice 1,choice 2,comment\nS1,P1,P2,none\nS2,P2,,late\nS3,\"p2; p1\",,\n")
+        it.choose(lists)
+        self.check("lists wait for a round", ("This file waits: " in it.text("#chosen"), it.text("#send")), (True, None))
+        self.open()
+        self.check("and then do no more", it.text("#send"), "Import 1 file")
+        it.press(".mend button")
+        it.press("#send")
+        self.check("choices in columns", [read(f"/students/S{at}")["list"] for at in (1, 2, 3)], [["P1", "P2"], ["P2"], ["P2", "P1"]])
+        it.pick("#what", "project")
+        it.write("#code", "P2")
+        it.press("#asked button")
+        it.run("document.querySelector('#keep').elements.quota.value = 0")
+        it.press("#keep button")
+        self.check("whose lists a withdrawal hits", it.text("#sure p"), "Withdraw P2? It stands on 3 lists of the open round: S1, S2, S3.")
+        it.press("#sure button:not(.main)")
+        self.check("not withdrawn", read("/projects/P2")["quota"], 1)
+        it.choose(self.file("projects.csv", "code,name,supervisor,quota\nP2,Rails,M,0\n"))
+        self.check("and in a sheet", "Withdrawn, and on lists of the open round: P2 (S1, S2, S3)." in it.text("#chosen"))
+        rest = self.file("rest.csv", "code,name,supervisor,quota\nP8,Eight,K,1\nP9,Nine,L,1\n")
+        it.choose(self.file("more.csv", "code,name,quota\nK,,1\nN,Ned,1\n"), rest)
+        it.press("#send")
+        self.check("what hangs on a row that is left out", "What is left out is named in 1 row of the other files" in it.text(".wrong"))
+
+    def sides(self):
+        """Both aims side by side, for the open round as it is now."""
+        text, rows = asked("GET", "/roundtext")[1].removeprefix("A,generous\n"), self.it.table("#aims")
+        for at, aim in enumerate(("", "A,generous\n"), 1):
+            told = self.line("check", self.file("best.txt", self.line("solve", self.file("round.txt", aim + text)))).split()
+            self.check(f"by the aim {at}", [row[at] for row in rows], [told[2], *told[4:]][: len(rows)])
+
+    def shown(self):
+        """Folded, sorted, filtered, saved and printed."""
+        it = self.it
+        it.pick("#number", "1")
+        it.pick("#kind", "placements")
+        rows = it.table()
+        it.reveal("#table")
+        seen = "return [...document.querySelectorAll('#table tbody tr')].filter(it => it.offsetParent).length"
+        self.check("folded", (it.run(seen), it.text("#whole")), (20, f"Show all {len(rows)} rows"))
+        it.press("#whole")
+        self.check("whole", it.run(seen), len(rows))
+        it.press("#table th:last-child button")
+        self.check("by choice", [row[5] for row in it.table()], sorted((row[5] for row in rows), key=int))
+        it.press("#table th:last-child button")
+        self.check("and back", [row[5] for row in it.table()], sorted((row[5] for row in rows), key=int, reverse=True))
+        it.run("window.print = () => { window.pages = [...document.querySelectorAll('#table .page')].map(it => it.innerText) }")
+        it.press("#each")
+        pages, names = it.run("return window.pages.map(it => [it.split(':')[0], it.split('\\n').length])"), [row[4] for row in rows]
+        self.check("a page each", [name for name, _ in pages], sorted(set(names)))
+        self.check("and the report again", len(it.table()), len(rows))
+        it.write("#filter", rows[0][0])
+        it.press("#save")
+        part = csv.reader(io.StringIO(self.saved("placements-1-part.csv").decode("utf-8-sig")))
+        self.check("saved as filtered", [row[0] for row in part], ["Student", rows[0][0]])
+        self.check("printed as filtered", f"1 of {len(rows)} rows, those with “{rows[0][0]}”." in it.run("return document.querySelector('#printed').textContent"))
+        it.write("#filter", " ")
+        it.pick("#number", "2")
+        it.pick("#kind", "all")
+        wanted = sorted([*line.split(), str(number)] for number in (1, 2) for line in self.line("report", "DB", "placements", str(number)).splitlines())
+        self.check("all rounds", [[row[0], row[2], row[5], row[6]] for row in it.table()], wanted)
 
     def hostile(self):
         labels = [
@@ -670,13 +782,13 @@ class Trial:
             self.file("students.csv", text.getvalue()),
         )
         it.press("#send")
-        it.press("#open")
+        self.open()
         it.choose(
             self.file("lists.csv", "student,choices\n" + "".join(f"S{at},{'U' if at == 1 else 'TOSTRING'}\n" for at in range(len(labels))))
         )
         it.press("#send")
         self.check("hostile names in the lists", [row[1] for row in it.table()], [label for _, label in sorted(rows)])
-        it.press("#close")
+        it.press("#close-round")
         it.press("#sure button.main")
         self.shot("hostile")
         self.check(
@@ -721,8 +833,7 @@ class Trial:
             ("many.csv", "code,name,quota\n" + "".join(f"V{n},Name,1\n" for n in range(99)), 29, 12, 99),
             ("rails.csv", "code,name,supervisor,quota\nR,Rails,M,1\n", 29, 13),
             ("moved.csv", "code,name,supervisor,quota\nP,Pumps,K,1\n", 29, 16),
-            ("early.csv", "student,choices\nS1,P\n", 29, 19),
-        ):
+                    ):
             self.refused(name, text, *numbers)
         it.choose(
             self.file("half.csv", "code,name,quota\nM,May,2.5\n"),
@@ -734,14 +845,14 @@ class Trial:
         self.check(
             "what needs a refused sheet waits, and another does not",
             ([asked("GET", path)[0] for path in ("/projects/R", "/students/S7")], it.text("#send")),
-            ([404, 200], "Bring in 3 sheets"),
+            ([404, 200], "Import 3 files"),
         )
         self.check(
             "both refused sheets are told",
             (it.text("#told").splitlines()[:3:2], it.table(".wrong")),
             (["1 row of half.csv is refused.", "1 row of later.csv is refused."], [["2", "M", "May", "2.5"], ["2", "S8", "empty"]]),
         )
-        it.press("#open")
+        self.open()
         for name, text, inner in (
             ("unknown.csv", "S1,P X", 14),
             ("stranger.csv", "S9,P", 15),
@@ -750,11 +861,11 @@ class Trial:
         ):
             self.refused(name, f"student,choices\n{text}\n", 29, inner)
         asked("POST", "/rounds/close")
-        it.press("#close")
+        it.press("#close-round")
         self.check(
             "closed by somebody else",
-            (it.text("#told")[:24], it.text("#state"), "closed before this page" in it.text("#proofs")),
-            ("Refused 19: NoRoundOpen\n", "Round 1 is closed, greedy: 0 of 0 students placed.", True),
+            ("Refusal 19, NoRoundOpen" in it.text("#told"), it.text("#state"), "closed before this page" in it.text("#proofs")),
+            (True, "Round 1 is closed, greedy: 0 of 0 students placed.", True),
         )
         it.choose(self.file("german.csv", "Code;Name\r\nS4;Jörg; Müller\r\n".replace("; M", ", M").encode("cp1252")))
         self.check("a sheet of Excel in German", "It is not in UTF-8" in it.text("#chosen") and "semicolons" in it.text("#chosen"))
@@ -764,16 +875,16 @@ class Trial:
         told = it.text("#chosen")
         self.check(
             "too large, and no sheet",
-            ("more than 65,536 bytes" in told, "none of the four sheets" in told, it.run("return !document.querySelector('#send')")),
+            ("more than 65,536 bytes" in told, "has another first row than the four sheets" in told, it.run("return !document.querySelector('#send')")),
             (True, True, True),
         )
-        it.press("#open")
+        self.open()
         it.run(
             "const real = fetch, more = { method: 'PUT', body: '{\"choices\":[\"P\"]}' };"
             "const list = () => real(location.origin + '/lists/S1', more);"
             "window.fetch = async (path, more) => { if (path.endsWith('/close')) await list(); return real(path, more); }"
         )
-        it.press("#close")
+        it.press("#close-round")
         it.press("#sure button.main")
         self.check("a list in the midst of closing", "something came between its text and its closing" in it.text("#proofs"))
         self.statuses()
@@ -787,7 +898,7 @@ class Trial:
         told = [
             (int(number[0]), reason)
             for reason, cells in it.run(
-                "const reason = it => Number.parseInt(it.closest('div').previousSibling.querySelector('b').textContent);"
+                "const reason = it => Number.parseInt(it.closest('div').previousSibling.querySelector('span').textContent.split(' ')[1]);"
                 "const numbers = it => [...it.tBodies[0].rows].map(row => [row.cells[0].textContent]);"
                 "return [...document.querySelectorAll('.wrong table')].map(it => [reason(it), numbers(it)])"
             )
@@ -872,12 +983,12 @@ class Trial:
                 asked("GET", "/projects/NEW7")[0],
                 asked("GET", "/projects/GOOD")[1],
             ),
-            ("1 came in", True, 404, '{"name":"Good","placed":0,"quota":2,"supervisor":"TURING"}'),
+            ("1 imported", True, 404, '{"name":"Good","placed":0,"quota":2,"supervisor":"TURING"}'),
         )
         start = self.sent()
-        self.refused("lists.csv", "student,choices\nS01,CHES\nS02,CHESS\nS99,CHESS\n", 29, 19)
-        self.check("without a round, once", self.sent() - start, 1)
-        it.press("#open")
+        it.choose(self.file("lists.csv", "student,choices\nS01,CHES\nS02,CHESS\nS99,CHESS\n"))
+        self.check("without a round lists wait", ("This file waits: " in it.text("#chosen"), self.sent() - start), (True, 0))
+        self.open()
         self.looked(
             "lists",
             "lists.csv",
@@ -909,7 +1020,7 @@ class Trial:
         )
         self.check("an empty row", "Its empty rows are left out." in it.text("#chosen"))
         it.press("#send")
-        self.check("without it", it.text("#chosen summary").endswith(": 4 came in"))
+        self.check("without it", it.text("#chosen summary").endswith(": 4 imported"))
         # One mistake many times: fifty rows are told, and no others may come in.
         many, start = self.file("many.csv", "code,name\n" + "".join(f"s{at},Name\n" for at in range(51)) + "S90,Name\n"), self.sent()
         it.choose(many)
@@ -927,7 +1038,7 @@ class Trial:
         self.check("by tools/sheets.py", "50 rows are refused, and there may be more" in self.sheets("students", many))
         it.choose(self.file("fifty.csv", "code,name\n" + "".join(f"s{at},Name\n" for at in range(50)) + "S90,Name\n"))
         it.press("#send")
-        self.check("fifty and no more", it.text(".wrong button"), "Leave 50 rows out, and bring in 1 row")
+        self.check("fifty and no more", it.text(".wrong button"), "Leave 50 rows out, and import 1 row")
         it.choose(self.file("all.csv", "code,name\ns1,Name\n"))
         it.press("#send")
         self.check("no other row", (it.text("#told").splitlines()[0], it.text(".wrong button")), ("1 row of all.csv is refused.", None))
@@ -953,7 +1064,7 @@ class Trial:
         start = self.sent()
         it.choose(self.file("quotes.csv", 'code,name\nS01,A"\ns2,B\n'))
         it.press("#send")
-        self.check("quotes that are no pairs, once", (it.text("#told").splitlines()[0], self.sent() - start), ("Refused 28: Header", 1))
+        self.check("quotes that are no pairs, once", ("Refusal 28, Header" in it.text("#told"), self.sent() - start), (True, 1))
         it.pick("#kind", "room")
         self.room(1)
         # No answer in the midst of the asking, and an office that has kept 200 imports.
@@ -1026,7 +1137,7 @@ class Trial:
         it.press("#send")
         for number, aim in ((1, "generous"), (2, "greedy")):
             it.press(f"input[value={aim}]")
-            it.press("#open")
+            self.open()
             left = (
                 students
                 if number == 1
@@ -1035,7 +1146,8 @@ class Trial:
             it.choose(lists("lists.csv", left[:40]))
             it.press("#send")
             self.preview(number, len(left[:40]))
-            it.press("#close")
+            self.sides()
+            it.press("#close-round")
             it.press("#sure button.main")
             self.closed(number, aim)
             self.reports(number)
@@ -1044,6 +1156,7 @@ class Trial:
             self.picture(number, left[:40])
             self.room(number)
             self.proof(number)
+        self.shown()
 
     def greatest(self):
         """A school at all limits: 500 students with lists of twelve, 400 projects, 100 supervisors."""
@@ -1058,11 +1171,11 @@ class Trial:
         *first, lists = [self.file(f"{kind}.csv", "\n".join(rows) + "\n") for kind, rows in sheets.items()]
         it.choose(*first)
         it.press("#send")
-        it.press("#open")
+        self.open()
         it.choose(lists)
         it.press("#send")
         self.check("all lists", it.text("#state"), "Round 1 is open, greedy, with 500 lists.")
-        it.press("#close")
+        it.press("#close-round")
         it.press("#sure button.main")
         self.reports(1)
         self.proof(1)
@@ -1078,8 +1191,8 @@ class Trial:
             self.it.run("const status = arguments[0]; window.fetch = () => Promise.resolve(new Response('', { status }))", status)
             self.it.write("#code", "S1")
             self.it.press("#asked button")
-            title = "Refused 4: TooLarge" if status == 413 else f"The web server answers {status}"
-            self.check(f"status {status}", (self.it.text("#told").splitlines()[0], words in self.it.text("#told")), (title, True))
+            title = "Refusal 4, TooLarge" if status == 413 else f"The web server answers {status}."
+            self.check(f"status {status}", (title in self.it.text("#told"), words in self.it.text("#told")), (True, True))
 
     def named(self):
         """What a reader of the screen is told: each field and button has a name."""
