@@ -1,7 +1,10 @@
 #!/usr/bin/env python3
 """Runs the pages of page/ in a browser, behind nginx, in front of `spadesk serve`: what they show is what the program prints.
 
-tools/page.py SPADESK [--shots FOLDER] [--seal] [--only PART,..]     needs nginx, chromium and chromedriver (Debian: chromium-driver)
+tools/page.py SPADESK [--shots FOLDER] [--seal] [--only PART,..] [--mutants]
+
+It needs nginx, chromium and chromedriver (Debian: chromium-driver). The trials of the student's page stand in
+people_pages.py; --mutants runs these alone, on pages with one mistake each, of which every one must be seen.
 
 It needs no other package: chromedriver is spoken to by HTTP; where one of the three is missing it says so. --shots keeps pictures of the
 pages, of which docs/office.png is one. --seal writes into the pages the hashes of their style and script, by which alone the browser takes
@@ -27,6 +30,7 @@ import time
 
 from nginx import started
 from office import TOP, copy, free_port, read, serving
+from people_pages import LEAVING, MUTANTS, People
 from sheets import guided
 
 ELEMENT = "element-6066-11e4-a52e-4f735466cecf"
@@ -89,15 +93,14 @@ Y,PB,0,0{ZEROS}
 Y,PC,0,0{ZEROS}
 Z,B,0,0{ZEROS}
 """
-# Whether the browser would ask before the page is left.
-LEAVING = "const it = new Event('beforeunload', { cancelable: true }); dispatchEvent(it); return it.defaultPrevented"
 
 
 def ordinal(rank):
     return f"{rank}{({1: 'st', 2: 'nd', 3: 'rd'}).get(rank, 'th')}"
 
 
-PARTS = ("first_round", "term", "habits", "hostile", "refusals", "mistakes", "drawn", "greatest", "student")
+PARTS = ("first_round", "term", "habits", "hostile", "refusals", "mistakes", "drawn", "greatest", "student", "roles", "keyboard", "phone")
+PAGES = ("office.html", "student.html")
 SERVICE, WEB, DRIVER = free_port(), free_port(), free_port()
 
 
@@ -116,7 +119,7 @@ def config(folder):
     text = re.sub(r" *ssl_certificate.*\n", "", read("page", "nginx.conf")).replace("listen 443 ssl;", f"listen 127.0.0.1:{WEB};")
     for old, new in (
         ("127.0.0.1:8080", f"127.0.0.1:{SERVICE}"),
-        ("/usr/share/spadesk", f"{TOP}/page"),
+        ("/usr/share/spadesk", f"{folder}/page"),
         ("https://office.school.example", f"http://127.0.0.1:{WEB}"),
         ("/etc/nginx", folder),
         ("/var/lib/nginx/spadesk", f"{folder}/cache"),
@@ -240,7 +243,9 @@ class Browser:
         return [it["message"] for it in self.send("POST", "/se/log", {"type": "browser"}) if "Failed to load resource" not in it["message"]]
 
 
-class Trial:
+class Trial(People):
+    asked, ordinal, KEEPER = staticmethod(asked), staticmethod(ordinal), KEEPER
+
     def __init__(self, program, folder, shots):
         self.program, self.folder, self.shots, self.came = program, folder, shots, []
 
@@ -1205,81 +1210,6 @@ class Trial:
         ]
         self.check("without a name for a reader", without, [])
 
-    def student(self):
-        it, user = self.it, "S02:s02"
-        for kind in ("supervisors", "projects", "students"):
-            asked("POST", f"/imports/{kind}/{kind[:2].upper()}", KEEPER, read("examples", "first-round", f"{kind}.csv").encode())
-        it.go("/student/", user)
-        self.check("a student before a round", "No round is open" in it.text("#me"))
-        asked("POST", "/rounds", KEEPER, '{"aim":"generous"}')
-        asked("PUT", "/supervisors/HOPPER", KEEPER, '{"name":"Grace Hopper","quota":1}')
-        asked("PUT", "/projects/LANDING", KEEPER, '{"name":"Software for a landing","supervisor":"HAMILTON","quota":0}')
-        it.go("/student/", user)
-        rows = lambda kind: csv.DictReader(io.StringIO(read("examples", "first-round", f"{kind}.csv")))
-        names = {row["code"]: row["name"] for row in rows("supervisors")}
-        wanted = [
-            [row["name"], names[row["supervisor"]], "1" if row["supervisor"] == "HOPPER" else row["quota"], "Add"]
-            for row in sorted(rows("projects"), key=lambda row: row["name"])
-            if row["code"] != "LANDING"
-        ]
-        self.check("projects with a place", it.table("#all"), wanted)
-        self.check("the aim", f"this round takes one with {AIMS['generous'].split(',')[0]}" in it.text("#me"))
-        it.write("#filter", "turing")
-        self.check("the filter", it.table("#all"), [row for row in wanted if row[1] == "Alan Turing"])
-        it.run("const it = document.querySelector('#filter'); it.value = ''; it.dispatchEvent(new Event('input'))")
-        for title in ("Breaking an old cipher", "Notes on the engine", "A history of bugs"):
-            it.press(f"button[aria-label='Add {title}']")
-        it.press("button[aria-label='A history of bugs: up']")
-        self.shot("student")
-        self.check("not handed in", (it.text("#state"), it.run(LEAVING)), ("This is not handed in yet.", True))
-        it.press("#save")
-        self.check("handed in", json.loads(asked("GET", "/students/S02")[1])["list"], ["CIPHER", "BUGS", "NOTES"])
-        self.check("it is told", (it.text("#state"), it.text("#told")[:23]), ("This list is handed in.", "Your list is handed in."))
-        it.press("button[aria-label='Breaking an old cipher: down']")
-        it.press("button[aria-label='Breaking an old cipher: strike out']")
-        shown = it.run("return [...document.querySelectorAll('#list span')].map(it => it.textContent)")
-        self.check("changed", shown, ["A history of bugs", "Notes on the engine"])
-        it.press("#save")
-        self.check("it may be left", it.run(LEAVING), False)
-        it.run("window.fetch = () => Promise.resolve(new Response('', { status: 504 }))")
-        it.press("#drop")
-        self.check("no answer in time", it.text("#told").startswith("No answer in time: it may still be done."))
-        it.go("/student/", user)
-        self.check("handed in again", json.loads(asked("GET", "/students/S02")[1])["list"], ["BUGS", "NOTES"])
-        self.named()
-        it.press("#drop")
-        self.check("that is told", it.text("#told"), "You have no list now.")
-        self.check("taken away", json.loads(asked("GET", "/students/S02")[1])["list"], None)
-        none = (401, 403, 404, 405)
-        for method, path, other in (
-            ("GET", "/preview", user),
-            ("GET", "/students/S03", user),
-            ("GET", "/student/students/S03", user),
-            ("PUT", "/student/lists/S03", user),
-            ("GET", "/student/list", user),
-            ("PUT", "/student/me", user),
-            ("GET", "/student/../roundtext", user),
-            ("GET", "/student/%2e%2e/roundtext", user),
-            ("GET", "/student/projects/..%2froundtext", user),
-            ("POST", "/student/rounds/1", user),
-            ("GET", "/student/rounds/close", user),
-            ("GET", "/", user),
-            ("GET", "/student/me", KEEPER),
-            ("GET", "/student/me", "guest:guest"),
-            ("GET", "/student/me", "S02:wrong"),
-        ):
-            self.check(f"{method} {path} as {other}", asked(method, path, other)[0] in none)
-        self.check(
-            "a page of another site", asked("PUT", "/student/list", user, '{"choices":["CHESS"]}', Origin="https://other.example")[0], 403
-        )
-        asked("PUT", "/lists/S02", KEEPER, '{"choices":["BUGS","CIPHER"]}')
-        asked("PUT", "/supervisors/HOPPER", KEEPER, '{"name":"Grace Hopper","quota":0}')
-        asked("POST", "/rounds/close")
-        it.go("/student/", user)
-        self.check("a place", "You have “Breaking an old cipher”, with Alan Turing." in it.text("#me"))
-        self.check("which", "It is your 2nd choice, from round 1." in it.text("#me"))
-        self.check("no list any more", it.run("return document.querySelector('#mine').hidden"), True)
-
     def all(self, parts):
         self.it = Browser(self.folder)
         try:
@@ -1297,7 +1227,7 @@ class Trial:
 
 def main(*words):
     shots = words[words.index("--shots") + 1] if "--shots" in words else None
-    for name in ("office.html", "student.html"):
+    for name in PAGES:
         page = read("page", name)
         if "--seal" in words and sealed(page) != page:
             with open(os.path.join(TOP, "page", name), "w", encoding="utf-8") as file:
@@ -1311,24 +1241,39 @@ def main(*words):
     program = [sys.executable, words[0]] if words[0].endswith(".py") else [os.path.abspath(words[0])]
     with tempfile.TemporaryDirectory() as folder:
         os.mkdir(f"{folder}/saved")
+        shutil.copytree(f"{TOP}/page", f"{folder}/page")
         for name, text in (
             ("office.users", "keeper:{PLAIN}secret\n"),
-            ("students.users", "S02:{PLAIN}s02\nguest:{PLAIN}guest\n"),
+            ("students.users", "S02:{PLAIN}s02\ns02:{PLAIN}s02\nguest:{PLAIN}guest\n"),
             ("nginx.conf", config(folder)),
         ):
             with open(f"{folder}/{name}", "w") as file:
                 file.write(text)
         trial, running = Trial(program, folder, shots), []
+
+        def end():
+            it = running.pop()
+            it.terminate()
+            it.wait(timeout=60)
+
+        def web():
+            """Starts nginx, or ends it and starts it anew."""
+            if len(running) == 2:
+                end()
+            running.append(started(WEB, "nginx", "-p", folder, "-c", f"{folder}/nginx.conf"))
+
         trial.serve("start.db")
         try:
-            running.append(started(WEB, "nginx", "-p", folder, "-c", f"{folder}/nginx.conf"))
             running.append(started(DRIVER, "chromedriver", f"--port={DRIVER}", stdout=subprocess.DEVNULL))
-            trial.all(words[words.index("--only") + 1].split(",") if "--only" in words else PARTS)
+            web()
+            if "--mutants" in words:
+                trial.mutants(sealed, web)
+            else:
+                trial.all(words[words.index("--only") + 1].split(",") if "--only" in words else PARTS)
         finally:
             trial.stop()
-            for it in running:
-                it.terminate()
-                it.wait(timeout=60)
+            while running:
+                end()
     failed = [it for it in trial.came if it[1] != it[2]]
     print(f"{len(trial.came)} trials, {len(failed)} otherwise")
     if failed:

@@ -1,0 +1,431 @@
+"""The trials of the student's page, which tools/page.py runs with its own, and its mutants.
+
+A mutant is a page, or the file of nginx, with one mistake in it: `tools/page.py SPADESK --mutants` shows for each the trial that fails.
+"""
+import contextlib
+import csv
+import io
+import json
+import pathlib
+import re
+import shutil
+
+from office import read
+
+STUDENT = "S02:s02"
+KEYS = {"Tab": "\ue004", "Enter": "\ue007", "Shift": "\ue008", "Escape": "\ue00c"}
+AIMS = {
+    "greedy": "as many first choices as possible, then as many second choices, and so on.",
+    "generous": "as few students as possible far down their lists: it looks at the lowest choices first, then at those above them.",
+}
+TITLES = {"CIPHER": "Breaking an old cipher", "NOTES": "Notes on the engine", "BUGS": "A history of bugs"}
+# Whether the browser would ask before the page is left.
+LEAVING = "const it = new Event('beforeunload', { cancelable: true }); dispatchEvent(it); return it.defaultPrevented"
+# What has the focus: its name for a reader, and nothing where it is the whole page.
+FOCUS = "const it = document.activeElement; return it === document.body ? null : it.getAttribute('aria-label') ?? it.textContent"
+CARDS = """return [...document.querySelectorAll('#projects > li:not([hidden])')].map(it =>
+  [...it.querySelectorAll('.what > :not(a)'), it.querySelector('button')].map(part => part.textContent))"""
+CHOICES = "return [...document.querySelectorAll('#list .what')].map(it => [...it.children].map(part => part.textContent))"
+# All texts whose contrast with what is behind them is below 4.5, as WCAG 2 counts it.
+PALE = """
+const light = ([r, g, b]) => { const part = it => (it /= 255) <= .04045 ? it / 12.92 : ((it + .055) / 1.055) ** 2.4;
+  return .2126 * part(r) + .7152 * part(g) + .0722 * part(b); };
+const numbers = color => color.match(/[\\d.]+/g).map(Number);
+const behind = it => { for (; it; it = it.parentElement) { const color = numbers(getComputedStyle(it).backgroundColor);
+  if (color[3] !== 0) return color; } return [255, 255, 255]; };
+const isSeen = it => it.checkVisibility() && [...it.childNodes].some(node => node.nodeType === 3 && node.data.trim());
+const ratio = it => { const [a, b] = [numbers(getComputedStyle(it).color), behind(it)].map(light).sort((a, b) => b - a);
+  return (a + .05) / (b + .05); };
+return [...document.body.querySelectorAll('*')].filter(it => isSeen(it) && ratio(it) < 4.5).map(it => it.textContent)"""
+# Notes what the page says, and how many answers it has had, whenever one of these texts changes.
+WATCHED = """window.said = [];
+const note = () => said.push([document.getElementById('told').textContent, document.getElementById('state').textContent,
+  document.getElementById('state').className, performance.getEntriesByType('resource').length]);
+const all = { subtree: true, childList: true, characterData: true, attributes: true };
+new MutationObserver(note).observe(document.getElementById('bar'), all)"""
+
+
+class People:
+    """What a trial of tools/page.py has beside the trials of the office's page."""
+
+    def keyed(self, *names):
+        """Presses keys one after another, and with Shift-Tab both at once."""
+        actions = []
+        for name in names:
+            keys = [KEYS[it] for it in name.split("-")]
+            actions += [{"type": "keyDown", "value": it} for it in keys] + [{"type": "keyUp", "value": it} for it in reversed(keys)]
+        self.it.send("POST", "/actions", {"actions": [{"type": "key", "id": "keys", "actions": actions}]})
+
+    def tabbed(self, name, back=False):
+        """Goes to what has this name by the keyboard alone; what it passes must show its focus."""
+        for _ in range(120):
+            self.keyed("Shift-Tab" if back else "Tab")
+            if self.it.run(FOCUS) == name:
+                seen = self.it.run("return getComputedStyle(document.activeElement).outline")
+                return self.check(f"the focus of {name} is seen", "solid 3px" in seen)
+        return self.check(f"{name} by the keyboard", self.it.run(FOCUS), name)
+
+    def acted(self, name, told, focus):
+        """After an act: what is told of it, and where the focus is."""
+        self.it.rest()
+        self.check(name, (self.it.text("#told"), self.it.run(FOCUS)), (told, focus))
+
+    def requests(self):
+        with open(f"{self.folder}/asked") as file:
+            return len(file.readlines())
+
+    def slow(self, latency):
+        """Each answer comes so many milliseconds later."""
+        words = {"offline": False, "latency": latency, "download_throughput": -1, "upload_throughput": -1}
+        self.it.send("POST", "/chromium/network_conditions", {"network_conditions": words})
+
+    def window(self, width, height=780):
+        self.it.chrome("Emulation.setDeviceMetricsOverride", width=width, height=height, deviceScaleFactor=1, mobile=False)
+
+    def fits(self, name):
+        """The page is never wider than its window, and on a phone each button is high enough and inside it."""
+        for width in (360, 640, 1280):
+            self.window(width)
+            wide = self.it.run("return [innerWidth, document.scrollingElement.scrollWidth <= innerWidth]")
+            self.check(f"{name}, {width} px wide", wide, [width, True])
+            if width == 360:
+                small = """return [...document.querySelectorAll('button')].filter(it => it.checkVisibility()).map(it =>
+                  [it.textContent, it.getBoundingClientRect()]).filter(([, it]) =>
+                  it.height < 40 || it.left < 0 || it.right > innerWidth)"""
+                self.check(f"{name}, buttons for a thumb", self.it.run(small), [])
+        self.it.chrome("Emulation.clearDeviceMetricsOverride")
+        for scheme in ("light", "dark"):
+            self.it.chrome("Emulation.setEmulatedMedia", features=[{"name": "prefers-color-scheme", "value": scheme}])
+            self.check(f"{name}, contrast, {scheme}", self.it.run(PALE), [])
+        self.it.chrome("Emulation.setEmulatedMedia", features=[])
+
+    def beside(self, name, text=None):
+        """Puts a file beside the pages, or takes it away."""
+        path = pathlib.Path(self.folder, "page", name)
+        path.parent.mkdir(exist_ok=True)
+        if text is not None:
+            path.write_text(text, encoding="utf-8")
+        elif path.is_dir():
+            shutil.rmtree(path)
+        else:
+            path.unlink()
+
+    def school(self):
+        """Brings in the first round of the examples."""
+        for kind in ("supervisors", "projects", "students"):
+            self.asked("POST", f"/imports/{kind}/{kind[:2].upper()}", body=read("examples", "first-round", f"{kind}.csv").encode())
+
+    def does(self, *requests):
+        """What the office asks for, which must be done."""
+        for method, path, body in requests:
+            status, told = self.asked(method, path, body=json.dumps(body) if body else None)
+            if status != 200:
+                raise SystemExit(f"page.py: {method} {path}: {told}")
+
+    def listed(self):
+        """The list that the office has of the student."""
+        return json.loads(self.asked("GET", "/students/S02")[1])["list"]
+
+    def student(self):
+        it = self.it
+        self.school()
+        it.go("/student/", STUDENT)
+        self.check("a student before a round", "No round is open" in it.text("#me"))
+        self.does(
+            ("POST", "/rounds", {"aim": "generous"}),
+            ("PUT", "/supervisors/HOPPER", {"name": "Grace Hopper", "quota": 1}),
+            ("PUT", "/projects/LANDING", {"name": "Software for a landing", "supervisor": "HAMILTON", "quota": 0}),
+        )
+        it.go("/student/", STUDENT)
+        rows = lambda kind: csv.DictReader(io.StringIO(read("examples", "first-round", f"{kind}.csv")))
+        names = {row["code"]: row["name"] for row in rows("supervisors")}
+        left = {row["code"]: "1" if row["supervisor"] == "HOPPER" else row["quota"] for row in rows("projects")}
+        wanted = [
+            [row["name"], names[row["supervisor"]], f"{left[row['code']]} place{'s' * (left[row['code']] != '1')} left", "Add"]
+            for row in sorted(rows("projects"), key=lambda row: row["name"])
+            if row["code"] != "LANDING"
+        ]
+        self.check("projects with a place", it.run(CARDS), wanted)
+        self.check("the aim", f"it takes one with {AIMS['generous']}" in it.text("#me"))
+        self.check("no word that is not explained", re.findall("greedy|generous|twelfth", it.text("body")), [])
+        it.write("#filter", "turing")
+        self.check("the filter", it.run(CARDS), [row for row in wanted if row[1] == "Alan Turing"])
+        it.run("const it = document.querySelector('#filter'); it.value = ''; it.dispatchEvent(new Event('input'))")
+        for code in ("CIPHER", "NOTES", "BUGS"):
+            it.press(f"#add-{code}")
+        it.press("#up-BUGS")
+        self.shot("student")
+        self.check("not handed in", (it.text("#state"), it.run(LEAVING)), ("3 chosen, not handed in yet", True))
+        it.press("#save")
+        self.check("handed in", self.listed(), ["CIPHER", "BUGS", "NOTES"])
+        words = "Your list is handed in: 3 choices. You may change it while the round is open."
+        self.check("it is told", (it.text("#told"), it.text("#state")), (words, "3 chosen, handed in"))
+        it.press("#down-CIPHER")
+        it.press("#off-CIPHER")
+        self.check("changed", it.run(CHOICES), [[TITLES["BUGS"]], [TITLES["NOTES"]]])
+        it.press("#save")
+        self.check("it may be left", it.run(LEAVING), False)
+        it.press("#save")
+        self.check("nothing to hand in", it.text("#told"), "This list is handed in already.")
+        it.run("window.fetch = () => Promise.resolve(new Response('', { status: 504 }))")
+        it.press("#drop")
+        it.press("#sure .main")
+        self.check("no answer in time", it.text("#told").startswith("No answer in time: it may still be done."))
+        it.go("/student/", STUDENT)
+        self.check("handed in again", self.listed(), ["BUGS", "NOTES"])
+        self.named()
+        it.press("#drop")
+        it.press("#sure button:not(.main)")
+        self.check("not withdrawn", (it.text("#told"), self.listed()), ("Your list stays handed in.", ["BUGS", "NOTES"]))
+        it.press("#drop")
+        it.press("#sure .main")
+        words = "Your list is withdrawn. Your choices stay here: you can hand them in again."
+        self.check("withdrawn", (it.text("#told"), self.listed()), (words, None))
+        self.check("the choices stay", it.run(CHOICES), [[TITLES["BUGS"]], [TITLES["NOTES"]]])
+        self.asked("POST", "/rounds/close")
+        it.press("#save")
+        self.check("a round that was closed", it.text("#told").startswith("No round is open now, so nothing was changed."))
+        self.check("the choices stay then too", it.run(CHOICES), [[TITLES["BUGS"]], [TITLES["NOTES"]]])
+        self.check("the bar stays with a list in a closed round", it.run("return document.querySelector('#save').checkVisibility()"))
+        self.asked("POST", "/rounds/reopen")
+        it.press("#save")
+        self.check("after the reopening", self.listed(), ["BUGS", "NOTES"])
+        self.does(
+            ("PUT", "/lists/S02", {"choices": ["BUGS", "CIPHER"]}),
+            ("PUT", "/supervisors/HOPPER", {"name": "Grace Hopper", "quota": 0}),
+            ("POST", "/rounds/close", None),
+        )
+        it.go("/student/", STUDENT)
+        self.check("a place", "You have “Breaking an old cipher”, with Alan Turing." in it.text("#me"))
+        self.check("which", "It is your 2nd choice, from round 1." in it.text("#me"))
+        self.check("no list any more", it.run("return document.querySelector('#mine').hidden"), True)
+        self.fits("a place")
+
+    def roles(self):
+        """What a student can reach."""
+        self.school()
+        self.does(("POST", "/rounds", None))
+        none = (401, 403, 404, 405)
+        for method, path, user in (
+            ("GET", "/preview", STUDENT),
+            ("GET", "/students/S03", STUDENT),
+            ("GET", "/student/students/S03", STUDENT),
+            ("PUT", "/student/lists/S03", STUDENT),
+            ("GET", "/student/list", STUDENT),
+            ("PUT", "/student/me", STUDENT),
+            ("GET", "/student/../roundtext", STUDENT),
+            ("GET", "/student/%2e%2e/roundtext", STUDENT),
+            ("GET", "/student/projects/..%2froundtext", STUDENT),
+            ("POST", "/student/rounds/1", STUDENT),
+            ("GET", "/student/rounds/close", STUDENT),
+            ("GET", "/student/reports/placements/1", STUDENT),
+            ("GET", "/student/about/..%2fnginx.conf", STUDENT),
+            ("GET", "/", STUDENT),
+            ("GET", "/student/me", self.KEEPER),
+            ("GET", "/student/me", "guest:guest"),
+            ("GET", "/student/me", "S02:wrong"),
+        ):
+            self.check(f"{method} {path} as {user}", self.asked(method, path, user)[0] in none)
+        foreign = self.asked("PUT", "/student/list", STUDENT, '{"choices":["CHESS"]}', Origin="https://other.example")
+        self.check("a page of another site", foreign[0], 403)
+        self.it.go("/student/", "s02:s02")
+        self.check("small letters, a student", "Your name here is your code, in capitals." in self.it.text("#me"))
+
+    def keyboard(self):
+        """A student without a mouse, on a line with a latency of 100 ms: each act keeps the focus, is told, and takes three requests."""
+        it, (first, second, third) = self.it, TITLES.values()
+        self.school()
+        self.does(("POST", "/rounds", None))
+        it.go("/student/", STUDENT)
+        self.slow(100)
+        for at, title in enumerate((third, first, second), 1):
+            self.tabbed(f"Add {title}")
+            self.keyed("Enter")
+            self.acted(f"added, {at}", f"Added as choice {at}: {title}.", f"{title}: choice {at}")
+        self.keyed("Enter")
+        self.acted("added already", f"It is choice 3 already: {second}.", f"{second}: choice 3")
+        self.tabbed(f"{third}: down", back=True)
+        self.keyed("Enter")
+        self.acted("moved down", f"Now choice 2: {third}.", f"{third}: down")
+        self.keyed("Enter")
+        self.acted("moved to the end", f"Now choice 3: {third}.", f"{third}: down")
+        self.keyed("Enter")
+        self.acted("the last", f"It is the last choice already: {third}.", f"{third}: down")
+        self.tabbed("Hand in my list")
+        it.run(WATCHED)
+        start = self.requests()
+        answers = it.run("return performance.getEntriesByType('resource').length")
+        self.keyed("Enter")
+        words = "Your list is handed in: 3 choices. You may change it while the round is open."
+        self.acted("handed in by a key", words, "Hand in my list")
+        self.check("requests of handing in", self.requests() - start <= 3)
+        said = it.run("return said")
+        self.check("told before it is read", [answers + 1], sorted({count for told, *_, count in said if told == words})[:1])
+        self.check("a sign while it waits", said[0][0], "Handing in your list …")
+        took = it.run("return performance.getEntriesByType('resource').slice(-3).map(it => it.duration)")
+        self.check("the latency is played", min(took) >= 100)
+        self.check("nothing red meanwhile", [row for row in said if row[2] == "bad"], [])
+        self.check("the list of the office", self.listed(), ["CIPHER", "NOTES", "BUGS"])
+        self.tabbed(f"{second}: remove", back=True)
+        self.keyed("Enter")
+        self.acted("removed", f"Removed: {second}. 2 chosen.", f"{third}: remove")
+        self.keyed("Enter")
+        self.acted("removed, the last", f"Removed: {third}. 1 chosen.", f"{first}: remove")
+        self.tabbed("Hand in my list")
+        start = self.requests()
+        self.keyed("Enter")
+        self.acted("handed in changed", words.replace("3 choices", "1 choice"), "Hand in my list")
+        self.check("requests of a change", self.requests() - start <= 3)
+        self.check("the changed list", self.listed(), ["CIPHER"])
+        self.tabbed("Withdraw my list", back=True)
+        self.keyed("Enter")
+        self.check("asked first", it.run("return document.querySelector('#sure').open"))
+        self.keyed("Escape")
+        self.acted("not withdrawn by a key", "Your list stays handed in.", "Withdraw my list")
+        self.keyed("Enter")
+        self.tabbed("Withdraw it")
+        start = self.requests()
+        self.keyed("Enter")
+        words = "Your list is withdrawn. Your choices stay here: you can hand them in again."
+        self.acted("withdrawn by a key", words, "Withdraw my list")
+        self.check("requests of withdrawing", self.requests() - start <= 3)
+        self.check("no list", (self.listed(), it.run(CHOICES)), (None, [[first]]))
+        self.tabbed(f"{first}: remove", back=True)
+        self.keyed("Enter")
+        self.acted("the last one removed", f"Removed: {first}. 0 chosen.", "My list, first choice first")
+        self.twice()
+        self.slow(0)
+
+    def twice(self):
+        """A list is changed and handed in again while the first answer is still read behind."""
+        it = self.it
+        it.run(
+            "const of = id => document.getElementById(id);"
+            "const until = async test => { while (!test()) await new Promise(done => setTimeout(done, 5)); };"
+            "of('add-BUGS').click(); of('save').click(); of('save').click(); window.waits = of('told').textContent;"
+            "return until(() => of('told').textContent.startsWith('Your list is handed in: 1 choice.'))"
+            ".then(() => { of('add-NOTES').click(); of('save').click(); })"
+        )
+        it.rest()
+        self.check("pressed twice", it.run("return waits"), "Wait a moment: the office has not answered yet.")
+        self.check("handed in again at once", (it.text("#state"), self.listed()), ("2 chosen, handed in", ["BUGS", "NOTES"]))
+
+    def phone(self):
+        """A student's page with all that widens it, and what is beside the pages."""
+        it, same, hostile = self.it, "Brücken: eine Kritik", "<img src=x onerror=alert(1)>"
+        self.school()
+        self.does(
+            ("PUT", "/supervisors/LONG", {"name": "L" * 200, "quota": 3}),
+            *(
+                ("PUT", f"/projects/{code}", {"name": name, "supervisor": by, "quota": 2})
+                for code, name, by in (
+                    ("BR-1", same, "TURING"),
+                    ("BR-2", "Brücken: eine  kritik", "NOETHER"),
+                    ("ABCDEFGH-1234567", "W" * 200, "LONG"),
+                    ("IMG", hostile, "LONG"),
+                    ("GONE", "A project that is withdrawn", "LONG"),
+                )
+            ),
+            ("POST", "/rounds", None),
+            ("PUT", "/lists/S02", {"choices": ["GONE", "BR-2", "BR-1", "ABCDEFGH-1234567", "IMG"]}),
+            ("PUT", "/projects/GONE", {"name": "A project that is withdrawn", "supervisor": "LONG", "quota": 0}),
+        )
+        it.go("/student/", STUDENT)
+        gone = ["A project that is withdrawn", "Withdrawn or full: it can’t give a place."]
+        wanted = [gone, ["Brücken: eine  kritik (BR-2)"], [f"{same} (BR-1)"], ["W" * 200], [hostile]]
+        self.check("a withdrawn project is marked", it.run(CHOICES)[:1], wanted[:1])
+        self.check("equal titles have codes", it.run(CHOICES)[1:], wanted[1:])
+        self.check("the withdrawn project cannot be added", it.run("return document.querySelector('#add-GONE')"), None)
+        names = it.run("return [...document.querySelectorAll('#list button')].map(it => it.getAttribute('aria-label'))")
+        self.check("the names of the buttons", len(set(names)), len(names))
+        self.check("a code in them", f"{same} (BR-1): up" in names)
+        links = "return [...document.querySelectorAll('#projects a')].map(it => [it.getAttribute('aria-label'), it.getAttribute('href')])"
+        self.check("nothing beside the pages", (it.text("#closes"), it.run(links)), ("", []))
+        self.fits("a list")
+        self.window(360)
+        under = """return [...document.querySelectorAll('#projects > li')].every(it =>
+          it.querySelector('button').getBoundingClientRect().top >= it.querySelector('b').getBoundingClientRect().bottom)"""
+        self.check("the button is under the title", it.run(under))
+        bar = """const it = document.querySelector('#save').getBoundingClientRect();
+          return it.top > innerHeight / 2 && it.bottom <= innerHeight"""
+        self.check("the bar is at the foot", (it.run(bar), it.text("#state")), (True, "5 chosen, handed in"))
+        self.shot("phone")
+        it.chrome("Emulation.clearDeviceMetricsOverride")
+        it.press("#off-BR-1")
+        it.press("#save")
+        words = "Your list is handed in: 4 choices, of which 1 can’t give a place. You may change it while the round is open."
+        self.check("a choice for nothing is told", it.text("#told"), words)
+        it.press("#drop")
+        self.fits("the question")
+        self.keyed("Escape")
+        it.press("#off-GONE")
+        it.press("#save")
+        self.beside("closes.txt", "Friday, 14 May 2027, 12:00\n")
+        self.beside("about/BR-2.html", "<title>On bridges</title><p>Seven of them.<script>document.title = 1</script>")
+        it.go("/student/", STUDENT)
+        self.check("until when", it.text("#closes"), "Lists are taken until Friday, 14 May 2027, 12:00.")
+        self.check("a description", it.run(links), [["Description of Brücken: eine  kritik (BR-2)", "about/BR-2.html"]])
+        self.fits("what is beside the pages")
+        it.go("/student/about/BR-2.html", STUDENT)
+        self.check("a description runs nothing", it.run("return document.title"), "On bridges")
+        it.errors()
+        self.beside("closes.txt")
+        self.beside("about")
+
+    def mutants(self, sealed, web):
+        """Whether each mutant is seen by the trial that it is for."""
+        for part, name, old, new, wanted in MUTANTS:
+            path = pathlib.Path(self.folder, "page" if name.endswith(".html") else "", name)
+            text = path.read_text(encoding="utf-8")
+            if text.count(old) != 1:
+                raise SystemExit(f"page.py: a mutant's place stands {text.count(old)} times in {name}: {old}")
+            changed = text.replace(old, new)
+            came, self.came = self.came, []
+            path.write_text(sealed(changed) if name.endswith(".html") else changed, encoding="utf-8")
+            web()
+            self.stop()
+            self.serve("start.db")
+            for database in pathlib.Path(self.folder).glob(f"{part}.db*"):
+                database.unlink()
+            ended = None
+            with contextlib.redirect_stdout(io.StringIO()):
+                try:
+                    self.all([part])
+                except (Exception, SystemExit) as it:  # a trial of a mutant may find less than it looks for
+                    ended = repr(it)
+            path.write_text(text, encoding="utf-8")
+            failed, self.came = [name for name, told, must in self.came if told != must], came
+            seen = "seen" if wanted in failed else (failed, ended)
+            self.check(f"a mutant of {name} with {new.strip()[:60]!r}, by {wanted!r}", seen, "seen")
+
+
+# The part that has the trial, the file, what stands there, what a mutant has in its place, and the trial that must fail.
+MUTANTS = [
+    ("keyboard", "student.html", "byId(held)?.focus();", "", "moved down"),
+    ("keyboard", "student.html", "await look(now).catch", "await start().catch", "requests of handing in"),
+    ("keyboard", "student.html", "    tell(done());", "    await look(now);\n    tell(done());", "told before it is read"),
+    ("keyboard", "student.html", 'isSending || isSame ? "soft"', 'isSame ? "soft"', "nothing red meanwhile"),
+    ("keyboard", "student.html", 'off(byId("save"), isSame', 'byId("save").disabled = (isSame', "handed in by a key"),
+    (
+        "keyboard",
+        "student.html",
+        'return byId("sure").showModal();',
+        'byId("sure").returnValue = "yes";\n  return answered();',
+        "asked first",
+    ),
+    ("student", "student.html", "kept = [];\n    return", "kept = mine = [];\n    return", "the choices stay"),
+    ("student", "student.html", "!round?.open && !mine.length", "!round?.open", "the bar stays with a list in a closed round"),
+    ("phone", "student.html", "isGone = !(projects", "isGone = (projects", "a withdrawn project is marked"),
+    ("phone", "student.html", "twins.get(seen(it.title)) > 1", "twins.get(it.title) > 1", "equal titles have codes"),
+    ("phone", "student.html", "overflow-wrap: anywhere", "overflow-wrap: normal", "a list, 360 px wide"),
+    ("phone", "student.html", "min-height: 2.6rem", "min-height: 2.3rem", "a list, buttons for a thumb"),
+    ("phone", "student.html", "(max-width: 480px)", "(max-width: 48px)", "the button is under the title"),
+    (
+        "phone",
+        "student.html",
+        'if (closes?.trim()) byId("closes").textContent = `Lists are taken until ${closes.trim()}.`;',
+        'byId("closes").textContent = `Lists are taken until ${closes}.`;',
+        "nothing beside the pages",
+    ),
+    ("phone", "nginx.conf", "sandbox allow-popups; default-src 'none';", "", "a description runs nothing"),
+]
