@@ -3,7 +3,7 @@
 
 tools/page.py SPADESK [--shots FOLDER] [--seal] [--only PART,..] [--mutants]
 
-It needs nginx, chromium and chromedriver (Debian: chromium-driver). The trials of the student's page stand in
+It needs nginx, chromium and chromedriver (Debian: chromium-driver). The trials of the student's and the supervisor's page stand in
 people_pages.py; --mutants runs these alone, on pages with one mistake each, of which every one must be seen.
 
 It needs no other package: chromedriver is spoken to by HTTP; where one of the three is missing it says so. --shots keeps pictures of the
@@ -99,8 +99,8 @@ def ordinal(rank):
     return f"{rank}{({1: 'st', 2: 'nd', 3: 'rd'}).get(rank, 'th')}"
 
 
-PARTS = ("first_round", "term", "habits", "hostile", "refusals", "mistakes", "drawn", "greatest", "student", "roles", "keyboard", "phone")
-PAGES = ("office.html", "student.html")
+PARTS = ("first_round", "term", "habits", "hostile", "refusals", "mistakes", "drawn", "greatest", "student", "roles", "keyboard", "phone", "supervisor")
+PAGES = ("office.html", "student.html", "supervisor.html")
 SERVICE, WEB, DRIVER = free_port(), free_port(), free_port()
 
 
@@ -1245,6 +1245,7 @@ def main(*words):
         for name, text in (
             ("office.users", "keeper:{PLAIN}secret\n"),
             ("students.users", "S02:{PLAIN}s02\ns02:{PLAIN}s02\nguest:{PLAIN}guest\n"),
+            ("supervisors.users", "HOPPER:{PLAIN}hopper\nhopper:{PLAIN}hopper\n"),
             ("nginx.conf", config(folder)),
         ):
             with open(f"{folder}/{name}", "w") as file:

@@ -1,4 +1,4 @@
-"""The trials of the student's page, which tools/page.py runs with its own, and its mutants.
+"""The trials of the student's and the supervisor's page, which tools/page.py runs with its own, and mutants of both.
 
 A mutant is a page, or the file of nginx, with one mistake in it: `tools/page.py SPADESK --mutants` shows for each the trial that fails.
 """
@@ -9,10 +9,11 @@ import json
 import pathlib
 import re
 import shutil
+import time
 
 from office import read
 
-STUDENT = "S02:s02"
+STUDENT, SUPERVISOR = "S02:s02", "HOPPER:hopper"
 KEYS = {"Tab": "\ue004", "Enter": "\ue007", "Shift": "\ue008", "Escape": "\ue00c"}
 AIMS = {
     "greedy": "as many first choices as possible, then as many second choices, and so on.",
@@ -26,6 +27,8 @@ FOCUS = "const it = document.activeElement; return it === document.body ? null :
 CARDS = """return [...document.querySelectorAll('#projects > li:not([hidden])')].map(it =>
   [...it.querySelectorAll('.what > :not(a)'), it.querySelector('button')].map(part => part.textContent))"""
 CHOICES = "return [...document.querySelectorAll('#list .what')].map(it => [...it.children].map(part => part.textContent))"
+TABLES = """return [...document.querySelectorAll('main section')].map(it => [it.querySelector('h2').firstChild.textContent,
+  ...[...it.querySelectorAll('tbody tr')].map(row => [...row.cells].map(cell => cell.textContent))])"""
 # All texts whose contrast with what is behind them is below 4.5, as WCAG 2 counts it.
 PALE = """
 const light = ([r, g, b]) => { const part = it => (it /= 255) <= .04045 ? it / 12.92 : ((it + .055) / 1.055) ** 2.4;
@@ -202,7 +205,7 @@ class People:
         self.fits("a place")
 
     def roles(self):
-        """What a student can reach."""
+        """What a student and a supervisor can reach."""
         self.school()
         self.does(("POST", "/rounds", None))
         none = (401, 403, 404, 405)
@@ -220,16 +223,39 @@ class People:
             ("GET", "/student/rounds/close", STUDENT),
             ("GET", "/student/reports/placements/1", STUDENT),
             ("GET", "/student/about/..%2fnginx.conf", STUDENT),
+            ("GET", "/supervisor/reports/placements/1", STUDENT),
+            ("GET", "/supervisor/", STUDENT),
             ("GET", "/", STUDENT),
             ("GET", "/student/me", self.KEEPER),
             ("GET", "/student/me", "guest:guest"),
             ("GET", "/student/me", "S02:wrong"),
+            ("GET", "/student/me", SUPERVISOR),
+            ("GET", "/", SUPERVISOR),
+            ("GET", "/preview", SUPERVISOR),
+            ("GET", "/students/S02", SUPERVISOR),
+            ("GET", "/supervisor/students/S02", SUPERVISOR),
+            ("GET", "/supervisor/lists/S02", SUPERVISOR),
+            ("GET", "/supervisor/roundtext", SUPERVISOR),
+            ("GET", "/supervisor/reports/unplaced/1", SUPERVISOR),
+            ("GET", "/supervisor/supervisors/TURING", SUPERVISOR),
+            ("PUT", "/supervisor/me", SUPERVISOR),
+            ("PUT", "/supervisor/projects/BUGS", SUPERVISOR),
+            ("POST", "/supervisor/rounds/1", SUPERVISOR),
+            ("GET", "/supervisor/projects/..%2f..%2froundtext", SUPERVISOR),
+            ("GET", "/supervisor/me", self.KEEPER),
+            ("GET", "/supervisor/me", "HOPPER:wrong"),
+            ("GET", "/supervisor/me", "guest:guest"),
         ):
             self.check(f"{method} {path} as {user}", self.asked(method, path, user)[0] in none)
-        foreign = self.asked("PUT", "/student/list", STUDENT, '{"choices":["CHESS"]}', Origin="https://other.example")
-        self.check("a page of another site", foreign[0], 403)
+        for method, path, body, user in (
+            ("PUT", "/student/list", '{"choices":["CHESS"]}', STUDENT),
+            ("GET", "/supervisor/me", None, SUPERVISOR),
+        ):
+            self.check(f"{path} by a page of another site", self.asked(method, path, user, body, Origin="https://other.example")[0], 403)
         self.it.go("/student/", "s02:s02")
         self.check("small letters, a student", "Your name here is your code, in capitals." in self.it.text("#me"))
+        self.it.go("/supervisor/", "hopper:hopper")
+        self.check("small letters, a supervisor", "Your name here is your code, in capitals." in self.it.text("#state"))
 
     def keyboard(self):
         """A student without a mouse, on a line with a latency of 100 ms: each act keeps the focus, is told, and takes three requests."""
@@ -372,6 +398,64 @@ class People:
         self.beside("closes.txt")
         self.beside("about")
 
+    def supervisor(self):
+        """The page of a supervisor, against what the program prints of this supervisor."""
+        it = self.it
+        self.school()
+        it.go("/supervisor/", SUPERVISOR)
+        self.check("a supervisor before a round", it.text("#state").startswith("There has been no round yet."))
+        self.does(
+            ("PUT", "/projects/LONG", {"name": "W" * 200, "supervisor": "HOPPER", "quota": 1}),
+            ("PUT", "/projects/BUGS", {"name": "A <b>history</b> of bugs", "supervisor": "HOPPER", "quota": 4}),
+            ("POST", "/rounds", None),
+        )
+        self.asked("POST", "/imports/lists/L1", body=read("examples", "first-round", "lists.csv").encode())
+        self.does(("PUT", "/lists/S02", {"choices": ["LONG"]}))
+        it.go("/supervisor/", SUPERVISOR)
+        self.check("nothing of an open round", [row[0][:11] for row in it.run(TABLES)], ["My projects"])
+        self.check("that it is open", "Round 1 is open: who comes to you is known once it is closed." in it.text("#state"))
+        self.does(
+            ("POST", "/rounds/close", None),
+            ("PUT", "/supervisors/HOPPER", {"name": "Grace Hopper", "quota": 7}),
+            ("PUT", "/students/S90", {"name": "Late"}),
+            ("POST", "/rounds", None),
+            ("PUT", "/lists/S90", {"choices": ["LONG", "BUGS"]}),
+            ("POST", "/rounds/close", None),
+        )
+        it.go("/supervisor/", SUPERVISOR)
+        self.check("whose it is", it.text("#name"), "Grace Hopper")
+        titles, owner, room, wanted, lefts = {}, None, 0, [], []
+        for line in self.line("report", "DB", "loads", "2").splitlines():
+            code, placed, quota = line.split()
+            if line[0] != " ":
+                owner, room = code, (int(quota) - int(placed) if code == "HOPPER" else room)
+            elif owner == "HOPPER":
+                titles[code] = f"{json.loads(self.asked('GET', f'/projects/{code}')[1])['name']} ({code})"
+                lefts.append(max(0, min(room, int(quota) - int(placed))))
+                wanted.append([titles[code], placed, quota, str(lefts[-1])])
+        whole = min(room, sum(lefts))
+        tables = it.run(TABLES)
+        self.check("my projects", tables[-1], [f"My projects after round 2: {whole} place{'s' * (whole != 1)} left in all", *wanted])
+        for number, shown in ((2, tables[0]), (1, tables[1])):
+            rows = [line.split() for line in self.line("report", "DB", "placements", str(number)).splitlines()]
+            mine = [[student, titles[project], self.ordinal(int(rank))] for student, project, rank in rows if project in titles]
+            head = f"Round {number}: {len(mine)} student{'s' * (len(mine) != 1)}"
+            self.check(f"who comes in round {number}", [shown[0], *sorted(shown[1:])], [head, *sorted(mine)])
+        self.check("somebody comes in both, and a place is left", [len(tables[0]), len(tables[1]) > 3, whole > 0], [2, True, True])
+        self.check("for each round a table", len(tables), 3)
+        self.tabbed("Print")
+        self.fits("a supervisor's page")
+        self.named()
+        self.shot("supervisor")
+        it.chrome("Emulation.setEmulatedMedia", media="print")
+        heads = it.run("return [...document.querySelectorAll('h2')].map(it => it.innerText)")
+        day = time.strftime("%-d %B %Y")
+        ok = [f"Round {2 - at}" in head and "Grace Hopper" in head and day in head for at, head in enumerate(heads[:2])]
+        self.check("on paper: name, round and date", ok, [True, True])
+        self.check("no button on paper", it.run("return document.querySelector('#print').checkVisibility()"), False)
+        it.chrome("Emulation.setEmulatedMedia", media="")
+
+
     def mutants(self, sealed, web):
         """Whether each mutant is seen by the trial that it is for."""
         for part, name, old, new, wanted in MUTANTS:
@@ -428,4 +512,13 @@ MUTANTS = [
         "nothing beside the pages",
     ),
     ("phone", "nginx.conf", "sandbox allow-popups; default-src 'none';", "", "a description runs nothing"),
+    ("supervisor", "supervisor.html", "owner === own && isProject", "isProject", "my projects"),
+    ("supervisor", "supervisor.html", "Math.min(room, quota - placed)", "quota - placed", "my projects"),
+    ("supervisor", "supervisor.html", "ordinal(rank), ", "ordinal(1), ", "who comes in round 1"),
+    ("supervisor", "supervisor.html", "rounds.filter(it => !it.open)", "rounds.filter(() => true)", "nothing of an open round"),
+    ("supervisor", "supervisor.html", ".paper { display: inline; }", "", "on paper: name, round and date"),
+    ("supervisor", "supervisor.html", "overflow-wrap: anywhere", "overflow-wrap: normal", "a supervisor's page, 360 px wide"),
+    ("supervisor", "nginx.conf", "/supervisors/$own;", "/supervisors/TURING;", "whose it is"),
+    ("roles", "nginx.conf", "|placements))", "|placements|unplaced))", f"GET /supervisor/reports/unplaced/1 as {SUPERVISOR}"),
+    ("roles", "nginx.conf", "|projects/", "|(?:projects|students)/", f"GET /supervisor/students/S02 as {SUPERVISOR}"),
 ]
