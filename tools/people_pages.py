@@ -40,10 +40,11 @@ const isSeen = it => it.checkVisibility() && [...it.childNodes].some(node => nod
 const ratio = it => { const [a, b] = [numbers(getComputedStyle(it).color), behind(it)].map(light).sort((a, b) => b - a);
   return (a + .05) / (b + .05); };
 return [...document.body.querySelectorAll('*')].filter(it => isSeen(it) && ratio(it) < 4.5).map(it => it.textContent)"""
-# Notes what the page says, and how many answers it has had, whenever one of these texts changes.
+# Notes what the page says, the sign that it waits, and how many answers it has had, whenever one of these texts changes.
 WATCHED = """window.said = [];
 const note = () => said.push([document.getElementById('told').textContent, document.getElementById('state').textContent,
-  document.getElementById('state').className, performance.getEntriesByType('resource').length]);
+  document.getElementById('state').className, getComputedStyle(document.getElementById('bar'), '::before').height,
+  performance.getEntriesByType('resource').length]);
 const all = { subtree: true, childList: true, characterData: true, attributes: true };
 new MutationObserver(note).observe(document.getElementById('bar'), all)"""
 
@@ -287,7 +288,7 @@ class People:
         self.check("requests of handing in", self.requests() - start <= 3)
         said = it.run("return said")
         self.check("told before it is read", [answers + 1], sorted({count for told, *_, count in said if told == words})[:1])
-        self.check("a sign while it waits", said[0][0], "Handing in your list …")
+        self.check("a sign while it waits", (said[0][0], said[0][3]), ("Handing in your list …", "4px"))
         took = it.run("return performance.getEntriesByType('resource').slice(-3).map(it => it.duration)")
         self.check("the latency is played", min(took) >= 100)
         self.check("nothing red meanwhile", [row for row in said if row[2] == "bad"], [])
@@ -390,7 +391,7 @@ class People:
         self.beside("about/BR-2.html", "<title>On bridges</title><p>Seven of them.<script>document.title = 1</script>")
         it.go("/student/", STUDENT)
         self.check("until when", it.text("#closes"), "Lists are taken until Friday, 14 May 2027, 12:00.")
-        self.check("a description", it.run(links), [["Description of Brücken: eine  kritik (BR-2)", "about/BR-2.html"]])
+        self.check("a description", it.run(links), [["Description of Brücken: eine  kritik (BR-2), in a new tab", "about/BR-2.html"]])
         self.fits("what is beside the pages")
         it.go("/student/about/BR-2.html", STUDENT)
         self.check("a description runs nothing", it.run("return document.title"), "On bridges")
