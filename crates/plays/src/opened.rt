@@ -2,7 +2,7 @@
 
 use desk::Desk;
 use rolls::{Plain, Request, Text};
-use sqlite::{Alter, Connection, MemStore};
+use sqlite::{Alter, Connection};
 use std::alloc::Global;
 use std::test::Fail;
 
@@ -15,12 +15,6 @@ pub fn desk_over<S: Alter + Drop>(
         Ok(desk) => Ok(desk),
         Err((refusal, _connection)) => Err(Fail::new(format_args!("refused {}", refusal.number()))),
     }
-}
-
-/// The desk over a database of its own, in memory.
-pub fn new_desk(alloc: Global) -> Result<Desk<MemStore>, Fail> {
-    let connection = Connection::open_in_memory(alloc)?;
-    desk_over(alloc, connection)
 }
 
 /// The request that puts a student.

@@ -3,7 +3,7 @@
 //! They take any store but where a file is opened and closed: each function that holds the desk of a file by name is dear to prove.
 
 use crate::row_files::compare;
-use crate::texts::{is_told, numbered, range, written_out};
+use crate::texts::{matches_cell, numbered, range, written_out};
 use crate::unplayed::Unplayed;
 use desk::Desk;
 use plays::cells::first_cell;
@@ -27,7 +27,7 @@ fn is_answer(rt: &HostRuntime, written: &[u8], status: &str, body: &str) -> Resu
     let want = format!(in rt.alloc();
         "HTTP/1.1 {status}\r\nContent-Type: {kind}\r\nContent-Length: {len}"
     )?;
-    Ok(head == want.as_str() && is_told(rt.alloc(), told.as_bytes(), body)?)
+    Ok(head == want.as_str() && matches_cell(rt.alloc(), told.as_bytes(), body)?)
 }
 
 /// Whether a session is kept, where a row says so or says that none is.

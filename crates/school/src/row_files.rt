@@ -1,7 +1,7 @@
 //! Rows, one after another.
 
 use crate::over_files::{Over, do_on};
-use crate::texts::{is_told, summed, written_out};
+use crate::texts::{matches_cell, summed, written_out};
 use crate::unplayed::Unplayed;
 use cli::line;
 use plays::cells::{body_of, first_cell};
@@ -50,8 +50,8 @@ fn play_command(rt: &HostRuntime, words: &str, cells: &str) -> Result<u32, Unpla
     let (err, _shown) = first_cell(rest);
     let mut got = command(rt, words)?;
     let is_well = got.status == status.parse()?
-        && is_told(rt.alloc(), &got.out, out)?
-        && is_told(rt.alloc(), &got.err, err)?;
+        && matches_cell(rt.alloc(), &got.out, out)?
+        && matches_cell(rt.alloc(), &got.err, err)?;
     got.out.extend_from_slice(&got.err)?;
     compare(rt, words, is_well, &got.out)?;
     Ok(1)

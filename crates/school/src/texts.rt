@@ -96,7 +96,7 @@ pub(crate) fn summed(alloc: Global, bytes: &[u8]) -> Result<String, Unplayed> {
 }
 
 /// Whether this is what a cell stands for.
-pub(crate) fn is_told(alloc: Global, got: &[u8], cell: &str) -> Result<bool, Unplayed> {
+pub(crate) fn matches_cell(alloc: Global, got: &[u8], cell: &str) -> Result<bool, Unplayed> {
     if cell.starts_with("^#") {
         return Ok(summed(alloc, got)?.as_str() == cell);
     }

@@ -1,6 +1,6 @@
 //! Connections on loopback, served one after another.
 
-use cli::line;
+use crate::printed::prints;
 use desk::Desk;
 use plays::opened::desk_over;
 use rows::judged::holds;
@@ -49,8 +49,8 @@ fn answers(rt: &HostRuntime, clients: &mut [TcpStream]) -> Result<Vec<Vec<u8>>, 
     Ok(all)
 }
 
-/// Serves so many connections. What is told of them.
-fn told<S: Alter>(
+/// Serves so many connections. The lines that are printed of them.
+fn lines_of<S: Alter>(
     rt: &HostRuntime,
     desk: &mut Desk<S>,
     listener: &TcpListener,
@@ -73,7 +73,7 @@ pub(crate) fn answered<S: Alter>(
     let listener = TcpListener::bind(rt, (Ipv4Addr::LOCALHOST, 0))?;
     let port = listener.local_addr()?.port();
     let mut clients = clients(rt, port, texts)?;
-    let told = told(rt, desk, &listener, count)?;
+    let told = lines_of(rt, desk, &listener, count)?;
     let answers = answers(rt, &mut clients)?;
     Ok((told, answers))
 }
@@ -110,7 +110,7 @@ fn serve_left_open<S: Alter>(
 ) -> Result<(), Fail> {
     let bytes = message.repeat(rt.alloc(), times)?;
     let client = open_client(rt, listener.local_addr()?.port(), &bytes)?;
-    let told = told(rt, desk, listener, 1)?;
+    let told = lines_of(rt, desk, listener, 1)?;
     drop(client);
     holds(told.as_slice() == want, message)
 }
@@ -128,7 +128,7 @@ fn serve_open<S: Alter>(rt: &HostRuntime, desk: &mut Desk<S>) -> Result<(), Fail
 fn serve_nobody<S: Alter>(rt: &HostRuntime, desk: &mut Desk<S>) -> Result<(), Fail> {
     let listener = TcpListener::bind(rt, (Ipv4Addr::LOCALHOST, 0))?;
     listener.set_nonblocking(true)?;
-    let told = told(rt, desk, &listener, 1)?;
+    let told = lines_of(rt, desk, &listener, 1)?;
     let want = b"connection 1: read fault\n".as_slice();
     holds(told.as_slice() == want, "no client")
 }
@@ -176,14 +176,7 @@ fn a_connection_that_cannot_be_accepted_counts_as_one(rt: HostRuntime) -> Result
 /// Does the line that serves this database on a port, and compares what it prints on standard error.
 fn compare_refusal(rt: &HostRuntime, database: &str, port: u16, want: &str) -> Result<(), Fail> {
     let words = format!(in rt.alloc(); "spadesk serve {database} {port} 1")?;
-    let mut list = Vec::new(rt.alloc());
-    for word in words.split(' ') {
-        list.push(String::from_str(rt.alloc(), word)?)?;
-    }
-    let (mut out, mut err) = (Vec::new(rt.alloc()), Vec::new(rt.alloc()));
-    let status = line(rt, list, &mut out, &mut err);
-    let is_told = out.is_empty() && err.as_slice() == want.as_bytes();
-    holds(is_told && status == 1, database)
+    prints(rt, &words, (b"", want.as_bytes()), 1)
 }
 
 // A port that a listener has cannot be bound once more; a database that cannot be opened is told before.
