@@ -99,8 +99,9 @@ def ordinal(rank):
     return f"{rank}{({1: 'st', 2: 'nd', 3: 'rd'}).get(rank, 'th')}"
 
 
-PARTS = ("first_round", "term", "habits", "hostile", "refusals", "mistakes", "drawn", "greatest", "student", "roles", "keyboard", "phone", "supervisor")
-PAGES = ("office.html", "student.html", "supervisor.html")
+PARTS = ("first_round", "term", "habits", "hostile", "refusals", "mistakes", "drawn", "greatest")
+PARTS += ("student", "roles", "keyboard", "phone", "supervisor")
+PAGES = ("office.html", "student.html", "supervisor.html", "check.html")
 SERVICE, WEB, DRIVER = free_port(), free_port(), free_port()
 
 
@@ -469,7 +470,7 @@ class Trial(People):
     def certified(self, name, codes):
         """The page that only checks, from disk: of the proof, of forged ones and of files that are none, and each student's own line."""
         it, proof = self.it, open(name, encoding="ascii").read()
-        it.send("POST", "/url", {"url": f"file://{TOP}/page/check.html"})
+        it.send("POST", "/url", {"url": f"file://{self.folder}/page/check.html"})
         told = lambda: [line for line in it.text("#said").splitlines() if line][1]
         for words, content in [("", proof), *self.no_proofs(name)]:
             file = self.file("given.txt", content)
@@ -487,6 +488,7 @@ class Trial(People):
             self.check(f"the list of {code}", it.text("#mine"), f"Your list: {', '.join(choices)}. {has}")
         it.write("#code", "NOBODY")
         self.check("a code without a list", it.text("#mine"), "This code has no list in the round.")
+        self.fits("the page that checks")
 
     def first_round(self):
         it = self.it
@@ -1162,6 +1164,9 @@ class Trial(People):
             self.room(number)
             self.proof(number)
         self.shown()
+        for step in it.run("return steps"):
+            it.run("go(arguments[0])", step)
+            self.fits(f"the step {step}")
 
     def greatest(self):
         """A school at all limits: 500 students with lists of twelve, 400 projects, 100 supervisors."""

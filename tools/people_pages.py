@@ -93,7 +93,7 @@ class People:
             wide = self.it.run("return [innerWidth, document.scrollingElement.scrollWidth <= innerWidth]")
             self.check(f"{name}, {width} px wide", wide, [width, True])
             if width == 360:
-                small = """return [...document.querySelectorAll('button')].filter(it => it.checkVisibility()).map(it =>
+                small = """return [...document.querySelectorAll('button:not(th button)')].filter(it => it.checkVisibility()).map(it =>
                   [it.textContent, it.getBoundingClientRect()]).filter(([, it]) =>
                   it.height < 40 || it.left < 0 || it.right > innerWidth)"""
                 self.check(f"{name}, buttons for a thumb", self.it.run(small), [])
