@@ -28,6 +28,7 @@ import sys
 import tempfile
 import time
 
+from firefox import Firefox
 from nginx import started
 from office import TOP, copy, free_port, read, serving
 from people_pages import LEAVING, MUTANTS, People
@@ -39,6 +40,34 @@ FIRST, TERM = (
     [os.path.join(TOP, "examples", folder, f"{kind}.csv") for kind in ("lists", "students", "projects", "supervisors")]
     for folder in ("first-round", "term")
 )
+# Mistakes in the pages of the office and in the page that checks, as those of people_pages.py: the part that has the trial, the file, what
+# stands there, what a mutant has in its place, and the trial that must fail.
+OFFICE_MUTANTS = [
+    ("first_round", "office.html", 'kind === "best" && /^C,/m', 'kind === "best" && /^/m', "no proof: ''"),
+    ("first_round", "office.html", "file.slice(0, MOST_TEXT + 1)", "file.slice(0, 8)", "by the page, opened again"),
+    ("refusals", "office.html", "const isSame = listsOf", "const isSame = true || listsOf", "a list in the midst of closing"),
+    ("first_round", "check.html", 'kind === "best" && !rowOf("C")', 'kind === "never" && !rowOf("C")', "by check.html: ''"),
+    ("first_round", "check.html", "list?.indexOf(place) + 1}", "list?.indexOf(place)}", "the list of S01"),
+    ("first_round", "check.html", '"page_check", bytes', '"page_solve", bytes', "by check.html: ''"),
+    ("first_round", "office.html", "`Open round ${rounds.length + 1}`))) return;", "`Open round ${rounds.length + 1}`))) ;", "not opened"),
+    ("drawn", "office.html", "`Round ${before.round} can then not", "`Round ${before.round} may then not", "what becomes final is said"),
+    ("drawn", "office.html", "rows = foundRows();\n  const part", "rows = shown.rows;\n  const part", "saved as filtered"),
+    ("term", "office.html", 'byId("list").elements.list.value = choices.join(" ");', "", "what it was"),
+    ("habits", "office.html", "=> quota || !hit.length", "=> quota !== 0 || quota === 0", "whose lists a withdrawal hits"),
+    ("habits", "office.html", 'kind === "projects" && key', 'kind === "students" && key', "and in a sheet"),
+    ("habits", "office.html", "code => !standing(kind, code)", "code => standing(kind, code)", "what hangs on a row that is left out"),
+    ("habits", "office.html", "cell.trim().toUpperCase();", "cell.toUpperCase();", "what is clear is shown"),
+    ("habits", "office.html", ' && (sheet.kind !== "lists" || openOne())', "", "lists wait for a round"),
+    ("habits", "office.html", "bytes[0] === 0x50", "bytes[0] === 0x51", "a workbook"),
+    ("habits", "office.html", "planned.set(sheet.head.join()", "planned.set(sheet.name", "a first row that was asked about"),
+    ("drawn", "office.html", "const FEW = 20;", "const FEW = 200;", "folded"),
+    ("drawn", "office.html", "Math.sign(order) * compare", "compare", "and back"),
+    ("drawn", "office.html", '"A,generous\\n" : "") + text', '"" : "") + text', "by the aim 2"),
+    ("drawn", "office.html", "[...row, rounds[at].round]", "[...row, rounds.length]", "all rounds"),
+    ("drawn", "office.html", "rows.filter(row => row[at] === name)", "rows", "a page each"),
+    ("drawn", "office.html", ".wide { overflow-x: auto; }", "", "the step publish, 360 px wide"),
+    ("first_round", "office.html", '[button("retry", "Try again", work)]', "[]", "and up again"),
+]
 # The rows of the guide that speak of a terminal, for which the page has words of its own.
 OWN_WORDS = {2, 3, 4, 5, 6, 7, 8, 9, 12, 27, 28, 29, 30}
 
@@ -101,6 +130,7 @@ def ordinal(rank):
 
 PARTS = ("first_round", "term", "habits", "hostile", "refusals", "mistakes", "drawn", "greatest")
 PARTS += ("student", "roles", "keyboard", "phone", "supervisor")
+IN_FIREFOX = ("first_round", "habits", "drawn", "student")
 PAGES = ("office.html", "student.html", "supervisor.html", "check.html")
 SERVICE, WEB, DRIVER = free_port(), free_port(), free_port()
 
@@ -143,7 +173,10 @@ def asked(method, path, user=KEEPER, body=None, **fields):
 class Browser:
     """A browser without a window, by the words of WebDriver."""
 
-    def __init__(self, folder):
+    def __init__(self, folder, is_firefox=False):
+        self.firefox = Firefox(folder) if is_firefox else None
+        if is_firefox:
+            return
         words = [
             "--headless=new",
             "--no-sandbox",
@@ -160,12 +193,20 @@ class Browser:
         self.path += "/" + self.send("POST", "", {"capabilities": {"alwaysMatch": wanted}})["sessionId"]
 
     def send(self, method, path, body=None):
+        if self.firefox:
+            return self.firefox.send(path, body)
         connection = http.client.HTTPConnection("127.0.0.1", DRIVER, timeout=180)
         connection.request(method, self.path + path, json.dumps(body) if method == "POST" else None, {"Content-Type": "application/json"})
         value = json.loads(connection.getresponse().read())["value"]
         if isinstance(value, dict) and "error" in value:
             raise SystemExit(f"page.py: {path}: {value['message'][:300]}")
         return value
+
+    def end(self):
+        if self.firefox:
+            self.firefox.end()
+        else:
+            self.send("DELETE", "")  # without it the browser stays
 
     def run(self, script, *words):
         return self.send("POST", "/execute/sync", {"script": script, "args": list(words)})
@@ -187,7 +228,7 @@ class Browser:
 
     def reveal(self, css):
         """Goes to the step of the page that has an element."""
-        self.run("const it = document.querySelector(arguments[0])?.closest('main > section[hidden]'); if (it) go(it.id)", css)
+        self.run("const it = document.querySelector(arguments[0])?.closest('main > section[hidden]'); if (it && window.go) go(it.id)", css)
 
     def found(self, css):
         self.reveal(css)
@@ -748,8 +789,8 @@ class Trial(People):
         self.check("and back", [row[5] for row in it.table()], sorted((row[5] for row in rows), key=int, reverse=True))
         it.run("window.print = () => { window.pages = [...document.querySelectorAll('#table .page')].map(it => it.innerText) }")
         it.press("#each")
-        pages, names = it.run("return window.pages.map(it => [it.split(':')[0], it.split('\\n').length])"), [row[4] for row in rows]
-        self.check("a page each", [name for name, _ in pages], sorted(set(names)))
+        pages, names = it.run("return window.pages.map(it => [it.split(':')[0], it.split('\\n').length - 2])"), [row[4] for row in rows]
+        self.check("a page each", pages, [[name, names.count(name)] for name in sorted(set(names))])
         self.check("and the report again", len(it.table()), len(rows))
         it.write("#filter", rows[0][0])
         it.press("#save")
@@ -1164,7 +1205,7 @@ class Trial(People):
             self.room(number)
             self.proof(number)
         self.shown()
-        for step in it.run("return steps"):
+        for step in it.run("return [...document.querySelectorAll('main > section')].map(it => it.id)"):
             it.run("go(arguments[0])", step)
             self.fits(f"the step {step}")
 
@@ -1206,6 +1247,8 @@ class Trial(People):
 
     def named(self):
         """What a reader of the screen is told: each field and button has a name."""
+        if self.it.firefox:
+            return
         nodes = self.it.chrome("Accessibility.getFullAXTree")["nodes"]
         roles = ("button", "textbox", "searchbox", "combobox", "radio", "link", "spinbutton", "img", "image")
         without = [
@@ -1215,8 +1258,8 @@ class Trial(People):
         ]
         self.check("without a name for a reader", without, [])
 
-    def all(self, parts):
-        self.it = Browser(self.folder)
+    def all(self, parts, is_firefox=False):
+        self.it = Browser(self.folder, is_firefox)
         try:
             self.it.go()
             for part in parts:
@@ -1224,10 +1267,11 @@ class Trial(People):
                 self.anew(f"{part}.db")
                 getattr(self, part)()
                 self.named()
-                blocked = [it for it in self.it.errors() if part != "hostile" or "Content Security Policy" not in it]
-                self.check("errors in the console", blocked, [])
+                if not is_firefox:
+                    blocked = [it for it in self.it.errors() if part != "hostile" or "Content Security Policy" not in it]
+                    self.check("errors in the console", blocked, [])
         finally:
-            self.it.send("DELETE", "")  # without it the browser stays
+            self.it.end()
 
 
 def main(*words):
@@ -1273,9 +1317,12 @@ def main(*words):
             running.append(started(DRIVER, "chromedriver", f"--port={DRIVER}", stdout=subprocess.DEVNULL))
             web()
             if "--mutants" in words:
-                trial.mutants(sealed, web)
+                trial.mutants(sealed, web, OFFICE_MUTANTS + MUTANTS)
             else:
-                trial.all(words[words.index("--only") + 1].split(",") if "--only" in words else PARTS)
+                if "--in-firefox" not in words:
+                    trial.all(words[words.index("--only") + 1].split(",") if "--only" in words else PARTS)
+                if "--only" not in words and shutil.which("firefox-esr"):
+                    trial.all(IN_FIREFOX, is_firefox=True)
         finally:
             trial.stop()
             while running:
