@@ -31,7 +31,7 @@ import time
 from firefox import Firefox
 from nginx import started
 from office import TOP, copy, free_port, read, serving
-from people_pages import LEAVING, MUTANTS, People
+from people_pages import LEAVING, People
 from sheets import guided
 
 ELEMENT = "element-6066-11e4-a52e-4f735466cecf"
@@ -128,8 +128,8 @@ def ordinal(rank):
     return f"{rank}{({1: 'st', 2: 'nd', 3: 'rd'}).get(rank, 'th')}"
 
 
-PARTS = ("first_round", "term", "habits", "hostile", "refusals", "mistakes", "drawn", "greatest")
-PARTS += ("student", "roles", "keyboard", "phone", "supervisor")
+OFFICE = ("first_round", "term", "habits", "hostile", "refusals", "mistakes", "drawn", "greatest")
+PARTS = (*OFFICE, "student", "roles", "keyboard", "phone", "supervisor")
 IN_FIREFOX = ("first_round", "habits", "drawn", "student")
 PAGES = ("office.html", "student.html", "supervisor.html", "check.html")
 SERVICE, WEB, DRIVER = free_port(), free_port(), free_port()

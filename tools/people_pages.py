@@ -24,6 +24,8 @@ TITLES = {"CIPHER": "Breaking an old cipher", "NOTES": "Notes on the engine", "B
 LEAVING = "const it = new Event('beforeunload', { cancelable: true }); dispatchEvent(it); return it.defaultPrevented"
 # What has the focus: its name for a reader, and nothing where it is the whole page.
 FOCUS = "const it = document.activeElement; return it === document.body ? null : it.getAttribute('aria-label') ?? it.textContent"
+SEEN = """const it = document.activeElement, { x, y, width, height } = it.getBoundingClientRect();
+return [getComputedStyle(it).outline, it.contains(document.elementFromPoint(x + width / 2, y + height / 2))]"""
 CARDS = """return [...document.querySelectorAll('#projects > li:not([hidden])')].map(it =>
   [...it.querySelectorAll('.what > :not(a)'), it.querySelector('button')].map(part => part.textContent))"""
 CHOICES = "return [...document.querySelectorAll('#list .what')].map(it => [...it.children].map(part => part.textContent))"
@@ -61,17 +63,22 @@ class People:
         self.it.send("POST", "/actions", {"actions": [{"type": "key", "id": "keys", "actions": actions}]})
 
     def tabbed(self, name, back=False):
-        """Goes to what has this name by the keyboard alone; what it passes must show its focus."""
+        """Goes to what has this name by the keyboard alone; it must show its focus, and nothing may cover it."""
         for _ in range(120):
             self.keyed("Shift-Tab" if back else "Tab")
             if self.it.run(FOCUS) == name:
-                seen = self.it.run("return getComputedStyle(document.activeElement).outline")
-                return self.check(f"the focus of {name} is seen", "solid 3px" in seen)
+                seen = self.it.run(SEEN)
+                return self.check(f"the focus of {name} is seen", ("solid 3px" in seen[0], seen[1]), (True, True))
         return self.check(f"{name} by the keyboard", self.it.run(FOCUS), name)
+
+    def rested(self):
+        """Waits until nothing is under way, also where what was pressed has closed a question: the page hears of that a task later."""
+        self.it.run("return new Promise(done => setTimeout(done, 50))")
+        self.it.rest()
 
     def acted(self, name, told, focus):
         """After an act: what is told of it, and where the focus is."""
-        self.it.rest()
+        self.rested()
         self.check(name, (self.it.text("#told"), self.it.run(FOCUS)), (told, focus))
 
     def requests(self):
@@ -92,7 +99,7 @@ class People:
             return
         for width in (360, 640, 1280):
             self.window(width)
-            wide = self.it.run("return [innerWidth, document.scrollingElement.scrollWidth <= innerWidth]")
+            wide = self.it.run("const it = document.scrollingElement; return [innerWidth, it.scrollWidth <= it.clientWidth]")
             self.check(f"{name}, {width} px wide", wide, [width, True])
             if width == 360:
                 small = """return [...document.querySelectorAll('button:not(th button)')].filter(it => it.checkVisibility()).map(it =>
@@ -176,15 +183,18 @@ class People:
         it.run("window.fetch = () => Promise.resolve(new Response('', { status: 504 }))")
         it.press("#drop")
         it.press("#sure .main")
+        self.rested()
         self.check("no answer in time", it.text("#told").startswith("No answer in time: it may still be done."))
         it.go("/student/", STUDENT)
         self.check("handed in again", self.listed(), ["BUGS", "NOTES"])
         self.named()
         it.press("#drop")
         it.press("#sure button:not(.main)")
+        self.rested()
         self.check("not withdrawn", (it.text("#told"), self.listed()), ("Your list stays handed in.", ["BUGS", "NOTES"]))
         it.press("#drop")
         it.press("#sure .main")
+        self.rested()
         words = "Your list is withdrawn. Your choices stay here: you can hand them in again."
         self.check("withdrawn", (it.text("#told"), self.listed()), (words, None))
         self.check("the choices stay", it.run(CHOICES), [[TITLES["BUGS"]], [TITLES["NOTES"]]])
@@ -486,7 +496,8 @@ class People:
             path.write_text(text, encoding="utf-8")
             failed, self.came = [name for name, told, must in self.came if told != must], came
             seen = "seen" if wanted in failed else (failed, ended)
-            self.check(f"a mutant of {name} with {new.strip()[:60]!r}, by {wanted!r}", seen, "seen")
+            words = f"{new.strip()[:60]!r} for {old.strip()[:40]!r}"
+            self.check(f"a mutant of {name}, {words}, by {wanted!r}", seen, "seen")
 
 
 # The part that has the trial, the file, what stands there, what a mutant has in its place, and the trial that must fail.
