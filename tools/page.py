@@ -14,6 +14,7 @@ no certificate, and so no `ssl`; the ports; the folders.
 import base64
 import contextlib
 import csv
+import fnmatch
 import hashlib
 import http.client
 import io
@@ -305,6 +306,8 @@ class Trial(People):
 
     def anew(self, database):
         self.stop()
+        for name in fnmatch.filter(os.listdir(self.folder), f"{database}*"):
+            os.remove(f"{self.folder}/{name}")
         self.serve(database)
         shutil.rmtree(f"{self.folder}/cache", ignore_errors=True)
         self.it.go()
@@ -532,7 +535,7 @@ class Trial(People):
         self.fits("the page that checks")
 
     def first_round(self):
-        it = self.it
+        it, start = self.it, self.sent()
         self.check("at first", it.text("#state"), "There has been no round yet.")
         self.check("the aims", all(f"{aim}: {words}" in it.text("#opening") for aim, words in AIMS.items()))
         it.choose(*FIRST)
@@ -621,8 +624,7 @@ class Trial(People):
         self.serve("first_round.db")
         it.press("#retry")
         self.check("and up again", it.text("#state"), "Round 1 is open, greedy, with 20 lists.")
-        with open(f"{self.folder}/asked") as file:
-            self.check("imports sent, one of them pressed twice", file.read().count('"POST /imports/'), 4)
+        self.check("imports sent, one of them pressed twice", self.sent() - start, 4)
 
     def term(self):
         it, folder = self.it, os.path.dirname(TERM[0])

@@ -485,8 +485,6 @@ class People:
             web()
             self.stop()
             self.serve("start.db")
-            for database in pathlib.Path(self.folder).glob(f"{part}.db*"):
-                database.unlink()
             ended = None
             with contextlib.redirect_stdout(io.StringIO()):
                 try:
