@@ -32,7 +32,7 @@ import time
 from firefox import Firefox
 from nginx import started
 from office import TOP, copy, free_port, read, serving
-from people_pages import LEAVING, People
+from people_pages import LEAVING, MUTANTS, People
 from sheets import guided
 
 ELEMENT = "element-6066-11e4-a52e-4f735466cecf"
