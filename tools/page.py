@@ -419,7 +419,8 @@ class Trial(People):
         choices = "".join(f", {count} with the {ordinal(at)} choice" for at, count in enumerate(ranks, 1) if count)
         words = f"Round {number} is closed. It placed {all}{choices}. Now save its proof."
         self.check("told", it.text("#told").splitlines()[0], words)
-        best = f"no placing has more students than {placed}, and none of {placed} has a better profile than {' '.join(map(str, ranks))}."
+        best = f"no placing has more students than {placed}, and none of {placed} has a better profile than {' '.join(map(str, ranks))} "
+        best += "(how many have their first choice, their second, and so on)."
         words = f"Round {number}: checked here. It is the best: {best}"
         self.check("proved", it.run("return [...document.querySelectorAll('#proofs .proved')].pop().textContent"), words)
         self.check("the proof is to be saved", it.run(LEAVING), True)
@@ -654,7 +655,6 @@ class Trial(People):
             "a late student, with a list that is taken away", asked("GET", "/students/S12")[1], '{"list":null,"name":"Zoë","placed":null}'
         )
         it.choose(self.file("students.csv", read("examples", "term", "students.csv") + "S12,Zoë\n"))
-        it.press("#send")
         it.pick("#kind", "missing")
         self.check("who has no list", it.table(), [["S12", "Zoë"]])
         it.press("#close-round")
@@ -744,6 +744,7 @@ class Trial(People):
         self.check("and is mended", found, [1, {"name": "Bridges", "placed": 0, "quota": 2, "supervisor": "L"}, "Cy"])
         it.choose(self.file("own.csv", "K\u00fcrzel,Titel\n"), projects)
         self.check("it is not asked again", it.run("return document.querySelectorAll('.asked').length"), 1)
+        self.check("nothing new", ("All of it is there already" in it.text("#chosen"), it.text("#send")), (True, None))
         lists = self.file("lists.csv", "student,choice 1,choice 2,comment\nS1,P1,P2,none\nS2,P2,,late\nS3,\"p2; p1\",,\n")
         it.choose(lists)
         self.check("lists wait for a round", ("This file waits: " in it.text("#chosen"), it.text("#send")), (True, None))
