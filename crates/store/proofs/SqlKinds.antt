@@ -137,3 +137,12 @@ three (x ∷ []) a b c low high p q r = absurd (omega (arith, low))
 three (x ∷ y ∷ []) a b c low high p q r = absurd (omega (arith, low))
 three (x ∷ y ∷ z ∷ []) a b c low high p q r = λ i. value_of (sym p i) ∷ value_of (sym q i) ∷ value_of (sym r i) ∷ []
 three (x ∷ y ∷ z ∷ w ∷ more) a b c low high p q r = absurd (omega (arith, high))
+
+pub four : (cells : Cells) (a b c d : Cell) → 4 ≤ length cells → length cells < 5 → a ≡ get_or cells 0 a → b ≡ get_or cells 1 b → c ≡ get_or cells 2 c → d ≡ get_or cells 3 d
+    → values cells ≡ value_of a ∷ value_of b ∷ value_of c ∷ value_of d ∷ []
+four [] a b c d low high p q r s = absurd (omega (arith, low))
+four (x ∷ []) a b c d low high p q r s = absurd (omega (arith, low))
+four (x ∷ y ∷ []) a b c d low high p q r s = absurd (omega (arith, low))
+four (x ∷ y ∷ z ∷ []) a b c d low high p q r s = absurd (omega (arith, low))
+four (x ∷ y ∷ z ∷ w ∷ []) a b c d low high p q r s = λ i. value_of (sym p i) ∷ value_of (sym q i) ∷ value_of (sym r i) ∷ value_of (sym s i) ∷ []
+four (x ∷ y ∷ z ∷ w ∷ v ∷ more) a b c d low high p q r s = absurd (omega (arith, high))

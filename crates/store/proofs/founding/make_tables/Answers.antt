@@ -1,4 +1,4 @@
-use Rattle.std.proofs.Common.{◌∙◌, arith, refl}
+use Rattle.std.proofs.Common.{◌∙◌, arith, refl, rules}
 use Rattle.sqlite.specs.State.{HasCleanDisk}
 use Rattle.sqlite.specs.Held.{state}
 use Rattle.tables.proofs.Starved.{lacks, lacks_after}
@@ -14,3 +14,18 @@ returns-clause-starved g c clean inside h =
     let early : HasCleanDisk (state g.S.Store c.make_each.new.tx.conn.now) = omega (arith, c.enter.ensures.step.survives.clean) in
     let made = c.in_ok-make_each.ensures.step.did early in
     lacks_after _ _ _ made.committed (lacks _ _ _ _ (rw h at (c.enter.ensures.told clean (made.mode ∙ inside))))
+
+pub returns-in_err-make_each-clause-step : goal.returns-in_err-make_each-clause-step
+returns-in_err-make_each-clause-step g c = search rules
+
+pub returns-in_err-make_each-clause-starved : goal.returns-in_err-make_each-clause-starved
+returns-in_err-make_each-clause-starved g c = search rules
+
+pub returns-in_err-make_each-clause-cause : goal.returns-in_err-make_each-clause-cause
+returns-in_err-make_each-clause-cause g c = search rules
+
+pub returns-clause-same_reference : goal.returns-clause-same_reference
+returns-clause-same_reference g c = search rules
+
+pub returns-clause-cause : goal.returns-clause-cause
+returns-clause-cause g c = search rules

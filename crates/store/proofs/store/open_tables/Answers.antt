@@ -25,3 +25,9 @@ open_earlier-requires g c =
       edition = edition_there c.edition_of-edition.result _ _ _ c.schema.ensures.value c.schema-2.ensures.value (c.has_none.ensures.wrong c.if-has_none.false) c.edition_of-edition.ensures.alone c.edition_of-edition.ensures.later;
       earlier = earlier_of c.edition_of-edition.result other;
     }
+
+pub returns-clause-unopened : goal.returns-clause-unopened
+returns-clause-unopened g c = c.open_earlier.ensures.unopened
+
+pub returns-clause-opened : goal.returns-clause-opened
+returns-clause-opened g c = c.open_earlier.ensures.opened

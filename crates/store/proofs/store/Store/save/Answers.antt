@@ -1,8 +1,11 @@
-use Rattle.std.proofs.Common.{OnOk, rules, subst}
+use Rattle.std.proofs.Common.{◌≡◌, false, OnErr, OnOk, rules, subst}
 use Rattle.sqlite.proofs.StateLemmas.{survives_weaker}
 use Rattle.sqlite.specs.State.{HasCleanDisk, Survives}
 use Rattle.sqlite.specs.Held.{state}
-use Rattle.tables.specs.Steps.{IsLeft}
+use Rattle.tables.specs.Causes.{IsCaused}
+use Rattle.tables.specs.Steps.{IsKept, IsLeft}
+use Rattle.store.specs.declared.fault.StoreFault.TheVariants.{Storage}
+use Rattle.store.specs.Causes.{IsHinderedToSave}
 use Rattle.store.specs.Saving.{AreInert, IsSaving, Saves}
 use Rattle.store.proofs.ChangesInTurn.{saving_call, saves_left}
 use Rattle.store.proofs.store.Store.save.Goals as goal
@@ -21,3 +24,23 @@ returns-clause-crash g c =
 
 pub returns-then-not-are_left-clause-cause : goal.returns-then-not-are_left-clause-cause
 returns-then-not-are_left-clause-cause g c = search rules
+
+pub returns-clause-err : goal.returns-clause-err
+returns-clause-err g c =
+    subst (λ k. HasCleanDisk (state g.S.Store c.save_all.new.conn) → OnErr c.save_all.result (IsKept (state g.S.Store k) (state g.S.Store c.save_all.new.conn))) c.self.view_is c.save_all.ensures.err
+
+pub returns-clause-cause : goal.returns-clause-cause
+returns-clause-cause g c settled quiet =
+    subst (λ k. k.in_transaction ≡ false → IsCaused Storage (IsHinderedToSave c.args.changes.now) c.save_all.result (state g.S.Store k) (state g.S.Store c.save_all.new.conn)) c.self.view_is c.save_all.ensures.cause settled
+
+pub returns-clause-faults : goal.returns-clause-faults
+returns-clause-faults g c = search rules
+
+pub returns-clause-acted_on : goal.returns-clause-acted_on
+returns-clause-acted_on g c = search rules
+
+pub returns-clause-ended : goal.returns-clause-ended
+returns-clause-ended g c = search rules
+
+pub returns-clause-begun : goal.returns-clause-begun
+returns-clause-begun g c = search rules
