@@ -1,4 +1,4 @@
-use Rattle.std.proofs.Common.{◌≡◌, inl, inr, Result, None, ap, subst, ◌∙◌, rules}
+use Rattle.std.proofs.Common.{◌≡◌, inl, inr, Result, Err, None, refl, ap, subst, ◌∙◌, rules}
 use Rattle.rolls.specs.State.{State}
 use Rattle.rolls.specs.Rows.{Turns}
 use Rattle.rolls.specs.Run.{Makes, refusal}
@@ -13,6 +13,7 @@ use Rattle.rolls.specs.declared.request.Done.{Done}
 use Rattle.rolls.specs.declared.refusal.Refusal.TheVariants.{Storage}
 use Rattle.desk.specs.Keeping.{CarriesOut}
 use Rattle.desk.specs.Causes.{IsHinderedToAsk}
+use Rattle.desk.proofs.Asked.{idle_saved}
 use Rattle.desk.proofs.SavedRows.{call_carried}
 use Rattle.desk.proofs.books.Books.change.Goals as goal
 
@@ -61,8 +62,16 @@ pub returns-clause-refused : goal.returns-clause-refused
 returns-clause-refused g c told =
     subst (λ (o : State). refusal layers o c.args.request ≡ None) (c.in_ok-next.ensures.same ∙ ap (λ k. k.office) c.self.view_is) c.in-Ok.ensures.made.0
 
+-- what refused the making is no fault of the storage
 pub returns-in-Err-clause-refused : goal.returns-in-Err-clause-refused
-returns-in-Err-clause-refused g c = search rules
+returns-in-Err-clause-refused g c told =
+    let is : c.in-Err.refusal ≡ Storage = cc in
+    absurd (c.make_change.ensures.unstored (c.in-Err.is ∙ ap Err is))
 
 pub returns-in-Err-clause-saved : goal.returns-in-Err-clause-saved
-returns-in-Err-clause-saved g c = search rules
+returns-in-Err-clause-saved g c =
+    idle_saved c.args.self.now.office c.args.request (Err c.in-Err.refusal) (state g.S.Store c.args.self.now.store) _ refl (λ _. refl)
+    (λ told. let is : c.in-Err.refusal ≡ Storage = cc in c.make_change.ensures.unstored (c.in-Err.is ∙ ap Err is))
+
+pub returns-in_err-next-clause-saved : goal.returns-in_err-next-clause-saved
+returns-in_err-next-clause-saved g c = idle_saved c.args.self.now.office c.args.request _ (state g.S.Store c.args.self.now.store) _ refl (λ _. search rules) (search rules)

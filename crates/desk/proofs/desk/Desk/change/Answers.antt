@@ -1,4 +1,5 @@
-use Rattle.std.proofs.Common.{◌≡◌, Option, sym, ap, subst, ◌∙◌}
+use Rattle.std.proofs.Common.{◌≡◌, Option, refl, sym, ap, subst, ◌∙◌, rules}
+use Rattle.sqlite.specs.Held.{state}
 use Rattle.rolls.specs.State.{State}
 use Rattle.rolls.specs.Run.{Makes}
 use Rattle.solver.specs.SessionState.{SessionState}
@@ -6,6 +7,7 @@ use Rattle.outside.specs.Layers.{layers}
 use Rattle.rolls.specs.declared.fate.Fate.{Fate}
 use Rattle.desk.specs.Sessions.{fate_of}
 use Rattle.desk.specs.Inside.Sessions.{MayMeet}
+use Rattle.desk.proofs.Asked.{idle_saved}
 use Rattle.desk.proofs.SessionAfter.{meets}
 use Rattle.desk.proofs.desk.Desk.change.Goals as goal
 
@@ -27,3 +29,6 @@ next_session-requires g c =
           (sym (c.take-kept.ensures.value ∙ ap (λ d. d.session) c.self-inside-2.view_is ∙ ap (λ k. k.session) c.self.view_is))
           (meets o n q c.in_ok-reply.reply c.args.self.now.session c.keeps.ensures.fit c.requires.allowed c.requires.change made c.keeps.ensures.sits);
     }
+
+pub returns-in_err-fate-clause-saved : goal.returns-in_err-fate-clause-saved
+returns-in_err-fate-clause-saved g c = idle_saved c.args.self.now.office c.args.request _ (state g.S.Store c.args.self.now.store) _ refl (λ _. search rules) (search rules)

@@ -1,4 +1,5 @@
-use Rattle.std.proofs.Common.{rules, ◌≡◌, ℕ, ◌+◌, ◌≤◌, List, [], ◌∷◌, length, arith, refl, ap}
+use Rattle.std.proofs.Common.{rules, ◌≡◌, ℕ, ◌+◌, ◌≤◌, List, [], ◌∷◌, length, vec_len, arith, refl, ap}
+use Rattle.std.specs.Vec.{vec_capacity}
 use Rattle.sqlite.specs.Held.{state}
 use Rattle.rolls.specs.declared.request.Request.{Request}
 use Rattle.desk.proofs.Runs.{run_all, run_on_all, one_more, one_more_on, crash_more, still_shut}
@@ -42,5 +43,5 @@ loop-request-preserved g c =
       crash = crash_more c.args.self.now.office c.loop-request.self.office c.ask-answer.new.self.office c.args.requests.items c.loop-request.request-iterator.rest.items c.next.new.self.rest.items c.in-Some.request c.ask-answer.result
           c.loop-request.answers.items c.push.new.self.items next added l.rest (state g.S.Store c.args.self.now.store) (state g.S.Store c.loop-request.self.store) (state g.S.Store c.ask-answer.new.self.store) l.shut l.crash c.ask-answer.ensures.saved.crash;
       shut = still_shut (state g.S.Store c.args.self.now.store) (state g.S.Store c.loop-request.self.store) (state g.S.Store c.ask-answer.new.self.store) _ c.ask-answer.ensures.saved.crash l.shut c.ask-answer.ensures.saved.stays_shut;
-      room = room_left _ _ _ _ c.loop-request.request-iterator.rest.items c.next.new.self.rest.items c.in-Some.request next c.in_ok-push.ensures.len c.in_ok-push.ensures.capacity l.room;
+      room = room_left (vec_len c.loop-request.answers) (vec_len c.push.new.self) (vec_capacity c.loop-request.answers) (vec_capacity c.push.new.self) c.loop-request.request-iterator.rest.items c.next.new.self.rest.items c.in-Some.request next c.in_ok-push.ensures.len c.in_ok-push.ensures.capacity l.room;
     }
