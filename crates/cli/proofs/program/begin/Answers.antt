@@ -19,3 +19,9 @@ returns-in-Ok-clause-stream g c = rw c.in-Ok.is (λ few. record { stream = first
 
 pub returns-clause-unread : goal.returns-clause-unread
 returns-clause-unread g c = search rules
+
+pub returns-in-Ok-clause-line : goal.returns-in-Ok-clause-line
+returns-in-Ok-clause-line g c = search rules depth 3
+
+pub returns-then-len-gt1-clause-stream : goal.returns-then-len-gt1-clause-stream
+returns-then-len-gt1-clause-stream g c = search rules

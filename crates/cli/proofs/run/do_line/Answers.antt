@@ -8,4 +8,4 @@ returns-in-Import g c =
     (c.import_file.result, subst (λ (t : List ℕ). IsImportOfFile t c.in-Import.kind c.import_file.result) c.deref-in-Import-2.ensures c.import_file.ensures, c.ask_made.ensures)
 
 pub returns-in-OpenRound : goal.returns-in-OpenRound
-returns-in-OpenRound g c = search rules
+returns-in-OpenRound g c = search rules depth 3

@@ -1,16 +1,17 @@
-use Rattle.std.proofs.Common.{◌⊎◌, ◌∙◌, ap, arith, inl, inr, sym, Result, Ok, Err, MatchResult}
+use Rattle.std.proofs.Common.{◌≡◌, ◌⊎◌, ◌∙◌, ap, arith, inl, inr, rules, sym, Result, Ok, Err, MatchResult}
 use Rattle.web.proofs.OneMessage.{gets_at}
 use Rattle.cli.specs.declared.tasks.Task.TheVariants as task
 use Rattle.cli.specs.Databases.{ComesFrom}
-use Rattle.cli.specs.Outcomes.{of_answer}
+use Rattle.cli.specs.Outcomes.{of_answer, printed_reply, prints}
 use Rattle.cli.proofs.Writers.{tells_more}
 use Rattle.cli.proofs.tasks.do_at.Goals as goal
 
+-- that it is what was told is searched for, so that a body that tells something else is refused at it
 pub returns-in-Ok-clause-told : goal.returns-in-Ok-clause-told
 returns-in-Ok-clause-told g c =
     let asked = c.in-Ask.asked in
     let gets = gets_at g.S.Store c.args.desk.now c.ask.new.self asked c.ask.result c.ask.ensures.step c.ask.ensures.told c.ask.ensures.at_once c.ask.ensures.session c.ask.ensures.saved.cause in
-    rw c.in-Ask.is (tells_more _ (ComesFrom g.S.Store (task.Ask asked) c.args.desk.now c.ask.new.self) (λ o is. (c.ask.result, gets, is ∙ ap of_answer (sym c.in-Ok.is))) _ _ _ c.print_reply.ensures)
+    rw c.in-Ask.is (tells_more (λ o. o ≡ prints (printed_reply c.in-Ok.reply)) (ComesFrom g.S.Store (task.Ask asked) c.args.desk.now c.ask.new.self) (λ o is. (c.ask.result, gets, is ∙ ap of_answer (sym c.in-Ok.is))) _ _ _ (search rules depth 2))
 
 pub returns-in-Err-clause-told : goal.returns-in-Err-clause-told
 returns-in-Err-clause-told g c =
