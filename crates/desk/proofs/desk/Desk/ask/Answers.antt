@@ -1,10 +1,13 @@
-use Rattle.std.proofs.Common.{◌≡◌, Err, Some, refl, sym, ap, ◌∙◌}
+use Rattle.std.proofs.Common.{◌≡◌, Err, Some, refl, sym, ap, ◌∙◌, rules}
 use Rattle.sqlite.specs.Held.{state}
 use Rattle.rolls.specs.Refusing.{refusal_of}
 use Rattle.desk.proofs.Asked.{idle_saved, named_right, named_unstored}
 use Rattle.desk.proofs.desk.Desk.ask.Given as given
 use Rattle.desk.proofs.desk.Desk.ask.Goals as goal
 use Rattle.desk.proofs.desk.Desk.ask.Goals.{Joined-request}
+
+pub returns-in-Some-clause-session : goal.returns-in-Some-clause-session
+returns-in-Some-clause-session g c = search rules depth 3
 
 -- the refusal that was found is the one that is due
 found : (g : given.Over) (c : Joined-request g) → refusal_of c.args.self.now.office c.args.request ≡ Some c.in-Some.refusal
