@@ -67,7 +67,7 @@ OFFICE_MUTANTS = [
     ("drawn", "office.html", "[...row, rounds[at].round]", "[...row, rounds.length]", "all rounds"),
     ("drawn", "office.html", "rows.filter(row => row[at] === name)", "rows", "a page each"),
     ("drawn", "office.html", ".wide { overflow-x: auto; }", "", "the step publish, 360 px wide"),
-    ("first_round", "office.html", '[button("retry", "Try again", work)]', "[]", "and up again"),
+    ("first_round", "office.html", '"Try again", work)', '"Try again", () => {})', "and up again"),
 ]
 # The rows of the guide that speak of a terminal, for which the page has words of its own.
 OWN_WORDS = {2, 3, 4, 5, 6, 7, 8, 9, 12, 27, 28, 29, 30}
@@ -572,6 +572,7 @@ class Trial(People):
         self.check("the question", it.text("#sure p"), f"Close round 1? It would place {places}. {words}")
         it.press("#sure button.main")
         self.closed(1, "greedy")
+        it.reveal("#table")
         self.shot("office", height=1180, scale=0.75)
         it.press("#drawing summary")
         self.shot("closed")
