@@ -61,6 +61,9 @@ OFFICE_MUTANTS = [
     ("habits", "office.html", ' && (sheet.kind !== "lists" || openOne())', "", "lists wait for a round"),
     ("habits", "office.html", "bytes[0] === 0x50", "bytes[0] === 0x51", "a workbook"),
     ("habits", "office.html", "planned.set(sheet.head.join()", "planned.set(sheet.name", "a first row that was asked about"),
+    ("habits", "office.html", "&& isDoubtful(place)", "&& false", "a quota under another word is asked after"),
+    ("refusals", "office.html", '[el("b", {}, what), then]', "[then]", "refusal 28 "),
+    ("mistakes", "office.html", "`Row ${row?.number ?? fault.record + 1} of", "`Row ${fault.record} of", "long.csv, the first row alone"),
     ("drawn", "office.html", "const FEW = 20;", "const FEW = 200;", "folded"),
     ("drawn", "office.html", "Math.sign(order) * compare", "compare", "and back"),
     ("drawn", "office.html", '"A,generous\\n" : "") + text', '"" : "") + text', "by the aim 2"),
@@ -254,7 +257,8 @@ class Browser:
 
     def pick(self, css, value):
         self.run(
-            "const it = document.querySelector(arguments[0]); it.value = arguments[1]; it.dispatchEvent(new Event('change', { bubbles: true }))",
+            "const it = document.querySelector(arguments[0]); it.value = arguments[1];"
+            " it.dispatchEvent(new Event('change', { bubbles: true }))",
             css,
             value,
         )
@@ -522,7 +526,8 @@ class Trial(People):
             it.choose(file, field="#file")
             time.sleep(0.3)
             wanted = f"This {words}." if words else "Proved: no other way to give out the places is better."
-            self.check(f"by check.html: {content[:20]!r}", (told(), it.text("#line")), (wanted, self.line("check", file, either=True).strip()))
+            answer = self.line("check", file, either=True).strip()
+            self.check(f"by check.html: {content[:20]!r}", (told(), it.text("#line")), (wanted, answer))
             self.check("an own line is asked for", it.run("return !document.querySelector('#own').hidden"), content == proof)
         it.choose(name, field="#file")
         rows = [line.split(",") for line in proof.splitlines()]
@@ -581,7 +586,8 @@ class Trial(People):
         name = self.proof(1)
         other = re.sub(rb"(?m)^M,S04,CIPHER$", b"M,S04,PATTERNS", open(name, "rb").read())
         it.choose(self.file("other.txt", other), field="#opened")
-        self.check("another pair in the proof", it.text("#verdict"), "other.txt: not proved, since the prices are worth more than the places that were given.")
+        words = "other.txt: not proved, since the prices are worth more than the places that were given."
+        self.check("another pair in the proof", it.text("#verdict"), words)
         for words, content in self.no_proofs(name):
             it.choose(self.file("none.txt", content), field="#opened")
             self.check(f"no proof: {content[:20]!r}", it.text("#verdict"), f"none.txt {words}.")
@@ -719,7 +725,7 @@ class Trial(People):
         self.proof(2)
 
     def habits(self):
-        """Sheets as people have them: further columns, choices in columns, other first rows, workbooks, and what is clear but for its form."""
+        """Sheets as people have them: further columns, choices in columns, other first rows, workbooks, and what can be mended."""
         it = self.it
         it.press("#empty-lists")
         self.check("an empty sheet", self.saved("lists.csv"), b"student,choices\n")
@@ -728,6 +734,8 @@ class Trial(People):
         supervisors = self.file("supervisors.csv", "code,name,quota\nL,Lee,2.0\nm,May,1\n")
         projects = self.file("projects.csv", "Titel;K\u00fcrzel;Pl\u00e4tze;Wer\nBridges;P1;2;L\nRails;P2;1;M\nSails;P3;0;M\n")
         students = self.file("students.csv", "email,Code,Name\na@x,S1,Ann\nb@x,S2,Bob\nc@x, s3,Cy\n")
+        it.choose(self.file("tutors.csv", "code,name,places\nK,Kim,2\n"))
+        self.check("a quota under another word is asked after", it.run("return document.querySelectorAll('.asked').length"), 1)
         it.choose(supervisors, projects, students)
         self.check("columns that are passed over", "Passed over: the column email." in it.text("#chosen"))
         it.pick(".asked select", "projects")
@@ -800,11 +808,14 @@ class Trial(People):
         it.press("#save")
         part = csv.reader(io.StringIO(self.saved("placements-1-part.csv").decode("utf-8-sig")))
         self.check("saved as filtered", [row[0] for row in part], ["Student", rows[0][0]])
-        self.check("printed as filtered", f"1 of {len(rows)} rows, those with “{rows[0][0]}”." in it.run("return document.querySelector('#printed').textContent"))
+        words = f"1 of {len(rows)} rows, those with “{rows[0][0]}”."
+        paper = it.run("return document.querySelector('#printed').textContent")
+        self.check("printed as filtered", words in paper)
         it.write("#filter", " ")
         it.pick("#number", "2")
         it.pick("#kind", "all")
-        wanted = sorted([*line.split(), str(number)] for number in (1, 2) for line in self.line("report", "DB", "placements", str(number)).splitlines())
+        report = lambda number: self.line("report", "DB", "placements", str(number)).splitlines()
+        wanted = sorted([*line.split(), str(number)] for number in (1, 2) for line in report(number))
         self.check("all rounds", [[row[0], row[2], row[5], row[6]] for row in it.table()], wanted)
 
     def hostile(self):
@@ -848,6 +859,9 @@ class Trial(People):
             {tuple(row[1:5:2]) for row in it.table()},
             {(label, '<a href="javascript:window.hit=1">x</a>') for at, (_, label) in enumerate(rows) if at != 1},
         )
+        for step in ("sheets", "publish"):
+            it.run("go(arguments[0])", step)
+            self.fits(f"hostile names, the step {step}")
         it.press("#save")
         self.check(
             "a formula when saved",
@@ -927,7 +941,7 @@ class Trial(People):
         told = it.text("#chosen")
         self.check(
             "too large, and no sheet",
-            ("more than 65,536 bytes" in told, "has another first row than the four sheets" in told, it.run("return !document.querySelector('#send')")),
+            ("more than 65,536 bytes" in told, "has another first row than" in told, it.run("return !document.querySelector('#send')")),
             (True, True, True),
         )
         self.open()
