@@ -1,14 +1,13 @@
 #!/usr/bin/env python3
-"""Runs nginx with the snippet of docs/SERVING.md in front of `spadesk serve`, and compares what comes through.
+"""Runs nginx with page/nginx.conf in front of `spadesk serve`, and compares what comes through for the office.
 
 tools/nginx.py SPADESK [NGINX]     without NGINX the one of the PATH; where there is none it says so
 
-Three things of the snippet are others here: there is no certificate, and so no `ssl`; the port at which nginx listens; the file of the
-users. The ports 8080 and 8081 must be free.
+Three things of the file are others here: there is no certificate, and so no `ssl`; the port at which nginx listens; the folders. The ports
+8080 and 8081 must be free. tools/page.py tries the other roles, and tools/serving.py the file as it is.
 """
 import base64
 import http.client
-import re
 import shutil
 import socket
 import subprocess
@@ -23,13 +22,14 @@ OWN, FOREIGN = {"Origin": "https://office.school.example"}, {"Origin": "https://
 
 
 def config(folder):
-    """The whole file of nginx around the snippet."""
-    snippet = re.search(r"```nginx\n(.*?)```", read("docs", "SERVING.md"), re.S)[1]
-    snippet = re.sub(r" *ssl_certificate.*\n", "", snippet).replace("listen 443 ssl;", "listen 127.0.0.1:8081;")
-    snippet = re.sub(r"(auth_basic_user_file +)\S+;", rf"\1{folder}/users;", snippet)
+    """The whole file of nginx around page/nginx.conf."""
+    lines = read("page", "nginx.conf").replace("listen 443 ssl;", "listen 127.0.0.1:8081;").splitlines(True)
+    text = "".join(line for line in lines if "ssl_certificate" not in line)
+    for place in ("/etc/nginx", "/etc/spadesk", "/usr/share/spadesk", "/var/lib/nginx"):
+        text = text.replace(place, folder)
     paths = "".join(f"{it}_temp_path {folder}/{it};\n" for it in ("client_body", "proxy", "fastcgi", "uwsgi", "scgi"))
     main = f"daemon off;\nmaster_process off;\npid {folder}/nginx.pid;\nerror_log stderr;\n"
-    return f"{main}events {{}}\nhttp {{\naccess_log off;\n{paths}{snippet}}}\n"
+    return f"{main}events {{}}\nhttp {{\naccess_log off;\n{paths}{text}}}\n"
 
 
 def started(port, *words, **more):
@@ -79,10 +79,10 @@ def trials():
 
 def main(program, nginx=shutil.which("nginx")):
     if nginx is None:
-        print("there is no nginx here: the snippet was not tried")
+        print("there is no nginx here: page/nginx.conf was not tried")
         return
     with tempfile.TemporaryDirectory() as folder:
-        for name, text in (("users", "keeper:{PLAIN}secret\n"), ("nginx.conf", config(folder))):
+        for name, text in (("office.users", "keeper:{PLAIN}secret\n"), ("nginx.conf", config(folder))):
             written(text, f"{folder}/{name}")
         with serving(program, f"{folder}/school.db", 1_000_000, 8080) as (served, _):
             front = started(8081, nginx, "-p", folder, "-c", f"{folder}/nginx.conf")

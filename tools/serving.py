@@ -1,0 +1,156 @@
+#!/usr/bin/env python3
+"""Runs every command of docs/SERVING.md on a bare Debian, and compares what is printed.
+
+tools/serving.py PACKAGE ROOT     as root; needs util-linux and iproute2
+
+PACKAGE is what tools/release made. ROOT is a folder as `debootstrap --variant=minbase bookworm ROOT` leaves it; it stays as it is, under a
+layer that goes at the end. A block of `sh` must end with status 0; a block of `console` prints what stands there. What has the word apt is
+run in the network of the machine, and all else in one of its own, so that no port is taken here. systemd does not run there: SYSTEMCTL does
+what a few lines of a unit say. At the end the files of the package are compared with their sums, its units are verified, a file of edition 1
+is served, and the package is purged, which leaves the data.
+"""
+import os
+import re
+import shutil
+import subprocess
+import sys
+import tempfile
+import time
+
+from office import FIRST_EDITION, read, written
+
+SYSTEMCTL = r'''#!/usr/bin/python3
+import os, re, signal, socket, subprocess, sys, time
+
+def unit(name):
+    with open(f"/lib/systemd/system/{name}.service") as file:
+        return dict(re.findall(r"^(\w+)=(.*)$", file.read(), re.M))
+
+def begun(it, command):
+    user = ["setpriv", "--reuid", it["User"], "--regid", it["User"], "--clear-groups", "--no-new-privs", "--bounding-set=-all"]
+    os.umask(int(it["UMask"], 8))
+    how = dict(cwd=it["WorkingDirectory"], stdin=subprocess.DEVNULL, stdout=subprocess.DEVNULL, stderr=subprocess.DEVNULL)
+    return subprocess.Popen([*user, *command.lstrip("-").split()], start_new_session=True, **how)
+
+def stop(name):
+    if os.path.exists(f"/run/{name}.pid"):
+        with open(f"/run/{name}.pid") as file:
+            pid = int(file.read())
+        os.remove(f"/run/{name}.pid")
+        os.kill(pid, signal.SIGTERM)
+        while os.path.exists(f"/proc/{pid}") and " Z " not in open(f"/proc/{pid}/stat").read():
+            time.sleep(0.05)
+        begun(unit(name), unit(name)["ExecStopPost"]).wait()
+
+def start(name):
+    it = unit(name)
+    process = begun(it, it["ExecStart"])
+    if it.get("Type") == "oneshot":
+        sys.exit(process.wait())
+    with open(f"/run/{name}.pid", "w") as file:
+        file.write(str(process.pid))
+    for _ in range(100):
+        time.sleep(0.05)
+        if socket.socket().connect_ex(("127.0.0.1", int(it["ExecStart"].split()[-2]))) == 0:
+            sys.exit(process.poll() or 0)
+    sys.exit(1)
+
+verb, *names = [word for word in sys.argv[1:] if word != "--now"]
+if names == ["nginx"]:
+    sys.exit(subprocess.run(["nginx", *(["-s", "reload"] if verb == "reload" else [])]).returncode)
+for name in names:
+    if not name.endswith(".timer"):
+        stop(name) if verb == "stop" else start(name)
+'''
+HOSTS = "127.0.0.1 localhost office.school.example\n"
+MARK = "and the next command"
+# what is tried behind the page, and what it prints
+BEHIND = [
+    ("(cd / && sha256sum --quiet -c usr/share/doc/spadesk/SHA256SUMS)", ""),
+    ("systemd-analyze verify /lib/systemd/system/spadesk*.service /lib/systemd/system/spadesk-copy.timer", ""),
+    ("grep -c ^spadesk: /etc/passwd; stat -c '%A %U' /var/lib/spadesk", "1\ndrwx------ spadesk\n"),
+    (
+        "systemctl stop spadesk; cp -p /var/lib/spadesk/2027/school.db* /var/lib/spadesk; "
+        f"python3 -c \"import sqlite3; sqlite3.connect('/var/lib/spadesk/school.db').executescript('''{FIRST_EDITION}''')\"; "
+        "systemctl start spadesk; curl -u $(head -n 1 letters/office) https://office.school.example/reports/placements/1",
+        "S01              CHESS             1\n",
+    ),
+    ("systemctl stop spadesk; dpkg --purge spadesk > purged.txt 2>&1; ls /var/lib/spadesk", "2027\ncopies\nschool.db\nschool.db-wal\n"),
+]
+
+
+def blocks(text):
+    """The kind of each block, and its commands with what each prints."""
+    for kind, block in re.findall(r"```(sh|console)\n(.*?)```", text, re.S):
+        if kind == "sh":
+            yield kind, [(block, "")]
+        else:
+            found = re.findall(r"^\$ (.*\n(?:> .*\n)*)((?:(?!\$ ).*\n)*)", block, re.M)
+            yield kind, [(re.sub("^> ", "", command, flags=re.M), told) for command, told in found]
+
+
+class Machine:
+    """A bare Debian in a second layer over a folder, with a network of its own beside that of the machine."""
+
+    def __init__(self, package, root, room, net):
+        self.at, self.net = f"{room}/root", int(net)
+        layers = f"lowerdir={root},upperdir={room}/upper,workdir={room}/work"
+        subprocess.run(["mount", "-t", "overlay", "overlay", "-o", layers, self.at], check=True)
+        subprocess.run(["mount", "-t", "proc", "proc", f"{self.at}/proc"], check=True)
+        subprocess.run(["ip", "link", "set", "lo", "up"], check=True)
+        shutil.copy("/etc/resolv.conf", f"{self.at}/etc/resolv.conf")
+        shutil.copy(package, f"{self.at}/root")
+        written(HOSTS, f"{self.at}/etc/hosts")
+        for name, text in (("usr/sbin/policy-rc.d", "#!/bin/sh\nexit 101\n"), ("usr/local/sbin/systemctl", SYSTEMCTL)):
+            os.chmod(written(text, f"{self.at}/{name}"), 0o755)
+
+    def run(self, script):
+        """Status and output of a script of a shell."""
+        words = ["chroot", self.at, "/bin/bash", "-c", f"cd /root\n{script}"]
+        if re.search(r"\bapt\b", script):
+            words = ["nsenter", f"--net=/proc/self/fd/{self.net}", *words]
+        env = {"HOME": "/root", "LC_ALL": "C.UTF-8", "PATH": "/usr/local/sbin:/usr/sbin:/usr/bin:/sbin:/bin"}
+        env["DEBIAN_FRONTEND"] = "noninteractive"
+        how = {"stdin": subprocess.DEVNULL, "stdout": subprocess.PIPE, "stderr": subprocess.STDOUT, "pass_fds": [self.net]}
+        ran = subprocess.run(words, env=env, timeout=1200, **how)
+        return ran.returncode, ran.stdout.decode()
+
+
+def lined(text):
+    return text if text.endswith("\n") or not text else text + "\n"
+
+
+def inside(*where):
+    machine, begun, count, failed = Machine(*where), time.time(), 0, 0
+    for kind, commands in [*blocks(read("docs", "SERVING.md")), ("console", BEHIND)]:
+        if kind == "sh":
+            status, out = machine.run("set -e\n" + commands[0][0])
+            came = [("" if status == 0 else f"{out}status {status}\n")]
+        else:
+            out = machine.run("".join(f"{command.rstrip()}\nprintf '\\n{MARK}\\n'\n" for command, _ in commands))[1]
+            came = [lined(piece) for piece in out.split(f"\n{MARK}\n")[:-1]]
+            came += ["it ended\n"] * (len(commands) - len(came))
+        for (command, wanted), told in zip(commands, came):
+            count += 1
+            if told != wanted:
+                failed += 1
+                print(f"$ {command.rstrip()}\n{told}and not\n{wanted}", flush=True)
+    print(f"docs/SERVING.md: {count} commands and blocks, {failed} otherwise, in {(time.time() - begun) / 60:.1f} minutes")
+    sys.exit(1 if failed else 0)
+
+
+def main(package, root):
+    with tempfile.TemporaryDirectory() as room:
+        for name in ("upper", "work", "root"):
+            os.mkdir(f"{room}/{name}")
+        net = os.open("/proc/self/ns/net", os.O_RDONLY)
+        words = ["unshare", "--mount", "--net", "--pid", "--fork", "--kill-child", sys.executable, os.path.abspath(__file__), "--inside"]
+        where = [os.path.abspath(package), os.path.abspath(root), room, str(net)]
+        sys.exit(subprocess.run([*words, *where], pass_fds=[net]).returncode)
+
+
+if __name__ == "__main__":
+    if sys.argv[1:2] == ["--inside"]:
+        inside(*sys.argv[2:])
+    else:
+        main(*sys.argv[1:])
