@@ -6,8 +6,8 @@ tools/serving.py PACKAGE ROOT     as root; needs util-linux and iproute2
 PACKAGE is what tools/release made. ROOT is a folder as `debootstrap --variant=minbase bookworm ROOT` leaves it; it stays as it is, under a
 layer that goes at the end. A block of `sh` must end with status 0; a block of `console` prints what stands there. What has the word apt is
 run in the network of the machine, and all else in one of its own, so that no port is taken here. systemd does not run there: SYSTEMCTL does
-what a few lines of a unit say. At the end the files of the package are compared with their sums, its units are verified, a file of edition 1
-is served, and the package is purged, which leaves the data.
+what a few lines of a unit say. At the end the files of the package are compared with their sums, its units are verified, a file of edition
+1 is served, and the package is purged, which leaves the data.
 """
 import os
 import re
