@@ -6,8 +6,8 @@ tools/serving.py PACKAGE ROOT     as root; needs util-linux and iproute2
 PACKAGE is what tools/release made. ROOT is a folder as `debootstrap --variant=minbase bookworm ROOT` leaves it; it stays as it is, under a
 layer that goes at the end. A block of `sh` must end with status 0; a block of `console` prints what stands there. What has the word apt is
 run in the network of the machine, and all else in one of its own, so that no port is taken here. systemd does not run there: SYSTEMCTL does
-what a few lines of a unit say. At the end the files of the package are compared with their sums, its units are verified, a file of edition
-1 is served, and the package is purged, which leaves the data.
+what some lines of a unit say, its filters among them. At the end the files of the package are compared with their sums, its units are
+verified, a file of edition 1 is served, and the package is purged, which leaves the data.
 """
 import os
 import re
@@ -20,17 +20,46 @@ import time
 from office import FIRST_EDITION, read, written
 
 SYSTEMCTL = r'''#!/usr/bin/python3
-import os, re, signal, socket, subprocess, sys, time
+import ctypes, functools, os, re, signal, socket, subprocess, sys, time
+
+def lines(name):
+    with open(f"/lib/systemd/system/{name}.service") as file:
+        return re.findall(r"^(\w+)=(.*)$", file.read(), re.M)
 
 def unit(name):
-    with open(f"/lib/systemd/system/{name}.service") as file:
-        return dict(re.findall(r"^(\w+)=(.*)$", file.read(), re.M))
+    return {**dict(lines(name)), "Name": name}
 
 def begun(it, command):
     user = ["setpriv", "--reuid", it["User"], "--regid", it["User"], "--clear-groups", "--no-new-privs", "--bounding-set=-all"]
     os.umask(int(it["UMask"], 8))
     how = dict(cwd=it["WorkingDirectory"], stdin=subprocess.DEVNULL, stdout=subprocess.DEVNULL, stderr=subprocess.DEVNULL)
-    return subprocess.Popen([*user, *command.lstrip("-").split()], start_new_session=True, **how)
+    return subprocess.Popen([*user, sys.argv[0], "filtered", it["Name"], *command.lstrip("-").split()], start_new_session=True, **how)
+
+@functools.cache
+def calls(group):
+    """The calls of the system of a group, or the one call that it is."""
+    if not group.startswith("@"):
+        return {group}
+    told = subprocess.run(["systemd-analyze", "syscall-filter", group], stdout=subprocess.PIPE, text=True, check=True).stdout
+    words = [line.strip() for line in told.splitlines()[1:]]
+    return set().union(*(calls(word) for word in words if word and not word.startswith("#")))
+
+def filtered(name, *command):
+    """Runs a command that is killed at a call that the filters of the unit leave out."""
+    left = {"execve"}
+    for key, groups in lines(name):
+        if key == "SystemCallFilter":
+            found = set().union(*map(calls, groups.lstrip("~").split()))
+            left = left - found if groups.startswith("~") else left | found
+    library = ctypes.CDLL("libseccomp.so.2")
+    library.seccomp_init.restype = ctypes.c_void_p
+    rules = ctypes.c_void_p(library.seccomp_init(0x80000000))
+    for number in map(library.seccomp_syscall_resolve_name, (it.encode() for it in left)):
+        if number >= 0:
+            library.seccomp_rule_add(rules, ctypes.c_uint32(0x7FFF0000), number, 0)
+    if library.seccomp_load(rules):
+        sys.exit("no filter")
+    os.execv(command[0], command)
 
 def stop(name):
     if os.path.exists(f"/run/{name}.pid"):
@@ -49,12 +78,14 @@ def start(name):
         sys.exit(process.wait())
     with open(f"/run/{name}.pid", "w") as file:
         file.write(str(process.pid))
-    for _ in range(100):
+    for _ in range(200):
         time.sleep(0.05)
         if socket.socket().connect_ex(("127.0.0.1", int(it["ExecStart"].split()[-2]))) == 0:
             sys.exit(process.poll() or 0)
     sys.exit(1)
 
+if sys.argv[1] == "filtered":
+    filtered(*sys.argv[2:])
 verb, *names = [word for word in sys.argv[1:] if word != "--now"]
 if names == ["nginx"]:
     sys.exit(subprocess.run(["nginx", *(["-s", "reload"] if verb == "reload" else [])]).returncode)
