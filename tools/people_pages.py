@@ -266,9 +266,9 @@ class People:
         ):
             self.check(f"{path} by a page of another site", self.asked(method, path, user, body, Origin="https://other.example")[0], 403)
         self.it.go("/student/", "s02:s02")
-        self.check("small letters, a student", "Your name here is your code, in capitals." in self.it.text("#me"))
+        self.check("small letters, a student", "Your login is not matched with a code." in self.it.text("#me"))
         self.it.go("/supervisor/", "hopper:hopper")
-        self.check("small letters, a supervisor", "Your name here is your code, in capitals." in self.it.text("#state"))
+        self.check("small letters, a supervisor", "Your login is not matched with a code." in self.it.text("#state"))
 
     def keyboard(self):
         """A student without a mouse, on a line with a latency of 100 ms: each act keeps the focus, is told, and takes three requests."""
