@@ -87,7 +87,7 @@ def main(*words):
         if kind not in KINDS:
             dear.append((seconds, crate, kind))
     print("\n| Crate | Proof | Tests | Seed | Tries | Mutants |\n|---|--:|--:|--:|--:|--:|")
-    rows = [line.split(":")[0] for line in read("crates.txt").splitlines() if re.match(r"\w", line)]
+    rows = [re.split("[ :]", line)[0] for line in read("crates.txt").splitlines() if re.match(r"\w", line)]
     for crate in filter(crates.__contains__, rows):
         shown = " | ".join(f"{crates[crate][kind]:,.0f}" if crates[crate][kind] else "" for kind in KINDS)
         print(f"| `{crate}` | {shown} | {len(mutants(crate)) or ''} |")
