@@ -70,7 +70,7 @@ OFFICE_MUTANTS = [
     ("drawn", "office.html", "[...row, rounds[at].round]", "[...row, rounds.length]", "all rounds"),
     ("drawn", "office.html", "rows.filter(row => row[at] === name)", "rows", "a page each"),
     ("drawn", "office.html", ".wide { overflow-x: auto; }", "", "the step publish, 360 px wide"),
-    ("first_round", "office.html", '"Try again", work)', '"Try again", () => {})', "and up again"),
+    ("first_round", "office.html", "return work(); };", "};", "and up again"),
 ]
 # The rows of the guide that speak of a terminal, for which the page has words of its own.
 OWN_WORDS = {2, 3, 4, 5, 6, 7, 8, 9, 12, 27, 28, 29, 30}
@@ -310,7 +310,8 @@ class Trial(People):
 
     def anew(self, database):
         self.stop()
-        for name in fnmatch.filter(os.listdir(self.folder), f"{database}*"):
+        left = [*fnmatch.filter(os.listdir(self.folder), f"{database}*"), *(f"saved/{it}" for it in os.listdir(f"{self.folder}/saved"))]
+        for name in left:
             os.remove(f"{self.folder}/{name}")
         self.serve(database)
         shutil.rmtree(f"{self.folder}/cache", ignore_errors=True)
@@ -631,7 +632,7 @@ class Trial(People):
         )
         self.serve("first_round.db")
         it.press("#retry")
-        self.check("and up again", it.text("#state"), "Round 1 is open, greedy, with 20 lists.")
+        self.check("and up again", ("students, 20 rows: 20 as before" in it.text("#chosen"), it.text("#told")), (True, ""))
         self.check("imports sent, one of them pressed twice", self.sent() - start, 4)
 
     def term(self):
