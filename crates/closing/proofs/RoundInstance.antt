@@ -1,5 +1,5 @@
--- The instance of the last round of a fit office has no fault, and it is what its rolls give.
-use Rattle.std.proofs.Common.{◌≡◌, ℕ, zero, suc, ◌+◌, ◌-◌, ◌<◌, ◌≤◌, true, List, [], ◌∷◌, ◌++◌, length, map, drop, get_or, Contains, refl, sym, ap, ◌∙◌, subst, append_assoc, arith}
+-- The instance of a round of a fit office has no fault, whatever is taken, and it is what its rolls give.
+use Rattle.std.proofs.Common.{◌≡◌, ℕ, zero, suc, ◌+◌, ◌-◌, ◌<◌, ◌≤◌, true, List, [], ◌∷◌, ◌++◌, length, map, drop, get_or, Contains, Option, refl, sym, ap, ◌∙◌, subst, append_assoc, arith}
 use Rattle.std.specs.List.{AllByRecursion}
 use Rattle.std.proofs.lemmas.Option.{slice_get_within}
 use Rattle.std.proofs.lemmas.List.{length-map, drop_more}
@@ -16,10 +16,10 @@ use Rattle.rolls.specs.declared.entries.Supervisor.{Supervisor}
 use Rattle.rolls.specs.declared.entries.Project.{Project}
 use Rattle.rolls.specs.declared.rounds.Listed.{Listed}
 use Rattle.rolls.specs.declared.rounds.Placement.{Placement}
-use Rattle.rolls.specs.State.{State, supervisor_key, project_key, list_key, last_round, lists_of, has_project, placed_in_project, placed_with_supervisor}
-use Rattle.rolls.specs.Instances.{round_instance}
+use Rattle.rolls.specs.State.{State, supervisor_key, project_key, list_key, lists_of, has_project}
+use Rattle.rolls.specs.Instances.{instance_left}
 use Rattle.rolls.specs.Fit.{IsFit, SupervisorFits, ProjectFits, ListFits}
-use Rattle.rolls.specs.Counted.{AreRolls}
+use Rattle.rolls.specs.Counted.{AreRolls, count_in, count_with}
 use Rattle.rolls.proofs.EntryChange.{all_weaker}
 use Rattle.rolls.proofs.Positions.{fit_rolls}
 use Rattle.closing.specs.Inside.Handed as handed
@@ -31,64 +31,67 @@ use Rattle.closing.proofs.UniqueCodes.{code_key, apart_since_rise, apart_since_d
 
 -- ---- the instance
 
-module _ (o : State) (fit : IsFit o) where
+module _ (with_supervisor in_project : List ℕ → ℕ) (o : State) (n : ℕ) (fit : IsFit o) where
+  abbrev instance : spa.Instance
+  instance = instance_left with_supervisor in_project o n
+
   -- the codes of the rolls
   abbrev supervisor_left : Supervisor → spa.Supervisor
-  supervisor_left s = record { code = s.code; quota = s.quota - placed_with_supervisor o s.code }
+  supervisor_left s = record { code = s.code; quota = s.quota - with_supervisor s.code }
 
   abbrev project_left : Project → spa.Project
-  project_left p = record { code = p.code; supervisor = p.supervisor; quota = p.quota - placed_in_project o p.code }
+  project_left p = record { code = p.code; supervisor = p.supervisor; quota = p.quota - in_project p.code }
 
   abbrev student_listed : Listed → spa.Student
   student_listed l = record { code = l.student; list = l.choices }
 
-  instance_within : IsWithin (round_instance o)
+  instance_within : IsWithin instance
   instance_within = record {
     supervisors = rw (length-map o.supervisors supervisor_left) fit.supervisors.few;
     projects = rw (length-map o.projects project_left) fit.projects.few;
-    students = omega (arith, length-map (lists_of o (last_round o)) student_listed, few_lists o fit (last_round o), fit.students.few);
-    supervisor_quotas = All-from_recursion (λ q. q ≤ MOST_PLACES) (map (λ e. e.quota) (round_instance o).supervisors)
-        (all_made (λ (e : spa.Supervisor). e.quota) (λ q. q ≤ MOST_PLACES) (round_instance o).supervisors (all_made supervisor_left (λ e. e.quota ≤ MOST_PLACES) o.supervisors
-        (all_weaker SupervisorFits (λ s. s.quota - placed_with_supervisor o s.code ≤ MOST_PLACES) (λ s f. omega (arith, f.quota)) o.supervisors fit.supervisors.each)));
-    project_quotas = All-from_recursion (λ q. q ≤ MOST_PLACES) (map (λ e. e.quota) (round_instance o).projects)
-        (all_made (λ (e : spa.Project). e.quota) (λ q. q ≤ MOST_PLACES) (round_instance o).projects (all_made project_left (λ e. e.quota ≤ MOST_PLACES) o.projects
-        (all_weaker (ProjectFits o) (λ p. p.quota - placed_in_project o p.code ≤ MOST_PLACES) (λ p f. omega (arith, f.quota)) o.projects fit.projects.each)));
+    students = omega (arith, length-map (lists_of o n) student_listed, few_lists o fit n, fit.students.few);
+    supervisor_quotas = All-from_recursion (λ q. q ≤ MOST_PLACES) (map (λ e. e.quota) instance.supervisors)
+        (all_made (λ (e : spa.Supervisor). e.quota) (λ q. q ≤ MOST_PLACES) instance.supervisors (all_made supervisor_left (λ e. e.quota ≤ MOST_PLACES) o.supervisors
+        (all_weaker SupervisorFits (λ s. s.quota - with_supervisor s.code ≤ MOST_PLACES) (λ s f. omega (arith, f.quota)) o.supervisors fit.supervisors.each)));
+    project_quotas = All-from_recursion (λ q. q ≤ MOST_PLACES) (map (λ e. e.quota) instance.projects)
+        (all_made (λ (e : spa.Project). e.quota) (λ q. q ≤ MOST_PLACES) instance.projects (all_made project_left (λ e. e.quota ≤ MOST_PLACES) o.projects
+        (all_weaker (ProjectFits o) (λ p. p.quota - in_project p.code ≤ MOST_PLACES) (λ p f. omega (arith, f.quota)) o.projects fit.projects.each)));
   }
 
-  codes_apart : HasDistinctCodes (round_instance o)
+  codes_apart : HasDistinctCodes instance
   codes_apart = record {
-    supervisors = apart_since_rise (supervisor_codes (round_instance o)) (rises_made (λ (e : spa.Supervisor). (0, e.code)) code_key (λ e. e.code) (λ e f. refl) (round_instance o).supervisors ∙ rises_made supervisor_key (λ e. (0, e.code)) supervisor_left (λ e f. refl) o.supervisors ∙ fit.supervisors.rise);
-    projects = apart_since_rise (project_codes (round_instance o)) (rises_made (λ (e : spa.Project). (0, e.code)) code_key (λ e. e.code) (λ e f. refl) (round_instance o).projects ∙ rises_made project_key (λ e. (0, e.code)) project_left (λ e f. refl) o.projects ∙ fit.projects.rise);
-    students = apart_since_rise (student_codes (round_instance o)) (rises_made (λ (e : spa.Student). (0, e.code)) code_key (λ e. e.code) (λ e f. refl) (round_instance o).students ∙ rises_made list_key (λ e. (0, e.code)) student_listed (λ e f. refl) (lists_of o (last_round o)) ∙ fit.lists_rise (last_round o));
+    supervisors = apart_since_rise (supervisor_codes instance) (rises_made (λ (e : spa.Supervisor). (0, e.code)) code_key (λ e. e.code) (λ e f. refl) instance.supervisors ∙ rises_made supervisor_key (λ e. (0, e.code)) supervisor_left (λ e f. refl) o.supervisors ∙ fit.supervisors.rise);
+    projects = apart_since_rise (project_codes instance) (rises_made (λ (e : spa.Project). (0, e.code)) code_key (λ e. e.code) (λ e f. refl) instance.projects ∙ rises_made project_key (λ e. (0, e.code)) project_left (λ e f. refl) o.projects ∙ fit.projects.rise);
+    students = apart_since_rise (student_codes instance) (rises_made (λ (e : spa.Student). (0, e.code)) code_key (λ e. e.code) (λ e f. refl) instance.students ∙ rises_made list_key (λ e. (0, e.code)) student_listed (λ e f. refl) (lists_of o n) ∙ fit.lists_rise n);
   }
 
-  supervisors_known : AllByRecursion (Contains (supervisor_codes (round_instance o))) (map (λ e. e.supervisor) (round_instance o).projects)
+  supervisors_known : AllByRecursion (Contains (supervisor_codes instance)) (map (λ e. e.supervisor) instance.projects)
   supervisors_known =
-      all_made (λ (e : spa.Project). e.supervisor) (Contains (supervisor_codes (round_instance o))) (round_instance o).projects
-      (all_made project_left (λ e. Contains (supervisor_codes (round_instance o)) e.supervisor) o.projects
-      (all_weaker (ProjectFits o) (λ p. Contains (supervisor_codes (round_instance o)) p.supervisor)
+      all_made (λ (e : spa.Project). e.supervisor) (Contains (supervisor_codes instance)) instance.projects
+      (all_made project_left (λ e. Contains (supervisor_codes instance) e.supervisor) o.projects
+      (all_weaker (ProjectFits o) (λ p. Contains (supervisor_codes instance) p.supervisor)
       (λ p f. contains_found supervisor_key supervisor_left (λ e. e.code) (λ e. refl) p.supervisor o.supervisors f.supervisor) o.projects fit.projects.each))
 
-  list_sound : (l : Listed) → ListFits o (last_round o) l → IsSoundList (project_codes (round_instance o)) l.choices
+  list_sound : (l : Listed) → ListFits o n l → IsSoundList (project_codes instance) l.choices
   list_sound l f = (
     (f.choices.some, f.choices.few),
     record {
-      known = λ p c h is. all_at (Contains (project_codes (round_instance o))) l.choices
-          (all_weaker (λ c. has_project o c ≡ true) (Contains (project_codes (round_instance o))) (λ c h. contains_found project_key project_left (λ e. e.code) (λ e. refl) c o.projects h) l.choices f.projects) p c is;
+      known = λ p c h is. all_at (Contains (project_codes instance)) l.choices
+          (all_weaker (λ c. has_project o c ≡ true) (Contains (project_codes instance)) (λ c h. contains_found project_key project_left (λ e. e.code) (λ e. refl) c o.projects h) l.choices f.projects) p c is;
       apart = apart_since_distinct l.choices f.choices.distinct;
     },
   )
 
-  lists_sound : AllByRecursion (IsSoundList (project_codes (round_instance o))) (map (λ e. e.list) (round_instance o).students)
+  lists_sound : AllByRecursion (IsSoundList (project_codes instance)) (map (λ e. e.list) instance.students)
   lists_sound =
-      all_made (λ (e : spa.Student). e.list) (IsSoundList (project_codes (round_instance o))) (round_instance o).students
-      (all_made student_listed (λ e. IsSoundList (project_codes (round_instance o)) e.list) (lists_of o (last_round o))
-      (all_weaker (ListFits o (last_round o)) (λ l. IsSoundList (project_codes (round_instance o)) l.choices) list_sound (lists_of o (last_round o)) (fit.lists_fit (last_round o))))
+      all_made (λ (e : spa.Student). e.list) (IsSoundList (project_codes instance)) instance.students
+      (all_made student_listed (λ e. IsSoundList (project_codes instance) e.list) (lists_of o n)
+      (all_weaker (ListFits o n) (λ l. IsSoundList (project_codes instance) l.choices) list_sound (lists_of o n) (fit.lists_fit n)))
 
   not_repeated : (codes : List (List ℕ)) (n : ℕ) → AreDistinct codes → IsFirstRepeated codes n → ⊥
   not_repeated codes n apart r = apart r.earlier n r.is_before r.known r.same
 
-  no_list_fault : (list : List (List ℕ)) (s : ℕ) (fault : InstanceFault) → IsSoundList (project_codes (round_instance o)) list → IsListFault (project_codes (round_instance o)) list s fault → fault ≡ Memory
+  no_list_fault : (list : List (List ℕ)) (s : ℕ) (fault : InstanceFault) → IsSoundList (project_codes instance) list → IsListFault (project_codes instance) list s fault → fault ≡ Memory
   no_list_fault list s Memory sound is = refl
   no_list_fault list s (ListLength n) sound is = absurd (is.1 sound.0)
   no_list_fault list s (UnknownProject n zero) sound is = absurd is
@@ -99,17 +102,17 @@ module _ (o : State) (fit : IsFit o) where
   no_list_fault list s (RepeatedCode roll n) sound is = absurd is
   no_list_fault list s (UnknownSupervisor n) sound is = absurd is
 
-  no_lists_fault : (fault : InstanceFault) → IsFirstListFault (project_codes (round_instance o)) (map (λ e. e.list) (round_instance o).students) fault → fault ≡ Memory
-  no_lists_fault fault is = no_list_fault is.list is.student fault (all_at (IsSoundList (project_codes (round_instance o))) (map (λ e. e.list) (round_instance o).students) lists_sound is.student is.list is.here) is.is_fault
+  no_lists_fault : (fault : InstanceFault) → IsFirstListFault (project_codes instance) (map (λ e. e.list) instance.students) fault → fault ≡ Memory
+  no_lists_fault fault is = no_list_fault is.list is.student fault (all_at (IsSoundList (project_codes instance)) (map (λ e. e.list) instance.students) lists_sound is.student is.list is.here) is.is_fault
 
-  -- making the instance of the open round fails for want of memory alone
-  pub instance_accepted : (fault : InstanceFault) → IsFirstInstanceFault (round_instance o) fault → fault ≡ Memory
+  -- making the instance fails for want of memory alone
+  pub instance_accepted : (fault : InstanceFault) → IsFirstInstanceFault instance fault → fault ≡ Memory
   instance_accepted Memory is = refl
   instance_accepted Limit is = absurd (is instance_within)
-  instance_accepted (RepeatedCode Supervisors n) is = absurd (not_repeated (supervisor_codes (round_instance o)) n codes_apart.supervisors is.1)
-  instance_accepted (RepeatedCode Projects n) is = absurd (not_repeated (project_codes (round_instance o)) n codes_apart.projects is.1.1)
-  instance_accepted (RepeatedCode Students n) is = absurd (not_repeated (student_codes (round_instance o)) n codes_apart.students is.1.2)
-  instance_accepted (UnknownSupervisor n) is = absurd (is.2.unknown (all_at (Contains (supervisor_codes (round_instance o))) (map (λ e. e.supervisor) (round_instance o).projects) supervisors_known n is.2.code is.2.here))
+  instance_accepted (RepeatedCode Supervisors n) is = absurd (not_repeated (supervisor_codes instance) n codes_apart.supervisors is.1)
+  instance_accepted (RepeatedCode Projects n) is = absurd (not_repeated (project_codes instance) n codes_apart.projects is.1.1)
+  instance_accepted (RepeatedCode Students n) is = absurd (not_repeated (student_codes instance) n codes_apart.students is.1.2)
+  instance_accepted (UnknownSupervisor n) is = absurd (is.2.unknown (all_at (Contains (supervisor_codes instance)) (map (λ e. e.supervisor) instance.projects) supervisors_known n is.2.code is.2.here))
   instance_accepted (ListLength n) is = no_lists_fault (ListLength n) is.3
   instance_accepted (UnknownProject n k) is = no_lists_fault (UnknownProject n k) is.3
   instance_accepted (RepeatedProject n k) is = no_lists_fault (RepeatedProject n k) is.3
@@ -121,16 +124,17 @@ map_map f g [] = refl
 map_map f g (x ∷ xs) = ap (λ ys. g (f x) ∷ ys) (map_map f g xs)
 
 -- the rolls that the parts of an office give are the instance's
-pub handed_rolls : (o : State) (supervisors : List Supervisor) (projects : List Project) (placements : List Placement) (lists : List Listed) → AreParts o supervisors projects placements lists
+pub handed_rolls : (up_to : Option ℕ) (o : State) (n : ℕ) (supervisors : List Supervisor) (projects : List Project) (placements : List Placement) (lists : List Listed) → AreParts o n supervisors projects placements lists
     → (ss : List (List ℕ × ℕ)) (ps : List (List ℕ × List ℕ × ℕ)) (ls : List (List ℕ × List (List ℕ)))
-    → ss ≡ map (handed.supervisor_left projects placements) supervisors → ps ≡ map (handed.project_left placements) projects → ls ≡ map handed.student_listed lists → given ss ps ls ≡ round_instance o
-handed_rolls o supervisors projects placements lists are ss ps ls s p l =
-    let a : supervisors_of ss ≡ (round_instance o).supervisors =
-    ap supervisors_of (s ∙ (λ i. map (handed.supervisor_left (are.all_projects i) (are.all_placements i)) (are.all_supervisors i))) ∙ map_map (handed.supervisor_left o.projects o.placements) (λ e. record { code = e.0; quota = e.1 }) o.supervisors in
-    let b : projects_of ps ≡ (round_instance o).projects =
-    ap projects_of (p ∙ (λ i. map (handed.project_left (are.all_placements i)) (are.all_projects i))) ∙ map_map (handed.project_left o.placements) (λ e. record { code = e.0; supervisor = e.1; quota = e.2 }) o.projects in
-    let c : students_of ls ≡ (round_instance o).students =
-    ap students_of (l ∙ ap (map handed.student_listed) are.all_lists) ∙ map_map handed.student_listed (λ e. record { code = e.0; list = e.1 }) (lists_of o (last_round o)) in
+    → ss ≡ map (handed.supervisor_left up_to projects placements) supervisors → ps ≡ map (handed.project_left up_to placements) projects → ls ≡ map handed.student_listed lists → given ss ps ls ≡ instance_left (count_with up_to o.projects o.placements) (count_in up_to o.placements) o n
+handed_rolls up_to o n supervisors projects placements lists are ss ps ls s p listed =
+    let l : spa.Instance = instance_left (count_with up_to o.projects o.placements) (count_in up_to o.placements) o n in
+    let a : supervisors_of ss ≡ l.supervisors =
+    ap supervisors_of (s ∙ (λ i. map (handed.supervisor_left up_to (are.all_projects i) (are.all_placements i)) (are.all_supervisors i))) ∙ map_map (handed.supervisor_left up_to o.projects o.placements) (λ e. record { code = e.0; quota = e.1 }) o.supervisors in
+    let b : projects_of ps ≡ l.projects =
+    ap projects_of (p ∙ (λ i. map (handed.project_left up_to (are.all_placements i)) (are.all_projects i))) ∙ map_map (handed.project_left up_to o.placements) (λ e. record { code = e.0; supervisor = e.1; quota = e.2 }) o.projects in
+    let c : students_of ls ≡ l.students =
+    ap students_of (listed ∙ ap (map handed.student_listed) are.all_lists) ∙ map_map handed.student_listed (λ e. record { code = e.0; list = e.1 }) (lists_of o n) in
     λ i. record { supervisors = a i; projects = b i; students = c i }
 
 -- the rolls of a fit office, as they are handed in

@@ -1,21 +1,22 @@
--- The parts of an office that the instance of its last round is made of.
-use Rattle.std.specs.Prelude.{◌≡◌, List}
+-- The parts of an office that the instance of a round is made of.
+use Rattle.std.specs.Prelude.{◌≡◌, ℕ, List}
 use Rattle.rolls.specs.declared.entries.Supervisor.{Supervisor}
 use Rattle.rolls.specs.declared.entries.Project.{Project}
 use Rattle.rolls.specs.declared.rounds.Listed.{Listed}
 use Rattle.rolls.specs.declared.rounds.Placement.{Placement}
-use Rattle.rolls.specs.State.{State, last_round, lists_of}
+use Rattle.rolls.specs.State.{State, lists_of}
 use Rattle.rolls.specs.Fit.{IsFit}
 
--- these are the parts of the office, with the lists of its last round
-pub record AreParts (o : State) (supervisors : List Supervisor) (projects : List Project) (placements : List Placement) (lists : List Listed) : Type 0 where
+-- these are the parts of the office, with the lists of the round n
+pub record AreParts (o : State) (n : ℕ) (supervisors : List Supervisor) (projects : List Project) (placements : List Placement) (lists : List Listed) : Type 0 where
   pub all_supervisors : supervisors ≡ o.supervisors
   pub all_projects : projects ≡ o.projects
   pub all_placements : placements ≡ o.placements
-  pub all_lists : lists ≡ lists_of o (last_round o)
+  pub all_lists : lists ≡ lists_of o n
 
--- the parts of a fit office
+-- the parts of a fit office, with the lists of a round
 pub record ArePartsOfFit (supervisors : List Supervisor) (projects : List Project) (placements : List Placement) (lists : List Listed) : Type 0 where
   pub office : State
   pub fit : IsFit office
-  pub parts : AreParts office supervisors projects placements lists
+  pub round : ℕ
+  pub parts : AreParts office round supervisors projects placements lists

@@ -1,10 +1,10 @@
-//! The instance of the open round, and what is counted of placements.
+//! The instance of a round, and what is counted of placements.
 
-ghost use Rattle.std.specs.Prelude.{◌≡◌, ◌≤◌, List, map, length, None, IfOk};
+ghost use Rattle.std.specs.Prelude.{◌≡◌, ◌≤◌, ℕ, List, map, length, Option, None, IfOk};
 ghost use Rattle.spa.specs.declared.TheConstants.{MOST_PROJECTS, MOST_SUPERVISORS};
 ghost use Rattle.spa.specs.Named.{instance_of};
 ghost use Rattle.rolls.specs.State.{State};
-ghost use Rattle.rolls.specs.Instances.{round_instance};
+ghost use Rattle.rolls.specs.Instances.{instance_left};
 ghost use Rattle.rolls.specs.Counted.{count_in, count_with, offers, AreCounted};
 ghost use Rattle.closing.specs.Handed.{AreParts, ArePartsOfFit};
 ghost use Rattle.closing.specs.Inside.Handed.{supervisor_left, project_left, student_listed};
@@ -54,7 +54,7 @@ fn supervisors_left(
     counts: &Counts,
 ) -> Result<Vec<(Code, u32)>, AllocError>
     requires { length supervisors.now ≤ MOST_SUPERVISORS }
-    ensures { IfOk result (λ roll. (projects : List Project) (placements : List Placement) → AreCounted None supervisors.now projects placements counts.now → roll.items ≡ map (supervisor_left projects placements) supervisors.now) }
+    ensures { IfOk result (λ roll. (up_to : Option ℕ) (projects : List Project) (placements : List Placement) → AreCounted up_to supervisors.now projects placements counts.now → roll.items ≡ map (supervisor_left up_to projects placements) supervisors.now) }
 {
     let mut roll = Vec::new(alloc);
     for position in 0..supervisors.len() {
@@ -72,7 +72,7 @@ fn projects_left(
     counts: &Counts,
 ) -> Result<Vec<(Code, Code, u32)>, AllocError>
     requires { length projects.now ≤ MOST_PROJECTS }
-    ensures { IfOk result (λ roll. (supervisors : List Supervisor) (placements : List Placement) → AreCounted None supervisors projects.now placements counts.now → roll.items ≡ map (project_left placements) projects.now) }
+    ensures { IfOk result (λ roll. (up_to : Option ℕ) (supervisors : List Supervisor) (placements : List Placement) → AreCounted up_to supervisors projects.now placements counts.now → roll.items ≡ map (project_left up_to placements) projects.now) }
 {
     let mut roll = Vec::new(alloc);
     for position in 0..projects.len() {
@@ -105,20 +105,22 @@ fn students_listed(alloc: Global, lists: &[Listed]) -> Result<Vec<(Code, Vec<Cod
     Ok(roll)
 }
 
-/// The instance of the last round of a fit office, from its parts: the supervisors and projects with what is left of their
-/// quotas, and the students with a list in the round. It fails for want of memory alone.
+/// The instance of a round of a fit office, from its parts: the supervisors and projects with what the rounds up to one left of
+/// their quotas, or all rounds where none is named, and the students with a list in the round. It fails for want of memory
+/// alone.
 pub fn round_instance(
     alloc: Global,
+    up_to: Option<u32>,
     supervisors: &[Supervisor],
     projects: &Entries<Project>,
     placements: &[Placement],
     lists: &[Listed],
 ) -> Result<Instance, AllocError>
     requires { ArePartsOfFit supervisors.now projects.now placements.now lists.now }
-    ensures { IfOk result (λ i. (o : State) → AreParts o supervisors.now projects.now placements.now lists.now → instance_of i ≡ round_instance o) }
+    ensures { IfOk result (λ i. (o : State) (n : ℕ) → AreParts o n supervisors.now projects.now placements.now lists.now → instance_of i ≡ instance_left (count_with up_to o.projects o.placements) (count_in up_to o.placements) o n) }
 {
     let roll = projects.entries();
-    let counts = counted(None, supervisors, roll, placements);
+    let counts = counted(up_to, supervisors, roll, placements);
     let supervisors = supervisors_left(alloc, supervisors, &counts)?;
     let students = students_listed(alloc, lists)?;
     let projects = projects_left(alloc, roll, &counts)?;

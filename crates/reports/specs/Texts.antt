@@ -43,14 +43,6 @@ profile_text o n =
 abbrev pub load_row : ℕ → List ℕ → ℕ → ℕ → List ℕ
 load_row width code placed quota = left width code ++ right 5 placed ++ right 5 quota ++ 10 ∷ []
 
--- how many students the rounds 1 to n placed with a supervisor
-abbrev pub placed_with_supervisor_by : State → ℕ → List ℕ → ℕ
-placed_with_supervisor_by o n code = count_by (λ p. nat_le p.round n && is_offered_by o code p.project) o.placements
-
--- how many students the rounds 1 to n placed in a project
-abbrev pub placed_in_project_by : State → ℕ → List ℕ → ℕ
-placed_in_project_by o n code = count_by (λ p. nat_le p.round n && bytes_eq code p.project) o.placements
-
 -- the load of a project, indented
 abbrev pub project_line : State → ℕ → Project → List ℕ
 project_line o n p = 32 ∷ 32 ∷ load_row 16 p.code (placed_in_project_by o n p.code) p.quota

@@ -1,5 +1,5 @@
 -- What the office holds, and what can be read from it.
-use Rattle.std.specs.Prelude.{ℕ, ◌==◌, ◌&&◌, not, Bool, false, nat_lt, List, [], length, count_by, Option, None, is_some, if◌then◌else◌}
+use Rattle.std.specs.Prelude.{ℕ, ◌==◌, ◌&&◌, not, Bool, false, nat_le, nat_lt, List, [], length, count_by, Option, None, is_some, if◌then◌else◌}
 use Rattle.std.specs.Option.{option_map, option_map_or}
 use Rattle.std.specs.Str.{bytes_eq}
 use Rattle.spa.specs.declared.aim.Aim.{Aim}
@@ -180,6 +180,14 @@ placed_with_supervisor o code = count_by (λ p. is_offered_by o code p.project) 
 -- how many students all rounds placed in a project
 abbrev pub placed_in_project : State → List ℕ → ℕ
 placed_in_project o code = count_by (λ p. bytes_eq code p.project) o.placements
+
+-- how many students the rounds 1 to n placed with a supervisor
+abbrev pub placed_with_supervisor_by : State → ℕ → List ℕ → ℕ
+placed_with_supervisor_by o n code = count_by (λ p. nat_le p.round n && is_offered_by o code p.project) o.placements
+
+-- how many students the rounds 1 to n placed in a project
+abbrev pub placed_in_project_by : State → ℕ → List ℕ → ℕ
+placed_in_project_by o n code = count_by (λ p. nat_le p.round n && bytes_eq code p.project) o.placements
 
 -- how many students a round placed
 abbrev pub placed_in_round : State → ℕ → ℕ

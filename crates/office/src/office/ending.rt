@@ -1,10 +1,11 @@
-//! The instance of the open round, and its closing.
+//! The instance of a round, and the closing of the open one.
 
 ghost use Rattle.std.specs.Prelude.{◌≡◌, IfOk, OnErr, IsTrue};
 ghost use Rattle.spa.specs.Named.{instance_of};
 ghost use Rattle.spa.specs.Coded.{taken};
 ghost use Rattle.rolls.specs.State.{round_is_open};
-ghost use Rattle.rolls.specs.Instances.{round_instance};
+ghost use Rattle.rolls.specs.Instances.{instance_left, instance_of_round, round_instance};
+ghost use Rattle.rolls.specs.Counted.{count_in, count_with};
 ghost use Rattle.rolls.specs.Answers.{IsClosed};
 ghost use Rattle.closing.specs.Places.{ArePlacesOf};
 ghost use Rattle.closing.specs.Changes as says;
@@ -17,19 +18,36 @@ use spa::{Instance, Matching};
 use std::alloc::AllocError;
 
 impl Office {
+    /// The instance of a round: the supervisors and projects with what the rounds up to one left of their quotas, or all rounds
+    /// where none is named, and the students with a list in it.
+    fn instance_left(&self, up_to: Option<u32>, round: u32) -> Result<Instance, AllocError>
+        ensures { let o = self.now in IfOk result (λ instance. instance_of instance ≡ instance_left (count_with up_to o.projects o.placements) (count_in up_to o.placements) o round) }
+    {
+        round_instance(
+            self.alloc,
+            up_to,
+            self.supervisors.entries(),
+            &self.projects,
+            self.placements.entries(),
+            self.lists(round),
+        )
+    }
+
+    /// The instance of a round, open or closed: the supervisors and projects with what the rounds before it left of their
+    /// quotas, and the students with a list in it.
+    pub fn instance_of_round(&self, round: u32) -> Result<Instance, AllocError>
+        ensures instance { IfOk result (λ instance. instance_of instance ≡ instance_of_round self.now round) }
+    {
+        self.instance_left(Some(round.saturating_sub(1)), round)
+    }
+
     /// The instance of the open round: the supervisors and projects with what is left of their quotas, and the students
     /// with a list in it.
     pub fn instance(&self) -> Result<Instance, AllocError>
         requires open { IsTrue (round_is_open self.now) }
         ensures instance { IfOk result (λ instance. instance_of instance ≡ round_instance self.now) }
     {
-        round_instance(
-            self.alloc,
-            self.supervisors.entries(),
-            &self.projects,
-            self.placements.entries(),
-            self.lists(self.last_round()),
-        )
+        self.instance_left(None, self.last_round())
     }
 
     /// Closes the open round with a matching of its instance. Out of memory the office stays as it was.

@@ -3,6 +3,7 @@ use Rattle.spa.specs.Instance.{Instance}
 use Rattle.spa.specs.Made.{IsFirstInstanceFault}
 use Rattle.rolls.specs.declared.entries.Project.{Project}
 use Rattle.rolls.specs.declared.rounds.Placement.{Placement}
+use Rattle.rolls.specs.Counted.{count_in, count_with}
 use Rattle.closing.specs.Inside.Handed.{supervisor_left, project_left}
 use Rattle.rolls.proofs.NoMoreThanFound.{few_placed}
 use Rattle.closing.proofs.RoundInstance.{instance_accepted, handed_rolls, parts_rolls}
@@ -32,22 +33,22 @@ projects_left-requires c =
 pub prove-unreachable-requires : goal.prove-unreachable-requires
 prove-unreachable-requires c =
     let are = c.requires in
-    let projects = c.in_ok-projects.ensures c.args.supervisors.now c.args.placements.now c.counted-counts.ensures ∙ ap (map (project_left c.args.placements.now)) c.entries-roll.ensures.all in
+    let projects = c.in_ok-projects.ensures c.args.up_to c.args.supervisors.now c.args.placements.now c.counted-counts.ensures ∙ ap (map (project_left c.args.up_to c.args.placements.now)) c.entries-roll.ensures.all in
     let supervisors =
-    c.in_ok-supervisors.ensures c.entries-roll.result.now c.args.placements.now c.counted-counts.ensures
-    ∙ ap (λ (ps : List Project). map (supervisor_left ps c.args.placements.now) c.args.supervisors.now) c.entries-roll.ensures.all in
-    let same = handed_rolls are.office _ _ _ _ are.parts _ _ _ supervisors projects c.in_ok-students.ensures in
+    c.in_ok-supervisors.ensures c.args.up_to c.entries-roll.result.now c.args.placements.now c.counted-counts.ensures
+    ∙ ap (λ (ps : List Project). map (supervisor_left c.args.up_to ps c.args.placements.now) c.args.supervisors.now) c.entries-roll.ensures.all in
+    let same = handed_rolls c.args.up_to are.office are.round _ _ _ _ are.parts _ _ _ supervisors projects c.in_ok-students.ensures in
     let fault = subst (λ (l : Instance). IsFirstInstanceFault l c.in-Err.fault) same c.in-Err.ensures.fault in
-    let memory = instance_accepted are.office are.fit c.in-Err.fault fault in
+    let memory = instance_accepted (count_with c.args.up_to (let o = are.office in o.projects) (let o = are.office in o.placements)) (count_in c.args.up_to (let o = are.office in o.placements)) are.office are.round are.fit c.in-Err.fault fault in
     elim c.match-matches.branch [
       | in-Memory w ↦ true≢false (sym w.matches-is ∙ c.if-prove.true)
       | in_default w ↦ w.in_default.not-Memory memory
     ]
 
 pub returns-in-Ok : goal.returns-in-Ok
-returns-in-Ok c o are =
-    let projects = c.in_ok-projects.ensures c.args.supervisors.now c.args.placements.now c.counted-counts.ensures ∙ ap (map (project_left c.args.placements.now)) c.entries-roll.ensures.all in
+returns-in-Ok c o n are =
+    let projects = c.in_ok-projects.ensures c.args.up_to c.args.supervisors.now c.args.placements.now c.counted-counts.ensures ∙ ap (map (project_left c.args.up_to c.args.placements.now)) c.entries-roll.ensures.all in
     let supervisors =
-    c.in_ok-supervisors.ensures c.entries-roll.result.now c.args.placements.now c.counted-counts.ensures
-    ∙ ap (λ (ps : List Project). map (supervisor_left ps c.args.placements.now) c.args.supervisors.now) c.entries-roll.ensures.all in
-    c.in-Ok.ensures.made ∙ handed_rolls o _ _ _ _ are _ _ _ supervisors projects c.in_ok-students.ensures
+    c.in_ok-supervisors.ensures c.args.up_to c.entries-roll.result.now c.args.placements.now c.counted-counts.ensures
+    ∙ ap (λ (ps : List Project). map (supervisor_left c.args.up_to ps c.args.placements.now) c.args.supervisors.now) c.entries-roll.ensures.all in
+    c.in-Ok.ensures.made ∙ handed_rolls c.args.up_to o n _ _ _ _ are _ _ _ supervisors projects c.in_ok-students.ensures
