@@ -1,4 +1,3 @@
-pub mod Risen
 pub mod SameRound
 pub mod Positions
 pub mod OneMoreStudent

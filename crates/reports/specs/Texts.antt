@@ -1,5 +1,5 @@
 -- The texts of the reports on a round: lines of bytes, each ended by 10.
-use Rattle.std.specs.Prelude.{ℕ, ◌-◌, ◌==◌, Bool, ◌&&◌, not, false, nat_le, List, [], ◌∷◌, ◌++◌, length, filter, flat_map, replicate, count_by, codes, decimal, if◌then◌else◌}
+use Rattle.std.specs.Prelude.{ℕ, ◌-◌, min, ◌==◌, Bool, ◌&&◌, not, false, List, [], ◌∷◌, ◌++◌, length, filter, flat_map, replicate, codes, decimal, if◌then◌else◌}
 use Rattle.std.specs.Option.{option_map_or}
 use Rattle.std.specs.List.{range_with_len}
 use Rattle.std.specs.Str.{bytes_eq}
@@ -9,8 +9,10 @@ use Rattle.rolls.specs.declared.entries.Project.{Project}
 use Rattle.rolls.specs.declared.entries.Student.{Student}
 use Rattle.rolls.specs.declared.rounds.Placement.{Placement}
 use Rattle.rolls.specs.declared.report.ReportKind.{ReportKind}
-use Rattle.rolls.specs.declared.report.ReportKind.TheVariants.{Profile, Loads, Unplaced, Placements}
-use Rattle.rolls.specs.State.{State, placement_of, is_open, lists_of, has_list, is_offered_by, placed_in_round, placed_at_rank}
+use Rattle.rolls.specs.declared.report.ReportKind.TheVariants.{Profile, Loads, Unplaced, Placements, Offers, Missing, Text}
+use Rattle.rolls.specs.State.{State, aim_of, placement_of, is_open, is_placed_before, lists_of, has_list, placed_in_project_by, placed_with_supervisor_by, placed_in_round, placed_at_rank}
+use Rattle.rolls.specs.Instances.{instance_of_round}
+use Rattle.intake.specs.Lines.{instance_text}
 
 -- a text, and spaces after it up to a width; a longer text stays as it is
 abbrev pub left : ℕ → List ℕ → List ℕ
@@ -59,6 +61,22 @@ supervisor_rows o n s = load_row 18 s.code (placed_with_supervisor_by o n s.code
 abbrev pub loads_text : State → ℕ → List ℕ
 loads_text o n = flat_map (supervisor_rows o n) o.supervisors
 
+-- how many places a project could still give after the rounds 1 to n: no more than are left with its supervisor
+abbrev pub places_left : State → ℕ → Supervisor → Project → ℕ
+places_left o n s p = min (p.quota - placed_in_project_by o n p.code) (s.quota - placed_with_supervisor_by o n s.code)
+
+-- a project with its places, the supervisor's code and name, and the title; 9 is the tabulator, which no name has
+abbrev pub offer_line : State → ℕ → Supervisor → Project → List ℕ
+offer_line o n s p = left 16 p.code ++ right 5 (places_left o n s p) ++ 32 ∷ left 16 s.code ++ 32 ∷ s.label ++ 9 ∷ p.label ++ 10 ∷ []
+
+-- the projects of a supervisor
+abbrev pub offers_of : State → ℕ → Supervisor → List ℕ
+offers_of o n s = flat_map (offer_line o n s) (filter (λ p. bytes_eq s.code p.supervisor) o.projects)
+
+-- `offers`: the projects of each supervisor, with the places that the rounds before n left
+abbrev pub offers_text : State → ℕ → List ℕ
+offers_text o n = flat_map (offers_of o (n - 1)) o.supervisors
+
 -- whether the round n placed a student
 abbrev pub is_placed_by : State → ℕ → List ℕ → Bool
 is_placed_by o n student = option_map_or (λ p. p.round == n) (placement_of o student) false
@@ -75,6 +93,14 @@ student_line s = left 16 s.code ++ 32 ∷ s.label ++ 10 ∷ []
 abbrev pub unplaced_text : State → ℕ → List ℕ
 unplaced_text o n = flat_map student_line (filter (is_unplaced o n) o.students)
 
+-- whether a student has no list in the round n, and no round before it placed the student
+abbrev pub is_missing : State → ℕ → Student → Bool
+is_missing o n s = not (has_list o n s.code) && not (is_placed_before o s.code n)
+
+-- `missing`: the students who could have a list in the round n and have none
+abbrev pub missing_text : State → ℕ → List ℕ
+missing_text o n = flat_map student_line (filter (is_missing o n) o.students)
+
 -- a student with the project and its rank
 abbrev pub placement_line : Placement → List ℕ
 placement_line p = left 16 p.student ++ 32 ∷ left 16 p.project ++ 32 ∷ right 2 p.rank ++ 10 ∷ []
@@ -89,3 +115,6 @@ report_text o Profile n = profile_text o n
 report_text o Loads n = loads_text o n
 report_text o Unplaced n = unplaced_text o n
 report_text o Placements n = placements_text o n
+report_text o Offers n = offers_text o n
+report_text o Missing n = missing_text o n
+report_text o Text n = instance_text (aim_of o n) (instance_of_round o n)

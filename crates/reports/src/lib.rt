@@ -7,23 +7,27 @@
 #![tactic(auto)]
 
 mod find;
-mod loads_report;
+mod places_report;
 mod placements_report;
 mod profile_report;
-mod unplaced_report;
+mod students_report;
+mod text_report;
 
 ghost use Rattle.std.specs.Prelude.{◌≡◌, ◌⊎◌, IfOk, IfErr, Some, None, string_bytes};
 ghost use Rattle.rolls.specs.Refusing.{refusal_of};
 ghost use Rattle.rolls.specs.declared.request.Request.TheVariants as request;
 ghost use Rattle.reports.specs.Texts.{report_text};
 
-use loads_report::loads;
+use places_report::{Places, places};
 use office::Office;
 use placements_report::placements;
 use profile_report::profile;
 use rolls::{Refusal, ReportKind, Request};
 use std::alloc::Global;
-use unplaced_report::unplaced;
+use students_report::{Whom, students};
+use text_report::text;
+
+pub use text_report::instance_text;
 
 /// A report on a round that the office knows.
 pub fn report(
@@ -41,8 +45,11 @@ pub fn report(
     }
     Ok(match kind {
         ReportKind::Profile => profile(alloc, office, round)?,
-        ReportKind::Loads => loads(alloc, office, round)?,
-        ReportKind::Unplaced => unplaced(alloc, office, round)?,
+        ReportKind::Loads => places(alloc, office, Places::Loads, round)?,
+        ReportKind::Unplaced => students(alloc, office, Whom::Unplaced, round)?,
         ReportKind::Placements => placements(alloc, office, round)?,
+        ReportKind::Offers => places(alloc, office, Places::Offers, round.saturating_sub(1))?,
+        ReportKind::Missing => students(alloc, office, Whom::Missing, round)?,
+        ReportKind::Text => text(alloc, office, round)?,
     })
 }

@@ -1,4 +1,4 @@
-use Rattle.std.proofs.Common.{◌≡◌, ◌++◌, List, None, map, drop}
+use Rattle.std.proofs.Common.{◌≡◌, ℕ, ◌++◌, List, Option, map, drop}
 use Rattle.rolls.specs.declared.entries.Supervisor.{Supervisor}
 use Rattle.rolls.specs.declared.rounds.Placement.{Placement}
 use Rattle.rolls.specs.Counted.{AreCounted}
@@ -6,5 +6,5 @@ use Rattle.closing.specs.Inside.Handed.{project_left}
 use Rattle.closing.proofs.making.projects_left.Given as goal
 
 abbrev pub invariant-loop-position : goal.invariant-loop-position
-invariant-loop-position l = (supervisors : List Supervisor) (placements : List Placement) → AreCounted None supervisors l.projects placements l.counts
-    → l.roll.items ++ map (project_left placements) (drop l.position l.projects) ≡ map (project_left placements) l.projects
+invariant-loop-position l = (up_to : Option ℕ) (supervisors : List Supervisor) (placements : List Placement) → AreCounted up_to supervisors l.projects placements l.counts
+    → l.roll.items ++ map (project_left up_to placements) (drop l.position l.projects) ≡ map (project_left up_to placements) l.projects

@@ -1,4 +1,4 @@
-use Rattle.std.proofs.Common.{◌≡◌, ◌++◌, List, None, map, drop}
+use Rattle.std.proofs.Common.{◌≡◌, ℕ, ◌++◌, List, Option, map, drop}
 use Rattle.rolls.specs.declared.entries.Project.{Project}
 use Rattle.rolls.specs.declared.rounds.Placement.{Placement}
 use Rattle.rolls.specs.Counted.{AreCounted}
@@ -6,5 +6,5 @@ use Rattle.closing.specs.Inside.Handed.{supervisor_left}
 use Rattle.closing.proofs.making.supervisors_left.Given as goal
 
 abbrev pub invariant-loop-position : goal.invariant-loop-position
-invariant-loop-position l = (projects : List Project) (placements : List Placement) → AreCounted None l.supervisors projects placements l.counts
-    → l.roll.items ++ map (supervisor_left projects placements) (drop l.position l.supervisors) ≡ map (supervisor_left projects placements) l.supervisors
+invariant-loop-position l = (up_to : Option ℕ) (projects : List Project) (placements : List Placement) → AreCounted up_to l.supervisors projects placements l.counts
+    → l.roll.items ++ map (supervisor_left up_to projects placements) (drop l.position l.supervisors) ≡ map (supervisor_left up_to projects placements) l.supervisors

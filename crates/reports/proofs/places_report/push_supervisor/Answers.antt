@@ -1,6 +1,6 @@
 use Rattle.std.proofs.Common.{ℕ, ◌++◌, string_bytes, ap, ◌∙◌, append_assoc}
 use Rattle.reports.specs.Texts.{load_row, placed_with_supervisor_by, offered_rows}
-use Rattle.reports.proofs.loads_report.push_supervisor.Goals as goal
+use Rattle.reports.proofs.places_report.push_supervisor.Goals as goal
 
 pub returns : goal.returns
 returns c n at are =

@@ -3,7 +3,7 @@ use Rattle.std.specs.Fmt.{styled_text, styled_decimal}
 use Rattle.reports.proofs.Widths.{left_code, right_number}
 use Rattle.reports.proofs.Lines.{joined}
 use Rattle.reports.specs.Texts.{left, right}
-use Rattle.reports.proofs.loads_report.push_load.Goals as goal
+use Rattle.reports.proofs.places_report.push_load.Goals as goal
 
 pub returns : goal.returns
 returns c =

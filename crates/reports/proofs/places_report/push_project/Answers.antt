@@ -2,7 +2,7 @@ use Rattle.std.proofs.Common.{◌++◌, [], ◌∷◌, string_bytes, sym, ap, �
 use Rattle.std.specs.Str.{bytes_eq}
 use Rattle.reports.proofs.Lines.{chosen}
 use Rattle.reports.specs.Texts.{load_row, project_line, placed_in_project_by}
-use Rattle.reports.proofs.loads_report.push_project.Goals as goal
+use Rattle.reports.proofs.places_report.push_project.Goals as goal
 
 pub returns-in_ok-push_load : goal.returns-in_ok-push_load
 returns-in_ok-push_load c o n at are =

@@ -2,8 +2,9 @@ use Rattle.std.proofs.Common.{◌++◌, [], ◌∷◌, string_bytes, sym, ap, �
 use Rattle.std.specs.Fmt.{styled_text}
 use Rattle.reports.proofs.Widths.{left_code}
 use Rattle.reports.proofs.Lines.{chosen}
-use Rattle.reports.specs.Texts.{left, is_unplaced, student_line}
-use Rattle.reports.proofs.unplaced_report.push_student.Goals as goal
+use Rattle.reports.specs.Texts.{left, student_line}
+use Rattle.reports.specs.Inside.Texts.{is_named}
+use Rattle.reports.proofs.students_report.push_student.Goals as goal
 
 pub returns-in_ok-writeln : goal.returns-in_ok-writeln
 returns-in_ok-writeln c =
@@ -12,4 +13,4 @@ returns-in_ok-writeln c =
     let label = c.as_str-label.ensures.value in
     c.in_ok-writeln.ensures.bytes ∙ (λ i. string_bytes c.args.out.now ++ (code i ++ (32 ∷ (label i ++ 10 ∷ []))))
     ∙ ap (λ l. string_bytes c.args.out.now ++ l) (sym (append_assoc (left 16 s.code) (32 ∷ s.label) (10 ∷ [])))
-    ∙ ap (λ l. string_bytes c.args.out.now ++ l) (chosen student_line (is_unplaced c.args.office.now c.args.round) c.args.student.now (sym c.is_unplaced.ensures ∙ c.if-is_unplaced.true))
+    ∙ ap (λ l. string_bytes c.args.out.now ++ l) (chosen student_line (is_named c.args.whom c.args.office.now c.args.round) c.args.student.now (sym c.is_named.ensures ∙ c.if-is_named.true))

@@ -1,7 +1,7 @@
 use Rattle.std.proofs.Common.{◌==◌, false, Option, ap}
 use Rattle.std.specs.Option.{option_map_or}
 use Rattle.rolls.specs.declared.rounds.Placement.{Placement}
-use Rattle.reports.proofs.unplaced_report.is_placed_by.Goals as goal
+use Rattle.reports.proofs.students_report.is_placed_by.Goals as goal
 
 pub returns-in-Some : goal.returns-in-Some
 returns-in-Some c = ap (λ (x : Option Placement). option_map_or (λ p. p.round == c.args.round) x false) c.in-Some.ensures

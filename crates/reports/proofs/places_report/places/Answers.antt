@@ -8,9 +8,8 @@ use Rattle.rolls.specs.State.{State}
 use Rattle.rolls.specs.Counted.{AreCounted}
 use Rattle.office.proofs.Few.{placements_few}
 use Rattle.reports.proofs.Lines.{next, appended}
-use Rattle.reports.specs.Inside.Texts.{AreLoads}
-use Rattle.reports.specs.Texts.{supervisor_rows}
-use Rattle.reports.proofs.loads_report.loads.Goals as goal
+use Rattle.reports.specs.Inside.Texts.{AreLoads, rows_of}
+use Rattle.reports.proofs.places_report.places.Goals as goal
 
 pub counted-counts-requires-clause-few : goal.counted-counts-requires-clause-few
 counted-counts-requires-clause-few c =
@@ -26,11 +25,11 @@ counts_of o n supervisors projects placements counts s p q are =
     (subst (λ (ps : List Project). AreCounted (Some n) supervisors ps o.placements counts) p
     (subst (λ (qs : List Placement). AreCounted (Some n) supervisors projects qs counts) q are))
 
-pub loop-position-preserved : goal.loop-position-preserved
-loop-position-preserved c =
+pub loop-at-preserved : goal.loop-at-preserved
+loop-at-preserved c =
     let all = c.supervisors-supervisors.result.now in
-    let k = c.loop-position.position in
-    let left = next all k c.index-supervisors-position.result c.loop-position-test.true c.index-supervisors-position.is in
-    let at = ap (λ (ss : List Supervisor). slice_get ss k) (sym c.supervisors-supervisors.ensures.all) ∙ slice_get_read all (length all) k c.index-supervisors-position.result refl c.loop-position-test.true c.index-supervisors-position.is in
+    let k = c.loop-at.at in
+    let left = next all k c.index-supervisors-at.result c.loop-at-test.true c.index-supervisors-at.is in
+    let at = ap (λ (ss : List Supervisor). slice_get ss k) (sym c.supervisors-supervisors.ensures.all) ∙ slice_get_read all (length all) k c.index-supervisors-at.result refl c.loop-at-test.true c.index-supervisors-at.is in
     let are = counts_of c.args.office.now c.args.round all c.projects.result.now c.placements.result.now c.counted-counts.result c.supervisors-supervisors.ensures.all c.projects.ensures.all c.placements.ensures.all c.counted-counts.ensures in
-    appended (supervisor_rows c.args.office.now c.args.round) _ _ _ _ _ _ left (c.in_ok-push_supervisor.ensures c.args.round at are) c.loop-position.invariant
+    appended (rows_of c.args.told c.args.office.now c.args.round) _ _ _ _ _ _ left (c.in_ok-push_supervisor.ensures c.args.round at are) c.loop-at.invariant

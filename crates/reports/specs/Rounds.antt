@@ -1,0 +1,12 @@
+-- The instances that an office has.
+use Rattle.std.specs.Prelude.{◌≡◌, ℕ, List}
+use Rattle.spa.specs.Instance.{Instance}
+use Rattle.rolls.specs.State.{State}
+use Rattle.rolls.specs.Instances.{instance_left}
+
+-- the instance of a round of the office, whatever is taken
+pub record IsRoundOf (o : State) (l : Instance) : Type 0 where
+  pub round : ℕ
+  pub with_supervisor : List ℕ → ℕ
+  pub in_project : List ℕ → ℕ
+  pub same : l ≡ instance_left with_supervisor in_project o round

@@ -1,0 +1,36 @@
+//! The texts of rounds.
+
+ghost use Rattle.std.specs.Prelude.{◌≡◌, IfOk, string_bytes};
+ghost use Rattle.spa.specs.Named.{instance_of};
+ghost use Rattle.rolls.specs.State.{aim_of};
+ghost use Rattle.rolls.specs.Instances.{instance_of_round};
+ghost use Rattle.intake.specs.Lines.{instance_text};
+ghost use Rattle.reports.specs.Rounds.{IsRoundOf};
+
+use intake::write_round;
+use office::Office;
+use spa::{Aim, Instance};
+use std::alloc::{AllocError, Global};
+
+/// The text of an instance that a round of the office has, and of an aim.
+pub fn instance_text(
+    alloc: Global,
+    office: &Office,
+    instance: &Instance,
+    aim: Aim,
+) -> Result<String, AllocError>
+    requires { IsRoundOf office.now (instance_of instance.now) }
+    ensures { IfOk result (λ text. string_bytes text ≡ instance_text aim (instance_of instance.now)) }
+{
+    office.fit();
+    instance.fit();
+    write_round(alloc, instance, aim, None)
+}
+
+/// The text of a round, open or closed.
+pub fn text(alloc: Global, office: &Office, round: u32) -> Result<String, AllocError>
+    ensures { IfOk result (λ text. string_bytes text ≡ instance_text (aim_of office.now round) (instance_of_round office.now round)) }
+{
+    let instance = office.instance_of_round(round)?;
+    instance_text(alloc, office, &instance, office.aim_of(round))
+}
