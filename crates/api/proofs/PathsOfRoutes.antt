@@ -225,8 +225,11 @@ all_standing =
     ∷ lies (codes "/preview") (read call.Preview) refl refl refl
     ∷ alone (codes "/projects/") 9 (entry put.Project call.GetProject) refl refl refl refl refl
     ∷ alone (codes "/reports/loads/") 14 (numbered (call.Report of.Loads)) refl refl refl refl refl
+    ∷ alone (codes "/reports/missing/") 16 (numbered (call.Report of.Missing)) refl refl refl refl refl
+    ∷ alone (codes "/reports/offers/") 15 (numbered (call.Report of.Offers)) refl refl refl refl refl
     ∷ alone (codes "/reports/placements/") 19 (numbered (call.Report of.Placements)) refl refl refl refl refl
     ∷ alone (codes "/reports/profile/") 16 (numbered (call.Report of.Profile)) refl refl refl refl refl
+    ∷ alone (codes "/reports/text/") 13 (numbered (call.Report of.Text)) refl refl refl refl refl
     ∷ alone (codes "/reports/unplaced/") 17 (numbered (call.Report of.Unplaced)) refl refl refl refl refl
     ∷ lies (codes "/rounds/close") (asked call.Close) refl refl refl
     ∷ lies (codes "/rounds/reopen") (asked call.ReopenRound) refl refl refl

@@ -218,7 +218,7 @@ fn import(kind: ImportKind) -> Methods
 }
 
 /// How many routes there are.
-const ROUTES: usize = 18;
+const ROUTES: usize = 21;
 
 /// The routes: the paths that they are for, and what each method asks of them.
 fn routes() -> [(&'static str, Methods); ROUTES]
@@ -240,12 +240,24 @@ fn routes() -> [(&'static str, Methods); ROUTES]
             numbered(Call::Report(ReportKind::Loads)),
         ),
         (
+            "/reports/missing/{code}",
+            numbered(Call::Report(ReportKind::Missing)),
+        ),
+        (
+            "/reports/offers/{code}",
+            numbered(Call::Report(ReportKind::Offers)),
+        ),
+        (
             "/reports/placements/{code}",
             numbered(Call::Report(ReportKind::Placements)),
         ),
         (
             "/reports/profile/{code}",
             numbered(Call::Report(ReportKind::Profile)),
+        ),
+        (
+            "/reports/text/{code}",
+            numbered(Call::Report(ReportKind::Text)),
         ),
         (
             "/reports/unplaced/{code}",

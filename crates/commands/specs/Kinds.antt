@@ -3,7 +3,7 @@ use Rattle.std.specs.Prelude.{ℕ, List, [], ◌∷◌, codes}
 use Rattle.rolls.specs.declared.import.ImportKind.{ImportKind}
 use Rattle.rolls.specs.declared.import.ImportKind.TheVariants.{Supervisors, Projects, Students, Lists}
 use Rattle.rolls.specs.declared.report.ReportKind.{ReportKind}
-use Rattle.rolls.specs.declared.report.ReportKind.TheVariants.{Profile, Loads, Unplaced, Placements}
+use Rattle.rolls.specs.declared.report.ReportKind.TheVariants.{Profile, Loads, Unplaced, Placements, Offers, Missing, Text}
 
 -- the kinds of imports
 abbrev pub import_kinds : List ImportKind
@@ -11,7 +11,7 @@ import_kinds = Supervisors ∷ Projects ∷ Students ∷ Lists ∷ []
 
 -- the kinds of reports
 abbrev pub report_kinds : List ReportKind
-report_kinds = Profile ∷ Loads ∷ Unplaced ∷ Placements ∷ []
+report_kinds = Profile ∷ Loads ∷ Unplaced ∷ Placements ∷ Offers ∷ Missing ∷ Text ∷ []
 
 -- the word by which a command names a kind of reports
 abbrev pub report_word : ReportKind → List ℕ
@@ -19,3 +19,6 @@ report_word Profile = codes "profile"
 report_word Loads = codes "loads"
 report_word Unplaced = codes "unplaced"
 report_word Placements = codes "placements"
+report_word Offers = codes "offers"
+report_word Missing = codes "missing"
+report_word Text = codes "text"

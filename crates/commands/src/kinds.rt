@@ -18,11 +18,14 @@ const IMPORT_KINDS: [ImportKind; 4] = [
 ];
 
 /// The kinds of reports.
-const REPORT_KINDS: [ReportKind; 4] = [
+const REPORT_KINDS: [ReportKind; 7] = [
     ReportKind::Profile,
     ReportKind::Loads,
     ReportKind::Unplaced,
     ReportKind::Placements,
+    ReportKind::Offers,
+    ReportKind::Missing,
+    ReportKind::Text,
 ];
 
 /// The word of a kind of reports.
@@ -34,6 +37,9 @@ fn report_word(kind: ReportKind) -> &'static str
         ReportKind::Loads => "loads",
         ReportKind::Unplaced => "unplaced",
         ReportKind::Placements => "placements",
+        ReportKind::Offers => "offers",
+        ReportKind::Missing => "missing",
+        ReportKind::Text => "text",
     }
 }
 
@@ -46,15 +52,18 @@ pub(crate) fn import_words() -> [&'static str; 4]
 }
 
 /// The words of the kinds of reports.
-pub(crate) fn report_words() -> [&'static str; 4]
+pub(crate) fn report_words() -> [&'static str; 7]
     ensures { map (λ w. w.now) result ≡ map report_word report_kinds }
 {
-    let [first, second, third, fourth] = REPORT_KINDS;
+    let [first, second, third, fourth, fifth, sixth, seventh] = REPORT_KINDS;
     [
         report_word(first),
         report_word(second),
         report_word(third),
         report_word(fourth),
+        report_word(fifth),
+        report_word(sixth),
+        report_word(seventh),
     ]
 }
 

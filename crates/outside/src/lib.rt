@@ -22,8 +22,9 @@ ghost use Rattle.outside.specs.Layers.{layers, refused_as};
 ghost use Rattle.outside.specs.Changes.{MayChange};
 
 use closing::places_law;
-use intake::{ImportFault, read_import, write_round};
+use intake::{ImportFault, read_import};
 use office::Office;
+use reports::instance_text;
 use rolls::{Bytes, Done, ImportKind, Refusal, Reply, ReportKind, Text};
 pub use sitting::{join, read_preview, sit};
 use solver::solve;
@@ -50,11 +51,8 @@ pub fn round_text(alloc: Global, office: &Office) -> Result<Reply, AllocError>
     requires open { IsTrue (round_is_open office.now) }
     ensures made { IfOk result (λ reply. Makes layers office.now request.RoundText reply office.now) }
 {
-    office.fit();
     let instance = office.instance()?;
-    instance.fit();
-    let aim = office.last_aim();
-    let text = write_round(alloc, &instance, aim, None)?;
+    let text = instance_text(alloc, office, &instance, office.last_aim())?;
     Ok(Reply::Text(Text::of(alloc, text.as_str())?))
 }
 

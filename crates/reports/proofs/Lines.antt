@@ -12,9 +12,12 @@ pub next_number : (a n m : ℕ) → n ≡ m + 1 → range_with_len a n ≡ a ∷
 next_number a zero m h = absurd (omega (arith, h))
 next_number a (suc n) m h = ap (λ k. a ∷ range_with_len (a + 1) k) (let e : n ≡ m = omega (arith, h) in e)
 
--- four texts, joined from the right or from the left
+-- texts, joined from the right or from the left
 pub joined : (a b c d : List ℕ) → a ++ (b ++ (c ++ d)) ≡ a ++ b ++ c ++ d
 joined a b c d = simp append_assoc
+
+pub joined_six : (a b c d e f : List ℕ) → a ++ (b ++ (c ++ (d ++ (e ++ f)))) ≡ a ++ b ++ c ++ d ++ e ++ f
+joined_six a b c d e f = simp append_assoc
 
 module _ {X : Type 0} (f : X → List ℕ) where
   -- what was written, followed by the lines of all entries that are left, is the whole; it is so after the lines of the first

@@ -18,7 +18,7 @@ ghost use Rattle.rolls.specs.Refusing.{refusal_of};
 ghost use Rattle.rolls.specs.declared.request.Request.TheVariants as request;
 ghost use Rattle.reports.specs.Texts.{report_text};
 
-use places_report::{Places, places};
+use places_report::{Places, by_supervisor};
 use office::Office;
 use placements_report::placements;
 use profile_report::profile;
@@ -45,10 +45,10 @@ pub fn report(
     }
     Ok(match kind {
         ReportKind::Profile => profile(alloc, office, round)?,
-        ReportKind::Loads => places(alloc, office, Places::Loads, round)?,
+        ReportKind::Loads => by_supervisor(alloc, office, Places::Loads, round)?,
         ReportKind::Unplaced => students(alloc, office, Whom::Unplaced, round)?,
         ReportKind::Placements => placements(alloc, office, round)?,
-        ReportKind::Offers => places(alloc, office, Places::Offers, round.saturating_sub(1))?,
+        ReportKind::Offers => by_supervisor(alloc, office, Places::Offers, round.saturating_sub(1))?,
         ReportKind::Missing => students(alloc, office, Whom::Missing, round)?,
         ReportKind::Text => text(alloc, office, round)?,
     })

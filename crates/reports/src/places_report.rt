@@ -126,7 +126,7 @@ fn push_supervisor(
 }
 
 /// What is told of the places that the rounds up to this one took. The placements are counted in one pass.
-pub fn places(
+pub fn by_supervisor(
     alloc: Global,
     office: &Office,
     told: Places,

@@ -14,6 +14,9 @@ fn report_name(kind: ReportKind) -> &'static str {
         ReportKind::Loads => "Loads",
         ReportKind::Unplaced => "Unplaced",
         ReportKind::Placements => "Placements",
+        ReportKind::Offers => "Offers",
+        ReportKind::Missing => "Missing",
+        ReportKind::Text => "Text",
     }
 }
 

@@ -1,4 +1,4 @@
-use Rattle.std.proofs.Common.{refl, ◌-◌, map, None, sym, subst, ◌∙◌}
+use Rattle.std.proofs.Common.{◌≡◌, ℕ, ◌-◌, List, map, None, IfOk, string_bytes, refl, sym, subst}
 use Rattle.spa.specs.Instance.{Instance, Supervisor, Project, Student, supervisor_codes, project_codes, student_codes}
 use Rattle.spa.specs.Named.{Named, instance_of, students_named}
 use Rattle.rolls.specs.State.{State, supervisor_key, project_key, list_key, lists_of}
@@ -33,4 +33,4 @@ returns c =
     let i : Named = c.args.instance.now in
     let nobody = no_pairs (students_named i.project_codes i.student_codes i.shape.students) i.shape.students in
     let alone = instance_alone c.args.aim (instance_of i) (map (λ e. None) i.shape.students) nobody in
-    c.write_round.ensures.text ∙ sym alone
+    subst (λ (t : List ℕ). IfOk c.write_round.result (λ text. string_bytes text ≡ t)) (sym alone) c.write_round.ensures.text

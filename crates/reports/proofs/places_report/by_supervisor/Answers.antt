@@ -9,7 +9,7 @@ use Rattle.rolls.specs.Counted.{AreCounted}
 use Rattle.office.proofs.Few.{placements_few}
 use Rattle.reports.proofs.Lines.{next, appended}
 use Rattle.reports.specs.Inside.Texts.{AreLoads, rows_of}
-use Rattle.reports.proofs.places_report.places.Goals as goal
+use Rattle.reports.proofs.places_report.by_supervisor.Goals as goal
 
 pub counted-counts-requires-clause-few : goal.counted-counts-requires-clause-few
 counted-counts-requires-clause-few c =
