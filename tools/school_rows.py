@@ -18,7 +18,7 @@ BITS = (1 << 64) - 1
 SUPERVISORS, PROJECTS, STUDENTS, ROUNDS, RANKS, IMPORTS, BYTES = 100, 400, 500, 12, 12, 200, 65_536
 FIRST = 1000
 PREFIX = {"supervisor": "L23456789012", "project": "P23456789012", "student": "S23456789012", "import": "I23456789012"}
-REPORTS = "profile", "loads", "unplaced", "placements"
+REPORTS = "profile", "loads", "unplaced", "placements", "offers", "missing", "text"
 
 
 def cell(text):
@@ -44,7 +44,7 @@ class Books:
     """The rolls and the rounds of a school, by position."""
 
     def __init__(self):
-        self.supervisors, self.projects, self.rounds = [4] * SUPERVISORS, [0] * PROJECTS, []
+        self.supervisors, self.projects, self.rounds, self.aims = [4] * SUPERVISORS, [0] * PROJECTS, [], []
 
     def taken(self, number):
         """How many are placed in each project by the rounds up to this one."""
@@ -54,8 +54,14 @@ class Books:
                 taken[lists[student][rank - 1]] += 1
         return taken
 
-    def room(self):
-        return [quota - count for quota, count in zip(self.projects, self.taken(ROUNDS))]
+    def room(self, number=ROUNDS):
+        """What is left of the projects' quotas after the rounds up to this one."""
+        return [quota - count for quota, count in zip(self.projects, self.taken(number))]
+
+    def room_with(self, number):
+        """What is left of the supervisors'."""
+        taken = self.taken(number)
+        return [quota - sum(taken[at::SUPERVISORS]) for at, quota in enumerate(self.supervisors)]
 
     def best(self, is_last=False):
         """The ranks of those who are placed in the last round: as it is closed there is just one best matching."""
@@ -87,19 +93,28 @@ class Books:
             return "".join(f"{code('student', at):16} {label('student', at)}\n" for at in sorted(lists) if at not in pairs)
         if kind == "placements":
             return "".join(f"{code('student', at):16} {code('project', lists[at][pairs[at] - 1]):16} {pairs[at]:2}\n" for at in sorted(pairs))
-        taken, text = self.taken(number), ""
+        if kind == "missing":
+            gone = {at for _, _, pairs in self.rounds[:number - 1] for at in pairs}
+            return "".join(f"{code('student', at):16} {label('student', at)}\n" for at in range(STUDENTS) if at not in lists and at not in gone)
+        if kind == "text":
+            return self.round_text(number)
+        taken, room, room_with, text = self.taken(number), self.room(number - 1), self.room_with(number - 1), ""
         for owner, quota in enumerate(self.supervisors):
             of_owner = range(owner, PROJECTS, SUPERVISORS)
+            by = f"{code('supervisor', owner):16} {label('supervisor', owner)}"
+            if kind == "offers":
+                text += "".join(f"{code('project', at):16}{min(room[at], room_with[owner]):5} {by}\t{label('project', at)}\n" for at in of_owner)
+                continue
             text += f"{code('supervisor', owner):18}{sum(taken[at] for at in of_owner):5}{quota:5}\n"
             text += "".join(f"  {code('project', at):16}{taken[at]:5}{self.projects[at]:5}\n" for at in of_owner)
         return text
 
-    def round_text(self):
-        """The text of the open round: quotas are what is left of them."""
-        room, taken = self.room(), self.taken(ROUNDS)
-        lines = [f"S,{code('supervisor', at)},{quota - sum(taken[at::SUPERVISORS])}" for at, quota in enumerate(self.supervisors)]
-        lines += [f"P,{code('project', at)},{code('supervisor', at % SUPERVISORS)},{left}" for at, left in enumerate(room)]
-        lists = sorted(self.rounds[-1][1].items())
+    def round_text(self, number):
+        """The text of a round: quotas are what the rounds before it left of them."""
+        lines = ["A,generous"] if self.aims[number - 1] == "generous" else []
+        lines += [f"S,{code('supervisor', at)},{left}" for at, left in enumerate(self.room_with(number - 1))]
+        lines += [f"P,{code('project', at)},{code('supervisor', at % SUPERVISORS)},{left}" for at, left in enumerate(self.room(number - 1))]
+        lists = sorted(self.rounds[number - 1][1].items())
         lines += [f"C,{code('student', at)},{','.join(code('project', project) for project in chosen)}" for at, chosen in lists]
         return "".join(line + "\n" for line in lines)
 
@@ -208,12 +223,14 @@ class Rows:
         profile = ",".join(str(ranks.count(rank)) for rank in range(1, RANKS + 1))
         self.ask("0 1 kept", "GET /preview", "", f'{{"profile":[{profile}],"size":{len(ranks)}}}')
 
-    def text(self, line):
-        self.ask("0 1 kept", "GET /roundtext", "", cell(line + self.books.round_text()))
+    def text(self, number):
+        self.ask("0 1 kept", "GET /roundtext", "", cell(self.books.round_text(number)))
 
     def open(self, number, aim):
         self.ask("0 1 none", "POST /rounds", f'{{"aim":"{aim}"}}', f'{{"round":{number}}}')
         self.books.rounds.append((True, {}, {}))
+        self.books.aims.append(aim)
+        self.reports([number], ["missing"])
 
     def closing(self, number):
         """What closing answers over HTTP, and what the command prints."""
@@ -225,9 +242,9 @@ class Rows:
     def close(self, number):
         self.ask("0 1 none", "POST /rounds/close", "", self.closing(number)[0])
 
-    def reports(self, numbers):
+    def reports(self, numbers, kinds=REPORTS):
         for number in numbers:
-            for kind in REPORTS:
+            for kind in kinds:
                 self.ask("0 1", f"GET /reports/{kind}/{number}", "", cell(self.books.report(kind, number)))
 
     def rolls(self):
@@ -257,7 +274,7 @@ class Rows:
         self.preview()
         self.put_lists(steps, 1, 0, 486, winner)
         self.put_lists(steps[-1:] + steps[:-1], 1, 0, winner, winner + 1)
-        self.text("A,generous\n" if number % 2 else "")
+        self.text(number)
         self.close(number)
         self.reports([number])
 
@@ -278,7 +295,7 @@ class Rows:
         self.ask("0 1 none", "POST /rounds/reopen", "", f'{{"round":{ROUNDS}}}')
         self.books.rounds[-1] = (True, self.books.rounds[-1][1], {})
         self.preview()
-        self.text("")
+        self.text(ROUNDS)
         self.close(ROUNDS)
         self.reports([ROUNDS])
         self.add('0 1 | POST /imports/students/LAST | code,name^n | 409 Conflict | {"fault":"RollFull","number":12}')
@@ -306,6 +323,7 @@ class Rows:
         self.books = Books()
         self.books.projects = [1] * PROJECTS
         lists = {at: [(at + 50 * k) % PROJECTS for k in range(8)] for at in range(STUDENTS)}
+        self.books.aims = ["greedy"] * ROUNDS
         self.books.rounds = [(False, lists, {at: 8 for at in range(PROJECTS)} if number == ROUNDS else {}) for number in range(1, ROUNDS + 1)]
         self.add("sql oldest.db edition1.sql", "sql oldest.db full.sql", "copy oldest.db older.db", "sql older.db edition2.sql")
         self.command(f"report oldest.db placements {ROUNDS}", self.books.report("placements", ROUNDS))

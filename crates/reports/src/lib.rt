@@ -7,8 +7,8 @@
 #![tactic(auto)]
 
 mod find;
-mod places_report;
 mod placements_report;
+mod places_report;
 mod profile_report;
 mod students_report;
 mod text_report;
@@ -18,16 +18,15 @@ ghost use Rattle.rolls.specs.Refusing.{refusal_of};
 ghost use Rattle.rolls.specs.declared.request.Request.TheVariants as request;
 ghost use Rattle.reports.specs.Texts.{report_text};
 
-use places_report::{Places, by_supervisor};
 use office::Office;
 use placements_report::placements;
+use places_report::{Places, by_supervisor};
 use profile_report::profile;
 use rolls::{Refusal, ReportKind, Request};
 use std::alloc::Global;
 use students_report::{Whom, students};
-use text_report::text;
-
 pub use text_report::instance_text;
+use text_report::text;
 
 /// A report on a round that the office knows.
 pub fn report(
@@ -48,7 +47,12 @@ pub fn report(
         ReportKind::Loads => by_supervisor(alloc, office, Places::Loads, round)?,
         ReportKind::Unplaced => students(alloc, office, Whom::Unplaced, round)?,
         ReportKind::Placements => placements(alloc, office, round)?,
-        ReportKind::Offers => by_supervisor(alloc, office, Places::Offers, round.saturating_sub(1))?,
+        ReportKind::Offers => by_supervisor(
+            alloc,
+            office,
+            Places::Offers,
+            round.saturating_sub(1),
+        )?,
         ReportKind::Missing => students(alloc, office, Whom::Missing, round)?,
         ReportKind::Text => text(alloc, office, round)?,
     })

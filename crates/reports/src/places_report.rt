@@ -100,7 +100,15 @@ fn push_offered(
     office.fit();
     let projects = office.projects();
     for position in 0..projects.len() {
-        push_project(out, told, counts, at, supervisor, position, &projects[position])?;
+        push_project(
+            out,
+            told,
+            counts,
+            at,
+            supervisor,
+            position,
+            &projects[position],
+        )?;
     }
     Ok(())
 }
