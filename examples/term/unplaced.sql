@@ -1,4 +1,0 @@
-SELECT code, label AS name
-FROM student
-WHERE code NOT IN (SELECT student FROM placement12)
-ORDER BY code;
