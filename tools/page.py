@@ -32,7 +32,7 @@ import time
 from firefox import Firefox
 from nginx import started
 from office import TOP, copy, free_port, read, serving
-from people_pages import LEAVING, MUTANTS, People
+from people_pages import MUTANTS, People
 from sheets import guided
 
 ELEMENT = "element-6066-11e4-a52e-4f735466cecf"
@@ -46,7 +46,9 @@ FIRST, TERM = (
 OFFICE_MUTANTS = [
     ("first_round", "office.html", 'kind === "best" && /^C,/m', 'kind === "best" && /^/m', "no proof: ''"),
     ("first_round", "office.html", "file.slice(0, MOST_TEXT + 1)", "file.slice(0, 8)", "by the page, opened again"),
-    ("refusals", "office.html", "const isSame = listsOf", "const isSame = true || listsOf", "a list in the midst of closing"),
+    ("first_round", "office.html", 'if (String(rowsOfKind(proof, "M")) !==', 'if (false && String(rowsOfKind(proof, "M")) !==', "quotas that have changed"),
+    ("first_round", "office.html", "read(`/reports/text/${number}`)", "read(`/reports/text/${number}`).then(() => \"\")", "loaded anew, the proof again"),
+    ("term", "office.html", 'students("missing", number)', 'students("unplaced", number)', "who has no list"),
     ("first_round", "check.html", 'kind === "best" && !rowOf("C")', 'kind === "never" && !rowOf("C")', "by check.html: ''"),
     ("first_round", "check.html", "list?.indexOf(place) + 1}", "list?.indexOf(place)}", "the list of S01"),
     ("first_round", "check.html", '"page_check", bytes', '"page_solve", bytes', "by check.html: ''"),
@@ -428,7 +430,6 @@ class Trial(People):
         best += "(how many have their first choice, their second, and so on)."
         words = f"Round {number}: checked here. It is the best: {best}"
         self.check("proved", it.run("return [...document.querySelectorAll('#proofs .proved')].pop().textContent"), words)
-        self.check("the proof is to be saved", it.run(LEAVING), True)
 
     def picture(self, number, listed):
         """The picture of a round, against its reports."""
@@ -499,6 +500,16 @@ class Trial(People):
         self.check("by the page, opened again", it.text("#verdict").startswith(f"proof{number}.txt: checked here"))
         return name
 
+    def changed_since(self):
+        """Places that came after the closing of round 1: the page proves nothing until they are gone again."""
+        it = self.it
+        for more, words in ((1, "supervisors, projects or quotas have changed since it was closed"), (0, "checked here. It is the best")):
+            asked("PUT", "/supervisors/TURING", KEEPER, json.dumps({"name": "Alan Turing", "quota": 6 + more}))
+            members = {"name": "Breaking an old cipher", "supervisor": "TURING", "quota": 3 + more}
+            asked("PUT", "/projects/CIPHER", KEEPER, json.dumps(members))
+            it.go()
+            self.check("quotas that have changed" if more else "and changed back", it.text("#proofs").startswith(f"Round 1: {words}"))
+
     def no_proofs(self, name):
         """What the page says of texts that are no proof: of a forger, or of a proof of which a line stands twice or half."""
         with open(name, encoding="ascii") as file:
@@ -567,7 +578,6 @@ class Trial(People):
         self.check("its aim", f"it takes one with {AIMS['greedy']}" in it.text("#doing"))
         it.press("#text1")
         self.check("its text", self.saved("round1.txt").decode(), asked("GET", "/roundtext")[1])
-        self.check("nothing is to be saved", it.run(LEAVING), False)
         self.shot("open")
         it.press("#close-round")
         it.press("#sure button:not(.main)")
@@ -608,11 +618,12 @@ class Trial(People):
         self.shot("room")
         self.certified(name, ("S01", "S04", "S20"))
         it.go()
-        self.check(
-            "loaded anew, without the text of the round", it.text("#proofs").startswith("Round 1 was closed before this page was loaded")
-        )
+        self.check("loaded anew, the proof again", it.text("#proofs").startswith("Round 1: checked here. It is the best"))
+        it.press("#proof1")
+        self.check("the same", self.saved("proof1.txt"), open(name, "rb").read())
+        self.changed_since()
         it.press("#drawing summary")
-        self.check("a picture of the places alone", self.lines(), [14, 4, 2, 0, 0])
+        self.check("the same picture", self.lines(), [14, 4, 2, 0, 45])
         it.press("#reopen")
         words = "Reopen round 1? Its placements go, and its lists stay. Another closing may place other students."
         self.check("the question", it.text("#sure p"), words)
@@ -662,7 +673,6 @@ class Trial(People):
         self.check(
             "a late student, with a list that is taken away", asked("GET", "/students/S12")[1], '{"list":null,"name":"Zoë","placed":null}'
         )
-        it.choose(self.file("students.csv", read("examples", "term", "students.csv") + "S12,Zoë\n"))
         it.pick("#kind", "missing")
         self.check("who has no list", it.table(), [["S12", "Zoë"]])
         it.press("#close-round")
@@ -931,7 +941,7 @@ class Trial(People):
         it.press("#close-round")
         self.check(
             "closed by somebody else",
-            ("Refusal 19, NoRoundOpen" in it.text("#told"), it.text("#state"), "closed before this page" in it.text("#proofs")),
+            ("Refusal 19, NoRoundOpen" in it.text("#told"), it.text("#state"), it.text("#proofs").startswith("Round 1 has no student")),
             (True, "Round 1 is closed, greedy: 0 of 0 students placed.", True),
         )
         it.choose(self.file("german.csv", "Code;Name\r\nS4;Jörg; Müller\r\n".replace("; M", ", M").encode("cp1252")))
@@ -953,7 +963,7 @@ class Trial(People):
         )
         it.press("#close-round")
         it.press("#sure button.main")
-        self.check("a list in the midst of closing", "something came between its text and its closing" in it.text("#proofs"))
+        self.check("a list in the midst of closing", it.text("#proofs").startswith("Round 2: checked here. It is the best"))
         self.statuses()
 
     def looked(self, kind, name, content, rows, marks, empty=()):
