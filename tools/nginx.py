@@ -4,15 +4,18 @@
 tools/nginx.py SPADESK [NGINX]     without NGINX the one of the PATH; where there is none it says so
 
 Three things of the file are others here: there is no certificate, and so no `ssl`; the port at which nginx listens; the folders. The ports
-8080 and 8081 must be free. tools/page.py tries the other roles, and tools/serving.py the file as it is.
+8080 and 8081 must be free. At the end a service of this tool's stands there, which breaks off with a reset. tools/page.py tries the other
+roles, and tools/serving.py the file as it is.
 """
 import base64
 import http.client
 import shutil
 import socket
+import struct
 import subprocess
 import sys
 import tempfile
+import threading
 import time
 
 from office import read, serving, written
@@ -52,7 +55,7 @@ def asked(method, path, body=None, fields=USER, count=1):
         answer = connection.getresponse()
         told = answer.read().decode()
     connection.close()
-    return answer.status, told if "json" in answer.getheader("Content-Type") else ""
+    return answer.status, told if "json" in answer.getheader("Content-Type", "") else ""
 
 
 def trials():
@@ -77,6 +80,34 @@ def trials():
         yield "beside a slow client", asked("GET", "/preview"), (409, none)
 
 
+def breaking(seen):
+    """A service that resets each second connection, from the first on, once it has read the request; `seen` gets the methods."""
+
+    def serve():
+        while True:
+            it = listener.accept()[0]
+            seen.append(it.recv(65_536).split()[0].decode())
+            if len(seen) % 2 == 0:
+                it.sendall(b"HTTP/1.1 200 OK\r\nContent-Length: 0\r\n\r\n")
+            else:
+                it.setsockopt(socket.SOL_SOCKET, socket.SO_LINGER, struct.pack("ii", 1, 0))
+            it.close()
+
+    listener = socket.create_server(("127.0.0.1", 8080))
+    threading.Thread(target=serve, daemon=True).start()
+
+
+def broken():
+    """What is tried where the service breaks off: a read is asked for once more, and a change is not."""
+    seen = []
+    breaking(seen)
+    yield "a read that breaks off", (asked("GET", "/preview")[0], seen[:]), (200, ["GET", "GET"])
+    for method in ("PUT", "POST", "DELETE"):
+        del seen[:]
+        came = [asked(method, "/lists/S1", b"{}")[0] for _ in range(2)]
+        yield f"a {method} that breaks off, and one after it", (came, seen[:]), ([502, 200], [method, method])
+
+
 def main(program, nginx=shutil.which("nginx")):
     if nginx is None:
         print("there is no nginx here: page/nginx.conf was not tried")
@@ -88,11 +119,12 @@ def main(program, nginx=shutil.which("nginx")):
             front = started(8081, nginx, "-p", folder, "-c", f"{folder}/nginx.conf")
             try:
                 came = list(trials())
+                served.kill()
+                lines = served.stdout.read().splitlines()
+                came += broken()
             finally:
                 front.terminate()
                 front.wait(timeout=60)
-                served.kill()
-            lines = served.stdout.read().splitlines()
     came.append((f"{len(lines)} connections", {line.split(": ")[1] for line in lines}, {"1 answers, closed"}))
     for name, told, wanted in came:
         print(f"{name}: {told}" + ("" if told == wanted else f", and not {wanted}"))
