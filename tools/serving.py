@@ -1,13 +1,14 @@
 #!/usr/bin/env python3
 """Runs every command of docs/SERVING.md on a bare Debian, and compares what is printed.
 
-tools/serving.py PACKAGE ROOT     as root; needs util-linux and iproute2
+tools/serving.py PACKAGE ROOT     as root; needs util-linux and iproute2, and for one step chromium and chromium-driver
 
 PACKAGE is what tools/release made. ROOT is a folder as `debootstrap --variant=minbase bookworm ROOT` leaves it; it stays as it is, under a
-layer that goes at the end. A block of `sh` must end with status 0; a block of `console` prints what stands there. What has the word apt is
+layer that goes at the end. First it gets slapd, the directory of a school with three people. A block of `sh` must end with status 0; a block of `console` prints what stands there. What has the word apt is
 run in the network of the machine, and all else in one of its own, so that no port is taken here. systemd does not run there: SYSTEMCTL does
-what some lines of a unit say, its filters among them. At the end the files of the package are compared with their sums, its units are
-verified, a file of edition 1 is served, and the package is purged, which leaves the data.
+what some lines of a unit say, its filters among them. The files of the package are compared with their sums. At the end its units are
+verified, a file of edition 1 is served, the package is purged, which leaves the data, and the proof of the round that was closed is given
+to check.html in a browser.
 """
 import os
 import re
@@ -17,7 +18,9 @@ import sys
 import tempfile
 import time
 
+from nginx import started
 from office import FIRST_EDITION, read, written
+from page import DRIVER, Browser
 
 SYSTEMCTL = r'''#!/usr/bin/python3
 import ctypes, functools, os, re, signal, socket, subprocess, sys, time
@@ -87,27 +90,75 @@ def start(name):
 if sys.argv[1] == "filtered":
     filtered(*sys.argv[2:])
 verb, *names = [word for word in sys.argv[1:] if word != "--now"]
-if names == ["nginx"]:
-    sys.exit(subprocess.run(["nginx", *(["-s", "reload"] if verb == "reload" else [])]).returncode)
+if names in (["nginx"], ["apache2"]):
+    status = subprocess.run(["apache2ctl", verb] if names == ["apache2"] else ["nginx", *(["-s", verb] if verb == "reload" else [])]).returncode
+    time.sleep(2)  # the old workers answer for a moment more
+    sys.exit(status)
 for name in names:
     if not name.endswith(".timer"):
         stop(name) if verb == "stop" else start(name)
 '''
-HOSTS = "127.0.0.1 localhost office.school.example\n"
+HOSTS = "127.0.0.1 localhost office.school.example ldap.school.example\n"
+# The directory of a school, which is there before the page begins.
+DIRECTORY = ["apt-get update -qq && apt-get install -y -qq slapd ca-certificates openssl > /dev/null 2>&1", r"""set -e
+cd /etc/ldap
+openssl req -x509 -newkey rsa:2048 -nodes -days 30 -subj /CN=ldap.school.example -addext subjectAltName=DNS:ldap.school.example \
+  -keyout trial.key -out trial.pem 2> /dev/null
+cp trial.pem /usr/local/share/ca-certificates/trial.crt
+update-ca-certificates > /dev/null 2>&1
+cat > trial.conf <<END
+include /etc/ldap/schema/core.schema
+include /etc/ldap/schema/cosine.schema
+include /etc/ldap/schema/inetorgperson.schema
+modulepath /usr/lib/ldap
+moduleload back_mdb
+TLSCertificateFile /etc/ldap/trial.pem
+TLSCertificateKeyFile /etc/ldap/trial.key
+database mdb
+suffix dc=school,dc=example
+directory /var/lib/ldap
+access to attrs=userPassword by anonymous auth by * none
+access to * by dn=cn=office,dc=school,dc=example read by * none
+END
+rm -rf /var/lib/ldap/*
+{
+  printf 'dn: dc=school,dc=example\nobjectClass: dcObject\nobjectClass: organization\no: school\ndc: school\n\n'
+  printf 'dn: cn=office,dc=school,dc=example\nobjectClass: organizationalRole\nobjectClass: simpleSecurityObject\ncn: office\n'
+  printf 'userPassword: quiet-harbour\n\n'
+  for unit in people groups; do printf "dn: ou=$unit,dc=school,dc=example\nobjectClass: organizationalUnit\nou: $unit\n\n"; done
+  while read -r mail password group; do
+    printf "dn: uid=${mail%@*},ou=people,dc=school,dc=example\nobjectClass: inetOrgPerson\nuid: ${mail%@*}\ncn: A\nsn: B\nmail: $mail\n"
+    printf "userPassword: $password\n\n"
+    printf "dn: cn=$group,ou=groups,dc=school,dc=example\nobjectClass: groupOfNames\ncn: $group\n"
+    printf "member: uid=${mail%@*},ou=people,dc=school,dc=example\n\n"
+  done <<END
+anna.meyer@uni.example blue-window students
+g.hopper@uni.example tall-tree staff
+k.keeper@uni.example old-bridge dissertations
+END
+} | slapadd -q -f trial.conf
+slapd -f trial.conf -h ldaps://127.0.0.1
+"""]
 MARK = "and the next command"
-# what is tried behind the page, and what it prints
+# what is tried behind the first block, and behind the page, and what it prints
+INSTALLED = [("(cd / && sha256sum --quiet -c usr/share/doc/spadesk/SHA256SUMS)", "")]
 BEHIND = [
-    ("(cd / && sha256sum --quiet -c usr/share/doc/spadesk/SHA256SUMS)", ""),
     ("systemd-analyze verify /lib/systemd/system/spadesk*.service /lib/systemd/system/spadesk-copy.timer", ""),
     ("grep -c ^spadesk: /etc/passwd; stat -c '%A %U' /var/lib/spadesk", "1\ndrwx------ spadesk\n"),
     (
         "systemctl stop spadesk; cp -p /var/lib/spadesk/2027/school.db* /var/lib/spadesk; "
         f"python3 -c \"import sqlite3; sqlite3.connect('/var/lib/spadesk/school.db').executescript('''{FIRST_EDITION}''')\"; "
-        "systemctl start spadesk; curl -u $(head -n 1 letters/office) https://office.school.example/reports/placements/1",
+        "systemctl start spadesk; curl -u k.keeper@uni.example:old-bridge https://office.school.example/reports/placements/1",
         "S01              CHESS             1\n",
     ),
     ("systemctl stop spadesk; dpkg --purge spadesk > purged.txt 2>&1; ls /var/lib/spadesk", "2027\ncopies\nschool.db\nschool.db-wal\n"),
 ]
+
+
+PROOF = """best size 1 profile 1 0 0 0 0 0 0 0 0 0 0 0
+Proved: no other way to give out the places is better.
+Your list: CHESS, LOOM. You have CHESS, your choice 1.
+"""
 
 
 def blocks(text):
@@ -147,13 +198,34 @@ class Machine:
         return ran.returncode, ran.stdout.decode()
 
 
+def by_page(machine):
+    """What check.html, as the package has it, says in a browser of this machine of the proof of the page, and then of the student S01."""
+    with tempfile.TemporaryDirectory() as folder:
+        driver = started(DRIVER, "chromedriver", f"--port={DRIVER}", stdout=subprocess.DEVNULL)
+        try:
+            it = Browser(folder)
+            it.send("POST", "/url", {"url": f"file://{machine.at}/usr/share/spadesk/check.html"})
+            it.choose(f"{machine.at}/root/proof.txt", field="#file")
+            for _ in range(100):
+                time.sleep(0.1)
+                if it.text("#line"):
+                    it.write("#code", "S01")
+                    break
+            said = [it.text("#line"), it.text("#said p.good"), it.text("#mine")]
+            it.end()
+            return "".join(f"{text}\n" for text in said)
+        finally:
+            driver.terminate()
+
+
 def lined(text):
     return text if text.endswith("\n") or not text else text + "\n"
 
 
-def inside(*where):
-    machine, begun, count, failed = Machine(*where), time.time(), 0, 0
-    for kind, commands in [*blocks(read("docs", "SERVING.md")), ("console", BEHIND)]:
+def steps(machine):
+    """Each command and block, what it must print, and what it prints; at the end the page that checks, where there is a browser."""
+    first, *others = blocks(read("docs", "SERVING.md"))
+    for kind, commands in [first, ("console", INSTALLED), *others, ("console", BEHIND)]:
         if kind == "sh":
             status, out = machine.run("set -e\n" + commands[0][0])
             came = [("" if status == 0 else f"{out}status {status}\n")]
@@ -162,10 +234,25 @@ def inside(*where):
             came = [lined(piece) for piece in out.split(f"\n{MARK}\n")[:-1]]
             came += ["it ended\n"] * (len(commands) - len(came))
         for (command, wanted), told in zip(commands, came):
-            count += 1
-            if told != wanted:
-                failed += 1
-                print(f"$ {command.rstrip()}\n{told}and not\n{wanted}", flush=True)
+            yield command, wanted, told
+    if shutil.which("chromium") and shutil.which("chromedriver"):
+        yield "the proof in check.html", PROOF, by_page(machine)
+    else:
+        print("there is no chromium here: check.html was not tried")
+
+
+def inside(*where):
+    machine, count, failed = Machine(*where), 0, 0
+    for script in DIRECTORY:
+        status, out = machine.run(script)
+        if status:
+            sys.exit(f"{out}the directory of the trial does not run")
+    begun = time.time()
+    for command, wanted, told in steps(machine):
+        count += 1
+        if told != wanted:
+            failed += 1
+            print(f"$ {command.rstrip()}\n{told}and not\n{wanted}", flush=True)
     print(f"docs/SERVING.md: {count} commands and blocks, {failed} otherwise, in {(time.time() - begun) / 60:.1f} minutes")
     sys.exit(1 if failed else 0)
 
