@@ -51,7 +51,7 @@ fn shown(alloc: Global, line: &Line) -> Result<String, AllocError> {
 
 // The words, and the line. Each range is met at both ends.
 #[rattlefmt::skip]
-static LINES: [(&str, &str); 18] = [
+static LINES: [(&str, &str); 21] = [
     ("spadesk serve school.db 1 1",                      "Serve school.db, 1, 1"),
     ("spadesk serve school.db 65535 1000000",            "Serve school.db, 65535, 1000000"),
     ("spadesk import a.db supervisors I1 x.csv",         "Import a.db, supervisors, I1, x.csv"),
