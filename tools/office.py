@@ -34,6 +34,7 @@ SECOND_EDITION = """
 FIRST_EDITION = SECOND_EDITION + "DROP TABLE round_aim; UPDATE edition SET number = 1;"
 # valgrind counts a block that is copied at once a byte at a time, unless blocks are copied by words
 TUNABLES = "glibc.cpu.x86_rep_stosb_threshold=100000000:glibc.cpu.x86_rep_movsb_threshold=100000000"
+COUNTING = {**os.environ, "GLIBC_TUNABLES": TUNABLES}
 COUNT = ["valgrind", "--tool=cachegrind", "--cache-sim=no", "--cachegrind-out-file=/dev/null"]
 
 
@@ -77,12 +78,12 @@ def written(text, path):
     return path
 
 
-def sheets(supervisors, projects, students, lists):
-    """By kind, the sheets of a school with so many of each; a list has twelve projects, drawn evenly."""
+def sheets(supervisors, projects, students, lists, places=2):
+    """By kind, the sheets of a school with so many of each, and these places a project; a list has twelve projects, drawn evenly."""
     draw, codes = random.Random(1), [f"P{n}" for n in range(projects)]
     rows = {
         "supervisors": ["code,name,quota", *(f"L{n},Lee,6" for n in range(supervisors))],
-        "projects": ["code,name,supervisor,quota", *(f"{code},Pumps,L{n % supervisors},2" for n, code in enumerate(codes))],
+        "projects": ["code,name,supervisor,quota", *(f"{code},Pumps,L{n % supervisors},{places}" for n, code in enumerate(codes))],
         "students": ["code,name", *(f"S{n},Ann" for n in range(students))],
         "lists": ["student,choices", *(f"S{n},{' '.join(draw.sample(codes, 12))}" for n in range(lists))],
     }
@@ -134,12 +135,15 @@ def successes(told):
     return told.count(b"HTTP/1.1 200 OK\r\n")
 
 
+def instructions(told):
+    """The instructions that valgrind tells."""
+    return int(re.search(r"I\s+refs:\s+([\d,]+)", told)[1].replace(",", ""))
+
+
 def counted(*words, **how):
     """The instructions of a whole process, and what became of it."""
-    env = {**os.environ, "GLIBC_TUNABLES": TUNABLES}
-    ran = subprocess.run([*COUNT, *words], **{"capture_output": True, "text": True, "env": env, **how})
-    told = ran.stderr if isinstance(ran.stderr, str) else ran.stderr.decode()
-    return int(re.search(r"I\s+refs:\s+([\d,]+)", told)[1].replace(",", "")), ran
+    ran = subprocess.run([*COUNT, *words], **{"capture_output": True, "text": True, "env": COUNTING, **how})
+    return instructions(ran.stderr if isinstance(ran.stderr, str) else ran.stderr.decode()), ran
 
 
 def copy(start, to, ends=("", "-wal")):

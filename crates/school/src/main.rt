@@ -2,6 +2,10 @@
 //!
 //! The arguments name files of rows. A row that tells something else than it says is printed with what it told, and behind each file how
 //! many of its rows were compared. `docs/TESTS.md` says what a row may be. A further row costs no proof.
+//!
+//! Once all files were played, it does with its arguments what the program does with its own. They are no command, so it ends with
+//! status 2, by which the gate sees that the program reads its arguments and ends with the status of a fault. Where they were not, it
+//! ends with status 1.
 #![tactic(auto)]
 
 // Texts that are written out of a row, and what a row says is told.
@@ -13,6 +17,7 @@ mod row_files;
 // Why rows are not played to their end.
 mod unplayed;
 
+use cli::start;
 use row_files::play_file;
 use std::env;
 use std::process::ExitCode;
@@ -33,5 +38,8 @@ fn play_all(rt: &HostRuntime) -> Result<(), Unplayed> {
 }
 
 fn main(rt: HostRuntime) -> ExitCode {
-    ExitCode::from(u8::from(play_all(&rt).is_err()))
+    match play_all(&rt) {
+        Ok(()) => ExitCode::from(start(&rt)),
+        Err(_) => ExitCode::FAILURE,
+    }
 }
