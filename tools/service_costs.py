@@ -4,10 +4,10 @@
 tools/service_costs.py SPADESK [WORD..]     needs valgrind
 
 With words, only the costs that have one of them in their names. What a request takes is the difference of two runs of the program. Both are
-sent the messages that come before; then the first is sent some messages, and the second as many times more of what is counted. In memory
-all of it is one stream on standard input. Over a file those before are sent to another `serve`, which is not counted, and each of the two
-runs serves a copy of what it leaves. Each message must be answered with success. A stream has at most a hundred of them, which is why
-what comes before is imports, and where it is more than fits it is done over a file alone.
+sent the messages that come before; then the first is sent what is counted once or not at all, and the second some times more. In memory all
+of it is one stream on standard input. Over a file those before are sent to another `serve`, which is not counted, and each of the two runs
+serves a copy of what it leaves. Each message must be answered with success. A stream has at most a hundred messages: so what comes before
+is imports, and where these are more it is done over a file alone.
 """
 import os
 import subprocess
