@@ -6,9 +6,9 @@ tools/serving.py PACKAGE ROOT     as root; needs util-linux and iproute2, and fo
 PACKAGE is what tools/release made. ROOT is a folder as `debootstrap --variant=minbase bookworm ROOT` leaves it; it stays as it is, under a
 layer that goes at the end. First it gets slapd, the directory of a school with three people. A block of `sh` must end with status 0; a block of `console` prints what stands there. What has the word apt is
 run in the network of the machine, and all else in one of its own, so that no port is taken here. systemd does not run there: SYSTEMCTL does
-what some lines of a unit say, its filters among them. The files of the package are compared with their sums. At the end its units are
-verified, a file of edition 1 is served, the package is purged, which leaves the data, and the proof of the round that was closed is given
-to check.html in a browser.
+what some lines of a unit say, its filters among them. The files of the package are compared with their sums. At the end the proof of the
+round that was closed is given to check.html in a browser, the units are verified, a file of edition 1 is served, and the package is purged,
+which leaves the data.
 """
 import os
 import re
@@ -204,7 +204,11 @@ def by_page(machine):
         driver = started(DRIVER, "chromedriver", f"--port={DRIVER}", stdout=subprocess.DEVNULL)
         try:
             it = Browser(folder)
-            it.send("POST", "/url", {"url": f"file://{machine.at}/usr/share/spadesk/check.html"})
+            for _ in range(20):
+                it.send("POST", "/url", {"url": f"file://{machine.at}/usr/share/spadesk/check.html"})
+                it.rest()
+                if it.text("#said"):
+                    break
             it.choose(f"{machine.at}/root/proof.txt", field="#file")
             for _ in range(100):
                 time.sleep(0.1)
@@ -222,23 +226,29 @@ def lined(text):
     return text if text.endswith("\n") or not text else text + "\n"
 
 
+def ran(machine, kind, commands):
+    """Each command of a block, what it must print, and what it prints."""
+    if kind == "sh":
+        status, out = machine.run("set -e\n" + commands[0][0])
+        came = [("" if status == 0 else f"{out}status {status}\n")]
+    else:
+        out = machine.run("".join(f"{command.rstrip()}\nprintf '\\n{MARK}\\n'\n" for command, _ in commands))[1]
+        came = [lined(piece) for piece in out.split(f"\n{MARK}\n")[:-1]]
+        came += ["it ended\n"] * (len(commands) - len(came))
+    return [(command, wanted, told) for (command, wanted), told in zip(commands, came)]
+
+
 def steps(machine):
-    """Each command and block, what it must print, and what it prints; at the end the page that checks, where there is a browser."""
-    first, *others = blocks(read("docs", "SERVING.md"))
-    for kind, commands in [first, ("console", INSTALLED), *others, ("console", BEHIND)]:
-        if kind == "sh":
-            status, out = machine.run("set -e\n" + commands[0][0])
-            came = [("" if status == 0 else f"{out}status {status}\n")]
-        else:
-            out = machine.run("".join(f"{command.rstrip()}\nprintf '\\n{MARK}\\n'\n" for command, _ in commands))[1]
-            came = [lined(piece) for piece in out.split(f"\n{MARK}\n")[:-1]]
-            came += ["it ended\n"] * (len(commands) - len(came))
-        for (command, wanted), told in zip(commands, came):
-            yield command, wanted, told
+    """The same of all blocks, of what is tried behind them, and of the page that checks, where there is a browser."""
+    for number, block in enumerate(blocks(read("docs", "SERVING.md"))):
+        yield from ran(machine, *block)
+        if number == 0:
+            yield from ran(machine, "console", INSTALLED)
     if shutil.which("chromium") and shutil.which("chromedriver"):
         yield "the proof in check.html", PROOF, by_page(machine)
     else:
         print("there is no chromium here: check.html was not tried")
+    yield from ran(machine, "console", BEHIND)
 
 
 def inside(*where):
