@@ -26,7 +26,7 @@ use Rattle.round_files.specs.declared.rounds.Trouble.TheVariants.{Refused, BadLi
 use Rattle.commands.specs.declared.line.Line.{Line}
 use Rattle.commands.specs.declared.line.Line.TheVariants as line
 use Rattle.commands.specs.declared.line.LineFault.{LineFault}
-use Rattle.commands.specs.declared.line.LineFault.TheVariants.{Memory, Help, Fault}
+use Rattle.commands.specs.declared.line.LineFault.TheVariants.{Memory, Help, Version, Fault}
 use Rattle.commands.specs.Reading.{IsAnswer}
 use Rattle.cli.specs.declared.tasks.Task.{Task}
 use Rattle.cli.specs.declared.tasks.Task.TheVariants as task
@@ -181,6 +181,7 @@ abbrev pub MayComeOf : Result Line LineFault → Outcome → Type 0
 MayComeOf (Ok line) o = MayCome line o
 MayComeOf (Err Memory) o = o ≡ refused no.Memory
 MayComeOf (Err (Help text)) o = o ≡ prints (string_bytes text)
+MayComeOf (Err (Version text)) o = o ≡ prints (string_bytes text)
 MayComeOf (Err (Fault text)) o = o ≡ tells 2 (string_bytes text)
 
 -- a text was written and the status is this, or the writer failed and the status is 1

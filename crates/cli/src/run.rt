@@ -89,7 +89,8 @@ fn do_line<S: Start, O: Sink, E: Sink>(
 /// closing the database file, where one was opened. These are its first contents.
 ///
 /// A result is printed with status 0, and a check that failed with status 1. A refusal, a bad line of a round text or a port
-/// that cannot be bound is told with status 1, a fault of the line with status 2, and help is printed with status 0. Where a writer fails, the status is 1, and what was done stays done.
+/// that cannot be bound is told with status 1, a fault of the line with status 2, and help or the version is printed with status 0.
+/// Where a writer fails, the status is 1, and what was done stays done.
 pub fn tell_line<S: Start, O: Sink, E: Sink>(
     rt: &HostRuntime,
     start: S,
@@ -104,6 +105,7 @@ pub fn tell_line<S: Start, O: Sink, E: Sink>(
         Ok(line) => do_line(rt, start, line, outputs),
         Err(LineFault::Memory) => (outputs.refuse(Refusal::Memory), None),
         Err(LineFault::Help(text)) => (outputs.print(text.as_bytes(), 0), None),
+        Err(LineFault::Version(text)) => (outputs.print(text.as_bytes(), 0), None),
         Err(LineFault::Fault(text)) => (outputs.tell(text.as_bytes(), 2), None),
     }
 }

@@ -41,9 +41,9 @@ line_app kinds told = fold (with_argument kinds) (new_app told.name) told.argume
 abbrev pub with_line : Kinds → App → ToldLine → App
 with_line kinds app told = with_subcommand app (line_app kinds told).top
 
--- the program's name, of which a subcommand must be given
+-- the program's name; it has a version, and a subcommand must be given
 abbrev pub program_name : App
-program_name = let app : App = new_app (codes "spadesk") in record app { top = record (app.top) { subcommand_required = true } }
+program_name = let app : App = new_app (codes "spadesk") in record app { top = record (app.top) { has_version = true; subcommand_required = true } }
 
 -- the program
 abbrev pub program : Kinds → App

@@ -10,7 +10,7 @@ use Rattle.rolls.specs.Kinds.{word_of}
 use Rattle.clap.specs.Words.{App, IsAmong, Row, Text, fault_of, first_of, subcommand_of, takes}
 use Rattle.clap.specs.Words.{Kinds as ErrorKinds}
 use Rattle.clap.specs.declared.error.kind.ErrorKind.{ErrorKind}
-use Rattle.clap.specs.declared.error.kind.ErrorKind.TheVariants.{DisplayHelp}
+use Rattle.clap.specs.declared.error.kind.ErrorKind.TheVariants.{DisplayHelp, DisplayVersion}
 use Rattle.clap.specs.ValueTests.{is_unsigned_in}
 use Rattle.commands.specs.Kinds.{import_kinds, report_kinds, report_word}
 use Rattle.commands.specs.Program.{AreWords, program}
@@ -18,7 +18,7 @@ use Rattle.commands.specs.Table.{Argument, aim, count, database, file, id, impor
 use Rattle.commands.specs.declared.line.Line.{Line}
 use Rattle.commands.specs.declared.line.Line.TheVariants.{Serve, Import, OpenRound, ReopenRound, CloseRound, Report, Solve, Check}
 use Rattle.commands.specs.declared.line.LineFault.{LineFault}
-use Rattle.commands.specs.declared.line.LineFault.TheVariants.{Memory, Help, Fault}
+use Rattle.commands.specs.declared.line.LineFault.TheVariants.{Memory, Help, Version, Fault}
 use Rattle.commands.specs.declared.program.Kinds.{Kinds}
 use Rattle.commands.specs.declared.table.Takes.{Takes}
 use Rattle.commands.specs.declared.table.Takes.TheVariants.{Word, Number, ImportKind, ReportKind, Aim}
@@ -79,11 +79,12 @@ IsLineOf name rows (Report d k n) = (name ≡ codes "report") × (word_in rows d
 IsLineOf name rows (Solve f) = (name ≡ codes "solve") × (word_in rows file ≡ Some (string_bytes f))
 IsLineOf name rows (Check f) = (name ≡ codes "check") × (word_in rows file ≡ Some (string_bytes f))
 
--- `clap` fails by one of these kinds: help is asked for, or else there is a fault
+-- `clap` fails by one of these kinds: help or the version is asked for, or else there is a fault
 abbrev pub IsFaultOf : ErrorKinds → LineFault → Type 0
 IsFaultOf kinds Memory = Unit {0}
 IsFaultOf kinds (Help text) = IsAmong DisplayHelp kinds
-IsFaultOf kinds (Fault text) = (kind : ErrorKind) × IsAmong kind kinds × (kind ≢ DisplayHelp)
+IsFaultOf kinds (Version text) = IsAmong DisplayVersion kinds
+IsFaultOf kinds (Fault text) = (kind : ErrorKind) × IsAmong kind kinds × (kind ≢ DisplayHelp) × (kind ≢ DisplayVersion)
 
 -- a line is what `clap` reads in the words, and it takes them; a fault is one of its own
 pub record ReadsLine (app : App) (words : List Text) (result : Result Line LineFault) : Type 0 where

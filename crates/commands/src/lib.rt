@@ -12,6 +12,7 @@ mod line;
 mod program;
 mod reading;
 mod table;
+mod version;
 
 pub use line::{Line, LineFault};
 pub use reading::command;

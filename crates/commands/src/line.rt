@@ -63,6 +63,8 @@ pub enum LineFault {
     Memory,
     /// They ask for help, which is this text.
     Help(String),
+    /// They ask for the version, which is this text.
+    Version(String),
     /// They are no line of the program: a word is missing, unknown, one too many or out of its range. This text says which.
     Fault(String),
 }

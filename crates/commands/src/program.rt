@@ -7,6 +7,7 @@ ghost use Rattle.commands.specs.Program.{line_app, parser_of, program, rule_by};
 ghost use Rattle.commands.specs.Inside.Table.{argument_by, told_by};
 
 use crate::table::{Argument, Described, Takes, rows};
+use crate::version::VERSION;
 use clap::builder::ValueParser;
 use clap::{Arg, Command};
 use std::alloc::{AllocError, Global};
@@ -66,6 +67,7 @@ pub(crate) fn program<'a>(alloc: Global, kinds: Kinds<'a>) -> Result<Command<'a>
     ensures { IfOk result (λ c. app_of c ≡ program kinds.entry) }
 {
     let mut command = Command::new(alloc, "spadesk")
+        .version(VERSION)
         .about("Keeps a school's dissertation projects, and places students on them by their lists")
         .after_help("Example: spadesk help import")
         .subcommand_required(true);

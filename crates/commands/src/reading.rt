@@ -160,6 +160,7 @@ fn fault_as(kind: ErrorKind, text: Result<String, AllocError>) -> LineFault
         Err(_) => LineFault::Memory,
         Ok(_) if kind == ErrorKind::OutOfMemory => LineFault::Memory,
         Ok(text) if kind == ErrorKind::DisplayHelp => LineFault::Help(text),
+        Ok(text) if kind == ErrorKind::DisplayVersion => LineFault::Version(text),
         Ok(text) => LineFault::Fault(text),
     }
 }
@@ -184,9 +185,9 @@ fn answer<'a>(alloc: Global, kinds: Kinds<'a>, words: &'a [String]) -> Result<Li
 
 /// The line that the words stand for, of which the first is the program's name.
 ///
-/// The words are read as `clap` reads them. `Help` and `Fault` have its text: help is asked for by `help` and by `--help`,
-/// which may follow the name of a line, and a fault is a word that is missing, unknown, one too many or out of its range.
-/// `Memory` says that memory was refused.
+/// The words are read as `clap` reads them. `Help`, `Version` and `Fault` have its text: help is asked for by `help` and by
+/// `--help`, which may follow the name of a line, the version by `--version` in the place of a line, and a fault is a word that
+/// is missing, unknown, one too many or out of its range. `Memory` says that memory was refused.
 pub fn command(alloc: Global, words: &[String]) -> Result<Line, LineFault>
     ensures { IsAnswer (map string_bytes words.now) result }
 {

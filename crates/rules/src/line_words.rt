@@ -1,6 +1,6 @@
 //! The words of commands, and the values that they stand for.
 
-use commands::{Line, command};
+use commands::{Line, LineFault, command};
 use rolls::ReportKind;
 use rows::judged::holds;
 use std::alloc::{AllocError, Global};
@@ -51,7 +51,7 @@ fn shown(alloc: Global, line: &Line) -> Result<String, AllocError> {
 
 // The words, and the line. Each range is met at both ends.
 #[rattlefmt::skip]
-static LINES: [(&str, &str); 21] = [
+static LINES: [(&str, &str); 23] = [
     ("spadesk serve school.db 1 1",                      "Serve school.db, 1, 1"),
     ("spadesk serve school.db 65535 1000000",            "Serve school.db, 65535, 1000000"),
     ("spadesk import a.db supervisors I1 x.csv",         "Import a.db, supervisors, I1, x.csv"),
@@ -73,6 +73,8 @@ static LINES: [(&str, &str); 21] = [
     ("spadesk solve round.txt",                          "Solve round.txt"),
     ("spadesk check round.txt",                          "Check round.txt"),
     ("spadesk check -- --help",                          "Check --help"),
+    ("spadesk --version",                                "the version"),
+    ("spadesk -V",                                       "the version"),
 ];
 
 /// These words, parted by spaces.
@@ -88,6 +90,7 @@ fn parted(alloc: Global, words: &str) -> Result<Vec<String>, AllocError> {
 fn is_line(alloc: Global, words: &str, want: &str) -> Result<bool, AllocError> {
     match command(alloc, &parted(alloc, words)?) {
         Ok(line) => Ok(shown(alloc, &line)?.as_str() == want),
+        Err(LineFault::Version(_)) => Ok(want == "the version"),
         Err(_) => Ok(false),
     }
 }

@@ -2,9 +2,9 @@
 use Rattle.std.specs.Prelude.{◌≡◌, ◌≢◌, ◌⊎◌, ◌<◌, ℕ, String}
 use Rattle.std.specs.declared.alloc.Global.{Global}
 use Rattle.clap.specs.declared.error.kind.ErrorKind.{ErrorKind}
-use Rattle.clap.specs.declared.error.kind.ErrorKind.TheVariants.{DisplayHelp, OutOfMemory}
+use Rattle.clap.specs.declared.error.kind.ErrorKind.TheVariants.{DisplayHelp, DisplayVersion, OutOfMemory}
 use Rattle.commands.specs.declared.line.LineFault.{LineFault}
-use Rattle.commands.specs.declared.line.LineFault.TheVariants.{Memory, Help, Fault}
+use Rattle.commands.specs.declared.line.LineFault.TheVariants.{Memory, Help, Version, Fault}
 use Rattle.commands.specs.declared.table.Takes.{Takes}
 use Rattle.commands.specs.declared.table.Takes.TheVariants.{Number}
 
@@ -17,9 +17,12 @@ IsNumberBelow bound _ = ⊥
 abbrev pub IsToldBy : ErrorKind → LineFault → Type 0
 IsToldBy kind Memory = Unit {0}
 IsToldBy kind (Help text) = kind ≡ DisplayHelp
-IsToldBy kind (Fault text) = (kind ≢ OutOfMemory) × (kind ≢ DisplayHelp)
+IsToldBy kind (Version text) = kind ≡ DisplayVersion
+IsToldBy kind (Fault text) = (kind ≢ OutOfMemory) × (kind ≢ DisplayHelp) × (kind ≢ DisplayVersion)
 
 -- an error of this kind with this text is this fault
 abbrev pub IsFaultAs : ErrorKind → String Global → LineFault → Type 0
 IsFaultAs kind text fault =
-    ((kind ≡ OutOfMemory) × (fault ≡ Memory)) ⊎ (((kind ≡ DisplayHelp) × (fault ≡ Help text)) ⊎ ((kind ≢ OutOfMemory) × (kind ≢ DisplayHelp) × (fault ≡ Fault text)))
+    ((kind ≡ OutOfMemory) × (fault ≡ Memory))
+    ⊎ (((kind ≡ DisplayHelp) × (fault ≡ Help text))
+    ⊎ (((kind ≡ DisplayVersion) × (fault ≡ Version text)) ⊎ ((kind ≢ OutOfMemory) × (kind ≢ DisplayHelp) × (kind ≢ DisplayVersion) × (fault ≡ Fault text))))

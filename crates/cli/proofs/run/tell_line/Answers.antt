@@ -1,7 +1,7 @@
 use Rattle.std.proofs.Common.{ap, subst, rules, refl, Ok, Err, map, string_bytes, ◌∙◌}
 use Rattle.commands.specs.Reading.{IsAnswer}
 use Rattle.commands.specs.declared.line.LineFault.{LineFault}
-use Rattle.commands.specs.declared.line.LineFault.TheVariants.{Memory, Help, Fault}
+use Rattle.commands.specs.declared.line.LineFault.TheVariants.{Memory, Help, Version, Fault}
 use Rattle.cli.specs.Outcomes.{prints, tells}
 use Rattle.cli.proofs.Lines.{words_come}
 use Rattle.cli.proofs.Writers.{tells_more}
@@ -21,6 +21,13 @@ returns-in-Err-Help-clause-file g c = (
   (refl, tells_more _ _ (λ o is. is ∙ ap prints (search rules)) _ _ _ c.print.ensures),
 )
 
+pub returns-in-Err-Version-clause-file : goal.returns-in-Err-Version-clause-file
+returns-in-Err-Version-clause-file g c = (
+  Err (Version c.in-Err-Version.text),
+  subst (λ (f : LineFault). IsAnswer (map string_bytes c.args.words.now) (Err f)) (search rules) c.in-Err-Version.ensures,
+  (refl, tells_more _ _ (λ o is. is ∙ ap prints (search rules)) _ _ _ c.print-in-Err-Version.ensures),
+)
+
 pub returns-clause-file : goal.returns-clause-file
 returns-clause-file g c = (
   Err (Fault c.in-Err-Fault.text),
@@ -36,6 +43,9 @@ returns-in-Err-Memory-clause-told g c = words_come _ _ _ _ _ _ (returns-in-Err-M
 
 pub returns-in-Err-Help-clause-told : goal.returns-in-Err-Help-clause-told
 returns-in-Err-Help-clause-told g c = words_come _ _ _ _ _ _ (returns-in-Err-Help-clause-file g c)
+
+pub returns-in-Err-Version-clause-told : goal.returns-in-Err-Version-clause-told
+returns-in-Err-Version-clause-told g c = words_come _ _ _ _ _ _ (returns-in-Err-Version-clause-file g c)
 
 pub returns-clause-told : goal.returns-clause-told
 returns-clause-told g c = words_come _ _ _ _ _ _ (returns-clause-file g c)
