@@ -32,11 +32,12 @@ def lines(name):
 def unit(name):
     return {**dict(lines(name)), "Name": name}
 
-def begun(it, command):
+def begun(it, command, said=os.devnull):
     user = ["setpriv", "--reuid", it["User"], "--regid", it["User"], "--clear-groups", "--no-new-privs", "--bounding-set=-all"]
     os.umask(int(it["UMask"], 8))
-    how = dict(cwd=it["WorkingDirectory"], stdin=subprocess.DEVNULL, stdout=subprocess.DEVNULL, stderr=subprocess.DEVNULL)
-    return subprocess.Popen([*user, sys.argv[0], "filtered", it["Name"], *command.lstrip("-").split()], start_new_session=True, **how)
+    with open(said, "w") as told:
+        how = dict(cwd=it["WorkingDirectory"], stdin=subprocess.DEVNULL, stdout=told, stderr=subprocess.STDOUT)
+        return subprocess.Popen([*user, sys.argv[0], "filtered", it["Name"], *command.lstrip("-").split()], start_new_session=True, **how)
 
 @functools.cache
 def calls(group):
@@ -69,13 +70,16 @@ def stop(name):
         with open(f"/run/{name}.pid") as file:
             pid = int(file.read())
         os.remove(f"/run/{name}.pid")
-        os.kill(pid, signal.SIGTERM)
+        if os.path.exists(f"/proc/{pid}"):
+            os.kill(pid, signal.SIGTERM)
         while os.path.exists(f"/proc/{pid}") and " Z " not in open(f"/proc/{pid}/stat").read():
             time.sleep(0.05)
         begun(unit(name), unit(name)["ExecStopPost"]).wait()
 
 def start(name):
     it = unit(name)
+    if "ExecStartPre" in it:
+        begun(it, it["ExecStartPre"], f"/run/{name}.said").wait()
     process = begun(it, it["ExecStart"])
     if it.get("Type") == "oneshot":
         sys.exit(process.wait())
@@ -150,6 +154,10 @@ BEHIND = [
         f"python3 -c \"import sqlite3; sqlite3.connect('/var/lib/spadesk/school.db').executescript('''{FIRST_EDITION}''')\"; "
         "systemctl start spadesk; curl -u k.keeper@uni.example:old-bridge https://office.school.example/reports/placements/1",
         "S01              CHESS             1\n",
+    ),
+    (
+        "systemctl stop spadesk; chown root: /var/lib/spadesk/school.db; systemctl start spadesk; cat /run/spadesk.said",
+        "/var/lib/spadesk/school.db: spadesk may not read it; it is root's, -rw-------\n",
     ),
     ("systemctl stop spadesk; dpkg --purge spadesk > purged.txt 2>&1; ls /var/lib/spadesk", "2027\ncopies\nschool.db\nschool.db-wal\n"),
 ]
