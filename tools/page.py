@@ -47,7 +47,7 @@ OFFICE_MUTANTS = [
     ("first_round", "office.html", 'kind === "best" && /^C,/m', 'kind === "best" && /^/m', "no proof: ''"),
     ("first_round", "office.html", "file.slice(0, MOST_TEXT + 1)", "file.slice(0, 8)", "by the page, opened again"),
     ("first_round", "office.html", 'if (String(rowsOfKind(proof, "M")) !==', 'if (false && String(rowsOfKind(proof, "M")) !==', "quotas that have changed"),
-    ("first_round", "office.html", "read(`/reports/text/${number}`)", "read(`/reports/text/${number}`).then(() => \"\")", "loaded anew, the proof again"),
+    ("first_round", "office.html", "read(`/reports/text/${number}`)", "read(`/reports/text/${number}`).then(() => \"\")", "its text"),
     ("term", "office.html", 'students("missing", number)', 'students("unplaced", number)', "who has no list"),
     ("first_round", "check.html", 'kind === "best" && !rowOf("C")', 'kind === "never" && !rowOf("C")', "by check.html: ''"),
     ("first_round", "check.html", "list?.indexOf(place) + 1}", "list?.indexOf(place)}", "the list of S01"),

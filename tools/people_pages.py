@@ -536,5 +536,5 @@ MUTANTS = [
     ("supervisor", "supervisor.html", "overflow-wrap: anywhere", "overflow-wrap: normal", "a supervisor's page, 360 px wide"),
     ("supervisor", "nginx.conf", "/supervisors/$own;", "/supervisors/TURING;", "whose it is"),
     ("roles", "nginx.conf", "|placements))", "|placements|unplaced))", f"GET /supervisor/reports/unplaced/1 as {SUPERVISOR}"),
-    ("roles", "nginx.conf", "|projects/", "|(?:projects|students)/", f"GET /supervisor/students/S02 as {SUPERVISOR}"),
+    ("roles", "nginx.conf", "|reports/offers)", "|reports/offers|reports/missing)", f"GET /student/reports/missing/1 as {STUDENT}"),
 ]
