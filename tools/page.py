@@ -167,12 +167,17 @@ def config(folder):
     return f"{main}http {{\ntypes {{ text/html html; }}\naccess_log {folder}/asked;\n{paths}{text}}}\n"
 
 
-def asked(method, path, user=KEEPER, body=None, **fields):
-    """Status and body of an answer of the web server."""
+def answer_to(method, path, user=KEEPER, body=None, **fields):
+    """An answer of the web server."""
     connection = http.client.HTTPConnection("127.0.0.1", WEB, timeout=60)
     fields["Authorization"] = "Basic " + base64.b64encode(user.encode()).decode()
     connection.request(method, path, body, fields)
-    answer = connection.getresponse()
+    return connection.getresponse()
+
+
+def asked(*words, **how):
+    """Status and body of an answer of the web server."""
+    answer = answer_to(*words, **how)
     return answer.status, answer.read().decode()
 
 
@@ -293,7 +298,7 @@ class Browser:
 
 
 class Trial(People):
-    asked, ordinal, KEEPER = staticmethod(asked), staticmethod(ordinal), KEEPER
+    answer_to, asked, ordinal, KEEPER = staticmethod(answer_to), staticmethod(asked), staticmethod(ordinal), KEEPER
 
     def __init__(self, program, folder, shots):
         self.program, self.folder, self.shots, self.came = program, folder, shots, []

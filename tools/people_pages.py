@@ -266,6 +266,9 @@ class People:
             ("GET", "/supervisor/me", None, SUPERVISOR),
         ):
             self.check(f"{path} by a page of another site", self.asked(method, path, user, body, Origin="https://other.example")[0], 403)
+        for user, told in ((SUPERVISOR, "HOPPER"), ("HOPPER:wrong", "-")):
+            answer = self.answer_to("GET", "/supervisor/me", user)
+            self.check(f"the code that {user} is told", answer.getheader("Spadesk-Code"), told)
         self.it.go("/student/", "s02:s02")
         self.check("small letters, a student", "Your login is not matched with a code." in self.it.text("#me"))
         self.it.go("/supervisor/", "hopper:hopper")
@@ -535,6 +538,7 @@ MUTANTS = [
     ("supervisor", "supervisor.html", ".paper { display: inline; }", "", "on paper: name, round and date"),
     ("supervisor", "supervisor.html", "overflow-wrap: anywhere", "overflow-wrap: normal", "a supervisor's page, 360 px wide"),
     ("supervisor", "nginx.conf", "/supervisors/$own;", "/supervisors/TURING;", "whose it is"),
+    ("roles", "nginx.conf", '401     "-";', "", "the code that HOPPER:wrong is told"),
     ("roles", "nginx.conf", "|placements))", "|placements|unplaced))", f"GET /supervisor/reports/unplaced/1 as {SUPERVISOR}"),
     ("roles", "nginx.conf", "|reports/offers)", "|reports/offers|reports/missing)", f"GET /student/reports/missing/1 as {STUDENT}"),
 ]
