@@ -75,7 +75,7 @@ fn push_fault(out: &mut ShortText, name: &str, number: u64)
     push(out, b"}");
 }
 
-/// The standard reason phrase.
+/// Returns the standard reason phrase.
 #[tactic(auto, unfolding(crate::specs::Text::reason_of))]
 fn reason(status: StatusCode) -> &'static str
     ensures { result.now ≡ reason_of status }
@@ -86,7 +86,7 @@ fn reason(status: StatusCode) -> &'static str
     }
 }
 
-/// What comes before the body of an answer of a type.
+/// Returns what comes before the body of an answer of a type.
 pub fn answer_head(status: StatusCode, kind: &str, len: usize) -> ShortText
     requires reason { length (reason_of status) ≤ 32 }
     requires kind { length kind.now ≤ 40 }
@@ -113,7 +113,7 @@ pub const JSON: &str = "application/json";
 /// The type of a body that is a text.
 pub const TEXT: &str = "text/plain; charset=utf-8";
 
-/// An answer in JSON whose body is short.
+/// Returns an answer in JSON whose body is short.
 pub fn json(status: StatusCode, body: &[u8]) -> ShortText
     requires reason { length (reason_of status) ≤ 32 }
     requires body { length body.now ≤ MOST_SHORT_BODY }
@@ -124,7 +124,7 @@ pub fn json(status: StatusCode, body: &[u8]) -> ShortText
     out
 }
 
-/// The answer of a refusal.
+/// Returns the answer of a refusal.
 pub fn refused(status: StatusCode, name: &str, number: u32) -> ShortText
     requires reason { length (reason_of status) ≤ 32 }
     requires name { length name.now ≤ 100 }

@@ -45,7 +45,7 @@ pub fn read_json(alloc: Global, body: &[u8]) -> Result<Value, Refusal>
     }
 }
 
-/// How many members an object has.
+/// Returns how many members an object has.
 fn member_count(value: &Value) -> Option<usize>
     ensures { result ≡ option_map members_count (as_object (view value.now)) }
 {
@@ -65,7 +65,7 @@ fn has_size(value: &Value, n: usize) -> bool
     }
 }
 
-/// The text of a member.
+/// Returns the text of a member.
 fn text_in<'v>(value: &'v Value, name: &str) -> Option<&'v str>
     ensures { option_map (λ text. text.now) result ≡ text_in name.now (view value.now) }
 {
@@ -75,7 +75,7 @@ fn text_in<'v>(value: &'v Value, name: &str) -> Option<&'v str>
     }
 }
 
-/// The quota that a number is: a whole number up to `NO_QUOTA`, or that.
+/// Returns the quota that a number is: a whole number up to `NO_QUOTA`, or that.
 fn quota_of(number: Option<u64>) -> u32
     ensures { result ≡ quota_of number }
 {
@@ -85,7 +85,7 @@ fn quota_of(number: Option<u64>) -> u32
     }
 }
 
-/// The number of the member `quota`.
+/// Returns the number of the member `quota`.
 fn quota_in(value: &Value) -> Option<u32>
     ensures { result ≡ quota_in (view value.now) }
 {
@@ -98,7 +98,7 @@ fn quota_in(value: &Value) -> Option<u32>
     }
 }
 
-/// The text of a member that stands alone.
+/// Returns the text of a member that stands alone.
 fn lone_text<'v>(value: &'v Value, name: &str) -> Option<&'v str>
     ensures { option_map (λ text. text.now) result ≡ lone_text name.now (view value.now) }
 {
@@ -108,14 +108,14 @@ fn lone_text<'v>(value: &'v Value, name: &str) -> Option<&'v str>
     text_in(value, name)
 }
 
-/// The name that stands alone.
+/// Returns the name that stands alone.
 pub fn name_of(value: &Value) -> Option<&str>
     ensures { option_map (λ name. name.now) result ≡ name_of (view value.now) }
 {
     lone_text(value, "name")
 }
 
-/// The members `name` and `quota`.
+/// Returns the members `name` and `quota`.
 fn name_and_quota(value: &Value) -> Option<NameAndQuota<'_>>
     ensures { option_map (λ both. (both.name.now, both.quota)) result ≡ name_and_quota (view value.now) }
 {
@@ -128,7 +128,7 @@ fn name_and_quota(value: &Value) -> Option<NameAndQuota<'_>>
     }
 }
 
-/// The members of a supervisor.
+/// Returns the members of a supervisor.
 pub fn supervisor_members(value: &Value) -> Option<NameAndQuota<'_>>
     ensures { option_map (λ both. (both.name.now, both.quota)) result ≡ supervisor_members (view value.now) }
 {
@@ -138,7 +138,7 @@ pub fn supervisor_members(value: &Value) -> Option<NameAndQuota<'_>>
     name_and_quota(value)
 }
 
-/// The members of a project.
+/// Returns the members of a project.
 pub fn project_members(value: &Value) -> Option<ProjectMembers<'_>>
     ensures { option_map (λ all. ((all.name.now, all.quota), all.supervisor.now)) result
         ≡ project_members (view value.now) }
@@ -159,7 +159,7 @@ pub fn project_members(value: &Value) -> Option<ProjectMembers<'_>>
     }
 }
 
-/// The aim that stands alone, by its word.
+/// Returns the aim that stands alone, by its word.
 pub fn aim_of(value: &Value) -> Option<Aim>
     ensures { result ≡ aim_of (view value.now) }
 {
@@ -169,7 +169,7 @@ pub fn aim_of(value: &Value) -> Option<Aim>
     }
 }
 
-/// The texts of items that are all texts.
+/// Returns the texts of items that are all texts.
 fn texts_of(alloc: Global, items: &[Value]) -> Result<Option<Texts>, AllocError>
     ensures { IfOk result (λ texts. texts ≡ texts_of (items_view items.now)) }
 {
@@ -183,7 +183,7 @@ fn texts_of(alloc: Global, items: &[Value]) -> Result<Option<Texts>, AllocError>
     Ok(Some(Texts::of(texts)))
 }
 
-/// The items of the member `choices`.
+/// Returns the items of the member `choices`.
 fn choices_in(value: &Value) -> Option<&Vec<Value>>
     ensures { option_map (λ items. items_view items.now.items) result
         ≡ option_and_then as_array (get (codes "choices") (view value.now)) }
@@ -194,7 +194,7 @@ fn choices_in(value: &Value) -> Option<&Vec<Value>>
     }
 }
 
-/// The choices that stand alone.
+/// Returns the choices that stand alone.
 pub fn choices_of(alloc: Global, value: &Value) -> Result<Option<Texts>, AllocError>
     ensures { IfOk result (λ choices. choices ≡ choices_of (view value.now)) }
 {

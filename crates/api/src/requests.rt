@@ -16,7 +16,7 @@ use spa::Aim;
 use std::alloc::{AllocError, Global};
 use std::str;
 
-/// What is put, by the members of a body.
+/// Returns what is put, by the members of a body.
 fn put_by(alloc: Global, what: Put, code: &str, value: &Value) -> Result<Option<Plain>, AllocError>
     ensures { IfOk result (λ plain. plain ≡ put_by what code.now (view value.now)) }
 {
@@ -55,7 +55,7 @@ fn put_by(alloc: Global, what: Put, code: &str, value: &Value) -> Result<Option<
     }
 }
 
-/// What a body of members asks.
+/// Returns what a body of members asks.
 fn object_asks(alloc: Global, what: Put, code: &str, body: &[u8]) -> Result<Plain, Refusal>
     ensures ok { IfOk result (λ plain.
         by_body (Form.Members what) code.now body.now ≡ Ok (Request.Plain plain)) }
@@ -69,7 +69,7 @@ fn object_asks(alloc: Global, what: Put, code: &str, body: &[u8]) -> Result<Plai
     }
 }
 
-/// What an empty body asks.
+/// Returns what an empty body asks.
 fn empty_asks(alloc: Global, call: Call, code: &str, body: &[u8]) -> Result<Request, Refusal>
     ensures ok { IfOk result (λ request. by_body (Form.Empty call) code.now body.now ≡ Ok request) }
     ensures err { IfErr result (λ refusal. (by_body (Form.Empty call) code.now body.now ≡ Err refusal)
@@ -84,7 +84,7 @@ fn empty_asks(alloc: Global, call: Call, code: &str, body: &[u8]) -> Result<Requ
     }
 }
 
-/// The round that a body opens: by its member, or, where it is empty, a greedy one.
+/// Returns the round that a body opens: by its member, or, where it is empty, a greedy one.
 fn opening_asks(alloc: Global, body: &[u8]) -> Result<Plain, Refusal>
     ensures ok { IfOk result (λ plain. opening_asks body.now ≡ Ok (Request.Plain plain)) }
     ensures err { IfErr result (λ refusal. (opening_asks body.now ≡ Err refusal)
@@ -100,7 +100,7 @@ fn opening_asks(alloc: Global, body: &[u8]) -> Result<Plain, Refusal>
     }
 }
 
-/// The import that a body is the text of.
+/// Returns the import that a body is the text of.
 fn import_asks(
     alloc: Global,
     kind: ImportKind,
@@ -116,7 +116,7 @@ fn import_asks(
     })
 }
 
-/// What a body asks.
+/// Returns what a body asks.
 fn by_body(alloc: Global, form: Form, code: &str, body: &[u8]) -> Result<Request, Refusal>
     ensures ok { IfOk result (λ request. by_body form code.now body.now ≡ Ok request) }
     ensures err { IfErr result (λ refusal. (by_body form code.now body.now ≡ Err refusal)
@@ -146,7 +146,7 @@ fn is_method(method: &[u8], known: &Method) -> bool
     method == known.as_str().as_bytes()
 }
 
-/// What a method asks of a path.
+/// Returns what a method asks of a path.
 fn by_method(methods: Methods, method: &[u8]) -> Option<Form>
     ensures { result ≡ by_method methods method.now }
 {
@@ -163,7 +163,7 @@ fn by_method(methods: Methods, method: &[u8]) -> Option<Form>
     }
 }
 
-/// What a target names.
+/// Returns what a target names.
 fn by_path<'t>(router: &Router<Methods>, target: &'t [u8]) -> Option<Place<'t>>
     requires { router.now ≡ all_routes }
     ensures { MatchOption result (IsNowhere target.now)
@@ -175,7 +175,7 @@ fn by_path<'t>(router: &Router<Methods>, target: &'t [u8]) -> Option<Place<'t>>
     }
 }
 
-/// What is asked of a place.
+/// Returns what is asked of a place.
 fn asked_at(alloc: Global, place: &Place, method: &[u8], body: &[u8]) -> Result<Request, Refusal>
     ensures ok { IfOk result (λ request. asked_by (by_method place.now.methods method.now) place.now.code.now body.now
         ≡ Ok request) }
@@ -206,7 +206,7 @@ impl Routes {
         }
     }
 
-    /// What a message asks, or why it asks nothing. `Memory` comes only where it takes memory to read what is asked.
+    /// Returns what a message asks, or why it asks nothing. `Memory` comes only where reading what is asked allocates.
     pub fn request(&self, method: &[u8], target: &[u8], body: &[u8]) -> Result<Request, Refusal>
         ensures { IsReadAs (record { method = method.now; target = target.now; body = body.now }) result }
     {

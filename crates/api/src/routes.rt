@@ -85,7 +85,7 @@ fn all_digits(text: &[u8]) -> bool
 /// The most digits of a number in a path.
 const MOST_DIGITS: usize = 4;
 
-/// The number that 1 to 4 digits write.
+/// Returns the number that 1 to 4 digits write.
 pub fn number_of(text: &str) -> Option<u32>
     ensures { result ≡ number_of text.now }
 {
@@ -95,7 +95,7 @@ pub fn number_of(text: &str) -> Option<u32>
     text.parse::<u32>().ok()
 }
 
-/// The request of an empty body. It takes memory where it keeps a code.
+/// Returns the request of an empty body. It allocates where it stores a code.
 pub fn called(alloc: Global, call: Call, code: &str) -> Result<Request, AllocError>
     ensures ok { IfOk result (λ request. request ≡ called call code.now) }
     ensures memory { OnErr result (IsTrue (keeps_code call)) }
@@ -146,7 +146,7 @@ const NOTHING: Methods = Methods {
     delete: None,
 };
 
-/// What is read alone.
+/// Returns the methods of what is read alone.
 fn read(call: Call) -> Methods
     ensures { result ≡ read call }
 {
@@ -156,7 +156,7 @@ fn read(call: Call) -> Methods
     }
 }
 
-/// What is asked of the office as a whole.
+/// Returns the methods of what is asked of the office as a whole.
 fn asked(call: Call) -> Methods
     ensures { result ≡ asked call }
 {
@@ -166,7 +166,7 @@ fn asked(call: Call) -> Methods
     }
 }
 
-/// A round is opened.
+/// Returns the methods by which a round is opened.
 fn opens() -> Methods
     ensures { result ≡ opens }
 {
@@ -176,7 +176,7 @@ fn opens() -> Methods
     }
 }
 
-/// An entry of the rolls is put and read.
+/// Returns the methods by which an entry of the rolls is put and read.
 fn entry(put: Put, call: Call) -> Methods
     ensures { result ≡ entry put call }
 {
@@ -186,7 +186,7 @@ fn entry(put: Put, call: Call) -> Methods
     }
 }
 
-/// A list is put, and dropped.
+/// Returns the methods by which a list is put, and dropped.
 fn list() -> Methods
     ensures { result ≡ list }
 {
@@ -197,7 +197,7 @@ fn list() -> Methods
     }
 }
 
-/// Something of a round is read by its number.
+/// Returns the methods by which something of a round is read by its number.
 fn numbered(call: Call) -> Methods
     ensures { result ≡ numbered call }
 {
@@ -207,7 +207,7 @@ fn numbered(call: Call) -> Methods
     }
 }
 
-/// An import is sent under its id.
+/// Returns the methods by which an import is sent under its id.
 fn import(kind: ImportKind) -> Methods
     ensures { result ≡ import kind }
 {
@@ -220,7 +220,7 @@ fn import(kind: ImportKind) -> Methods
 /// How many routes there are.
 const ROUTES: usize = 21;
 
-/// The routes: the paths that they are for, and what each method asks of them.
+/// Returns the routes: the paths that they are for, and what each method asks of them.
 fn routes() -> [(&'static str, Methods); ROUTES]
     ensures { map (λ r. (r.0.now, r.1)) result ≡ map path_written all_routes }
 {
@@ -276,7 +276,7 @@ fn routes() -> [(&'static str, Methods); ROUTES]
     ]
 }
 
-/// The router of all paths. It fails for want of memory alone.
+/// Makes the router of all paths. It fails only where memory runs out.
 pub fn router(alloc: Global) -> Result<Router<Methods>, InsertError>
     ensures routes { IfOk result (λ router. router ≡ all_routes) }
     ensures memory { IfErr result (λ error. error ≡ InsertError.OutOfMemory) }
@@ -288,7 +288,7 @@ pub fn router(alloc: Global) -> Result<Router<Methods>, InsertError>
     Ok(router)
 }
 
-/// What a path names.
+/// Returns what a path names.
 pub fn place_of<'p>(router: &Router<Methods>, path: &'p str) -> Option<Place<'p>>
     requires { router.now ≡ all_routes }
     ensures { MatchOption result (IsNowhere path.now)

@@ -18,7 +18,7 @@ use spa::{Aim, RANKS};
 use std::alloc::{AllocError, Global};
 use wire::{Answer, ShortText};
 
-/// The status of a refusal.
+/// Returns the status of a refusal.
 fn status_of(refusal: Refusal) -> StatusCode
     ensures value { result ≡ status_of refusal }
     ensures short { length (reason_of result) ≤ 32 }
@@ -29,7 +29,7 @@ fn status_of(refusal: Refusal) -> StatusCode
     }
 }
 
-/// The body of a refused record.
+/// Returns the body of a refused record.
 fn row_body(number: u32, inner: u32) -> ShortText
     ensures items { result.items ≡ row_text number inner }
     ensures len { array_vec_len result ≤ MOST_SHORT_BODY }
@@ -41,7 +41,7 @@ fn row_body(number: u32, inner: u32) -> ShortText
     out
 }
 
-/// The answer of a refusal, which takes no memory.
+/// Returns the answer of a refusal. Allocates nothing.
 pub fn refusal_answer(refusal: Refusal) -> ShortText
     ensures { result.items ≡ refusal_text refusal }
 {
@@ -53,7 +53,7 @@ pub fn refusal_answer(refusal: Refusal) -> ShortText
     }
 }
 
-/// The answer of a change, which takes no memory.
+/// Returns the answer of a change. Allocates nothing.
 #[tactic(auto, unfolding(crate::specs::Text::reason_of))]
 fn done_answer() -> ShortText
     ensures { result.items ≡ reply_text Reply.Done }
@@ -61,7 +61,7 @@ fn done_answer() -> ShortText
     json(StatusCode::OK, b"{\"ok\":true}")
 }
 
-/// The answer of success with a body of a round.
+/// Returns the answer of success with a body of a round.
 #[tactic(auto, unfolding(crate::specs::Text::reason_of))]
 fn round_answer(body: &ShortText) -> ShortText
     requires { array_vec_len body.now ≤ MOST_SHORT_BODY }
@@ -70,7 +70,7 @@ fn round_answer(body: &ShortText) -> ShortText
     json(StatusCode::OK, body.as_slice())
 }
 
-/// The body of one member, which is a number.
+/// Returns the body of one member, which is a number.
 fn number_body(member: &[u8], number: u32) -> ShortText
     requires { length member.now ≤ 20 }
     ensures items { result.items ≡ member.now ++ decimal number ++ codes "}" }
@@ -82,7 +82,7 @@ fn number_body(member: &[u8], number: u32) -> ShortText
     out
 }
 
-/// A body up to the end of its profile.
+/// Returns a body up to the end of its profile.
 fn profile_body(profile: &[u32; RANKS]) -> ShortText
     ensures items { result.items ≡ codes "{\"profile\":[" ++ numbers_text profile.now }
     ensures len { array_vec_len result ≤ 145 }
@@ -93,7 +93,7 @@ fn profile_body(profile: &[u32; RANKS]) -> ShortText
     out
 }
 
-/// The body of a closed round.
+/// Returns the body of a closed round.
 fn closed_body(round: u32, size: u32, profile: &[u32; RANKS]) -> ShortText
     ensures items { result.items ≡ closed_text round size profile.now }
     ensures len { array_vec_len result ≤ MOST_SHORT_BODY }
@@ -105,7 +105,7 @@ fn closed_body(round: u32, size: u32, profile: &[u32; RANKS]) -> ShortText
     out
 }
 
-/// The body of a preview.
+/// Returns the body of a preview.
 fn preview_body(size: u32, profile: &[u32; RANKS]) -> ShortText
     ensures items { result.items ≡ preview_text size profile.now }
     ensures len { array_vec_len result ≤ MOST_SHORT_BODY }
@@ -116,7 +116,7 @@ fn preview_body(size: u32, profile: &[u32; RANKS]) -> ShortText
     out
 }
 
-/// Where the body of a round goes on after its aim.
+/// Returns how the body of a round goes on after its aim.
 fn round_start(is_open: bool) -> &'static [u8]
     ensures text { result.now ≡ codes "\",\"open\":" ++ truth_text is_open ++ codes ",\"placed\":" }
     ensures len { length result.now ≤ 25 }
@@ -128,7 +128,7 @@ fn round_start(is_open: bool) -> &'static [u8]
     }
 }
 
-/// The body of a round with this aim, open or not.
+/// Returns the body of a round with this aim, open or not.
 fn round_body(
     number: u32,
     state: (Aim, bool),
@@ -151,14 +151,14 @@ fn round_body(
     out
 }
 
-/// A supervisor in JSON.
+/// Returns a supervisor in JSON.
 fn supervisor_value(alloc: Global, name: &str, placed: u32, quota: u32) -> Result<Value, AllocError>
     ensures { IfOk result (λ value. view value ≡ supervisor_data name.now placed quota) }
 {
     json!(in alloc; {"name": name, "placed": u64::from(placed), "quota": u64::from(quota)})
 }
 
-/// A project in JSON.
+/// Returns a project in JSON.
 fn project_value(
     alloc: Global,
     name: &str,
@@ -173,7 +173,7 @@ fn project_value(
     })
 }
 
-/// Texts in JSON.
+/// Returns texts in JSON.
 fn codes_value(alloc: Global, choices: &Choices) -> Result<Value, AllocError>
     ensures { IfOk result (λ value. view value ≡ list_data (Some choices.now)) }
 {
@@ -184,7 +184,7 @@ fn codes_value(alloc: Global, choices: &Choices) -> Result<Value, AllocError>
     Ok(Value::Array(items))
 }
 
-/// A student's list in JSON.
+/// Returns a student's list in JSON.
 fn list_value(alloc: Global, list: &Option<Choices>) -> Result<Value, AllocError>
     ensures { IfOk result (λ value. view value ≡ list_data list.now) }
 {
@@ -194,7 +194,7 @@ fn list_value(alloc: Global, list: &Option<Choices>) -> Result<Value, AllocError
     }
 }
 
-/// A placement in JSON.
+/// Returns a placement in JSON.
 fn placement_value(alloc: Global, placement: &Placement) -> Result<Value, AllocError>
     ensures { IfOk result (λ value. view value ≡ placed_data (Some placement.now)) }
 {
@@ -205,7 +205,7 @@ fn placement_value(alloc: Global, placement: &Placement) -> Result<Value, AllocE
     })
 }
 
-/// A student's placement in JSON.
+/// Returns a student's placement in JSON.
 fn placed_value(alloc: Global, placed: &Option<Placement>) -> Result<Value, AllocError>
     ensures { IfOk result (λ value. view value ≡ placed_data placed.now) }
 {
@@ -215,7 +215,7 @@ fn placed_value(alloc: Global, placed: &Option<Placement>) -> Result<Value, Allo
     }
 }
 
-/// A student in JSON.
+/// Returns a student in JSON.
 fn student_value(
     alloc: Global,
     name: &str,
@@ -229,7 +229,7 @@ fn student_value(
     json!(in alloc; {"list": &list, "name": name, "placed": &placed})
 }
 
-/// The answer of success with a body.
+/// Returns the answer of success with a body.
 #[tactic(auto, unfolding(crate::specs::Text::reason_of))]
 fn with_head(alloc: Global, kind: &str, body: &str) -> Result<Answer, AllocError>
     requires { length kind.now ≤ 40 }
@@ -241,7 +241,7 @@ fn with_head(alloc: Global, kind: &str, body: &str) -> Result<Answer, AllocError
     Ok(Answer::Long(bytes))
 }
 
-/// The answer of success with a value that has no float.
+/// Returns the answer of success with a value that has no float.
 fn value_answer(alloc: Global, value: &Value) -> Result<Answer, AllocError>
     requires { has_float (view value.now) ≡ false }
     ensures { IfOk result (λ answer. answer_bytes answer ≡ json_answer 200 (compact_text (view value.now))) }
@@ -250,7 +250,7 @@ fn value_answer(alloc: Global, value: &Value) -> Result<Answer, AllocError>
     with_head(alloc, JSON, body.as_str())
 }
 
-/// The answer of success. For a change it takes no memory.
+/// Returns the answer of success. For a change it allocates nothing.
 fn reply_answer(alloc: Global, reply: &Reply) -> Result<Answer, AllocError>
     ensures text { IfOk result (λ answer. answer_bytes answer ≡ text_of (Ok reply.now)) }
     ensures memory { OnErr result (IsRead (Ok reply.now)) }
@@ -309,7 +309,7 @@ fn reply_answer(alloc: Global, reply: &Reply) -> Result<Answer, AllocError>
     }
 }
 
-/// The answer; that of a read may be refused for want of memory.
+/// Returns the answer; that of a read may be refused where memory runs out.
 pub fn answer_of(alloc: Global, outcome: Result<Reply, Refusal>) -> Answer
     ensures { (answer_bytes result ≡ text_of outcome)
         ⊎ (IsRead outcome × (answer_bytes result ≡ refusal_text Refusal.Memory)) }

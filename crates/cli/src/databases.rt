@@ -44,7 +44,7 @@ fn do_over<S: Alter + Drop, O: Sink, E: Sink>(
     }
 }
 
-/// The same of the office of a database file, which is closed then: its log is copied into it.
+/// Does the same at the office of a database file, which is closed then: its log is copied into it.
 pub(crate) fn do_and_close<D: Disk + Drop, O: Sink, E: Sink>(
     rt: &HostRuntime,
     connection: Connection<FileStore<D>>,

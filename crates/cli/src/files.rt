@@ -9,7 +9,7 @@ use std::fs::File;
 use std::io::{self, ErrorKind, Read};
 use std::rt::HostRuntime;
 
-/// What the system gave of a file, or the refusal of its error.
+/// Returns what the system gave of a file, or the refusal of its error.
 fn refused_file<T: Drop>(came: io::Result<T>) -> Result<T, Refusal>
     ensures given { IfOk came (λ given. result ≡ Ok given) }
     ensures memory { IfErr came (λ error. error_kind error ≡ ErrorKind.OutOfMemory → result ≡ Err Refusal.Memory) }
@@ -23,7 +23,7 @@ fn refused_file<T: Drop>(came: io::Result<T>) -> Result<T, Refusal>
     }
 }
 
-/// The bytes of a file, of which no more are read than show that there are more than so many.
+/// Reads at most `most + 1` bytes of a file.
 pub(crate) fn read_file(rt: &HostRuntime, path: &str, most: usize) -> Result<Vec<u8>, Refusal>
     requires { most < 2 ^ 32 }
     ensures { IfErr result (λ r. (r ≡ Refusal.Memory) ⊎ (r ≡ Refusal.Storage)) }
@@ -32,7 +32,7 @@ pub(crate) fn read_file(rt: &HostRuntime, path: &str, most: usize) -> Result<Vec
     read_some(rt.alloc(), file, most)
 }
 
-/// What a reader gives up to its end, or up to the first byte above the limit.
+/// Reads what a reader gives up to its end, or up to the first byte above the limit.
 fn read_some<R: Read + Drop>(alloc: Global, reader: R, most: usize) -> Result<Vec<u8>, Refusal>
     requires { most < 2 ^ 32 }
     ensures ok { IfOk result (λ bytes. IfSome (R.remaining reader) (λ all. bytes.items ≡ take (most + 1) all)) }

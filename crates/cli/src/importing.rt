@@ -17,7 +17,7 @@ use std::alloc::AllocError;
 use std::rt::HostRuntime;
 use web::Sink;
 
-/// The request of an import of a file's bytes.
+/// Returns the request of an import of a file's bytes.
 fn import_of(
     rt: &HostRuntime,
     kind: ImportKind,
@@ -33,7 +33,7 @@ fn import_of(
     })
 }
 
-/// The request of an import of a file's bytes, or why it is not made.
+/// Returns the request of an import of a file's bytes, or why it is not made.
 fn import(rt: &HostRuntime, kind: ImportKind, id: &str, bytes: Vec<u8>) -> Result<Request, Refusal>
     ensures { IsImportOf id.now kind bytes.items result }
 {
@@ -46,7 +46,7 @@ fn import(rt: &HostRuntime, kind: ImportKind, id: &str, bytes: Vec<u8>) -> Resul
     }
 }
 
-/// The request of an import of what was read of a file, or the refusal of the reading.
+/// Returns the request of an import of what was read of a file, or the refusal of the reading.
 fn import_read(
     rt: &HostRuntime,
     kind: ImportKind,
@@ -61,7 +61,7 @@ fn import_read(
     }
 }
 
-/// The request of an import of a file, or why it is not made.
+/// Returns the request of an import of a file, or why it is not made.
 pub(crate) fn import_file(
     rt: &HostRuntime,
     kind: ImportKind,

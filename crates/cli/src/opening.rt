@@ -18,7 +18,7 @@ use std::rt::HostRuntime;
 /// What comes of closing a database file: its files, or why it is not closed, and what is left of it.
 pub type Closing<D> = Result<Files<D>, (Error, FileStore<D>)>;
 
-/// The refusal of a database that cannot be opened.
+/// Returns the refusal of a database that cannot be opened.
 fn refusal_of(error: Error) -> Refusal
     ensures memory { error ≡ Error.SqliteFailure ErrorCode.OutOfMemory → result ≡ Refusal.Memory }
     ensures storage { (error ≡ Error.SqliteFailure ErrorCode.OutOfMemory → ⊥) → result ≡ Refusal.Storage }

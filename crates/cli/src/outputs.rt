@@ -28,7 +28,7 @@ impl<O: Sink, E: Sink> Model for Outputs<O, E> {
 }
 
 impl<O: Sink, E: Sink> Outputs<O, E> {
-    /// The two writers together.
+    /// Puts the two writers together.
     pub fn new(out: O, err: E) -> Self
         ensures out { result.out ≡ record { writer = out; written = O.written out; failures = O.failures out } }
         ensures err { result.err ≡ record { writer = err; written = E.written err; failures = E.failures err } }

@@ -73,7 +73,7 @@ pub fn begin<S: Start, R: Source, O: Sink, E: Sink>(
     }
 }
 
-/// The words of the command line, the program's name first.
+/// Returns the words of the command line, the program's name first.
 fn given(rt: &HostRuntime) -> io::Result<Vec<String>> {
     Ok(env::args(rt)?.collect(rt.alloc())?)
 }

@@ -66,7 +66,7 @@ fn serve_at<S: Alter, O: Sink>(
     }
 }
 
-/// A port of the loopback address: nobody else's machine reaches it.
+/// Returns a port of the loopback address: nobody else's machine reaches it.
 fn loopback(port: u16) -> SocketAddrV4
     ensures address { ipv4_octets (v4_ip result) ≡ 127 ∷ 0 ∷ 0 ∷ 1 ∷ [] }
     ensures port { v4_port result ≡ port }

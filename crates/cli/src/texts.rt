@@ -15,7 +15,7 @@ use web::{ShortText, push, push_labelled, push_number};
 pub(crate) static NOT_UTF8: &str =
     "error: invalid UTF-8 was detected in one or more arguments\n\nUsage: spadesk <COMMAND>\n\nFor more information, try '--help'.\n";
 
-/// A line of a label and a number.
+/// Returns a line of a label and a number.
 pub(crate) fn labelled(label: &[u8], number: u32) -> ShortText
     requires { length label.now ≤ 100 }
     ensures { result.items ≡ label.now ++ decimal number ++ 10 ∷ [] }
@@ -26,7 +26,7 @@ pub(crate) fn labelled(label: &[u8], number: u32) -> ShortText
     line
 }
 
-/// The line of a refused record, with the number of its own refusal.
+/// Returns the line of a refused record, with the number of its own refusal.
 fn row_line(number: u32, inner: u32) -> ShortText
     ensures { result.items ≡ refusal_line (no.Row number inner) }
 {
@@ -37,7 +37,7 @@ fn row_line(number: u32, inner: u32) -> ShortText
     line
 }
 
-/// The line of a refusal with this number and this name.
+/// Returns the line of a refusal with this number and this name.
 fn named_line(number: u32, name: &str) -> ShortText
     requires { length name.now ≤ 100 }
     ensures { result.items ≡ named_line number name.now }
@@ -50,7 +50,7 @@ fn named_line(number: u32, name: &str) -> ShortText
     line
 }
 
-/// The line of a refusal.
+/// Returns the line of a refusal.
 pub(crate) fn refusal_line(refusal: Refusal) -> ShortText
     ensures { result.items ≡ refusal_line refusal }
 {
@@ -60,7 +60,7 @@ pub(crate) fn refusal_line(refusal: Refusal) -> ShortText
     }
 }
 
-/// The line of a round text's bad line.
+/// Returns the line of a round text's bad line.
 pub(crate) fn bad_line(number: usize) -> ShortText
     ensures { result.items ≡ bad_line number }
 {
@@ -82,7 +82,7 @@ fn push_counts(out: &mut ShortText, counts: &[u32])
     }
 }
 
-/// The line of a closed round.
+/// Returns the line of a closed round.
 pub(crate) fn closed_line(round: u32, size: u32, profile: &[u32; RANKS]) -> ShortText
     ensures { result.items ≡ closed_line round size profile.now }
 {

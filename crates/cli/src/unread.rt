@@ -15,7 +15,7 @@ pub enum Unread {
 }
 
 impl Unread {
-    /// What the error stands for that reading the arguments gave.
+    /// Returns what the error stands for that reading the arguments gave.
     pub fn of(error: &io::Error) -> Self
         ensures memory { error_kind error.now ≡ ErrorKind.OutOfMemory → result ≡ Unread.Memory }
         ensures not_utf8 { (error_kind error.now ≡ ErrorKind.OutOfMemory → ⊥) → result ≡ Unread.NotUtf8 }

@@ -10,7 +10,7 @@ ghost use Rattle.rolls.specs.State.{placement_key};
 use rolls::{Change, Entries, Listed, Placement, round_row};
 use std::alloc::{AllocError, Global};
 
-/// The placement of a student at a place of the list, from 1.
+/// Returns the placement of a student at a place of the list, from 1.
 fn placed_at(round: u32, listed: &Listed, place: u8) -> Placement
     requires { let list = listed.now in IsPlaceOf list.choices place }
     ensures { result ≡ placed_at round listed.now place }
@@ -24,7 +24,7 @@ fn placed_at(round: u32, listed: &Listed, place: u8) -> Placement
     }
 }
 
-/// The placements that places in the lists of a round make.
+/// Returns the placements that places in the lists of a round make.
 pub fn placements_of(
     alloc: Global,
     round: u32,
@@ -44,7 +44,7 @@ pub fn placements_of(
     Ok(placed)
 }
 
-/// The placements with these put after one another. They share the entries until the first is put.
+/// Returns the placements with these put after one another. They share the entries until the first is put.
 pub fn placements_after(
     alloc: Global,
     placements: &Entries<Placement>,
@@ -59,7 +59,7 @@ pub fn placements_after(
     Ok(after)
 }
 
-/// The changes of the tables where a round closes with these placements: the round's row is put first, and then
+/// Returns the changes of the tables where a round closes with these placements: the round's row is put first, and then
 /// the rows of the placements are added.
 pub fn close_changes(
     alloc: Global,

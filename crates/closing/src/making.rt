@@ -23,7 +23,7 @@ pub fn is_offered_by(projects: &Entries<Project>, supervisor: &str, project: &st
     }
 }
 
-/// How many of the placements are in a project.
+/// Returns how many of the placements are in a project.
 pub fn placed_in_project(placements: &[Placement], project: &str) -> usize
     ensures { result ≡ count_in None placements.now project.now }
 {
@@ -33,7 +33,7 @@ pub fn placed_in_project(placements: &[Placement], project: &str) -> usize
         .count()
 }
 
-/// How many of the placements are in a supervisor's projects.
+/// Returns how many of the placements are in a supervisor's projects.
 pub fn placed_with_supervisor(
     projects: &Entries<Project>,
     placements: &[Placement],
@@ -47,7 +47,7 @@ pub fn placed_with_supervisor(
         .count()
 }
 
-/// The supervisors, with the quotas less what is counted.
+/// Returns the supervisors, with the quotas less what is counted.
 fn supervisors_left(
     alloc: Global,
     supervisors: &[Supervisor],
@@ -65,7 +65,7 @@ fn supervisors_left(
     Ok(roll)
 }
 
-/// The projects, with the quotas less what is counted.
+/// Returns the projects, with the quotas less what is counted.
 fn projects_left(
     alloc: Global,
     projects: &[Project],
@@ -83,7 +83,7 @@ fn projects_left(
     Ok(roll)
 }
 
-/// The codes of a list.
+/// Returns the codes of a list.
 fn codes_of(alloc: Global, choices: &Choices) -> Result<Vec<Code>, AllocError>
     ensures { IfOk result (λ codes. codes.items ≡ choices.now) }
 {
@@ -94,7 +94,7 @@ fn codes_of(alloc: Global, choices: &Choices) -> Result<Vec<Code>, AllocError>
     Ok(copies)
 }
 
-/// The students with their lists.
+/// Returns the students with their lists.
 fn students_listed(alloc: Global, lists: &[Listed]) -> Result<Vec<(Code, Vec<Code>)>, AllocError>
     ensures { IfOk result (λ roll. map (λ e. (e.0, e.1.items)) roll.items ≡ map student_listed lists.now) }
 {
@@ -105,7 +105,7 @@ fn students_listed(alloc: Global, lists: &[Listed]) -> Result<Vec<(Code, Vec<Cod
     Ok(roll)
 }
 
-/// The instance of a round of a fit office, from its parts: the supervisors and projects with what the rounds up to one left of
+/// Makes the instance of a round of a fit office from its parts: the supervisors and projects with what the rounds up to one left of
 /// their quotas, or all rounds where none is named, and the students with a list in the round. It fails for want of memory
 /// alone.
 pub fn round_instance(

@@ -28,7 +28,7 @@ const REPORT_KINDS: [ReportKind; 7] = [
     ReportKind::Text,
 ];
 
-/// The word of a kind of reports.
+/// Returns the word of a kind of reports.
 fn report_word(kind: ReportKind) -> &'static str
     ensures { result.now ≡ report_word kind }
 {
@@ -43,7 +43,7 @@ fn report_word(kind: ReportKind) -> &'static str
     }
 }
 
-/// The words of the kinds of imports.
+/// Returns the words of the kinds of imports.
 pub(crate) fn import_words() -> [&'static str; 4]
     ensures { map (λ w. w.now) result ≡ map word_of import_kinds }
 {
@@ -51,7 +51,7 @@ pub(crate) fn import_words() -> [&'static str; 4]
     [first.word(), second.word(), third.word(), fourth.word()]
 }
 
-/// The words of the kinds of reports.
+/// Returns the words of the kinds of reports.
 pub(crate) fn report_words() -> [&'static str; 7]
     ensures { map (λ w. w.now) result ≡ map report_word report_kinds }
 {
@@ -67,7 +67,7 @@ pub(crate) fn report_words() -> [&'static str; 7]
     ]
 }
 
-/// The words of the aims.
+/// Returns the words of the aims.
 pub(crate) fn aim_words() -> [&'static str; 2]
     ensures { map (λ w. w.now) result ≡ map aim_word aims }
 {
@@ -75,14 +75,14 @@ pub(crate) fn aim_words() -> [&'static str; 2]
     [first.word(), second.word()]
 }
 
-/// The kind of imports that has this word.
+/// Returns the kind of imports that has this word.
 pub(crate) fn import_kind(word: &str) -> Option<ImportKind>
     ensures { result ≡ find (λ k. bytes_eq (word_of k) word.now) import_kinds }
 {
     IMPORT_KINDS.iter().copied().find(|k| k.word() == word)
 }
 
-/// The kind of reports that has this word.
+/// Returns the kind of reports that has this word.
 pub(crate) fn report_kind(word: &str) -> Option<ReportKind>
     ensures { result ≡ find (λ k. bytes_eq (report_word k) word.now) report_kinds }
 {

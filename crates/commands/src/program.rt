@@ -20,7 +20,7 @@ pub(crate) struct Kinds<'a> {
     pub aims: &'a [&'a str],
 }
 
-/// What `clap` asks of a word.
+/// Returns what `clap` asks of a word.
 fn parser_of<'a>(kinds: Kinds<'a>, takes: Takes) -> ValueParser<'a>
     ensures { result ≡ parser_of kinds.entry takes }
 {
@@ -33,7 +33,7 @@ fn parser_of<'a>(kinds: Kinds<'a>, takes: Takes) -> ValueParser<'a>
     }
 }
 
-/// An argument, as `clap` takes it.
+/// Returns an argument, as `clap` takes it.
 fn argument<'a>(alloc: Global, kinds: Kinds<'a>, told: &Argument) -> Arg<'a>
     ensures rule { rule_of result ≡ rule_by kinds.entry (argument_by told.now) }
     ensures local { result.global ≡ false }
@@ -44,7 +44,7 @@ fn argument<'a>(alloc: Global, kinds: Kinds<'a>, told: &Argument) -> Arg<'a>
         .value_parser(parser_of(kinds, told.takes))
 }
 
-/// A line, as a subcommand.
+/// Returns a line, as a subcommand.
 fn subcommand<'a>(
     alloc: Global,
     kinds: Kinds<'a>,
@@ -62,7 +62,7 @@ fn subcommand<'a>(
     Ok(command)
 }
 
-/// The program: its lines are subcommands, of which one must be given.
+/// Returns the program: its lines are subcommands, of which one must be given.
 pub(crate) fn program<'a>(alloc: Global, kinds: Kinds<'a>) -> Result<Command<'a>, AllocError>
     ensures { IfOk result (λ c. app_of c ≡ program kinds.entry) }
 {

@@ -22,14 +22,14 @@ use spa::Aim;
 use std::alloc::{AllocError, Global};
 use std::string::ToString;
 
-/// The word of an argument, if it is given.
+/// Returns the word of an argument, if it is given.
 fn given_word<'a>(given: &ArgMatches<'a>, argument: &Argument) -> Option<&'a str>
     ensures { option_map (λ w. w.now) result ≡ word_in (rows_of (found_of given.now)) (argument_by argument.now) }
 {
     given.get_str(argument.name)
 }
 
-/// The word of an argument that has to be given.
+/// Returns the word of an argument that has to be given.
 fn word<'a>(given: &ArgMatches<'a>, argument: &Argument) -> &'a str
     requires given { IsGiven (rows_of (found_of given.now)) (argument_by argument.now) }
     requires needed { argument.now.needed ≡ true }
@@ -39,7 +39,7 @@ fn word<'a>(given: &ArgMatches<'a>, argument: &Argument) -> &'a str
     given_word(given, argument).unwrap()
 }
 
-/// The word of an argument, as a text of its own.
+/// Returns the word of an argument, as a text of its own.
 fn text(alloc: Global, given: &ArgMatches<'_>, argument: &Argument) -> Result<String, AllocError>
     requires given { IsGiven (rows_of (found_of given.now)) (argument_by argument.now) }
     requires needed { argument.now.needed ≡ true }
@@ -48,7 +48,7 @@ fn text(alloc: Global, given: &ArgMatches<'_>, argument: &Argument) -> Result<St
     String::from_str(alloc, word(given, argument))
 }
 
-/// The number that the word of an argument writes.
+/// Returns the number that the word of an argument writes.
 fn number(given: &ArgMatches<'_>, argument: &Argument) -> u32
     requires given { IsGiven (rows_of (found_of given.now)) (argument_by argument.now) }
     requires needed { argument.now.needed ≡ true }
@@ -58,7 +58,7 @@ fn number(given: &ArgMatches<'_>, argument: &Argument) -> u32
     word(given, argument).parse::<u32>().unwrap()
 }
 
-/// The port.
+/// Returns the port.
 fn port(given: &ArgMatches<'_>) -> u16
     requires { IsGiven (rows_of (found_of given.now)) Rattle.commands.specs.Table.port }
     ensures { number_in (rows_of (found_of given.now)) Rattle.commands.specs.Table.port ≡ Some result }
@@ -66,7 +66,7 @@ fn port(given: &ArgMatches<'_>) -> u16
     word(given, &PORT).parse::<u16>().unwrap()
 }
 
-/// The kind of imports.
+/// Returns the kind of imports.
 fn import(given: &ArgMatches<'_>) -> ImportKind
     requires { IsGiven (rows_of (found_of given.now)) Rattle.commands.specs.Table.import_kind }
     ensures { word_in (rows_of (found_of given.now)) Rattle.commands.specs.Table.import_kind ≡ Some (word_of result) }
@@ -74,7 +74,7 @@ fn import(given: &ArgMatches<'_>) -> ImportKind
     import_kind(word(given, &IMPORT_KIND)).unwrap()
 }
 
-/// The kind of reports.
+/// Returns the kind of reports.
 fn report(given: &ArgMatches<'_>) -> ReportKind
     requires { IsGiven (rows_of (found_of given.now)) Rattle.commands.specs.Table.report_kind }
     ensures { word_in (rows_of (found_of given.now)) Rattle.commands.specs.Table.report_kind ≡ Some (report_word result) }
@@ -82,7 +82,7 @@ fn report(given: &ArgMatches<'_>) -> ReportKind
     report_kind(word(given, &REPORT_KIND)).unwrap()
 }
 
-/// The aim, which is greedy where none is given.
+/// Returns the aim, which is greedy where none is given.
 fn aim(given: &ArgMatches<'_>) -> Aim
     requires { IsGiven (rows_of (found_of given.now)) Rattle.commands.specs.Table.aim }
     ensures { IsAimOf (word_in (rows_of (found_of given.now)) Rattle.commands.specs.Table.aim) result }
@@ -93,7 +93,7 @@ fn aim(given: &ArgMatches<'_>) -> Aim
     }
 }
 
-/// The line that serves connections.
+/// Returns the line that serves connections.
 fn serve_line(alloc: Global, given: &ArgMatches<'_>) -> Result<Line, AllocError>
     requires { AreGiven (codes "serve") (rows_of (found_of given.now)) }
     ensures { IfOk result (IsLineOf (codes "serve") (rows_of (found_of given.now))) }
@@ -105,7 +105,7 @@ fn serve_line(alloc: Global, given: &ArgMatches<'_>) -> Result<Line, AllocError>
     })
 }
 
-/// The line that imports a file.
+/// Returns the line that imports a file.
 fn import_line(alloc: Global, given: &ArgMatches<'_>) -> Result<Line, AllocError>
     requires { AreGiven (codes "import") (rows_of (found_of given.now)) }
     ensures { IfOk result (IsLineOf (codes "import") (rows_of (found_of given.now))) }
@@ -118,7 +118,7 @@ fn import_line(alloc: Global, given: &ArgMatches<'_>) -> Result<Line, AllocError
     })
 }
 
-/// The line of the subcommand that was used.
+/// Returns the line of the subcommand that was used.
 fn line_of(alloc: Global, name: &str, given: &ArgMatches<'_>) -> Result<Line, AllocError>
     requires { AreGiven name.now (rows_of (found_of given.now)) }
     ensures { IfOk result (IsLineOf name.now (rows_of (found_of given.now))) }
@@ -143,7 +143,7 @@ fn line_of(alloc: Global, name: &str, given: &ArgMatches<'_>) -> Result<Line, Al
     }
 }
 
-/// The line that a parse found.
+/// Returns the line that a parse found.
 fn line_in(alloc: Global, matches: &ArgMatches<'_>) -> Result<Line, AllocError>
     requires { IsSomeAnd (subcommand_rows_of matches.now) (λ s. AreGiven s.0 s.1) }
     ensures { IfOk result (λ line. IsSomeAnd (subcommand_rows_of matches.now) (λ s. IsLineOf s.0 s.1 line)) }
@@ -152,7 +152,7 @@ fn line_in(alloc: Global, matches: &ArgMatches<'_>) -> Result<Line, AllocError>
     line_of(alloc, name, given)
 }
 
-/// The fault of an error of this kind, whose text this is, where there was memory for one.
+/// Returns the fault of an error of this kind, whose text this is, where there was memory for one.
 fn fault_as(kind: ErrorKind, text: Result<String, AllocError>) -> LineFault
     ensures { MatchResult text (λ text. IsFaultAs kind text result) (λ _. result ≡ LineFault.Memory) }
 {
@@ -165,14 +165,14 @@ fn fault_as(kind: ErrorKind, text: Result<String, AllocError>) -> LineFault
     }
 }
 
-/// Why the words were not taken.
+/// Returns why the words were not taken.
 fn fault_by(alloc: Global, error: &Error) -> LineFault
     ensures { IsToldBy (kind_of error.now) result }
 {
     fault_as(error.kind(), error.to_string(alloc))
 }
 
-/// What the program's command makes of the words.
+/// Returns what the program's command makes of the words.
 fn answer<'a>(alloc: Global, kinds: Kinds<'a>, words: &'a [String]) -> Result<Line, LineFault>
     requires { AreWords kinds }
     ensures { IsAnswer (map string_bytes words.entry.now) result }
@@ -187,7 +187,7 @@ fn answer<'a>(alloc: Global, kinds: Kinds<'a>, words: &'a [String]) -> Result<Li
 ///
 /// The words are read as `clap` reads them. `Help`, `Version` and `Fault` have its text: help is asked for by `help` and by
 /// `--help`, which may follow the name of a line, the version by `--version` in the place of a line, and a fault is a word that
-/// is missing, unknown, one too many or out of its range. `Memory` says that memory was refused.
+/// is missing, unknown, one too many or out of its range. `Memory` says that an allocation failed.
 pub fn command(alloc: Global, words: &[String]) -> Result<Line, LineFault>
     ensures { IsAnswer (map string_bytes words.now) result }
 {

@@ -68,7 +68,7 @@ const ROWS: [Described; 8] = [
     Described { name: "check", about: "Checks the matching and the prices of the round of FILE", example: "Example: spadesk check round.txt", arguments: &[FILE] },
 ];
 
-/// The lines.
+/// Returns the lines.
 pub(crate) fn rows() -> &'static [Described]
     ensures { map told_by result.now ≡ lines }
 {

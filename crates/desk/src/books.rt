@@ -46,7 +46,7 @@ impl<S: Alter> Model for Books<S> {
     ghost invariant = { λ b. AreKept S.Store (record { office = b.office; store = b.store }) };
 }
 
-/// The refusal that a fault of the store is answered by.
+/// Returns the refusal by which a fault of the store is answered.
 pub(crate) fn refusal_of_fault(fault: StoreFault) -> Refusal
     ensures memory { fault ≡ StoreFault.Memory → result ≡ Refusal.Memory }
     ensures storage { fault ≡ StoreFault.Storage → result ≡ Refusal.Storage }
@@ -59,7 +59,7 @@ pub(crate) fn refusal_of_fault(fault: StoreFault) -> Refusal
     }
 }
 
-/// What a request that changes the office makes of it.
+/// Makes on the office what a request that changes it asks.
 fn make_change(alloc: Global, office: &mut Office, request: Request) -> Result<Done, Refusal>
     requires change { changes_nothing office.old request ≡ false }
     requires allowed { refusal_of office.old request ≡ None }
@@ -89,7 +89,7 @@ impl<S: Alter> Books<S> {
         self.store.shows();
     }
 
-    /// A plain request that only reads is answered from the office.
+    /// Answers from the office a plain request that only reads.
     pub(crate) fn read(&mut self, plain: Plain) -> Result<Reply, Refusal>
         requires read { is_read plain ≡ true }
         requires allowed { plain_refusal self.old.office plain ≡ None }
@@ -101,7 +101,7 @@ impl<S: Alter> Books<S> {
         Ok(self.office.make(plain)?.reply)
     }
 
-    /// A change is made on a copy, which becomes the office once its changes are saved.
+    /// Makes a change on a copy, which becomes the office once its changes are saved.
     pub(crate) fn change(&mut self, request: Request) -> Result<Reply, Refusal>
         requires change { changes_nothing self.old.office request ≡ false }
         requires allowed { refusal_of self.old.office request ≡ None }
@@ -121,7 +121,7 @@ impl<S: Alter> Books<S> {
         self.exchange(&mut next, done)
     }
 
-    /// The changes are saved, and then the office and the next one are exchanged.
+    /// Saves the changes, and then exchanges the office and the next one.
     fn exchange(&mut self, next: &mut Office, done: Done) -> Result<Reply, Refusal>
         requires turns { let changes = done.changes in Turns changes.items self.old.office next.old }
         ensures ok { IfOk result (λ reply. (reply ≡ done.reply) × (self.new.office ≡ next.old)) }

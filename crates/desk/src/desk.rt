@@ -123,7 +123,7 @@ impl<S: Alter> Desk<S> {
         store.into_connection()
     }
 
-    /// The relaxations of the kept session since it was started; none where no session is kept. Takes no memory.
+    /// Returns the relaxations of the cached session since it was started; none where no session is cached. Allocates nothing.
     pub fn session_steps(&self) -> Option<u64>
         ensures steps { result ≡ option_map (λ s. s.steps) self.now.session }
     {
@@ -133,7 +133,7 @@ impl<S: Alter> Desk<S> {
         }
     }
 
-    /// All the requests in turn, each answered by a step. Want of memory for the answers comes before the first request
+    /// Asks all the requests in order, each answered by a step. Running out of memory for the answers comes before the first request
     /// is asked.
     pub fn run(&mut self, requests: Vec<Request>) -> Result<Vec<Result<Reply, Refusal>>, AllocError>
         ensures run { IfOk result (λ answers. Run layers self.old.office requests.items answers.items self.new.office) }
@@ -157,8 +157,8 @@ impl<S: Alter> Desk<S> {
         Ok(answers)
     }
 
-    /// One step of the office. An `Err` is the first refusal that applies, and leaves the office and its tables as they were. `Memory`
-    /// may take the place of any answer that takes memory, and `Storage`, a database error, that of a change alone.
+    /// Makes one step of the office. An `Err` is the first refusal that applies, and leaves the office and its tables as they were.
+    /// `Memory` may take the place of any answer that takes memory, and `Storage`, a database error, that of a change alone.
     pub fn ask(&mut self, request: Request) -> Result<Reply, Refusal>
         ensures step { Step layers self.old.office request result self.new.office }
         ensures tables { Keeps (state S.Store self.new.store) self.new.office }
@@ -188,7 +188,7 @@ impl<S: Alter> Desk<S> {
         }
     }
 
-    /// A request that changes nothing is answered from the office, or from the session.
+    /// Answers a request that changes nothing, from the office or from the session.
     fn read(&mut self, request: Request) -> Result<Reply, Refusal>
         requires nothing { changes_nothing self.old.office request ≡ true }
         requires allowed { refusal_of self.old.office request ≡ None }
@@ -214,7 +214,7 @@ impl<S: Alter> Desk<S> {
         }
     }
 
-    /// A preview is read from the session. Where none is kept one is started.
+    /// Reads a preview from the session. Where none is cached one is started.
     fn preview(&mut self) -> Result<Reply, Refusal>
         requires allowed { refusal_of self.old.office Request.Preview ≡ None }
         ensures step { Step layers self.old.office Request.Preview result self.new.office }
@@ -234,7 +234,7 @@ impl<S: Alter> Desk<S> {
         Ok(reply)
     }
 
-    /// A change is saved, and the session follows it.
+    /// Saves a change, and the session follows it.
     fn change(&mut self, request: Request) -> Result<Reply, Refusal>
         requires change { changes_nothing self.old.office request ≡ false }
         requires allowed { refusal_of self.old.office request ≡ None }

@@ -10,7 +10,7 @@ use rolls::{Fate, Plain, Request, Text};
 use solver::Session;
 use std::alloc::{AllocError, Global};
 
-/// What a put of a list makes of the session: a first list joins it, and one over another ends it.
+/// Returns what a put of a list makes of the session: a first list joins it, and one over another ends it.
 fn list_fate(alloc: Global, office: &Office, student: &str) -> Result<Fate, AllocError>
     ensures { IfOk result (λ fate. fate ≡ list_fate office.now student.now) }
 {
@@ -20,7 +20,7 @@ fn list_fate(alloc: Global, office: &Office, student: &str) -> Result<Fate, Allo
     Ok(Fate::Joins(Text::of(alloc, student)?))
 }
 
-/// What a plain request makes of the session.
+/// Returns what a plain request makes of the session.
 fn plain_fate(alloc: Global, office: &Office, plain: &Plain) -> Result<Fate, AllocError>
     ensures { IfOk result (λ fate. fate ≡ plain_fate office.now plain.now) }
 {
@@ -34,7 +34,7 @@ fn plain_fate(alloc: Global, office: &Office, plain: &Plain) -> Result<Fate, All
     }
 }
 
-/// What a request makes of the session.
+/// Returns what a request makes of the session.
 pub fn fate_of(alloc: Global, office: &Office, request: &Request) -> Result<Fate, AllocError>
     ensures { IfOk result (λ fate. fate ≡ fate_of office.now request.now) }
 {
@@ -50,7 +50,7 @@ pub fn fate_of(alloc: Global, office: &Office, request: &Request) -> Result<Fate
     }
 }
 
-/// The session with one student more; none where memory was refused.
+/// Returns the session with one student more; none where an allocation failed.
 fn joined(alloc: Global, office: &Office, kept: Option<Session>, student: &str) -> Option<Session>
     requires joins { IfSome kept (λ s. MayJoin office.now s student.now) }
     ensures joined { IsJoined kept result }
@@ -65,7 +65,7 @@ fn joined(alloc: Global, office: &Office, kept: Option<Session>, student: &str) 
     }
 }
 
-/// The session after a change that was saved. Want of memory drops it.
+/// Returns the session after a change that was saved. Running out of memory drops it.
 pub fn next_session(
     alloc: Global,
     office: &Office,

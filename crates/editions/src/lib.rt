@@ -23,7 +23,7 @@ pub enum Edition {
     Third,
 }
 
-/// The aims of the rounds among rows of the first edition.
+/// Returns the aims of the rounds among rows of the first edition.
 fn aims_of(alloc: Global, rows: &[Row]) -> Result<Vec<Row>, AllocError>
     ensures { IfOk result (λ aims. aims.items ≡ says.aims_of rows.now) }
 {
@@ -38,7 +38,7 @@ fn aims_of(alloc: Global, rows: &[Row]) -> Result<Vec<Row>, AllocError>
     Ok(aims)
 }
 
-/// The table that took a table's place, and the other way round.
+/// Returns the table that took a table's place, and the other way round.
 fn renamed_table(table: Table) -> Table
     ensures { result ≡ says.renamed table }
 {
@@ -51,7 +51,7 @@ fn renamed_table(table: Table) -> Table
     }
 }
 
-/// A row of a table of earlier editions as one of the table that took its place, and the other way round.
+/// Returns a row of a table of earlier editions as one of the table that took its place, and the other way round.
 fn renamed(row: Row) -> Row
     ensures { result ≡ says.renamed_row row }
 {
@@ -60,7 +60,7 @@ fn renamed(row: Row) -> Row
     row.moved(table)
 }
 
-/// The same of each of these rows.
+/// Does the same with each of these rows.
 fn all_renamed(alloc: Global, rows: Vec<Row>) -> Result<Vec<Row>, AllocError>
     ensures { IfOk result (λ all. all.items ≡ map says.renamed_row rows.items) }
 {
@@ -71,7 +71,7 @@ fn all_renamed(alloc: Global, rows: Vec<Row>) -> Result<Vec<Row>, AllocError>
     Ok(all)
 }
 
-/// What the rows of an edition are in the latest.
+/// Returns what the rows of an edition are in the latest.
 pub fn renewed(alloc: Global, edition: Edition, mut rows: Vec<Row>) -> Result<Vec<Row>, AllocError>
     ensures { IfOk result (λ all. all.items ≡ says.renewed edition rows.items) }
 {
@@ -93,7 +93,7 @@ fn is_old(row: &Row) -> bool
     matches!(row.table(), Table::OldChoice | Table::OldPlacement)
 }
 
-/// The removals of the rows of tables of earlier editions.
+/// Returns the removals of the rows of tables of earlier editions.
 fn old_removals(alloc: Global, rows: &[Row]) -> Result<Vec<Change>, AllocError>
     ensures { IfOk result (λ changes. changes.items ≡ map says.removal_of (filter says.is_old rows.now)) }
 {
@@ -106,7 +106,7 @@ fn old_removals(alloc: Global, rows: &[Row]) -> Result<Vec<Change>, AllocError>
     Ok(changes)
 }
 
-/// Those rows as they stand in the tables that took their place.
+/// Returns those rows as they stand in the tables that took their place.
 fn all_old_renamed(alloc: Global, rows: &[Row]) -> Result<Vec<Row>, AllocError>
     ensures { IfOk result (λ all. all.items ≡ map says.renamed_row (filter says.is_old rows.now)) }
 {
@@ -119,8 +119,7 @@ fn all_old_renamed(alloc: Global, rows: &[Row]) -> Result<Vec<Row>, AllocError>
     Ok(all)
 }
 
-/// The changes by which rows of earlier editions leave their tables for those that took their place, and others come beside
-/// them.
+/// Returns the changes by which rows of earlier editions leave their tables for those that took their place, and others come besides.
 fn renaming_changes(
     alloc: Global,
     rows: &[Row],
@@ -137,7 +136,7 @@ fn renaming_changes(
     Ok(changes)
 }
 
-/// The changes that bring the rows of an edition to the latest.
+/// Returns the changes that bring the rows of an edition to the latest.
 pub fn upgrade(alloc: Global, edition: Edition, rows: &[Row]) -> Result<Vec<Change>, AllocError>
     ensures { IfOk result (λ changes. changes.items ≡ says.upgrade edition rows.now) }
 {

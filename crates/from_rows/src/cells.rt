@@ -6,7 +6,7 @@ ghost use Rattle.from_rows.specs.Inside.Told.{aim_of, flag_in, kind_in};
 use rolls::ImportKind;
 use spa::Aim;
 
-/// The truth value of a number.
+/// Returns the truth value of a number.
 pub(crate) fn flag_in(number: u32) -> Option<bool>
     ensures { result ≡ flag_in number }
 {
@@ -17,14 +17,14 @@ pub(crate) fn flag_in(number: u32) -> Option<bool>
     }
 }
 
-/// The aim of a truth value: whether it is the generous one.
+/// Returns the aim of a truth value: whether it is the generous one.
 pub(crate) fn aim_of(generous: bool) -> Aim
     ensures { result ≡ aim_of generous }
 {
     if generous { Aim::Generous } else { Aim::Greedy }
 }
 
-/// The kind of imports of a word.
+/// Returns the kind of imports of a word.
 pub(crate) fn kind_in(word: &str) -> Option<ImportKind>
     ensures { result ≡ kind_in word.now }
 {

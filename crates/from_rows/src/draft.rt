@@ -34,7 +34,7 @@ pub struct PartialOffice {
     pub imports: Entries<Import>,
 }
 
-/// These projects, and one more behind them.
+/// Returns these projects, and one more after them.
 fn one_more(alloc: Global, before: &[Code], last: Code) -> Result<Vec<Code>, AllocError>
     ensures { IfOk result (λ codes. codes.items ≡ before.now ++ last ∷ []) }
 {
@@ -46,7 +46,7 @@ fn one_more(alloc: Global, before: &[Code], last: Code) -> Result<Vec<Code>, All
     Ok(codes)
 }
 
-/// A student's choices among these lists, with one more at this place.
+/// Returns a student's choices among these lists, with one more at this place.
 fn next_choices(
     alloc: Global,
     lists: &Entries<Listed>,
@@ -101,7 +101,7 @@ fn put_new<E: Entry + Drop>(entries: &mut Entries<E>, entry: E) -> Result<(), Ro
 }
 
 impl PartialOffice {
-    /// Nothing yet. Takes no memory.
+    /// Creates an empty draft. Allocates nothing.
     pub fn new(alloc: Global) -> Self
         ensures { drafted result ≡ empty }
     {

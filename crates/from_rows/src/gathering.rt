@@ -16,7 +16,7 @@ use std::alloc::Global;
 /// How many stages there are: one for each place of a list, and one before them.
 const STAGES: u32 = RANKS as u32 + 1;
 
-/// The place of a choice in its list, where a list can have it.
+/// Returns the place of a choice in its list, where a list can have it.
 fn place_in(cells: &[Cell]) -> u32
     ensures { result ≡ place_in cells.now }
 {
@@ -26,7 +26,7 @@ fn place_in(cells: &[Cell]) -> u32
     }
 }
 
-/// The stage at which a row is taken in: a choice at its place, and all else before the choices.
+/// Returns the stage at which a row is taken in: a choice at its place, and all else before the choices.
 fn stage_of(row: &Row) -> u32
     ensures { result ≡ stage_of row.now }
 {
@@ -54,7 +54,7 @@ fn take_stage(
     Ok(())
 }
 
-/// What the rows hold.
+/// Gathers what the rows hold.
 fn take_all(alloc: Global, rows: &[Row]) -> Result<PartialOffice, RowsFault>
     ensures found { IfOk result (λ found. gathered empty (staged rows.now) ≡ Some (drafted found)) }
     ensures unfit { result ≡ Err RowsFault.Unfit → gathered empty (staged rows.now) ≡ None }
@@ -66,7 +66,7 @@ fn take_all(alloc: Global, rows: &[Row]) -> Result<PartialOffice, RowsFault>
     Ok(found)
 }
 
-/// The office of these rows, which may come in any order. `Unfit` where no fit office has them.
+/// Returns the office of these rows, which may come in any order. `Unfit` where no fit office has them.
 pub fn gather(alloc: Global, rows: &[Row]) -> Result<PartialOffice, RowsFault>
     ensures fit { IfOk result (λ draft. IsFit (drafted draft)) }
     ensures rows { IfOk result (λ draft. AreRowsOf rows.now (drafted draft)) }

@@ -15,7 +15,7 @@ const NO_QUOTA: u32 = 9_999;
 /// The most digits of a quota.
 const MOST_DIGITS: usize = 3;
 
-/// A field as a text. One that is not UTF-8 is the empty text.
+/// Returns a field as a text. One that is not UTF-8 is the empty text.
 fn readable(field: &[u8]) -> &str
     ensures { result.now ≡ text_of field.now }
 {
@@ -25,7 +25,7 @@ fn readable(field: &[u8]) -> &str
     }
 }
 
-/// A field as a text of its own.
+/// Returns a field as a text of its own.
 pub(crate) fn text_of(alloc: Global, field: &[u8]) -> Result<Text, AllocError>
     ensures { IfOk result (λ text. text ≡ text_of field.now) }
 {
@@ -41,7 +41,7 @@ fn is_quota(field: &[u8]) -> bool
         && field.iter().all(|byte| byte.is_ascii_digit())
 }
 
-/// The number that 1 to 3 digits write.
+/// Returns the number that 1 to 3 digits write.
 fn number_of(digits: &[u8]) -> u32
     requires { is_quota digits.now ≡ true }
     ensures { result ≡ number_of digits.now }
@@ -53,7 +53,7 @@ fn number_of(digits: &[u8]) -> u32
     number
 }
 
-/// The quota that a field writes.
+/// Returns the quota that a field writes.
 pub(crate) fn quota_of(field: &[u8]) -> u32
     ensures { result ≡ quota_of field.now }
 {
@@ -64,7 +64,7 @@ pub(crate) fn quota_of(field: &[u8]) -> u32
     }
 }
 
-/// The codes between the spaces of a text.
+/// Returns the codes between the spaces of a text.
 fn codes_of(alloc: Global, list: &str) -> Result<Vec<Text>, AllocError>
     ensures { IfOk result (λ codes. codes.items ≡ slice_split (λ b. b == 32) list.now) }
 {
@@ -75,7 +75,7 @@ fn codes_of(alloc: Global, list: &str) -> Result<Vec<Text>, AllocError>
     Ok(codes)
 }
 
-/// The codes that a field lists. The empty text lists none.
+/// Returns the codes that a field lists. The empty text lists none.
 pub(crate) fn choices_of(alloc: Global, field: &[u8]) -> Result<Texts, AllocError>
     ensures { IfOk result (λ choices. choices ≡ choices_of (text_of field.now)) }
 {

@@ -10,7 +10,7 @@ use csv::ByteRecord;
 use rolls::{ImportKind, Plain};
 use std::alloc::{AllocError, Global};
 
-/// The fields of a kind's first record.
+/// Returns the fields of a kind's first record.
 pub(crate) fn header_of(kind: ImportKind) -> &'static [&'static str]
     ensures { map (λ name. name.now) result.now ≡ header_of kind }
 {
@@ -22,14 +22,14 @@ pub(crate) fn header_of(kind: ImportKind) -> &'static [&'static str]
     }
 }
 
-/// A field of a record; one that is not there is empty.
+/// Returns a field of a record; one that is not there is empty.
 pub(crate) fn field(fields: &ByteRecord, place: usize) -> &[u8]
     ensures { result.now ≡ field (fields_of fields.now) place }
 {
     fields.get(place).unwrap_or(b"")
 }
 
-/// The request of a record.
+/// Returns the request of a record.
 pub(crate) fn request_of(
     alloc: Global,
     kind: ImportKind,

@@ -28,7 +28,7 @@ fn is_of_form(kind: &ErrorKind) -> bool
     }
 }
 
-/// The records of a text, its header among them.
+/// Returns the records of a text, its header among them.
 fn records_of(alloc: Global, bytes: &[u8]) -> Result<Vec<ByteRecord>, AllocError>
     ensures { IfOk result (λ records. map fields_of records.items ≡ records_of bytes.now) }
 {
@@ -80,7 +80,7 @@ fn is_header(kind: ImportKind, fields: &ByteRecord) -> bool
     has_fields(fields, header_of(kind))
 }
 
-/// How many records stand before the first one with another number of fields than the kind's header.
+/// Returns how many records stand before the first one with another number of fields than the kind's header.
 fn first_other(kind: ImportKind, records: &[ByteRecord]) -> Option<usize>
     ensures { result ≡ position (λ r. has_other_length kind (fields_of r)) records.now }
 {
@@ -88,7 +88,7 @@ fn first_other(kind: ImportKind, records: &[ByteRecord]) -> Option<usize>
     records.iter().position(|record| record.len() != fields)
 }
 
-/// The requests of records.
+/// Returns the requests of records.
 fn requests_of(
     alloc: Global,
     kind: ImportKind,
@@ -103,7 +103,7 @@ fn requests_of(
     Ok(requests)
 }
 
-/// The requests of the records after the header, or the first of them with another number of fields.
+/// Returns the requests of the records after the header, or the first of them with another number of fields.
 fn requests_after(
     alloc: Global,
     kind: ImportKind,

@@ -109,7 +109,7 @@ fn is_none_or_all(prices: &[[i64; PLACES]], entries: usize) -> bool
 }
 
 impl PartialRound {
-    /// No line was read.
+    /// Creates a draft of which no line was read.
     pub(crate) fn new(alloc: Global) -> Self
         ensures { draft_of result ≡ nothing }
     {
@@ -346,7 +346,7 @@ impl PartialRound {
             && is_none_or_all(&self.prices.supervisors, self.supervisors.len())
     }
 
-    /// The parts that were read.
+    /// Returns the parts that were read.
     pub(crate) fn finish(self, alloc: Global) -> Result<RoundParts, AllocError>
         requires draft { IsDraft (draft_of self) }
         requires whole { IsWhole (draft_of self) }

@@ -13,7 +13,7 @@ use std::alloc::{AllocError, Global};
 use std::str;
 use verdict::LIMIT;
 
-/// The pieces of a text between its bytes of a kind. There is room for so many before memory has to grow.
+/// Returns the pieces of a text between its bytes of a kind. There is room for `room` pieces before memory has to grow.
 pub(crate) fn pieces<'a>(
     alloc: Global,
     text: &'a [u8],
@@ -34,7 +34,7 @@ pub(crate) fn pieces<'a>(
     Ok(pieces)
 }
 
-/// The code that a field is.
+/// Returns the code that a field is.
 pub(crate) fn read_code(field: &[u8]) -> Option<Code>
     ensures { MatchOption result (is_code field.now ≡ false) (λ c. (c ≡ field.now) × IsTrue (is_code field.now)) }
 {
@@ -52,7 +52,7 @@ fn is_decimal(field: &[u8], quota: u32) -> bool
     buffer.format(quota).as_bytes() == field
 }
 
-/// The quota that a field is.
+/// Returns the quota that a field is.
 pub(crate) fn read_quota(field: &[u8]) -> Option<u32>
     ensures { MatchOption result ((n : ℕ) → n ≤ MOST_PLACES → ¬ (field.now ≡ decimal n)) (λ n. (n ≤ MOST_PLACES) × (field.now ≡ decimal n)) }
 {
@@ -86,7 +86,7 @@ fn is_in_range(number: i64) -> bool
     number >= -LIMIT && number <= LIMIT
 }
 
-/// The number that a field of one digit is, with a minus before it or none.
+/// Returns the number that a field of one digit is, with a minus before it or none.
 fn read_digit(field: &[u8]) -> Option<i64>
     ensures { IfSome result (λ n. InRange n × (field.now ≡ signed_decimal n)) }
 {
@@ -105,7 +105,7 @@ fn read_digit(field: &[u8]) -> Option<i64>
     Some(-((field[1] - b'0') as i64))
 }
 
-/// The number of a price that a field is.
+/// Returns the number of a price that a field is.
 fn read_number(field: &[u8]) -> Option<i64>
     ensures { MatchOption result ((n : ℤ) → InRange n → ¬ (field.now ≡ signed_decimal n)) (λ n. InRange n × (field.now ≡ signed_decimal n)) }
 {
@@ -128,7 +128,7 @@ fn read_number(field: &[u8]) -> Option<i64>
     Some(number)
 }
 
-/// The price that fields are.
+/// Returns the price that fields are.
 pub(crate) fn read_price(fields: &[&[u8]]) -> Option<[i64; PLACES]>
     ensures { MatchOption result ((v : List ℤ) → IsPrice v → ¬ (map (λ f. f.now) fields.now ≡ map signed_decimal v)) (λ v. IsPrice v × (map (λ f. f.now) fields.now ≡ map signed_decimal v)) }
 {

@@ -14,7 +14,7 @@ use std::cmp::Ordering;
 pub(crate) trait Coded {
     ghost key: { Self → List ℕ };
 
-    /// The entry's code.
+    /// Returns the entry's code.
     fn code(&self) -> &str
         ensures { result.now ≡ key self.now };
 }
@@ -43,7 +43,7 @@ impl Coded for (Code, Vec<Code>) {
     }
 }
 
-/// Where a code stands in a roll.
+/// Returns where a code stands in a roll.
 pub(crate) fn position_of<E: Coded>(roll: &[E], code: &str) -> Option<usize>
     requires { Rise (map E.key roll.now) }
     ensures { Finds (map E.key roll.now) (length roll.now) code.now result }
@@ -72,7 +72,7 @@ pub(crate) fn is_next<E: Coded>(roll: &[E], code: &str) -> bool
     last.code().cmp(code).is_lt()
 }
 
-/// The code that a field is, if it may come next on a roll of at most so many.
+/// Returns the code that a field is, if it may come next on a roll of at most `most` entries.
 pub(crate) fn next_code<E: Coded>(roll: &[E], most: usize, field: &[u8]) -> Option<Code>
     requires { Rise (map E.key roll.now) }
     ensures { MatchOption result (¬ ComesNext most (map E.key roll.now) field.now) (λ c. (c ≡ field.now) × ComesNext most (map E.key roll.now) field.now) }
@@ -99,7 +99,7 @@ fn is_same(a: &[u8], b: &[u8]) -> bool
     a == b
 }
 
-/// The position of a code in a list.
+/// Returns the position of a code in a list.
 pub(crate) fn position_in(list: &[Code], code: &[u8]) -> Option<usize>
     ensures { Finds list.now (length list.now) code.now result }
 {
@@ -111,7 +111,7 @@ pub(crate) fn position_in(list: &[Code], code: &[u8]) -> Option<usize>
     None
 }
 
-/// Where a code stands in a roll. It is looked for at a guess first.
+/// Returns where a code stands in a roll. It is looked for at a guess first.
 pub(crate) fn position_at<E: Coded>(roll: &[E], code: &[u8], guess: usize) -> Option<usize>
     requires { IsRoll (map E.key roll.now) }
     ensures { Finds (map E.key roll.now) (length roll.now) code.now result }

@@ -18,7 +18,7 @@ pub(crate) enum SectionName {
     SupervisorPrices,
 }
 
-/// The section whose lines begin with a letter.
+/// Returns the section whose lines begin with a letter.
 pub(crate) fn section_of(letter: &[u8]) -> Option<SectionName>
     ensures { MatchOption result ((s : SectionName) → ¬ (letter.now ≡ letter_of s)) (λ s. letter.now ≡ letter_of s) }
 {

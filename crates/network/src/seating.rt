@@ -17,7 +17,7 @@ pub struct Seating {
     pub offered: Vec<Vec<usize>>,
 }
 
-/// The students placed at a project.
+/// Returns the students placed at a project.
 pub(crate) fn students_at(kept: &Seating, project: usize) -> &[usize]
     requires { project < length kept.now.seated.items }
     ensures { result.now ≡ numbers_at kept.now.seated.items project }
@@ -25,7 +25,7 @@ pub(crate) fn students_at(kept: &Seating, project: usize) -> &[usize]
     &kept.seated[project]
 }
 
-/// The projects of a supervisor.
+/// Returns the projects of a supervisor.
 pub(crate) fn projects_at(kept: &Seating, supervisor: usize) -> &[usize]
     requires { supervisor < length kept.now.offered.items }
     ensures { result.now ≡ numbers_at kept.now.offered.items supervisor }
@@ -33,7 +33,7 @@ pub(crate) fn projects_at(kept: &Seating, supervisor: usize) -> &[usize]
     &kept.offered[supervisor]
 }
 
-/// A student comes to a project.
+/// Adds a student to a project.
 pub(crate) fn seat(kept: &mut Seating, project: usize, student: usize)
     requires project { project < length kept.old.seated.items }
     requires room { length (numbers_at kept.old.seated.items project) < room_at kept.old.seated.items project }
@@ -44,7 +44,7 @@ pub(crate) fn seat(kept: &mut Seating, project: usize, student: usize)
     put_in(&mut kept.seated[project], student);
 }
 
-/// A student leaves a project.
+/// Takes a student out of a project.
 pub(crate) fn unseat(kept: &mut Seating, project: usize, student: usize)
     requires project { project < length kept.old.seated.items }
     requires there { 0 < count_of (numbers_at kept.old.seated.items project) student }
@@ -56,7 +56,7 @@ pub(crate) fn unseat(kept: &mut Seating, project: usize, student: usize)
     take_out(&mut kept.seated[project], student);
 }
 
-/// Lists of nobody, with room for the quota of each project.
+/// Creates lists of nobody, with room for the quota of each project.
 pub(crate) fn empty_seats(
     alloc: Global,
     projects: &[(usize, u32)],
@@ -72,7 +72,7 @@ pub(crate) fn empty_seats(
     Ok(lists)
 }
 
-/// The projects of one supervisor.
+/// Returns the projects of one supervisor.
 fn projects_of(
     alloc: Global,
     projects: &[(usize, u32)],
@@ -89,7 +89,7 @@ fn projects_of(
     Ok(list)
 }
 
-/// The projects of each supervisor.
+/// Returns the projects of each supervisor.
 pub(crate) fn all_offered(
     alloc: Global,
     supervisors: &[u32],

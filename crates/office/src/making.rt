@@ -9,7 +9,7 @@ use rolls::{Change, Project, Row, Student, Supervisor, Table, Text};
 use spa::{Code, Label};
 use std::alloc::{AllocError, Global};
 
-/// A code of a text that was judged to be one.
+/// Returns a code of a text that was judged to be one.
 pub(crate) fn code_of(text: &str) -> Code
     requires { IsTrue (is_code text.now) }
     ensures { result ≡ text.now }
@@ -17,7 +17,7 @@ pub(crate) fn code_of(text: &str) -> Code
     Code::read(text).unwrap()
 }
 
-/// A label of a text that was judged to be one.
+/// Returns a label of a text that was judged to be one.
 fn label_of(alloc: Global, text: &str) -> Result<Label, AllocError>
     requires { IsTrue (is_label text.now) }
     ensures { IfOk result (λ label. label ≡ text.now) }
@@ -28,7 +28,7 @@ fn label_of(alloc: Global, text: &str) -> Result<Label, AllocError>
     }
 }
 
-/// A list of this change alone.
+/// Returns a list of this change alone.
 pub(crate) fn one_change(alloc: Global, change: Change) -> Result<Vec<Change>, AllocError>
     ensures { IfOk result (λ changes. changes.items ≡ change ∷ []) }
 {
@@ -37,7 +37,7 @@ pub(crate) fn one_change(alloc: Global, change: Change) -> Result<Vec<Change>, A
     Ok(changes)
 }
 
-/// The change that puts a row in the place of the one with its key where that is known, and adds it where it is not.
+/// Returns the change that puts a row in the place of the one with its key where that is known, and adds it where it is not.
 fn put_or_added(known: bool, row: Row) -> Change
     ensures { result ≡ put_or_added known row }
 {
@@ -48,7 +48,7 @@ fn put_or_added(known: bool, row: Row) -> Change
     }
 }
 
-/// A supervisor, whose code is known or not, and the change that puts or adds the row.
+/// Returns a supervisor, whose code is known or not, and the change that puts or adds the row.
 pub(crate) fn new_supervisor(
     alloc: Global,
     code: Text,
@@ -70,7 +70,7 @@ pub(crate) fn new_supervisor(
     Ok((supervisor, changes))
 }
 
-/// A project, whose code is known or not, and the change that puts or adds the row.
+/// Returns a project, whose code is known or not, and the change that puts or adds the row.
 pub(crate) fn new_project(
     alloc: Global,
     code: Text,
@@ -95,7 +95,7 @@ pub(crate) fn new_project(
     Ok((project, changes))
 }
 
-/// A student, whose code is known or not, and the change that puts or adds the row.
+/// Returns a student, whose code is known or not, and the change that puts or adds the row.
 pub(crate) fn new_student(
     alloc: Global,
     code: Text,

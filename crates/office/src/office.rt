@@ -52,14 +52,14 @@ impl Model for Office {
 }
 
 impl Office {
-    /// The empty office. Takes no memory.
+    /// Creates the empty office. Allocates nothing.
     pub fn new(alloc: Global) -> Self
         ensures empty { result ≡ empty }
     {
         Office::of(alloc, PartialOffice::new(alloc))
     }
 
-    /// The office of these parts.
+    /// Returns the office of these parts.
     fn of(alloc: Global, draft: PartialOffice) -> Self
         requires { IsFit (drafted draft) }
         ensures { result ≡ drafted draft }
@@ -76,7 +76,7 @@ impl Office {
         }
     }
 
-    /// The office of these rows, which may come in any order. `Unfit` where no office has them.
+    /// Returns the office of these rows, which may come in any order. `Unfit` where no office has them.
     pub fn from_rows(alloc: Global, rows: Vec<Row>) -> Result<Office, RowsFault>
         ensures rows { IfOk result (λ office. AreRowsOf rows.items office) }
         ensures unfit { result ≡ Err RowsFault.Unfit → (o : State) → IsFit o → AreRowsOf rows.items o → ⊥ }
@@ -84,7 +84,7 @@ impl Office {
         Ok(Office::of(alloc, gather(alloc, &rows)?))
     }
 
-    /// The same office. Both share the entries until either changes.
+    /// Copies the office. Both share the entries until either changes.
     pub fn copy(&self) -> Result<Self, AllocError>
         ensures same { IfOk result (λ copy. copy ≡ self.now) }
     {
@@ -101,21 +101,21 @@ impl Office {
         })
     }
 
-    /// The supervisors on the roll, by code.
+    /// Returns the supervisors on the roll, by code.
     pub fn supervisors(&self) -> &[Supervisor]
         ensures all { let o = self.now in result.now ≡ o.supervisors }
     {
         self.supervisors.entries()
     }
 
-    /// The projects on the roll, by code.
+    /// Returns the projects on the roll, by code.
     pub fn projects(&self) -> &[Project]
         ensures all { let o = self.now in result.now ≡ o.projects }
     {
         self.projects.entries()
     }
 
-    /// The students on the roll, by code.
+    /// Returns the students on the roll, by code.
     pub fn students(&self) -> &[Student]
         ensures all { let o = self.now in result.now ≡ o.students }
     {
@@ -129,7 +129,7 @@ impl Office {
         let _ = &self.students;
     }
 
-    /// The first refusal that applies to a request, if any; of an import, the first for which its text has not to be read.
+    /// Returns the first refusal that applies to a request, if any; of an import, the first for which its text has not to be read.
     /// Takes no memory.
     pub fn refusal_of(&self, request: &Request) -> Option<Refusal>
         ensures refusal { result ≡ refusal_of self.now request.now }
@@ -185,7 +185,7 @@ impl Office {
         }
     }
 
-    /// What a read did: it answers, and changes nothing.
+    /// Returns what a read did: it answers, and changes nothing.
     fn answered(&self, reply: Reply) -> Done
         ensures reply { result.reply ≡ reply }
         ensures changes { let changes = result.changes in changes.items ≡ [] }
@@ -196,7 +196,7 @@ impl Office {
         }
     }
 
-    /// The first refusal of a plain request.
+    /// Returns the first refusal of a plain request.
     fn plain_refusal(&self, plain: &Plain) -> Option<Refusal>
         ensures { result ≡ plain_refusal self.now plain.now }
     {
@@ -241,7 +241,7 @@ impl Office {
         }
     }
 
-    /// Why nothing is told of a round.
+    /// Returns why nothing is answered of a round.
     fn round_refusal(&self, round: u32) -> Option<Refusal>
         ensures { result ≡ first (round_tests self.now round) }
     {
@@ -252,7 +252,7 @@ impl Office {
     }
 }
 
-/// A refusal, unless something is known.
+/// Returns a refusal, unless something is known.
 fn unless(known: bool, refusal: Refusal) -> Option<Refusal>
     ensures { result ≡ first ((not known, refusal) ∷ []) }
 {

@@ -1,8 +1,9 @@
 //! What the office takes from the layers beside it: a matching for the open round's closing, the session that its previews are read
 //! from, its round text, the text of a report, and the records of an import text.
 //!
-//! `office` takes any matching of the round's instance, and any requests as an import's; `solver` finds a matching that is best by
-//! the round's aim, `reports` writes reports, and `imports` reads a text. Here they meet. Nothing here holds an office or touches a table: `desk` does.
+//! `office` takes any matching of the round's instance, and any requests as an import's; `solver` finds a matching that is best
+//! by the round's aim, `reports` writes reports, and `imports` reads a text. Here they meet. Nothing here holds an office or
+//! touches a table: `desk` does.
 //!
 //! Promised: each function makes exactly the step of its request, or refuses it as the definition does; out of memory the
 //! office is as before. A session sits in an office where it has the rolls and the lists of its open round, the lists in any order
@@ -46,7 +47,7 @@ pub fn close(alloc: Global, office: &mut Office) -> Result<Done, AllocError>
     office.close(&solved.matching)
 }
 
-/// The instance of the open round, as a round text.
+/// Returns the instance of the open round, as a round text.
 pub fn round_text(alloc: Global, office: &Office) -> Result<Reply, AllocError>
     requires open { IsTrue (round_is_open office.now) }
     ensures made { IfOk result (λ reply. Makes layers office.now request.RoundText reply office.now) }
@@ -56,7 +57,7 @@ pub fn round_text(alloc: Global, office: &Office) -> Result<Reply, AllocError>
     Ok(Reply::Text(Text::of(alloc, text.as_str())?))
 }
 
-/// A report of a round.
+/// Returns a report of a round.
 pub fn report(
     alloc: Global,
     office: &Office,
@@ -74,7 +75,7 @@ pub fn report(
 /// The number by which a record with another number of fields is refused: that of `Members`.
 const WRONG_FIELDS: u32 = 8;
 
-/// The refusal of a text that is no import text.
+/// Returns the refusal of a text that is no import text.
 fn refused_as(fault: ImportFault) -> Refusal
     requires few { IsRecordOf (2 ^ 32 - 1) fault }
     ensures { result ≡ refused_as fault }

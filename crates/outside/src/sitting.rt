@@ -20,7 +20,7 @@ use solver::Session;
 use spa::{Code, Instance, code_law};
 use std::alloc::{AllocError, Global};
 
-/// The students of an instance are admitted, one after another.
+/// Admits the students of an instance, one after another.
 fn admit_all(session: &mut Session, instance: &Instance) -> Result<(), AllocError>
     requires rolls { session.old.shape ≡ nobody instance.now.shape.supervisors instance.now.shape.projects }
     ensures all { OnOk result (session.new.shape ≡ instance.now.shape) }
@@ -33,7 +33,7 @@ fn admit_all(session: &mut Session, instance: &Instance) -> Result<(), AllocErro
     Ok(())
 }
 
-/// A session of the open round, with all its lists admitted. An `Err` is want of memory.
+/// Starts a session of the open round, with all its lists admitted. An `Err` is out of memory.
 pub fn sit(alloc: Global, office: &Office) -> Result<Session, AllocError>
     requires open { IsTrue (round_is_open office.now) }
     ensures sits { IfOk result (λ session. IsSessionOf office.now session) }
@@ -46,7 +46,7 @@ pub fn sit(alloc: Global, office: &Office) -> Result<Session, AllocError>
     Ok(session)
 }
 
-/// What closing the round now would answer, read from its session. Takes no memory.
+/// Returns what closing the round now would answer, read from its session. Allocates nothing.
 pub fn read_preview(session: &Session) -> Reply
     ensures made { (o : State) → IsSessionOf o session.now → Makes layers o request.Preview result o }
 {
@@ -58,7 +58,7 @@ pub fn read_preview(session: &Session) -> Reply
     }
 }
 
-/// The position of a project.
+/// Returns the position of a project.
 fn position_of(projects: &[Project], code: &Code) -> usize
     requires known { Contains (map (λ p. p.code) projects.now) code.now }
     ensures known { result < length projects.now }
@@ -72,7 +72,7 @@ fn position_of(projects: &[Project], code: &Code) -> usize
     unreachable!()
 }
 
-/// The positions of projects.
+/// Returns the positions of projects.
 fn positions_of(
     alloc: Global,
     projects: &[Project],
@@ -89,7 +89,7 @@ fn positions_of(
     Ok(positions)
 }
 
-/// The projects, by position, of a student's list in the last round.
+/// Returns the projects, by position, of a student's list in the last round.
 fn list_of(alloc: Global, office: &Office, student: &str) -> Result<Vec<usize>, AllocError>
     requires listed { IsSome (list_of office.now (last_round office.now) student.now) }
     ensures ranking { IfOk result (λ v. IsRanking (project_codes (round_instance office.now)) (choices_in office.now (last_round office.now) student.now) v.items) }
@@ -101,8 +101,8 @@ fn list_of(alloc: Global, office: &Office, student: &str) -> Result<Vec<usize>, 
     }
 }
 
-/// A student who just got a first list in the open round is admitted to its session. After an `Err`, which is want of
-/// memory, the session is as before, and the office has moved on.
+/// Admits a student who just got a first list in the open round to its session. After an `Err`, which is out of memory, the session is as
+/// before, and the office has moved on.
 pub fn join(
     alloc: Global,
     office: &Office,

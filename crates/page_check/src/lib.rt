@@ -37,7 +37,7 @@ pub extern "C" fn page_solve(alloc: Global, text: &[u8], out: &mut [u8]) -> usiz
     }
 }
 
-/// What the program prints of a result.
+/// Returns what the program prints of a result.
 fn told(alloc: Global, came: Result<String, Trouble>) -> Result<String, AllocError>
     ensures { IfOk result (λ text. string_bytes text ≡ line_of came) }
 {
@@ -53,7 +53,7 @@ fn told(alloc: Global, came: Result<String, Trouble>) -> Result<String, AllocErr
     }
 }
 
-/// The line of a refusal.
+/// Returns the line of a refusal.
 fn refused(alloc: Global, refusal: Refusal) -> Result<String, AllocError>
     ensures { IfOk result (λ text. string_bytes text ≡ refused_line refusal) }
 {

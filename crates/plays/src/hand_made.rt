@@ -9,7 +9,7 @@ use sqlite::{Alter, Connection, MemStore};
 use std::alloc::Global;
 use std::test::Fail;
 
-/// The database that a text makes.
+/// Returns the database that a text makes.
 fn made(alloc: Global, sql: &str) -> Result<Connection<MemStore>, Fail> {
     let mut connection = Connection::open_in_memory(alloc)?;
     connection.execute_batch(sql)?;

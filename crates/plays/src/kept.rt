@@ -22,12 +22,12 @@ static QUERIES: [&str; 13] = [
     "SELECT group_concat(it) FROM (SELECT hex(student) || ':' || round || ':' || hex(project) || ':' || rank AS it FROM placement12 ORDER BY student)",
 ];
 
-/// The text that a query answers, where it answers one.
+/// Returns the text that a query answers, where it answers one.
 fn told<S: Alter>(conn: &mut Connection<S>, sql: &str) -> Result<Option<String>, Error> {
     conn.query_row(sql, &[])?.get(0)
 }
 
-/// What a database keeps. Of a table that is not there nothing is told, and of one without rows an empty line.
+/// Returns what a database stores. Of a table that is not there nothing is written, and of one without rows an empty line.
 pub fn kept_by<S: Alter>(alloc: Global, conn: &mut Connection<S>) -> Result<String, AllocError> {
     let mut all = String::new(alloc);
     for sql in QUERIES.as_slice() {

@@ -10,7 +10,7 @@ use sqlite::{Alter, Connection};
 use std::alloc::Global;
 use std::test::Fail;
 
-/// The text of a name: that of the school, of its lists and of its tables in the first edition, or one of these.
+/// Returns the text of a name: that of the school, of its lists and of its tables in the first edition, or one of these.
 fn named<'a>(texts: &'a str, name: &str) -> Result<&'a str, Fail> {
     match name {
         "SCHOOL" => return Ok(SCHOOL),
@@ -27,7 +27,7 @@ fn named<'a>(texts: &'a str, name: &str) -> Result<&'a str, Fail> {
     Err(Fail::new(format_args!("no text {name}")))
 }
 
-/// The texts of these names, one behind another.
+/// Returns the texts of these names, one after another.
 pub(crate) fn script(alloc: Global, texts: &str, names: &str) -> Result<String, Fail> {
     let mut all = String::new(alloc);
     for name in names.split_whitespace() {
@@ -37,7 +37,7 @@ pub(crate) fn script(alloc: Global, texts: &str, names: &str) -> Result<String, 
     Ok(all)
 }
 
-/// A text for each number from the first to the last.
+/// Returns a text for each number from the first to the last.
 fn each(alloc: Global, texts: &str, cells: &str) -> Result<String, Fail> {
     let (first, cells) = first_cell(cells);
     let (last, name) = first_cell(cells);
@@ -51,14 +51,14 @@ fn each(alloc: Global, texts: &str, cells: &str) -> Result<String, Fail> {
     Ok(all)
 }
 
-/// A row with its copies of each piece.
+/// Returns a row with its copies of each piece.
 fn fill(alloc: Global, cells: &str) -> Result<String, Fail> {
     let (copies, cells) = first_cell(cells);
     let (pieces, row) = first_cell(cells);
     Ok(filled(alloc, copies.parse()?, pieces, row)?)
 }
 
-/// The requests that a row stands for.
+/// Returns the requests that a row stands for.
 fn plain(alloc: Global, texts: &str, row: &str) -> Result<String, Fail> {
     let (word, cells) = row.split_once(' ').unwrap_or((row, ""));
     match word {

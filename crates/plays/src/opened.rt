@@ -6,7 +6,7 @@ use sqlite::{Alter, Connection};
 use std::alloc::Global;
 use std::test::Fail;
 
-/// The desk over a database.
+/// Returns the desk over a database.
 pub fn desk_over<S: Alter + Drop>(
     alloc: Global,
     connection: Connection<S>,
@@ -17,7 +17,7 @@ pub fn desk_over<S: Alter + Drop>(
     }
 }
 
-/// The request that puts a student.
+/// Returns the request that puts a student.
 pub fn put_student(alloc: Global, code: &str, label: &str) -> Result<Request, Fail> {
     let code = Text::of(alloc, code)?;
     let label = Text::of(alloc, label)?;

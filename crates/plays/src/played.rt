@@ -29,7 +29,7 @@ pub fn play_lines<S: Alter>(alloc: Global, desk: &mut Desk<S>, lines: &str) -> R
     Ok(count)
 }
 
-/// The lines for one number.
+/// Returns the lines for one number.
 pub fn numbered(alloc: Global, lines: &str, n: u32) -> Result<String, AllocError> {
     let after = format!(in alloc; "{}", n.saturating_add(1))?;
     let number = format!(in alloc; "{n}")?;
@@ -38,7 +38,7 @@ pub fn numbered(alloc: Global, lines: &str, n: u32) -> Result<String, AllocError
         .replace(alloc, "$", &number)
 }
 
-/// The line with its copies of each piece.
+/// Returns the line with its copies of each piece.
 pub fn filled(alloc: Global, copies: u32, pieces: &str, line: &str) -> Result<String, AllocError> {
     let mut all = String::new(alloc);
     for piece in pieces.split('/') {
@@ -49,7 +49,7 @@ pub fn filled(alloc: Global, copies: u32, pieces: &str, line: &str) -> Result<St
     line.replace(alloc, "$", &all)
 }
 
-/// A message or an answer, with this head and the body of this cell.
+/// Returns a message or an answer, with this head and the body of this cell.
 fn framed(alloc: Global, head: &str, cell: &str) -> Result<Vec<u8>, AllocError> {
     let body = body_of(alloc, cell)?;
     let len = body.len();
@@ -59,19 +59,19 @@ fn framed(alloc: Global, head: &str, cell: &str) -> Result<Vec<u8>, AllocError> 
     Ok(bytes)
 }
 
-/// The message that asks this with a body.
+/// Returns the message that asks this with a body.
 fn message(alloc: Global, asked: &str, body: &str) -> Result<Vec<u8>, AllocError> {
     framed(alloc, &format!(in alloc; "{asked} HTTP/1.1")?, body)
 }
 
-/// The message of a line.
+/// Returns the message of a line.
 fn message_of(alloc: Global, line: &str) -> Result<Vec<u8>, AllocError> {
     let (asked, rest) = first_cell(line);
     let (body, _answer) = first_cell(rest);
     message(alloc, asked, body)
 }
 
-/// The messages of lines, one behind another.
+/// Returns the messages of lines, one after another.
 pub fn messages_of(alloc: Global, lines: &str) -> Result<Vec<u8>, AllocError> {
     let mut bytes = Vec::new(alloc);
     for line in lines.lines() {
@@ -80,7 +80,7 @@ pub fn messages_of(alloc: Global, lines: &str) -> Result<Vec<u8>, AllocError> {
     Ok(bytes)
 }
 
-/// The answer with this status and body, which is JSON where it begins with a brace, and else a text.
+/// Returns the answer with this status and body, which is JSON where it begins with a brace, and else a text.
 pub fn answer(alloc: Global, status: &str, body: &str) -> Result<Vec<u8>, AllocError> {
     let kind = if body.starts_with('{') {
         "application/json"
@@ -94,7 +94,7 @@ pub fn answer(alloc: Global, status: &str, body: &str) -> Result<Vec<u8>, AllocE
     )
 }
 
-/// The answer of a line.
+/// Returns the answer of a line.
 pub fn answer_of(alloc: Global, line: &str) -> Result<Vec<u8>, AllocError> {
     let (_asked, rest) = first_cell(line);
     let (_body, rest) = first_cell(rest);
@@ -102,7 +102,7 @@ pub fn answer_of(alloc: Global, line: &str) -> Result<Vec<u8>, AllocError> {
     answer(alloc, status, told.trim())
 }
 
-/// That a row got something else than it wants.
+/// Returns the fault that a row got something else than it wants.
 pub(crate) fn otherwise(row: &str, got: &[u8]) -> Fail {
     let got = str::from_utf8(got).unwrap_or("bytes that are no text");
     Fail::new(format_args!("{row:.200}\n    got {got:.250}"))
@@ -115,7 +115,7 @@ fn play_line<S: Alter>(alloc: Global, desk: &mut Desk<S>, line: &str) -> Result<
     compare(alloc, desk, (&message, &want), line)
 }
 
-/// What is written when the message of a line is served.
+/// Returns what is written when the message of a line is served.
 pub fn asked<S: Alter>(
     alloc: Global,
     desk: &mut Desk<S>,
@@ -155,7 +155,7 @@ pub(crate) fn play_twice<S: Alter>(
     Ok(1)
 }
 
-/// All the bytes, a thousand at a time.
+/// Returns all the bytes, a thousand at a time.
 pub fn whole(bytes: &[u8]) -> Pieces<'_> {
     Pieces::new(bytes, (1000, 1000), None)
 }
@@ -195,7 +195,7 @@ pub fn served<S: Alter>(
     }
 }
 
-/// The same of a message that comes alone, where there is room for what is written.
+/// Does the same with a message that comes alone, where there is room for what is written.
 fn served_alone<S: Alter>(alloc: Global, desk: &mut Desk<S>, message: &[u8]) -> Outcome {
     let taken = Vec::new(alloc);
     served(alloc, desk, whole(message), taken, (200_000, None))

@@ -28,7 +28,7 @@ use students_report::{Whom, students};
 pub use text_report::instance_text;
 use text_report::text;
 
-/// A report on a round that the office knows.
+/// Writes a report on a round that the office knows.
 pub fn report(
     alloc: Global,
     office: &Office,

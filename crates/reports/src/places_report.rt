@@ -133,7 +133,7 @@ fn push_supervisor(
     Ok(())
 }
 
-/// What is told of the places that the rounds up to this one took. The placements are counted in one pass.
+/// Writes what is reported of the places that the rounds up to this one took. The placements are counted in one pass.
 pub fn by_supervisor(
     alloc: Global,
     office: &Office,

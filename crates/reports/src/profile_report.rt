@@ -22,7 +22,7 @@ fn is_open(office: &Office, round: u32) -> bool
     }
 }
 
-/// The word for a round that is open, or else closed.
+/// Returns the word for a round that is open, or else closed.
 fn state_word(office: &Office, round: u32) -> &'static str
     ensures { result.now ≡ state_word office.now round }
 {
@@ -33,7 +33,7 @@ fn state_word(office: &Office, round: u32) -> &'static str
     }
 }
 
-/// How many students a round placed.
+/// Returns how many students a round placed.
 fn placed_in_round(office: &Office, round: u32) -> usize
     ensures { result ≡ placed_in_round office.now round }
 {
@@ -44,7 +44,7 @@ fn placed_in_round(office: &Office, round: u32) -> usize
         .count()
 }
 
-/// How many of them at a rank.
+/// Returns how many of them at a rank.
 fn placed_at_rank(office: &Office, round: u32, rank: u32) -> usize
     ensures { result ≡ placed_at_rank office.now round rank }
 {
@@ -67,7 +67,7 @@ fn push_ranks(out: &mut String, office: &Office, round: u32) -> Result<(), Alloc
     Ok(())
 }
 
-/// A round with its state, how many students have lists in it, are placed by it, and are placed at each rank.
+/// Writes a round with its state, how many students have lists in it, are placed by it, and are placed at each rank.
 pub fn profile(alloc: Global, office: &Office, round: u32) -> Result<String, AllocError>
     ensures { IfOk result (λ text. string_bytes text ≡ profile_text office.now round) }
 {

@@ -19,7 +19,7 @@ fn is_made_by(up_to: Option<u32>, placement: &Placement) -> bool
     }
 }
 
-/// The positions of a project and of its supervisor, if it is on the roll.
+/// Returns the positions of a project and of its supervisor, if it is on the roll.
 fn positions(
     supervisors: &[Supervisor],
     projects: &[Project],
@@ -63,8 +63,8 @@ fn count(
     }
 }
 
-/// How many of the placements that rounds up to this one made each project and each supervisor has, by position in
-/// the rolls. Where no round is named all are counted. It takes no memory.
+/// Returns how many of the placements that rounds up to this one made each project and each supervisor has, by position in the rolls. Where
+/// no round is named all are counted. Allocates nothing.
 pub fn counted(
     up_to: Option<u32>,
     supervisors: &[Supervisor],

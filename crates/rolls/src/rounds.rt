@@ -52,7 +52,7 @@ pub struct Placement {
 }
 
 impl Placement {
-    /// The same placement. Takes no memory.
+    /// Returns the same placement. Allocates nothing.
     pub fn copy(&self) -> Self
         ensures { result ≡ self.now }
     {

@@ -11,7 +11,7 @@ use row_data::{Cell, Group, Part, Row, Table};
 use spa::Aim;
 use std::alloc::{AllocError, Global};
 
-/// A truth value in a cell.
+/// Returns a truth value in a cell.
 fn flag(is_so: bool) -> Cell
     ensures { result ≡ flag is_so }
 {
@@ -19,7 +19,7 @@ fn flag(is_so: bool) -> Cell
 }
 
 impl Supervisor {
-    /// The supervisor's row.
+    /// Returns the supervisor's row.
     pub fn row(&self, alloc: Global) -> Result<Row, AllocError>
         ensures { IfOk result (λ row. row ≡ record { table = Table.Supervisor; cells = supervisor_cells self.now }) }
     {
@@ -31,7 +31,7 @@ impl Supervisor {
 }
 
 impl Project {
-    /// The project's row.
+    /// Returns the project's row.
     pub fn row(&self, alloc: Global) -> Result<Row, AllocError>
         ensures { IfOk result (λ row. row ≡ record { table = Table.Project; cells = project_cells self.now }) }
     {
@@ -44,7 +44,7 @@ impl Project {
 }
 
 impl Student {
-    /// The student's row.
+    /// Returns the student's row.
     pub fn row(&self, alloc: Global) -> Result<Row, AllocError>
         ensures { IfOk result (λ row. row ≡ record { table = Table.Student; cells = student_cells self.now }) }
     {
@@ -56,7 +56,7 @@ impl Student {
 }
 
 impl RoundAim {
-    /// The row of the round's aim.
+    /// Returns the row of the round's aim.
     pub fn row(&self, alloc: Global) -> Result<Row, AllocError>
         ensures { IfOk result (λ row. row ≡ record { table = Table.RoundAim; cells = aim_cells self.now }) }
     {
@@ -70,7 +70,7 @@ impl RoundAim {
 }
 
 impl Placement {
-    /// The placement's row.
+    /// Returns the placement's row.
     pub fn row(&self, alloc: Global) -> Result<Row, AllocError>
         ensures { IfOk result (λ row. row ≡ record { table = Table.Placement; cells = placement_cells self.now }) }
     {
@@ -87,7 +87,7 @@ impl Placement {
 }
 
 impl Import {
-    /// The import's row. It shares the text.
+    /// Returns the import's row. It shares the text.
     pub fn row(&self, alloc: Global) -> Result<Row, AllocError>
         ensures { IfOk result (λ row. row ≡ record { table = Table.Import; cells = import_cells self.now }) }
     {
@@ -99,7 +99,7 @@ impl Import {
     }
 }
 
-/// The row of a round of this number.
+/// Returns the row of a round of this number.
 pub fn round_row(alloc: Global, round: u32, is_open: bool) -> Result<Row, AllocError>
     ensures { IfOk result (λ row. row ≡ says.round_row round is_open) }
 {
@@ -107,7 +107,7 @@ pub fn round_row(alloc: Global, round: u32, is_open: bool) -> Result<Row, AllocE
     Ok(Row::of(Table::Round, cells))
 }
 
-/// The row of the choice at a place of a student's list in a round.
+/// Returns the row of the choice at a place of a student's list in a round.
 pub fn choice_row(
     alloc: Global,
     round: u32,
@@ -123,7 +123,7 @@ pub fn choice_row(
     Ok(Row::of(Table::Choice, cells))
 }
 
-/// The rows of a student's list in a round.
+/// Returns the rows of a student's list in a round.
 pub fn list_part(alloc: Global, round: u32, student: &str) -> Result<Part, AllocError>
     ensures { IfOk result (λ part. part ≡ says.list_part round student.now) }
 {
@@ -132,7 +132,7 @@ pub fn list_part(alloc: Global, round: u32, student: &str) -> Result<Part, Alloc
     Ok(Part::of(Group::List, cells))
 }
 
-/// The rows of a round's placements.
+/// Returns the rows of a round's placements.
 pub fn placed_part(alloc: Global, round: u32) -> Result<Part, AllocError>
     ensures { IfOk result (λ part. part ≡ says.placed_part round) }
 {

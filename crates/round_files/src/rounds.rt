@@ -52,7 +52,7 @@ impl From<RoundFault> for Trouble {
     }
 }
 
-/// The round of a text with a matching and prices that prove it best by the text's aim.
+/// Returns the round of a text with a matching and prices that prove it best by the text's aim.
 pub fn solved(alloc: Global, text: &[u8]) -> Result<String, Trouble>
     ensures { IsSolved text.now result }
 {
@@ -67,7 +67,7 @@ pub fn solved(alloc: Global, text: &[u8]) -> Result<String, Trouble>
     )?)
 }
 
-/// Size and profile of the matching of a text where its prices prove it best by the text's aim, or else the first
+/// Returns size and profile of the matching of a text where its prices prove it best by the text's aim, or else the first
 /// condition that fails.
 pub fn checked(alloc: Global, text: &[u8]) -> Result<String, Trouble>
     ensures { IsChecked text.now result }
@@ -89,7 +89,7 @@ fn push_counts(out: &mut String, counts: &[u32]) -> Result<(), AllocError>
     Ok(())
 }
 
-/// What is printed of a best matching.
+/// Returns what is printed of a best matching.
 fn best(alloc: Global, parts: &RoundParts) -> Result<String, AllocError>
     requires { HasPlaces parts.now.instance.shape parts.now.matching.places.items }
     ensures { IfOk result (λ text. string_bytes text ≡ best_text parts.now.instance.shape parts.now.matching.places.items) }
@@ -103,7 +103,7 @@ fn best(alloc: Global, parts: &RoundParts) -> Result<String, AllocError>
     Ok(text)
 }
 
-/// What is printed of a check that failed: the number of the condition, and the first uncovered student and place.
+/// Returns what is printed of a check that failed: the number of the condition, and the first uncovered student and place.
 fn failed(alloc: Global, parts: &RoundParts, fault: CheckFault) -> Result<String, AllocError>
     requires { IsFirstFailure (order parts.now.aim) parts.now.instance.shape parts.now.matching.places.items parts.now.prices fault }
     ensures { IfOk result (λ text. string_bytes text ≡ fault_text parts.now.instance fault) }

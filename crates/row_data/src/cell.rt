@@ -26,14 +26,14 @@ pub enum Cell {
 }
 
 impl Cell {
-    /// The cell of this text, in memory of its own.
+    /// Returns the cell of this text, in memory of its own.
     pub fn text(alloc: Global, text: &str) -> Result<Self, AllocError>
         ensures { IfOk result (λ cell. cell ≡ Cell.Text text.now) }
     {
         Ok(Cell::Text(Text::of(alloc, text)?))
     }
 
-    /// The same cell. A text is in memory of its own, and bytes are shared.
+    /// Returns the same cell. A text is in memory of its own, and bytes are shared.
     pub fn copy(&self, alloc: Global) -> Result<Self, AllocError>
         ensures { IfOk result (λ cell. cell ≡ self.now) }
     {

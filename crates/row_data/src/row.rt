@@ -26,7 +26,7 @@ impl Model for Row {
     ghost invariant = { λ r. IsRow (record { table = r.table; cells = r.cells.items }) };
 }
 
-/// These cells once more.
+/// Returns these cells once more.
 fn copied(alloc: Global, cells: &[Cell]) -> Result<Vec<Cell>, AllocError>
     ensures { IfOk result (λ copy. copy.items ≡ cells.now) }
 {
@@ -38,7 +38,7 @@ fn copied(alloc: Global, cells: &[Cell]) -> Result<Vec<Cell>, AllocError>
 }
 
 impl Row {
-    /// The row of these cells.
+    /// Returns the row of these cells.
     pub fn of(table: Table, cells: Vec<Cell>) -> Self
         requires { IsRow (record { table = table; cells = cells.items }) }
         ensures { result ≡ record { table = table; cells = cells.items } }
@@ -46,14 +46,14 @@ impl Row {
         Row { table, cells }
     }
 
-    /// Its table.
+    /// Returns its table.
     pub fn table(&self) -> Table
         ensures { let row = self.now in result ≡ row.table }
     {
         self.table
     }
 
-    /// Its cells, in the order of the columns.
+    /// Returns its cells, in the order of the columns.
     pub fn cells(&self) -> &[Cell]
         ensures cells { let row = self.now in result.now ≡ row.cells }
         ensures row { IsRow self.now }
@@ -61,7 +61,7 @@ impl Row {
         &self.cells
     }
 
-    /// The same row in a table with columns of the same kinds.
+    /// Returns the same row in a table with columns of the same kinds.
     pub fn moved(self, table: Table) -> Self
         requires { IsRow (record self { table = table }) }
         ensures { result ≡ record self { table = table } }
@@ -70,7 +70,7 @@ impl Row {
         Row { table, cells }
     }
 
-    /// The same row, its texts in memory of their own.
+    /// Returns the same row, its texts in memory of their own.
     pub fn copy(&self, alloc: Global) -> Result<Self, AllocError>
         ensures { IfOk result (λ row. row ≡ self.now) }
     {
@@ -81,7 +81,7 @@ impl Row {
         })
     }
 
-    /// The row with its key, as a part of its table.
+    /// Returns the row with its key, as a part of its table.
     pub fn key(&self, alloc: Global) -> Result<Part, AllocError>
         ensures { let row = self.now in IfOk result (λ part. part ≡ record { group = Key row.table; cells = key_in row.table row.cells }) }
     {
@@ -122,7 +122,7 @@ impl Model for Part {
 }
 
 impl Part {
-    /// The rows of this group that have these cells.
+    /// Returns the rows of this group that have these cells.
     pub fn of(group: Group, cells: Vec<Cell>) -> Self
         requires { IsPart (record { group = group; cells = cells.items }) }
         ensures { result ≡ record { group = group; cells = cells.items } }
@@ -130,14 +130,14 @@ impl Part {
         Part { group, cells }
     }
 
-    /// Which rows go together.
+    /// Returns which rows go together.
     pub fn group(&self) -> Group
         ensures { let part = self.now in result ≡ part.group }
     {
         self.group
     }
 
-    /// The cells that they share.
+    /// Returns the cells that they share.
     pub fn cells(&self) -> &[Cell]
         ensures cells { let part = self.now in result.now ≡ part.cells }
         ensures part { IsPart self.now }

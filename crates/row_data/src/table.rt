@@ -24,7 +24,7 @@ pub enum Table {
 }
 
 impl Table {
-    /// What the cells of its columns are, in their order.
+    /// Returns what the cells of its columns are, in their order.
     pub fn kinds(self) -> &'static [Kind]
         ensures { result.now ≡ kinds_of self }
     {
@@ -43,7 +43,7 @@ impl Table {
         }
     }
 
-    /// How many of its first columns are its key.
+    /// Returns how many of its first columns are its key.
     pub fn keyed(self) -> usize
         ensures { result ≡ keyed self }
     {

@@ -65,7 +65,7 @@ fn is_list<G: Worth>(list: &[(usize, G)], projects: usize) -> bool
     true
 }
 
-/// The worth of a pair of this rank, from 1.
+/// Returns the worth of a pair of this rank, from 1.
 fn weight(rank: usize) -> Lex {
     let mut places = [0; PLACES];
     places[0] = 1;
@@ -118,13 +118,13 @@ impl<G: Worth> Trial<G> {
         Ok(admitted)
     }
 
-    /// The rank of the student's project, which is its place, or 0.
+    /// Returns the rank of the student's project, which is its place, or 0.
     pub(crate) fn rank_of(&self, student: usize) -> Result<usize, Fail> {
         holds(student < self.students, "a student")?;
         Ok(self.network.place_of(student).unwrap_or(0))
     }
 
-    /// How many students have a place, and the sum of their ranks.
+    /// Returns how many students have a place, and the sum of their ranks.
     fn totals(&self) -> Result<(i64, usize), Fail> {
         let mut placed: i64 = 0;
         let mut ranks: usize = 0;
@@ -139,7 +139,7 @@ impl<G: Worth> Trial<G> {
     }
 }
 
-/// A list with the worth of each rank.
+/// Returns a list with the worth of each rank.
 fn ranked(alloc: Global, projects: &[usize]) -> Result<Vec<(usize, Lex)>, Fail> {
     let mut list = Vec::new(alloc);
     for before in 0..projects.len() {
@@ -148,7 +148,7 @@ fn ranked(alloc: Global, projects: &[usize]) -> Result<Vec<(usize, Lex)>, Fail> 
     Ok(list)
 }
 
-/// The sizes of all prices added up, each as often as its quota says, and a student's once.
+/// Returns the sizes of all prices added up, each as often as its quota says, and a student's once.
 fn paid(trial: &Trial<Lex>, quotas: &[u32], offers: &[(usize, u32)]) -> Result<i64, Fail> {
     let (students, projects, supervisors) = trial.network.prices()?;
     let mut sum: i64 = 0;

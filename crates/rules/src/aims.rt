@@ -37,7 +37,7 @@ static ROUNDS: [Round; 9] = [
     (Aim::Generous, "L:0",     "P:L:1",                         "A:P",               "-",   "",     true),
 ];
 
-/// The aim that is not this one.
+/// Returns the aim that is not this one.
 fn other(aim: Aim) -> Aim {
     match aim {
         Aim::Greedy => Aim::Generous,
@@ -168,7 +168,7 @@ fn small_rolls(alloc: Global, random: &mut Random) -> Result<(String, String, St
     Ok((supervisors, projects, students))
 }
 
-/// The same numbers, the last first.
+/// Returns the same numbers, the last first.
 fn backward(counts: &[u32; RANKS]) -> [u32; RANKS] {
     let mut turned = [0; RANKS];
     for rank in 0..RANKS {
@@ -177,7 +177,7 @@ fn backward(counts: &[u32; RANKS]) -> [u32; RANKS] {
     turned
 }
 
-/// All numbers added up.
+/// Returns all numbers added up.
 fn sum(counts: &[u32; RANKS]) -> u32 {
     let mut sum: u32 = 0;
     for count in counts {
@@ -197,7 +197,7 @@ fn is_better(aim: Aim, counts: &[u32; RANKS], best: &[u32; RANKS]) -> bool {
     }
 }
 
-/// The places of four students, each a digit of the number to the base four.
+/// Returns the places of four students, each a digit of the number to the base four.
 fn numbered(alloc: Global, number: u32) -> Result<Matching, Fail> {
     let mut rest = number;
     let mut places = Vec::new(alloc);
@@ -209,7 +209,7 @@ fn numbered(alloc: Global, number: u32) -> Result<Matching, Fail> {
     Ok(Matching { places })
 }
 
-/// The profile that no matching betters by an aim, each tried in turn.
+/// The profile that no matching betters by an aim, each tried one after another.
 fn searched(alloc: Global, instance: &Instance, aim: Aim) -> Result<[u32; RANKS], Fail> {
     let mut best = [0; RANKS];
     for number in 0..256u32 {

@@ -76,7 +76,7 @@ type Case = (
     (usize, i64),
 );
 
-/// A list with the worth of each ward.
+/// Returns a list with the worth of each ward.
 fn worths(alloc: Global, ways: Ways) -> Result<Vec<(usize, Saved)>, Fail> {
     let mut list = Vec::new(alloc);
     for at in 0..ways.len() {
@@ -86,7 +86,7 @@ fn worths(alloc: Global, ways: Ways) -> Result<Vec<(usize, Saved)>, Fail> {
     Ok(list)
 }
 
-/// How many students have a ward, and the minutes of all their ways.
+/// Returns how many students have a ward, and the minutes of all their ways.
 fn totals(trial: &Trial<Saved>, students: &[Ways]) -> Result<(usize, i64), Fail> {
     let mut placed: usize = 0;
     let mut minutes: i64 = 0;

@@ -88,7 +88,7 @@ fn show(out: &mut String, request: &Plain) -> Result<(), AllocError> {
     }
 }
 
-/// What requests ask, a line each.
+/// Returns what requests ask, a line each.
 fn shown(alloc: Global, requests: &[Plain]) -> Result<String, AllocError> {
     let mut out = String::new(alloc);
     for request in requests {

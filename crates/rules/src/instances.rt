@@ -26,7 +26,7 @@ static FAULTS: [(&str, &str, &str, InstanceFault); 13] = [
     ("L:5",       "P:L:1",             "A:N B",                 InstanceFault::UnknownProject(0, 1)),
 ];
 
-/// The fault that these rolls have, if any.
+/// Returns the fault that these rolls have, if any.
 fn fault_of(
     alloc: Global,
     supervisor_roll: &str,

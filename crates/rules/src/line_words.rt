@@ -7,7 +7,7 @@ use std::alloc::{AllocError, Global};
 use std::rt::HostRuntime;
 use std::test::Fail;
 
-/// A kind of reports, told apart from the others.
+/// Names a kind of reports, unlike the others.
 fn report_name(kind: ReportKind) -> &'static str {
     match kind {
         ReportKind::Profile => "Profile",
@@ -20,7 +20,7 @@ fn report_name(kind: ReportKind) -> &'static str {
     }
 }
 
-/// A line and its values.
+/// Returns a line and its values.
 fn shown(alloc: Global, line: &Line) -> Result<String, AllocError> {
     match line {
         Line::Serve {
@@ -77,7 +77,7 @@ static LINES: [(&str, &str); 23] = [
     ("spadesk -V",                                       "the version"),
 ];
 
-/// These words, parted by spaces.
+/// Returns these words, parted by spaces.
 fn parted(alloc: Global, words: &str) -> Result<Vec<String>, AllocError> {
     let mut list = Vec::new(alloc);
     for word in words.split(' ') {

@@ -5,7 +5,7 @@ use spa::{Code, Instance, Matching};
 use std::alloc::Global;
 use std::test::Fail;
 
-/// A supervisor of `L:5`, which is a code and a quota.
+/// Reads supervisors, such as `L:5`, which is a code and a quota.
 pub(crate) fn supervisors(alloc: Global, text: &str) -> Result<Vec<(Code, u32)>, Fail> {
     let mut roll = Vec::new(alloc);
     for entry in text.split_whitespace() {
@@ -17,7 +17,7 @@ pub(crate) fn supervisors(alloc: Global, text: &str) -> Result<Vec<(Code, u32)>,
     Ok(roll)
 }
 
-/// A project of `P:L:1`, which is a code, a supervisor and a quota.
+/// Reads projects, such as `P:L:1`, which is a code, a supervisor and a quota.
 pub(crate) fn projects(alloc: Global, text: &str) -> Result<Vec<(Code, Code, u32)>, Fail> {
     let mut roll = Vec::new(alloc);
     for entry in text.split_whitespace() {
@@ -30,7 +30,7 @@ pub(crate) fn projects(alloc: Global, text: &str) -> Result<Vec<(Code, Code, u32
     Ok(roll)
 }
 
-/// A student of `A:P:Q`, which is a code and a list; `A` alone lists nothing.
+/// Reads students, such as `A:P:Q`, which is a code and a list; `A` alone lists nothing.
 pub(crate) fn students(alloc: Global, text: &str) -> Result<Vec<(Code, Vec<Code>)>, Fail> {
     let mut roll = Vec::new(alloc);
     for entry in text.split_whitespace() {
@@ -45,7 +45,7 @@ pub(crate) fn students(alloc: Global, text: &str) -> Result<Vec<(Code, Vec<Code>
     Ok(roll)
 }
 
-/// The instance of three such rolls.
+/// Returns the instance of three such rolls.
 pub(crate) fn instance(
     alloc: Global,
     supervisor_roll: &str,
@@ -61,7 +61,7 @@ pub(crate) fn instance(
     )
 }
 
-/// The places of `1-2`, where `-` is none.
+/// Reads places, such as `1-2`, where `-` is none.
 pub(crate) fn places(alloc: Global, text: &str) -> Result<Matching, Fail> {
     let mut places = Vec::new(alloc);
     for byte in text.as_bytes() {

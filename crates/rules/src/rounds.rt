@@ -10,7 +10,7 @@ use std::rt::HostRuntime;
 use std::test::Fail;
 use verdict::check;
 
-/// The profile of a matching, which is one of the instance.
+/// Returns the profile of a matching, which is one of the instance.
 pub(crate) fn profile_of(instance: &Instance, matching: &Matching) -> Result<[u32; RANKS], Fail> {
     holds(matching.fault(instance).is_none(), "a matching")?;
     Ok(profile(instance, matching))
@@ -65,7 +65,7 @@ fn worked_rounds_are_solved(rt: HostRuntime) -> Result<(), Fail> {
     compare_rounds(rt.alloc(), ROUNDS.as_slice())
 }
 
-/// The places of a better matching, if an audit has one.
+/// Returns the places of a better matching, if an audit has one.
 fn better(alloc: Global, instance: &Instance, text: &str) -> Result<Option<Vec<Option<u8>>>, Fail> {
     let matching = places(alloc, text)?;
     holds(matching.fault(instance).is_none(), text)?;

@@ -10,7 +10,7 @@ use std::alloc::Global;
 use std::rt::HostRuntime;
 use std::test::Fail;
 
-/// A session to which all students of the instance were admitted.
+/// Returns a session to which all students of the instance were admitted.
 fn session_of(alloc: Global, instance: &Instance, aim: Aim) -> Result<Session, Fail>
     ensures { IfOk result (λ session. session.shape ≡ instance.now.shape) }
 {

@@ -11,7 +11,7 @@ use std::rt::HostRuntime;
 use std::test::Fail;
 use wire::{Answer, End, Handler, ShortText, Watched, serve_messages};
 
-/// One byte.
+/// Returns one byte.
 fn mark(byte: u8) -> ShortText
     ensures { result.items ≡ byte ∷ [] }
 {
@@ -67,7 +67,7 @@ fn compare(
 static TWO: &[u8] =
     b"PUT /students/S1 HTTP/1.1\r\nContent-Length: 14\r\n\r\n{\"name\":\"Ann\"}PUT /students/S2 HTTP/1.1\r\nContent-Length: 14\r\n\r\n{\"name\":\"Bob\"}";
 
-/// What is written for so many bytes of the two messages, and how they end.
+/// Returns what is written for `n` bytes of the two messages, and how they end.
 fn end_of(n: usize) -> (&'static str, End) {
     match n {
         0 => ("", End::Closed),
@@ -115,7 +115,7 @@ static STREAMS: &str =
        GET                                                                       |                        | 0     |          | Unfinished |
                                                                                  | GET / HTTP/1.1^r^n^r^n | 101   |          | Hundred    | ...................................................................................................."#;
 
-/// The end of this name.
+/// Returns the end of this name.
 fn end_named(name: &str) -> End {
     match name {
         "Closed" => End::Closed,
@@ -126,7 +126,7 @@ fn end_named(name: &str) -> End {
     }
 }
 
-/// A start, so many times a piece, and a rest.
+/// Returns a start, a piece that is repeated `times` times, and a rest.
 fn repeated(
     alloc: Global,
     start: &str,

@@ -10,13 +10,13 @@ use plays::cells::body_of;
 use std::alloc::Global;
 use std::fmt::Write;
 
-/// The next number of a text, and what is behind the blank after it.
+/// Returns the next number of a text, and what comes after the blank that follows it.
 fn number(text: &str) -> Result<(u32, &str), Unplayed> {
     let (word, rest) = text.split_once(' ').unwrap_or((text, ""));
     Ok((word.parse()?, rest))
 }
 
-/// What a formula is at a number.
+/// Returns what a formula is at a number.
 fn value(formula: &str, n: u32) -> Result<u32, Unplayed> {
     if formula.is_empty() {
         return Ok(n);
@@ -43,14 +43,14 @@ fn push_numbered(all: &mut String, piece: &str, n: u32) -> Result<(), Unplayed> 
     Ok(())
 }
 
-/// A text at a number.
+/// Returns a text at a number.
 pub(crate) fn numbered(alloc: Global, text: &str, n: u32) -> Result<String, Unplayed> {
     let mut all = String::new(alloc);
     push_numbered(&mut all, text, n)?;
     Ok(all)
 }
 
-/// The numbers from the first up to the end that a text begins with, and what is behind them.
+/// Returns the numbers from the first up to the end that a text begins with, and what comes after them.
 pub(crate) fn range(text: &str) -> Result<(u32, u32, &str), Unplayed> {
     let (first, rest) = number(text)?;
     let (end, rest) = number(rest)?;
@@ -66,7 +66,7 @@ fn push_copies(all: &mut String, counted: &str) -> Result<(), Unplayed> {
     Ok(())
 }
 
-/// A row whose repeated pieces are written out.
+/// Returns a row whose repeated pieces are written out.
 pub(crate) fn written_out(alloc: Global, row: &str) -> Result<String, Unplayed> {
     let mut all = String::new(alloc);
     for part in row.split("^{") {
@@ -81,7 +81,7 @@ pub(crate) fn written_out(alloc: Global, row: &str) -> Result<String, Unplayed> 
     Ok(all)
 }
 
-/// The hash of bytes.
+/// Returns the hash of bytes.
 fn hash_of(bytes: &[u8]) -> u64 {
     let mut hash = 0xcbf2_9ce4_8422_2325;
     for byte in bytes {
@@ -90,7 +90,7 @@ fn hash_of(bytes: &[u8]) -> u64 {
     hash
 }
 
-/// How bytes are told by their length and their hash.
+/// Describes bytes by their length and their hash.
 pub(crate) fn summed(alloc: Global, bytes: &[u8]) -> Result<String, Unplayed> {
     Ok(format!(in alloc; "^#{} {:016x}", bytes.len(), hash_of(bytes))?)
 }

@@ -5,7 +5,7 @@ use crate::labels::Packed;
 use crate::state::Network;
 use std::alloc::AllocError;
 
-/// What the best choice of a student gains over what it costs, and nothing if none gains.
+/// Returns what the best choice of a student gains over what it costs, and nothing if none gains.
 fn gain(network: &Network, student: usize) -> Packed {
     let mut gain = 0;
     for (project, worth) in network.list(student).iter().zip(&network.worths) {
@@ -14,13 +14,13 @@ fn gain(network: &Network, student: usize) -> Packed {
     gain
 }
 
-/// The potential of a node rises.
+/// Raises the potential of a node.
 fn lift(network: &mut Network, node: usize, by: Packed) {
     let node = &mut network.nodes[node];
     node.potential = node.potential.wrapping_add(by);
 }
 
-/// A project costs this much more, if it is full, and its students gain as much less.
+/// Makes a project cost this much more, if it is full, and its students gain as much less.
 fn raise_project(network: &mut Network, project: usize, by: Packed) {
     if network.nodes[project].is_full() {
         lift(network, project, by);
@@ -31,7 +31,7 @@ fn raise_project(network: &mut Network, project: usize, by: Packed) {
     }
 }
 
-/// A supervisor costs this much more, and with it the projects that have room.
+/// Makes a supervisor cost this much more, and with it the projects that have room.
 fn raise_supervisor(network: &mut Network, supervisor: usize, by: Packed) {
     lift(network, supervisor, by);
     for project in &network.inside[supervisor] {
@@ -42,7 +42,7 @@ fn raise_supervisor(network: &mut Network, supervisor: usize, by: Packed) {
     }
 }
 
-/// The potentials of settled nodes rise by what the best end is beyond them.
+/// Raises the potentials of settled nodes by what the best end is beyond them.
 fn raise(network: &mut Network, frontier: &Frontier) {
     for node in &frontier.settled {
         let by = frontier.best.wrapping_sub(frontier.marks[*node].label);
@@ -54,13 +54,13 @@ fn raise(network: &mut Network, frontier: &Frontier) {
     }
 }
 
-/// A node has a student more.
+/// Counts a student more at a node.
 fn take(network: &mut Network, node: usize) {
     let node = &mut network.nodes[node];
     node.taken = node.taken.wrapping_add(1);
 }
 
-/// A project has a student fewer. If it was full, it costs no more than its supervisor from now on.
+/// Counts a student fewer at a project. If it was full, it costs no more than its supervisor from now on.
 fn give(network: &mut Network, project: usize, supervisor: usize) {
     let above = network.nodes[supervisor].potential;
     let node = &mut network.nodes[project];
@@ -70,7 +70,7 @@ fn give(network: &mut Network, project: usize, supervisor: usize) {
     node.taken = node.taken.wrapping_sub(1);
 }
 
-/// A student leaves the project, if there is one, which is told.
+/// Takes a student out of the project, if there is one, and returns it.
 fn leave(network: &mut Network, student: usize) -> Option<usize> {
     let project = network.students[student].project?;
     network.students[student].project = None;
@@ -78,14 +78,14 @@ fn leave(network: &mut Network, student: usize) -> Option<usize> {
     Some(project)
 }
 
-/// A student comes to a project.
+/// Adds a student to a project.
 fn come(network: &mut Network, student: usize, project: usize) -> Result<(), AllocError> {
     network.students[student].project = Some(project);
     network.inside[project].push(student)?;
     Ok(())
 }
 
-/// An arc to a node is made: the node that it comes from, or none where it comes from the one who is admitted.
+/// Makes an arc to a node. Returns the node that it comes from, or none where it comes from the one who is admitted.
 fn make(network: &mut Network, node: usize, arc: Arc) -> Result<Option<usize>, AllocError> {
     match arc {
         Arc::Student(student) => {
@@ -104,7 +104,7 @@ fn make(network: &mut Network, node: usize, arc: Arc) -> Result<Option<usize>, A
     }
 }
 
-/// The students of a walk move along it, from its end back to the one who is admitted.
+/// Moves the students of a walk along it, from its end back to the one who is admitted.
 fn follow(network: &mut Network, frontier: &Frontier) -> Result<(), AllocError> {
     let mut before = match frontier.end {
         End::Start => None,
@@ -125,7 +125,7 @@ fn follow(network: &mut Network, frontier: &Frontier) -> Result<(), AllocError> 
     Ok(())
 }
 
-/// A student is admitted.
+/// Admits a student.
 pub(crate) fn admit(
     network: &mut Network,
     frontier: &mut Frontier,

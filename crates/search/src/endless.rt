@@ -31,7 +31,7 @@ impl<T> IndexMut<usize> for Endless<T> {
 }
 
 impl<T: Copy> Endless<T> {
-    /// The same item so many times.
+    /// Returns the same item `count` times.
     pub(crate) fn filled(alloc: Global, count: usize, item: T) -> Result<Endless<T>, AllocError> {
         let mut items = Vec::with_capacity(alloc, count)?;
         for _ in 0..count {

@@ -70,7 +70,7 @@ pub(crate) struct Frontier {
     pub end: End,
 }
 
-/// These nodes are not reached any more.
+/// Makes these nodes not reached any more.
 fn forget(marks: &mut Endless<Mark>, nodes: &mut Vec<usize>) {
     for node in nodes.iter() {
         marks[*node].standing = Standing::Unseen;
@@ -79,7 +79,7 @@ fn forget(marks: &mut Endless<Mark>, nodes: &mut Vec<usize>) {
 }
 
 impl Frontier {
-    /// A frontier of so many nodes, none of which is reached.
+    /// Creates a frontier of `count` nodes, none of which is reached.
     pub(crate) fn start(alloc: Global, count: usize) -> Result<Frontier, AllocError> {
         Ok(Frontier {
             marks: Endless::filled(alloc, count, BLANK)?,
@@ -92,7 +92,7 @@ impl Frontier {
         })
     }
 
-    /// No node is reached any more, and to end at once costs this much.
+    /// Begins anew: no node is reached any more, and to end at once costs this much.
     pub(crate) fn restart(&mut self, gain: Packed) {
         forget(&mut self.marks, &mut self.heap.items);
         forget(&mut self.marks, &mut self.level);
@@ -102,7 +102,7 @@ impl Frontier {
         self.end = End::Start;
     }
 
-    /// An end, if a walk to it costs less than to the best so far.
+    /// Takes an end, if a walk to it costs less than to the best so far.
     pub(crate) fn offer(&mut self, label: Packed, end: End) {
         if label < self.best {
             self.best = label;
@@ -110,13 +110,13 @@ impl Frontier {
         }
     }
 
-    /// A node stands at this position of the heap.
+    /// Puts a node at this position of the heap.
     fn put(&mut self, i: usize, node: usize) {
         self.heap[i] = node;
         self.marks[node].standing = Standing::Waiting(i);
     }
 
-    /// A node rises from this position of the heap to where its label belongs.
+    /// Moves a node up from this position of the heap to where its label belongs.
     fn rise(&mut self, from: usize, node: usize, label: Packed) {
         let mut i = from;
         for _ in 0..DEPTH {
@@ -134,7 +134,7 @@ impl Frontier {
         self.put(i, node);
     }
 
-    /// The position of the lesser of the two below this one in the heap, its node and its label, if there is one.
+    /// Returns the position of the lesser of the two below this one in the heap, its node and its label, if there is one.
     fn below(&self, i: usize) -> Option<(usize, usize, Packed)> {
         let left = i.wrapping_mul(2).wrapping_add(1);
         let right = left.wrapping_add(1);
@@ -149,7 +149,7 @@ impl Frontier {
         Some((left, node, label))
     }
 
-    /// A node sinks from the top of the heap to where its label belongs.
+    /// Moves a node down from the top of the heap to where its label belongs.
     fn sink(&mut self, node: usize) {
         let label = self.marks[node].label;
         let mut i = 0;
@@ -166,7 +166,7 @@ impl Frontier {
         self.put(i, node);
     }
 
-    /// A walk at this label reaches a node by an arc.
+    /// Reaches a node by an arc, with a walk at this label.
     pub(crate) fn reach(&mut self, node: usize, label: Packed, arc: Arc) -> Result<(), AllocError> {
         let mark = &mut self.marks[node];
         match mark.standing {
@@ -193,7 +193,7 @@ impl Frontier {
         Ok(())
     }
 
-    /// The next node leaves the frontier.
+    /// Takes the next node out of the frontier.
     fn pop(&mut self) -> Option<usize> {
         if let Some(node) = self.level.pop() {
             return Some(node);
@@ -206,7 +206,7 @@ impl Frontier {
         Some(node)
     }
 
-    /// The next node is settled, if its label is below that of the best end.
+    /// Settles the next node, if its label is below that of the best end.
     pub(crate) fn settle(&mut self) -> Result<Option<usize>, AllocError> {
         let Some(node) = self.pop() else {
             return Ok(None);

@@ -33,8 +33,8 @@ use spa::{Aim, Instance};
 use std::alloc::{AllocError, Global};
 use verdict::{Proved, accept};
 
-/// A matching of the instance that is best by the aim, and prices that prove it, if the search came to one: its prices are
-/// checked. An `Err` is want of memory.
+/// Returns a matching of the instance that is best by the aim, and prices that prove it, if the search came to one: its prices are checked.
+/// An `Err` is out of memory.
 pub fn search(alloc: Global, instance: &Instance, aim: Aim) -> Result<Option<Proved>, AllocError>
     ensures proved { IfOk result (λ r. IfSome r (λ s. IsProvedBest (order aim) instance.now.shape s.matching.places.items s.prices)) }
     ensures best { IfOk result (λ r. IfSome r (λ s. IsBest aim instance.now.shape (pairs instance.now.shape s.matching.places.items))) }

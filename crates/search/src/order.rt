@@ -7,12 +7,12 @@ use crate::endless::Endless;
 use spa::Instance;
 use std::alloc::{AllocError, Global};
 
-/// The hash of a number more: FNV-1a, by numbers in the place of bytes.
+/// Returns the hash of a number more: FNV-1a, by numbers in the place of bytes.
 fn hashed(hash: u64, number: usize) -> u64 {
     (hash ^ number as u64).wrapping_mul(0x0000_0100_0000_01b3)
 }
 
-/// The hash of quotas and lists, by position.
+/// Returns the hash of quotas and lists, by position.
 fn hash_of(instance: &Instance) -> u64 {
     let mut hash = 0xcbf2_9ce4_8422_2325;
     for project in instance.projects() {
@@ -31,14 +31,14 @@ fn hash_of(instance: &Instance) -> u64 {
     hash
 }
 
-/// The number drawn from a state of SplitMix64.
+/// Returns the number drawn from a state of SplitMix64.
 fn draw(state: u64) -> u64 {
     let once = (state ^ (state >> 30)).wrapping_mul(0xbf58_476d_1ce4_e5b9);
     let twice = (once ^ (once >> 27)).wrapping_mul(0x94d0_49bb_1331_11eb);
     twice ^ (twice >> 31)
 }
 
-/// The students in the order drawn: the shuffle of R. A. Fisher and F. Yates, from the last place down.
+/// Returns the students in the order drawn: the shuffle of R. A. Fisher and F. Yates, from the last place down.
 pub(crate) fn drawn(alloc: Global, instance: &Instance) -> Result<Vec<usize>, AllocError> {
     let count = instance.student_count();
     let mut order = Endless::filled(alloc, count, 0)?;

@@ -46,7 +46,7 @@ pub(crate) struct Network<'a> {
     pub students: Endless<Student>,
 }
 
-/// The node of a project or a supervisor that nobody has. If there are no places, they cost as much as any pair is worth.
+/// Returns the node of a project or a supervisor that nobody has. If there are no places, they cost as much as any pair is worth.
 fn empty(quota: u32, supervisor: usize, places: u32, dearest: Packed) -> Node {
     Node {
         potential: if places == 0 { dearest } else { 0 },
@@ -56,7 +56,7 @@ fn empty(quota: u32, supervisor: usize, places: u32, dearest: Packed) -> Node {
     }
 }
 
-/// The nodes of an instance.
+/// Returns the nodes of an instance.
 fn nodes_of(
     alloc: Global,
     instance: &Instance,
@@ -79,7 +79,7 @@ fn nodes_of(
     })
 }
 
-/// The projects of each supervisor, and no students in any project.
+/// Returns the projects of each supervisor, and no students in any project.
 fn inside_of(
     alloc: Global,
     instance: &Instance,
@@ -98,14 +98,14 @@ fn inside_of(
     Ok(inside)
 }
 
-/// The place of a project in a list, from 1.
+/// Returns the place of a project in a list, from 1.
 fn place_of(list: &[usize], project: usize) -> Option<u8> {
     let before = list.iter().position(|choice| *choice == project)?;
     u8::try_from(before).ok()?.checked_add(1)
 }
 
 impl<'a> Network<'a> {
-    /// The network of an instance, in which nobody is admitted yet.
+    /// Returns the network of an instance, in which nobody is admitted yet.
     pub(crate) fn start(
         alloc: Global,
         instance: &'a Instance,
@@ -124,7 +124,7 @@ impl<'a> Network<'a> {
         })
     }
 
-    /// The list of a student.
+    /// Returns the list of a student.
     pub(crate) fn list(&self, student: usize) -> &[usize] {
         match self.instance.students().get(student) {
             Some(list) => list,
@@ -132,17 +132,17 @@ impl<'a> Network<'a> {
         }
     }
 
-    /// Is this node a project?
+    /// Whether this node is a project.
     pub(crate) fn is_project(&self, node: usize) -> bool {
         node < self.instance.project_count()
     }
 
-    /// Do a project and its supervisor have room?
+    /// Whether a project and its supervisor have room.
     pub(crate) fn has_room(&self, project: &Node) -> bool {
         !project.is_full() && !self.nodes[project.supervisor].is_full()
     }
 
-    /// The places that the students have.
+    /// Returns the places that the students have.
     pub(crate) fn matching(&self, alloc: Global) -> Result<Matching, AllocError> {
         let mut places = Vec::with_capacity(alloc, self.students.items.len())?;
         for student in 0..self.students.items.len() {
@@ -154,7 +154,7 @@ impl<'a> Network<'a> {
         Ok(Matching { places })
     }
 
-    /// What a node costs of itself.
+    /// Returns what a node costs of itself.
     fn price(&self, node: &Node, above: Packed) -> Packed {
         if node.quota == 0 {
             self.worths[0]
@@ -163,7 +163,7 @@ impl<'a> Network<'a> {
         }
     }
 
-    /// The prices: each potential, a project's without its supervisor's.
+    /// Returns the prices: each potential, a project's without its supervisor's.
     pub(crate) fn prices(&self, alloc: Global) -> Result<Prices, AllocError> {
         let mut prices = Prices {
             students: Vec::with_capacity(alloc, self.students.items.len())?,

@@ -6,7 +6,7 @@ use crate::state::Network;
 use std::alloc::AllocError;
 
 impl Frontier {
-    /// A student, who comes at this label, goes on to the projects of the list, but not to places that would be no better than
+    /// Goes on from a student, who comes at this label, to the projects of the list, but not to places that would be no better than
     /// the best end even if they cost nothing.
     fn relax(&mut self, network: &Network, student: usize, at: Packed) -> Result<(), AllocError> {
         for (project, worth) in network.list(student).iter().zip(&network.worths) {
@@ -25,7 +25,7 @@ impl Frontier {
         Ok(())
     }
 
-    /// A search goes on from a project: to its supervisor, if it has room, and by its students.
+    /// Goes on from a project: to its supervisor, if it has room, and by its students.
     fn leave_project(&mut self, network: &Network, project: usize) -> Result<(), AllocError> {
         let node = &network.nodes[project];
         let label = self.marks[project].label;
@@ -40,7 +40,7 @@ impl Frontier {
         Ok(())
     }
 
-    /// A search goes on from a supervisor to the projects that have students.
+    /// Goes on from a supervisor to the projects that have students.
     fn leave_supervisor(&mut self, network: &Network, supervisor: usize) -> Result<(), AllocError> {
         let potential = network.nodes[supervisor].potential;
         let free = self.marks[supervisor].label.wrapping_sub(potential);

@@ -31,7 +31,7 @@ fn best(network: &Network<Lex>)
     network.priced();
 }
 
-/// How many students have a place.
+/// Returns how many students have a place.
 fn placed(network: &Network<Lex>, students: usize) -> u32
     requires kept { (aim : Aim) × IsNetworkKept aim network.now students }
     requires places { HasPlaces (shape_of network.now) network.now.places }
@@ -47,7 +47,7 @@ fn placed(network: &Network<Lex>, students: usize) -> u32
     placed
 }
 
-/// How many students have place 1 of their lists and so on.
+/// Returns how many students have place 1 of their lists and so on.
 fn ranked(network: &Network<Lex>, students: usize) -> [u32; RANKS]
     requires kept { (aim : Aim) × IsNetworkKept aim network.now students }
     requires places { HasPlaces (shape_of network.now) network.now.places }
@@ -87,8 +87,8 @@ impl Model for Session {
 }
 
 impl Session {
-    /// The session of supervisors with their quotas, and of projects with supervisor, by position, and quota, whose
-    /// matchings are best by an aim. Nobody is admitted yet. An `Err` is want of memory.
+    /// Starts the session of supervisors with their quotas, and of projects with supervisor, by position, and quota, whose matchings are
+    /// best by an aim. Nobody is admitted yet. An `Err` is out of memory.
     pub fn start(
         alloc: Global,
         supervisors: &[u32],
@@ -114,8 +114,8 @@ impl Session {
         })
     }
 
-    /// One more student is admitted, with a list of projects by position, first choice first. After an `Err`, which is
-    /// want of memory, nobody was admitted and nothing has changed.
+    /// Admits one more student, with a list of projects by position, first choice first. After an `Err`, which is out of memory, nobody was
+    /// admitted and nothing has changed.
     pub fn admit(&mut self, list: &[usize]) -> Result<Admitted, AllocError>
         requires few { length self.old.shape.students < MOST_STUDENTS }
         requires some { 1 ≤ length list.now }
@@ -140,7 +140,7 @@ impl Session {
         best(&self.network);
     }
 
-    /// How many pairs a best matching of the students admitted so far has. Takes no memory.
+    /// Returns how many pairs a best matching of the students admitted so far has. Allocates nothing.
     pub fn size(&self) -> u32
         ensures size { (M : List Pair) → IsBest self.now.aim self.now.shape M → result ≡ length M }
         ensures few { result ≤ MOST_STUDENTS }
@@ -149,7 +149,7 @@ impl Session {
         placed(&self.network, self.students)
     }
 
-    /// How many pairs of it have rank 1 and so on. Takes no memory.
+    /// Returns how many pairs of it have rank 1 and so on. Allocates nothing.
     pub fn profile(&self) -> [u32; RANKS]
         ensures profile { (M : List Pair) → IsBest self.now.aim self.now.shape M → (k : ℕ) → k < RANKS → slice_index result k ≡ profile self.now.shape M k }
         ensures few { (k : ℕ) → k < RANKS → slice_index result k ≤ MOST_STUDENTS }
@@ -159,7 +159,7 @@ impl Session {
         ranked(&self.network, self.students)
     }
 
-    /// The relaxations since the start. Takes no memory.
+    /// Returns the relaxations since the start. Allocates nothing.
     pub fn steps(&self) -> u64
         ensures { result ≡ self.now.steps }
     {

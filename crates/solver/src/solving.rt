@@ -19,7 +19,7 @@ use spa::{Aim, Instance, Lex, Matching, PLACES, RANKS, lex_law, order_law};
 use std::alloc::{AllocError, Global};
 use verdict::{Prices, Proved as Solved, verdict_law};
 
-/// A network of the instance's rolls that has admitted all its students, with the weight of each pair, as the aim reads
+/// Returns a network of the instance's rolls that has admitted all its students, with the weight of each pair, as the aim reads
 /// it, as its worth.
 fn admit_all(alloc: Global, instance: &Instance, aim: Aim) -> Result<Network<Lex>, AllocError>
     ensures { IfOk result (λ n. IsOf aim instance.now.shape n) }
@@ -32,7 +32,7 @@ fn admit_all(alloc: Global, instance: &Instance, aim: Aim) -> Result<Network<Lex
     Ok(network)
 }
 
-/// A place as a matching keeps it.
+/// Returns a place as a matching stores it.
 fn narrow(place: Option<usize>) -> Option<u8>
     requires { IfSome place (λ k. k < 256) }
     ensures { result ≡ place }
@@ -43,7 +43,7 @@ fn narrow(place: Option<usize>) -> Option<u8>
     }
 }
 
-/// The places of the students admitted, as a matching.
+/// Returns the places of the students admitted, as a matching.
 fn matching_of(
     alloc: Global,
     network: &Network<Lex>,
@@ -61,7 +61,7 @@ fn matching_of(
     Ok(Matching { places })
 }
 
-/// The numbers of worths, as the aim reads them.
+/// Returns the numbers of worths, as the aim reads them.
 fn rows(alloc: Global, aim: Aim, worths: &[Lex]) -> Result<Vec<[i64; PLACES]>, AllocError>
     requires { (n : ℕ) → (lex_ops PLACES).span (price (lex_ops PLACES) worths.now n) ≤ LARGEST_PRICE }
     ensures { IfOk result (λ v. AreNumbersOf aim v.items worths.now) }
@@ -73,7 +73,7 @@ fn rows(alloc: Global, aim: Aim, worths: &[Lex]) -> Result<Vec<[i64; PLACES]>, A
     Ok(rows)
 }
 
-/// The prices of the network as rows of numbers: size and ranks at their places, whatever the aim.
+/// Returns the prices of the network as rows of numbers: size and ranks at their places, whatever the aim.
 fn prices_of(alloc: Global, aim: Aim, network: &Network<Lex>) -> Result<Prices, AllocError>
     ensures { IfOk result (λ p. ArePricesOf aim network.now p) }
 {
@@ -85,7 +85,7 @@ fn prices_of(alloc: Global, aim: Aim, network: &Network<Lex>) -> Result<Prices, 
     })
 }
 
-/// The matching that is left when all students of the instance were admitted one by one, and the prices that prove it best.
+/// Returns the matching that is left when all students of the instance were admitted one by one, and the prices that prove it best.
 fn admitted(alloc: Global, instance: &Instance, aim: Aim) -> Result<Solved, AllocError>
     ensures proved { IfOk result (λ s. IsProvedBest (order aim) instance.now.shape s.matching.places.items s.prices) }
     ensures best { IfOk result (λ s. IsBest aim instance.now.shape (pairs instance.now.shape s.matching.places.items)) }
@@ -100,8 +100,8 @@ fn admitted(alloc: Global, instance: &Instance, aim: Aim) -> Result<Solved, Allo
     Ok(Solved { matching, prices })
 }
 
-/// What was found, if anything was. Else the students are admitted one by one to a network whose pairs are worth their
-/// weights, which is proved to come to the best. An `Err` is want of memory, and comes only where nothing was found.
+/// Returns what was found, if anything was. Else the students are admitted one by one to a network whose pairs are worth their weights,
+/// which is proved to come to the best. An `Err` is out of memory, and comes only where nothing was found.
 pub fn found_or_admitted(
     alloc: Global,
     instance: &Instance,
@@ -120,8 +120,8 @@ pub fn found_or_admitted(
     }
 }
 
-/// A matching of the instance that is best by the aim, and prices that prove it: `verdict::check` accepts them. No
-/// matching has more pairs, and none with as many has a better profile. An `Err` is want of memory.
+/// Returns a matching of the instance that is best by the aim, and prices that prove it: `verdict::check` accepts them. No matching has
+/// more pairs, and none with as many has a better profile. An `Err` is out of memory.
 pub fn solve(alloc: Global, instance: &Instance, aim: Aim) -> Result<Solved, AllocError>
     ensures proved { IfOk result (λ s. IsProvedBest (order aim) instance.now.shape s.matching.places.items s.prices) }
     ensures best { IfOk result (λ s. IsBest aim instance.now.shape (pairs instance.now.shape s.matching.places.items)) }

@@ -15,7 +15,7 @@ use network::{Admitted, Network};
 use spa::{Aim, Lex, PLACES, lex_law};
 use std::alloc::{AllocError, Global};
 
-/// The worth of a pair of this rank, which is its weight as the aim reads it: one for the size, and for the rank one more
+/// Returns the worth of a pair of this rank, which is its weight as the aim reads it: one for the size, and for the rank one more
 /// from the front on, or one less from the back on.
 pub(crate) fn worth_of(aim: Aim, rank: usize) -> Lex
     requires first { 1 ≤ rank }
@@ -31,7 +31,7 @@ pub(crate) fn worth_of(aim: Aim, rank: usize) -> Lex
     Lex(row)
 }
 
-/// A list of projects, each with its worth.
+/// Fills the entries with a list of projects, each with its worth.
 fn weigh(aim: Aim, list: &[usize], entries: &mut Vec<(usize, Lex)>) -> Result<(), AllocError>
     requires { length list.now ≤ RANKS }
     ensures { OnOk result (entries.new.items ≡ weighed aim list.now) }
@@ -43,7 +43,7 @@ fn weigh(aim: Aim, list: &[usize], entries: &mut Vec<(usize, Lex)>) -> Result<()
     Ok(())
 }
 
-/// One more student is admitted to a network, with the weights of the pairs of a list, as the aim reads them, as their
+/// Admits one more student to a network, with the weights of the pairs of a list, as the aim reads them, as their
 /// worths. The entries are room to work in.
 pub(crate) fn admit_weighed(
     aim: Aim,
@@ -62,7 +62,7 @@ pub(crate) fn admit_weighed(
     network.admit(entries)
 }
 
-/// The numbers of a worth, as the aim reads them: so they stand at their places again.
+/// Returns the numbers of a worth, as the aim reads them: so they stand at their places again.
 pub(crate) fn numbers(aim: Aim, worth: &Lex) -> [i64; PLACES]
     requires { (lex_ops PLACES).span worth.now < 2 ^ 62 }
     ensures { (t : ℕ) → t < PLACES → at result t ≡ as_read aim (row PLACES worth.now) t }
@@ -73,7 +73,7 @@ pub(crate) fn numbers(aim: Aim, worth: &Lex) -> [i64; PLACES]
     }
 }
 
-/// The numbers of a worth, as a generous aim reads them.
+/// Returns the numbers of a worth, as a generous aim reads them.
 fn turned(worth: &Lex) -> [i64; PLACES]
     requires { (lex_ops PLACES).span worth.now < 2 ^ 62 }
     ensures { (t : ℕ) → t < PLACES → at result t ≡ as_read Generous (row PLACES worth.now) t }

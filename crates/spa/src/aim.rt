@@ -20,7 +20,7 @@ pub enum Aim {
 pub const AIMS: [Aim; 2] = [Aim::Greedy, Aim::Generous];
 
 impl Aim {
-    /// The word by which texts, requests and commands name the aim.
+    /// Returns the word by which texts, requests and commands name the aim.
     pub fn word(self) -> &'static str
         ensures word { result.now ≡ aim_word self }
         ensures short { length result.now ≤ 8 }
@@ -31,7 +31,7 @@ impl Aim {
         }
     }
 
-    /// The aim that has this word.
+    /// Returns the aim that has this word.
     pub fn of_word(word: &str) -> Option<Aim>
         ensures { result ≡ aim_with word.now }
     {

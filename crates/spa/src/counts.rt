@@ -52,7 +52,7 @@ impl Counts {
         self.supervisors[supervisor] += 1;
     }
 
-    /// How many pairs have the project at this position.
+    /// Returns how many pairs have the project at this position.
     pub fn in_project(&self, position: usize) -> u32
         requires { position < MOST_PROJECTS }
         ensures { result ≡ slice_index self.now.projects position }
@@ -60,7 +60,7 @@ impl Counts {
         self.projects[position]
     }
 
-    /// How many pairs have a project of the supervisor at this position.
+    /// Returns how many pairs have a project of the supervisor at this position.
     pub fn with_supervisor(&self, position: usize) -> u32
         requires { position < MOST_SUPERVISORS }
         ensures { result ≡ slice_index self.now.supervisors position }

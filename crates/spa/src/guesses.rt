@@ -12,7 +12,7 @@ pub struct Guesses {
     slots: [u16; SLOTS],
 }
 
-/// The slot of a code.
+/// Returns the slot of a code.
 fn slot(code: &[u8]) -> usize
     ensures { result < SLOTS }
 {
@@ -24,7 +24,7 @@ fn slot(code: &[u8]) -> usize
 }
 
 impl Guesses {
-    /// Nothing was noted.
+    /// Creates guesses, of which none was noted.
     pub fn new() -> Self {
         Guesses { slots: [0; SLOTS] }
     }
@@ -36,7 +36,7 @@ impl Guesses {
         }
     }
 
-    /// Where a code is to be looked for first.
+    /// Returns where a code is to be looked for first.
     pub fn guess(&self, code: &[u8]) -> usize {
         self.slots[slot(code)] as usize
     }

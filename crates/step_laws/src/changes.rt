@@ -9,7 +9,7 @@ use rolls::{Change, Placement, RoundAim, choice_row, list_part, placed_part, rou
 use spa::{Aim, Code};
 use std::alloc::{AllocError, Global};
 
-/// The change by which a student's list in a round goes, where there is one.
+/// Returns the change by which a student's list in a round goes, where there is one.
 fn list_taken(
     alloc: Global,
     round: u32,
@@ -25,7 +25,7 @@ fn list_taken(
     Ok(changes)
 }
 
-/// A student's list in a round gives way to new choices: first it goes, where there is one, and then the new
+/// Returns the changes by which a student's list in a round gives way to new choices: first it goes, where there is one, and then the new
 /// choices are added.
 pub fn list_changes(
     alloc: Global,
@@ -46,7 +46,7 @@ pub fn list_changes(
     Ok(changes)
 }
 
-/// A round of this number and with this aim opens.
+/// Returns the changes by which a round of this number and with this aim opens.
 pub fn opening_changes(alloc: Global, round: u32, aim: Aim) -> Result<Vec<Change>, AllocError>
     ensures { IfOk result (λ changes. changes.items ≡ says.opening_changes round aim) }
 {
@@ -56,7 +56,7 @@ pub fn opening_changes(alloc: Global, round: u32, aim: Aim) -> Result<Vec<Change
     Ok(changes)
 }
 
-/// A round opens again, and its placements go.
+/// Returns the changes by which a round opens again, and its placements go.
 pub fn reopening_changes(alloc: Global, round: u32) -> Result<Vec<Change>, AllocError>
     ensures { IfOk result (λ changes. changes.items ≡ says.reopening_changes round) }
 {
@@ -66,7 +66,7 @@ pub fn reopening_changes(alloc: Global, round: u32) -> Result<Vec<Change>, Alloc
     Ok(changes)
 }
 
-/// The placements of other rounds, in memory of their own.
+/// Returns the placements of other rounds, in memory of their own.
 pub fn kept_placements(
     alloc: Global,
     placements: &[Placement],

@@ -13,7 +13,7 @@ use tables::Table;
 /// The edition in which tables are made.
 pub const LATEST: Edition = Edition::Third;
 
-/// The number of an edition.
+/// Returns the number of an edition.
 pub fn number_of(edition: Edition) -> u32
     ensures { result ≡ number_of edition }
 {
@@ -24,7 +24,7 @@ pub fn number_of(edition: Edition) -> u32
     }
 }
 
-/// The tables that hold rows of an office in an edition. Each comes after those that it refers to.
+/// Returns the tables that hold rows of an office in an edition. Each comes after those that it refers to.
 pub fn rolls_of(edition: Edition) -> &'static [Table]
     ensures { result.now ≡ rolls_of edition }
 {
@@ -35,7 +35,7 @@ pub fn rolls_of(edition: Edition) -> &'static [Table]
     }
 }
 
-/// The tables that later editions have beside them.
+/// Returns the tables that later editions have besides them.
 pub fn beyond(edition: Edition) -> &'static [Table]
     ensures { result.now ≡ beyond edition }
 {
@@ -46,7 +46,7 @@ pub fn beyond(edition: Edition) -> &'static [Table]
     }
 }
 
-/// The edition of the tables that are there: the earliest beyond which none is.
+/// Returns the edition of the tables that are there: the earliest beyond which none is.
 pub fn edition_of(schema: &Schema) -> Edition
     ensures alone { HasNoneOf (beyond result) schema.now }
     ensures later { (e : Edition) → number_of e < number_of result → HasNoneOf (beyond e) schema.now → ⊥ }

@@ -124,7 +124,7 @@ fn need_number(all: &[Cells], edition: Edition) -> Result<(), StoreFault>
     }
 }
 
-/// The rows of a table.
+/// Reads the rows of a table.
 fn read_table<S: Alter>(
     alloc: Global,
     conn: &mut Connection<S>,
@@ -141,7 +141,7 @@ fn read_table<S: Alter>(
     rows_with(alloc, table, cells.as_slice())
 }
 
-/// The rows of the tables of an edition.
+/// Reads the rows of the tables of an edition.
 fn read_rows<S: Alter>(
     alloc: Global,
     conn: &mut Connection<S>,
@@ -163,7 +163,7 @@ fn read_rows<S: Alter>(
     Ok(rows)
 }
 
-/// The rows of the tables of an edition, after the number was read.
+/// Reads the rows of the tables of an edition, after the number was read.
 fn rows_in<S: Alter>(
     alloc: Global,
     conn: &mut Connection<S>,
@@ -186,7 +186,7 @@ fn rows_in<S: Alter>(
     Ok(rows)
 }
 
-/// The office of rows that were read.
+/// Returns the office of rows that were read.
 fn office_from(alloc: Global, rows: Vec<Row>) -> Result<Office, StoreFault>
     ensures rows { IfOk result (λ office. AreRowsOf rows.items office) }
     ensures unfit { result ≡ Err StoreFault.Damaged → (o : State) → IsFit o → AreRowsOf rows.items o → ⊥ }
@@ -195,7 +195,7 @@ fn office_from(alloc: Global, rows: Vec<Row>) -> Result<Office, StoreFault>
     Ok(Office::from_rows(alloc, rows)?)
 }
 
-/// The office of the tables of an edition, where none is being written, and the changes that raise them.
+/// Returns the office of the tables of an edition, where none is being written, and the changes that migrate them.
 pub fn office_in<S: Alter>(
     alloc: Global,
     conn: &mut Connection<S>,

@@ -14,7 +14,7 @@ use sqlite::Row as Columns;
 use sqlite_value::value::ValueRef;
 use std::alloc::Global;
 
-/// The cell in a column, where it has one of this kind.
+/// Returns the cell in a column, where it has one of this kind.
 fn cell_at(alloc: Global, columns: &Columns, at: usize, kind: Kind) -> Result<Cell, StoreFault>
     ensures cell { IfOk result (λ cell. (column columns.now at ≡ value_of cell) × (is_of kind cell ≡ true)) }
     ensures damaged { result ≡ Err StoreFault.Damaged → (cell : AnyCell) → IsTyped cell → is_of kind cell ≡ true → column columns.now at ≢ value_of cell }
@@ -43,7 +43,7 @@ fn cell_at(alloc: Global, columns: &Columns, at: usize, kind: Kind) -> Result<Ce
     }
 }
 
-/// The row with these columns, which come after its rowid.
+/// Returns the row with these columns, which come after its rowid.
 fn row_with(alloc: Global, table: Table, columns: &Columns) -> Result<Row, StoreFault>
     ensures row { IfOk result (IsRowWith table columns.now) }
     ensures damaged { result ≡ Err StoreFault.Damaged → IsNoRow table (drop 1 columns.now) }
@@ -60,7 +60,7 @@ fn row_with(alloc: Global, table: Table, columns: &Columns) -> Result<Row, Store
     Ok(Row::of(table, cells))
 }
 
-/// The rows with these columns.
+/// Returns the rows with these columns.
 pub fn rows_with(alloc: Global, table: Table, all: &[Columns]) -> Result<Vec<Row>, StoreFault>
     ensures rows { IfOk result (λ rows. AreReadRows table all.now rows.items) }
     ensures damaged { result ≡ Err StoreFault.Damaged → (columns : Values) × Has all.now columns × IsNoRow table (drop 1 columns) }

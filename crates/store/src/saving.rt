@@ -26,7 +26,7 @@ use tables::fault::TableFault;
 use tables::ready::need_open;
 use tables::statements::{Entering, delete, delete_group, enter};
 
-/// The value of a cell.
+/// Returns the value of a cell.
 fn value(cell: &Cell) -> ValueRef<'_>
     ensures { bound_value (owned result) ≡ value_of cell.now }
 {

@@ -49,7 +49,7 @@ impl<S: Alter> Model for Store<S> {
     ghost view = { λ s. s.conn };
 }
 
-/// The empty office, of tables that are made.
+/// Makes the tables, and returns the empty office.
 fn open_new<S: Alter>(alloc: Global, conn: &mut Connection<S>) -> Result<Office, StoreFault>
     requires idle { conn.old.in_transaction ≡ false }
     requires none { HasNone (state S.Store conn.old).now.schema }
@@ -60,7 +60,7 @@ fn open_new<S: Alter>(alloc: Global, conn: &mut Connection<S>) -> Result<Office,
     Ok(Office::new(alloc))
 }
 
-/// The office of tables of the latest edition.
+/// Returns the office of tables of the latest edition.
 fn open_latest<S: Alter>(alloc: Global, conn: &mut Connection<S>) -> Result<Office, StoreFault>
     requires idle { conn.old.in_transaction ≡ false }
     requires whole { IsTrue (state S.Store conn.old).is_open → (state S.Store conn.old).now ≡ (state S.Store conn.old).committed }
@@ -73,7 +73,7 @@ fn open_latest<S: Alter>(alloc: Global, conn: &mut Connection<S>) -> Result<Offi
     Ok(read)
 }
 
-/// The office of tables of an earlier edition, which are raised.
+/// Returns the office of tables of an earlier edition, which are migrated.
 fn open_earlier<S: Alter>(
     alloc: Global,
     conn: &mut Connection<S>,
@@ -92,7 +92,7 @@ fn open_earlier<S: Alter>(
     Ok(raised)
 }
 
-/// The office of the tables, which are made where none of them is there.
+/// Returns the office of the tables, which are made where none of them is there.
 fn open_tables<S: Alter>(alloc: Global, conn: &mut Connection<S>) -> Result<Office, StoreFault>
     ensures opened { IfOk result (IsOpening S.Store conn.old conn.new) }
     ensures unopened { IfErr result (λ fault. IsLeftUnopened S.Store (fault ≡ StoreFault.Storage) (fault ≡ StoreFault.Damaged) conn.old conn.new) }

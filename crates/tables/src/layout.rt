@@ -20,7 +20,7 @@ use sqlite_schema::schema::{Column, Kind, Reference, Schema, Table as SchemaTabl
 use sqlite_value::keys::{Collation, Order};
 use sqlite_value::value::{Bytes, Value};
 
-/// The kind of a column that is told to have this one. BLOB is a kind in a STRICT table alone.
+/// Returns the kind of a column that is declared to have this one. BLOB is a kind in a STRICT table alone.
 fn kind_in(kind: Kind, is_strict: bool) -> Kind
     ensures { result ≡ kind_in kind is_strict }
 {
@@ -164,7 +164,7 @@ fn position_of(schema: &Schema, name: &str) -> Option<usize>
         .position(|table| same_name(table.name.as_slice(), name.as_bytes()))
 }
 
-/// The first table of this name, but for the case of its letters.
+/// Returns the first table of this name, but for the case of its letters.
 fn find_table<'a>(schema: &'a Schema, name: &str) -> Option<&'a SchemaTable>
     ensures some { IfSome result (λ table. IsTableNamed schema.now name.now table.now) }
     ensures none { result ≡ None → (at : ℕ) (table : AnyTable) → table_named schema.now name.now ≡ Some at → slice_get schema.now.tables at ≡ Some table → ⊥ }
@@ -202,7 +202,7 @@ pub fn has_table(schema: &Schema, table: Table) -> bool
     position_of(schema, name).is_some() || is_kept(schema, name)
 }
 
-/// The tree of the table, where it is listed as it is made here, STRICT or not, and with references that may name no column.
+/// Returns the tree of the table, where it is listed as it is made here, STRICT or not, and with references that may name no column.
 pub fn tree_of(schema: &Schema, table: Table) -> Option<u32>
     ensures some { IfSome result (IsListed (table_at table) schema.now) }
     ensures none { result ≡ None → IsUnlisted (table_at table) schema.now }

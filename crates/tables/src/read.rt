@@ -17,7 +17,7 @@ use sqlite_value::order::compare;
 use sqlite_value::value::ValueRef;
 use std::cmp::Ordering;
 
-/// The rowid of a row that a query shows after it.
+/// Returns the rowid of a row that a query shows after it.
 fn id_of(row: &Row) -> ValueRef<'_>
     ensures { owned result ≡ rowid row.now }
 {
@@ -84,7 +84,7 @@ fn put_in_order(rows: &mut Vec<Row>)
     rows.sort_unstable_by(by_rowid);
 }
 
-/// The rows that a query shows, each after its rowid, in the order of these.
+/// Reads the rows that a query shows, each after its rowid, in the order of these.
 pub(crate) fn read_text<S: Alter>(
     conn: &mut Connection<S>,
     sql: &str,

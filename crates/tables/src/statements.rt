@@ -102,7 +102,7 @@ pub fn delete_group<S: Alter>(
     Ok(())
 }
 
-/// Each row of the table, after its rowid.
+/// Reads each row of the table, after its rowid.
 pub fn read<S: Alter>(conn: &mut Connection<S>, table: Table) -> Result<Vec<Row>, TableFault>
     ensures rows { HasCleanDisk (state S.Store conn.new) → IfOk result (λ rows. Shows (table_at table) rows.items (state S.Store conn.old) (state S.Store conn.new)) }
     ensures rests { HasCleanDisk (state S.Store conn.new) → Rests (state S.Store conn.old) (state S.Store conn.new) }

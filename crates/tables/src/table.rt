@@ -195,7 +195,7 @@ pub enum Group {
 }
 
 impl Group {
-    /// The text that takes such rows out of their table.
+    /// Returns the text that takes such rows out of their table.
     pub(crate) fn removal(self) -> &'static str
         ensures { result.now ≡ (sharing self).removal }
     {
@@ -206,7 +206,7 @@ impl Group {
     }
 }
 
-/// How many columns the table has.
+/// Returns how many columns the table has.
 pub fn width(table: Table) -> usize
     ensures { result ≡ length (kinds_of table) }
 {
@@ -219,7 +219,7 @@ pub(crate) trait Shaped {
 }
 
 impl Shaped for Table {
-    /// What the table is, and what its statements say.
+    /// Returns what the table is, and what its statements say.
     fn shape(self) -> &'static Shape
         ensures shape { told_by result.now ≡ shape_of self }
         ensures texts { texts_by result.now ≡ sql_of self }

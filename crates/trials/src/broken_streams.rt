@@ -78,7 +78,7 @@ static STREAMS: [Play; 11] = [
     &[(&[Stream { name: "a body above the limit", bytes: (b"PUT /students/S1 HTTP/1.1\r\nContent-Length: 65537\r\n\r\nGET / HTTP/1.1\r\n\r\n", 1000), pieces: (1000, 1000), broken: None, room: (100_000, None), written: (b"HTTP/1.1 413 Payload Too Large\r\nContent-Type: application/json\r\nContent-Length: 31\r\n\r\n{\"fault\":\"TooLarge\",\"number\":4}", 1000), result: Ok(Served { answered: 1, end: End::TooLarge }) }, Stream { name: "two lengths", bytes: (b"PUT /students/S1 HTTP/1.1\r\nContent-Length: 14\r\nContent-Length: 14\r\n\r\n{}", 1000), pieces: (1000, 1000), broken: None, room: (100_000, None), written: (b"HTTP/1.1 400 Bad Request\r\nContent-Type: application/json\r\nContent-Length: 30\r\n\r\n{\"fault\":\"BadHead\",\"number\":3}", 1000), result: Ok(Served { answered: 1, end: End::BadHead }) }], NONE)],
 ];
 
-/// The first bytes, and the others.
+/// Returns the first bytes, and the others.
 fn parted_at((bytes, count): (&[u8], usize)) -> (&[u8], &[u8]) {
     bytes.split_at(count.min(bytes.len()))
 }

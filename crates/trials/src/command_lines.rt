@@ -11,7 +11,7 @@ use std::test::Fail;
 use std::{fs, io};
 use web::Watched;
 
-/// A writer that takes no byte.
+/// Returns a writer that takes no byte.
 fn shut(alloc: Global) -> Narrow {
     Narrow::new(Vec::new(alloc), 0, Some(io::ErrorKind::BrokenPipe))
 }

@@ -15,21 +15,21 @@ use web::{Watched, serve_on};
 const PUTS: &str =
     "PUT /students/S1 HTTP/1.1\r\nContent-Length: 14\r\n\r\n{\"name\":\"Ann\"}PUT /students/S2 HTTP/1.1\r\nContent-Length: 14\r\n\r\n{\"name\":\"Bob\"}";
 
-/// A client that has sent these bytes, and may send more.
+/// Returns a client that has sent these bytes, and may send more.
 fn open_client(rt: &HostRuntime, port: u16, bytes: &str) -> Result<TcpStream, Fail> {
     let mut stream = TcpStream::connect(rt, (Ipv4Addr::LOCALHOST, port))?;
     stream.write_all(bytes.as_bytes())?;
     Ok(stream)
 }
 
-/// A client that has sent these bytes and no more.
+/// Returns a client that has sent these bytes and no more.
 fn client(rt: &HostRuntime, port: u16, bytes: &str) -> Result<TcpStream, Fail> {
     let stream = open_client(rt, port, bytes)?;
     stream.shutdown(Shutdown::Write)?;
     Ok(stream)
 }
 
-/// The clients that send these texts, each of which waits in the listener's queue until it is served.
+/// Returns the clients that send these texts, each of which waits in the listener's queue until it is served.
 fn clients(rt: &HostRuntime, port: u16, texts: &[String]) -> Result<Vec<TcpStream>, Fail> {
     let mut clients = Vec::new(rt.alloc());
     for text in texts {
@@ -38,7 +38,7 @@ fn clients(rt: &HostRuntime, port: u16, texts: &[String]) -> Result<Vec<TcpStrea
     Ok(clients)
 }
 
-/// What each client was answered.
+/// Returns what each client was answered.
 fn answers(rt: &HostRuntime, clients: &mut [TcpStream]) -> Result<Vec<Vec<u8>>, Fail> {
     let mut all = Vec::new(rt.alloc());
     for client in clients {

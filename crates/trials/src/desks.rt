@@ -9,7 +9,7 @@ use std::alloc::Global;
 use std::rt::HostRuntime;
 use std::test::Fail;
 
-/// The request that reads a student.
+/// Returns the request that reads a student.
 fn get_student(alloc: Global, code: &str) -> Result<Request, Fail> {
     let code = Text::of(alloc, code)?;
     Ok(Request::Plain(Plain::GetStudent { code }))
@@ -23,7 +23,7 @@ fn is_named(answer: &Result<Reply, Refusal>, name: &str) -> bool {
     }
 }
 
-/// A student is put and read, and another is not known.
+/// Returns requests by which a student is put and read, and another is not known.
 fn requests(alloc: Global) -> Result<Vec<Request>, Fail> {
     let mut requests = Vec::new(alloc);
     requests.push(put_student(alloc, "S1", "Ann")?)?;

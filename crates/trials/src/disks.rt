@@ -32,7 +32,7 @@ fn is_put<S: Alter>(alloc: Global, desk: &mut Desk<S>) -> Result<bool, Fail> {
     }
 }
 
-/// The same at a desk over this database, which is handed back. There is no desk where the calls are too few to open it.
+/// Does the same at a desk over this database, which is handed back. There is no desk where the calls are too few to open it.
 pub(crate) fn is_put_over<S: Alter + Drop>(
     alloc: Global,
     connection: Connection<S>,

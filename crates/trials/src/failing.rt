@@ -83,7 +83,7 @@ fn may_be_left(start: &Start, found: &Kept, is_made: bool) -> bool {
     !is_made && is_old && found.after == start.old.after
 }
 
-/// The files with these bytes are those of the office after the request, or, where it was not made, of that before.
+/// Finds that the files with these bytes are those of the office after the request, or, where it was not made, of that before.
 fn find(alloc: Global, bytes: &Bytes, start: &Start, is_made: bool) -> Result<(), Fail> {
     let is_found = if are_same(bytes, &start.bytes) {
         // These were opened at the start.
@@ -138,7 +138,7 @@ fn sweep_both(alloc: Global, row: Row) -> Result<(), Fail> {
     sweep(alloc, &start, row, false)
 }
 
-/// The same of each row.
+/// Does the same with each row.
 fn sweep_rows(alloc: Global, rows: &[Row]) -> Result<(), Fail> {
     for row in rows {
         sweep_both(alloc, *row)?;

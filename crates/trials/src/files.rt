@@ -84,7 +84,7 @@ impl Came {
     }
 }
 
-/// A file in memory that holds these bytes.
+/// Returns a file in memory that holds these bytes.
 fn file_of(alloc: Global, bytes: &[u8]) -> Result<Memory, Fail>
     ensures { IfOk result (λ file. IsTrue (memory_is_usable file)) }
 {
@@ -110,7 +110,7 @@ pub(crate) fn do_in(
     do_with(alloc, files, frames, deed)
 }
 
-/// The same at the database of these files.
+/// Does the same at the database of these files.
 fn do_with<D: Disk + Drop>(
     alloc: Global,
     files: Files<D>,
@@ -164,7 +164,7 @@ fn do_over<S: Alter + Drop>(
     }
 }
 
-/// The bytes that stand in the files.
+/// Returns the bytes that stand in the files.
 pub(crate) fn bytes_of(alloc: Global, files: &Files<Fuse<Memory>>) -> Result<Bytes, Fail> {
     let log = Vec::from_slice(alloc, files.log.inner().bytes())?;
     let db = Vec::from_slice(alloc, files.db.inner().bytes())?;
@@ -189,7 +189,7 @@ fn is_made<S: Alter>(alloc: Global, desk: &mut Desk<S>, row: Row) -> Result<bool
     is_made_once(alloc, desk, row.2)
 }
 
-/// The same at the desk over a database, which is handed back.
+/// Does the same at the desk over a database, which is handed back.
 fn is_made_over<S: Alter + Drop>(
     alloc: Global,
     connection: Connection<S>,
@@ -219,7 +219,7 @@ fn kept_after<S: Alter + Drop>(
     Ok((Kept { stood, after }, connection))
 }
 
-/// The same of the files that hold these bytes.
+/// Does the same with the files that hold these bytes.
 pub(crate) fn kept_in(alloc: Global, bytes: &Bytes, lines: &'static str) -> Result<Kept, Fail> {
     let (came, _files) = do_in(alloc, bytes, ALL, 1_000, Deed::Keep(lines))?;
     if let Some(came) = came {
@@ -251,7 +251,7 @@ fn fill<S: Alter + Drop>(
     Ok(connection)
 }
 
-/// The files of a database that was filled, where each change is copied into the database file at the next one, so that the log is
+/// Returns the files of a database that was filled, where each change is copied into the database file at the next one, so that the log is
 /// short, or all stand in the log.
 pub(crate) fn filled(alloc: Global, before: Before, is_copied: bool) -> Result<Bytes, Fail> {
     let empty = empty(alloc);

@@ -9,7 +9,7 @@ use std::rt::HostRuntime;
 use std::test::Fail;
 use store::Store;
 
-/// The request that puts a student.
+/// Returns the request that puts a student.
 fn put_student(alloc: Global) -> Result<Plain, Fail> {
     Ok(Plain::PutStudent {
         code: Text::of(alloc, "S1")?,
@@ -17,7 +17,7 @@ fn put_student(alloc: Global) -> Result<Plain, Fail> {
     })
 }
 
-/// The request that takes the student's list away.
+/// Returns the request that takes the student's list away.
 fn drop_list(alloc: Global) -> Result<Plain, Fail> {
     Ok(Plain::DropList {
         student: Text::of(alloc, "S1")?,

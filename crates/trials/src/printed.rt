@@ -14,7 +14,7 @@ pub(crate) struct Printed {
     pub status: u8,
 }
 
-/// These words, parted by spaces.
+/// Returns these words, parted by spaces.
 pub(crate) fn parted(rt: &HostRuntime, words: &str) -> Result<Vec<String>, Fail> {
     let mut list = Vec::new(rt.alloc());
     for word in words.split(' ') {
@@ -69,7 +69,7 @@ fn print_row(rt: &HostRuntime, row: &str) -> Result<(), Fail> {
     holds(is_printed, row)
 }
 
-/// The same of each row in turn.
+/// Does the same with each row, in order.
 pub(crate) fn print_rows(rt: &HostRuntime, rows: &str) -> Result<(), Fail> {
     for row in rows.lines() {
         print_row(rt, row)?;

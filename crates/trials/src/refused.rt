@@ -97,7 +97,7 @@ struct Allowed {
     kept: String,
 }
 
-/// The desk over a database at which these rows were played.
+/// Returns the desk over a database at which these rows were played.
 fn desk_of<S: Alter + Drop>(
     alloc: Global,
     connection: Connection<S>,
@@ -108,7 +108,7 @@ fn desk_of<S: Alter + Drop>(
     Ok(desk)
 }
 
-/// What is written when these requests are asked, but those that have a bit in `refused`, which are refused for want of memory.
+/// Returns what is written when these requests are asked, but those that have a bit in `refused`, which are refused as out of memory.
 fn written_without<S: Alter>(
     alloc: Global,
     desk: &mut Desk<S>,
@@ -129,7 +129,7 @@ fn written_without<S: Alter>(
     Ok(written)
 }
 
-/// What comes of a row where these requests are refused, so as if they were not asked.
+/// Returns what comes of a row where these requests are refused, so as if they were not asked.
 fn played_without<S: Alter + Drop>(
     alloc: Global,
     connection: Connection<S>,
@@ -142,7 +142,7 @@ fn played_without<S: Alter + Drop>(
     Ok(Allowed { written, kept })
 }
 
-/// What may come of a row: first where nothing is refused, last where each request is.
+/// Returns what may come of a row: first where nothing is refused, last where each request is.
 fn all_allowed(alloc: Global, row: Row) -> Result<Vec<Allowed>, Fail> {
     let mut count = 1u32;
     for _line in row.1.lines() {
@@ -225,7 +225,7 @@ fn ask_again<S: Alter>(
     Ok(())
 }
 
-/// The same at a desk of its own, whose tables keep what they do where nothing is refused.
+/// Does the same at a desk of its own, whose tables keep what they do where nothing is refused.
 fn run_again<S: Alter + Drop>(
     alloc: Global,
     connection: Connection<S>,
@@ -280,7 +280,7 @@ fn open_once<S: Alter + Drop>(
     }
 }
 
-/// The same over filled tables, with those of an edition made of them; then a desk is opened over them. Whether that request came.
+/// Does the same over filled tables, with those of an edition made of them; then a desk is opened over them. Whether that request came.
 fn open<S: Alter + Drop>(
     alloc: Global,
     connection: Connection<S>,

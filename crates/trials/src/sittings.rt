@@ -24,7 +24,7 @@ const SECOND: &str = r#"PUT /lists/C | {"choices":["Z","P"]} | 200 OK | {"ok":tr
 
 const PREVIEW: &str = r#"GET /preview || 200 OK | {"profile":[0,2,0,0^,],"size":2}"#;
 
-/// The relaxations of the session that is kept after these lines.
+/// Returns the relaxations of the session that is kept after these lines.
 fn steps_after<S: Alter>(alloc: Global, desk: &mut Desk<S>, lines: &str) -> Result<u64, Fail> {
     play_lines(alloc, desk, lines)?;
     let steps = desk.session_steps();

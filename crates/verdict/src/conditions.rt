@@ -80,7 +80,7 @@ pub struct Proved {
     pub prices: Prices,
 }
 
-/// The matching with the prices, if they prove it best by the aim, whoever made them. Takes no memory.
+/// Returns the matching with the prices, if they prove it best by the aim, whoever made them. Allocates nothing.
 pub fn accept(instance: &Instance, aim: Aim, matching: Matching, prices: Prices) -> Option<Proved>
     ensures proved { IfSome result (λ s. IsProvedBest (order aim) instance.now.shape s.matching.places.items s.prices) }
     ensures best { IfSome result (λ s. IsBest aim instance.now.shape (pairs instance.now.shape s.matching.places.items)) }

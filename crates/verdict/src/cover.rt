@@ -13,7 +13,7 @@ ghost use Rattle.verdict.specs.Inside.Cover.{IsListCovered, IsFirstPlace};
 use crate::prices::Prices;
 use spa::{Aim, Instance, PLACES, list_law, precedes};
 
-/// What three prices come to together.
+/// Returns what three prices come to together.
 fn paid(
     student: &[i64; PLACES],
     project: &[i64; PLACES],
@@ -31,7 +31,7 @@ fn paid(
     paid
 }
 
-/// What a pair of this rank weighs.
+/// Returns what a pair of this rank weighs.
 fn weight_of(rank: usize) -> [i64; PLACES]
     requires first { 1 ≤ rank }
     requires last { rank < PLACES }
@@ -67,7 +67,7 @@ fn is_uncovered(
     precedes(aim, &paid, &weight_of(place))
 }
 
-/// The first place of the student's list that the prices do not cover.
+/// Returns the first place of the student's list that the prices do not cover.
 fn first_uncovered_place(
     instance: &Instance,
     aim: Aim,
@@ -88,7 +88,7 @@ fn first_uncovered_place(
     None
 }
 
-/// The first student, and the first place of the list, that the prices do not cover.
+/// Returns the first student, and the first place of the list, that the prices do not cover.
 pub(crate) fn first_uncovered(
     instance: &Instance,
     aim: Aim,

@@ -44,7 +44,7 @@ fn are_in_range(prices: &[[i64; PLACES]]) -> bool
     true
 }
 
-/// The price of nothing: zero.
+/// Returns the price of nothing: zero.
 fn nothing() -> [i64; PLACES]
     ensures { at result ≡ none }
 {

@@ -22,7 +22,7 @@ use wire::{End, Served, ShortText, Sink, StreamFault, Watched, write_all};
 #[derive(Clone, Copy, Drop)]
 pub struct OutFault;
 
-/// The word for the end of a stream.
+/// Returns the word for the end of a stream.
 fn end_word(end: End) -> &'static [u8]
     ensures word { result.now ≡ end_word end }
     ensures len { length result.now ≤ 10 }
@@ -54,7 +54,7 @@ fn push_told(out: &mut ShortText, came: &Result<Served, StreamFault>)
     }
 }
 
-/// The line of the connection with this number. Takes no memory.
+/// Returns the line of the connection with this number. Allocates nothing.
 fn connection_line(number: u32, came: &Result<Served, StreamFault>) -> ShortText
     ensures { result.items ≡ connection_line number came.now }
 {

@@ -18,7 +18,7 @@ struct Clerk {
     routes: Routes,
 }
 
-/// The refusal of an end that is answered.
+/// Returns the refusal of an end that is answered.
 fn refusal_at(end: End) -> Refusal
     ensures { result ≡ refusal_at end }
 {

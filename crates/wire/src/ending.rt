@@ -11,7 +11,7 @@ use crate::outcome::{End, Served, StreamFault};
 use crate::writing::write_all;
 use arrayvec::ArrayVec;
 
-/// The refusal that ends a stream, or nothing.
+/// Returns the refusal that ends a stream, or nothing.
 fn last_answer<D, H: Handler<D>>(handler: &H, end: End) -> Answer
     ensures { answer_bytes result ≡ last_words H.refusal end }
 {
@@ -21,7 +21,7 @@ fn last_answer<D, H: Handler<D>>(handler: &H, end: End) -> Answer
     }
 }
 
-/// How many answers that is.
+/// Returns how many answers that is.
 fn last_count(end: End) -> u32
     ensures { result ≡ last_count end }
 {

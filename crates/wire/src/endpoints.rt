@@ -68,7 +68,7 @@ impl<T> Watched<T> {
         }
     }
 
-    /// How many calls failed.
+    /// Returns how many calls failed.
     pub fn failures(&self) -> u64
         ensures { result ≡ failures_of self.now }
     {

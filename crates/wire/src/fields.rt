@@ -51,7 +51,7 @@ fn is_number(value: &[u8]) -> bool
     !value.is_empty()
 }
 
-/// The number, as far as it can be a length.
+/// Returns the number, as far as it can be a length.
 fn saturated(value: &[u8]) -> u64
     requires { IsTrue (is_number value.now) }
     ensures { result ≡ min (digits_value 10 value.now) (MOST_BODY_BYTES + 1) }
@@ -63,7 +63,7 @@ fn saturated(value: &[u8]) -> u64
     total
 }
 
-/// What the value of a field `Content-Length` says.
+/// Returns what the value of a field `Content-Length` says.
 fn length_of(value: &[u8]) -> Framing
     ensures value { result ≡ length_of value.now }
     ensures small { IsShort result }
@@ -78,7 +78,7 @@ fn length_of(value: &[u8]) -> Framing
     Framing::Length(number as usize)
 }
 
-/// What the fields `Content-Length` say. Two of them are refused, even if they agree, as RFC 9112, section 6.3, lets a server do.
+/// Returns what the fields `Content-Length` say. Two of them are refused, even if they agree, as RFC 9112, section 6.3, lets a server do.
 fn framing_by_lengths(buf: &[u8], headers: &[HeaderSpan]) -> Framing
     requires { All (IsHeaderWithin (length buf.now)) headers.now }
     ensures value { result ≡ framing_by (lengths (map (header_bytes buf.now) headers.now)) }
@@ -99,8 +99,8 @@ fn framing_by_lengths(buf: &[u8], headers: &[HeaderSpan]) -> Framing
     }
 }
 
-/// What a head of this version and these headers says of its body, as RFC 9112, section 6.3, has it. `Transfer-Encoding` is not read
-/// here: a head with it is refused.
+/// Returns what a head of this version and these headers says of its body, as RFC 9112, section 6.3, has it. `Transfer-Encoding` is not
+/// read here: a head with it is refused.
 pub fn framing_of(buf: &[u8], minor: u8, headers: &[HeaderSpan]) -> Framing
     requires { All (IsHeaderWithin (length buf.now)) headers.now }
     ensures value { result ≡ framing_of minor (map (header_bytes buf.now) headers.now) }

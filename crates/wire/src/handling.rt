@@ -18,7 +18,7 @@ pub enum Answer {
 }
 
 impl Answer {
-    /// Its bytes.
+    /// Returns its bytes.
     pub fn as_slice(&self) -> &[u8]
         ensures { result.now ≡ answer_bytes self.now }
     {
@@ -44,7 +44,7 @@ pub trait Handler<D> {
         ensures step { step desk.old (record { method = method.now; target = target.now; body = body.now })
             (answer_bytes result) desk.new };
 
-    /// What is written where a bad head, or a message above its limits, ends the stream.
+    /// Returns what is written where a bad head, or a message above its limits, ends the stream.
     fn refuse(&self, end: End) -> Answer
         ensures { answer_bytes result ≡ refusal end };
 }

@@ -50,7 +50,7 @@ fn serve_one<D, H: Handler<D>, W: Sink>(
     Ok(())
 }
 
-/// One turn: reads on, and answers a message, or says why there is none.
+/// Runs one iteration: reads on, and answers a message, or says why there is none.
 fn turn<D, H: Handler<D>, R: Source, W: Sink>(
     handler: &H,
     desk: &mut D,

@@ -43,7 +43,7 @@ impl Model for Window {
 }
 
 impl Window {
-    /// A window in which nothing stands.
+    /// Creates a window in which nothing stands.
     pub fn new(alloc: Global) -> Result<Window, AllocError>
         ensures { IfOk result (λ window. window ≡ []) }
     {
@@ -53,7 +53,7 @@ impl Window {
         })
     }
 
-    /// The bytes.
+    /// Returns the bytes.
     pub fn bytes(&self) -> &[u8]
         ensures { result.now ≡ self.now }
     {
@@ -70,7 +70,7 @@ impl Window {
         self.bytes.truncate(kept);
     }
 
-    /// What stands at the front of what has come.
+    /// Returns what stands at the front of what has come.
     fn front(&mut self) -> Judgement
         ensures front { Judges self.old result }
         ensures same { self.new ≡ self.old }
@@ -100,7 +100,7 @@ impl Window {
         }
     }
 
-    /// What stands at the front, after one read where that is open.
+    /// Returns what stands at the front, after one read where that is open.
     fn read_on<R: Source>(&mut self, reader: &mut R) -> Result<Option<Next>, StreamFault>
         requires failures { R.failures reader.old < 2 ^ 64 - 1 }
         requires open { R.ended reader.old ≡ false }

@@ -18,7 +18,7 @@ use spa::{Instance, Matching};
 use std::alloc::AllocError;
 
 impl Office {
-    /// The instance of a round: the supervisors and projects with what the rounds up to one left of their quotas, or all rounds
+    /// Returns the instance of a round: the supervisors and projects with what the rounds up to one left of their quotas, or all rounds
     /// where none is named, and the students with a list in it.
     fn instance_left(&self, up_to: Option<u32>, round: u32) -> Result<Instance, AllocError>
         ensures { let o = self.now in IfOk result (λ instance. instance_of instance ≡ instance_left (count_with up_to o.projects o.placements) (count_in up_to o.placements) o round) }
@@ -33,7 +33,7 @@ impl Office {
         )
     }
 
-    /// The instance of a round, open or closed: the supervisors and projects with what the rounds before it left of their
+    /// Returns the instance of a round, open or closed: the supervisors and projects with what the rounds before it left of their
     /// quotas, and the students with a list in it.
     pub fn instance_of_round(&self, round: u32) -> Result<Instance, AllocError>
         ensures instance { IfOk result (λ instance. instance_of instance ≡ instance_of_round self.now round) }
@@ -41,7 +41,7 @@ impl Office {
         self.instance_left(Some(round.saturating_sub(1)), round)
     }
 
-    /// The instance of the open round: the supervisors and projects with what is left of their quotas, and the students
+    /// Returns the instance of the open round: the supervisors and projects with what is left of their quotas, and the students
     /// with a list in it.
     pub fn instance(&self) -> Result<Instance, AllocError>
         requires open { IsTrue (round_is_open self.now) }

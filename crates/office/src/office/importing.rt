@@ -21,7 +21,7 @@ use std::alloc::AllocError;
 use std::mem;
 
 impl Office {
-    /// How many rows the import of an id has, if there is one. Takes no memory.
+    /// Returns how many rows the import of an id has, if there is one. Allocates nothing.
     pub fn kept_rows(&self, id: &str) -> Option<u32>
         ensures { result ≡ kept_rows self.now id.now }
     {
@@ -31,7 +31,7 @@ impl Office {
         }
     }
 
-    /// Why an import can't be made, whatever its text is.
+    /// Returns why an import can't be made, whatever its text is.
     pub(crate) fn import_refusal(&self, id: &str, kind: ImportKind, bytes: &[u8]) -> Option<Refusal>
         ensures { result ≡ first (import_tests self.now id.now kind bytes.now) }
     {

@@ -13,7 +13,7 @@ use spa::{
 };
 
 impl Office {
-    /// Why a supervisor can't be put.
+    /// Returns why a supervisor can't be put.
     pub(crate) fn supervisor_refusal(&self, code: &str, label: &str, quota: u32) -> Option<Refusal>
         ensures { result ≡ plain_refusal self.now (ask.PutSupervisor code.now label.now quota) }
     {
@@ -37,7 +37,7 @@ impl Office {
         None
     }
 
-    /// Why a project can't be put.
+    /// Returns why a project can't be put.
     pub(crate) fn project_refusal(
         &self,
         code: &str,
@@ -74,7 +74,7 @@ impl Office {
         None
     }
 
-    /// Why a student can't be put.
+    /// Returns why a student can't be put.
     pub(crate) fn student_refusal(&self, code: &str, label: &str) -> Option<Refusal>
         ensures { result ≡ plain_refusal self.now (ask.PutStudent code.now label.now) }
     {
@@ -100,7 +100,7 @@ impl Office {
         }
     }
 
-    /// Why a round can't be opened.
+    /// Returns why a round can't be opened.
     pub(crate) fn opening_refusal(&self) -> Option<Refusal>
         ensures { result ≡ first (opening_tests self.now) }
     {
@@ -113,7 +113,7 @@ impl Office {
         None
     }
 
-    /// Why the last round can't be reopened.
+    /// Returns why the last round can't be reopened.
     pub(crate) fn reopening_refusal(&self) -> Option<Refusal>
         ensures { result ≡ plain_refusal self.now ask.ReopenRound }
     {
@@ -126,7 +126,7 @@ impl Office {
         None
     }
 
-    /// Why nothing can be asked of the open round.
+    /// Returns why nothing can be asked of the open round.
     pub(crate) fn open_refusal(&self) -> Option<Refusal>
         ensures { result ≡ first (open_tests self.now) }
     {
@@ -136,7 +136,7 @@ impl Office {
         None
     }
 
-    /// Why a list can't be put.
+    /// Returns why a list can't be put.
     pub(crate) fn list_refusal(&self, student: &str, choices: &[Text]) -> Option<Refusal>
         ensures { result ≡ plain_refusal self.now (ask.PutList student.now choices.now) }
     {
@@ -155,7 +155,7 @@ impl Office {
         self.choice_refusal(choices)
     }
 
-    /// Why choices can't be put: the first of them that is unknown or repeated.
+    /// Returns why choices can't be put: the first of them that is unknown or repeated.
     fn choice_refusal(&self, choices: &[Text]) -> Option<Refusal>
         ensures { result ≡ first (choice_tests self.now [] choices.now) }
     {
@@ -171,7 +171,7 @@ impl Office {
         None
     }
 
-    /// Why a list can't be dropped.
+    /// Returns why a list can't be dropped.
     pub(crate) fn drop_refusal(&self, student: &str) -> Option<Refusal>
         ensures { result ≡ plain_refusal self.now (ask.DropList student.now) }
     {

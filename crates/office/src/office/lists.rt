@@ -16,7 +16,7 @@ use std::alloc::AllocError;
 use step_laws::list_changes;
 
 impl Office {
-    /// The codes of projects on the roll.
+    /// Returns the codes of projects on the roll.
     fn codes_of(&self, texts: &[Text]) -> Result<Vec<Code>, AllocError>
         requires { AllByRecursion (λ p. IsTrue (has_project self.now p)) texts.now }
         ensures { IfOk result (λ codes. codes.items ≡ texts.now) }

@@ -10,21 +10,21 @@ use rolls::Placement;
 use spa::RANKS;
 
 impl Office {
-    /// The placements of all rounds, by the students' codes.
+    /// Returns the placements of all rounds, by the students' codes.
     pub fn placements(&self) -> &[Placement]
         ensures all { let o = self.now in result.now ≡ o.placements }
     {
         self.placements.entries()
     }
 
-    /// How many students all rounds placed with a supervisor: at most `spa::MOST_STUDENTS`.
+    /// Returns how many students all rounds placed with a supervisor: at most `spa::MOST_STUDENTS`.
     pub(crate) fn placed_with_supervisor(&self, code: &str) -> u32
         ensures { result ≡ placed_with_supervisor self.now code.now }
     {
         closing::placed_with_supervisor(&self.projects, self.placements.entries(), code) as u32
     }
 
-    /// How many students all rounds placed in a project: at most `spa::MOST_STUDENTS`.
+    /// Returns how many students all rounds placed in a project: at most `spa::MOST_STUDENTS`.
     pub(crate) fn placed_in_project(&self, code: &str) -> u32
         ensures { result ≡ placed_in_project self.now code.now }
     {
@@ -32,7 +32,7 @@ impl Office {
     }
 }
 
-/// How many of the placements a round made.
+/// Returns how many of the placements a round made.
 pub(crate) fn placed_by(placements: &[Placement], round: u32) -> usize
     ensures { result ≡ count_by (λ p. p.round == round) placements.now }
 {
@@ -42,7 +42,7 @@ pub(crate) fn placed_by(placements: &[Placement], round: u32) -> usize
         .count()
 }
 
-/// How many of them have a rank.
+/// Returns how many of them have a rank.
 fn placed_at(placements: &[Placement], round: u32, rank: u32) -> usize
     ensures { result ≡ count_by (λ p. (p.round == round) && (p.rank == rank)) placements.now }
 {
@@ -52,7 +52,7 @@ fn placed_at(placements: &[Placement], round: u32, rank: u32) -> usize
         .count()
 }
 
-/// How many of them have rank 1 and so on.
+/// Returns how many of them have rank 1 and so on.
 pub(crate) fn ranked(placements: &[Placement], round: u32) -> [u32; RANKS]
     requires few { length placements.now ≤ MOST_STUDENTS }
     ensures { result ≡ by_rank (λ k. count_by (λ p. (p.round == round) && (p.rank == k + 1)) placements.now) }

@@ -12,7 +12,7 @@ use rolls::{Choices, Placement, Reply};
 use std::alloc::AllocError;
 
 impl Office {
-    /// A supervisor, as answered.
+    /// Returns a supervisor, as answered.
     pub(crate) fn get_supervisor(&self, code: &str) -> Result<Reply, AllocError>
         requires allowed { plain_refusal self.now (ask.GetSupervisor code.now) ≡ None }
         ensures reply { IfOk result (λ reply. reply ≡ plain_reply (ask.GetSupervisor code.now) self.now) }
@@ -25,7 +25,7 @@ impl Office {
         })
     }
 
-    /// A project, as answered.
+    /// Returns a project, as answered.
     pub(crate) fn get_project(&self, code: &str) -> Result<Reply, AllocError>
         requires allowed { plain_refusal self.now (ask.GetProject code.now) ≡ None }
         ensures reply { IfOk result (λ reply. reply ≡ plain_reply (ask.GetProject code.now) self.now) }
@@ -39,7 +39,7 @@ impl Office {
         })
     }
 
-    /// The projects that a student lists in the open round, where there are such.
+    /// Returns the projects that a student lists in the open round, where there are such.
     fn open_choices(&self, student: &str) -> Result<Option<Choices>, AllocError>
         ensures { IfOk result (λ choices. choices ≡ open_choices self.now student.now) }
     {
@@ -52,7 +52,7 @@ impl Office {
         }
     }
 
-    /// Where a student is placed.
+    /// Returns where a student is placed.
     fn placement_of(&self, student: &str) -> Option<Placement>
         ensures { result ≡ placement_of self.now student.now }
     {
@@ -62,7 +62,7 @@ impl Office {
         }
     }
 
-    /// A student, as answered.
+    /// Returns a student, as answered.
     pub(crate) fn get_student(&self, code: &str) -> Result<Reply, AllocError>
         requires allowed { plain_refusal self.now (ask.GetStudent code.now) ≡ None }
         ensures reply { IfOk result (λ reply. reply ≡ plain_reply (ask.GetStudent code.now) self.now) }
@@ -75,7 +75,7 @@ impl Office {
         })
     }
 
-    /// A round, as answered.
+    /// Returns a round, as answered.
     pub(crate) fn get_round(&self, round: u32) -> Reply
         requires allowed { plain_refusal self.now (ask.GetRound round) ≡ None }
         ensures reply { result ≡ plain_reply (ask.GetRound round) self.now }

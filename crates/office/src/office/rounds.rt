@@ -15,14 +15,14 @@ use std::alloc::AllocError;
 use step_laws::{kept_placements, opening_changes, reopening_changes};
 
 impl Office {
-    /// The rounds, by number.
+    /// Returns the rounds, by number.
     pub fn rounds(&self) -> &[Round]
         ensures all { let o = self.now in result.now ≡ o.rounds }
     {
         self.rounds.entries()
     }
 
-    /// The lists of a round, by the students' codes; none where there is no such round.
+    /// Returns the lists of a round, by the students' codes; none where there is no such round.
     pub fn lists(&self, round: u32) -> &[Listed]
         ensures all { result.now ≡ lists_of self.now round }
     {
@@ -32,7 +32,7 @@ impl Office {
         }
     }
 
-    /// The number of the last round, 0 where there is none.
+    /// Returns the number of the last round, 0 where there is none.
     pub fn last_round(&self) -> u32
         ensures { result ≡ last_round self.now }
     {
@@ -50,7 +50,7 @@ impl Office {
         }
     }
 
-    /// A student's list in a round.
+    /// Returns a student's list in a round.
     pub fn list_of(&self, round: u32, student: &str) -> Option<&Listed>
         ensures { option_copied result ≡ list_of self.now round student.now }
     {
@@ -60,7 +60,7 @@ impl Office {
         }
     }
 
-    /// The last round. Its lists are shared.
+    /// Returns the last round. Its lists are shared.
     pub(crate) fn last(&self) -> Result<Round, AllocError>
         requires found { is_some (round_of self.now (last_round self.now)) ≡ true }
         ensures last { IfOk result (λ last. round_of self.now (last_round self.now) ≡ Some last) }
@@ -71,7 +71,7 @@ impl Office {
             .duplicate(self.alloc)
     }
 
-    /// The aim of a round; greedy where there is no such round.
+    /// Returns the aim of a round; greedy where there is no such round.
     pub fn aim_of(&self, round: u32) -> Aim
         ensures aim { result ≡ aim_of self.now round }
     {
@@ -81,14 +81,14 @@ impl Office {
         }
     }
 
-    /// The aim of the last round; greedy where there is none.
+    /// Returns the aim of the last round; greedy where there is none.
     pub fn last_aim(&self) -> Aim
         ensures aim { result ≡ aim_of self.now (last_round self.now) }
     {
         self.aim_of(self.last_round())
     }
 
-    /// The aims of the rounds, with one more.
+    /// Returns the aims of the rounds, with one more.
     fn aims_with(&self, round: u32, aim: Aim) -> Result<Entries<RoundAim>, AllocError>
         ensures put { let o = self.now in IfOk result (λ aims. aims ≡ put aim_key (record { round = round; aim = aim }) o.aims) }
     {
