@@ -42,7 +42,7 @@ is_put (Ok s) methods old new (Ok u) fresh h = h.1
 is_put (Ok s) methods old new (Err e) fresh h = tt
 is_put (Err e) methods old new result fresh h = absurd (let f : false ≡ true = fresh in cc)
 
--- and is refused for want of memory alone
+-- and is refused only where memory runs out
 pub is_memory : (read : Result Scan InsertError) (methods : Methods) (old new : RowsOf (RouteOf Methods)) (result : Result (Unit {0}) InsertError)
     → is_new read old ≡ true → InsertsRead read methods old new result → IfErr result (λ e. e ≡ OutOfMemory)
 is_memory (Ok s) methods old new (Ok u) fresh h = tt

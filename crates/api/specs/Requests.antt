@@ -96,7 +96,7 @@ keeps_code call.Preview = false
 keeps_code call.RoundText = false
 keeps_code (call.Report kind) = false
 
--- whether it takes memory to read what a body asks: members, the text of an import and a code do, and a body where none belongs does not
+-- whether reading what a body asks allocates: members, the text of an import and a code do, and a body where none belongs does not
 abbrev pub takes_memory : Form → List ℕ → Bool
 takes_memory (Empty what) [] = keeps_code what
 takes_memory (Empty what) (b ∷ body) = false
@@ -110,13 +110,13 @@ abbrev pub asked_takes_memory : Option Form → List ℕ → Bool
 asked_takes_memory None body = false
 asked_takes_memory (Some form) body = takes_memory form body
 
--- it takes memory to read what a message asks
+-- reading what a message asks allocates
 pub record TakesMemory (said : MessageText) : Type 0 where
   pub methods : Methods
   pub values : List (List ℕ)
   pub path : NamesRoute said.target methods values
   pub takes : IsTrue (asked_takes_memory (by_method methods said.method) said.body)
 
--- what is read of a message: what it asks, or refusal 1 where it takes memory to read it
+-- what is read of a message: what it asks, or refusal 1 where reading it allocates
 abbrev pub IsReadAs : MessageText → Result Request Refusal → Type 0
 IsReadAs said read = Asks said read ⊎ (TakesMemory said × (read ≡ Err no.Memory))

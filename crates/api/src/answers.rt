@@ -1,4 +1,4 @@
-//! Answers in a fixed array, which take no memory.
+//! Answers in a fixed array, which allocate nothing.
 ghost use Rattle.std.specs.Prelude.{◌≡◌, ◌+◌, ◌≤◌, ◌++◌, length, decimal};
 ghost use Rattle.wire.specs.declared.TheConstants.{MOST_SHORT_TEXT, MOST_SHORT_BODY};
 ghost use Rattle.arrayvec.specs.ArrayVec.{array_vec_len};

@@ -2,7 +2,7 @@
 //!
 //! A message is routed by its path, judged by its method and its body, and becomes a request of the office;
 //! an answer of the office becomes a text of HTTP in JSON. The answer of a change and of every refusal is made
-//! in a fixed array, so a change that was made is never answered by a want of memory. Neither the desk nor the
+//! in a fixed array, so a change that was made is never answered as out of memory. Neither the desk nor the
 //! stream is known here.
 //!
 //! The words are in `specs/Routes.antt` (what a path names), `specs/Requests.antt` (what a message asks) and

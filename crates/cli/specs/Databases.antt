@@ -53,7 +53,7 @@ use Rattle.cli.specs.Outcomes.{IsUnreadFile, MayComeOf, OnFile, Outcome, ServesA
 abbrev pub WasClean : Seen → Seen → Type 0
 WasClean before after = HasCleanDisk after → HasCleanDisk before
 
--- the office that is opened of a database: the empty one where none of the tables is there, and else the one that they stand for in some edition
+-- the office that is opened of a database: the empty one where none of the tables is there, else that for which they stand in some edition
 abbrev pub IsOfficeOf : Database → State → Type 0
 IsOfficeOf db office = (HasNone db.schema × (office ≡ empty)) ⊎ ((e : Edition) × StandsIn e db office)
 
@@ -61,7 +61,7 @@ IsOfficeOf db office = (HasNone db.schema × (office ≡ empty)) ⊎ ((e : Editi
 abbrev pub IsFoundFor : Seen → Seen → State → Type 0
 IsFoundFor before after office = HasCleanDisk after → HasCleanDisk before × IsOfficeOf before.now office
 
--- why the office of a database is not opened: for want of memory, by a fault of the storage, or since its tables are damaged
+-- why the office of a database is not opened: out of memory, by a fault of the storage, or since its tables are damaged
 abbrev pub IsWhyUnopened : Refusal → Seen → Seen → Type 0
 IsWhyUnopened refusal before after =
     (refusal ≡ no.Memory)
@@ -119,7 +119,7 @@ module _ {S : Type 0} (ghosts : Ghosts S) where
   LeftBy done status first last =
       IsDone (TakesTo done) first last ⊎ ((status ≡ 1) × StaysSo (state ghosts first) (state ghosts last))
 
--- What comes of closing a database file: the last commit is in the file alone, or there was no memory or the disk failed, and the two
+-- What comes of closing a database file: the last commit is in the file alone, or memory ran out or the disk failed, and the two
 -- files hold it as before.
 pub record IsClosing {D : Type 0} {g : disk.Ghosts D} (last : Held (FileStore D g)) (came : Result (Files D) (Error × FileStore D g)) : Type 0 where
   pub closed : IfOk came (λ files. AreClean g files.log files.db → IsCopied last files)
@@ -133,8 +133,8 @@ IsOfficeIn image office = (db : Trees) → HoldsDatabase image db → (it : Data
 abbrev pub Came : (D : Type 0) → disk.Ghosts D → Type 0
 Came D g = Option (Result (Files D) (Error × FileStore D g))
 
--- A database file with these first contents was opened, a task was done over it, told and left, and the file was closed, which came to this.
--- The office that was found is the one of the file.
+-- A database file with these first contents was opened, a task was done over it, printed and left, and the file was closed, which came to
+-- this. The office that was found is the one of the file.
 pub record DoneOver {D : Type 0} {g : disk.Ghosts D} {O E : Type 0} (image : Image) (done : Task) (came : Result (Files D) (Error × FileStore D g))
     (old new : Both O E) (status : ℕ) : Type 0 where
   pub first : Held (FileStore D g)

@@ -7,7 +7,7 @@ use Rattle.rolls.specs.declared.request.Request.{Request}
 use Rattle.rolls.specs.declared.request.Request.TheVariants as request
 use Rattle.rolls.specs.declared.TheConstants.{MOST_IMPORT_BYTES}
 
--- the request of an import of these bytes was made, or there are too many, or there was no memory for it
+-- the request of an import of these bytes was made, or there are too many, or memory ran out for it
 abbrev pub IsImportOf : List ℕ → ImportKind → List ℕ → Result Request Refusal → Type 0
 IsImportOf id kind bytes (Ok asked) = (length bytes ≤ MOST_IMPORT_BYTES) × (asked ≡ request.Import id kind bytes)
 IsImportOf id kind bytes (Err refusal) =

@@ -96,7 +96,7 @@ abbrev pub of_answer : Result Reply Refusal → Outcome
 of_answer (Ok answer) = prints (printed_reply answer)
 of_answer (Err refusal) = refused refusal
 
--- a file could not be read: there was no memory for it, or it is refused
+-- a file could not be read: memory ran out for it, or it is refused
 abbrev pub IsUnreadFile : Outcome → Type 0
 IsUnreadFile o = (o ≡ refused no.Memory) ⊎ (o ≡ refused no.Storage)
 
@@ -109,7 +109,7 @@ abbrev pub IsUnopened : Outcome → Type 0
 IsUnopened o = (o ≡ refused no.Memory) ⊎ ((o ≡ refused no.Storage) ⊎ (o ≡ refused no.Damaged))
 
 -- A request was asked of an office, and this is what comes of the answer. A refusal by name is told as itself, a fault of the storage only
--- of what changes the office, and what takes no memory is answered.
+-- of what changes the office, and what allocates nothing is answered.
 pub record IsAsked (asked : Request) (before after : State) (o : Outcome) : Type 0 where
   pub answer : Result Reply Refusal
   pub step : Step layers before asked answer after
@@ -150,7 +150,7 @@ ComesOf (task.Serve serving) before after o = ServesAt AnswersMessage serving.po
 abbrev pub MayDo : Task → Outcome → Type 0
 MayDo task o = IsUnopened o ⊎ ((office : State) × IsFit office × (after : AtDesk) × ComesOf task (just_opened office) after o)
 
--- a line that imports these bytes: there are too many, or no memory, or what comes of the import
+-- a line that imports these bytes: there are too many, or memory ran out, or what comes of the import
 abbrev pub IsImportLine : List ℕ → ImportKind → List ℕ → Outcome → Type 0
 IsImportLine id kind bytes o =
     ((MOST_IMPORT_BYTES < length bytes) × (o ≡ refused no.TooLarge))

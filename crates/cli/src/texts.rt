@@ -1,4 +1,4 @@
-//! The texts that lines print. None of them takes memory, so that what was done is told.
+//! The texts that lines print. None of them allocates, so that what was done is printed.
 
 ghost use Rattle.std.specs.Prelude.{◌≡◌, ◌+◌, ◌*◌, ◌≤◌, [], ◌∷◌, ◌++◌, length, decimal};
 ghost use Rattle.wire.specs.declared.TheConstants.{MOST_SHORT_TEXT};

@@ -8,7 +8,7 @@ use std::io::{self, ErrorKind};
 /// Why the arguments of the program cannot be read.
 #[derive(Clone, Copy, Drop)]
 pub enum Unread {
-    /// There was no memory for them.
+    /// Memory ran out for them.
     Memory,
     /// One of them is not UTF-8.
     NotUtf8,

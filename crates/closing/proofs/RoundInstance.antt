@@ -105,7 +105,7 @@ module _ (with_supervisor in_project : List ℕ → ℕ) (o : State) (n : ℕ) (
   no_lists_fault : (fault : InstanceFault) → IsFirstListFault (project_codes instance) (map (λ e. e.list) instance.students) fault → fault ≡ Memory
   no_lists_fault fault is = no_list_fault is.list is.student fault (all_at (IsSoundList (project_codes instance)) (map (λ e. e.list) instance.students) lists_sound is.student is.list is.here) is.is_fault
 
-  -- making the instance fails for want of memory alone
+  -- making the instance fails only where memory runs out
   pub instance_accepted : (fault : InstanceFault) → IsFirstInstanceFault instance fault → fault ≡ Memory
   instance_accepted Memory is = refl
   instance_accepted Limit is = absurd (is instance_within)

@@ -1,7 +1,7 @@
 //! What closing a round makes: the instance of the open round, the placements of a matching of it, and the changes of the
 //! tables.
 //!
-//! Promised: the parts of a fit office give the instance of its last round, and want of memory alone keeps it from being
+//! Promised: the parts of a fit office give the instance of its last round, and only running out of memory keeps it from being
 //! made; places of a matching give the placements that the office keeps, and these the changes of the tables. The functions
 //! of `laws` carry what `office` rests on: an office whose round closes with a matching stays fit, and its changes turn its
 //! rows. Begin with `specs/Laws.antt`.

@@ -106,8 +106,7 @@ fn students_listed(alloc: Global, lists: &[Listed]) -> Result<Vec<(Code, Vec<Cod
 }
 
 /// Makes the instance of a round of a fit office from its parts: the supervisors and projects with what the rounds up to one left of
-/// their quotas, or all rounds where none is named, and the students with a list in the round. It fails for want of memory
-/// alone.
+/// their quotas, or all rounds where none is named, and the students with a list in the round. It fails only where memory runs out.
 pub fn round_instance(
     alloc: Global,
     up_to: Option<u32>,

@@ -29,7 +29,7 @@ is_fault kinds kind (Version text) (inr among) told = subst (λ (k : ErrorKind).
 is_fault kinds kind (Fault text) (inl memory) told = absurd (told.0 memory)
 is_fault kinds kind (Fault text) (inr among) told = (kind, among, told.1, told.2)
 
--- a fault that tells a want of memory
+-- a fault that says out of memory
 pub is_memory : (kind : ErrorKind) (fault : LineFault) → kind ≡ OutOfMemory → IsToldBy kind fault → fault ≡ Memory
 is_memory kind Memory memory told = refl
 is_memory kind (Help text) memory told = cc

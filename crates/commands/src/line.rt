@@ -59,7 +59,7 @@ pub enum Line {
 /// Why words are no line.
 #[derive(Drop)]
 pub enum LineFault {
-    /// Memory was refused.
+    /// An allocation failed.
     Memory,
     /// They ask for help, which is this text.
     Help(String),

@@ -84,7 +84,7 @@ import_named o id kind bytes = at (first (import_tests o id kind bytes)) (has_im
     at None true is e = cc
     at None false is e = text_named o (requests_of kind bytes) e
 
--- a making that is refused by no such refusal, or for want of memory, does not tell of the storage
+-- a making that is refused by no such refusal, or as out of memory, does not answer of the storage
 pub unstored : {A : Type 0} (x : Option Refusal) (r : Result A Refusal) → (x ≡ Some no.Storage → ⊥) → IfErr r (λ e. (e ≡ no.Memory) ⊎ (x ≡ Some e)) → r ≡ Err no.Storage → ⊥
 unstored x (Ok a) never h is = cc
 unstored x (Err e) never (inl memory) is = let same : e ≡ no.Storage = cc in let clash : no.Memory ≡ no.Storage = sym memory ∙ same in cc

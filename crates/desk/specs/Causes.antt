@@ -1,4 +1,4 @@
--- Why a request that changes the office fails, for another cause than want of memory.
+-- Why a request that changes the office fails, for another cause than running out of memory.
 use Rattle.std.specs.Prelude.{ℕ, List, Option}
 use Rattle.sqlite.specs.Effect.{Database}
 use Rattle.row_data.specs.declared.row.Change.{Change}

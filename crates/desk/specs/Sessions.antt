@@ -62,14 +62,14 @@ pub record IsToldRight (o : State) (q : Request) (a : Result Reply Refusal) : Ty
   -- that of an import's text and records included
   pub refused : a ≡ Err Storage → refusal layers o q ≡ None
 
--- What takes no memory is answered: a read of a round that is there, a kept import that comes once more, and a preview that is
+-- What allocates nothing is answered: a read of a round that is there, a stored import that comes once more, and a preview that is
 -- read from a session.
 pub record AnswersAtOnce (o : State) (kept : Option SessionState) (q : Request) (a : Result Reply Refusal) : Type 0 where
   pub round : AnswersRound o q a
   pub repeated : AnswersKept o q a
   pub preview : q ≡ request.Preview → refusal_of o q ≡ None → IsTrue (is_some kept) → IsOk a
 
--- over a run: each request is a step of the office and told right, what takes no memory is answered, and the session goes on over each
+-- over a run: each request is a step of the office and answered right, what allocates nothing is answered, the session goes on over each
 abbrev pub RunsOn : State → Option SessionState → List Request → List (Result Reply Refusal) → State → Option SessionState → Type 0
 RunsOn o old [] [] n new = (n ≡ o) × (new ≡ old)
 RunsOn o old (q ∷ qs) (a ∷ answers) n new = (m : State) × (kept : Option SessionState) × Step layers o q a m × GoesOn o q a old kept × IsToldRight o q a × AnswersAtOnce o old q a × RunsOn m kept qs answers n new

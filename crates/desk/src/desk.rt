@@ -73,7 +73,7 @@ impl<S: Alter> Desk<S> {
         ensures unopened { IfErr result (λ e. let refusal = e.0 in IsLeftUnopened S.Store (refusal ≡ Refusal.Storage) (refusal ≡ Refusal.Damaged) connection e.1) }
         ensures refused { IfErr result (λ e. (e.0 ≡ Refusal.Memory) ⊎ ((e.0 ≡ Refusal.Storage) ⊎ (e.0 ≡ Refusal.Damaged))) }
 
-        // Where a transaction is open already it is no want of memory, and no damage.
+        // Where a transaction is open already it is not out of memory, and no damage.
         ensures begun { IsTrue connection.in_transaction → IsErr result × IfErr result (λ e. e.0 ≡ Refusal.Storage) }
 
         // Tables that are there and are not listed as they are made here are damaged.
@@ -104,7 +104,7 @@ impl<S: Alter> Desk<S> {
         self.books.keeps();
     }
 
-    /// Gives the connection up. Takes no memory.
+    /// Gives the connection up. Allocates nothing.
     pub fn into_connection(self) -> Connection<S>
         ensures same { result ≡ self.store }
     {
@@ -158,7 +158,7 @@ impl<S: Alter> Desk<S> {
     }
 
     /// Makes one step of the office. An `Err` is the first refusal that applies, and leaves the office and its tables as they were.
-    /// `Memory` may take the place of any answer that takes memory, and `Storage`, a database error, that of a change alone.
+    /// `Memory` may take the place of any answer that allocates, and `Storage`, a database error, that of a change alone.
     pub fn ask(&mut self, request: Request) -> Result<Reply, Refusal>
         ensures step { Step layers self.old.office request result self.new.office }
         ensures tables { Keeps (state S.Store self.new.store) self.new.office }
@@ -171,7 +171,7 @@ impl<S: Alter> Desk<S> {
         ensures saved { IsSaved self.old.office request result (state S.Store self.old.store) (state S.Store self.new.store) }
 
         // A kept import that comes once more answers its number, a preview that is read from a session answers, and so does a read of a
-        // round: no table is touched for these, and they take no memory.
+        // round: no table is touched for these, and they allocate nothing.
         ensures at_once { AnswersAtOnce self.old.office self.old.session request result }
 
         // A refusal leaves the session, and so do reads, puts of students and repeated imports. An answered preview leaves one, a

@@ -10,7 +10,7 @@ use std::alloc::AllocError;
 /// Why rows are not those of an office.
 #[derive(Drop, Clone, Copy, PartialEq, Eq)]
 pub enum RowsFault {
-    /// A growth of memory was refused.
+    /// An allocation failed.
     Memory,
     /// No office has these rows.
     Unfit,

@@ -9,7 +9,7 @@ use std::alloc::AllocError;
 /// Why a text was not read as an import.
 #[derive(Clone, Copy, PartialEq, Eq, Drop)]
 pub enum ImportFault {
-    /// A growth of memory was refused.
+    /// An allocation failed.
     Memory,
     /// The first record is not the header of the kind, or there is no record, or a quote has no partner. This is judged
     /// before any other record.

@@ -4,7 +4,7 @@
 //! written, so that a wrong one is refused with its record.
 //!
 //! Promised: `read_import` gives the requests that the definition gives for the bytes, one for each record after the
-//! header, or the definition's fault; want of memory may take the place of both. The definition is `requests_of` in
+//! header, or the definition's fault; out of memory may take the place of both. The definition is `requests_of` in
 //! `specs/Requests.antt`: begin there.
 //!
 //! A further kind is an arm of the table of headers and an arm of the requests, in `kinds.rt` and in `specs/Kinds.antt`.

@@ -125,7 +125,7 @@ pub fn read_import(alloc: Global, kind: ImportKind, bytes: &[u8]) -> Result<Vec<
     ensures read { IfOk result (λ requests. requests_of kind bytes.now ≡ Ok requests.items) }
     ensures few { IfOk result (λ requests. length requests.items ≤ length bytes.now) }
 
-    // A fault of the definition comes unless memory is refused first.
+    // A fault of the definition comes unless an allocation fails first.
     ensures fault { IfErr result (λ fault. (fault ≡ Memory) ⊎ (requests_of kind bytes.now ≡ Err fault)) }
 
     // A record that is named is one of the text.

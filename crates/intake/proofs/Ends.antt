@@ -87,7 +87,7 @@ not_repeated codes n rise r = apart codes rise r.earlier n r.is_before r.known r
 not_unknown : (known names : List (List ℕ)) (n : ℕ) → All (λ c. Contains known c) names → IsFirstUnknown known names n → ⊥
 not_unknown known names n all u = u.unknown (all_found (λ c. Contains known c) names n u.code all u.here)
 
--- the lists of a draft have no fault but want of memory
+-- the lists of a draft have no fault but out of memory
 list_fault : (p : Parts) (fault : InstanceFault) → IsDraft p → IsFirstListFault (project_codes p.instance) (map (λ e. e.list) p.instance.students) fault → fault ≡ Memory
 list_fault p fault d f =
     let sound : IsSoundList (project_codes p.instance) f.list = all_found (IsSoundList (project_codes p.instance)) (map (λ e. e.list) p.instance.students) f.student f.list (All-map (IsSoundList (project_codes p.instance)) (λ e. e.list) p.instance.students d.instance.listed) f.here in
@@ -104,7 +104,7 @@ list_fault p fault d f =
     go (RepeatedProject n zero) s list h sound = absurd h
     go (RepeatedProject n (suc k)) s list h sound = absurd (sound.1.apart h.3.earlier k h.3.is_before h.3.known h.3.same)
 
--- the rolls of a draft have no fault but want of memory
+-- the rolls of a draft have no fault but out of memory
 pub no_fault : (p : Parts) (fault : InstanceFault) → IsDraft p → IsFirstInstanceFault p.instance fault → fault ≡ Memory
 no_fault p Memory d h = refl
 no_fault p Limit d h = absurd (h d.instance.within)

@@ -27,14 +27,14 @@ pub record IsFirstBadLine (text : List ℕ) (n : ℕ) : Type 0 where
   pub bad : n < length (pieces text) → ¬ BeginsLines (take n (pieces text))
   pub refused : (p : Parts) → IsRoundParts p → ¬ (text ≡ round_text p)
 
--- the text is that of the parts, or the fault is its own; want of memory may take the place of any
+-- the text is that of the parts, or the fault is its own; out of memory may take the place of any
 abbrev pub IsReading : List ℕ → Result RoundParts RoundFault → Type 0
 IsReading text (Ok r) = IsRoundParts (parts_read r) × (text ≡ round_text (parts_read r)) × (length text ≤ MOST_BYTES)
 IsReading text (Err Memory) = ⊤
 IsReading text (Err TooLarge) = MOST_BYTES < length text
 IsReading text (Err (Line n)) = (length text ≤ MOST_BYTES) × IsFirstBadLine text n
 
--- what the text of parts may be read as: these parts; want of memory may take their place
+-- what the text of parts may be read as: these parts; out of memory may take their place
 abbrev pub IsReadBack : Parts → Result RoundParts RoundFault → Type 0
 IsReadBack p (Ok r) = parts_read r ≡ p
 IsReadBack p (Err Memory) = ⊤

@@ -21,7 +21,7 @@ pub struct RoundParts {
 /// Why a text was not read as a round text.
 #[derive(Clone, Copy, PartialEq, Eq, Drop)]
 pub enum RoundFault {
-    /// A growth of memory was refused.
+    /// An allocation failed.
     Memory,
     /// The text has more than 524,288 bytes. This is judged before any line.
     TooLarge,

@@ -130,7 +130,7 @@ impl Office {
     }
 
     /// Returns the first refusal that applies to a request, if any; of an import, the first for which its text has not to be read.
-    /// Takes no memory.
+    /// Allocates nothing.
     pub fn refusal_of(&self, request: &Request) -> Option<Refusal>
         ensures refusal { result ≡ refusal_of self.now request.now }
     {
@@ -162,7 +162,7 @@ impl Office {
         ensures changes { IfOk result (λ done. let changes = done.changes in changes.items ≡ changes_of request self.old) }
         ensures memory { OnErr result (self.new ≡ self.old) }
 
-        // The answer of a round takes no memory.
+        // The answer of a round allocates nothing.
         ensures round { (number : ℕ) → request ≡ Plain.GetRound number → IsOk result }
     {
         match request {

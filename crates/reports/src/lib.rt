@@ -3,7 +3,7 @@
 //! Nothing here decides what is placed: the reports read what an `Office` lends.
 //!
 //! Promised: `report` writes exactly the bytes that `report_text` of `specs/Texts.antt` makes of the abstract office, or refuses
-//! a round that is not known, and want of memory alone keeps it from either.
+//! a round that is not known, and only running out of memory keeps it from either.
 #![tactic(auto)]
 
 mod find;

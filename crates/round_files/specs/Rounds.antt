@@ -59,7 +59,7 @@ pub record IsNo (text printed : List ℕ) : Type 0 where
   pub first : IsFirstFailure (order round.aim) round.instance.shape round.matching.places.items round.prices fault
   pub is : printed ≡ fault_text round.instance fault
 
--- the text is none of a round, as is told; want of memory may take the place of anything
+-- the text is none of a round, as is returned; out of memory may take the place of anything
 abbrev pub IsTrouble : List ℕ → Trouble → Type 0
 IsTrouble text (Refused NoMemory) = ⊤
 IsTrouble text (Refused AboveLimit) = IsReading text (Err TooLarge)

@@ -9,7 +9,7 @@ use crate::{MOST_PROJECTS, MOST_SUPERVISORS};
 use std::marker::Model;
 
 /// How many pairs have each project and how many each supervisor, by position. A pair is counted at once for both, and
-/// counting takes no memory.
+/// counting allocates nothing.
 #[derive(Drop)]
 pub struct Counts {
     projects: [u32; MOST_PROJECTS],

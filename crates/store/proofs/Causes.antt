@@ -91,7 +91,7 @@ rows_unread e a b c listed same survives clean up =
       hindered = subst (IsUnread (sql_of h.table).select a.step_limit) same.0.now_is h.hindered;
     })
 
--- a change that finds no memory
+-- a change that runs out of memory
 pub lacks_change : (change : Change) (old new : Seen) → FailsToChange change fault.Memory old new → LacksMemory old new
 lacks_change (Put row) old new it = lacks_put row.table (values row.cells) old new it
 lacks_change (Add row) old new it = lacks (sql_of row.table).insert (values row.cells) old new it

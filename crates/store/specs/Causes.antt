@@ -1,4 +1,4 @@
--- Why the tables are not made, read or changed, for another cause than want of memory.
+-- Why the tables are not made, read or changed, for another cause than running out of memory.
 use Rattle.std.specs.Prelude.{◌≡◌, ◌⊎◌, pos, ℕ, List, [], ◌∷◌, Option, Some, take, slice_get}
 use Rattle.sqlite.specs.declared.types.Value.TheVariants.{Int}
 use Rattle.sqlite.specs.Effect.{Database}

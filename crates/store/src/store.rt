@@ -123,7 +123,7 @@ impl<S: Alter> Store<S> {
         ensures opened { IfOk result (λ it. IsOpening S.Store conn it.0 it.1) }
         ensures unopened { IfErr result (λ it. let fault = it.0 in IsLeftUnopened S.Store (fault ≡ StoreFault.Storage) (fault ≡ StoreFault.Damaged) conn it.1) }
 
-        // Where a transaction is open already it is no want of memory, and no damage.
+        // Where a transaction is open already it is not out of memory, and no damage.
         ensures begun { IsTrue conn.in_transaction → IsErr result × IfErr result (λ it. it.0 ≡ StoreFault.Storage) }
 
         // Tables that are there and are not listed as they are made here are damaged.
@@ -189,7 +189,7 @@ impl<S: Alter> Store<S> {
         let _ = self.conn.schema();
     }
 
-    /// Gives the connection up. Takes no memory.
+    /// Gives the connection up. Allocates nothing.
     pub fn into_connection(self) -> Connection<S>
         ensures same { result ≡ self }
     {

@@ -22,7 +22,7 @@ use Rattle.tables.specs.Causes.{Moment, at_moment, IsHindered, IsRefusedCall, Is
 abbrev Ended : State → State → Type 0 → Type 0
 Ended old new U = (old.is_open ≡ false) ⊎ (MoreFaults old.faults new.faults ⊎ U)
 
--- what an error of the store leaves open that is no want of memory
+-- what an error of the store leaves open that is not out of memory
 failed : (old new : State) (U : Type 0) (e : Error) → Fails old new U e → fault_of e ≡ Storage → Ended old new U
 failed old new U e it other = go it.0 it.1 it.2
   where

@@ -1,4 +1,4 @@
--- A call that tells want of memory ended on a statement that told it.
+-- A call that returns out of memory ended on a statement that returned it.
 use Rattle.std.proofs.Common.{◌≡◌, inl, inr, List, ℕ, refl, ◌∙◌}
 use Rattle.sqlite.specs.Order.{Row}
 use Rattle.sqlite.specs.State.{State}

@@ -1,4 +1,4 @@
--- Why a statement is not carried out, for another cause than want of memory.
+-- Why a statement is not carried out, for another cause than running out of memory.
 use Rattle.std.specs.Prelude.{◌≡◌, ◌⊎◌, ◌<◌, ◌&&◌, ℕ, ℤ, pos, Bool, true, false, codes, List, [], Option, None, unwrap_or, Result, Ok, Err, IfErr, OnOk}
 use Rattle.std.specs.List.Sorted.{IsPermutation, IsSorted}
 use Rattle.std.specs.declared.cmp.Ordering.{Ordering}
@@ -65,7 +65,7 @@ showing limit in_transaction marks db = at_moment (record {
   step_limit = limit;
 })
 
--- over an open connection that shows this database the call is refused, for another cause than want of memory
+-- over an open connection that shows this database the call is refused, for another cause than running out of memory
 pub record IsRefusedCall (Refuses : State → Error → Type 0) (limit : Option ℕ) (db : Database) : Type 0 where
   pub in_transaction : Bool
   pub marks : List Savepoint
@@ -154,7 +154,7 @@ pub record FailsToAdd (table : Table) (row : Row) (fault : TableFault) (old new 
   pub kept : between.committed ≡ old.committed
   pub fails : FailsToWrite (sql_of table).insert row fault (at_moment between) new
 
--- a statement failed for want of memory, before which nothing was committed
+-- a statement ran out of memory, before which nothing was committed
 pub record LacksMemory (old new : State) : Type 0 where
   pub between : Moment
   pub kept : between.committed ≡ old.committed
@@ -197,8 +197,8 @@ abbrev pub IsHinderedToEnter : Entering → Table → Row → Option ℕ → Dat
 IsHinderedToEnter InPlace table row = IsHinderedToPut table row
 IsHinderedToEnter New table row = IsHindered (sql_of table).insert row
 
--- Why a call from the one state to the other fails, for another cause than want of memory: the connection is shut, the disk has failed or
--- refused once more, or the call is hindered in this way.
+-- Why a call from the one state to the other fails, for another cause than running out of memory: the connection is shut, the disk has
+-- failed or refused once more, or the call is hindered in this way.
 pub record IsStopped (Hinders : Option ℕ → Database → Type 0) (old new : State) : Type 0 where
   pub why : (old.is_open ≡ false) ⊎ (MoreFaults old.faults new.faults ⊎ Hinders old.step_limit old.now)
 
@@ -218,6 +218,6 @@ IsToldInside Fails result old new = HasCleanDisk new → old.in_transaction ≡ 
 abbrev pub IsRunInside : {A : Type 0} → (Option ℕ → Database → Database → Type 0) → Result A TableFault → State → State → Type 0
 IsRunInside Ran result old new = HasCleanDisk new → OnOk result (Ran old.step_limit old.now new.now)
 
--- where a call in a transaction tells want of memory, it is that of a statement, unless the disk gave back other bytes than it was given
+-- where a call in a transaction returns out of memory, it is that of a statement, unless the disk gave back other bytes than it was given
 abbrev pub IsStarvedInside : {A : Type 0} → Result A TableFault → State → State → Type 0
 IsStarvedInside result old new = HasCleanDisk new → old.in_transaction ≡ true → result ≡ Err Memory → LacksMemory old new

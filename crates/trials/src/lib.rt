@@ -34,7 +34,7 @@ mod offices;
 // Helper: commands in turn, and what each prints.
 #[cfg(test)]
 mod printed;
-// Each request for memory is refused in turn.
+// The requests for memory are refused one after another.
 #[cfg(test)]
 mod refused;
 // Where a desk keeps a session, and what it tells.

@@ -31,7 +31,7 @@ fn is_hit(alloc: Global) -> bool {
     Vec::<u8>::with_capacity(alloc, ASK).is_ok()
 }
 
-/// How a request is refused for want of memory.
+/// How a request is refused as out of memory.
 const MEMORY: &str = r#"||503 Service Unavailable | {"fault":"Memory","number":1}"#;
 
 /// What is played first; requests that come as one stream; what is read while none of them was made; and when all were.
@@ -171,7 +171,7 @@ fn refused<S: Alter>(
     Ok((got, is_hit))
 }
 
-/// Whether this may come of a row. A stream that breaks off for want of memory has asked nothing yet.
+/// Whether this may come of a row. A stream that breaks off where memory runs out has asked nothing yet.
 fn is_allowed(all: &[Allowed], got: &Outcome, kept: &str) -> bool {
     match got.result {
         Ok(_) => {
@@ -296,7 +296,7 @@ fn open<S: Alter + Drop>(
     Ok(is_hit)
 }
 
-/// What memory is refused to.
+/// What an allocation fails in.
 #[derive(Clone, Copy)]
 enum Trial<'a> {
     /// The requests of a row, and what may come of it.
@@ -305,7 +305,7 @@ enum Trial<'a> {
     Opened(&'a str),
 }
 
-/// Does it with each request for memory refused in turn.
+/// Does it with each request for memory refused, one after another.
 fn sweep(alloc: Global, trial: Trial) -> Result<(), Fail> {
     for n in 1..1_000_000 {
         let is_hit = match trial {

@@ -30,7 +30,7 @@ pub enum CheckFault {
 }
 
 /// Checks that the prices prove the matching best by an aim, whoever made them: that no matching has more pairs, and none
-/// with as many has a better profile. Takes no memory.
+/// with as many has a better profile. Allocates nothing.
 pub fn check(
     instance: &Instance,
     aim: Aim,

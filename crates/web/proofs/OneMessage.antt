@@ -31,7 +31,7 @@ no_read a b is read = subst (λ (r : Reply). IsRead (Ok r)) is read
 owes_none : {A : Type 0} (found : Option A) (P : A → Type 0) → found ≡ None → IfSome found P
 owes_none {A} found P none = subst (λ (o : Option A). IfSome o P) (sym none) tt
 
--- A request that is not refused, and is no read of a round, repeated import or preview, may want memory: it leaves the office and the session.
+-- A request not refused, no read of a round, repeated import or preview, may run out of memory: it leaves the office and the session.
 wants_memory : (o n : AtDesk) (q : Request) → refusal_of o.office q ≡ None → ((number : ℕ) → q ≡ request.Plain (GetRound number) → ⊥) → repeated_rows o.office q ≡ None
     → (q ≡ request.Preview → ⊥) → n.office ≡ o.office → n.session ≡ o.session → Gets o q (Err Memory) n
 wants_memory o n q allowed no_round new no_preview stays kept = record {
@@ -45,7 +45,7 @@ wants_memory o n q allowed no_round new no_preview stays kept = record {
   goes = kept;
 }
 
--- where there is no memory for the text of an answer, it is as if the request had found none: it is a read
+-- where memory runs out for the text of an answer, it is as if it had for the request: it is a read
 plain_wants : (o n : AtDesk) (p : Plain) (a : Reply) → IsRead (Ok a) → refusal layers o.office (request.Plain p) ≡ None → Makes layers o.office (request.Plain p) a n.office
     → GoesOn o.office (request.Plain p) (Ok a) o.session n.session → Gets o (request.Plain p) (Err Memory) n
 plain_wants o n (GetSupervisor code) a read allowed made goes = wants_memory o n _ allowed (λ number is. cc) refl (λ is. cc) made.1 goes
@@ -68,7 +68,7 @@ module _ {S : Type 0} (ghosts : Ghosts S) where
       → ((AreActedOn (state ghosts o.store).now.schema → ⊥) → IsCaused Storage (IsHinderedToAsk o.office q) a (state ghosts o.store) (state ghosts n.store)) → GetsAt ghosts o q a n
   gets_at o n q a step right at_once goes cause = record { gets = record { step = step; right = right; at_once = at_once; goes = goes }; cause = cause }
 
-  -- a request that gets an answer is answered by its text, or as one that wants memory
+  -- a request that gets an answer is answered by its text, or as one that runs out of memory
   pub answered_from : (o n : DeskState S) (bytes : List ℕ) (q : Request) (a : Result Reply Refusal) → GetsAt ghosts o q a n
       → (bytes ≡ text_of a) ⊎ (IsRead a × (bytes ≡ refusal_text Memory)) → AnswersAt ghosts o (Ok q) bytes n
   answered_from o n bytes q a at (inl told) = (a, at, told)

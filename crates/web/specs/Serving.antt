@@ -36,7 +36,7 @@ abbrev pub just_opened : State → AtDesk
 just_opened office = record { office = office; session = None }
 
 -- A step of the office, and its answer. A refusal by name is answered as itself, and a fault of the storage is told of what changes the
--- office alone. What takes no memory is answered, and the session goes on over the request.
+-- office alone. What allocates nothing is answered, and the session goes on over the request.
 pub record Gets (before : AtDesk) (asked : Request) (answer : Result Reply Refusal) (after : AtDesk) : Type 0 where
   pub step : Step layers before.office asked answer after.office
   pub right : IsToldRight before.office asked answer
@@ -49,7 +49,7 @@ abbrev pub AnswersRequest : AtDesk → Result Request Refusal → List ℕ → A
 AnswersRequest before (Ok asked) bytes after = (answer : Result Reply Refusal) × Gets before asked answer after × (bytes ≡ text_of answer)
 AnswersRequest before (Err refusal) bytes after = (bytes ≡ refusal_text refusal) × (after ≡ before)
 
--- A message is answered as what is read of it. So want of memory takes the place of its answer where it takes memory to read it, and
+-- A message is answered as what is read of it. So out of memory takes the place of its answer where reading it allocates, and
 -- else only where it may be the answer of the request; never after a change.
 abbrev pub AnswersMessage : AtDesk → MessageText → List ℕ → AtDesk → Type 0
 AnswersMessage before said bytes after = (read : Result Request Refusal) × IsReadAs said read × AnswersRequest before read bytes after

@@ -23,7 +23,7 @@ use Rattle.wire.proofs.Runs.{reads_on, answers_on, splits_more, run_more, said_s
 no_read : {A : Type 0} (fault : StreamFault) → fault ≡ Write → fault ≡ Read → A
 no_read fault e f = absurd (let g : Write ≡ Read = sym e ∙ f in cc)
 
--- a fault of the reader is no want of memory
+-- a fault of the reader is not out of memory
 pub no_memory_read : (fault : StreamFault) → fault ≡ Read → fault ≡ Memory → ⊥
 no_memory_read fault e f = let g : Read ≡ Memory = sym e ∙ f in cc
 
@@ -86,7 +86,7 @@ pub end_goes_on : {S : Type 0} (step : S → MessageText → List ℕ → S → 
 end_goes_on step left w left' rest rest' now grows before left0 w0 count so =
     subst (λ (k : ℕ). SoFar step before left0 w0 left' w rest' k now) (sym (add-zero count)) (reads_on step before now left0 w0 left left' w rest rest' count so grows)
 
--- no memory for the buffers: nothing is read, asked or written
+-- out of memory for the buffers: nothing is read, asked or written
 pub nothing_served : {S : Type 0} (step : S → MessageText → List ℕ → S → Type 0) (refusal : End → List ℕ) (before : S) (left w : Option (List ℕ)) → IsServed step refusal before left w (Err Memory) before left w
 nothing_served step refusal before left w = record {
   served = tt;

@@ -50,7 +50,7 @@ WroteUntil refusal Write answers rest left w0 w =
     CutInAnswer answers w0 w ⊎ CutInEnd refusal answers (rest ++ unread left) w0 w
 WroteUntil refusal Memory answers rest left w0 w = (answers ≡ []) × (rest ≡ []) × Appends w0 w []
 
--- of the bytes given, these messages were answered, and then that fault came; after the hundredth answer nothing is read, so no reader fails
+-- of the bytes given these messages were answered, then that fault came; after the hundredth answer nothing is read, so no reader fails
 pub record BrokeOff {S : Type 0} (step : S → MessageText → List ℕ → S → Type 0) (refusal : End → List ℕ) (before : S)
     (left0 w0 left w : Option (List ℕ)) (now : S) (fault : StreamFault) : Type 0 where
   pub given : List ℕ
@@ -64,8 +64,8 @@ pub record BrokeOff {S : Type 0} (step : S → MessageText → List ℕ → S �
   pub ran : RunsMessages step before messages answers now
   pub wrote : WroteUntil refusal fault answers rest left w0 w
 
--- A stream was served to its end, or until a fault: so the desk was left, and so the reader and the writer. Want of memory comes before
--- anything is read, asked or written.
+-- A stream was served to its end, or until a fault: so the desk was left, and so the reader and the writer. Running out of memory comes
+-- before anything is read, asked or written.
 pub record IsServed {S : Type 0} (step : S → MessageText → List ℕ → S → Type 0) (refusal : End → List ℕ) (before : S) (left0 w0 : Option (List ℕ))
     (result : Result Served StreamFault) (after : S) (left w : Option (List ℕ)) : Type 0 where
   pub served : IfOk result (λ served. ServedTo step refusal before left0 w0 left w served after)

@@ -18,7 +18,7 @@ pub enum End {
 /// What stopped the service of a stream before its end.
 #[derive(Clone, Copy, PartialEq, Eq)]
 pub enum StreamFault {
-    /// No memory for the window of the stream.
+    /// Out of memory for the window of the stream.
     Memory,
     /// The reader answered an error.
     Read,

@@ -23,7 +23,7 @@ Positions = HashMap (Bor (List ℕ)) ℕ (BuildHasherDefault FoldHasher)
 abbrev pub IsIndexTo : Positions → List (List ℕ) → ℕ → Type 0
 IsIndexTo map codes n = (code : List ℕ) → Finds codes n code (get_by (λ k. bytes_eq code k.now) map)
 
--- the fault names the first code that stands before it too, or want of memory
+-- the fault names the first code that stands before it too, or is out of memory
 abbrev pub IsCodeFault : Roll → List (List ℕ) → InstanceFault → Type 0
 IsCodeFault roll codes Memory = ⊤
 IsCodeFault roll codes (RepeatedCode other p) = (other ≡ roll) × IsFirstRepeated codes p

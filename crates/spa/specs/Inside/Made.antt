@@ -6,7 +6,7 @@ use Rattle.spa.specs.declared.fault.InstanceFault.TheVariants.{Memory, UnknownSu
 use Rattle.spa.specs.Codes.{code_at}
 use Rattle.spa.specs.Made.{IsFirstUnknown}
 
--- the fault names the first project whose supervisor is unknown, or want of memory
+-- the fault names the first project whose supervisor is unknown, or is out of memory
 abbrev pub IsOfferFault : List (List ℕ) → List (List ℕ) → InstanceFault → Type 0
 IsOfferFault codes supervisors Memory = ⊤
 IsOfferFault codes supervisors (UnknownSupervisor p) = IsFirstUnknown codes supervisors p

@@ -1,4 +1,4 @@
--- For proofs alone. Why the tables are not made, read or changed, for another cause than want of memory.
+-- For proofs alone. Why the tables are not made, read or changed, for another cause than running out of memory.
 use Rattle.std.specs.Prelude.{ℕ, Option}
 use Rattle.sqlite.specs.Effect.{Database}
 use Rattle.sqlite.specs.State.{State}

@@ -6,7 +6,7 @@ use Rattle.api.proofs.members.read_json.Goals as goal
 pub returns-in-Ok-clause-ok : goal.returns-in-Ok-clause-ok
 returns-in-Ok-clause-ok c = json_of-read c.args.body.now (view c.in-Ok.value) c.in-Ok.ensures.ok.0 c.in-Ok.ensures.ok.1
 
--- the test said that it is not for want of memory
+-- the test said that memory did not run out
 not_both : (b : Bool) → b ≡ false → b ≡ true → ⊥
 not_both b isnt is = absurd (let e : true ≡ false = sym is ∙ isnt in cc)
 

@@ -1,4 +1,4 @@
--- A route that is new is put in, and want of memory alone hinders it.
+-- A route that is new is put in, and only running out of memory hinders it.
 use Rattle.std.proofs.Common.{◌≡◌, length, refl, sym, ap, ◌∙◌, arith}
 use Rattle.std.proofs.lemmas.Result.{err_from_is_err_and}
 use Rattle.std.proofs.lemmas.List.{length-map}
