@@ -63,7 +63,7 @@ ended {K} k (b ∷ path) =
     (elim (cond (b == slash) true (has_slash path)) as (λ v. seek {K = K} ((both v).0 - 1) (both v).1 path ≡ None)
     [ true ↦ nothing_else (0 - 1) path | false ↦ nothing_else (suc (length path) - 1) path ]))
 
--- the literal branch beside a parameter finds nothing, or the parameter's own route
+-- the literal branch next to a parameter finds nothing, or the parameter's own route
 beside : {K : Type 0} (v : Bool) (k : K) (path : List ℕ) → (seek 0 (cond v (([], k) ∷ []) []) path ≡ None) ⊎ (seek 0 (cond v (([], k) ∷ []) []) path ≡ Some k)
 beside true k path = ended k path
 beside false k path = inl (nothing_else 0 path)
@@ -121,7 +121,7 @@ not_digit c b isnt is = by (c == b) refl
 skips : {K : Type 0} (b c : ℕ) (t : List ℕ) (k : K) (rs : RowsOf K) → (c == b) ≡ false → step b ((c ∷ t, k) ∷ rs) ≡ step b rs
 skips {K} b c t k rs e = let on : RowsOf K = (t, k) ∷ step b rs in ap (λ (v : Bool). cond v on (step b rs)) e
 
--- a number beside two words that begin with no digit
+-- a number next to two words that begin with no digit
 pub number_leaf : {K : Type 0} (k l m : K) (c d : ℕ) (close reopen text : List ℕ) → is_ascii_digit c ≡ false → is_ascii_digit d ≡ false
     → (c == 256) ≡ false → (d == 256) ≡ false → is_segment text ≡ true → fits Numbers text ≡ true
     → first ((c ∷ close, l) ∷ (d ∷ reopen, m) ∷ (256 ∷ [], k) ∷ []) text ≡ Some k

@@ -31,7 +31,7 @@ is_literal (x ∷ front) = ltb x 256 && is_literal front
 no_param : (x : ℕ) → ltb x 256 ≡ true → (x == 256) ≡ false
 no_param x e = ne_eqb x 256 (λ f. let g : x < 256 = ltb-true x 256 e in omega arith)
 
--- a path that one segment behind a front makes
+-- a path that one segment after a front makes
 pub record Behind (front : List ℕ) (values : List (List ℕ)) (path : List ℕ) : Type 0 where
   pub text : List ℕ
   pub one : values ≡ text ∷ []
@@ -60,7 +60,7 @@ behind (x ∷ front) (v ∷ values) path l e =
     let b = behind front (v ∷ values) r.0 ls.1 r.1 in
     record { text = b.text; one = b.one; whole = r.2 ∙ ap (λ p. x ∷ p) b.whole }
 
--- a walk comes past a front to the parameter behind it
+-- a walk comes past a front to the parameter after it
 past_front : (front : List ℕ) (len token at : ℕ) → is_literal front ≡ true → at + length front ≤ len → wild_from (front ++ 256 ∷ []) len token at ≡ (token + length front, at + length front)
 unfolding is_literal
 past_front [] len token at l fits =
@@ -90,7 +90,7 @@ takes_rest front path at =
     ap (λ (t : Bool). cond t (at + length (segment (drop at path)) - length (segment (drop (length front + 1) (front ++ 256 ∷ [])))) (length path))
     (last_fails (ltb (length front) (length (front ++ 256 ∷ []))) (get_or (front ++ 256 ∷ []) (length front) 0 == 256) _ none)
 
--- what remains behind a front is what a parameter takes
+-- what remains after a front is what a parameter takes
 part_behind : (front text : List ℕ) → part_of (front ++ text) (length front) (length (front ++ text)) ≡ text
 part_behind front text =
     let start : leb (length front) (length (front ++ text)) ≡ true = le-leb (length front) (length (front ++ text)) (simp length-append (omega arith)) in
@@ -101,7 +101,7 @@ part_behind front text =
     ∙ ap (λ (t : Bool). cond t (take (length (front ++ text) - length front) (drop (length front) (front ++ text))) []) end
     ∙ ap (take (length (front ++ text) - length front)) rest ∙ take_all (length (front ++ text) - length front) text all
 
--- a walk over the pattern of a front and a parameter takes what is behind the front
+-- a walk over the pattern of a front and a parameter takes what is after the front
 walk_behind : (front label text : List ℕ) (a b : ℕ) → is_literal front ≡ true → walk (front ++ 256 ∷ []) label (front ++ text) ((a, b) ∷ []) 0 0 ≡ (part_of label a b, text) ∷ []
 walk_behind front label text a b l =
     let zero_more : 0 + length front ≡ length front = omega arith in
@@ -171,7 +171,7 @@ lies front methods literal any here = (
       },
 )
 
--- what is behind a byte of ASCII in a text is a text
+-- what is after a byte of ASCII in a text is a text
 text_behind : (front text : List ℕ) (n : ℕ) → length front ≡ n + 1 → get_or front n 0 ≡ 47 → IsUtf8 (front ++ text) → IsUtf8 text
 text_behind front text n size slash u =
     let inside : n < length front = omega (arith, size) in
@@ -180,7 +180,7 @@ text_behind front text n size slash u =
     subst IsUtf8 (ap (λ k. drop k (front ++ text)) (sym size) ∙ drop-append_seam front text)
     (IsUtf8-drop (front ++ text) (n + 1) u (IsCharBoundary-after_ascii (front ++ text) n u within (omega (arith, at))))
 
--- a row with a parameter does, where each segment that fits is found behind its front
+-- a row with a parameter does, where each segment that fits is found after its front
 unfoldable stands : (front : List ℕ) (n : ℕ) (methods : Methods) → is_literal front ≡ true → length front ≡ n + 1 → get_or front n 0 ≡ 47
     → part_of (row front (codes "code") methods).1.text (length front + 1) (length front + 1 + 4) ≡ codes "code"
     → ((text : List ℕ) → is_segment text ≡ true → fits methods.segments text ≡ true → first (steps front all_routes) text ≡ Some (row front (codes "code") methods).1)

@@ -1,4 +1,4 @@
--- A refusal that is not of a record is told by its name and number alone.
+-- A refusal that is not of a record is written by its name and number alone.
 use Rattle.std.proofs.Common.{◌≡◌, ℕ, refl}
 use Rattle.rolls.specs.declared.refusal.Refusal.{Refusal}
 use Rattle.rolls.specs.declared.refusal.Refusal.TheVariants as no

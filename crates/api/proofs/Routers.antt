@@ -15,7 +15,7 @@ abbrev pub with_one : Result Scan InsertError → Methods → RowsOf (RouteOf Me
 with_one (Ok s) methods rows = placed (s.pattern, route_from s methods) rows
 with_one (Err e) methods rows = rows
 
--- the rows with these routes, each in turn
+-- the rows with these routes, each in order
 abbrev pub with_routes : RowsOf (RouteOf Methods) → List (List ℕ × Methods) → RowsOf (RouteOf Methods)
 with_routes rows [] = rows
 with_routes rows (r ∷ routes) = with_routes (with_one (parse_route r.0) r.1 rows) routes
@@ -25,7 +25,7 @@ abbrev pub is_new : Result Scan InsertError → RowsOf (RouteOf Methods) → Boo
 is_new (Ok s) rows = not (is_some (nearest s.pattern rows))
 is_new (Err e) rows = false
 
--- so it is with each of these routes when its turn comes
+-- so it is with each of these routes, in order
 abbrev pub are_new : RowsOf (RouteOf Methods) → List (List ℕ × Methods) → Bool
 are_new rows [] = true
 are_new rows (r ∷ routes) = is_new (parse_route r.0) rows && are_new (with_one (parse_route r.0) r.1 rows) routes

@@ -17,11 +17,11 @@ abbrev pub members_count : Members → ℕ
 members_count no_members = 0
 members_count (member k d ms) = suc (members_count ms)
 
--- whether it is an object of so many members
+-- whether it is an object of this many members
 abbrev pub has_size : ℕ → Data → Bool
 has_size n d = option_map_or (λ k. k == n) (option_map members_count (as_object d)) false
 
--- what is read from an object of so many members
+-- what is read from an object of this many members
 abbrev pub of_size : {A : Type 0} → ℕ → (Data → Option A) → Data → Option A
 of_size n f d = if has_size n d then f d else None
 

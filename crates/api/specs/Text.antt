@@ -14,11 +14,11 @@ reason_of status = unwrap_or (reason_phrase status) []
 abbrev pub status_line : ℕ → List ℕ
 status_line status = codes "HTTP/1.1 " ++ decimal status ++ codes " " ++ reason_of status ++ crlf
 
--- the fields of an answer whose body is of a type and has so many bytes, and the empty line
+-- the fields of an answer whose body is of a type and has this many bytes, and the empty line
 abbrev pub fields : List ℕ → ℕ → List ℕ
 fields type n = codes "Content-Type: " ++ type ++ codes "\r\nContent-Length: " ++ decimal n ++ codes "\r\n\r\n"
 
--- what comes before the body of an answer, of a type and so many bytes
+-- what comes before the body of an answer, of a type and this many bytes
 abbrev pub answer_head : ℕ → List ℕ → ℕ → List ℕ
 answer_head status type n = status_line status ++ fields type n
 

@@ -17,7 +17,7 @@ use Rattle.api.specs.Text.{text_type, typed_answer, json_answer, fault_answer}
 abbrev pub row_text : ℕ → ℕ → List ℕ
 row_text n inner = codes "{\"fault\":\"Row\",\"inner\":" ++ decimal inner ++ codes ",\"number\":29,\"record\":" ++ decimal n ++ codes "}"
 
--- the answer of a refusal; that of a record tells the record too
+-- the answer of a refusal; that of a record names the record too
 abbrev pub refusal_text : Refusal → List ℕ
 refusal_text (no.Row n inner) = json_answer (status_of (no.Row n inner)) (row_text n inner)
 refusal_text refusal = fault_answer (status_of refusal) (name_of refusal) (number_of refusal)

@@ -55,7 +55,7 @@ fn member_count(value: &Value) -> Option<usize>
     }
 }
 
-/// Whether it is an object of so many members.
+/// Whether it is an object of this many members.
 fn has_size(value: &Value, n: usize) -> bool
     ensures { result ≡ has_size n (view value.now) }
 {

@@ -1,4 +1,4 @@
--- What is told of an import is an outcome of its line.
+-- What is printed of an import is an outcome of its line.
 use Rattle.std.proofs.Common.{◌≡◌, ◌⊎◌, inl, inr, ℕ, List, Result, Ok, Err, IfErr, MatchResult, Vec, ap, ◌∙◌, sym, subst}
 use Rattle.std.specs.declared.alloc.Global.{Global}
 use Rattle.rolls.specs.declared.import.ImportKind.{ImportKind}
@@ -16,7 +16,7 @@ of_read id kind (Ok bytes) (Ok asked) why is = (bytes.items, is)
 of_read id kind (Ok bytes) (Err refusal) why is = inr (bytes.items, is)
 of_read id kind (Err r) made why is = subst (λ (m : Result Request Refusal). IsImportOfFile id kind m) (sym is) (inl why)
 
--- a request of these bytes that was asked, or why it was not made, is told
+-- a request of these bytes that was asked, or why it was not made, is printed
 imports : (id : List ℕ) (kind : ImportKind) (bytes : List ℕ) (made : Result Request Refusal) (o : Outcome) → IsImportOf id kind bytes made
     → MatchResult made (λ asked. MayDo (task.Ask asked) o) (λ refusal. o ≡ refused refusal) → IsImportLine id kind bytes o
 imports id kind bytes (Ok asked) o made is = inr (made.0, inr (subst (λ (q : Request). MayDo (task.Ask q) o) made.1 is))

@@ -35,7 +35,7 @@ of_opened old new office (inl made) = inl (made.0, made.1)
 of_opened old new office (inr (inl found)) = inr (latest, in_latest found.1)
 of_opened old new office (inr (inr raised)) = inr (raised.edition, raised.stood)
 
--- a disk that is clean behind the task was clean when the office was opened
+-- a disk that is clean after the task was clean when the office was opened
 pub found_for : (before opened after : Seen) (office : State) → WasClean opened after → (HasCleanDisk opened → HasCleanDisk before) → (HasCleanDisk opened → Opens before.now opened.now office) → IsFoundFor before after office
 found_for before opened after office was first opens = λ clean. (first (was clean), of_opened before.now opened.now office (opens (was clean)))
 
@@ -85,7 +85,7 @@ module _ {S : Type 0} (ghosts : Ghosts S) where
     subst (λ (b : AtDesk). ComesOf done b (at_desk is.next) o) (no_sitting is.desk is.no_session) (comes_of done is.desk is.next o is.done),
   )
 
-  -- a disk that is clean behind a task was clean before it
+  -- a disk that is clean after a task was clean before it
   pub was_clean : (done : Task) (before after : DeskState S) → TakesTo ghosts done before after → WasClean (state ghosts before.store) (state ghosts after.store)
   was_clean (task.Ask asked) before after taken = taken.2
   was_clean (task.Serve serving) before after taken =

@@ -1,4 +1,4 @@
--- What is told is told of more, and what one of the two writers took is told.
+-- What is printed is printed of more, and what one of the two writers took is printed.
 use Rattle.std.proofs.Common.{◌≡◌, ◌⊎◌, inl, inr, ℕ, ◌+◌, List, ◌++◌, Option, None, Result, Ok, Err, IfErr, MatchResult, Vec, String, refl, ap, ◌∙◌, sym, subst, arith}
 use Rattle.std.specs.Io.KnownBytes.{Appends}
 use Rattle.std.specs.declared.alloc.Global.{Global}
@@ -30,7 +30,7 @@ TellsOf Is old new status =
     ((o : Outcome) × Is o × (new.failures ≡ old.failures) × Appends old.out new.out o.out × Appends old.err new.err o.err × (status ≡ o.status))
     ⊎ ((new.failures ≡ old.failures + 1) × (status ≡ 1))
 
--- what is told may come of more
+-- what is printed may come of more
 pub tells_more : (A B : Outcome → Type 0) → ((o : Outcome) → A o → B o) → (old new : Took) (status : ℕ) → TellsOf A old new status → TellsOf B old new status
 tells_more A B more old new status (inl t) = inl (t.0, more t.0 t.1, t.2, t.3, t.4, t.5)
 tells_more A B more old new status (inr failed) = inr failed
@@ -43,31 +43,31 @@ at_ok {A} {E} P Q came a is p = subst (λ (r : Result A E). MatchResult r P Q) (
 pub at_err : {A E : Type 0} (P : A → Type 0) (Q : E → Type 0) (came : Result A E) (e : E) → came ≡ Err e → Q e → MatchResult came P Q
 at_err {A} {E} P Q came e is q = subst (λ (r : Result A E). MatchResult r P Q) (sym is) q
 
--- what comes of the value that came is told
+-- what comes of the value that came is printed
 pub ok_told : {A E : Type 0} (Of : A → Outcome → Type 0) (At : E → Outcome → Type 0) (came : Result A E) (a : A) → came ≡ Ok a → (old new : Took) (status : ℕ)
     → TellsOf (λ o. Of a o) old new status → TellsOf (λ o. MatchResult came (λ a. Of a o) (λ e. At e o)) old new status
 ok_told Of At came a is old new status told =
     tells_more (λ o. Of a o) (λ o. MatchResult came (λ a. Of a o) (λ e. At e o)) (λ o of. at_ok (λ a. Of a o) (λ e. At e o) came a is of) old new status told
 
--- what comes of the error that came is told
+-- what comes of the error that came is printed
 pub err_told : {A E : Type 0} (Of : A → Outcome → Type 0) (At : E → Outcome → Type 0) (came : Result A E) (e : E) → came ≡ Err e → (old new : Took) (status : ℕ)
     → TellsOf (λ o. At e o) old new status → TellsOf (λ o. MatchResult came (λ a. Of a o) (λ e. At e o)) old new status
 err_told Of At came e is old new status told =
     tells_more (λ o. At e o) (λ o. MatchResult came (λ a. Of a o) (λ e. At e o)) (λ o at. at_err (λ a. Of a o) (λ e. At e o) came e is at) old new status told
 
--- where a refusal is told the status is 1
+-- where a refusal is printed the status is 1
 pub refused_ends : (r : Refusal) (old new : Took) (status : ℕ) → TellsOf (λ o. o ≡ refused r) old new status → status ≡ 1
 refused_ends r old new status (inl t) = t.5 ∙ ap (λ (o : Outcome). o.status) t.1
 refused_ends r old new status (inr failed) = failed.1
 
 module _ {D : Type 0} (step : D → MessageText → List ℕ → D → Type 0) where
-  -- the connections were served and told after the port
+  -- the connections were served, and their lines printed after the port's
   pub all_served : (before after : D) (port count : ℕ) (w0 w1 w : Option (List ℕ)) (f0 f1 f : ℕ) → Appends w0 w1 (listening port) → f1 ≡ f0 → AllServed step before count w1 w after → f ≡ f1
       → Serves step port count before after w0 w f0 f 0
   all_served before after port count w0 w1 w f0 f1 f told same served still =
       inl (prints (listening port ++ lines_after 0 served.came), record { came = served.came; counted = served.counted; served = served.served; is = refl }, still ∙ same, appends_compose w0 w1 w _ _ told served.wrote, refl)
 
-  -- what was served is told on standard output alone
+  -- what was served is printed on standard output alone
   pub served_told : (before after : D) (port count : ℕ) (w0 w v : Option (List ℕ)) (f0 f g ends : ℕ) → Serves step port count before after w0 w f0 f ends
       → TellsOf (IsServed step port count before after) (record { out = w0; err = v; failures = f0 + g }) (record { out = w; err = v; failures = f + g }) ends
   served_told before after port count w0 w v f0 f g ends (inl s) =
@@ -75,11 +75,11 @@ module _ {D : Type 0} (step : D → MessageText → List ℕ → D → Type 0) w
       inl (s.0, s.1, ap (λ n. n + g) s.2, s.3, subst (λ (o : Outcome). Appends v v o.err) (sym printed) (appends_none v), s.4 ∙ sym (ap (λ (o : Outcome). o.status) printed))
   served_told before after port count w0 w v f0 f g ends (inr s) = let more : f ≡ f0 + 1 = s.0 in inr (omega (arith, more), s.1)
 
--- where no session is kept no preview is read of one
+-- where no session is cached no preview is read of one
 pub at_once : (o : State) (q : Request) (a : Result Reply Refusal) → AnswersRound o q a → AnswersKept o q a → AnswersAtOnce o None q a
 at_once o q a round repeated = record { round = round; repeated = repeated; preview = λ is allowed kept. cc }
 
--- a refusal of a file that is read is told
+-- a refusal of a file that is read is printed
 pub unread : (r : Refusal) → ((r ≡ no.Memory) ⊎ (r ≡ no.Storage)) → IsUnreadFile (refused r)
 unread r (inl memory) = inl (ap refused memory)
 unread r (inr storage) = inr (ap refused storage)
@@ -90,7 +90,7 @@ pub of_file : (Is : List ℕ → Result (String Global) Trouble → Type 0) (rea
 of_file Is (Ok bytes) came o why is told = inr (bytes.items, came, is, told)
 of_file Is (Err r) came o why is told = inl (subst IsUnreadFile (sym (told ∙ ap of_round is)) (unread r why))
 
--- a refusal that is not of a record is told by its number and name
+-- a refusal that is not of a record is printed by its number and name
 pub named_alone : (r : Refusal) → ((n inner : ℕ) → r ≡ no.Row n inner → ⊥) → refusal_line r ≡ named_line (number_of r) (name_of r)
 named_alone (no.Row n inner) other = absurd (other n inner refl)
 named_alone _ other = refl

@@ -6,8 +6,8 @@ use Rattle.wire.specs.declared.outcome.StreamFault.{StreamFault}
 use Rattle.wire.specs.Served.{ServedTo, BrokeOff}
 use Rattle.web.specs.Serving.{AnswersMessage, AtDesk, end_text, just_opened}
 
--- The stream was served to its end: what was written is the answers of a run over its messages, from the empty office without a session on, and then
--- the refusal of its end.
+-- The stream was served to its end: what was written is the answers of a run over its messages, from the empty office without a session on,
+-- and then the refusal of its end.
 abbrev pub ServedAnew : Option (List ℕ) → Option (List ℕ) → Option (List ℕ) → Option (List ℕ) → Type 0
 ServedAnew left0 w0 left w =
     (served : Served) × (after : AtDesk) × ServedTo AnswersMessage end_text (just_opened empty) left0 w0 left w served after

@@ -22,11 +22,11 @@ pub record IsStreamDone {C O E : Type 0} (left0 left : Option (List ℕ)) (came 
   pub silent : new.err ≡ old.err
   pub no_file : came ≡ None
 
--- what is told of an error of this kind that reading the words gave
+-- what is printed of an error of this kind that reading the words gave
 abbrev pub OfUnread : ErrorKind → Outcome → Type 0
 OfUnread kind o = (kind ≡ kinds.OutOfMemory → o ≡ of_unread unread.Memory) × (kind ≢ kinds.OutOfMemory → o ≡ of_unread unread.NotUtf8)
 
--- why the words could not be read was told, the stream was not read, and no file was opened
+-- why the words could not be read was printed, the stream was not read, and no file was opened
 pub record IsUntaken {C R O E : Type 0} (kind : ErrorKind) (came : Option C) (before after : R) (old new : Both O E) (status : ℕ) : Type 0 where
   pub told : Tells (OfUnread kind) old new status
   pub unread : after ≡ before

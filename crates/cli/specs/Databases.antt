@@ -49,7 +49,7 @@ use Rattle.cli.specs.Outputs.{Both}
 use Rattle.cli.specs.Imports.{IsImportOfFile}
 use Rattle.cli.specs.Outcomes.{IsUnreadFile, MayComeOf, OnFile, Outcome, ServesAt, Tells, of_answer, refused}
 
--- a disk that is clean behind a task was clean before it
+-- a disk that is clean after a task was clean before it
 abbrev pub WasClean : Seen → Seen → Type 0
 WasClean before after = HasCleanDisk after → HasCleanDisk before
 
@@ -72,7 +72,7 @@ IsWhyUnopened refusal before after =
 abbrev pub StaysSo : Seen → Seen → Type 0
 StaysSo before after = HasCleanDisk after → IsKept before after
 
--- The office of the database is not opened: why is told, and the database stays.
+-- The office of the database is not opened: why is printed, and the database stays.
 pub record IsNotDone (before after : Seen) (o : Outcome) : Type 0 where
   pub refusal : Refusal
   pub why : IsWhyUnopened refusal before after
@@ -113,8 +113,8 @@ module _ {S : Type 0} (ghosts : Ghosts S) where
   DoesOver done first last o =
       IsNotDone (state ghosts first) (state ghosts last) o ⊎ IsDone (λ desk next. ComesFrom done desk next o) first last
 
-  -- What a task with this status leaves of a database, whether or not it could be told: what it makes of the office, or, where that was not
-  -- opened, with status 1, the database as it was.
+  -- What a task with this status leaves of a database, whether or not it could be printed: what it makes of the office, or, where that was
+  -- not opened, with status 1, the database as it was.
   abbrev pub LeftBy : Task → ℕ → Held S → Held S → Type 0
   LeftBy done status first last =
       IsDone (TakesTo done) first last ⊎ ((status ≡ 1) × StaysSo (state ghosts first) (state ghosts last))
@@ -170,7 +170,7 @@ module _ {D : Type 0} {g : disk.Ghosts D} {O E : Type 0} (image : Image) where
   LineAt (line.Solve file) came old new status = (came ≡ None) × Tells (OnFile IsSolved) old new status
   LineAt (line.Check file) came old new status = (came ≡ None) × Tells (OnFile IsChecked) old new status
 
-  -- the line of the words was done so, or their fault was told, and nothing was opened
+  -- the line of the words was done so, or their fault was printed, and nothing was opened
   abbrev pub CommandAt : Result Line LineFault → Came D g → Both O E → Both O E → ℕ → Type 0
   CommandAt (Ok line) came old new status = LineAt line came old new status
   CommandAt (Err fault) came old new status = (came ≡ None) × Tells (MayComeOf (Err fault)) old new status

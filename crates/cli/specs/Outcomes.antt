@@ -54,7 +54,7 @@ tells status text = record { out = []; err = text; status = status }
 abbrev pub named_line : ℕ → List ℕ → List ℕ
 named_line number name = codes "refused " ++ decimal number ++ codes ": " ++ name ++ 10 ∷ []
 
--- the line of a refusal; that of a record also tells which one, and the number of its own refusal
+-- the line of a refusal; that of a record also names which one, and the number of its own refusal
 abbrev pub refusal_line : Refusal → List ℕ
 refusal_line (no.Row n inner) = codes "refused 29: Row " ++ decimal n ++ 32 ∷ decimal inner ++ 10 ∷ []
 refusal_line refusal = named_line (number_of refusal) (name_of refusal)
@@ -108,8 +108,8 @@ OnFile Is o = IsUnreadFile o ⊎ ((bytes : List ℕ) × (came : Result (String G
 abbrev pub IsUnopened : Outcome → Type 0
 IsUnopened o = (o ≡ refused no.Memory) ⊎ ((o ≡ refused no.Storage) ⊎ (o ≡ refused no.Damaged))
 
--- A request was asked of an office, and this is what comes of the answer. A refusal by name is told as itself, a fault of the storage only
--- of what changes the office, and what allocates nothing is answered.
+-- A request was asked of an office, and this is what comes of the answer. A refusal by name is printed as itself, a fault of the storage
+-- only of what changes the office, and what allocates nothing is answered.
 pub record IsAsked (asked : Request) (before after : State) (o : Outcome) : Type 0 where
   pub answer : Result Reply Refusal
   pub step : Step layers before asked answer after
@@ -130,7 +130,7 @@ abbrev pub IsUnbound : {D : Type 0} → ℕ → D → D → Outcome → Type 0
 IsUnbound port before after o = (after ≡ before) × (o ≡ tells 1 (no_port port))
 
 module _ {D : Type 0} (step : D → MessageText → List ℕ → D → Type 0) where
-  -- so many connections were served at a desk
+  -- this many connections were served at a desk
   pub record IsServed (port count : ℕ) (before after : D) (o : Outcome) : Type 0 where
     pub came : List (Result Served StreamFault)
     pub counted : length came ≡ count
@@ -171,7 +171,7 @@ MayCome (line.Report database kind round) o = MayDo (task.Ask (request.Report ki
 MayCome (line.Solve file) o = OnFile IsSolved o
 MayCome (line.Check file) o = OnFile IsChecked o
 
--- what is told where the arguments cannot be read
+-- what is printed where the arguments cannot be read
 abbrev pub of_unread : Unread → Outcome
 of_unread unread.Memory = refused no.Memory
 of_unread unread.NotUtf8 = tells 2 (codes "error: invalid UTF-8 was detected in one or more arguments\n\nUsage: spadesk <COMMAND>\n\nFor more information, try '--help'.\n")

@@ -1,4 +1,4 @@
-//! What a line does at the office of a database, which is opened for it and closed behind it.
+//! What a line does at the office of a database, which is opened for it and closed after it.
 
 ghost use Rattle.sqlite.specs.Files.{over_files};
 ghost use Rattle.cli.specs.Outputs.{CanFail};
@@ -14,7 +14,7 @@ use sqlite_disk::Disk;
 use std::rt::HostRuntime;
 use web::Sink;
 
-/// Does a task at the office of a database, or tells the refusal of its opening, and gives the connection back.
+/// Does a task at the office of a database, or prints the refusal of its opening, and gives the connection back.
 ///
 /// It takes any store, and so do those who hold the desk: a desk over a store of files by name takes the prover a minute in each function
 /// that holds one. A task that is not done is handed to `drop`, since each kind of request would else be a path here.
@@ -27,7 +27,7 @@ fn do_over<S: Alter + Drop, O: Sink, E: Sink>(
     requires { CanFail outputs.old }
     ensures told { Tells (DoesOver S.Store task connection result.1) outputs.old outputs.new result.0 }
 
-    // Where a writer has failed no outcome is told, and it is still known what is left.
+    // Where a writer has failed no outcome is printed, and it is still known what is left.
     ensures left { LeftBy S.Store task result.0 connection result.1 }
 {
     match Desk::open(rt.alloc(), connection) {
@@ -53,7 +53,7 @@ pub(crate) fn do_and_close<D: Disk + Drop, O: Sink, E: Sink>(
 ) -> (u8, Closing<D>)
     requires { CanFail outputs.old }
 
-    // One connection shows what was told and what is left, and it is the one that was closed.
+    // One connection shows what was printed and what is left, and it is the one that was closed.
     ensures { (last : _) × Tells (DoesOver over_files task connection last) outputs.old outputs.new result.0 × LeftBy over_files task result.0 connection last × IsClosing last result.1 }
 {
     let (status, connection) = do_over(rt, connection, task, outputs);

@@ -73,7 +73,7 @@ pub(crate) fn import_file(
     import_read(rt, kind, id, read_file(rt, file, MOST_IMPORT_BYTES))
 }
 
-/// Asks a request of the office of a database file, as `do_on` does, or tells why it was not made.
+/// Asks a request of the office of a database file, as `do_on` does, or prints why it was not made.
 pub(crate) fn ask_made<S: Start, O: Sink, E: Sink>(
     rt: &HostRuntime,
     start: S,

@@ -6,8 +6,8 @@
 //! Promised: what is printed, where and with which status is an outcome of the line that `clap` reads from the words: a
 //! round file's result, or the answer of one step of a fit office, or the lines of the connections served; where a
 //! writer fails the status is 1. A request is asked of the office that the database stood for, unless the disk gave back
-//! what was not written. The database is closed behind what is told: its file alone stands for the office then, or it is
-//! known why not. Arguments that cannot be read are told too. Without arguments a stream is served over a new database,
+//! what was not written. The database is closed after what is printed: its file alone stands for the office then, or it is
+//! known why not. Arguments that cannot be read are reported too. Without arguments a stream is served over a new database,
 //! from the empty office on. Begin with `specs/Outcomes.antt`, `specs/Outputs.antt` and `specs/Anew.antt`.
 #![tactic(auto)]
 

@@ -12,10 +12,10 @@ use sqlite::{FileFrom, Start};
 use std::rt::HostRuntime;
 use web::Sink;
 
-/// Does a task at the office of the database file with this name, whose first contents these are, or tells the refusal of the opening.
+/// Does a task at the office of the database file with this name, whose first contents these are, or prints the refusal of the opening.
 /// Closes the file then, and gives back what came of it.
 ///
-/// A closing that fails changes neither what was told nor the status: what was changed is in the log beside the file, where
+/// A closing that fails changes neither what was printed nor the status: what was changed is in the log next to the file, where
 /// the next opening finds it.
 pub(crate) fn do_on<S: Start, O: Sink, E: Sink>(
     rt: &HostRuntime,

@@ -52,7 +52,7 @@ impl<O: Sink, E: Sink> Outputs<O, E> {
         print_reply(&mut self.out, reply)
     }
 
-    /// Tells a message with this status.
+    /// Prints a message with this status.
     pub(crate) fn tell(&mut self, text: &[u8], status: u8) -> u8
         requires { CanFail self.old }
         ensures { Tells (λ o. o ≡ tells status text.now) self.old self.new result }
@@ -60,7 +60,7 @@ impl<O: Sink, E: Sink> Outputs<O, E> {
         print(&mut self.err, text, status)
     }
 
-    /// Tells a refusal.
+    /// Prints a refusal.
     pub(crate) fn refuse(&mut self, refusal: Refusal) -> u8
         requires { CanFail self.old }
         ensures { Tells (λ o. o ≡ refused refusal) self.old self.new result }

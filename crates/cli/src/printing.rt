@@ -1,4 +1,4 @@
-//! What is told on standard output or standard error, and the status.
+//! What is printed on standard output or standard error, and the status.
 
 ghost use Rattle.std.specs.Prelude.{◌≡◌, ◌-◌, ◌^◌, ◌<◌};
 ghost use Rattle.cli.specs.Outputs.{CanFail};
@@ -52,7 +52,7 @@ pub(crate) fn print_reply<W: Sink>(out: &mut W, reply: &Reply) -> u8
     }
 }
 
-/// Tells what came of the text of a round file.
+/// Prints what came of the text of a round file.
 pub(crate) fn tell_round<O: Sink, E: Sink>(
     came: Result<String, Trouble>,
     outputs: &mut Outputs<O, E>,

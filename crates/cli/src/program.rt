@@ -18,7 +18,7 @@ use std::rt::HostRuntime;
 use std::{env, io};
 use web::{Sink, Source, Watched, serve_stream};
 
-/// Serves a stream over a new database in memory, from the empty office on, and tells whether it was served to its end.
+/// Serves a stream over a new database in memory, from the empty office on, and returns whether it was served to its end.
 ///
 /// It is not where memory runs out for the database, and where reader or writer fails.
 pub fn serve_anew<R: Source, W: Sink>(alloc: Global, reader: &mut R, writer: &mut W) -> bool
@@ -40,10 +40,10 @@ pub fn serve_anew<R: Source, W: Sink>(alloc: Global, reader: &mut R, writer: &mu
     }
 }
 
-/// Does the line of the words that were given, of which the first is the program's name, as `tell_line` does; where there is no other
-/// word, serves the reader's stream to standard output, as `serve_anew` does; where they cannot be read, tells why, as `tell_unread`
+/// Does the line of the words that were given, the program's name first, as `tell_line` does; where there is no other
+/// word, serves the reader's stream to standard output, as `serve_anew` does; where they cannot be read, prints why, as `tell_unread`
 /// does. Gives the status of the program: 0 for a stream that was served to its end, and 1 for one that was not. What came of closing
-/// a database file is given back beside it.
+/// a database file is given back next to it.
 pub fn begin<S: Start, R: Source, O: Sink, E: Sink>(
     rt: &HostRuntime,
     start: S,
@@ -80,8 +80,8 @@ fn given(rt: &HostRuntime) -> io::Result<Vec<String>> {
 
 /// Does all that the program does, and gives its status, which is at most 2.
 ///
-/// Its arguments are words for `begin`, which reads standard input and writes to standard output and standard error, or it is told
-/// why they cannot be read, as by `tell_unread`.
+/// Its arguments are words for `begin`, which reads standard input and writes to standard output and standard error, or it prints why they
+/// cannot be read, as `tell_unread` does.
 pub fn start(rt: &HostRuntime) -> u8
     ensures { result ≤ 2 }
 {

@@ -37,7 +37,7 @@ fn do_read(alloc: Global, way: RoundTask, read: Result<Vec<u8>, Refusal>) -> Res
     }
 }
 
-/// Does this with the round of a file, and tells what comes of it.
+/// Does this with the round of a file, and prints what comes of it.
 pub(crate) fn do_file<O: Sink, E: Sink>(
     rt: &HostRuntime,
     way: RoundTask,

@@ -22,7 +22,7 @@ use std::io::Write;
 use std::rt::HostRuntime;
 use web::{Sink, Watched};
 
-/// Does a line, and tells what comes of it. A file is read first, then a database is opened, then a port is bound, and then the
+/// Does a line, and prints what comes of it. A file is read first, then a database is opened, then a port is bound, and then the
 /// request is judged.
 fn do_line<S: Start, O: Sink, E: Sink>(
     rt: &HostRuntime,
@@ -85,11 +85,11 @@ fn do_line<S: Start, O: Sink, E: Sink>(
     }
 }
 
-/// Does the line of these words, of which the first is the program's name, and gives the status of the program, and what came of
+/// Does the line of these words, the program's name first, and gives the status of the program, and what came of
 /// closing the database file, where one was opened. These are its first contents.
 ///
 /// A result is printed with status 0, and a check that failed with status 1. A refusal, a bad line of a round text or a port
-/// that cannot be bound is told with status 1, a fault of the line with status 2, and help or the version is printed with status 0.
+/// that cannot be bound is printed with status 1, a fault of the line with status 2, and help or the version is printed with status 0.
 /// Where a writer fails, the status is 1, and what was done stays done.
 pub fn tell_line<S: Start, O: Sink, E: Sink>(
     rt: &HostRuntime,
@@ -110,7 +110,7 @@ pub fn tell_line<S: Start, O: Sink, E: Sink>(
     }
 }
 
-/// Tells on `err` why the arguments of the program cannot be read, and gives the status of the program: 1 where there was no
+/// Prints on `err` why the arguments of the program cannot be read, and gives the status of the program: 1 where there was no
 /// memory for them, as a refusal, and 2 where one is not UTF-8, which is a fault of the line. Where the writer fails it is 1.
 pub fn tell_unread<E: Sink>(unread: Unread, err: &mut E) -> u8
     requires { E.failures err.old < 2 ^ 64 - 1 }

@@ -30,7 +30,7 @@ pub(crate) enum Task {
     Serve(Serving),
 }
 
-/// So many connections to a port of the loopback address.
+/// A count of connections to a port of the loopback address.
 #[derive(Clone, Copy, Drop)]
 pub(crate) struct Serving {
     /// The port, or 0 for any that is free.
@@ -74,7 +74,7 @@ fn loopback(port: u16) -> SocketAddrV4
     SocketAddrV4::new(Ipv4Addr::LOCALHOST, port)
 }
 
-/// Serves connections of a listener that was bound to their port, at a desk, or tells that it could not be bound.
+/// Serves connections of a listener that was bound to their port, at a desk, or prints that it could not be bound.
 fn serve_bound<S: Alter, O: Sink, E: Sink>(
     alloc: Global,
     desk: &mut Desk<S>,
@@ -95,7 +95,7 @@ fn serve_bound<S: Alter, O: Sink, E: Sink>(
     }
 }
 
-/// Does a task at a desk, and tells what comes of it.
+/// Does a task at a desk, and prints what comes of it.
 pub(crate) fn do_at<S: Alter, O: Sink, E: Sink>(
     rt: &HostRuntime,
     desk: &mut Desk<S>,

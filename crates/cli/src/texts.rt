@@ -11,7 +11,7 @@ use rolls::Refusal;
 use spa::RANKS;
 use web::{ShortText, push, push_labelled, push_number};
 
-/// What is told where an argument is not UTF-8, as `clap` words a fault of the line.
+/// What is printed where an argument is not UTF-8, as `clap` words a fault of the line.
 pub(crate) static NOT_UTF8: &str =
     "error: invalid UTF-8 was detected in one or more arguments\n\nUsage: spadesk <COMMAND>\n\nFor more information, try '--help'.\n";
 

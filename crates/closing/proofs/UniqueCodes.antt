@@ -18,7 +18,7 @@ use Rattle.rolls.proofs.EntryChange.{same_code}
 use Rattle.rolls.proofs.Places.{keys_total}
 use Rattle.rolls.proofs.NoMoreThanFound.{all_above, all_two}
 
--- ---- codes that rise are apart
+-- ---- codes that rise are distinct
 
 -- a code's key
 abbrev pub code_key : List ℕ → Key

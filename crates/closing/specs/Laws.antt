@@ -18,7 +18,7 @@ use Rattle.closing.specs.Changes.{after_placing, placed_reply, closing_changes, 
 abbrev pub ClosingKeepsFit : Type 0
 ClosingKeepsFit = (M : List CodePair) (o : State) → IsFit o → MayClose o M → IsFit (after_close M o)
 
--- the changes of a round that closes turn the rows of the office before into those after
+-- the changes of a round that closes transform the rows of the office before into those after
 abbrev pub ClosingTurns : Type 0
 ClosingTurns = (M : List CodePair) (o : State) → IsFit o → MayClose o M → Turns (close_changes M o) o (after_close M o)
 

@@ -3,7 +3,7 @@
 
 ghost use Rattle.closing.specs.Laws.{ClosingKeepsFit, ClosingTurns, KeptIsCounted, PlacesAreTaken, PlacesAreInLists, PlacedIsKept, PlacesClose, AreFew};
 
-/// An office whose open round closes with a matching stays fit, the changes of closing turn its rows, and its placements are
+/// An office whose open round closes with a matching stays fit, the changes of closing transform its rows, and its placements are
 /// counted in the matching.
 pub fn closing_law()
     ensures fit { ClosingKeepsFit }

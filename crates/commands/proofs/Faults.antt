@@ -1,4 +1,4 @@
--- What a fault tells of the kinds by which `clap` fails.
+-- What a fault says of the kinds by which `clap` fails.
 use Rattle.std.proofs.Common.{◌≡◌, ◌⊎◌, inl, inr, subst, refl, sym, Result, Ok, Err, MatchResult, String}
 use Rattle.std.specs.declared.alloc.Global.{Global}
 use Rattle.clap.specs.Words.{IsAmong}
@@ -10,7 +10,7 @@ use Rattle.commands.specs.Inside.Reading.{IsFaultAs, IsToldBy}
 use Rattle.commands.specs.declared.line.LineFault.{LineFault}
 use Rattle.commands.specs.declared.line.LineFault.TheVariants.{Memory, Help, Version, Fault}
 
--- the fault of an error tells its kind
+-- the fault of an error has its kind
 pub told_by : {E : Type 0} (kind : ErrorKind) (text : Result (String Global) E) (fault : LineFault) → MatchResult text (λ t. IsFaultAs kind t fault) (λ _. fault ≡ Memory)
     → IsToldBy kind fault
 told_by kind (Err e) fault is = subst (IsToldBy kind) (sym is) tt
@@ -19,7 +19,7 @@ told_by kind (Ok t) fault (inr (inl help)) = subst (IsToldBy kind) (sym help.1) 
 told_by kind (Ok t) fault (inr (inr (inl version))) = subst (IsToldBy kind) (sym version.1) version.0
 told_by kind (Ok t) fault (inr (inr (inr other))) = subst (IsToldBy kind) (sym other.3) (other.0, other.1, other.2)
 
--- a fault that tells one of the kinds
+-- a fault that has one of the kinds
 pub is_fault : (kinds : ErrorKinds) (kind : ErrorKind) (fault : LineFault) → (kind ≡ OutOfMemory) ⊎ IsAmong kind kinds → IsToldBy kind fault → IsFaultOf kinds fault
 is_fault kinds kind Memory h told = tt
 is_fault kinds kind (Help text) (inl memory) told = cc

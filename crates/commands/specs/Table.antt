@@ -1,4 +1,4 @@
--- The lines of the program, each told once.
+-- The lines of the program, each described once.
 use Rattle.std.specs.Prelude.{Bool, true, false, List, [], ◌∷◌, codes}
 use Rattle.clap.specs.Words.{Text}
 use Rattle.commands.specs.declared.table.Takes.{Takes}

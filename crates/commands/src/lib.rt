@@ -1,6 +1,6 @@
 //! The words of a command line, and the line of the program that they stand for.
 //!
-//! Each line is told once, as a row of a table: its name, what help says of it, and its arguments. The command that `clap`
+//! Each line is described once, as a row of a table: its name, what help says of it, and its arguments. The command that `clap`
 //! reads the words by is made of that table, and of what `clap` read a `Line` is made. What a line does is `cli`'s matter.
 //!
 //! Promised: a line is given only where `clap`'s reading of the words gives its name and its values, and the words are

@@ -25,7 +25,7 @@ pub enum Line {
         database: String,
         /// What the records are.
         kind: ImportKind,
-        /// The id under which the import is kept.
+        /// The id under which the import is stored.
         id: String,
         /// The file with the records.
         file: String,

@@ -62,7 +62,7 @@ fn subcommand<'a>(
     Ok(command)
 }
 
-/// Returns the program: its lines are subcommands, of which one must be given.
+/// Returns the program: its lines are subcommands, and one must be given.
 pub(crate) fn program<'a>(alloc: Global, kinds: Kinds<'a>) -> Result<Command<'a>, AllocError>
     ensures { IfOk result (λ c. app_of c ≡ program kinds.entry) }
 {

@@ -183,7 +183,7 @@ fn answer<'a>(alloc: Global, kinds: Kinds<'a>, words: &'a [String]) -> Result<Li
     }
 }
 
-/// The line that the words stand for, of which the first is the program's name.
+/// Returns the line that the words stand for. The first word is the program's name.
 ///
 /// The words are read as `clap` reads them. `Help`, `Version` and `Fault` have its text: help is asked for by `help` and by
 /// `--help`, which may follow the name of a line, the version by `--version` in the place of a line, and a fault is a word that

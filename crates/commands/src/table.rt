@@ -1,4 +1,4 @@
-//! The lines of the program, each told once.
+//! The lines of the program, each described once.
 
 ghost use Rattle.std.specs.Prelude.{◌≡◌, map};
 ghost use Rattle.commands.specs.Table.{lines};

@@ -16,7 +16,7 @@ use Rattle.desk.proofs.Runs.{crash_none}
 
 -- ---- refused by name
 
--- such a refusal does not tell of the storage
+-- such a refusal says nothing of the storage
 pub named_unstored : (o : State) (q : Request) (r : Refusal) → refusal_of o q ≡ Some r → ◌≡◌ {A = Result Reply Refusal} (Err r) (Err Storage) → ⊥
 named_unstored o q r is told = let same : r ≡ Storage = cc in unread_named o q (is ∙ ap Some same)
 

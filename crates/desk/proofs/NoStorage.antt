@@ -1,4 +1,4 @@
--- No refusal by which the office refuses a request tells of the storage.
+-- No refusal by which the office refuses a request says anything of the storage.
 use Rattle.std.proofs.Common.{◌≡◌, ℕ, suc, List, [], ◌∷◌, ◌++◌, Bool, true, false, not, Option, Some, None, Result, Ok, Err, IfErr, ◌⊎◌, inl, inr, refl, sym, ap, ◌∙◌}
 use Rattle.std.specs.Prelude.{if◌then◌else◌}
 use Rattle.std.specs.List.{list_all}
@@ -84,7 +84,7 @@ import_named o id kind bytes = at (first (import_tests o id kind bytes)) (has_im
     at None true is e = cc
     at None false is e = text_named o (requests_of kind bytes) e
 
--- a making that is refused by no such refusal, or as out of memory, does not answer of the storage
+-- a making that is refused by no such refusal, or as out of memory, says nothing of the storage
 pub unstored : {A : Type 0} (x : Option Refusal) (r : Result A Refusal) → (x ≡ Some no.Storage → ⊥) → IfErr r (λ e. (e ≡ no.Memory) ⊎ (x ≡ Some e)) → r ≡ Err no.Storage → ⊥
 unstored x (Ok a) never h is = cc
 unstored x (Err e) never (inl memory) is = let same : e ≡ no.Storage = cc in let clash : no.Memory ≡ no.Storage = sym memory ∙ same in cc

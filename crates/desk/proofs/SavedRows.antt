@@ -1,4 +1,4 @@
--- Changes that turn the rows of one office into those of the next, saved: the tables stand for the next one.
+-- Changes that transform the rows of one office into those of the next, saved: the tables stand for the next one.
 use Rattle.std.proofs.Common.{◌≡◌, IsTrue, inl, inr, List, None, refl, sym, subst, arith}
 use Rattle.sqlite.specs.Effect.{Database}
 use Rattle.sqlite.specs.State.{State as Seen, HasCleanDisk, Survives}
@@ -71,7 +71,7 @@ opened_stands old new office (inl made) = subst (λ (o : State). StandsFor new o
 opened_stands old new office (inr (inl found)) = subst (λ (db : Database). StandsFor db office) (sym found.0) found.1
 opened_stands old new office (inr (inr raised)) = raised.stands
 
--- what is told as a fault of the storage was one of the store
+-- what is answered as a fault of the storage was one of the store
 pub was_storage : (fault : StoreFault) (refusal : Refusal) → (fault ≡ store.Memory → refusal ≡ no.Memory) → (fault ≡ store.Damaged → refusal ≡ no.Damaged) → refusal ≡ no.Storage → fault ≡ store.Storage
 was_storage store.Memory refusal memory damaged e = let is = memory refl in cc
 was_storage store.Storage refusal memory damaged e = refl

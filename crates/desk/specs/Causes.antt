@@ -9,7 +9,7 @@ use Rattle.outside.specs.Changes.{MayChange}
 use Rattle.store.specs.Causes.{IsHinderedToSave}
 use Rattle.desk.specs.Keeping.{CarriesOut}
 
--- changes that the request may make, which turn the office into one that it makes of it and add rows of new keys alone, can't be saved
+-- changes that the request may make, which transform the office into one that it makes of it and add rows of new keys alone, can't be saved
 pub record IsHinderedToAsk (office : State) (request : Request) (limit : Option ℕ) (db : Database) : Type 0 where
   pub next : State
   pub carried : CarriesOut office request next

@@ -1,4 +1,4 @@
--- What a caller sees of a desk: the office, what the connection to its tables holds, and the session that is kept, if any.
+-- What a caller sees of a desk: the office, what the connection to its tables holds, and the session that is cached, if any.
 use Rattle.std.specs.Prelude.{◌≡◌, Option, None}
 use Rattle.sqlite.specs.Held.{Held, state}
 use Rattle.sqlite_trees.specs.declared.store.Store.{Ghosts}
@@ -13,7 +13,7 @@ pub record DeskState (S : Type 0) : Type 0 where
   pub store : Held S
   pub session : Option SessionState
 
--- the desk of an office that was opened: its tables stand for it, and no session is kept
+-- the desk of an office that was opened: its tables stand for it, and no session is cached
 pub record IsOpened {S : Type 0} (ghosts : Ghosts S) (old : Held S) (desk : DeskState S) : Type 0 where
   pub opening : IsOpening ghosts old desk.store desk.office
   pub tables : Keeps (state ghosts desk.store) desk.office

@@ -54,7 +54,7 @@ abbrev pub repeated_rows : State → Request → Option ℕ
 repeated_rows office (request.Import id kind bytes) = kept_rows office id
 repeated_rows office _ = None
 
--- a kept import that is asked for once more, with the same kind and bytes, answers its own number of rows
+-- a stored import that is asked for once more, with the same kind and bytes, answers its own number of rows
 abbrev pub AnswersKept : State → Request → Result Reply Refusal → Type 0
 AnswersKept office request answer = refusal_of office request ≡ None → IfSome (repeated_rows office request) (λ rows. answer ≡ Ok (reply.Rows rows))
 

@@ -25,6 +25,6 @@ pub record IsSaved (office : State) (request : Request) (answer : Result Reply R
   pub stays_shut : HasCleanDisk new → IsTrue new.is_open → IsTrue old.is_open
   -- where a foreign key would write other rows too, no change is made
   pub acted_on : changes_nothing office request ≡ false → AreActedOn old.now.schema → IsErr answer
-  -- why the storage has failed: a foreign key apart, a shut connection, a fault of the disk, or a refused statement of the changes that
-  -- the request makes
+  -- why the storage has failed, except for a foreign key: a shut connection, a fault of the disk, or a refused statement of the changes
+  -- that the request makes
   pub cause : (AreActedOn old.now.schema → ⊥) → IsCaused Storage (IsHinderedToAsk office request) answer old new

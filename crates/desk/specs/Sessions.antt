@@ -32,12 +32,12 @@ fate_of o request.RoundText = Stays
 fate_of o (request.Report kind round) = Stays
 fate_of o (request.Import id kind bytes) = if has_import o id then Stays else Ends
 
--- a session that is kept stays, and where none is kept one is started
+-- a session that is cached stays, and where none is cached one is started
 abbrev pub IsStarted : Option SessionState → Option SessionState → Type 0
 IsStarted None new = IsTrue (is_some new)
 IsStarted (Some s) new = new ≡ Some s
 
--- a session that is kept has one student more, or is dropped
+-- a session that is cached has one student more, or is dropped
 abbrev pub IsJoined : Option SessionState → Option SessionState → Type 0
 IsJoined None new = new ≡ None
 IsJoined (Some s) new = IfSome new (IsOneMore s)
@@ -54,8 +54,8 @@ abbrev pub GoesOn : State → Request → Result Reply Refusal → Option Sessio
 GoesOn o q (Ok reply) old new = Goes (fate_of o q) old new
 GoesOn o q (Err refusal) old new = new ≡ old
 
--- a request that is refused by name is answered so, and a fault of the storage is told of what changes the office alone, and where nothing
--- refuses it
+-- a request that is refused by name is answered so, and a fault of the storage is answered to what changes the office alone, and where
+-- nothing refuses it
 pub record IsToldRight (o : State) (q : Request) (a : Result Reply Refusal) : Type 0 where
   pub named : IfSome (refusal_of o q) (λ r. a ≡ Err r)
   pub storage : a ≡ Err Storage → changes_nothing o q ≡ false
@@ -76,6 +76,6 @@ RunsOn o old (q ∷ qs) (a ∷ answers) n new = (m : State) × (kept : Option Se
 RunsOn o old [] (a ∷ answers) n new = ⊥
 RunsOn o old (q ∷ qs) [] n new = ⊥
 
--- a session that is kept sits in the office
+-- a session that is cached sits in the office
 abbrev pub SitsAt : State → Option SessionState → Type 0
 SitsAt o kept = IfSome kept (λ s. IsSessionOf o s)

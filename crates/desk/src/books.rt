@@ -1,4 +1,4 @@
-//! The books of a desk: an office in memory beside the tables that stand for it.
+//! The books of a desk: an office in memory next to the tables that stand for it.
 
 ghost use Rattle.std.specs.Prelude.{ℕ, ◌≡◌, ◌≢◌, ◌⊎◌, Err, IfErr, IfOk, IfSome, IsOk, None, false, true};
 ghost use Rattle.sqlite.specs.Held.{state};
@@ -24,7 +24,7 @@ use std::marker::Model;
 use std::mem;
 use store::{Store, StoreFault};
 
-/// An office in memory beside the tables that stand for it.
+/// An office in memory next to the tables that stand for it.
 #[derive(Drop)]
 pub(crate) struct Books<S: Alter> {
     pub(crate) alloc: Global,

@@ -27,7 +27,7 @@ use std::alloc::{AllocError, Global};
 use std::marker::Model;
 use store::Store;
 
-/// An office in memory beside the tables that stand for it, and a session of its open round where a preview was asked for.
+/// An office in memory next to the tables that stand for it, and a session of its open round where a preview was asked for.
 #[derive(Drop)]
 pub struct Desk<S: Alter> {
     alloc: Global,
@@ -63,7 +63,7 @@ fn changes_nothing(office: &Office, request: &Request) -> bool
 
 impl<S: Alter> Desk<S> {
     /// Opens the office that the tables of a database stand for. Where none of the tables is there they are made, and the
-    /// office is the empty one; those of an earlier edition are raised. With a refusal the connection is given back and its
+    /// office is the empty one; those of an earlier edition are migrated. With a refusal the connection is given back and its
     /// database is as before.
     pub fn open(
         alloc: Global,
@@ -140,7 +140,7 @@ impl<S: Alter> Desk<S> {
         ensures tables { Keeps (state S.Store self.new.store) self.new.office }
         ensures err { OnErr result (self.new ≡ self.old) }
 
-        // The session goes on over each request in turn.
+        // The session goes on over each request in order.
         ensures session { IfOk result (λ answers. RunsOn self.old.office self.old.session requests.items answers.items self.new.office self.new.session) }
 
         // What a crash leaves: what it could leave before, or, where the connection was open, the tables of an office that some
@@ -164,18 +164,18 @@ impl<S: Alter> Desk<S> {
         ensures tables { Keeps (state S.Store self.new.store) self.new.office }
         ensures quiet { needs_no_table self.old.office request ≡ true → self.new.store ≡ self.old.store }
 
-        // A refusal by name is told as itself, and none is told as a fault of the storage.
+        // A refusal by name is answered as itself, and none is answered as a fault of the storage.
         ensures told { IsToldRight self.old.office request result }
 
         // What a crash leaves, that an answered change has its tables alone over an open connection, and why the storage has failed.
         ensures saved { IsSaved self.old.office request result (state S.Store self.old.store) (state S.Store self.new.store) }
 
-        // A kept import that comes once more answers its number, a preview that is read from a session answers, and so does a read of a
+        // A stored import that comes once more answers its number, a preview that is read from a session answers, and so does a read of a
         // round: no table is touched for these, and they allocate nothing.
         ensures at_once { AnswersAtOnce self.old.office self.old.session request result }
 
         // A refusal leaves the session, and so do reads, puts of students and repeated imports. An answered preview leaves one, a
-        // first list joins the one that is kept or drops it, and every other change leaves none.
+        // first list joins the one that is cached or drops it, and every other change leaves none.
         ensures session { GoesOn self.old.office request result self.old.session self.new.session }
     {
         if let Some(refusal) = self.books.office.refusal_of(&request) {

@@ -1,4 +1,5 @@
--- The rows that an office has in an edition, with tables renamed, and in the first one with the aims of its rounds, are its rows in the latest.
+-- The rows that an office has in an edition, with tables renamed, and in the first one with the aims of its rounds, are its rows in the
+-- latest.
 use Rattle.std.proofs.Common.{◌≡◌, false, drop, List, [], ◌∷◌, ◌++◌, map, Option, Some, None, refl, sym, ap, ◌∙◌, append-nil}
 use Rattle.std.specs.Prelude.{IsPermutation}
 use Rattle.std.specs.List.{AllByRecursion}

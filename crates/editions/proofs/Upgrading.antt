@@ -1,5 +1,5 @@
--- The changes that raise an edition: old rows go by their keys, and come in the tables that took their tables' place, the aims of greedy rounds
--- beside them. A row that goes is one of the edition's, so none is left in an old table.
+-- The changes that migrate an edition: old rows go by their keys, and come in the tables that took their tables' place, the aims of greedy
+-- rounds next to them. A row that goes is one of the edition's, so none is left in an old table.
 use Rattle.std.proofs.Common.{◌≡◌, Bool, true, false, not, cond, List, [], ◌∷◌, ◌++◌, map, filter, refl, sym, ap, subst, ◌∙◌, append-nil}
 use Rattle.std.specs.Prelude.{IsPermutation, ◌&&◌, ◌||◌}
 use Rattle.std.specs.List.{list_any, AllByRecursion}
@@ -25,7 +25,7 @@ use Rattle.editions.specs.declared.Edition.TheVariants.{First, Second, Third}
 use Rattle.editions.specs.Editions.{Upgrades, aim_of_round, aims_of, is_old, is_old_table, removal_of, renamed, renamed_row, renaming_changes, rows_in_edition}
 use Rattle.editions.proofs.OtherNames.{is_in, rows_both, renamed_twice, swapped, aims_come, no_others, greedy_rows, first_else}
 
--- rows that are added stand beside those that were there
+-- rows that are added stand next to those that were there
 all_added : (rs : List RowOf) (rows : AllRows) (t : Table) → IsPermutation (after_changes (map Add rs) rows t) (of_table rs t ++ rows t)
 all_added [] rows t = IsPermutation-refl _
 all_added (r ∷ rs) rows t = IsPermutation-trans _ _ _ (all_added rs (after_change (Add r) rows) t) (by (is_in t r))
@@ -143,9 +143,9 @@ own_name : (t : Table) → is_old_table t ≡ false → is_old_table (renamed t)
 own_name EditionTable old took = refl
 own_name _ old took = cc
 
--- ---- an upgrade
+-- ---- a migration
 
--- Rows of an edition before the third, and what comes beside them: the aims of rounds alone.
+-- Rows of an edition before the third, and what comes next to them: the aims of rounds alone.
 module _ (e : Edition) (rows more : List RowOf) (o : State) (fit : IsFit o) (are : SameRows (of_table rows) (rows_in_edition e o))
     (was : (t : Table) → same_table t RoundAim ≡ false → rows_in_edition e o t ≡ rows_in o (renamed t)) (none : (t : Table) → same_table t RoundAim ≡ false → of_table more t ≡ [])
     (aims_free : AreFree RoundAim (of_table more RoundAim) (rows_in_edition e o RoundAim)) (aims : IsPermutation (of_table more RoundAim ++ rows_in_edition e o RoundAim) (rows_in o RoundAim)) where
@@ -172,7 +172,7 @@ module _ (e : Edition) (rows more : List RowOf) (o : State) (fit : IsFit o) (are
       none_left t left_behind (rows_in_edition e o) (recursion_from_All Taken _ (All-permutation Taken _ _ (are t) (All-from_recursion Taken _
       (subst (AllByRecursion Taken) (old_alone t old rows) (all_taken t left_behind)))))
 
-  -- what comes in a table that took no place comes beside the old rows
+  -- what comes in a table that took no place comes next to the old rows
   beside : (t : Table) → is_old_table (renamed t) ≡ false → of_table news t ≡ of_table more t
   beside t new =
       rows_both t (map renamed_row left_behind) more

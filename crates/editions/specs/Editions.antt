@@ -79,7 +79,7 @@ is_old r = is_old_table r.table
 abbrev pub removal_of : RowOf → Change
 removal_of r = Remove (record { group = Key r.table; cells = key_in r.table r.cells })
 
--- the changes by which rows of earlier editions leave their tables for those that took their place, and others come beside them
+-- the changes by which rows of earlier editions leave their tables for those that took their place, and others come besides
 abbrev pub renaming_changes : List RowOf → List RowOf → List Change
 renaming_changes rows more = map removal_of (filter is_old rows) ++ map Add (map renamed_row (filter is_old rows) ++ more)
 
@@ -98,6 +98,6 @@ HaveNoLater _ rows = ⊤
 abbrev pub Renews : Type 0
 Renews = (e : Edition) (rows : List RowOf) (o : State) → HaveNoLater e rows → IsFit o → AreRowsIn e rows o ↔ AreRowsOf (renewed e rows) o
 
--- the changes turn the rows that a fit office has in an edition into those that it has in the latest, and add none at a key that has one
+-- the changes transform the rows that a fit office has in an edition into those it has in the latest, and add none at a key that has one
 abbrev pub Upgrades : Type 0
 Upgrades = (e : Edition) (rows : List RowOf) (o : State) → IsFit o → AreRowsIn e rows o → TurnsRows (upgrade e rows) (rows_in_edition e o) (rows_in o)

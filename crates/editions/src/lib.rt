@@ -1,8 +1,8 @@
 //! Editions of the tables: which rows an office has in each, and what brings those of an earlier one to the latest.
 //!
 //! Promised: what `renewed` makes of the rows of an earlier edition is the rows of one office exactly where the office has
-//! them in that edition, and the changes that `upgrade` makes of them turn them into its rows in the latest; so making the
-//! changes raises the tables. Nothing here knows of SQL: the changes are made as those of a request are.
+//! them in that edition, and the changes that `upgrade` makes of them transform them into its rows in the latest; so making the
+//! changes migrates the tables. Nothing here knows of SQL: the changes are made as those of a request are.
 #![tactic(auto)]
 
 ghost use Rattle.std.specs.Prelude.{◌≡◌, ◌++◌, IfOk, map, filter};
@@ -155,7 +155,7 @@ pub fn renewal_law()
     ensures { Renews }
 {}
 
-/// The law that these changes turn the rows that an office has in an edition into those that it has in the latest.
+/// The law that these changes transform the rows that an office has in an edition into those that it has in the latest.
 pub fn upgrade_law()
     ensures { Upgrades }
 {}

@@ -1,4 +1,4 @@
--- The rows of choices tell what each student lists in each round: at a place of a list stands the project whose row is there.
+-- The rows of choices give what each student lists in each round: at a place of a list stands the project whose row is there.
 use Rattle.std.proofs.Common.{◌≡◌, ℕ, zero, suc, ◌+◌, ◌<◌, ◌==◌, Bool, true, false, List, [], ◌∷◌, slice_get, refl, sym, ap, ◌∙◌, arith}
 use Rattle.std.specs.Prelude.{◌&&◌, ◌||◌, flat_map}
 use Rattle.std.specs.List.{list_any}

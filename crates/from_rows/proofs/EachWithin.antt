@@ -29,7 +29,7 @@ module _ {E : Type 0} (test : E → Bool) (es : List E) (at : ℕ) (e : E) (low 
   from_here : list_all test es ≡ (test e && list_all test (drop (suc at) es))
   from_here = before ∙ ap (list_all test) (drop-cons es at e low ∙ ap (λ x. x ∷ drop (suc at) es) (sym is))
 
-  -- an entry that passes leaves it to those behind it
+  -- an entry that passes leaves it to those after it
   passes : test e ≡ true → list_all test es ≡ list_all test (drop (at + 1) es)
   passes h =
       let next : suc at ≡ at + 1 = omega arith in
@@ -46,7 +46,7 @@ not_above quota there counted placed is same h = grind (arith, nat_tests)
 above : (quota there counted placed : ℕ) → quota ≡ there → counted ≡ placed → there < counted → nat_le placed quota ≡ false
 above quota there counted placed is same h = grind (arith, nat_tests)
 
--- so an entry keeps its quota, and leaves the test to those behind it, or it does not, and decides it
+-- so an entry keeps its quota, and leaves the test to those after it, or it does not, and decides it
 module _ {E : Type 0} (quota placed : E → ℕ) (own all : List E) (same : all ≡ own) (at : ℕ) (e : E) (low : at < length all) (is : e ≡ get_or all at e) (counted : ℕ)
     (count : (x : E) → slice_get own at ≡ Some x → counted ≡ placed x)
     (before : list_all (λ x. nat_le (placed x) (quota x)) all ≡ list_all (λ x. nat_le (placed x) (quota x)) (drop at all)) where

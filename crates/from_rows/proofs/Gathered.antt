@@ -1,4 +1,4 @@
--- What is gathered from rows has these rows: each that is taken in comes beside those that are held.
+-- What is gathered from rows has these rows: each that is taken in comes next to those that are held.
 use Rattle.std.proofs.Common.{◌≡◌, ℕ, suc, ◌+◌, Bool, true, false, cond, List, [], ◌∷◌, ◌++◌, map, filter, Option, Some, None, refl, sym, ap, subst, ◌∙◌, arith, append-nil}
 use Rattle.std.specs.Prelude.{IsPermutation}
 use Rattle.std.specs.Option.{option_and_then}

@@ -4,7 +4,7 @@ use Rattle.std.specs.Prelude.{◌&&◌}
 use Rattle.rolls.specs.declared.rounds.Round.{Round}
 use Rattle.rolls.specs.Fit.{only_last_open}
 
--- the rounds behind one that is open, or is not
+-- the rounds after one that is open, or is not
 abbrev pub goes_on : Bool → List Round → Bool
 goes_on b [] = true
 goes_on b (r ∷ rs) = not b && goes_on r.is_open rs

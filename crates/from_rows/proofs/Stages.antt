@@ -29,7 +29,7 @@ few_stages Choice cells = few_places cells
 few_stages _ cells = omega arith
 
 module _ (r : RowOf) (rows : List RowOf) where
-  -- a row is in none of the stages behind its own
+  -- a row is in none of the stages after its own
   not_later : (n stage : ℕ) → stage_of r < stage → stages n stage (r ∷ rows) ≡ stages n stage rows
   not_later zero stage l = refl
   not_later (suc n) stage l = by (stage_of r == stage) refl (not_later n (suc stage) (omega (arith, l)))

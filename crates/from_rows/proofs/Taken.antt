@@ -116,7 +116,7 @@ module _ {E : Type 0} (key : E → Key) (cells : E → Cells) (Form : E → Type
   entry_beside : cells e ≡ row → AreOf key Form es → has key (key e) es ≡ false → IsPermutation (row ∷ map cells es) (map cells (put key e es))
   entry_beside is are free = from_same (ap (λ r. r ∷ map cells es) (sym is)) (IsPermutation-map cells _ _ (added_beside key e es are.rise free))
 
-  -- an entry of a new key is taken in with the row that tells it
+  -- an entry of a new key is taken in with the row that decodes to it
   entry_taken : IsTold cells Form row e → AreOf key Form es → has key (key e) es ≡ false → IsPermutation (row ∷ map cells es) (map cells (put key e es)) × AreOf key Form (put key e es)
   entry_taken told are free = (entry_beside told.is are free, put_of key Form e es told.form are)
 
@@ -161,14 +161,14 @@ module _ (o : State) (d : IsDrafted o) (row : Cells) where
 
 -- ---- a row of a choice
 
--- a choice behind the others has the row behind theirs
+-- a choice after the others has the row after theirs
 rows_on : (n : ℕ) (s : List ℕ) (place : ℕ) (cs : List (List ℕ)) (c : List ℕ) → choice_rows n s place (cs ++ c ∷ []) ≡ choice_rows n s place cs ++ choice_cells n s (length cs + place) c ∷ []
 rows_on n s place [] c = ap (λ p. choice_cells n s p c ∷ []) (omega arith)
 rows_on n s place (x ∷ cs) c =
     let next : length cs + suc place ≡ suc (length cs) + place = omega arith in
     ap (λ rows. choice_cells n s place x ∷ rows) (rows_on n s (suc place) cs c ∙ ap (λ p. choice_rows n s (suc place) cs ++ choice_cells n s p c ∷ []) next)
 
--- between what stands beside it
+-- between what stands next to it
 between : {X : Type 0} (x : X) (xs ys zs : List X) → IsPermutation zs (xs ++ ys) → IsPermutation (x ∷ zs) ((xs ++ x ∷ []) ++ ys)
 between x xs ys zs same =
     IsPermutation-trans _ _ _ (IsPermutation-cons x _ _ same)
@@ -178,7 +178,7 @@ module _ (n : ℕ) (s c : List ℕ) (lists : List Listed) (rise : rises list_key
   abbrev others : List Cells
   others = flat_map (list_rows n) (take_out list_key (0, s) lists)
 
-  -- the rows of lists are those of a student's beside the others
+  -- the rows of lists are those of a student's next to the others
   lists_beside : IsPermutation (flat_map (list_rows n) lists) (choice_rows n s 1 (choices_among s lists) ++ others)
   lists_beside = of_list (find list_key (0, s) lists) refl
     where
@@ -188,7 +188,7 @@ module _ (n : ℕ) (s c : List ℕ) (lists : List Listed) (rise : rises list_key
           let student : s ≡ l.student = ap (λ (q : Key). q.1) (found_key list_key (0, s) lists l is) in
           to_same (IsPermutation-sym _ _ (IsPermutation-flat_map (list_rows n) _ _ (found_beside list_key (0, s) l lists rise is))) (ap (λ t. choice_rows n t 1 l.choices ++ others) (sym student))
 
-  -- with one more choice of the student its row comes beside them
+  -- with one more choice of the student its row comes next to them
   choice_beside : IsPermutation (choice_cells n s (length (choices_among s lists) + 1) c ∷ flat_map (list_rows n) lists) (flat_map (list_rows n) (with_choice s c lists))
   choice_beside =
       IsPermutation-trans _ _ _ (between _ (choice_rows n s 1 (choices_among s lists)) others _ lists_beside)

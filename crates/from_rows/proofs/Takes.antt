@@ -1,5 +1,6 @@
--- A row of a fit office is taken in when its turn comes. What is held and what is to come are together the rows of the office, and these have
--- different keys: so the row tells an entry of a new key. A choice is the next of its list, since those that come later are of no earlier stage.
+-- A row of a fit office is taken in when it comes in order. What is held and what is to come are together the rows of the office, and these
+-- have different keys: so the row decodes to an entry of a new key. A choice is the next of its list, since those that come later are of no
+-- earlier stage.
 use Rattle.std.proofs.Common.{◌≡◌, ℕ, zero, suc, ◌+◌, ◌<◌, ◌≤◌, ◌==◌, Bool, true, false, cond, List, [], ◌∷◌, ◌++◌, map, filter, length, drop, Option, Some, None, is_some, slice_get, refl, sym, ap, subst, ◌∙◌, arith}
 use Rattle.std.specs.Prelude.{◌&&◌, ◌||◌, nat_le, flat_map, IsPermutation}
 use Rattle.std.specs.List.{AllByRecursion, list_any}
@@ -60,7 +61,7 @@ free t row xs ys zs same apart =
     let none : length (filter (begins (key_in t row)) ys) ≡ 0 = omega (arith, alone, sizes, first, both) in
     not_true _ (sym (none_counted (begins (key_in t row)) ys) ∙ eq-eqb _ _ none)
 
--- a test that tells the entries with a key finds one among the rows where there is one
+-- a test that picks the entries with a key finds one among the rows where there is one
 has_row : {E : Type 0} (key : E → Key) (cells : E → Cells) (test : Cells → Bool) (k : Key) → ((e : E) → test (cells e) ≡ same_key k (key e)) → (es : List E) → list_any test (map cells es) ≡ has key k es
 has_row key cells test k tells [] = refl
 has_row key cells test k tells (e ∷ es) = ap (λ b. b || list_any test (map cells es)) (tells e) ∙ by (same_key k (key e)) (has_row key cells test k tells es)
@@ -72,7 +73,7 @@ has_row key cells test k tells (e ∷ es) = ap (λ b. b || list_any test (map ce
 -- ---- a row of an entry
 
 module _ (t : Table) {E : Type 0} (key : E → Key) (cells : E → Cells) (entry : Cells → Option E) (Form : E → Type 0) (back : E → E) where
-  -- where each of the office's entries is told by its row, and rows tell keys, a row of the office is taken in
+  -- where each of the office's entries is decoded from its row, and rows give keys, a row of the office is taken in
   entry_takes : ((e : E) → Form e → entry (cells e) ≡ Some (back e)) → ((row : Cells) (e : E) → entry row ≡ Some e → cells e ≡ row)
       → ((e x : E) → begins (key_in t (cells e)) (cells x) ≡ same_key (key e) (key x)) → (held : List E → State) (row : Cells) (xs : List Cells) (es ws : List E)
       → AreOf key Form ws → AreApart t (map cells ws) → IsPermutation (row ∷ (xs ++ map cells es)) (map cells ws) → (n : State) × (with_new key es held (entry row) ≡ Some n)

@@ -1,4 +1,4 @@
--- What a row tells: an entry whose row it is, and which has the form. An entry of the form is told by its row.
+-- What a row decodes to: an entry whose row it is, and which has the form. An entry of the form is what its row decodes to.
 use Rattle.std.proofs.Common.{◌≡◌, ℕ, ◌≤◌, ◌==◌, Bool, true, false, cond, List, [], ◌∷◌, Option, Some, None, refl, sym, ap, subst, ◌∙◌, arith}
 use Rattle.std.specs.Prelude.{◌&&◌, IsTrue}
 use Rattle.std.specs.Cmp.{first_so, second_so}

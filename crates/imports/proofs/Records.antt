@@ -90,7 +90,7 @@ read_takes_a_byte : (s : State) (xs : List ℕ) (r : Read) → ends_at_end s ≡
 read_takes_a_byte s [] r h e = let none = none_at_end s h in cc
 read_takes_a_byte s (x ∷ xs) r h e = let fewer = (read_leaves s [] [] (x ∷ xs) r e).fewer in omega arith
 
--- what was read up to the end of the text is what `records_from` gives, where it has enough turns
+-- what was read up to the end of the text is what `records_from` gives, where it has enough iterations
 from_reached : (n : ℕ) (s s2 : State) (xs ys : List ℕ) (rows : List (List (List ℕ))) → ends_at_end s ≡ false → length xs < n
     → Reached default_config s xs rows s2 ys → next_record default_config s2 [] [] ys ≡ None → records_from default_config n s xs ≡ rows
 unfolding Reached records_from
@@ -106,7 +106,7 @@ from_reached (suc n) s s2 xs ys (row ∷ rows) h l reached end =
 pub records_read : (bytes : List ℕ) (rows : List (List (List ℕ))) → AreRecords default_config st.StartRecord (strip_bom bytes) rows → rows ≡ records_of bytes
 records_read bytes rows are = sym (from_reached _ st.StartRecord are.0 (strip_bom bytes) are.1 rows refl (omega arith) are.2 are.3)
 
--- whatever the number of turns, there are no more records than bytes
+-- whatever the number of iterations, there are no more records than bytes
 few_from : (n : ℕ) (s : State) (xs : List ℕ) → ends_at_end s ≡ false → length (records_from default_config n s xs) ≤ length xs
 unfolding records_from
 few_from zero s xs h = omega arith

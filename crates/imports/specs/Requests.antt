@@ -28,7 +28,7 @@ is_header kind fields = pointwise bytes_eq fields (header_of kind)
 abbrev pub has_other_length : ImportKind → List (List ℕ) → Bool
 has_other_length kind fields = not (length fields == length (header_of kind))
 
--- a record that the fault names is one of so many
+-- a record that the fault names is one of this many
 abbrev pub IsRecordOf : ℕ → ImportFault → Type 0
 IsRecordOf count (Fields number) = number ≤ count
 IsRecordOf count Header = ⊤
@@ -38,7 +38,7 @@ IsRecordOf count Memory = ⊤
 abbrev pub requests_after : ImportKind → List (List (List ℕ)) → Result (List Plain) ImportFault
 requests_after kind rest = option_map_or (λ before. Err (Fields (before + 1))) (position (has_other_length kind) rest) (Ok (map (request_of kind) rest))
 
--- the requests of records, of which the first has to be the kind's header
+-- the requests of records; the first has to be the kind's header
 abbrev pub requests_of_records : ImportKind → List (List (List ℕ)) → Result (List Plain) ImportFault
 requests_of_records kind [] = Err Header
 requests_of_records kind (first ∷ rest) = if is_header kind first then requests_after kind rest else Err Header

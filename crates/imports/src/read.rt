@@ -17,7 +17,7 @@ use csv::{ByteRecord, ErrorKind, ReaderBuilder};
 use rolls::{ImportKind, Plain};
 use std::alloc::{AllocError, Global};
 
-/// Whether an error of a reader tells of the records that it read.
+/// Whether an error of a reader speaks of the records that it read.
 fn is_of_form(kind: &ErrorKind) -> bool
     ensures { result ≡ is_of_form kind.now }
 {

@@ -71,7 +71,7 @@ whole_parts p d w = record {
   supervisor_prices = by_entries (λ (e : Supervisor). e.code) p.instance.supervisors p.supervisor_prices d.prices.2.2.0 w.1.1.0;
 }
 
--- codes that rise are apart
+-- codes that rise are distinct
 apart : (codes : List (List ℕ)) → Rise codes → (m n : ℕ) → m < n → n < length codes → slice_get codes m ≡ slice_get codes n → ⊥
 apart codes rise m n h l same =
     let code : List ℕ = get_or codes n [] in

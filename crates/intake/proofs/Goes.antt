@@ -30,7 +30,7 @@ tested_high b h = grind (arith, nat_tests)
 
 -- a byte that stands in no field
 module _ (c : ℕ) (low : c < 45) where
-  -- it is apart from those that do
+  -- it is distinct from those that do
   apart : (b : ℕ) → 45 ≤ b → (b == c) ≡ false
   apart b h = ne_eqb b c (λ e. omega (arith, e))
 

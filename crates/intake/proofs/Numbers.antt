@@ -35,7 +35,7 @@ number_utf8 n h = IsUtf8-from_ascii (signed_decimal n) (IsAscii-signed n (small 
 pub number_parsed : {E : Type 0} (n : ℤ) (bs : List ℕ) (r : Result ℤ E) → InRange n → bs ≡ signed_decimal n → ParsesSigned w64 10 bs r → r ≡ Ok n
 number_parsed n bs r h e p = parse-signed_decimal w64 n bs r (record { sfits = small n h }) (small n h) e p
 
--- such a number is kept in 64 bits
+-- such a number is held in 64 bits
 pub number_kept : (n : ℤ) → InRange n → to_z w64 (of_z w64 n) ≡ n
 number_kept n h = to_z-of_z w64 n (record { sfits = small n h })
 

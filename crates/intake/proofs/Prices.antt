@@ -64,7 +64,7 @@ changed n vs [] = []
 changed zero vs (s ∷ ss) = record s { prices = vs } ∷ ss
 changed (suc n) vs (s ∷ ss) = s ∷ changed n vs ss
 
--- they are prices in turn
+-- they are prices in order
 pub changed_turn : (n : ℕ) (vs : List (List ℤ)) (xs : List Priced) → ArePricedInTurn xs → IsTurn n xs → At n (λ s. ArePricesUpTo (length s.codes) vs) xs → ArePricedInTurn (changed n vs xs)
 changed_turn n vs [] d t a = tt
 changed_turn zero vs (s ∷ ss) d t a = (a, inl t, d.2)

@@ -37,7 +37,7 @@ pair_text projects cs lists places = ended (section_lines (record { letter = cod
 abbrev pub price_text : List ℕ → List (List ℕ) → List (List ℤ) → List ℕ
 price_text letter cs vs = ended (section_lines (record { letter = letter; rows = price_rows cs vs }))
 
--- four sections that were written in turn
+-- four sections that were written in order
 four_joined : (out : List ℕ) (a b c d : List (List ℕ)) → (((out ++ ended a) ++ ended b) ++ ended c) ++ ended d ≡ out ++ ended (a ++ (b ++ (c ++ (d ++ []))))
 four_joined out a b c d = simp (flat_map-append, append_assoc, append-nil)
 
@@ -144,7 +144,7 @@ named_students projects (c ∷ cs) (l ∷ ls) h = ap (λ (rest : List (List ℕ)
 abbrev pub prices_of : List ℕ → List (List ℕ) → List (List ℤ) → List (List ℕ)
 prices_of letter cs vs = section_lines (record { letter = letter; rows = price_rows cs vs })
 
--- the lines of a matching and of prices that were written in turn
+-- the lines of a matching and of prices that were written in order
 pub four_written : (i : Named) (aim : Aim) (places : List (Option ℕ)) (prices : Prices) (out a b d e : List ℕ) → IsFit i
     → a ≡ out ++ ended (section_lines (record { letter = codes "M"; rows = pair_rows (students_named i.project_codes i.student_codes i.shape.students) places }))
     → b ≡ a ++ ended (prices_of (codes "U") i.student_codes prices.students.items)

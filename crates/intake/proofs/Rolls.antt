@@ -31,7 +31,7 @@ known_more known codes n code so_far here has p other h e =
     below_more (λ p. (other : List ℕ) → slice_get codes p ≡ Some other → Contains known other) n (λ p h other e. so_far p other h e)
     (λ other e. let same : code ≡ other = (let s : Some code ≡ Some other = sym here ∙ e in cc) in subst (λ (c : List ℕ). Contains known c) same has) p h other e
 
--- a code that stands nowhere among the first n is apart from them
+-- a code that stands nowhere among the first n is distinct from them
 pub apart_more : (codes : List (List ℕ)) (n : ℕ) (code : List ℕ) → slice_get codes n ≡ Some code → AreApart codes n → Finds codes n code None → AreApart codes (n + 1)
 apart_more codes n code here apart new p q h l =
     elim (cases_lt q n) [

@@ -49,7 +49,7 @@ abbrev pub has_letter : List ℕ → List Section → Bool
 has_letter l [] = false
 has_letter l (s ∷ ss) = bytes_eq l s.letter || has_letter l ss
 
--- the letters are apart
+-- the letters are distinct
 abbrev pub are_apart : List Section → Bool
 are_apart [] = true
 are_apart (s ∷ ss) = not (has_letter s.letter ss) && are_apart ss
@@ -75,7 +75,7 @@ both : (a b : Bool) → (a && b) ≡ true → (a ≡ true) × (b ≡ true)
 both true b h = (refl, h)
 both false b h = cc
 
--- a test that is told as failing fails
+-- a test that is said to fail fails
 told : (b : Bool) → not b ≡ true → b ≡ false
 told true h = cc
 told false h = refl

@@ -48,7 +48,7 @@ pub record Front {X : Type 0} (row : X → Row) (code : X → List ℕ) (new old
   pub is : r ≡ row e
   pub codes_of : (rest : List (List ℕ)) × (map code new ≡ (map code old ++ code e ∷ []) ++ rest)
 
--- the same behind one entry
+-- the same after one entry
 front_more : {X : Type 0} (row : X → Row) (code : X → List ℕ) (x y : X) (new old : List X) (r : Row) → code x ≡ code y → Front row code new old r → Front row code (x ∷ new) (y ∷ old) r
 front_more row code x y new old r same f = record { e = f.e; here = f.here; is = f.is; codes_of = (f.codes_of.0, ap (λ (c : List ℕ). c ∷ map code new) same ∙ ap (λ (cs : List (List ℕ)). code y ∷ cs) f.codes_of.1) }
 

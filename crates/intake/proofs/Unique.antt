@@ -1,4 +1,4 @@
--- The text of parts tells them.
+-- The text of parts determines them.
 use Rattle.std.proofs.Common.{◌≡◌, ℕ, suc, ◌-◌, ◌<◌, ◌≤◌, inl, inr, ℤ, pos, List, [], ◌∷◌, length, map, get_or, slice_get, Option, Some, None, All, Result, Ok, Err, decimal, refl, sym, ap, ◌∙◌, subst, arith}
 use Rattle.std.specs.Fmt.{signed_decimal}
 use Rattle.std.specs.List.{AllZip}

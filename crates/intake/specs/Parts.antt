@@ -13,7 +13,7 @@ use Rattle.spa.specs.Instance.{Instance, Student, supervisor_codes, project_code
 use Rattle.spa.specs.Made.{IsWithin, IsSoundList}
 use Rattle.verdict.specs.Rows.{EachInRange}
 
--- the aim, the instance, for each student the place in the list or none, and the prices, each of so many numbers
+-- the aim, the instance, for each student the place in the list or none, and the prices, each of this many numbers
 pub record Parts : Type 0 where
   pub aim : Aim
   pub instance : Instance

@@ -1,4 +1,4 @@
-//! Lists kept beside the places: who is placed at each project, and what each supervisor offers.
+//! Lists stored next to the places: who is placed at each project, and what each supervisor offers.
 
 ghost use Rattle.std.specs.Prelude.{◌≡◌, ℕ, ◌+◌, ◌*◌, ◌<◌, ◌≤◌, ◌==◌, length, slice_get, Some, IfOk};
 ghost use Rattle.network.specs.Inside.Push.{one_if, owner_at};

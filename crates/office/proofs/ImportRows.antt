@@ -36,7 +36,7 @@ use Rattle.office.proofs.ReadAnswers.{no_turns}
 abbrev pub import_added : Import → Change
 import_added i = Add (record { table = ImportTable; cells = import_cells i })
 
--- all rows but the rest were made, so many of them, and with these changes
+-- all rows but the rest were made, this many of them, and with these changes
 pub record IsUnderWay (rows rest : List Plain) (old now : State) (changes : List Change) (made : ℕ) : Type 0 where
   pub refusal : rows_refusal 1 old rows ≡ rows_refusal (made + 1) now rest
   pub after : after_rows rows old ≡ after_rows rest now
@@ -98,11 +98,11 @@ something_kept None n h = cc
 something_kept (Some i) n h = refl
 
 module _ (id : List ℕ) (kind : ImportKind) (bytes : List ℕ) (rows : List Plain) (old : State) where
-  -- what changes where a kept import changes nothing
+  -- what changes where a stored import changes nothing
   abbrev unless_kept : Bool → List Change
   unless_kept b = if b then [] else changes_of_rows rows old ++ import_added (record { id = id; kind = kind; bytes = bytes; rows = length rows }) ∷ []
 
-  -- a kept import changes nothing
+  -- a stored import changes nothing
   pub kept_unchanged : (n : ℕ) → kept_rows old id ≡ Some n → [] ≡ import_changes id kind bytes rows old
   kept_unchanged n is = sym (ap unless_kept (something_kept (import_of old id) n is))
 
@@ -114,7 +114,7 @@ module _ (id : List ℕ) (kind : ImportKind) (bytes : List ℕ) (rows : List Pla
       ∙ sym (ap unless_kept (nothing_kept (import_of old id) free))
 
 module _ (id : List ℕ) (kind : ImportKind) (bytes : List ℕ) (rows : List Plain) (old : State) (passed : first (import_tests old id kind bytes) ≡ None) where
-  -- a kept import answers its own number
+  -- a stored import answers its own number
   pub kept_answered : (n : ℕ) → kept_rows old id ≡ Some n → (done : Done) → done.reply ≡ reply.Rows n → done.changes.items ≡ [] → Imports id kind bytes rows old old (Ok done)
   kept_answered n is done answer none =
       let kept : has_import old id ≡ true = something_kept (import_of old id) n is in
@@ -151,7 +151,7 @@ module _ (id : List ℕ) (kind : ImportKind) (bytes : List ℕ) (rows : List Pla
           (ap (has_import mid) own ∙ ap (λ (is : List Import). is_some (find import_key (of_code id) is)) private_same ∙ private_new)
           (turns_import i mid (ap (rises import_key) private_same ∙ rise))
 
-      -- all rows were made, and it is kept
+      -- all rows were made, and it is stored
       pub import_made : rises import_key old.imports ≡ true → (new : State) → new ≡ with_import (record { id = id; kind = kind; bytes = bytes; rows = length rows }) mid → (done : Done) → done.reply ≡ reply.Rows (length rows)
           → done.changes.items ≡ changes ++ import_added (record { id = id; kind = kind; bytes = bytes; rows = length rows }) ∷ [] → Imports id kind bytes rows old new (Ok done)
       import_made rise new is done answer changed =

@@ -1,4 +1,4 @@
--- A plain request was made: the office after it is the one that is asked for, so it is fit, and the changes turn the rows.
+-- A plain request was made: the office after it is the one that is asked for, so it is fit, and the changes transform the rows.
 use Rattle.std.proofs.Common.{◌≡◌, List, Option, Some, None, sym, ap, subst, ◌∙◌}
 use Rattle.std.specs.Option.{option_map_or}
 use Rattle.rolls.specs.declared.rounds.Round.{Round}

@@ -1,4 +1,4 @@
--- Counts by rank, told as a list.
+-- Counts by rank, given as a list.
 use Rattle.std.proofs.Common.{◌≡◌, ℕ, zero, suc, ◌+◌, ◌<◌, List, [], ◌∷◌, length, slice_index, ap, ◌∙◌, refl, arith}
 use Rattle.rolls.specs.Stepping.{counted}
 

@@ -9,7 +9,7 @@ use Rattle.rolls.specs.Refusing.{plain_refusal}
 use Rattle.rolls.specs.Stepping.{after_plain, plain_reply}
 use Rattle.rolls.specs.Answers.{IsDone}
 
--- no changes turn no rows
+-- no changes transform no rows
 pub no_turns : (o : State) → Turns [] o o
 no_turns o = record { fresh = tt; rows = λ table. IsPermutation-refl _ }
 

@@ -6,7 +6,7 @@
 //! long, and whatever an entry names is there.
 //!
 //! Promised: `refusal_of` names the first refusal that applies, and allocates nothing; `apply` makes
-//! exactly the step of the request, with exactly its changes in their order, which turn the rows of the
+//! exactly the step of the request, with exactly its changes in their order, which transform the rows of the
 //! office before into those of the office after; after a refusal the office is as before; `from_rows`
 //! gives the office of the rows, and calls rows unfit only where no office has them. Begin with
 //! `office.rt`.

@@ -1,4 +1,4 @@
--- What the office takes from the layers beside it.
+-- What the office takes from the layers next to it.
 use Rattle.std.specs.Prelude.{List, Result, Ok, Err}
 use Rattle.spa.specs.Coded.{IsBestByCodes}
 use Rattle.intake.specs.Lines.{instance_text}
@@ -22,8 +22,8 @@ abbrev pub import_as_read : Result (List Plain) ImportFault → Result (List Pla
 import_as_read (Ok rows) = Ok rows
 import_as_read (Err fault) = Err (refused_as fault)
 
--- a closing takes a matching of the round's instance that is best by its aim, the text of an instance is that of a round without matching and prices, a report is its text,
--- and the requests of an import are those of the records that `csv` reads from its text
+-- a closing takes a matching of the round's instance that is best by its aim, the text of an instance is that of a round without matching
+-- and prices, a report is its text, and the requests of an import are those of the records that `csv` reads from its text
 abbrev pub layers : Layers
 layers = record {
   MayTake = IsBestByCodes;

@@ -1,4 +1,4 @@
-//! What the office takes from the layers beside it: a matching for the open round's closing, the session that its previews are read
+//! What the office takes from the layers next to it: a matching for the open round's closing, the session that its previews are read
 //! from, its round text, the text of a report, and the records of an import text.
 //!
 //! `office` takes any matching of the round's instance, and any requests as an import's; `solver` finds a matching that is best
@@ -90,7 +90,7 @@ fn refused_as(fault: ImportFault) -> Refusal
     }
 }
 
-/// Makes an import that is not kept yet: the requests of its text's records, all of them or none.
+/// Makes an import that is not stored yet: the requests of its text's records, all of them or none.
 pub fn import(
     alloc: Global,
     office: &mut Office,

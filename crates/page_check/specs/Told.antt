@@ -1,4 +1,4 @@
--- What is told of the text of a round file, on whatever stream and with whatever status a program tells it.
+-- What is printed of the text of a round file, on whatever stream and with whatever status a program prints it.
 use Rattle.std.specs.Prelude.{◌≡◌, ℕ, List, [], ◌∷◌, ◌++◌, Result, Ok, Err, String, codes, decimal, string_bytes}
 use Rattle.std.specs.declared.alloc.Global.{Global}
 use Rattle.rolls.specs.declared.refusal.Refusal.{Refusal}

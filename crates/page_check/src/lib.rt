@@ -2,7 +2,7 @@
 //!
 //! Promised: what `page_check` and `page_solve` put into `out` is what `spadesk check FILE` and `spadesk solve FILE` print of the
 //! same bytes. Begin with `specs/Told.antt`. What a host owes, nothing here can hold it to: `text` and `out` are memory of the
-//! module, apart from each other and from its heap.
+//! module, separate from each other and from its heap.
 #![tactic(auto)]
 
 ghost use Rattle.std.specs.Prelude.{◌≡◌, ◌≢◌, IfOk, take, string_bytes};

@@ -30,7 +30,7 @@ fn judge<S: Alter + Drop>(
     holds(is_kept, line)
 }
 
-/// Judges the tables of a row as they are made, and raised by hand by each of these editions in turn. Where there is a desk over
+/// Judges the tables of a row as they are made, and migrated by hand by each of these editions in order. Where there is a desk over
 /// them, all are opened as those of the last edition; else each is left as it is.
 fn judge_row(
     alloc: Global,
@@ -58,7 +58,7 @@ fn judge_row(
     judge(alloc, made(alloc, &sql)?, line, wanted)
 }
 
-/// Judges the tables of each row: what makes them all, what raises them, and the rows. How many there are.
+/// Judges the tables of each row: what makes them all, what migrates them, and the rows. How many there are.
 pub(crate) fn judge_rows(alloc: Global, texts: &str, cells: &str, rows: &str) -> Result<u32, Fail> {
     let tables = first_cell(cells);
     let mut count: u32 = 0;

@@ -1,4 +1,4 @@
-//! Files of rows: offices in memory, each with its steps. `docs/TESTS.md` tells how they are written.
+//! Files of rows: offices in memory, each with its steps. `docs/TESTS.md` says how they are written.
 
 use crate::hand_made::judge_rows;
 use crate::played::{filled, numbered, otherwise, play_lines, play_twice};
@@ -147,7 +147,7 @@ fn do_step<S: Alter + Drop>(
     Ok((count, connection))
 }
 
-/// Does the steps of an office in turn. How many rows were compared.
+/// Does the steps of an office in order. How many rows were compared.
 fn do_steps<S: Alter + Drop>(
     alloc: Global,
     mut connection: Connection<S>,

@@ -1,4 +1,4 @@
-//! Plays files of rows over offices in memory, and tells how many rows of each were compared. `docs/TESTS.md` tells how they are
+//! Plays files of rows over offices in memory, and prints how many rows of each were compared. `docs/TESTS.md` says how they are
 //! written.
 #![tactic(auto)]
 

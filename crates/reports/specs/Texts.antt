@@ -35,7 +35,7 @@ abbrev pub state_word : State → ℕ → List ℕ
 state_word o n = if is_open o n then codes "open" else codes "closed"
 
 -- `profile`: a round with its state, how many students have lists in it, are placed by it, and are placed at each rank; a round
--- that is not known is told as closed and empty
+-- that is not known is reported as closed and empty
 abbrev pub profile_text : State → ℕ → List ℕ
 profile_text o n =
     left 8 (codes "ROUND") ++ right 5 n ++ 32 ∷ state_word o n ++ 10 ∷ count_row (codes "STUDENTS") (length (lists_of o n)) ++ count_row (codes "PLACED") (placed_in_round o n)

@@ -13,10 +13,10 @@ use spa::{Code, Counts};
 use std::alloc::{AllocError, Global};
 use std::fmt::Write;
 
-/// What is told of the places of supervisors and projects.
+/// What a report says of the places of supervisors and projects.
 #[derive(Clone, Copy)]
 pub enum Places {
-    /// How many are taken, beside the quotas.
+    /// How many are taken, next to the quotas.
     Loads,
     /// How many each project could still give.
     Offers,

@@ -1,5 +1,5 @@
 -- Rounds that are numbered from 1. The round with a number stands at the place before it, so a round that is put with the last
--- number takes the last place, and one with the next number is added behind. What a round holds is read by `option_map_or`:
+-- number takes the last place, and one with the next number is added after them. What a round holds is read by `option_map_or`:
 -- one lemma for all such readings, whether a change keeps what is read or another round is read.
 use Rattle.std.proofs.Common.{◌≡◌, ℕ, zero, suc, ◌+◌, ◌<◌, ◌≤◌, inl, inr, Bool, true, false, not, cond, List, [], ◌∷◌, ◌++◌, length, Option, Some, None, is_some, slice_get, refl, sym, ap, ◌∙◌, arith}
 use Rattle.std.specs.Prelude.{◌==◌, ◌&&◌}
@@ -184,7 +184,7 @@ module _ (o : State) (numbered : are_numbered 1 o.rounds ≡ true) where
     | inr past ↦ absurd (let e = round_at k in let f = past.1 in cc)
   ]
 
--- what a round has and the default has not, tells of a round
+-- what a round has and the default has not, shows that there is a round
 pub has_reading : {A : Type 0} (g : Round → A) (d a : A) (x : Option Round) → option_map_or g x d ≡ a → (d ≡ a → ⊥) → (r : Round) × (x ≡ Some r) × (g r ≡ a)
 has_reading g d a None h n = absurd (n h)
 has_reading g d a (Some r) h n = (r, refl, h)

@@ -36,7 +36,7 @@ module _ {A B : Type 0} (f : A → Key) (g : B → Key) where
   all_above q [] b = tt
   all_above q (e ∷ es) b = (is_less _ (first_so (is_lt (key_cmp q (f e))) (is_below f q es) b), all_above q es (second_so (is_lt (key_cmp q (f e))) (is_below f q es) b))
 
-  -- what is above the first entry is found behind it
+  -- what is above the first entry is found after it
   found_behind : (k : Key) (x : B) (fs : List B) → key_cmp (g x) k ≡ Less → has g k (x ∷ fs) ≡ true → has g k fs ≡ true
   found_behind k x fs l h =
       let r : key_cmp k (g x) ≡ Greater = keys_total.antisymm k (g x) ∙ ap ordering_reverse l in

@@ -30,7 +30,7 @@ after_reopening o = record (with_last (λ r. record r { is_open = true }) o) { p
 abbrev pub list_fate : State → List ℕ → Fate
 list_fate o student = if has_list o (last_round o) student then Ends else Joins student
 
--- what f gives for the numbers from k on, so many of them
+-- what f gives for the numbers from k on, this many of them
 abbrev pub counted : ℕ → ℕ → (ℕ → ℕ) → List ℕ
 counted k zero f = []
 counted k (suc n) f = f k ∷ counted (suc k) n f

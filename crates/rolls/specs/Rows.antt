@@ -89,6 +89,6 @@ rows_in o _ = []
 abbrev pub AreRowsOf : List RowOf → State → Type 0
 AreRowsOf rows o = SameRows (of_table rows) (rows_in o)
 
--- changes turn the rows of one office into those of another
+-- changes transform the rows of one office into those of another
 abbrev pub Turns : List Change → State → State → Type 0
 Turns changes old new = TurnsRows changes (rows_in old) (rows_in new)

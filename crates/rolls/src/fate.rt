@@ -1,4 +1,4 @@
-//! What a request makes of a session that is kept beside the office.
+//! What a request makes of a session that is cached next to the office.
 
 use row_data::Text;
 
@@ -7,7 +7,7 @@ use row_data::Text;
 pub enum Fate {
     /// It stays as it is.
     Stays,
-    /// It stays, and where none is kept one is started.
+    /// It stays, and where none is cached one is started.
     Starts,
     /// This student is admitted.
     Joins(Text),

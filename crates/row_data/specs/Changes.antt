@@ -40,12 +40,12 @@ abbrev pub IsFresh : Change → AllRows → Type 0
 IsFresh (Add r) rows = list_any (begins (key_in r.table r.cells)) (rows r.table) ≡ false
 IsFresh _ rows = Unit
 
--- so it is for each row that is added, when its turn comes
+-- so it is for each row that is added, when it is added
 abbrev pub AreFresh : List Change → AllRows → Type 0
 AreFresh [] rows = Unit
 AreFresh (c ∷ cs) rows = IsFresh c rows × AreFresh cs (after_change c rows)
 
--- changes turn rows into others, in whatever order, and add none at a key that has one
+-- changes transform rows into others, in whatever order, and add none at a key that has one
 pub record TurnsRows (changes : List Change) (old new : AllRows) : Type 0 where
   pub fresh : AreFresh changes old
   pub rows : SameRows (after_changes changes old) new

@@ -103,7 +103,7 @@ are_of [] [] = true
 are_of (k ∷ kinds) (c ∷ cells) = is_of k c && are_of kinds cells
 are_of _ _ = false
 
--- it has a cell of its kind for each column; the edition stands apart
+-- it has a cell of its kind for each column; the edition is separate
 abbrev pub IsRow : RowOf → Type 0
 IsRow r = IsTrue (not (same_table r.table Edition) && are_of (kinds_of r.table) r.cells)
 

@@ -1,8 +1,8 @@
 //! The tables of the product, their rows, and what changes make of them.
 //!
 //! A row is a table and its cells; of each table there is a list of rows, in whatever order, as SQL has them. Nothing here knows an office,
-//! nor SQL: `rolls` says which rows an office has, and `tables` how a table is told to a database. Both stand on this crate, so they are
-//! proved side by side. Begin with `specs/Rows.antt`, then `Changes`.
+//! nor SQL: `rolls` says which rows an office has, and `tables` how a table is declared to a database. Both stand on this crate, so they
+//! are proved side by side. Begin with `specs/Rows.antt`, then `Changes`.
 //!
 //! Promised: a row has a cell of its kind for each column of its table, and a part those that name its rows.
 #![tactic(auto)]

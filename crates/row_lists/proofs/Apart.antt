@@ -1,4 +1,5 @@
--- The rows of an office have different keys: those of entries as the entries do, and those of choices by their lists and their places there.
+-- The rows of an office have different keys: those of entries as the entries do, and those of choices by their lists and their places
+-- there.
 use Rattle.std.proofs.Common.{not, ◌+◌, ◌≡◌, ℕ, suc, ◌≤◌, Bool, true, false, cond, length, List, [], ◌∷◌, map, filter, Option, Some, None, refl, sym, ap, subst, ◌∙◌, arith}
 use Rattle.std.specs.Prelude.{flat_map, IsPermutation, ◌&&◌, ◌==◌}
 use Rattle.std.specs.List.{AllByRecursion, list_any}
@@ -26,7 +27,7 @@ use Rattle.row_lists.proofs.KeyTests.{number_test, code_test}
 use Rattle.row_lists.proofs.Lists.{head, choice_key}
 use Rattle.row_lists.proofs.Choices.{picked, placed, place_key, placed_rise, choice_row, as_placed, rows_are}
 
--- a test that tells entries by a key picks the row of one at most
+-- a test of entries by a key picks the row of one at most
 module _ {E X : Type 0} (key : E → Key) (row : E → X) (k : Key) (picks : X → Bool) (tells : (e : E) → picks (row e) ≡ same_key k (key e)) where
   at_most : (x : Option E) → length (option_map_or (λ e. filter picks (row e ∷ [])) x []) ≤ 1
   at_most None = omega arith
@@ -48,7 +49,7 @@ entries_apart key row t tells es rise =
 
 -- ---- choices
 
--- a place of a list is told by its number
+-- a place of a list is given by its number
 place_tells : (n : ℕ) (s : List ℕ) (p : ℕ) (e : ℕ × List ℕ) → begins (choice_key n s p) (choice_row n s e) ≡ same_key (p, []) (place_key e)
 place_tells n s p e = (λ i. eq-eqb n n refl i && (bytes_self s i && ((p == e.0) && true))) ∙ number_test p e.0
 

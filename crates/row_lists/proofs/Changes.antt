@@ -1,4 +1,5 @@
--- Changes one after another: what a change makes of rows in one order it makes of them in any other, and so it is with what is new among them.
+-- Changes one after another: what a change makes of rows in one order it makes of them in any other, and so it is with what is new among
+-- them.
 use Rattle.std.proofs.Common.{◌≡◌, Bool, true, false, not, cond, List, [], ◌∷◌, ◌++◌, map, refl, sym, ap, subst, ◌∙◌}
 use Rattle.std.specs.Prelude.{IsPermutation}
 use Rattle.std.specs.List.{list_any}
@@ -56,7 +57,7 @@ pub fresh_both : (cs ds : List Change) (rows : AllRows) → AreFresh cs rows →
 fresh_both [] ds rows first second = second
 fresh_both (c ∷ cs) ds rows first second = (first.0, fresh_both cs ds (after_change c rows) first.1 second)
 
--- no change turns no row
+-- no change transforms no row
 pub nothing_turns : (rows : AllRows) → TurnsRows [] rows rows
 nothing_turns rows = record { fresh = tt; rows = λ table. IsPermutation-refl _ }
 
@@ -82,7 +83,7 @@ by_table P t here elsewhere table = by (same_table table t) refl
     by true is = subst P (sym (same_table_is table t is)) here
     by false is = elsewhere table is
 
--- a change turns the rows of its table, and leaves the others
+-- a change transforms the rows of its table, and leaves the others
 pub change_here : (c : Change) (rows : AllRows) → after_change c rows (changed c) ≡ makes c (rows (changed c))
 change_here c rows = ap (λ b. cond b (makes c (rows (changed c))) (rows (changed c))) (same_table_self (changed c))
 
@@ -90,7 +91,7 @@ change_here c rows = ap (λ b. cond b (makes c (rows (changed c))) (rows (change
 pub change_elsewhere : (c : Change) (rows : AllRows) (table : Table) → same_table table (changed c) ≡ false → after_change c rows table ≡ rows table
 change_elsewhere c rows table other = ap (λ b. cond b (makes c (rows table)) (rows table)) other
 
--- so a change turns rows where it makes of those of its table what is wanted there
+-- so a change transforms rows where it makes of those of its table what is wanted there
 pub one_turns : (c : Change) (old new : AllRows) → IsFresh c old → IsPermutation (makes c (old (changed c))) (new (changed c)) → SameElsewhere (changed c) old new → TurnsRows (c ∷ []) old new
 one_turns c old new fresh here elsewhere = record {
   fresh = (fresh, tt);

@@ -1,5 +1,5 @@
--- The rows of choices, in whatever order, give back what each student lists in each round: those of one list are told by their beginning, and
--- they stand by their places.
+-- The rows of choices, in whatever order, give back what each student lists in each round: those of one list are known by their beginning,
+-- and they stand by their places.
 use Rattle.std.proofs.Common.{◌≡◌, ℕ, suc, ◌<◌, Bool, true, false, cond, List, [], ◌∷◌, ◌++◌, map, filter, Option, Some, None, refl, sym, ap, subst, ◌∙◌, append-nil, arith}
 use Rattle.std.specs.Prelude.{flat_map, IsPermutation}
 use Rattle.std.specs.Option.{option_map_or}

@@ -1,5 +1,5 @@
--- The rows of an office determine it: those of one row each give back their entries, a round is what its row says with its lists, and a list is
--- what its student lists, since it has choices.
+-- The rows of an office determine it: those of one row each give back their entries, a round is what its row says with its lists, and a
+-- list is what its student lists, since it has choices.
 use Rattle.std.proofs.Common.{◌≡◌, ℕ, ◌≤◌, true, false, cond, List, [], ◌∷◌, map, length, Option, Some, None, refl, sym, ap, subst, ◌∙◌, arith, Bool}
 use Rattle.std.specs.Prelude.{◌==◌, ◌&&◌}
 use Rattle.std.specs.Ordering.{is_lt}
@@ -106,7 +106,7 @@ abbrev list_of_choices : List ℕ → List (List ℕ) → Option Listed
 list_of_choices s [] = None
 list_of_choices s (c ∷ cs) = Some (record { student = s; choices = c ∷ cs })
 
--- what is found among lists that have choices is told by what is chosen
+-- what is found among lists that have choices is given by what is chosen
 list_is : (ls : List Listed) (s : List ℕ) → AllByRecursion (λ l. 1 ≤ length l.choices) ls → find list_key (0, s) ls ≡ list_of_choices s (option_map_or (λ l. l.choices) (find list_key (0, s) ls) [])
 list_is ls s some = by (find list_key (0, s) ls) refl
   where

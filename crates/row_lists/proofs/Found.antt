@@ -34,7 +34,7 @@ module _ {E : Type 0} (key : E → Key) where
   abbrev pub StandsIn : List E → E → Type 0
   StandsIn es e = find key (key e) es ≡ Some e
 
-  -- it is found behind a lesser one too
+  -- it is found after a lesser one too
   later : (x : E) (xs es : List E) → is_below key (key x) es ≡ true → AllByRecursion (StandsIn xs) es → AllByRecursion (StandsIn (x ∷ xs)) es
   later x xs [] below all = tt
   later x xs (e ∷ es) below all = (

@@ -1,4 +1,4 @@
--- Cells are the same where the keys that they tell are.
+-- Cells are the same where the keys that they give are.
 use Rattle.std.proofs.Common.{◌≡◌, ℕ, Bool, true, false, List, [], inl, inr, refl, sym, ◌∙◌}
 use Rattle.std.specs.Prelude.{◌&&◌, ◌==◌}
 use Rattle.std.specs.Str.{bytes_eq}

@@ -1,4 +1,4 @@
--- Entries in the order of their keys, and their rows: an entry that is put stands beside the others, in whatever order, and a test that
+-- Entries in the order of their keys, and their rows: an entry that is put stands next to the others, in whatever order, and a test that
 -- finds the rows of one key alone leaves those of the others.
 use Rattle.std.proofs.Common.{ℕ, zero, suc, take, length, drop, ◌≡◌, Bool, true, false, not, cond, List, [], ◌∷◌, ◌++◌, map, filter, Some, is_some, refl, sym, ap, subst, ◌∙◌}
 use Rattle.std.specs.Prelude.{flat_map, IsPermutation, ◌&&◌}
@@ -38,23 +38,23 @@ module _ {E : Type 0} (key : E → Key) where
   spared : (k : Key) (es : List E) → is_below key k es ≡ true → take_out key k es ≡ es
   spared k es b = none_taken k es (ap is_some (find_below key k es b))
 
-  -- and behind an entry with the key
+  -- and after an entry with the key
   spared_behind : (k : Key) (x : E) (xs : List E) → key_cmp k (key x) ≡ Equal → is_below key (key x) xs ≡ true → take_out key k xs ≡ xs
   spared_behind k x xs c b = spared k xs (subst (λ q. is_below key q xs ≡ true) (sym (keys_exact k (key x) c)) b)
 
-  -- where an entry is put before another, in its place, or behind it
+  -- where an entry is put before another, in its place, or after it
   put_by : (e x : E) (xs : List E) (r : Ordering) → key_cmp (key e) (key x) ≡ r → is_below key (key x) xs ≡ true → IsPermutation (e ∷ take_out key (key e) xs) (put key e xs)
       → IsPermutation (e ∷ kept (is_eq r) x (take_out key (key e) xs)) (by_order r (e ∷ x ∷ xs) (e ∷ xs) (x ∷ put key e xs))
   put_by e x xs Less c b h = IsPermutation-same _ _ (ap (λ ys. e ∷ x ∷ ys) (spared (key e) xs (below_all key (key e) (key x) xs c b)))
   put_by e x xs Equal c b h = IsPermutation-same _ _ (ap (λ ys. e ∷ ys) (spared_behind (key e) x xs c b))
   put_by e x xs Greater c b h = IsPermutation-trans _ _ _ (IsPermutation-middle (e ∷ []) x (take_out key (key e) xs)) (IsPermutation-cons x _ _ h)
 
-  -- an entry that is put stands beside those that have not its key
+  -- an entry that is put stands next to those that have not its key
   pub put_beside : (e : E) (es : List E) → rises key es ≡ true → IsPermutation (e ∷ take_out key (key e) es) (put key e es)
   put_beside e [] r = IsPermutation-refl _
   put_beside e (x ∷ xs) r = put_by e x xs (key_cmp (key e) (key x)) refl (first_so (is_below key (key x) xs) (rises key xs) r) (put_beside e xs (second_so (is_below key (key x) xs) (rises key xs) r))
 
-  -- one that is found stands beside them too
+  -- one that is found stands next to them too
   pub found_beside : (k : Key) (e : E) (es : List E) → rises key es ≡ true → find key k es ≡ Some e → IsPermutation (e ∷ take_out key k es) es
   found_beside k e [] r h = absurd (cc)
   found_beside k e (x ∷ xs) r h =
@@ -68,11 +68,11 @@ module _ {E : Type 0} (key : E → Key) where
             (IsPermutation-cons x _ _ (found_beside k e xs (second_so (is_below key (key x) xs) (rises key xs) r) f))
       ] refl h
 
-  -- so an entry of a new key stands beside all
+  -- so an entry of a new key stands next to all
   pub added_beside : (e : E) (es : List E) → rises key es ≡ true → has key (key e) es ≡ false → IsPermutation (e ∷ es) (put key e es)
   added_beside e es r none = subst (λ xs. IsPermutation (e ∷ xs) (put key e es)) (none_taken (key e) es none) (put_beside e es r)
 
-  -- entries have new keys when the turn of each comes
+  -- entries have new keys when each is put
   abbrev pub AreNew : List E → List E → Type 0
   AreNew [] es = Unit
   AreNew (x ∷ xs) es = (has key (key x) es ≡ false) × AreNew xs (x ∷ es)
@@ -82,7 +82,7 @@ module _ {E : Type 0} (key : E → Key) where
   new_same [] es fs same new = tt
   new_same (x ∷ xs) es fs same new = (ap is_some (sym (same (key x))) ∙ new.0, new_same xs (x ∷ es) (x ∷ fs) (λ k. ap (cond (same_key k (key x)) (Some x)) (same k)) new.1)
 
-  -- such entries, put one after another, stand beside those that were there
+  -- such entries, put one after another, stand next to those that were there
   pub all_beside : (xs es : List E) → rises key es ≡ true → AreNew xs es → IsPermutation (xs ++ es) (put_all key xs es)
   all_beside [] es r new = IsPermutation-refl es
   all_beside (x ∷ xs) es r new =

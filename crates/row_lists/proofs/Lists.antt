@@ -1,5 +1,6 @@
--- A student's list in the open round gives way to new choices. A removal of its rows leaves those of the other lists; these, and the rows of the
--- new choices, are what the round has then. The office is looked at as that round beside the others, and the round as that list beside the others.
+-- A student's list in the open round gives way to new choices. A removal of its rows leaves those of the other lists; these, and the rows
+-- of the new choices, are what the round has then. The office is looked at as that round next to the others, and the round as that list
+-- next to the others.
 use Rattle.std.proofs.Common.{◌≡◌, ℕ, suc, ◌≤◌, Bool, true, false, not, cond, drop, List, [], ◌∷◌, ◌++◌, map, filter, Option, Some, is_some, refl, sym, ap, subst, ◌∙◌, arith, true≢false, append_assoc}
 use Rattle.std.specs.Prelude.{flat_map, IsPermutation, ◌&&◌, ◌||◌, ◌==◌}
 use Rattle.std.specs.List.{list_any, AllByRecursion}
@@ -154,7 +155,7 @@ module _ (g : List Listed → List Listed) (s : List ℕ) (new : List (List ℕ)
     free_there xs same = choices_free n s 1 new xs (λ p above. none_at n s p xs
         (list_any-IsPermutation (begins (head n s)) xs rest same ∙ ap (list_any (begins (head n s))) (sym left_is) ∙ none_left (begins (head n s)) (rows_of_round r ++ flat_map rows_of_round others)))
 
-    -- and the rows of the new choices beside them are those of the office after
+    -- and the rows of the new choices next to them are those of the office after
     come : (xs : List Cells) → IsPermutation xs rest → IsPermutation (choice_rows n s 1 new ++ xs) (flat_map rows_of_round (put round_key (with_new r) o.rounds))
     come xs same =
         let rise : rises list_key r.lists ≡ true = subst (λ (x : Option RoundEntry). rises list_key (option_map_or (λ r. r.lists) x []) ≡ true) is (fit.lists_rise n) in

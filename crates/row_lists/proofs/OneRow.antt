@@ -45,7 +45,7 @@ module _ {E : Type 0} (key : E → Key) (row : E → Cells) (t : Table) (tells :
     abbrev new_row : RowOf
     new_row = record { table = t; cells = row e }
 
-    -- it stands beside those of the other entries
+    -- it stands next to those of the other entries
     beside : (others : List Cells) → others ≡ map row (take_out key (key e) es) → IsPermutation (row e ∷ others) (new t)
     beside others left =
         from_same (ap (λ rows. row e ∷ rows) left)

@@ -1,4 +1,4 @@
--- The changes of each plain request turn the rows of the office into those of the office after it.
+-- The changes of each plain request transform the rows of the office into those of the office after it.
 use Rattle.std.proofs.Common.{◌≡◌, ℕ, true, List, [], None, arith}
 use Rattle.std.proofs.lemmas.Bool.{eqb-false}
 use Rattle.std.proofs.lemmas.List.Sorted.{IsPermutation-refl}

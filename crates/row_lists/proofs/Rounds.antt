@@ -1,4 +1,5 @@
--- The next round opens, or the last one opens again or closes: its row comes or is put in its place, its lists keep their rows, and placements go.
+-- The next round opens, or the last one opens again or closes: its row comes or is put in its place, its lists keep their rows, and
+-- placements go.
 use Rattle.std.proofs.Common.{◌≡◌, ℕ, ◌+◌, ◌≤◌, Bool, true, false, not, List, [], ◌∷◌, map, Option, Some, is_some, refl, sym, ap, subst, ◌∙◌, arith}
 use Rattle.std.specs.Prelude.{flat_map, IsPermutation, ◌&&◌, ◌==◌}
 use Rattle.std.specs.Option.{option_map_or}
@@ -38,7 +39,7 @@ module _ (o : State) (fit : IsFit o) (r new : RoundEntry) (is : round_of o (last
   pub number : r.number ≡ last_round o
   number = round_number o fit.numbered (last_round o) r is
 
-  -- the old one and the new stand beside the other rounds
+  -- the old one and the new stand next to the other rounds
   pub old_beside : IsPermutation (r ∷ take_out round_key (last_round o, []) o.rounds) o.rounds
   old_beside = found_beside round_key (last_round o, []) r o.rounds (rounds_rise o fit.numbered) is
 
@@ -72,7 +73,7 @@ round_turns o fit some now = (let it = some_round o fit.numbered (last_round o) 
 
 -- ---- an opening again
 
--- a test of numbers, turned round
+-- a test of numbers, reversed
 turned_test : (n m : ℕ) → ((n == m) && true) ≡ (m == n)
 turned_test n m = and_true (n == m) ∙ grind (arith, nat_tests)
 

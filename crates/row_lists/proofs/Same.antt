@@ -1,4 +1,4 @@
--- Lists that are one before or behind a permutation.
+-- Lists that are one before or after a permutation.
 use Rattle.std.proofs.Common.{◌≡◌, List, sym, subst}
 use Rattle.std.specs.Prelude.{IsPermutation}
 

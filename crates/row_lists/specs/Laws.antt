@@ -16,15 +16,15 @@ use Rattle.rolls.specs.Refusing.{plain_refusal}
 use Rattle.rolls.specs.Stepping.{after_plain}
 use Rattle.row_lists.specs.Apart.{AreApart}
 
--- changes that turn rows into others, and then those into third ones, turn the first into the third
+-- changes that transform rows into others, and then those into third ones, transform the first into the third
 abbrev pub TurnsFollow : Type 0
 TurnsFollow = (cs ds : List Change) (old mid new : AllRows) → TurnsRows cs old mid → TurnsRows ds mid new → TurnsRows (cs ++ ds) old new
 
--- the changes of a plain request that is not refused turn the rows of a fit office into those of the office after it
+-- the changes of a plain request that is not refused transform the rows of a fit office into those of the office after it
 abbrev pub ChangesTurn : Type 0
 ChangesTurn = (q : Plain) (o : State) → IsFit o → plain_refusal o q ≡ None → Turns (changes_of q o) o (after_plain q o)
 
--- an import's row turns the rows of the office that keeps it: added where the import is new
+-- an import's row transforms the rows of the office that keeps it: added where the import is new
 abbrev pub KeepingTurns : Type 0
 KeepingTurns = (i : ImportEntry) (o : State) → IsFit o
     → Turns (put_or_added (has_import o i.id) (record { table = Import; cells = import_cells i }) ∷ []) o (with_import i o)

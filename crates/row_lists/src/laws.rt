@@ -2,17 +2,17 @@
 
 ghost use Rattle.row_lists.specs.Laws.{TurnsFollow, ChangesTurn, KeepingTurns, RowsApart, RowsGiveOffice};
 
-/// Changes one after another turn rows one after another.
+/// Changes one after another transform rows one after another.
 pub fn following_law()
     ensures { TurnsFollow }
 {}
 
-/// The changes of a plain request turn the rows of an office.
+/// The changes of a plain request transform the rows of an office.
 pub fn turns_law()
     ensures { ChangesTurn }
 {}
 
-/// The row of an import turns the rows of an office that keeps it.
+/// The row of an import transforms the rows of an office that keeps it.
 pub fn keeping_law()
     ensures { KeepingTurns }
 {}

@@ -3,8 +3,8 @@
 //! The rows are those of `rolls`: of each table a list of rows, each a list of cells, in whatever order. Nothing here runs: each
 //! function is a law, and `specs/Laws.antt` has them.
 //!
-//! Promised: the changes of a plain request that is not refused turn the rows of a fit office into those of the office after it,
-//! and add none at a key that has one; so does the row of an import that is kept, and so do changes one after another. The rows of
+//! Promised: the changes of a plain request that is not refused transform the rows of a fit office into those of the office after it,
+//! and add none at a key that has one; so does the row of an import that is stored, and so do changes one after another. The rows of
 //! a fit office have different keys in each table, and no other fit office has the same rows.
 #![tactic(auto)]
 

@@ -3,7 +3,7 @@
 use std::io;
 use std::io::{Read, Write};
 
-/// Gives some bytes, at first so many and then a piece at a time; then it fails once and gives others, or it ends.
+/// Gives some bytes, at first a given number and then a piece at a time; then it fails once and gives others, or it ends.
 #[derive(Drop)]
 pub struct Pieces<'a> {
     bytes: &'a [u8],
@@ -61,7 +61,7 @@ pub struct Narrow {
 }
 
 impl Narrow {
-    /// Keeps what it takes behind what is here already.
+    /// Keeps what it takes after what is here already.
     pub fn new(taken: Vec<u8>, room: usize, fault: Option<io::ErrorKind>) -> Self {
         Narrow {
             taken,

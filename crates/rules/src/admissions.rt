@@ -171,7 +171,7 @@ type Admission = (&'static [usize], i64, usize, (u64, u64));
 /// As many relaxations as may be, and at least one.
 const SOME: (u64, u64) = (1, u64::MAX);
 
-/// The quotas of supervisors; the supervisor and the quota of each project; and students in turn.
+/// The quotas of supervisors; the supervisor and the quota of each project; and students in order.
 type Case = (
     &'static [u32],
     &'static [(usize, u32)],
@@ -211,7 +211,7 @@ fn compare_cases(alloc: Global, cases: &[Case]) -> Result<(), Fail> {
 }
 
 // The worked example: with A there are 6 nodes and 11 arcs, with C 7 and 14. One in which a student makes room at the only place of a
-// supervisor, and the last gets none. Then each quota of one supervisor and two projects in turn.
+// supervisor, and the last gets none. Then each quota of one supervisor and two projects, one after another.
 #[rattlefmt::skip]
 static CASES: [Case; 10] = [
     (&[5],    &[(0, 1), (0, 1), (0, 0)], &[(&[0, 1], 1, 1, (1, 77)), (&[2, 0], 2, 4, (1, 112))]),

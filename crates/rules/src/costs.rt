@@ -1,5 +1,6 @@
 //! Assignment with quotas by cost: `network` over another worth than a round's. Houses have wards; students name wards with the minutes
-//! of the way there; a ward takes so many, and so does its house. As many as can be have a ward, and of such the way of all is shortest.
+//! of the way there; a ward takes a given number, and so does its house. As many as can be have a ward, and of such the way of all is
+//! shortest.
 
 use crate::admissions::Trial;
 use rows::judged::holds;
@@ -67,7 +68,7 @@ const PLACE: i128 = 1_000_000;
 /// The wards that a student names, with the minutes of the way.
 type Ways = &'static [(usize, i64)];
 
-/// The places of each house; the house and the places of each ward; the students in turn; and how many have a ward, and the minutes of
+/// The places of each house; the house and the places of each ward; the students in order; and how many have a ward, and the minutes of
 /// all their ways.
 type Case = (
     &'static [u32],

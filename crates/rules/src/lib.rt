@@ -1,6 +1,6 @@
 //! The tests of rules: worked examples of what no clause says, over the crates that hold no office, each through public calls alone.
 //!
-//! `docs/TESTS.md` says where a test of what goes. In a row of text `^n` and the like are told in `cells` of `rows`.
+//! `docs/TESTS.md` says where a test of what goes. In a row of text `^n` and the like are described in `cells` of `rows`.
 #![tactic(auto)]
 
 // A network that students are admitted to one by one: places, prices, what is compared.
@@ -30,7 +30,7 @@ mod rolls_of;
 // Worked rounds and audits, by `solve` and `audit`.
 #[cfg(test)]
 mod rounds;
-// A session beside what `solve` answers.
+// A session compared with what `solve` answers.
 #[cfg(test)]
 mod sessions;
 // Messages and their ends, without an office.

@@ -1,4 +1,4 @@
-//! Sessions beside what `solve` answers for the same instance.
+//! Sessions compared with what `solve` answers for the same instance.
 
 ghost use Rattle.std.specs.Prelude.{◌≡◌, IfOk};
 
@@ -34,7 +34,7 @@ static ROLLS: [Rolls; 6] = [
     ("L:5",     "P:L:1",                             ""),
 ];
 
-/// Compares the size and the profile that a session of each row tells with those of the matching that is solved by the
+/// Compares the size and the profile that a session of each row returns with those of the matching that is solved by the
 /// same aim.
 fn compare_with_solved(alloc: Global, aim: Aim, rows: &[Rolls]) -> Result<(), Fail> {
     for (supervisors, projects, students) in rows {

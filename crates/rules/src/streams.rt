@@ -38,7 +38,7 @@ impl Handler<u32> for Marks {
     }
 }
 
-/// Compares what is written for the bytes, so many at a time: a mark for each answer, and the end.
+/// Compares what is written for the bytes, this many at a time: a mark for each answer, and the end.
 fn compare(
     alloc: Global,
     name: &str,

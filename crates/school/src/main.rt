@@ -1,6 +1,6 @@
 //! Plays commands of the program, and requests over HTTP, over the files of databases.
 //!
-//! The arguments name files of rows. A row that tells something else than it says is printed with what it told, and behind each file how
+//! The arguments name files of rows. A row that gives something else than it says is printed with what it gave, and after each file how
 //! many of its rows were compared. `docs/TESTS.md` says what a row may be. A further row costs no proof.
 //!
 //! Once all files were played, it does with its arguments what the program does with its own. They are no command, so it ends with
@@ -8,11 +8,11 @@
 //! ends with status 1.
 #![tactic(auto)]
 
-// Texts that are written out of a row, and what a row says is told.
+// Texts that are written out of a row, and what a row says is done.
 mod texts;
 // Requests at the desk of a database file, and SQL over it.
 mod over_files;
-// Rows in turn.
+// Rows in order.
 mod row_files;
 // Why rows are not played to their end.
 mod unplayed;

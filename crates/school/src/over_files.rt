@@ -30,12 +30,12 @@ fn is_answer(rt: &HostRuntime, written: &[u8], status: &str, body: &str) -> Resu
     Ok(head == want.as_str() && matches_cell(rt.alloc(), told.as_bytes(), body)?)
 }
 
-/// Whether a session is kept, where a row says so or says that none is.
+/// Whether a session is cached, where a row says so or says that none is.
 fn is_kept<S: Alter>(desk: &Desk<S>, mark: &str) -> bool {
     mark.is_empty() || desk.session_steps().is_some() == (mark == "kept")
 }
 
-/// Asks the request of a line, and compares the answer, and whether a session is kept then.
+/// Asks the request of a line, and compares the answer, and whether a session is cached then.
 fn ask<S: Alter>(
     rt: &HostRuntime,
     desk: &mut Desk<S>,

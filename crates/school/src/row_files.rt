@@ -16,7 +16,7 @@ struct Printed {
     status: u8,
 }
 
-/// Prints a row that told something else, and what it told.
+/// Prints a row that gave something else, and what it gave.
 pub(crate) fn compare(
     rt: &HostRuntime,
     row: &str,

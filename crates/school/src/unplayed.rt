@@ -2,7 +2,7 @@
 
 use std::fmt::Debug;
 
-/// A row is none, or a file or memory fails. What failed is not told: the rows that are printed show where.
+/// A row is none, or a file or memory fails. What failed is not said: the rows that are printed show where.
 #[derive(Drop)]
 pub(crate) struct Unplayed;
 

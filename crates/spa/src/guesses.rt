@@ -3,7 +3,7 @@
 
 ghost use Rattle.std.specs.Prelude.{◌<◌};
 
-/// How many guesses are kept.
+/// How many guesses are stored.
 const SLOTS: usize = 4096;
 
 /// Where codes were noted, by a sum over their bytes. Of codes with one sum the last stays.

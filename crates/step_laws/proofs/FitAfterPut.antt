@@ -175,7 +175,7 @@ fit_with_student o s fit fits free = record {
   supervisors_within = fit.supervisors_within;
 }
 
--- ---- an import is kept
+-- ---- an import is stored
 
 pub fit_with_import : (i : Import) (o : State) → IsFit o → ImportFits i → (not (has_import o i.id) && nat_le MOST_IMPORTS (length o.imports)) ≡ false → IsFit (with_import i o)
 fit_with_import i o fit fits free = record {

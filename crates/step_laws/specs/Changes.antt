@@ -20,7 +20,7 @@ abbrev pub changes_of_rows : List Plain → State → List Change
 changes_of_rows [] o = []
 changes_of_rows (p ∷ ps) o = changes_of p o ++ changes_of_rows ps (after_plain p o)
 
--- what an import of these rows changes: what they change, and last its own row is added; a kept import changes nothing
+-- what an import of these rows changes: what they change, and last its own row is added; a stored import changes nothing
 abbrev pub import_changes : List ℕ → ImportKind → List ℕ → List Plain → State → List Change
 import_changes id kind bytes rows o =
     if has_import o id then [] else changes_of_rows rows o ++ Add (record { table = Import; cells = import_cells (record { id = id; kind = kind; bytes = bytes; rows = length rows }) }) ∷ []

@@ -32,7 +32,7 @@ spares_then x y z p q = record {
       ∙ p.others any h apart;
 }
 
--- what changes ask of the schema, one of them behind the others
+-- what changes ask of the schema, one of them after the others
 need_more : (cs : List Change) (c : Change) (s : Schema) → AllNeed (cs ++ c ∷ []) s → AllNeed cs s × Needs c s
 need_more [] c s all = (tt, all.0)
 need_more (d ∷ cs) c s all = let rest = need_more cs c s all.1 in ((all.0, rest.0), rest.1)

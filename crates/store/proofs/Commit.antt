@@ -79,7 +79,7 @@ sound_run P first begun b begins one opened sound made clean =
       (made clean).sound (subst (λ (s : Seen). IsDatabase s.now) (sym begins) (sound early)),
     )
 
--- behind a call that changed nothing
+-- after a call that changed nothing
 module _ (a b c : Seen) (P : Database → Database → Type 0) (one : Survives a b (λ _. ⊥)) (same : HasCleanDisk b → IsUnchanged a b) where
   pub saved_after : Survives b c (IsLeft P b) → (HasCleanDisk c → HasSaved P b c) → HasCleanDisk c → HasSaved P a c
   saved_after two saved clean =

@@ -1,4 +1,4 @@
--- The office of rows that were read in an edition, and the changes that raise its tables.
+-- The office of rows that were read in an edition, and the changes that migrate its tables.
 use Rattle.std.proofs.Common.{◌≡◌, Bool, true, false, cond, List, [], ◌∷◌, ◌++◌, map, filter, inr, refl}
 use Rattle.sqlite.specs.Schema.{Schema}
 use Rattle.sqlite.specs.State.{State as Seen}
@@ -19,9 +19,9 @@ use Rattle.store.specs.Inside.Reading.{FindsOffice, HoldsRows}
 use Rattle.store.proofs.Among.{tested_among}
 use Rattle.store.proofs.Standing.{hold_same}
 
--- ---- what the changes of an upgrade ask of the schema
+-- ---- what the changes of a migration ask of the schema
 
--- a row of earlier editions is of a table of which rows are taken out
+-- a row of earlier editions is of a table in which rows are taken out
 taken_asks : (schema : Schema) → AreLeftAmong raised schema → (r : RowOf) → is_old r ≡ true → IsLeftAlone r.table schema
 unfolding IsAmong
 taken_asks schema left r is = left r.table (inr (tested_among olds r.table is))
@@ -51,7 +51,7 @@ upgrade_asks First rows schema left = moves_ask schema left rows (aims_of rows)
 upgrade_asks Second rows schema left = moves_ask schema left rows []
 upgrade_asks Third rows schema left = tt
 
--- the office of the rows that were read, and what raises them
+-- the office of the rows that were read, and what migrates them
 pub found_in : Renews → Upgrades → (e : AnEdition) (rows : List RowOf) (office : State) (old new : Seen) → HoldsRows e rows old new → IsFit office → AreRowsOf (renewed e rows) office
     → FindsOffice e office (upgrade e rows) old new
 found_in renews upgrades e rows office old new h fit of =

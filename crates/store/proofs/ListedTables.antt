@@ -17,7 +17,7 @@ use Rattle.store.specs.Rows.{IsAmong}
 use Rattle.store.specs.Reading.{AreAllListed}
 use Rattle.store.specs.Inside.Reading.{IsAlone, IsElsewhere, IsListedAlone, IsNoRow, HoldsNoRow}
 
--- what holds of so many, and of the next, holds of one more
+-- what holds of this many, and of the next, holds of one more
 pub so_far : {X : Type 0} (P : X → Type 0) (all : List X) (i : ℕ) (d : X) → i < length all → ((x : X) → Has (take i all) x → P x) → P (get_or all i d) → (x : X) → Has (take (i + 1) all) x → P x
 so_far P all i d low early here x h = elim (has_either (take i all) (get_or all i d ∷ []) x (subst (λ rs. Has rs x) (take_more all i d low) h)) [
   | inl before ↦ early x before

@@ -1,4 +1,4 @@
--- What comes of an opening: the office that was read, in the latest edition or raised to it.
+-- What comes of an opening: the office that was read, in the latest edition or migrated to it.
 use Rattle.std.proofs.Common.{◌≡◌, ◌≢◌, ◌<◌, ◌≤◌, List, Result, Ok, Err, IfErr, ap, inl, inr, refl, sym, subst, ◌∙◌, arith}
 use Rattle.sqlite.specs.Held.{Held}
 use Rattle.sqlite_trees.specs.declared.store.Store.{Ghosts}
@@ -48,7 +48,7 @@ pub opens_found : (e : AnEdition) (office : State) (changes : List Change) (old 
 opens_found e office changes old new is found = inr (inl (found.same.0.now_is, subst (λ it. HoldIn it old.now (rows_in_edition it office)) is found.holds))
 
 module _ (e : AnEdition) (office : State) (changes : List Change) (old mid : Seen) (earlier : IsEarlier e) (alone : HasNoneOf (beyond e) old.now.schema) (found : FindsOffice e office changes old mid) where
-  -- tables of an earlier edition were read and raised
+  -- tables of an earlier edition were read and migrated
   raised : (db : Database) → Rises e changes mid.now db → Raises old.now db office
   unfolding Rises
   raised db rises =
@@ -76,7 +76,7 @@ module _ (e : AnEdition) (office : State) (changes : List Change) (old mid : See
   raised_left : (trees : Trees) → IsLeft (Rises e changes) mid trees → IsLeft Brings old trees
   raised_left trees left = record { was_open = found.same.0.was_open; db = left.db; sound = left.sound; step = inr (office, raised left.db left.step); same = left.same }
 
--- what a crash leaves of reading and raising
+-- what a crash leaves of reading and migrating
 pub brings_left : (e : AnEdition) (office : State) (changes : List Change) (old mid new : Seen) → IsEarlier e → HasNoneOf (beyond e) old.now.schema → (HasCleanDisk mid → FindsOffice e office changes old mid) → Survives old mid (λ _. ⊥)
     → Survives mid new (IsLeft (Rises e changes) mid) → Survives old new (IsLeft Brings old)
 brings_left e office changes old mid new earlier alone found one two =
@@ -102,7 +102,7 @@ unfit_all e db alone later unfit f office fit stands = elim (one_or_apart e f) [
   | inr (inr apart) ↦ not_beyond f e db (rows_in_edition f office) stands.holds apart alone
 ]
 
--- tables of an earlier edition were read, and are not raised
+-- tables of an earlier edition were read, and are not migrated
 pub raise_refused : (e : AnEdition) (office : State) (changes : List Change) (old mid new : Seen) → IsEarlier e → HasNoneOf (beyond e) old.now.schema → FindsOffice e office changes old mid → IsUnchanged old mid → Survives old mid (λ _. ⊥) → HasCleanDisk mid
     → mid.faults ≤ new.faults → IsStopped (IsHinderedToRaise e changes) mid new → IsStopped IsHinderedOpening old new
 raise_refused e office changes old mid new earlier alone found same survives clean up stops =

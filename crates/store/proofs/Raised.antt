@@ -1,4 +1,4 @@
--- Tables of an earlier edition are raised: the number is another, tables come beside those that stand, and rows are added.
+-- Tables of an earlier edition are migrated: the number is another, tables come next to those that stand, and rows are added.
 use Rattle.std.proofs.Common.{◌≡◌, ◌≢◌, ◌↔◌, IsTrue, arith, ◌⊎◌, inl, inr, ℕ, pos, Bool, true, false, not, cond, List, [], ◌∷◌, ◌++◌, map, Option, refl, sym, ap, subst, ◌∙◌, true≢false}
 use Rattle.std.specs.Prelude.{◌&&◌}
 use Rattle.sqlite.specs.declared.types.Value.TheVariants.{Int}
@@ -120,7 +120,7 @@ other_number tables number other rows old new alone t puts =
 pub left_so : (tables : List Table) (schema : Schema) → (AreActedOnAmong tables schema → ⊥) → AreLeftAmong tables schema
 left_so tables schema none table among place listed = inert_so schema place.tree (λ acts. none (table, among, (place, listed, acts)))
 
--- those of which rows are replaced or taken out are there in each edition
+-- those in which rows are replaced or taken out are there in each edition
 module _ (e : AnEdition) (number : ℕ) (rows : AllRows) (old new : Database) (t : TablesOf (rolls_of e) number old rows) (m : MakesTables (beyond e) old new) where
   stood : (table : Table) → IsAmong raised table → (place : Place) × Lists old.schema (table_at table place)
   unfolding IsAmong
@@ -221,7 +221,7 @@ begun_quiet first begun begins none = subst (λ (s : Seen). AreActedOnAmong rais
 pub none_acts : (b : Bool) (schema : Schema) → b ≡ true → (b ≡ false) ↔ AreActedOnAmong raised schema → AreActedOnAmong raised schema → ⊥
 none_acts b schema passes exact acted = true≢false (sym passes ∙ exact.1 acted)
 
--- where no foreign key acts on the tables of which rows are replaced or taken out
+-- where no foreign key acts on the tables in which rows are replaced or taken out
 pub rises_by : (e : AnEdition) (changes : List Change) (a b : Seen) → (AreActedOnAmong raised a.now.schema → ⊥) → HasStepped (Lifts e changes) a b → HasStepped (Rises e changes) a b
 unfolding Lifts
 rises_by e changes a b none p = stepped_as (Lifts e changes) (Rises e changes) a b (λ lifted. lifted none) p
@@ -233,7 +233,7 @@ stopped_within H first begun mid last begins it two clean =
     let same : IsStopped H (record first { in_transaction = true }) mid = subst (λ (s : Seen). IsStopped H s mid) begins (it early) in
     stopped_before H first mid last two.counts (record { why = same.why })
 
--- the same behind a call that changed nothing
+-- the same after a call that changed nothing
 pub stopped_after_all : (H K : Option ℕ → Database → Type 0) (old first begun mid last : Seen) → (HasCleanDisk first → IsUnchanged old first) → Survives old first (λ _. ⊥) → begun ≡ record first { in_transaction = true } → Survives begun mid (λ _. ⊥)
     → ((limit : Option ℕ) (db : Database) → H limit db → K limit db) → (HasCleanDisk mid → IsStopped H begun mid) → Survives mid last (λ _. ⊥) → HasCleanDisk last → IsStopped K old last
 stopped_after_all H K old first begun mid last same zero begins one f it two clean =

@@ -42,7 +42,7 @@ all_of (k ∷ kinds) (c ∷ cells) h = let parts = and_parts _ _ h in and_from _
 all_of [] (c ∷ cells) h = absurd (cc)
 all_of (k ∷ kinds) [] h = absurd (cc)
 
--- both tell the same kinds of each table, and the same keys
+-- both give the same kinds of each table, and the same keys
 agree : (table : Table) → map in_sql (kinds_of table) ≡ sql_table.kinds_of table
 agree Edition = refl
 agree _ = refl

@@ -90,7 +90,7 @@ pub record IsHinderedBeyond (e : AnEdition) (changes : List Change) (limit : Opt
 abbrev pub IsHinderedToLift : AnEdition → List Change → Option ℕ → Database → Type 0
 IsHinderedToLift e changes limit db = IsHinderedToPut Edition latest_number limit db ⊎ IsHinderedBeyond e changes limit db
 
--- the tables of an earlier edition cannot be raised by these changes: a foreign key acts on those that change, or a statement is refused
+-- the tables of an earlier edition cannot be migrated by these changes: a foreign key acts on those that change, or a statement is refused
 abbrev pub IsHinderedToRaise : AnEdition → List Change → Option ℕ → Database → Type 0
 IsHinderedToRaise e changes limit db = AreActedOnAmong raised db.schema ⊎ IsHinderedToLift e changes limit db
 
@@ -112,6 +112,6 @@ pub record IsHinderedRaising (limit : Option ℕ) (db : Database) : Type 0 where
   pub are : AreRowsIn edition rows office
   pub hindered : IsHinderedToRaise edition (upgrade edition rows) limit db
 
--- the tables are not there and cannot be made, one cannot be read, or those of an earlier edition cannot be raised
+-- the tables are not there and cannot be made, one cannot be read, or those of an earlier edition cannot be migrated
 abbrev pub IsHinderedOpening : Option ℕ → Database → Type 0
 IsHinderedOpening limit db = (HasNone db.schema × IsHinderedFounding limit db) ⊎ (IsHinderedReading limit db ⊎ IsHinderedRaising limit db)

@@ -23,13 +23,13 @@ rolls_of First = take 7 rolls
 rolls_of Second = take 8 rolls
 rolls_of Third = rolls
 
--- those that later editions have beside them
+-- those that later editions have besides them
 abbrev pub beyond : Edition → List Table
 beyond First = drop 7 rolls
 beyond Second = drop 8 rolls
 beyond Third = []
 
--- the tables of which rows are replaced or taken out where those of an earlier edition are raised
+-- the tables in which rows are replaced or taken out where those of an earlier edition are migrated
 abbrev pub raised : List Table
 raised = EditionTable ∷ olds
 

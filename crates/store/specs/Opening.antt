@@ -19,16 +19,16 @@ module _ {S : Type 0} (ghosts : Ghosts S) where
     pub ended : new.in_transaction ≡ false
     pub alone : HasCleanDisk (state ghosts new) → LeavesAlone (state ghosts new)
     pub is_open : HasCleanDisk (state ghosts new) → IsTrue (state ghosts new).is_open
-    -- a crash leaves what it could leave before, tables of the empty office where none was there, or raised tables
+    -- a crash leaves what it could leave before, tables of the empty office where none was there, or migrated tables
     pub crash : Survives (state ghosts old) (state ghosts new) (IsLeft Brings (state ghosts old))
 
-  -- no office was opened, and the connection is given back; whether that is told as a fault of the storage, or as damage
+  -- no office was opened, and the connection is given back; whether that is returned as a fault of the storage, or as damage
   pub record IsLeftUnopened (IsStorage IsDamage : Type 0) (old new : Held S) : Type 0 where
     pub damaged : HasCleanDisk (state ghosts new) → IsDamage → IsDamaged (state ghosts old).now
     -- a database with none of the tables is not damaged
     pub some : IsDamage → HasNone (state ghosts old).now.schema → ⊥
     pub kept : HasCleanDisk (state ghosts new) → IsKept (state ghosts old) (state ghosts new)
-    -- why the storage has failed: an open transaction apart, a shut connection, a fault of the disk, or a refused statement
+    -- why the storage has failed, except for an open transaction: a shut connection, a fault of the disk, or a refused statement
     pub cause : old.in_transaction ≡ false → HasCleanDisk (state ghosts new) → IsStorage
         → IsStopped IsHinderedOpening (state ghosts old) (state ghosts new)
     pub given_back : old.in_transaction ≡ false → new.in_transaction ≡ false

@@ -70,12 +70,12 @@ unfoldable pub Applies : List Change → Database → Database → Type 0
 Applies changes old new =
     AllNeed changes old.schema → (rows : AllRows) → TablesHold old rows → TablesHold new (after_changes changes rows) × Spares old new × AreFresh changes rows
 
--- where the tables held rows, nothing stood at the key of a row when its turn to be added came
+-- where the tables held rows, nothing stood at the key of a row when it was added
 unfoldable pub AddsNew : List Change → Database → Type 0
 AddsNew changes old = (rows : AllRows) → TablesHold old rows → AreFresh changes rows
 
--- these changes were saved: the tables hold the rows after them, each other table stays, a crash leaves what is seen, and no row was added at
--- a key that has one
+-- these changes were saved: the tables hold the rows after them, each other table stays, a crash leaves what is seen, and no row was added
+-- at a key that has one
 pub record IsSaving (changes : List Change) (old new : Seen) : Type 0 where
   pub saved : HasSaved (Saves changes) old new
   pub others : LeavesOthers old.now new.now

@@ -66,7 +66,7 @@ AreRuledAmong tables schema = (table : Table) → Has tables table → (place : 
 abbrev pub AreRuled : Schema → Type 0
 AreRuled = AreRuledAmong stored_tables
 
--- The tables stand for an office in an edition: they hold the rows that it has there, and nothing else; it may be told there; and no
+-- The tables stand for an office in an edition: they hold the rows that it has there, and nothing else; the edition allows it; and no
 -- table has the name of one of a later edition.
 pub record StandsIn (e : Edition) (db : Database) (office : State) : Type 0 where
   pub holds : HoldIn e db (rows_in_edition e office)
@@ -110,8 +110,8 @@ pub record Raises (old new : Database) (office : State) : Type 0 where
 abbrev pub Brings : Database → Database → Type 0
 Brings old new = Founds old new ⊎ ((office : State) × Raises old new office)
 
--- what was opened: the empty office where none of the tables was there, else the office that they stand for, in an earlier edition or in the
--- latest one, to which an earlier one is raised
+-- what was opened: the empty office where none of the tables was there, else the office that they stand for, in an earlier edition or in
+-- the latest one, to which an earlier one is migrated
 abbrev pub Opens : Database → Database → State → Type 0
 Opens old new office = (HasNone old.schema × (office ≡ empty) × StandsFor new empty × AreRuled new.schema) ⊎ (((new ≡ old) × StandsFor old office) ⊎ Raises old new office)
 

@@ -17,5 +17,5 @@ pub const TABLES: [Table; 11] = [
     Table::Placement,
 ];
 
-/// Those of which rows are replaced or taken out where tables of an earlier edition are raised.
+/// Those in which rows are replaced or taken out where tables of an earlier edition are migrated.
 pub const RAISED: [Table; 3] = [Table::Edition, Table::OldChoice, Table::OldPlacement];

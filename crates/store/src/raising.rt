@@ -54,7 +54,7 @@ fn lift<S: Alter>(
     extend(tx, edition, changes)
 }
 
-/// Raises the tables of an earlier edition in one transaction. Where a foreign key of another table acts on those that change
+/// Migrates the tables of an earlier edition in one transaction. Where a foreign key of another table acts on those that change
 /// nothing is changed.
 pub fn raise<S: Alter>(
     conn: &mut Connection<S>,

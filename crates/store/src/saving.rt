@@ -118,7 +118,7 @@ fn apply<S: Alter>(tx: &mut Transaction<'_, S>, change: &Change) -> Result<(), T
     }
 }
 
-/// Makes the changes in turn.
+/// Makes the changes in order.
 pub fn apply_all<S: Alter>(
     tx: &mut Transaction<'_, S>,
     changes: &[Change],
@@ -134,7 +134,7 @@ pub fn apply_all<S: Alter>(
     Ok(())
 }
 
-/// Makes the changes in one transaction. A connection that a fault of the disk has shut is told before it begins.
+/// Makes the changes in one transaction. A connection that a fault of the disk has shut is returned as a fault before it begins.
 pub fn save_all<S: Alter>(conn: &mut Connection<S>, changes: &[Change]) -> Result<(), StoreFault>
     ensures ok { HasCleanDisk (state S.Store conn.new) → OnOk result (HasSaved (Applies changes.now) (state S.Store conn.old) (state S.Store conn.new)) }
     ensures err { HasCleanDisk (state S.Store conn.new) → OnErr result (IsKept (state S.Store conn.old) (state S.Store conn.new)) }

@@ -114,7 +114,7 @@ fn open_tables<S: Alter>(alloc: Global, conn: &mut Connection<S>) -> Result<Offi
 
 impl<S: Alter> Store<S> {
     /// Opens the tables: the office that they stand for, or the empty one of a database that has none of
-    /// them, where they are made in one transaction. Tables of an earlier edition are raised in one
+    /// them, where they are made in one transaction. Tables of an earlier edition are migrated in one
     /// transaction. Other tables are left alone. With a fault the connection is given back.
     pub fn open(
         alloc: Global,

@@ -1,4 +1,4 @@
--- Two lists that are gone through side by side: as many stand in one as in the other, and each is as the one beside it.
+-- Two lists that are gone through side by side: as many stand in one as in the other, and each is as the one next to it.
 use Rattle.std.proofs.Common.{◌≡◌, ℕ, zero, suc, ◌<◌, Bool, true, false, List, [], ◌∷◌, length, map, refl, sym, ap, ◌∙◌, arith}
 use Rattle.std.specs.Prelude.{◌&&◌, zip, MatchBool}
 use Rattle.std.specs.List.{AllWithin, HoldsAt}

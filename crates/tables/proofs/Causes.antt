@@ -118,7 +118,7 @@ module _ (sql : List ℕ) (shape : TableShape) (it : IsSelect sql shape) (old ne
       let again : ShowsRows here here sql h.0 (timed [] h.0.formats h.1.now) rows h.0.returning = rw none (seen.0, seen.1, seen.2, at_rest old new sql []) in
       (h.0, meant old new sql [] h.0 h.1, again)
 
-  -- rows that their rowids do not tell apart
+  -- rows that their rowids do not distinguish
   pub unordered : (rows : List Row) → have_ids rows && rises rows ≡ false → ShowsInOrder sql rows old new → IsStopped (IsUnread sql) old new
   unordered rows unkeyed h =
       let again : ShowsInOrder sql rows here here = record { seen = h.seen; shown = shown_again h.seen h.shown; same = h.same; sorted = h.sorted } in
@@ -128,7 +128,7 @@ module _ (sql : List ℕ) (shape : TableShape) (it : IsSelect sql shape) (old ne
 pub stopped_as : (H K : Option ℕ → Database → Type 0) (old new : State) → (H old.step_limit old.now → K old.step_limit old.now) → IsStopped H old new → IsStopped K old new
 stopped_as H K old new f it = record { why = either old new (H old.step_limit old.now) (K old.step_limit old.now) f it.why }
 
--- a statement whose text is told of the table
+-- a statement whose text is declared for the table
 pub stopped_by : {T : Type 0} (told mine : T) (text : T → List ℕ) (row : Row) (old new : State) → told ≡ mine → IsStopped (IsHindered (text told) row) old new → IsStopped (IsHindered (text mine) row) old new
 stopped_by told mine text row old new is it = subst (λ sql. IsStopped (IsHindered (text sql) row) old new) is it
 

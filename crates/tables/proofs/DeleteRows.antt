@@ -36,7 +36,8 @@ use Rattle.tables.proofs.InsertRow.{Has, has_listed}
 use Rattle.tables.proofs.QueryRows.{found_program, IsDrafted, drafted_writes, drafted_means, hit, found}
 use Rattle.tables.proofs.SelectAll.{finding}
 
--- A text that deletes, read under any schema that lists a table of this shape, and what its test finds, as the table is STRICT or not, by parameters of these kinds.
+-- A text that deletes, read under any schema that lists a table of this shape, and what its test finds, as the table is STRICT or not, by
+-- parameters of these kinds.
 pub record IsDelete (sql : List ℕ) (shape : TableShape) (kinds : List Kind) (goes : Row → Row → Bool) : Type 0 where
   pub test : Expr
   pub tests : Bool → List Term

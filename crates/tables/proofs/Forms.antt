@@ -27,7 +27,7 @@ use Rattle.tables.specs.Table.{TableShape}
 use Rattle.tables.proofs.KeyTests.{equals, is_parameter}
 use Rattle.tables.proofs.SelectAll.{id_out, key_out, column_out}
 
--- a text that was read to its end, and has so many parameters, eight at most
+-- a text that was read to its end, and has this many parameters, eight at most
 abbrev pub read_as : List ℕ → Statement → ℕ → Parsed
 read_as sql statement count = record {
   statement = statement;
@@ -61,12 +61,12 @@ abbrev pub tests_of : List (List ℕ) → Expr
 tests_of [] = expr.Null
 tests_of (name ∷ names) = and_tests (is_parameter name 1) 2 names
 
--- a parameter beside a column of this kind: where a table is not STRICT, a number may be given as a text
+-- a parameter next to a column of this kind: where a table is not STRICT, a number may be given as a text
 abbrev pub given_in : Kind → Bool → ℕ → Term
 given_in Integer is_strict at = if is_strict then col 0 at else op1 ToNumeric (col 0 at)
 given_in kind is_strict at = col 0 at
 
--- beside the column at this place of a row, of which the first is the rowid
+-- next to the column at this place of a row, of which the first is the rowid
 abbrev pub given_at : List (List ℕ × Kind) → Bool → ℕ → ℕ → Term
 given_at columns is_strict zero at = col 0 at
 given_at [] is_strict (suc place) at = col 0 at
@@ -78,7 +78,7 @@ abbrev pub equals_from : List (List ℕ × Kind) → Bool → ℕ → List ℕ �
 equals_from columns is_strict at [] = []
 equals_from columns is_strict at (place ∷ places) = equals place (given_at columns is_strict place at) ∷ equals_from columns is_strict (suc at) places
 
--- so many numbers from one on
+-- this many numbers from one on
 abbrev counted : ℕ → ℕ → List ℕ
 counted from zero = []
 counted from (suc count) = from ∷ counted (suc from) count
@@ -130,7 +130,7 @@ module _ (shape : TableShape) where
   abbrev pub terms_of : List Term
   terms_of = laid_out (lit Null) shape.key (given_terms 0 width)
 
-  -- the test of so many columns after so many others
+  -- the test of this many columns after this many others
   abbrev pub test_of : ℕ → ℕ → Expr
   test_of before count = tests_of (take count (drop before names_of))
 

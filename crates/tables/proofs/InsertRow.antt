@@ -65,7 +65,7 @@ pub cast_int : (n : ℤ) → cast Integer (Int n) ≡ Int n
 unfolding unary
 cast_int n = either _ (Int n)
 
--- and bytes in a column that was told to be a BLOB
+-- and bytes in a column that was declared to be a BLOB
 pub cast_bytes : (is_strict : Bool) (bytes : List ℕ) → cast (kind_in Blob is_strict) (Bytes bytes) ≡ Bytes bytes
 cast_bytes true bytes = refl
 cast_bytes false bytes = refl

@@ -70,7 +70,7 @@ required_is is_strict told c strict h =
       collation = binary_is c.collation p.4 i;
     }
 
--- lists whose entries are as they are told are made of what is told
+-- lists whose entries are as declared are made of what is declared
 told_are : {A B : Type 0} (is : A → B → Bool) (make : A → B) → ((a : A) (b : B) → is a b ≡ true → b ≡ make a) → (said : List A) (bs : List B) → are_told is said bs ≡ true → bs ≡ map make said
 told_are is make made [] [] h = refl
 told_are is make made (a ∷ said) (b ∷ bs) h = let p = and_parts _ _ h in λ i. made a b p.0 i ∷ told_are is make made said bs p.1 i
@@ -81,7 +81,7 @@ falls : (b : Bool) → not b ≡ true → b ≡ false
 falls true h = absurd (cc)
 falls false h = refl
 
--- columns that are told and are each of a table that is STRICT, or each of one that is not
+-- columns that are declared and are each of a table that is STRICT, or each of one that is not
 columns_are : (is_strict : Bool) (said : List (List ℕ × Kind)) (cs : List Column) → list_all (λ (c : Column). if is_strict then c.is_strict else not c.is_strict) cs ≡ true → are_told is_required said cs ≡ true
     → cs ≡ map (required is_strict) said
 columns_are is_strict [] [] all h = refl
@@ -126,7 +126,7 @@ pub one_is : {X : Type 0} (xs : List X) (a : X) → length xs ≡ 1 → slice_ge
 one_is [] a h p = absurd (omega (arith, h))
 one_is (x ∷ xs) a h p = λ i. some_is p i ∷ empty_is xs (omega (arith, h)) i
 
--- the columns of the other table are none, or the one that is told
+-- the columns of the other table are none, or the one that is declared
 named_is : (name : List ℕ) (names : List (List ℕ)) (bare : Bool) → (length names == 0) ≡ bare → (bare || is_alone name names) ≡ true → names ≡ (if bare then [] else name ∷ [])
 named_is name names true is h = empty_is names (same_number _ _ is)
 named_is name names false is h =
@@ -145,7 +145,7 @@ referring_is link r h =
       is_deferred = falls r.is_deferred p.5 i;
     }
 
--- references that are told, some of which may be bare
+-- references that are declared, some of which may be bare
 all_referring_are : (links : List (ℕ × List ℕ × List ℕ)) (rs : List Reference) → are_told is_referring links rs ≡ true → rs ≡ all_referring (map is_bare rs) links
 all_referring_are [] [] h = refl
 all_referring_are (link ∷ links) (r ∷ rs) h = let p = and_parts _ _ h in λ i. referring_is link r p.0 i ∷ all_referring_are links rs p.1 i
@@ -207,6 +207,6 @@ pub listed_as : (schema : Schema) (table : Place → Table) (t : Table) → (nam
 listed_as schema table t named is = ((place_of t).rules, record { at = named.at; named = named.named; there = named.there ∙ ap Some is })
 
 module _ (schema : Schema) (table : Ours) (told : TableShape) (is : told ≡ shape_of table) where
-  -- a table that is found by the told name and passes for the told shape is listed
+  -- a table that is found by the declared name and passes for the declared shape is listed
   pub listed_by : (t : Table) → IsTableNamed schema told.name t → has_shape told t ≡ true → IsListed (table_at table) schema t.tree
   listed_by t named h = listed_as schema (table_at table) t (subst (λ (shape : TableShape). IsTableNamed schema shape.name t) is named) (shape_is (shape_of table) t (subst (λ (shape : TableShape). has_shape shape t ≡ true) is h))

@@ -18,7 +18,7 @@ module _ {X : Type 0} (p : X → Bool) where
   new_go from x xs y ys true is later h = absurd (let e = rw is at h in cc)
   new_go from x xs y ys false is later h = rw is (later (from + 1) (rw is at h) ∙ ap Some (omega arith))
 
-  -- the first that is new is found behind the others
+  -- the first that is new is found after the others
   pub new_found : (from : ℕ) (xs : List X) (y : X) (ys : List X) → p y ≡ true → is_some (position_from p from xs) ≡ false → position_from p from (xs ++ y ∷ ys) ≡ Some (from + length xs)
   new_found from [] y ys is h = rw is (ap Some (omega arith))
   new_found from (x ∷ xs) y ys is h = new_go from x xs y ys (p x) refl (λ n. new_found n xs y ys is) h
@@ -29,7 +29,7 @@ got_front [] ys at x h = absurd (cc)
 got_front (y ∷ xs) ys zero x h = h
 got_front (y ∷ xs) ys (suc at) x h = got_front xs ys at x h
 
--- behind a list stands what comes next
+-- after a list stands what comes next
 pub got_next : {X : Type 0} (xs ys : List X) (x : X) → slice_get (xs ++ x ∷ ys) (length xs) ≡ Some x
 got_next [] ys x = refl
 got_next (y ∷ xs) ys x = got_next xs ys x

@@ -128,7 +128,7 @@ inert_so schema tree none = elim (cases_Bool (is_inert schema.tables tree)) [ in
 abbrev pub AreAllPassive : Table → Type 0
 AreAllPassive t = (r : Reference) → Has t.references r → (r.on_delete ≡ NoAction) × (r.on_update ≡ NoAction)
 
--- beside a table more, whose references write nothing, in another tree, only those act that did
+-- with a table more, whose references write nothing, in another tree, only those act that did
 pub acted_before : (tables : List Table) (more : Table) (tree : ℕ) → AreAllPassive more → more.tree ≢ tree → IsActedOn (tables ++ more ∷ []) tree → IsActedOn tables tree
 acted_before tables more tree passive apart it = record {
   child = it.child;

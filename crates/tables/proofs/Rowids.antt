@@ -1,4 +1,4 @@
--- Rows that are told apart by their rowids, and what puts keep of it.
+-- Rows that are distinguished by their rowids, and what puts keep of it.
 use Rattle.std.proofs.Common.{◌≡◌, inl, inr, List, [], ◌∷◌, ◌++◌, map, Bool, true, false, sym, ap, subst, subst₂, ◌∙◌}
 use Rattle.std.specs.List.{list_any, AllByRecursion}
 use Rattle.std.specs.List.Sorted.{IsPermutation}
@@ -86,7 +86,7 @@ keyed_put new rows int free keyed = keyed_permuted (new ∷ rows) _ (put_row_per
   apart = (all_from _ rows (λ r h. flip (rowid r) (rowid new) (none_has _ rows r free h)), keyed.apart);
 })
 
--- so many rows more
+-- this many rows more
 pub put_all_permutes : (news rows : List Row) → are_fresh rows news ≡ true → IsPermutation (news ++ rows) (put_all rows news)
 put_all_permutes [] rows fresh = IsPermutation-refl rows
 put_all_permutes (n ∷ news) rows fresh =
@@ -119,6 +119,6 @@ module _ (f : Row → Row) (same_id : (r : Row) → rowid (f r) ≡ rowid r) whe
         );
       }
 
-  -- what a query shows of the rowids tells of the table
+  -- what a query shows of the rowids holds of the table
   pub keyed_by_ids : (here rows : List Row) → IsPermutation rows (map f here) → IsKeyed rows → IsKeyed here
   keyed_by_ids here rows same keyed = from_ids here (keyed_permuted rows _ same keyed)

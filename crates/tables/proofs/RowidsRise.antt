@@ -1,4 +1,4 @@
--- Rows whose rowids rise are told apart by them.
+-- Rows whose rowids rise are distinguished by them.
 use Rattle.std.proofs.Common.{◌≡◌, List, [], ◌∷◌, true, false, refl, ap, Ordering, Less, Equal, Greater, is_eq}
 use Rattle.std.specs.List.{AllByRecursion}
 use Rattle.std.specs.Ordering.{is_lt}

@@ -119,7 +119,7 @@ listed_once schema table p q named l m =
     let both : ◌≡◌ {A = Option Table} (Some (table p)) (Some (table q)) = sym l.there ∙ ap (slice_get schema.tables) at ∙ m.there in
     cc
 
--- the tree of a table of the product is that of its place, and its name is told
+-- the tree of a table of the product is that of its place, and its name is declared
 pub listed_at_one : (table : Ours) (schema : Schema) (p q : Place) → Lists schema (table_at table p) → Lists schema (table_at table q) → p.tree ≡ q.tree
 listed_at_one table schema p q l m = ap (λ (t : Table). t.tree) (listed_once schema (table_at table) p q refl l m)
 

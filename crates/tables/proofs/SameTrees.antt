@@ -1,5 +1,5 @@
 -- Two databases with the same trees list the same tables, since a table is what its text in the list of objects defines, at the tree that
--- its rowid tells.
+-- its rowid gives.
 use Rattle.std.proofs.Common.{◌≡◌, ℕ, ◌+◌, List, [], ◌∷◌, Some, arith, refl, sym, ap, subst, ◌∙◌, map, filter, slice_get, pos}
 use Rattle.std.specs.List.{AllZip}
 use Rattle.std.specs.List.Sorted.{IsPermutation}

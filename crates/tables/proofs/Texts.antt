@@ -1,4 +1,4 @@
--- The texts of a table mean what its row tells. A table gives `Texts`: that its texts are read as the forms of its shape, and what
+-- The texts of a table mean what its row declares. A table gives `Texts`: that its texts are read as the forms of its shape, and what
 -- these are resolved to over the table, which the resolver computes of the literal texts. The rest is here, once for all tables.
 use Rattle.std.proofs.Common.{◌≡◌, ℕ, ℤ, suc, ◌/◌, slice_get, ◌^◌, List, [], ◌∷◌, length, map, take, drop, slice_range, arith, nat_lt, Bool, true, false, None, Some, Ok, Err, refl, ap}
 use Rattle.std.proofs.lemmas.List.{take_all}
@@ -81,7 +81,7 @@ module _ (table : Table) where
   abbrev said : Sql
   said = sql_of table
 
-  -- a row that is given is added as it is, told apart and found by its key, and shown where it is set
+  -- a row that is given is added as it is, distinguished and found by its key, and shown where it is set
   pub record Gives (place : Place) (row : Row) : Type 0 where
     pub one : value_rows row (suc (width shape)) (length (terms_of shape) / suc (width shape)) (terms_of shape) ≡ laid_out Null shape.key row ∷ []
     pub added : (here : List Row) → cells (table_at table place) (with_rowid Chosen here (cast_row (table_at table place) (laid_out Null shape.key row))) ≡ row
@@ -104,7 +104,7 @@ module _ (table : Table) where
     pub laid : (schema : Schema) (place : Place) (base : ℕ) → new_rows schema (table_at table place) base (names_of shape) (given_rows shape) ≡ Ok (Values (terms_of shape) (suc (width shape)))
     pub shows : (place : Place) (r : Row) → eval_all (map (λ (o : Output). o.term) (outs_of shape)) ([] ∷ r ∷ []) ≡ shown (table_at table place) r
 
-  -- a test of so many columns after so many others finds rows to remove, where a schema has the table at this position
+  -- a test of this many columns after this many others finds rows to remove, where a schema has the table at this position
   abbrev pub Removes : Schema → ℕ → Place → ℕ → ℕ → Type 0
   Removes schema at place before count =
       deleted schema at (table_at table place) (Some (test_of shape before count)) ≡ Ok (finding place.tree (finds_of shape place.rules.is_strict before count) (col 1 0 ∷ []))
@@ -138,7 +138,7 @@ module _ (table : Table) where
     pub rows : (place : Place) → Each (kinds_of table) (Gives place)
     pub keyed : (place : Place) → HasKey (table_at table place)
 
-  -- What a text gives that takes rows away by so many columns after so many others: how it is read and resolved, and which rows a
+  -- What a text gives that takes rows away by this many columns after this many others: how it is read and resolved, and which rows a
   -- key finds.
   pub record Removal (sql : List ℕ) (before count : ℕ) : Type 0 where
     pub read : first sql ≡ Ok (read_as sql (delete_of shape before count) count)

@@ -146,7 +146,7 @@ module _ (table : Table) (row : Row) (old new : State) where
   pub several : (count : ℕ) → 1 < count → HasStepped (Replaces (table_at table) (key_in table row) row count) old new → Unput
   several count many did = record { why = inr (inr (inr (inr (record { count = count; several = many; after = new.now; replaced = did.step })))) }
 
-  -- which fault is told of the row that is added, where there was none with its key
+  -- which fault is returned of the row that is added, where there was none with its key
   pub told_adding : {A : Type 0} (mid : State) (count : ℕ) (r : Result A TableFault) → count ≡ 0 → HasStepped (Replaces (table_at table) (key_in table row) row count) old mid
       → IfErr r (λ fault. FailsToWrite (sql_of table).insert row fault mid new) → IfErr r (λ fault. FailsToPut table row fault old new)
   told_adding mid count (Ok a) zero did told = told

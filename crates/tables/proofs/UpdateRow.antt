@@ -46,8 +46,8 @@ use Rattle.tables.proofs.SelectAll.{finding}
 abbrev pub showing : List Term → List Term
 showing values = col 1 0 ∷ col 1 0 ∷ values
 
--- A text that updates, read under any schema that lists a table of this shape, with what its test finds, as the table is STRICT or not, the rows that have the
--- key of its parameters, and what it makes of each: the row that its parameters are, where those are of these kinds.
+-- A text that updates, read under any schema that lists a table of this shape, with what its test finds, as the table is STRICT or not, the
+-- rows that have the key of its parameters, and what it makes of each: the row that its parameters are, where those are of these kinds.
 pub record IsUpdate (sql : List ℕ) (shape : TableShape) (kinds : List Kind) (width : ℕ) : Type 0 where
   pub sets : List (List ℕ × Expr)
   pub test : Expr
@@ -146,7 +146,7 @@ module _ (t : Table) (find : Row → Bool) (values : List Term) (row key : Row) 
   together all same = IsPermutation-trans _ _ _ (beside _ _ _ _ given_are others_are)
       (subst (λ first. IsPermutation first (map (cells t) all)) (map-append (cells t) (map (remade t) answer) left) (IsPermutation-map (cells t) _ _ same))
 
-  -- so many rows were written
+  -- this many rows were written
   pub counted : length (map (remade t) answer) ≡ length (filter (begins_with key) rows)
   counted = sym (length-map (map (remade t) answer) (cells t)) ∙ length_permutation _ _ given_are ∙ length-map (filter (begins_with key) rows) (λ (_ : Row). row)
 
@@ -155,7 +155,7 @@ module _ (sql : List ℕ) (shape : TableShape) (kinds : List Kind) (width : ℕ)
   pub update_writes : IsWriteText sql
   update_writes = drafted_writes sql shape _ _ Update it.drafted (λ at q. tt)
 
-  -- an UPDATE that went through put the given row in the place of each with its key, and told how many there were
+  -- an UPDATE that went through put the given row in the place of each with its key, and returned how many there were
   pub update_replaces : (old new : State) (row : Row) → are_of kinds row ≡ true → (count : ℕ) → Executes sql row old new (Ok count) → Replaces (made_at shape) (take width row) row count old.now new.now
   update_replaces old new row is count ran place rows inert stands =
       let t = made_at shape place in

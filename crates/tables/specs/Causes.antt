@@ -81,7 +81,7 @@ pub record IsTooLarge (sql : List ℕ) (params : Row) (limit : Option ℕ) (db :
   pub is : IsStatement (showing limit in_transaction marks db) sql params meant
   pub large : Does limit (mode_of (showing limit in_transaction marks db)) (timed params meant.formats is.now) db (text_of sql meant) meant.returning meant.command (Err None)
 
--- over an open connection that shows this database a statement of this text goes through, writes so many rows, and leaves this database
+-- over an open connection that shows this database a statement of this text goes through, writes this many rows, and leaves this database
 pub record WentThrough (sql : List ℕ) (params : Row) (count : ℕ) (limit : Option ℕ) (db now : Database) : Type 0 where
   pub meant : Compiled
   pub is : IsStatement (showing limit true [] db) sql params meant
@@ -134,11 +134,11 @@ pub record ShowsUnkeyed (sql : List ℕ) (db : Database) : Type 0 where
   pub shown : let s = showing limit in_transaction marks db in ShowsInOrder sql rows s s
   pub unkeyed : have_ids rows && rises rows ≡ false
 
--- a query of this text is refused, or shows rows that their rowids do not tell apart
+-- a query of this text is refused, or shows rows that their rowids do not distinguish
 abbrev pub IsUnread : List ℕ → Option ℕ → Database → Type 0
 IsUnread sql limit db = IsRefusedCall (λ s e. FailsToQuery sql [] s s e) limit db ⊎ ShowsUnkeyed sql db
 
--- a query failed with an error that is this fault, or it showed rows that their rowids do not tell apart
+-- a query failed with an error that is this fault, or it showed rows that their rowids do not distinguish
 abbrev pub FailsToRead : List ℕ → TableFault → State → State → Type 0
 FailsToRead sql fault old new =
     ((e : Error) × FailsToQuery sql [] old new e × (fault ≡ fault_of e)) ⊎ ((rows : List Row) × ShowsInOrder sql rows old new × (have_ids rows && rises rows ≡ false) × (fault ≡ Storage))
@@ -210,7 +210,7 @@ IsCaused storage Hinders result old new = HasCleanDisk new → result ≡ Err st
 abbrev pub IsCausedInside : {A : Type 0} → (Option ℕ → Database → Type 0) → Result A TableFault → State → State → Type 0
 IsCausedInside Hinders result old new = old.in_transaction ≡ true → IsCaused Storage Hinders result old new
 
--- where a call in a transaction fails, it tells a fault of this kind, unless the disk gave back other bytes than it was given
+-- where a call in a transaction fails, it returns a fault of this kind, unless the disk gave back other bytes than it was given
 abbrev pub IsToldInside : {A : Type 0} → (TableFault → State → State → Type 0) → Result A TableFault → State → State → Type 0
 IsToldInside Fails result old new = HasCleanDisk new → old.in_transaction ≡ true → IfErr result (λ fault. Fails fault old new)
 

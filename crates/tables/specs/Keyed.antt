@@ -1,4 +1,4 @@
--- Rows that are told apart by their rowids, and a table that holds them.
+-- Rows that are distinguished by their rowids, and a table that holds them.
 use Rattle.std.specs.Prelude.{◌≡◌, Bool, true, false, ◌&&◌, List, [], ◌∷◌}
 use Rattle.std.specs.List.{AllByRecursion, list_all}
 use Rattle.std.specs.Ordering.{is_eq, is_lt}

@@ -28,7 +28,7 @@ pub use Rattle.row_data.specs.Rows.{all_tables, same_table}
 use Rattle.tables.specs.declared.table.Group.{Group}
 use Rattle.tables.specs.declared.table.Group.TheVariants as group
 
--- A table as it is told: its name and its columns; the position of the column that is the rowid, if one is; its key,
+-- A table as it is declared: its name and its columns; the position of the column that is the rowid, if one is; its key,
 -- columns that no two rows share, and references, all by columns counted from 1, with 0 for the rowid; and how many of
 -- the first columns a removal names.
 pub record TableShape : Type 0 where
@@ -80,13 +80,13 @@ against op place value = op2 (Compare op Binary) (col 1 place) (lit value)
 abbrev pub between : ℕ → ℕ → ℕ → Term
 between place low high = op2 And (against Ge place (Int (pos low))) (against Le place (Int (pos high)))
 
--- All that is told of a table here: its shape, the texts of its statements, and the CHECK rules that it is made with.
+-- All that is declared of a table here: its shape, the texts of its statements, and the CHECK rules that it is made with.
 pub record Telling : Type 0 where
   pub shape : TableShape
   pub sql : Sql
   pub checks : List Term
 
--- what is told of each table, which the code has in the same words (`src/table.rt`)
+-- what is declared of each table, which the code has in the same words (`src/table.rt`)
 abbrev pub telling : Table → Telling
 telling Edition = record {
   shape = by_rowid (codes "edition") ((codes "id", Integer) ∷ (codes "number", Integer) ∷ []) [];
@@ -220,7 +220,7 @@ sql_of table = (telling table).sql
 abbrev pub checks_of : Table → List Term
 checks_of table = (telling table).checks
 
--- What may differ from one database to another beside the table's tree: whether it is STRICT; which of its references, in turn, name no
+-- What may differ from one database to another besides the table's tree: whether it is STRICT; which of its references, in order, name no
 -- column of the other table, so that its key is meant, where those beyond the list name theirs; and its CHECK rules, which are taken as
 -- they were made.
 pub record Rules : Type 0 where
@@ -237,7 +237,7 @@ pub record Place : Type 0 where
 abbrev pub rules_of : Table → Rules
 rules_of table = record { is_strict = true; bare = []; checks = checks_of table }
 
--- the kind of a column that is told to have this one: BLOB is a kind in a STRICT table alone, and else converts nothing
+-- the kind of a column that is declared to have this one: BLOB is a kind in a STRICT table alone, and else converts nothing
 abbrev pub kind_in : Kind → Bool → Kind
 kind_in Blob is_strict = if is_strict then Blob else Any
 kind_in kind is_strict = kind
@@ -257,7 +257,7 @@ all_referring bare [] = []
 all_referring [] (link ∷ links) = referring false link ∷ all_referring [] links
 all_referring (is_bare ∷ bare) (link ∷ links) = referring is_bare link ∷ all_referring bare links
 
--- so many ascending orders
+-- this many ascending orders
 abbrev pub ascending : ℕ → List Order
 ascending zero = []
 ascending (suc count) = plain ∷ ascending count
@@ -320,7 +320,7 @@ IsRowOf table row = IsTrue (are_of (kinds_of table) row)
 abbrev pub IsKeyOf : Table → Row → Type 0
 IsKeyOf table key = IsTrue (are_of (take (shape_of table).named (kinds_of table)) key)
 
--- Rows of a table that go together: those that share some columns, which stand after so many others; and the text that takes
+-- Rows of a table that go together: those that share some columns, which stand after this many others; and the text that takes
 -- them out.
 pub record Sharing : Type 0 where
   pub table : Table
@@ -328,7 +328,7 @@ pub record Sharing : Type 0 where
   pub shared : ℕ
   pub removal : List ℕ
 
--- the groups, each told once
+-- the groups, each listed once
 abbrev pub sharing : Group → Sharing
 sharing group.List = record { table = Choice; before = 0; shared = 2; removal = codes "DELETE FROM choice12 WHERE round = ?1 AND student = ?2" }
 sharing group.Placed = record { table = Placement; before = 1; shared = 1; removal = codes "DELETE FROM placement12 WHERE round = ?1" }

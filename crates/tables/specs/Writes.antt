@@ -42,7 +42,7 @@ abbrev pub begins_with : Row → Row → Bool
 begins_with [] row = true
 begins_with (value ∷ key) row = equal Binary (column row 0) value && begins_with key (drop 1 row)
 
--- after so many of its columns the row goes on with these values
+-- after this many of its columns the row goes on with these values
 abbrev pub goes_on : ℕ → Row → Row → Bool
 goes_on before key row = begins_with key (drop before row)
 
@@ -72,7 +72,7 @@ abbrev pub Enters : Entering → (Place → AnyTable) → Row → Row → Databa
 Enters InPlace = Puts
 Enters New = Adds
 
--- where no foreign key acts on the table, each row with this key is replaced by the given one, and nothing else changes; so many there were
+-- where no foreign key acts on the table, each row with this key is replaced by the given one, nothing else changes; there were this many
 abbrev pub Replaces : (Place → AnyTable) → Row → Row → ℕ → Database → Database → Type 0
 Replaces table key given count old new =
     (place : Place) (rows : List Row) → IsInert old.schema place.tree → Stands table place rows old

@@ -1,4 +1,4 @@
-//! The SQL of the product: what is told of each table, a function for each statement over any of them, and one that takes a
+//! The SQL of the product: what describes each table, a function for each statement over any of them, and one that takes a
 //! list away, or the placements of a round.
 //!
 //! Nothing here knows an office. `store`, one crate above, says what the rows mean, and puts the
@@ -11,10 +11,9 @@
 //! nothing. The words are in `specs/Table.antt` (the tables as a schema lists them), `specs/Writes.antt` and
 //! `specs/Steps.antt`; begin there.
 //!
-//! A table that is made is STRICT, its references name their columns, and it has the CHECK rules that are
-//! told; one that is found keeps its own. A further table is a variant of `Table` with its kinds and its key
-//! in `row_data`, its shape and its texts in `table.rt` and in `specs/Table.antt`, and the reading of its five
-//! texts in `proofs/Tables.antt`: what statements do is proved for all.
+//! A table that is made is STRICT, its references name their columns, and it has the CHECK rules that are declared; one that is found keeps
+//! its own. A further table is a variant of `Table` with its kinds and its key in `row_data`, its shape and its texts in `table.rt` and in
+//! `specs/Table.antt`, and the reading of its five texts in `proofs/Tables.antt`: what statements do is proved for all.
 #![tactic(auto)]
 
 pub mod fault;

@@ -111,7 +111,7 @@ const PLACEMENT_COLUMNS: &[ToldColumn] = &[STUDENT, ROUND, PROJECT, RANK];
 
 const PLACEMENT_LINKS: &[Link] = &[Link(1, STUDENTS), Link(2, ROUNDS), Link(3, PROJECTS)];
 
-/// How a table is told: what it is, and what its statements say.
+/// A table's description: what it is, and what its statements say.
 pub(crate) struct Shape {
     pub name: &'static str,
     pub columns: &'static [ToldColumn],

@@ -11,7 +11,7 @@ use crate::fault::TableFault;
 use sqlite::{Alter, Transaction};
 use sqlite_value::value::ValueRef;
 
-/// Runs a statement with these parameters, and tells how many rows it wrote.
+/// Runs a statement with these parameters, and returns how many rows it wrote.
 pub(crate) fn write<S: Alter>(
     tx: &mut Transaction<'_, S>,
     sql: &str,

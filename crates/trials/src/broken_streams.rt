@@ -111,7 +111,7 @@ fn play_streams<S: Alter>(
     Ok(())
 }
 
-/// Plays the two puts, cut into two pieces after each byte in turn.
+/// Plays the two puts, cut into two pieces after each byte.
 fn play_cuts<S: Alter>(alloc: Global, desk: &mut Desk<S>) -> Result<(), Fail> {
     let want = Ok(Served {
         answered: 2,
@@ -138,7 +138,7 @@ fn play_over<S: Alter + Drop>(
     Ok(connection)
 }
 
-/// Plays the streams of each desk in turn.
+/// Plays the streams of each desk in order.
 fn play<S: Alter + Drop>(
     alloc: Global,
     mut connection: Connection<S>,

@@ -38,11 +38,11 @@ fn a_text_that_cannot_be_printed_has_status_1(rt: HostRuntime) -> Result<(), Fai
     Ok(())
 }
 
-/// What is not UTF-8, as it is told.
+/// What is not UTF-8, as it is printed.
 const NOT_UTF8: &str =
     "error: invalid UTF-8 was detected in one or more arguments\n\nUsage: spadesk <COMMAND>\n\nFor more information, try '--help'.\n";
 
-/// Tells why arguments cannot be read, and compares the status and what is printed.
+/// Prints why arguments cannot be read, and compares the status and what is printed.
 fn tells_unread(
     rt: &HostRuntime,
     kind: io::ErrorKind,

@@ -49,7 +49,7 @@ fn answers(rt: &HostRuntime, clients: &mut [TcpStream]) -> Result<Vec<Vec<u8>>, 
     Ok(all)
 }
 
-/// Serves so many connections. The lines that are printed of them.
+/// Serves this many connections. The lines that are printed of them.
 fn lines_of<S: Alter>(
     rt: &HostRuntime,
     desk: &mut Desk<S>,
@@ -63,7 +63,7 @@ fn lines_of<S: Alter>(
     Ok(out.into_inner())
 }
 
-/// Serves one connection for each of these texts, one after another. The lines that are told, and what each was answered.
+/// Serves one connection for each of these texts, one after another. The lines that are printed, and what each was answered.
 pub(crate) fn answered<S: Alter>(
     rt: &HostRuntime,
     desk: &mut Desk<S>,
@@ -78,7 +78,7 @@ pub(crate) fn answered<S: Alter>(
     Ok((told, answers))
 }
 
-/// Two connections, of which the first sends two puts.
+/// Two connections: the first sends two puts.
 const TWO: &[u8] = b"connection 1: 2 answers, closed\nconnection 2: 0 answers, closed\n";
 
 /// Serves them at a desk.
@@ -93,7 +93,7 @@ fn serve_two<S: Alter>(rt: &HostRuntime, desk: &mut Desk<S>) -> Result<(), Fail>
     holds(are_answers, "two answers")
 }
 
-/// Messages after which nothing is read, how often they come, and what is told of a client that could send more.
+/// Messages after which nothing is read, how often they come, and what is printed of a client that could send more.
 #[rattlefmt::skip]
 static LEFT_OPEN: [(&str, usize, &[u8]); 3] = [
     ("GET /rounds/1 HTTP/1.1\r\n\r\n",                               101, b"connection 1: 100 answers, hundred\n"),
@@ -101,7 +101,7 @@ static LEFT_OPEN: [(&str, usize, &[u8]); 3] = [
     ("PUT /students/S1 HTTP/1.1\r\nContent-Length: 65537\r\n\r\n", 1,   b"connection 1: 1 answers, too-large\n"),
 ];
 
-/// Serves a client that has sent this message so often, and compares what is told of it.
+/// Serves a client that has sent this message so often, and compares what is printed of it.
 fn serve_left_open<S: Alter>(
     rt: &HostRuntime,
     desk: &mut Desk<S>,
@@ -179,7 +179,7 @@ fn compare_refusal(rt: &HostRuntime, database: &str, port: u16, want: &str) -> R
     prints(rt, &words, (b"", want.as_bytes()), 1)
 }
 
-// A port that a listener has cannot be bound once more; a database that cannot be opened is told before.
+// A port that a listener has cannot be bound once more; a database that cannot be opened is printed before.
 #[test]
 fn a_port_that_is_taken_is_told(rt: HostRuntime) -> Result<(), Fail> {
     let listener = TcpListener::bind(&rt, (Ipv4Addr::LOCALHOST, 0))?;

@@ -77,7 +77,7 @@ impl Write for Caller<'_> {
     }
 }
 
-/// Serves one connection of a caller who asks these lines and gets so many answers, by a line over this file and a port that is free.
+/// Serves one connection of a caller who asks these lines and gets this many answers, by a line over this file and a port that is free.
 fn serves_caller(
     rt: &HostRuntime,
     database: &str,

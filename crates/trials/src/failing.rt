@@ -1,4 +1,4 @@
-//! A database over files of which one fails from some call on: what is answered, and what is found in the files afterwards.
+//! A database over files, one of which fails from some call on: what is answered, and what is found in the files afterwards.
 
 use crate::files::{Before, Bytes, Deed, Kept, Row, bytes_of, do_in, filled, kept_in};
 use plays::judged::holds;
@@ -94,7 +94,7 @@ fn find(alloc: Global, bytes: &Bytes, start: &Start, is_made: bool) -> Result<()
     holds(is_found, "the office of the files")
 }
 
-/// Asks the request of a row where the files pass so many calls; what came of it is found in them as they stand, and as a crash leaves
+/// Asks the request of a row where the files pass this many calls; what came of it is found in them as they stand, and as a crash leaves
 /// them. Whether calls are left. Files that are not opened are looked at in the rows without a request.
 fn run(alloc: Global, start: &Start, row: Row, calls: (u64, u64)) -> Result<bool, Fail> {
     let (came, mut files) = do_in(alloc, &start.bytes, calls, row.0, Deed::Ask(row))?;

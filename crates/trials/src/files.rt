@@ -1,4 +1,4 @@
-//! What is done at a database over files of which one fails from some call on, and what stands in the files afterwards.
+//! What is done at a database over files, one of which fails from some call on, and what stands in the files afterwards.
 //!
 //! One function holds the connection of the files. Whatever is done goes over any store.
 
@@ -25,9 +25,9 @@ pub(crate) enum Before {
     Nothing,
     /// The school with its lists.
     Listed,
-    /// Tables of the first edition, which are raised.
+    /// Tables of the first edition, which are migrated.
     FirstEdition,
-    /// Tables of the second edition, which are raised.
+    /// Tables of the second edition, which are migrated.
     SecondEdition,
 }
 
@@ -68,7 +68,7 @@ pub(crate) enum Deed {
     Put,
 }
 
-/// What came of it: whether the request was made, and what the tables kept.
+/// What came of it: whether the request was made, and what the tables stored.
 #[derive(Drop)]
 pub(crate) struct Came {
     pub(crate) is_made: bool,
@@ -94,7 +94,7 @@ fn file_of(alloc: Global, bytes: &[u8]) -> Result<Memory, Fail>
     Ok(file)
 }
 
-/// Does it at the database of these bytes, whose log and whose file pass so many calls and then fail each. What came of it, unless the
+/// Does it at the database of these bytes, whose log and whose file pass this many calls and then fail each. What came of it, unless the
 /// database was not opened, and the files.
 pub(crate) fn do_in(
     alloc: Global,

@@ -1,4 +1,4 @@
-//! Lines of the program that are done in turn, and what each prints.
+//! Lines of the program that are done one after another, and what each prints.
 
 use cli::line;
 use plays::cells::{body_of, first_cell};
@@ -57,7 +57,7 @@ pub(crate) fn prints(
 }
 
 /// Does the line of a row, and compares what it prints: its words, its status, and what is printed on standard output and on
-/// standard error. Behind these may stand what the row shows.
+/// standard error. After these may stand what the row shows.
 fn print_row(rt: &HostRuntime, row: &str) -> Result<(), Fail> {
     let (words, rest) = first_cell(row);
     let (status, rest) = first_cell(rest);

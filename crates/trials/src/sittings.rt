@@ -1,4 +1,4 @@
-//! The session that a desk keeps: where there is one, and that it tells what a new one would.
+//! The session that a desk caches: where there is one, and that it returns what a new one would.
 
 use desk::Desk;
 use plays::offices::{play_over, play_rows};
@@ -24,7 +24,7 @@ const SECOND: &str = r#"PUT /lists/C | {"choices":["Z","P"]} | 200 OK | {"ok":tr
 
 const PREVIEW: &str = r#"GET /preview || 200 OK | {"profile":[0,2,0,0^,],"size":2}"#;
 
-/// Returns the relaxations of the session that is kept after these lines.
+/// Returns the relaxations of the session that is cached after these lines.
 fn steps_after<S: Alter>(alloc: Global, desk: &mut Desk<S>, lines: &str) -> Result<u64, Fail> {
     play_lines(alloc, desk, lines)?;
     let steps = desk.session_steps();
@@ -93,7 +93,7 @@ fn all_first_lists_join_the_session(rt: HostRuntime) -> Result<(), Fail> {
     compare_joined(rt.alloc(), Connection::open_in_memory(rt.alloc())?, true)
 }
 
-/// A supervisor, a project without a place and two students. Before each request stands whether a session is kept after it.
+/// A supervisor, a project without a place and two students. Before each request stands whether a session is cached after it.
 #[rattlefmt::skip]
 static BEFORE: &str =
     r#"none | PUT /supervisors/L | {"name":"Lee","quota":2}                   | 200 OK | {"ok":true}
@@ -193,7 +193,7 @@ fn compare_previews<S: Alter + Drop>(
     Ok(other.into_connection())
 }
 
-/// Plays a line at a desk, and at one that is opened for it over tables of its own, and compares whether a session is kept.
+/// Plays a line at a desk, and at one that is opened for it over tables of its own, and compares whether a session is cached.
 fn compare_session<S: Alter + Drop>(
     alloc: Global,
     desk: &mut Desk<S>,
@@ -211,7 +211,7 @@ fn compare_session<S: Alter + Drop>(
     Ok(connection)
 }
 
-/// Plays lines at a desk and beside it.
+/// Plays lines at a desk and next to it.
 fn compare_lines<S: Alter + Drop>(
     alloc: Global,
     desk: &mut Desk<S>,
@@ -224,7 +224,7 @@ fn compare_lines<S: Alter + Drop>(
     Ok(other)
 }
 
-/// Plays the lines before these, and these, at the desk over tables and beside it.
+/// Plays the lines before these, and these, at the desk over tables and next to it.
 fn compare_sessions<S: Alter + Drop>(
     alloc: Global,
     connection: Connection<S>,

@@ -85,7 +85,7 @@ pub fn accept(instance: &Instance, aim: Aim, matching: Matching, prices: Prices)
     ensures proved { IfSome result (λ s. IsProvedBest (order aim) instance.now.shape s.matching.places.items s.prices) }
     ensures best { IfSome result (λ s. IsBest aim instance.now.shape (pairs instance.now.shape s.matching.places.items)) }
 
-    // What proves is not turned away, and comes back as it is.
+    // What proves is not refused, and comes back as it is.
     ensures exact { IsProvedBest (order aim) instance.now.shape matching.places.items prices → result ≡ Some (record { matching = matching; prices = prices }) }
 {
     match check(instance, aim, &matching, &prices) {

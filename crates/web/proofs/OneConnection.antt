@@ -42,7 +42,7 @@ at_fault (Ok a) p = tt
 at_fault (Err e) p = p
 
 module _ {D : Type 0} (step : D → MessageText → List ℕ → D → Type 0) where
-  -- one more is served and told
+  -- one more is served and its line printed
   pub one_more : (before mid after : D) (n : ℕ) (w0 w w' : Option (List ℕ)) (one : Came) → AllServed step before n w0 w mid → Connects step mid one after
       → Appends w w' (connection_line (n + 1) one) → AllServed step before (n + 1) w0 w' after
   one_more before mid after n w0 w w' one so_far last wrote = record {

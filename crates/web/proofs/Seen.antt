@@ -58,7 +58,7 @@ module _ {D S : Type 0} (see : D → S) (step : S → MessageText → List ℕ �
     early = λ memory. let none = s.early memory in (ap see none.0, none.1, none.2);
   }
 
--- a step that gives back what holds behind it
+-- a step that gives back what holds after it
 abbrev pub GivesBack : {D : Type 0} → (D → Type 0) → (D → MessageText → List ℕ → D → Type 0) → Type 0
 GivesBack {D} P step = (before : D) (words : MessageText) (bytes : List ℕ) (after : D) → step before words bytes after → P after → P before
 

@@ -32,7 +32,7 @@ end_word BadHead = codes "bad-head"
 end_word TooLarge = codes "too-large"
 end_word Hundred = codes "hundred"
 
--- what is told of a connection
+-- what is printed of a connection
 abbrev pub told_of : Result Served StreamFault → List ℕ
 told_of (Ok served) = decimal served.answered ++ codes " answers, " ++ end_word served.end
 told_of (Err Memory) = codes "memory fault"
@@ -43,20 +43,20 @@ told_of (Err Write) = codes "write fault"
 abbrev pub connection_line : ℕ → Result Served StreamFault → List ℕ
 connection_line number came = codes "connection " ++ decimal number ++ codes ": " ++ told_of came ++ 10 ∷ []
 
--- the lines of connections of which so many came before
+-- the lines of connections of which this many came before
 abbrev pub lines_after : ℕ → List (Result Served StreamFault) → List ℕ
 lines_after before [] = []
 lines_after before (came ∷ more) = connection_line (before + 1) came ++ lines_after (before + 1) more
 
 module _ {D : Type 0} (step : D → MessageText → List ℕ → D → Type 0) where
-  -- so many connections were served, and the line of each was written
+  -- this many connections were served, and the line of each was written
   pub record AllServed (before : D) (count : ℕ) (w0 w : Option (List ℕ)) (after : D) : Type 0 where
     pub came : List (Result Served StreamFault)
     pub counted : length came ≡ count
     pub served : Connect step before came after
     pub wrote : Appends w0 w (lines_after 0 came)
 
-  -- some of so many connections were served: the lines of all but the last were written whole, and a part of the last one's
+  -- some of this many connections were served: the lines of all but the last were written whole, and a part of the last one's
   pub record SomeServed (before : D) (count : ℕ) (w0 w : Option (List ℕ)) (after : D) : Type 0 where
     pub told : List (Result Served StreamFault)
     pub last : Result Served StreamFault

@@ -22,7 +22,7 @@ use Rattle.wire.specs.Run.{MessageText}
 use Rattle.api.specs.Requests.{IsReadAs}
 use Rattle.api.specs.Texts.{refusal_text, text_of}
 
--- what is at a desk: an office, and the session that is kept, if any
+-- what is at a desk: an office, and the session that is cached, if any
 pub record AtDesk : Type 0 where
   pub office : State
   pub session : Option SessionState
@@ -31,11 +31,11 @@ pub record AtDesk : Type 0 where
 abbrev pub at_desk : {S : Type 0} → DeskState S → AtDesk
 at_desk desk = record { office = desk.office; session = desk.session }
 
--- an office that was just opened: no session is kept
+-- an office that was just opened: no session is cached
 abbrev pub just_opened : State → AtDesk
 just_opened office = record { office = office; session = None }
 
--- A step of the office, and its answer. A refusal by name is answered as itself, and a fault of the storage is told of what changes the
+-- A step of the office, and its answer. A refusal by name is answered as itself, and a fault of the storage is answered to what changes the
 -- office alone. What allocates nothing is answered, and the session goes on over the request.
 pub record Gets (before : AtDesk) (asked : Request) (answer : Result Reply Refusal) (after : AtDesk) : Type 0 where
   pub step : Step layers before.office asked answer after.office
@@ -66,7 +66,7 @@ module _ {S : Type 0} (ghosts : Ghosts S) where
   AnswersAt before (Ok asked) bytes after = (answer : Result Reply Refusal) × GetsAt before asked answer after × (bytes ≡ text_of answer)
   AnswersAt before (Err refusal) bytes after = (bytes ≡ refusal_text refusal) × (after ≡ before)
 
-  -- a message is answered so, and a disk that is clean behind it was clean before it
+  -- a message is answered so, and a disk that is clean after it was clean before it
   pub record AnswersFrom (before : DeskState S) (said : MessageText) (bytes : List ℕ) (after : DeskState S) : Type 0 where
     pub read : Result Request Refusal
     pub is_read : IsReadAs said read

@@ -36,7 +36,7 @@ fn end_word(end: End) -> &'static [u8]
     }
 }
 
-/// Appends what is told of a connection.
+/// Appends what is printed of a connection.
 fn push_told(out: &mut ShortText, came: &Result<Served, StreamFault>)
     requires { array_vec_len out.old ≤ MOST_SHORT_BODY }
     ensures items { out.new.items ≡ out.old.items ++ told_of came.now }
@@ -102,7 +102,7 @@ fn serve_over<S: Alter, R: Read + Drop, W: Write + Drop>(
     (came, reader.into_inner(), writer.into_inner())
 }
 
-/// Serves the stream of a connection that was accepted, or could not be, and tells what became of it.
+/// Serves the stream of a connection that was accepted, or could not be, and returns what became of it.
 fn serve_accepted<S: Alter>(
     alloc: Global,
     desk: &mut Desk<S>,
@@ -118,7 +118,7 @@ fn serve_accepted<S: Alter>(
     came
 }
 
-/// Serves so many connections, one after another, each to the end of its stream or until it breaks off, and writes a line of
+/// Serves this many connections, one after another, each to the end of its stream or until it breaks off, and writes a line of
 /// each. A connection that cannot be accepted counts as one with a fault of reading.
 ///
 /// `OutFault` comes only where the writer of the lines failed; the connections that came later are not served.

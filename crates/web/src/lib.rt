@@ -1,7 +1,7 @@
 //! The office over HTTP: a stream served at the desk that keeps its tables.
 //!
 //! `wire` finds the messages of a stream and writes their answers; `api` says what a message asks and how
-//! an answer is told. Here each message is asked of the desk.
+//! an answer is written. Here each message is asked of the desk.
 //!
 //! Promised: `serve_stream` writes the texts of the answers of a run of the office over the requests of the
 //! messages of the stream. The words that put both together are in `specs/Serving.antt`; begin there.

@@ -169,7 +169,7 @@ few_ends n rest Unfinished x = inr x
 few_ends n rest BadHead x = inr x
 few_ends n rest TooLarge x = inr x
 
--- after so many messages one end stands at a place
+-- after this many messages one end stands at a place
 ends_unique : (n : ℕ) (rest : List ℕ) (d e : End) → EndsAt n rest d → EndsAt n rest e → d ≡ e
 ends_unique n rest d e x y = elim (few_ends n rest d x) [
   | inl a ↦ elim (few_ends n rest e y) [ inl b ↦ a.0 ∙ sym b.0 | inr b ↦ absurd (omega (arith, a.1, b.0)) ]

@@ -115,7 +115,7 @@ pub may_be_well_formed : (buf : List ℕ) → MayBecomeRequest buf → IsMalform
 may_be_well_formed buf (inl m) bad = bad.1 m.0 m.1 m.2
 may_be_well_formed buf (inr e) bad = let f : has_line false buf ≡ false = target_no_line buf e in absurd (let g : true ≡ false = cc (bad.0) in cc)
 
--- ---- so many fields take more bytes
+-- ---- this many fields take more bytes
 
 -- a line end has a byte
 end_long : (e : LineEnd) → 1 ≤ length (print_end e)

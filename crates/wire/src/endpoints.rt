@@ -46,7 +46,7 @@ pub trait Sink {
         ensures count { CountsNone (failures self.old) (failures self.new) result };
 }
 
-/// Any reader or writer, with the count of its calls that failed, from 0. Of a reader it is also kept whether it has ended.
+/// Any reader or writer, with the count of its calls that failed, from 0. Of a reader it is also stored whether it has ended.
 #[derive(Drop)]
 pub struct Watched<T> {
     inner: T,

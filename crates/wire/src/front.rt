@@ -1,4 +1,4 @@
-//! What stands at the front of a stream of which some bytes have come.
+//! What stands at the front of a stream, after some of its bytes have come.
 ghost use Rattle.std.specs.Prelude.{◌≡◌, ◌≤◌, ◌+◌, ℕ, false, length};
 ghost use Rattle.wire.specs.Messages.{has_line};
 ghost use Rattle.wire.specs.Inside.Judged.{FindsHead, Judges};
@@ -9,7 +9,7 @@ use crate::outcome::End;
 use httparse::spans::{HeaderSpan, RequestSpans, Span, parse_request};
 use httparse::{Error, Status};
 
-/// The fields for which the parser has room: more than stand in so many bytes, so whole heads are judged.
+/// The fields for which the parser has room: more than stand in this many bytes, so whole heads are judged.
 pub const FIELDS: usize = 2800;
 
 /// What a search for a head found: its parts, that none can come, or none so far.

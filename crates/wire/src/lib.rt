@@ -1,4 +1,4 @@
-//! HTTP over any reader and writer: the messages of a byte stream, answered in turn.
+//! HTTP over any reader and writer: the messages of a byte stream, answered in order.
 //!
 //! This crate does not know what a message asks for, nor how it or a bad head is answered: a `Handler` says
 //! that. What is here is where each message begins and ends, that each is answered as soon as its bytes have

@@ -5,7 +5,7 @@ ghost use Rattle.std.specs.Io.KnownBytes.{Appends};
 use crate::endpoints::Sink;
 use crate::outcome::StreamFault;
 
-/// Writes some of the bytes, of which there are some.
+/// Writes some of the bytes. There is at least one.
 fn write_some<W: Sink>(writer: &mut W, bytes: &[u8]) -> Result<usize, StreamFault>
     requires { W.failures writer.old < 2 ^ 64 - 1 }
     ensures range { IfOk result (λ n. (0 < n) × (n ≤ length bytes.now)) }

@@ -13,7 +13,7 @@ abbrev pub IsNumberBelow : ℕ → Takes → Type 0
 IsNumberBelow bound (Number least most) = most < bound
 IsNumberBelow bound _ = ⊥
 
--- a fault tells this kind of error of `clap`'s
+-- a fault has this kind of error of `clap`'s
 abbrev pub IsToldBy : ErrorKind → LineFault → Type 0
 IsToldBy kind Memory = Unit {0}
 IsToldBy kind (Help text) = kind ≡ DisplayHelp

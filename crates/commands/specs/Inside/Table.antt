@@ -1,10 +1,10 @@
--- For proofs alone. The lines of the program, each told once.
+-- For proofs alone. The lines of the program, each described once.
 use Rattle.std.specs.Prelude.{map}
 use Rattle.commands.specs.declared.table.Argument.{Argument as GivenArgument}
 use Rattle.commands.specs.declared.table.Described.{Described as GivenRow}
 use Rattle.commands.specs.Table.{Argument, ToldLine}
 
--- what the program tells of an argument
+-- what the program says of an argument
 abbrev pub argument_by : GivenArgument → Argument
 argument_by given = record { name = given.name.now; takes = given.takes; needed = given.needed }
 

@@ -1,4 +1,4 @@
--- For proofs alone. What a caller sees of a desk: the office, what the connection to its tables holds, and the session that is kept, if any.
+-- For proofs alone. What a caller sees of a desk: the office, what the connection to its tables holds, and the cached session, if any.
 use Rattle.std.specs.Prelude.{Option, refl}
 use Rattle.std.specs.Coded.{Coded, code_by, coded×, coded_option}
 use Rattle.sqlite.specs.Held.{Held, held_code}

@@ -7,7 +7,7 @@ use Rattle.rolls.specs.declared.fate.Fate.{Fate}
 use Rattle.rolls.specs.declared.fate.Fate.TheVariants.{Stays, Starts, Joins, Ends}
 use Rattle.desk.specs.Sessions.{SitsAt}
 
--- a session that is kept may meet this fate in an office that was just changed
+-- a session that is cached may meet this fate in an office that was just changed
 abbrev pub MayMeet : Fate → State → Option SessionState → Type 0
 MayMeet Stays o kept = SitsAt o kept
 MayMeet Starts o kept = ⊥

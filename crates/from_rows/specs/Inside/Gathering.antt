@@ -40,7 +40,7 @@ stage_of r = stage_in r.table r.cells
 abbrev pub at_stage : ℕ → List RowOf → List RowOf
 at_stage stage rows = filter (λ r. stage_of r == stage) rows
 
--- the rows of so many stages from this one on, stage by stage
+-- the rows of this many stages from this one on, stage by stage
 abbrev pub stages : ℕ → ℕ → List RowOf → List RowOf
 stages zero stage rows = []
 stages (suc n) stage rows = at_stage stage rows ++ stages n (suc stage) rows
@@ -53,7 +53,7 @@ staged rows = stages (RANKS + 1) 0 rows
 abbrev pub choices_among : List ℕ → List Listed → List (List ℕ)
 choices_among student lists = option_map_or (λ l. l.choices) (find list_key (of_code student) lists) []
 
--- lists with one more choice of a student, behind those that are there
+-- lists with one more choice of a student, after those that are there
 abbrev pub with_choice : List ℕ → List ℕ → List Listed → List Listed
 with_choice student project lists = put list_key (record { student = student; choices = choices_among student lists ++ project ∷ [] }) lists
 

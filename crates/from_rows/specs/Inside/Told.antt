@@ -1,4 +1,4 @@
--- The entry that a row tells, where its cells have the form of one.
+-- The entry that a row decodes to, where its cells have the form of one.
 use Rattle.std.specs.Prelude.{ℕ, ◌==◌, nat_le, Bool, true, false, ◌&&◌, List, [], ◌∷◌, length, Option, Some, None, if◌then◌else◌}
 use Rattle.std.specs.Option.{option_map}
 use Rattle.std.specs.Str.{bytes_eq}

@@ -26,7 +26,7 @@ letter_of StudentPrices = codes "U"
 letter_of ProjectPrices = codes "Y"
 letter_of SupervisorPrices = codes "Z"
 
--- the code has the form and may come next on a roll of at most so many
+-- the code has the form and may come next on a roll of at most this many
 pub record ComesNext (most : ℕ) (roll : List (List ℕ)) (code : List ℕ) : Type 0 where
   pub form : IsTrue (is_code code)
   pub few : length roll < most

@@ -46,7 +46,7 @@ pub record PushingFlow {G : Type 0} (o : Ops G) (f : Flow G) (marks : List (Mark
   pub seen : is_seen (mark_at o marks hole).origin ≡ true
   pub turns : (b r : ℕ) → (mark_at o marks b).turn ≡ Some r → (r < length marks) × (is_seen (mark_at o marks b).origin ≡ true)
 
--- the residual network between two admissions: the lists beside the flow are right
+-- the residual network between two admissions: the lists next to the flow are right
 pub record BetweenResidual {G : Type 0} (o : Ops G) (r : Residual G) : Type 0 where
   pub flow : BetweenFlow o r.flow
   pub kept : IsSeating r.flow r.kept
@@ -63,7 +63,7 @@ pub record PushingResidual {G : Type 0} (o : Ops G) (r : Residual G) (marks : Li
   pub flow : PushingFlow o r.flow marks fresh top hole
   pub kept : IsSeating r.flow r.kept
 
--- a search for the student may begin: the labels of the last one are gone, and so many may be compared
+-- a search for the student may begin: the labels of the last one are gone, and this many may be compared
 pub record MaySearch {G : Type 0} (o : Ops G) (r : Residual G) (l : Labels G) (fresh most : ℕ) : Type 0 where
   pub searching : SearchingResidual o r fresh
   pub blank : AreBlank o l (length r.flow.potentials.items)
@@ -80,7 +80,7 @@ pub record IsNextHole {G : Type 0} (o : Ops G) (f : Flow G) (marks : List (Mark 
   pub pushing : PushingFlow o f marks fresh top next
   pub falls : turn_or (length marks) (mark_at o marks next).turn < turn_or (length marks) (mark_at o marks hole).turn
 
--- the same, with the lists beside the flow
+-- the same, with the lists next to the flow
 pub record IsStepOn {G : Type 0} (o : Ops G) (r : Residual G) (marks : List (Mark G)) (hole next : ℕ) : Type 0 where
   pub fresh : ℕ
   pub top : G
@@ -99,7 +99,7 @@ pub record MayEnter {G : Type 0} (o : Ops G) (f : Flow G) (row : Row G) : Type 0
   pub list_room : vec_len f.lists < vec_capacity f.lists
   pub held_room : vec_len f.held < vec_capacity f.held
 
--- a student came with this list and was given a place or not, after so many relaxations
+-- a student came with this list and was given a place or not, after this many relaxations
 pub record HasEntered {G : Type 0} (old new : Flow G) (row : Row G) (has_place : Bool) (relaxations : ℕ) : Type 0 where
   pub lists : new.lists.items ≡ old.lists.items ++ row ∷ []
   pub projects : new.projects.items ≡ old.projects.items

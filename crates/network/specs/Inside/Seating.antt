@@ -1,4 +1,4 @@
--- Who is placed at each project and what each supervisor offers, kept beside what students hold and the projects.
+-- Who is placed at each project and what each supervisor offers, stored next to what students hold and the projects.
 use Rattle.std.specs.Prelude.{◌≡◌, ℕ, ◌<◌, ◌≤◌, List, [], length, Option, Some, None, slice_get}
 use Rattle.std.specs.Vec.{vec_capacity}
 use Rattle.std.specs.declared.vec.Vec.{Vec}

@@ -7,7 +7,7 @@ use Rattle.rolls.specs.Rows.{Turns}
 use Rattle.rolls.specs.Importing.{rows_refusal, after_rows}
 use Rattle.step_laws.specs.Changes.{changes_of_rows}
 
--- none of them was refused, and these are their changes, which turn the rows
+-- none of them was refused, and these are their changes, which transform the rows
 pub record AreMade (rows : List Plain) (old new : State) (changes : List Change) : Type 0 where
   pub allowed : rows_refusal 1 old rows ≡ None
   pub after : new ≡ after_rows rows old

@@ -50,7 +50,7 @@ impl Office {
         None
     }
 
-    /// Whether an import is kept under the id with another kind or other bytes.
+    /// Whether an import is stored under the id with another kind or other bytes.
     fn is_other_import(&self, id: &str, kind: ImportKind, bytes: &[u8]) -> bool
         ensures { result ≡ is_other_import self.now id.now kind bytes.now }
     {
@@ -63,7 +63,7 @@ impl Office {
     }
 
     /// Makes an import of these rows, which are the requests of its text, and keeps it: all of them or none. One that is
-    /// kept already changes nothing and answers its own number of rows.
+    /// stored already changes nothing and answers its own number of rows.
     pub fn import(
         &mut self,
         id: Text,

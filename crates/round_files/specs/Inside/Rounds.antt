@@ -5,7 +5,7 @@ use Rattle.rolls.specs.declared.refusal.Refusal.TheVariants.{Memory as NoMemory,
 use Rattle.round_files.specs.declared.rounds.Trouble.{Trouble}
 use Rattle.round_files.specs.declared.rounds.Trouble.TheVariants.{Refused, BadLine}
 
--- what is told of a text that was not read
+-- what is returned of a text that was not read
 abbrev pub trouble_of : RoundFault → Trouble
 trouble_of Memory = Refused NoMemory
 trouble_of TooLarge = Refused AboveLimit

@@ -7,7 +7,7 @@ use Rattle.spa.specs.Places.{Places}
 use Rattle.network.specs.Seen.{Seen, shape_of}
 use Rattle.solver.specs.Inside.Solved.{IsOf}
 
--- the network has weights as worths, as the aim reads them, its lists are those of an instance, and so many students were admitted
+-- the network has weights as worths, as the aim reads them, its lists are those of an instance, and this many students were admitted
 pub record IsNetworkKept (aim : Aim) (v : Seen (Places PLACES)) (students : ℕ) : Type 0 where
   pub weighed : IsOf aim (shape_of v) v
   pub sound : IsSound (shape_of v)

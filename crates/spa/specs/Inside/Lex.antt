@@ -41,7 +41,7 @@ int_worth = record {
   span_minus = λ x y. omega (arith, ints);
 }
 
--- two comparisons in turn are equal where both are
+-- two comparisons one after another are equal where both are
 pub then_equal : (o p : Ordering) → ordering_then o p ≡ Equal → (o ≡ Equal) × (p ≡ Equal)
 then_equal Less p h = cc
 then_equal Equal p h = (refl, h)

@@ -1,4 +1,4 @@
--- For proofs alone. What raising the tables of an earlier edition does.
+-- For proofs alone. What migrating the tables of an earlier edition does.
 use Rattle.std.specs.Prelude.{List}
 use Rattle.sqlite.specs.Schema.{Schema}
 use Rattle.sqlite.specs.Effect.{Database}
@@ -10,7 +10,7 @@ use Rattle.store.specs.Editions.{beyond, latest, number_of, raised, rolls_of}
 use Rattle.store.specs.Saving.{AllNeed, AreActedOnAmong, AreLeftAmong}
 use Rattle.store.specs.Tables.{AreRuledAmong, HoldIn, LeavesTables, TablesHold, TablesOf}
 
--- changes that ask of the schema no more than that no foreign key acts on the tables of which rows are replaced or taken out
+-- changes that ask of the schema no more than that no foreign key acts on the tables in which rows are replaced or taken out
 abbrev pub AskRaised : List Change → Type 0
 AskRaised changes = (schema : Schema) → AreLeftAmong raised schema → AllNeed changes schema
 
@@ -24,6 +24,6 @@ Extends e changes old new =
 unfoldable pub Rises : Edition → List Change → Database → Database → Type 0
 Rises e changes old new = AskRaised changes → (rows : AllRows) → HoldIn e old rows → TablesHold new (after_changes changes rows) × AreRuledAmong (beyond e) new.schema × LeavesTables old new
 
--- where no foreign key acts on the tables of which rows are replaced or taken out
+-- where no foreign key acts on the tables in which rows are replaced or taken out
 unfoldable pub Lifts : Edition → List Change → Database → Database → Type 0
 Lifts e changes old new = (AreActedOnAmong raised old.schema → ⊥) → Rises e changes old new

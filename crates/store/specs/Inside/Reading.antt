@@ -42,7 +42,7 @@ IsNoRow table columns = (cells : Cells) → IsTypedRow table cells → values ce
 abbrev pub IsRowWith : Table → Values → RowOf → Type 0
 IsRowWith table columns row = (row.table ≡ table) × (values row.cells ≡ drop 1 columns)
 
--- so many columns after the rowid were read, each as a cell of its kind
+-- this many columns after the rowid were read, each as a cell of its kind
 pub record ReadsCells (kinds : List Kind) (columns : Values) (count : ℕ) (cells : Cells) : Type 0 where
   pub cells_are : values cells ≡ take count (drop 1 columns)
   pub kinds_are : are_of (take count kinds) cells ≡ true
@@ -91,22 +91,22 @@ pub record ReadsAll (tables : List Table) (rows : List RowOf) (old new : Seen) :
   pub holds : (table : Table) → IsAmong tables table → HoldsColumns table (map values (of_table rows table)) old.now
   pub others : (table : Table) → (IsAmong tables table → ⊥) → of_table rows table ≡ []
 
--- so many of these tables were read, if any, and nothing has changed
+-- this many of these tables were read, if any, and nothing has changed
 pub record ReadsSome (tables : List Table) (count : ℕ) (rows : List RowOf) (old new : Seen) : Type 0 where
   pub opened : ((count ≡ 0) × (new.is_open ≡ old.is_open)) ⊎ IsTrue old.is_open
   pub same : IsTrue old.is_open → IsUnchanged old new
   pub holds : (table : Table) → Has (take count tables) table → HoldsColumns table (map values (of_table rows table)) old.now
   pub others : (table : Table) → (Has (take count tables) table → ⊥) → of_table rows table ≡ []
 
--- The rows of the tables of an edition were read, and nothing has changed. The tables hold them, and they are those of any office that the tables
--- stand for.
+-- The rows of the tables of an edition were read, and nothing has changed. The tables hold them, and they are those of any office that the
+-- tables stand for.
 pub record HoldsRows (e : AnEdition) (rows : List RowOf) (old new : Seen) : Type 0 where
   pub same : IsUnchanged old new
   pub none_later : HaveNoLater e rows
   pub holds : HoldIn e old.now (of_table rows)
   pub are : (office : State) → StandsIn e old.now office → AreRowsIn e rows office
 
--- an office was found in the tables of an edition, with the changes that raise them, and nothing has changed
+-- an office was found in the tables of an edition, with the changes that migrate them, and nothing has changed
 pub record FindsOffice (e : AnEdition) (office : State) (changes : List Change) (old new : Seen) : Type 0 where
   pub same : IsUnchanged old new
   pub holds : HoldIn e old.now (rows_in_edition e office)

@@ -1,4 +1,4 @@
--- For proofs alone. Rows that are told apart by their rowids, and a table that holds them.
+-- For proofs alone. Rows that are distinguished by their rowids, and a table that holds them.
 use Rattle.std.specs.Prelude.{ℤ}
 use Rattle.sqlite.specs.Order.{Row}
 use Rattle.sqlite.specs.Tree.{rowid}

@@ -70,14 +70,14 @@ is_referring link r =
     bytes_eq r.columns (link.0 ∷ []) && bytes_eq r.parent link.1 && (is_bare r || is_alone link.2 r.parent_columns)
     && is_passive r.on_delete && is_passive r.on_update && not r.is_deferred
 
--- there are as many as are told, each as the one that is told at its place
+-- there are as many as are declared, each as the one that is declared at its place
 abbrev pub are_told : {A B : Type 0} → (A → B → Bool) → List A → List B → Bool
 are_told is [] [] = true
 are_told is (a ∷ more) (b ∷ rest) = is a b && are_told is more rest
 are_told is [] (b ∷ rest) = false
 are_told is (a ∷ more) [] = false
 
--- so many orders, each ascending
+-- this many orders, each ascending
 abbrev pub are_plain : ℕ → List Order → Bool
 are_plain count orders = (length orders == count) && list_all (λ o. o.digits == 0) orders
 
@@ -85,7 +85,7 @@ are_plain count orders = (length orders == count) && list_all (λ o. o.digits ==
 abbrev pub is_untimed : AnyTable → Bool
 is_untimed t = (length t.computed == 0) && (length t.stamps.places == 0) && (length t.stamps.terms == 0) && (length t.stamps.formats == 0) && not t.is_counted
 
--- the keys of the table are those that are told
+-- the keys of the table are those that are declared
 abbrev pub has_keys : TableShape → AnyTable → Bool
 has_keys shape t = same_key t.key shape.key && bytes_eq t.primary shape.primary && are_told (λ places list. bytes_eq list places) shape.uniques t.uniques && are_plain (length shape.uniques) t.orders
 

@@ -5,7 +5,7 @@ use Rattle.sqlite.specs.State.{State, Executes, Shown, FailsToQuery, Shows as Se
 use Rattle.sqlite.specs.declared.error.Error.{Error}
 use Rattle.sqlite.specs.Order.{Row}
 
--- the statement of this text went through in a transaction, over so many rows: nothing is committed
+-- the statement of this text went through in a transaction, over this many rows: nothing is committed
 pub record HasRun (sql : List ℕ) (params : Row) (count : ℕ) (old new : State) : Type 0 where
   pub inside : old.in_transaction ≡ true
   pub shown : Sees old new new.now old.committed true

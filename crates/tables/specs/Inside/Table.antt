@@ -7,7 +7,7 @@ use Rattle.tables.specs.declared.table.ToldColumn.{ToldColumn}
 use Rattle.tables.specs.declared.table.Link.{Link}
 use Rattle.tables.specs.Table.{TableShape, Sql}
 
--- what the program tells of a column
+-- what the program declares of a column
 abbrev pub column_by : ToldColumn → List ℕ × Kind
 column_by told = (told.0.now, told.1)
 

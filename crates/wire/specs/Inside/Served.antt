@@ -21,7 +21,7 @@ pub record SoFar {S : Type 0} (step : S → MessageText → List ℕ → S → T
   pub ran : RunsMessages step before messages answers now
   pub wrote : Appends w0 w (concat answers)
 
--- what was served so far goes on to this, by so many more answers
+-- what was served so far goes on to this, by this many more answers
 abbrev pub GoesOnServing : {S : Type 0} → (S → MessageText → List ℕ → S → Type 0) → Option (List ℕ) → Option (List ℕ) → List ℕ → S
     → Option (List ℕ) → Option (List ℕ) → List ℕ → S → ℕ → Type 0
 GoesOnServing {S} step left w rest now left' w' rest' now' more =

@@ -6,7 +6,7 @@ use Rattle.cli.specs.Outcomes.{of_answer, printed_reply, prints}
 use Rattle.cli.proofs.Writers.{tells_more}
 use Rattle.cli.proofs.tasks.do_at.Goals as goal
 
--- that it is what was told is searched for, so that a body that tells something else is refused at it
+-- that it is what was printed is searched for, so that a body that prints something else is refused at it
 pub returns-in-Ok-clause-told : goal.returns-in-Ok-clause-told
 returns-in-Ok-clause-told g c =
     let asked = c.in-Ask.asked in

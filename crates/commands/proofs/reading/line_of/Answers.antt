@@ -22,7 +22,7 @@ unreachable-requires c =
     let d = c.in_default in
     none_named _ c.args.name.now lines (d.not-serve, (d.not-import, (d.not-text, (d.not-text-2, (d.not-text-3, (d.not-report, (d.not-solve, (d.not-check, tt)))))))) c.requires
 
--- These are searched for slowly where they do not hold, so they are told.
+-- These are searched for slowly where they do not hold, so they are given.
 pub returns-in_ok-text-in-text-2 : goal.returns-in_ok-text-in-text-2
 returns-in_ok-text-in-text-2 c = (c.in-text-2.is, c.in_ok-text-in-text-2.ensures)
 

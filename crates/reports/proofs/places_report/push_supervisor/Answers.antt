@@ -8,7 +8,7 @@ use Rattle.reports.specs.Texts.{load_row}
 use Rattle.reports.proofs.places_report.push_supervisor.Goals as goal
 use Rattle.reports.proofs.places_report.push_supervisor.Goals.{in-Loads+in_ok-push_load, in_default}
 
--- where no load is told, the projects are all
+-- where no load is written, the projects are all
 only_own : (told : Places) (o : State) (n : ℕ) (s : Supervisor) → (told ≡ Loads → ⊥) → own_rows told o n s ≡ rows_of told o n s
 only_own Loads o n s not_loads = absurd (not_loads refl)
 only_own Offers o n s not_loads = refl

@@ -4,7 +4,7 @@ use Rattle.tables.specs.Table.{shape_of}
 use Rattle.store.proofs.ListedTables.{is_next, so_far}
 use Rattle.store.proofs.founding.has_none_of.Goals as goal
 
--- the name is told as there, and as not there
+-- the name is found as there, and as not there
 not_both : (b : _) → b ≡ true → b ≡ false → ⊥
 not_both true is isnt = absurd (let e : true ≡ false = isnt in cc)
 not_both false is isnt = absurd (let e : false ≡ true = is in cc)

@@ -20,7 +20,7 @@ use Rattle.tables.specs.Causes.{IsStopped}
 use Rattle.desk.proofs.SavedRows.{was_storage}
 use Rattle.desk.proofs.books.Books.exchange.Goals as goal
 
--- changes that turn an office into the next one turn it into what the next one is exchanged for
+-- changes that transform an office into the next one transform it into what the next one is exchanged for
 turned : (changes : List Change) (office next here : State) → here ≡ next → Turns changes office next → Turns changes office here
 turned changes office next here e turns = subst (λ (o : State). Turns changes office o) (sym e) turns
 
@@ -55,7 +55,7 @@ returns-in-Err-clause-tables g c =
 shut_so : (before seen : Seen) → before ≡ seen → IsTrue before.is_open → IsTrue seen.is_open
 shut_so before seen e up = subst (λ (z : Seen). IsTrue z.is_open) e up
 
--- where a foreign key would write other rows too, what is told is a storage error
+-- where a foreign key would write other rows too, what is returned is a storage error
 acted_so : (before seen : Seen) (fault : StoreFault) (refusal : Refusal) → before ≡ seen
     → (AreActedOn before.now.schema → ◌≡◌ {A = Result (Unit {0}) StoreFault} (Err fault) (Err Storage)) → (fault ≡ Storage → refusal ≡ TheStorage)
     → AreActedOn seen.now.schema → ◌≡◌ {A = Result Reply Refusal} (Err refusal) (Err TheStorage)
@@ -66,7 +66,7 @@ returns-in-Err-clause-acted_on g c =
     acted_so (state g.S.Store c.self.inside.store) (state g.S.Store c.args.self.now.store) c.in-Err.fault c.refusal_of_fault.result
     (ap (λ k. state g.S.Store k.store) c.self.view_is) c.in-Err.ensures.acted_on c.refusal_of_fault.ensures.storage
 
--- and why else it is told
+-- and why else it is returned
 caused_so : (given changes : List Change) (before seen new : Seen) (fault : StoreFault) (refusal : Refusal) → given ≡ changes → before ≡ seen → (fault ≡ Memory → refusal ≡ TheMemory) → (fault ≡ Damaged → refusal ≡ TheDamaged)
     → ((AreActedOn before.now.schema → ⊥) → HasCleanDisk new → ◌≡◌ {A = Result (Unit {0}) StoreFault} (Err fault) (Err Storage) → IsStopped (IsHinderedToSave given) before new)
     → (AreActedOn seen.now.schema → ⊥) → HasCleanDisk new → ◌≡◌ {A = Result Reply Refusal} (Err refusal) (Err TheStorage) → IsStopped (IsHinderedToSave changes) seen new
